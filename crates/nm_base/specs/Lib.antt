@@ -1,0 +1,7 @@
+pub mod Bounds
+pub mod MailPath
+pub mod MessageId
+pub mod Tag
+pub mod Tags
+pub mod Word
+pub mod formers

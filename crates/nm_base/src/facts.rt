@@ -1,0 +1,81 @@
+use crate::{Copies, Many, MessageId, NoMemory, Text, Word};
+
+/// Where in a mail a word stands.
+#[derive(Clone, Copy, Debug, PartialEq, Eq, PartialOrd, Ord)]
+pub enum Field {
+    From,
+    To,
+    Subject,
+    Body,
+    Attachment,
+}
+
+/// A name and an address; either may be empty.
+#[derive(Clone, Debug, Drop, PartialEq, Eq)]
+pub struct Mailbox {
+    pub name: Text,
+    pub address: Text,
+}
+
+/// The words of one text of a mail, in their order.
+#[derive(Clone, Debug, Drop, PartialEq, Eq)]
+pub struct FieldWords {
+    pub field: Field,
+    pub words: Many<Word>,
+}
+
+/// What the parts of a mail say of it.
+#[derive(Clone, Copy, Debug, PartialEq, Eq)]
+pub struct Marks {
+    pub attachment: bool,
+    pub signed: bool,
+    pub encrypted: bool,
+}
+
+/// What the index knows of a mail.
+#[derive(Clone, Debug, Drop, PartialEq, Eq)]
+pub struct Facts {
+    pub id: MessageId,
+    /// The ids of the mails that it answers or names, the own id left out, without repeats.
+    pub links: Many<MessageId>,
+    /// Seconds since 1970-01-01 00:00:00 UTC.
+    pub date: i64,
+    pub from: Many<Mailbox>,
+    pub to: Many<Mailbox>,
+    pub subject: Text,
+    pub lists: Many<FieldWords>,
+    /// The content type of each part, in order.
+    pub types: Many<Text>,
+    pub marks: Marks,
+}
+
+/// An id, and the ids that its mail links to.
+#[derive(Clone, Debug, Drop, PartialEq, Eq)]
+pub struct LinkRow {
+    pub id: MessageId,
+    pub links: Many<MessageId>,
+}
+
+impl Copies for Mailbox {
+    fn copy(&self) -> Result<Mailbox, NoMemory> {
+        Ok(self.clone()?)
+    }
+}
+
+impl Copies for FieldWords {
+    fn copy(&self) -> Result<FieldWords, NoMemory> {
+        Ok(self.clone()?)
+    }
+}
+
+impl Copies for Facts {
+    fn copy(&self) -> Result<Facts, NoMemory> {
+        Ok(self.clone()?)
+    }
+}
+
+impl Copies for LinkRow {
+    fn copy(&self) -> Result<LinkRow, NoMemory> {
+        Ok(self.clone()?)
+    }
+}

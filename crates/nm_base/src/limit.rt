@@ -1,0 +1,16 @@
+/// The bound that was passed.
+#[derive(Clone, Copy, Debug, PartialEq, Eq)]
+pub enum Limit {
+    Files,
+    Dirs,
+    Depth,
+    IndexBytes,
+    CommitBytes,
+    InputBytes,
+    Lines,
+    Commits,
+    QueryBytes,
+    QueryDepth,
+    ShowBytes,
+    Numbers,
+}

@@ -1,0 +1,67 @@
+ghost use Rattle.std.specs.Prelude.{◌≡◌, IsTrue};
+ghost use Rattle.std.specs.List.{list_all};
+ghost use Rattle.nm_base.specs.Bounds.{checked};
+ghost use Rattle.nm_base.specs.MessageId.{is_id_byte, is_id_text, is_message_id};
+
+use std::marker::Model;
+
+use crate::names::fits;
+use crate::{BadValue, Copies, NoMemory, Text};
+
+/// What names a message: 1 to 1,000 bytes, none of them white space, `<` or `>`.
+#[derive(Clone, Debug, Drop, PartialEq, Eq, PartialOrd, Ord)]
+pub struct MessageId {
+    text: Text,
+}
+
+impl Model for MessageId {
+    ghost use Rattle.std.specs.Prelude.{IsTrue, List, ℕ};
+    ghost use Rattle.nm_base.specs.MessageId.{is_message_id};
+
+    ghost Value = { List ℕ };
+
+    ghost view = { λ v. v.text };
+
+    ghost invariant = { λ v. IsTrue (is_message_id v.text) };
+
+    ghost inverse = { λ bytes. record { text = bytes } };
+}
+
+impl MessageId {
+    pub fn new(text: Text) -> Result<MessageId, BadValue>
+        ensures { result ≡ checked 1000 is_id_text text }
+    {
+        if !fits(text.as_bytes(), 1000) {
+            return Err(BadValue::Length);
+        }
+        if !has_id_bytes(text.as_bytes()) {
+            return Err(BadValue::Byte);
+        }
+        Ok(MessageId { text })
+    }
+
+    pub fn text(&self) -> &Text
+        ensures same { result.now ≡ self.now }
+        ensures bounds { IsTrue (is_message_id self.now) }
+    {
+        &self.text
+    }
+}
+
+impl Copies for MessageId {
+    fn copy(&self) -> Result<MessageId, NoMemory> {
+        Ok(self.clone()?)
+    }
+}
+
+fn has_id_bytes(bytes: &[u8]) -> bool
+    ensures { result ≡ is_id_text bytes.now }
+{
+    bytes.iter().all(|b| may_be_in_id(*b))
+}
+
+fn may_be_in_id(b: u8) -> bool
+    ensures { result ≡ is_id_byte b }
+{
+    !matches!(b, b' ' | b'\t' | b'\r' | b'\n' | b'<' | b'>')
+}
