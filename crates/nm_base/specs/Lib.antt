@@ -1,4 +1,5 @@
 pub mod Bounds
+pub mod Faults
 pub mod MailPath
 pub mod MessageId
 pub mod Tag

@@ -3,10 +3,9 @@ ghost use Rattle.std.specs.List.{list_all, slice_split};
 ghost use Rattle.nm_base.specs.Bounds.{checked};
 ghost use Rattle.nm_base.specs.MailPath.{components_of, has_no_zero, is_component, is_mail_path, is_path_text};
 
-use std::marker::Model;
-
 use crate::names::fits;
 use crate::{BadValue, Copies, NoMemory, Text};
+use std::marker::Model;
 
 /// Where a mail lies below the mail folder: 1 to 4,096 bytes, components with `/` between them,
 /// none of which is empty, `.` or `..`, and no zero byte.

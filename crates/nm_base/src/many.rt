@@ -2,11 +2,10 @@ ghost use Rattle.std.specs.Prelude.{◌≡◌, ◌==◌, ◌<◌, Some, [], ◌�
 ghost use Rattle.std.specs.Cmp.Lexicographic.{lists_equiv, lists_per, pointwise};
 ghost use Rattle.std.specs.Option.{option_copied};
 
+use crate::{Copies, NoMemory};
 use std::alloc::Global;
 use std::marker::Model;
 use std::mem;
-
-use crate::{Copies, NoMemory};
 
 /// A vector that contracts see as the list of its items.
 #[derive(Clone, Debug, Drop)]

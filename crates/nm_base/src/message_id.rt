@@ -3,10 +3,9 @@ ghost use Rattle.std.specs.List.{list_all};
 ghost use Rattle.nm_base.specs.Bounds.{checked};
 ghost use Rattle.nm_base.specs.MessageId.{is_id_byte, is_id_text, is_message_id};
 
-use std::marker::Model;
-
 use crate::names::fits;
 use crate::{BadValue, Copies, NoMemory, Text};
+use std::marker::Model;
 
 /// What names a message: 1 to 1,000 bytes, none of them white space, `<` or `>`.
 #[derive(Clone, Debug, Drop, PartialEq, Eq, PartialOrd, Ord)]

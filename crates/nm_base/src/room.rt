@@ -1,9 +1,8 @@
 ghost use Rattle.std.specs.Prelude.{◌≡◌, ℕ, ◌+◌, ◌<◌, ◌≤◌, [], ◌∷◌, ◌++◌, OnOk, OnErr};
 
+use crate::{Many, NoMemory};
 use std::alloc::Global;
 use std::marker::Model;
-
-use crate::{Many, NoMemory};
 
 /// A vector with places kept free: seen as its list, and the number of spare places.
 #[derive(Debug, Drop)]

@@ -2,10 +2,9 @@ ghost use Rattle.std.specs.Prelude.{◌≡◌, IsTrue};
 ghost use Rattle.nm_base.specs.Bounds.{checked};
 ghost use Rattle.nm_base.specs.Tag.{is_tag, is_tag_text};
 
-use std::marker::Model;
-
 use crate::names::fits;
 use crate::{BadValue, Copies, NoMemory, Text};
+use std::marker::Model;
 
 /// A tag: 1 to 200 bytes, the first of them no `-`.
 #[derive(Clone, Debug, Drop, PartialEq, Eq, PartialOrd, Ord)]

@@ -1,11 +1,10 @@
 ghost use Rattle.std.specs.Prelude.{◌≡◌, [], OnOk, OnErr};
 ghost use Rattle.nm_base.specs.Tags.{has_tag, with_tag, without_tag};
 
+use crate::{Copies, NoMemory, Tag};
 use std::alloc::Global;
 use std::collections::BTreeSet;
 use std::marker::Model;
-
-use crate::{Copies, NoMemory, Tag};
 
 /// A set of tags, seen as the strictly ascending list of them.
 #[derive(Clone, Debug, Drop)]

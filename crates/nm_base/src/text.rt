@@ -4,11 +4,10 @@ ghost use Rattle.std.specs.Cmp.Lexicographic.{nat_list_cmp_total, nat_list_eq_eq
 ghost use Rattle.std.specs.Ordering.{nat_cmp};
 ghost use Rattle.std.specs.Prelude.{nat_eq};
 
+use crate::{Copies, NoMemory};
 use std::alloc::Global;
 use std::cmp::Ordering;
 use std::marker::Model;
-
-use crate::{Copies, NoMemory};
 
 /// UTF-8 text, seen as its bytes.
 #[derive(Clone, Debug, Drop)]

@@ -2,10 +2,9 @@ ghost use Rattle.std.specs.Prelude.{◌≡◌, IsTrue};
 ghost use Rattle.nm_base.specs.Bounds.{checked};
 ghost use Rattle.nm_base.specs.Word.{is_word, is_word_text};
 
-use std::marker::Model;
-
 use crate::names::fits;
 use crate::{BadValue, Copies, NoMemory, Text};
+use std::marker::Model;
 
 /// A word of a text: 1 to 200 bytes.
 #[derive(Clone, Debug, Drop, PartialEq, Eq, PartialOrd, Ord)]

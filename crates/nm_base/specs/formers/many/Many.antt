@@ -42,9 +42,9 @@ module _ (R S : RattleType) (f : R.Denot → S.Denot) where
   pub the_places : Alike R S f → Alike (many.the_row R) (many.the_row S) ((the_former this).map R.Denot S.Denot f)
   the_places alike =
       view_places fields (list this) view (λ X Y k m. refl) (λ X m. refl) R.Denot S.Denot f (many.the_row R).coded (many.the_row S).coded
-          (invariant R.Denot) (invariant S.Denot) (λ m p q. refl) (λ m p q. refl) (λ m e. tt) (λ m e. tt)
-          (over (inside.the_row R)) (over (inside.the_row S))
-          (struct_places (inside.the_type R) (inside.the_type S) (vec.mapped f, tt) _ (λ d. refl) refl (laid _ _ _ (vec.the_places heap.the_row ghosts R S f alike), tt))
+      (invariant R.Denot) (invariant S.Denot) (λ m p q. refl) (λ m p q. refl) (λ m e. tt) (λ m e. tt)
+      (over (inside.the_row R)) (over (inside.the_row S))
+      (struct_places (inside.the_type R) (inside.the_type S) (vec.mapped f, tt) _ (λ d. refl) refl (laid _ _ _ (vec.the_places heap.the_row ghosts R S f alike), tt))
 
   pub the_codes_placed : Recodes R S f → Recodes (many.the_row R) (many.the_row S) ((the_former this).map R.Denot S.Denot f)
   the_codes_placed recodes xs = sym (code_map R.coded.code S.coded.code f (λ x. sym (recodes x)) xs)

@@ -1,0 +1,73 @@
+-- A tree of mail: folders, and files with their bytes, each by its path below the root (maildir(5)).
+use Rattle.std.specs.Prelude.{ℕ, Bool, ◌||◌, ◌==◌, List, [], ◌∷◌, length, map, filter, fold, Option, None, Some, is_some, nat_lt, nat_eq, if◌then◌else◌}
+use Rattle.std.specs.List.{list_any, before_last, after_last}
+use Rattle.std.specs.Cmp.Lexicographic.{slice_cmp, pointwise}
+use Rattle.std.specs.Ordering.{nat_cmp}
+use Rattle.std.specs.BTreeSet.{insert_key}
+use Rattle.nm_maildir.specs.declared.answers.Listing.{Listing}
+use Rattle.nm_maildir.specs.declared.answers.Got.{Got}
+use Rattle.nm_maildir.specs.declared.answers.Got.TheVariants as got
+use Rattle.nm_maildir.specs.declared.answers.Renamed.{Renamed}
+use Rattle.nm_maildir.specs.declared.answers.Renamed.TheVariants as renamed
+
+-- folders, and files with their bytes
+pub record Tree : Type 0 where
+  pub dirs : List (List ℕ)
+  pub files : List (List ℕ × List ℕ)
+
+abbrev pub same_path : List ℕ → List ℕ → Bool
+same_path a b = pointwise nat_eq a b
+
+-- the folder that holds the path: all before its last `/`, or the root, which is the empty text
+abbrev pub folder_of : List ℕ → List ℕ
+folder_of path = before_last (λ b. b == 47) path
+
+-- the last component of the path
+abbrev pub name_of : List ℕ → List ℕ
+name_of path = after_last (λ b. b == 47) path
+
+-- the names in byte order, without repeats
+abbrev pub in_order : List (List ℕ) → List (List ℕ)
+in_order names = fold (insert_key (slice_cmp nat_cmp)) [] names
+
+-- the names of those paths that lie directly in the folder
+abbrev pub names_in : List ℕ → List (List ℕ) → List (List ℕ)
+names_in folder paths = in_order (map name_of (filter (λ path. same_path (folder_of path) folder) paths))
+
+-- the root, or a folder of the tree
+abbrev pub is_folder : Tree → List ℕ → Bool
+is_folder tree folder = (length folder == 0) || list_any (same_path folder) tree.dirs
+
+-- what a folder holds; a folder that is not there holds nothing
+abbrev pub listing_of : Tree → List ℕ → Listing
+listing_of tree folder =
+    if is_folder tree folder
+    then record { dirs = names_in folder tree.dirs; files = names_in folder (map (λ file. file.0) tree.files) }
+    else record { dirs = []; files = [] }
+
+-- the bytes of a file
+abbrev pub bytes_at : List (List ℕ × List ℕ) → List ℕ → Option (List ℕ)
+bytes_at [] path = None
+bytes_at (file ∷ files) path = if same_path file.0 path then Some file.1 else bytes_at files path
+
+-- what a read of at most max bytes answers
+abbrev pub got_from : ℕ → Option (List ℕ) → Got
+got_from max None = got.Missing
+got_from max (Some bytes) = if nat_lt max (length bytes) then got.TooLong else got.Found bytes
+
+abbrev pub got_of : Tree → List ℕ → ℕ → Got
+got_of tree path max = got_from max (bytes_at tree.files path)
+
+-- what a rename answers: the source has to be there, and the target must not
+abbrev pub renamed_of : Tree → List ℕ → List ℕ → Renamed
+renamed_of tree from to =
+    if is_some (bytes_at tree.files from)
+    then (if is_some (bytes_at tree.files to) then renamed.Exists else renamed.Moved)
+    else renamed.Missing
+
+-- the file `from` is `to`, in its place
+abbrev pub moved : Tree → List ℕ → List ℕ → Tree
+moved tree from to = record {
+  dirs = tree.dirs;
+  files = map (λ file. if same_path file.0 from then (to, file.1) else file) tree.files;
+}

@@ -1,0 +1,37 @@
+use nm_base::{Many, Text};
+use thiserror::Error;
+
+/// The names in one folder, each list in byte order without repeats.
+#[derive(Clone, Debug, Drop, PartialEq, Eq)]
+pub struct Listing {
+    pub dirs: Many<Text>,
+    pub files: Many<Text>,
+}
+
+/// What a read found.
+#[derive(Clone, Debug, Drop, PartialEq, Eq)]
+pub enum Got {
+    Found(Many<u8>),
+    Missing,
+    /// The file has more bytes than were asked for.
+    TooLong,
+}
+
+/// What a rename did.
+#[derive(Clone, Copy, Debug, PartialEq, Eq)]
+pub enum Renamed {
+    Moved,
+    /// The source is not there.
+    Missing,
+    /// The target is there already.
+    Exists,
+}
+
+/// Why a call of a mail folder gave nothing.
+#[derive(Clone, Copy, Debug, PartialEq, Eq, Error)]
+pub enum MailError {
+    #[error("the mail folder failed")]
+    Failed,
+    #[error("no memory")]
+    NoMemory,
+}

@@ -1,0 +1,35 @@
+use crate::Renamed;
+use nm_base::{Copies, MailPath, Many, NoMemory};
+
+/// What a mail folder answered to one step of a command.
+#[derive(Clone, Debug, Drop, PartialEq, Eq)]
+pub enum Given {
+    /// The paths of a whole listing.
+    Listed(Many<MailPath>),
+    Read {
+        path: MailPath,
+        answer: ReadAnswer,
+    },
+    Renamed {
+        from: MailPath,
+        to: MailPath,
+        answer: Renamed,
+    },
+}
+
+/// What became of a file that was to be read.
+#[derive(Clone, Debug, Drop, PartialEq, Eq)]
+pub enum ReadAnswer {
+    Mail,
+    NotMail,
+    Missing,
+    TooLong,
+    /// The bytes themselves, where they are shown.
+    Body(Many<u8>),
+}
+
+impl Copies for Given {
+    fn copy(&self) -> Result<Given, NoMemory> {
+        Ok(self.clone()?)
+    }
+}
