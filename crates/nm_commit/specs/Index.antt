@@ -1,0 +1,62 @@
+-- An index as lists, the commits that fit it, and the index that they leave.
+use Rattle.std.specs.Prelude.{◌≡◌, ℕ, ◌+◌, Bool, true, false, not, List, [], ◌∷◌, ◌++◌, length, fold, map, filter, pos, negsuc, ◌≤ℤ◌, nat_eq, ℤ, ◌<◌}
+use Rattle.std.specs.List.{list_any}
+use Rattle.std.specs.Cmp.Lexicographic.{pointwise}
+use Rattle.nm_base.specs.declared.facts.Facts.{Facts}
+use Rattle.nm_commit.specs.declared.change.Change.{Change}
+use Rattle.nm_commit.specs.declared.change.Change.TheVariants.{Add, Drop}
+use Rattle.nm_commit.specs.declared.change.Commit.{Commit}
+
+-- the files in order of arrival, each with its facts, and the number of commits so far
+pub record Index : Type 0 where
+  pub files : List (List ℕ × Facts)
+  pub revision : ℕ
+
+abbrev pub empty_index : Index
+empty_index = record { files = []; revision = 0 }
+
+abbrev pub same_text : List ℕ → List ℕ → Bool
+same_text a b = pointwise nat_eq a b
+
+abbrev pub paths_of : List (List ℕ × Facts) → List (List ℕ)
+paths_of files = map (λ file. file.0) files
+
+-- one of the files lies there
+abbrev pub has_path : List (List ℕ × Facts) → List ℕ → Bool
+has_path files path = list_any (same_text path) (paths_of files)
+
+-- the files but the one that lies there
+abbrev pub without_path : List (List ℕ × Facts) → List ℕ → List (List ℕ × Facts)
+without_path files path = filter (λ file. not (same_text path file.0)) files
+
+-- the files after a change
+abbrev pub changed : List (List ℕ × Facts) → Change → List (List ℕ × Facts)
+changed files (Add path facts) = files ++ (path, facts) ∷ []
+changed files (Drop path) = without_path files path
+
+-- the index after a commit: its changes in order, and one revision more
+abbrev pub committed : Index → Commit → Index
+committed index commit = record { files = fold changed index.files commit.changes; revision = index.revision + 1 }
+
+-- the index after commits, the first of them first
+abbrev pub folded : Index → List Commit → Index
+folded index commits = fold committed index commits
+
+-- seconds from year 1 up to the last moment that is taken
+abbrev pub IsDate : ℤ → Type 0
+IsDate date = (negsuc 62135596799 ≤ℤ date) × (date ≤ℤ pos 253000000000)
+
+-- a mail comes where none lies and has a date in the range; one goes from where it lies
+abbrev pub FitsChange : List (List ℕ × Facts) → Change → Type 0
+FitsChange files (Add path facts) = (has_path files path ≡ false) × IsDate facts.date
+FitsChange files (Drop path) = has_path files path ≡ true
+
+-- each change fits the files that the changes before it leave
+abbrev pub FitChanges : List (List ℕ × Facts) → List Change → Type 0
+FitChanges files [] = Unit {0}
+FitChanges files (change ∷ changes) = FitsChange files change × FitChanges (changed files change) changes
+
+-- the commit has a change, and its changes fit
+pub record Fits (index : Index) (commit : Commit) : Type 0 where
+  pub some : 0 < length commit.changes
+  pub each : FitChanges index.files commit.changes

@@ -1,0 +1,39 @@
+use nm_base::{Copies, Facts, MailPath, Many, NoMemory};
+
+/// One change of an index.
+#[derive(Debug, Drop, PartialEq, Eq)]
+pub enum Change {
+    /// A mail has come.
+    Add { path: MailPath, facts: Facts },
+    /// A mail is gone.
+    Drop { path: MailPath },
+}
+
+/// Changes that are made together or not at all.
+#[derive(Debug, Drop, PartialEq, Eq)]
+pub struct Commit {
+    pub changes: Many<Change>,
+}
+
+impl Copies for Change {
+    fn copy(&self) -> Result<Change, NoMemory> {
+        match self {
+            Change::Add { path, facts } => {
+                let path = path.copy()?;
+                let facts = facts.copy()?;
+                Ok(Change::Add { path, facts })
+            }
+            Change::Drop { path } => {
+                let path = path.copy()?;
+                Ok(Change::Drop { path })
+            }
+        }
+    }
+}
+
+impl Copies for Commit {
+    fn copy(&self) -> Result<Commit, NoMemory> {
+        let changes = self.changes.copy()?;
+        Ok(Commit { changes })
+    }
+}
