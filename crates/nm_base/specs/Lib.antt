@@ -2,6 +2,7 @@ pub mod Bounds
 pub mod Faults
 pub mod MailPath
 pub mod MessageId
+pub mod Order
 pub mod Tag
 pub mod Tags
 pub mod Word

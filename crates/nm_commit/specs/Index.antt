@@ -1,7 +1,6 @@
 -- An index as lists, the commits that fit it, and the index that they leave.
-use Rattle.std.specs.Prelude.{◌≡◌, ℕ, ◌+◌, Bool, true, false, not, List, [], ◌∷◌, ◌++◌, length, fold, map, filter, pos, negsuc, ◌≤ℤ◌, nat_eq, ℤ, ◌<◌}
-use Rattle.std.specs.List.{list_any}
-use Rattle.std.specs.Cmp.Lexicographic.{pointwise}
+use Rattle.std.specs.Prelude.{◌≡◌, ℕ, ◌+◌, Bool, true, false, not, List, [], ◌∷◌, ◌++◌, length, fold, map, filter, pos, negsuc, ◌≤ℤ◌, ℤ, ◌<◌}
+use Rattle.nm_base.specs.Order.{has_text, same_text}
 use Rattle.nm_base.specs.declared.facts.Facts.{Facts}
 use Rattle.nm_commit.specs.declared.change.Change.{Change}
 use Rattle.nm_commit.specs.declared.change.Change.TheVariants.{Add, Drop}
@@ -15,15 +14,12 @@ pub record Index : Type 0 where
 abbrev pub empty_index : Index
 empty_index = record { files = []; revision = 0 }
 
-abbrev pub same_text : List ℕ → List ℕ → Bool
-same_text a b = pointwise nat_eq a b
-
 abbrev pub paths_of : List (List ℕ × Facts) → List (List ℕ)
 paths_of files = map (λ file. file.0) files
 
 -- one of the files lies there
 abbrev pub has_path : List (List ℕ × Facts) → List ℕ → Bool
-has_path files path = list_any (same_text path) (paths_of files)
+has_path files path = has_text (paths_of files) path
 
 -- the files but the one that lies there
 abbrev pub without_path : List (List ℕ × Facts) → List ℕ → List (List ℕ × Facts)
