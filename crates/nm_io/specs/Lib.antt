@@ -1,1 +1,3 @@
+pub mod Memory
 pub mod Sink
+pub mod Taking

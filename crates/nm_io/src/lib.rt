@@ -2,8 +2,22 @@
 //! Each counts its faults, and tells its bytes where it can.
 #![tactic(auto)]
 
+mod calls;
+mod mem_sink;
+mod mem_source;
 mod sink;
 mod source;
+mod std_sink;
+mod std_source;
+mod taking;
 
+pub use mem_sink::MemSink;
+pub use mem_source::MemSource;
 pub use sink::Sink;
 pub use source::Source;
+pub use std_sink::StdSink;
+pub use std_source::StdSource;
+pub use taking::{TakeError, take_all};
+
+#[cfg(test)]
+mod tests;

@@ -1,0 +1,68 @@
+ghost use Rattle.std.specs.Prelude.{◌≡◌, OnErr};
+ghost use Rattle.std.specs.Io.{ReadsAtMost};
+ghost use Rattle.std.specs.Io.KnownBytes.{Keeps, ReadConsumes};
+
+use crate::Source;
+use nm_base::Failed;
+use std::io::{ErrorKind, Read};
+use std::marker::Model;
+
+/// A source over a reader of std: it tells the bytes that the reader tells.
+#[derive(Drop)]
+pub struct StdSource<R: Read> {
+    reader: R,
+    faults: u64,
+}
+
+impl<R: Read> Model for StdSource<R> {
+    ghost use Rattle.std.specs.Prelude.{ℕ};
+    ghost use Rattle.std.specs.Coded.{coded_ℕ, coded×};
+
+    ghost Value = { R × ℕ };
+
+    ghost coded = { coded× R.code coded_ℕ };
+
+    ghost view = { λ s. (s.reader, s.faults) };
+}
+
+impl<R: Read> StdSource<R> {
+    pub fn new(reader: R) -> StdSource<R>
+        ensures { result ≡ (reader, 0) }
+    {
+        StdSource { reader, faults: 0 }
+    }
+}
+
+impl<R: Read> Source for StdSource<R> {
+    ghost left = { λ s. R.remaining s.0 };
+
+    ghost faults = { λ s. s.1 };
+
+    fn take(&mut self, buf: &mut [u8]) -> Result<usize, Failed> {
+        match read_once(&mut self.reader, buf) {
+            Ok(n) => Ok(n),
+            Err(Failed) => {
+                self.faults = self.faults.saturating_add(1);
+                Err(Failed)
+            }
+        }
+    }
+}
+
+/// One read; one that a signal interrupts is tried again.
+fn read_once<R: Read>(reader: &mut R, buf: &mut [u8]) -> Result<usize, Failed>
+    ensures count { ReadsAtMost result buf.new }
+    ensures bytes { ReadConsumes (R.remaining reader.old) (R.remaining reader.new) result buf.new }
+{
+    'tries: for _ in 0..u64::MAX {
+        match reader.read(buf) {
+            Ok(n) => return Ok(n),
+            Err(e) => {
+                if e.kind() != ErrorKind::Interrupted {
+                    return Err(Failed);
+                }
+            }
+        }
+    }
+    Err(Failed)
+}
