@@ -120,10 +120,10 @@ pub words_of-word : (text : List ℕ) → 0 < length text → begins_blank text 
 words_of-word text some e within =
     let n = position_or_len is_blank text in
     elim (cases_lt n (length text)) [
-      inl more ↦ word_then text more (past_first text some e) ∙ ap (λ l. take n text ∷ l) (sym (words_from text n more (passes_at_first is_blank text 0 more)))
-    | inr done ↦
-        let all : n ≡ length text = omega arith in
-        subst (λ (m : ℕ). words_of text ≡ take m text ∷ words_of (drop m text)) (sym all) (word_at_end text all some)
+      | inl more ↦ word_then text more (past_first text some e) ∙ ap (λ l. take n text ∷ l) (sym (words_from text n more (passes_at_first is_blank text 0 more)))
+      | inr done ↦
+          let all : n ≡ length text = omega arith in
+          subst (λ (m : ℕ). words_of text ≡ take m text ∷ words_of (drop m text)) (sym all) (word_at_end text all some)
     ]
 
 -- a blank is ASCII
@@ -139,8 +139,8 @@ cut_behind_blank (b ∷ bs) u e = IsCharBoundary-after_ascii (b ∷ bs) 0 u (ome
 pub cut_before_blank : (text : List ℕ) (end : ℕ) → end ≡ position_or_len is_blank text → end ≤ length text → IsCharBoundary text end
 cut_before_blank text end at within =
     elim (cases_lt end (length text)) [
-      inl more ↦ IsCharBoundary-before_ascii text end more (blank_below _ (subst (λ (n : ℕ). is_blank (get_or text n 0) ≡ true) (sym at) (passes_at_first is_blank text 0 (omega arith))))
-    | inr done ↦ let all : length text ≡ end = omega arith in subst (λ (n : ℕ). IsCharBoundary text n) all (IsCharBoundary-end text)
+      | inl more ↦ IsCharBoundary-before_ascii text end more (blank_below _ (subst (λ (n : ℕ). is_blank (get_or text n 0) ≡ true) (sym at) (passes_at_first is_blank text 0 (omega arith))))
+      | inr done ↦ let all : length text ≡ end = omega arith in subst (λ (n : ℕ). IsCharBoundary text n) all (IsCharBoundary-end text)
     ]
 
 -- the same, of a text that was cut there

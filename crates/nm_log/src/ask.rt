@@ -6,10 +6,9 @@ ghost use Rattle.nm_commit.specs.Count.{is_plain_word, is_subject_query, is_word
 ghost use Rattle.nm_log.specs.Ask.{asked_of, command_asked, count_asked, new_asked, words_asked};
 ghost use Rattle.nm_log.specs.Words.{words_of};
 
+use crate::words::next_word;
 use nm_base::{CountAsk, NoMemory, Output, Request, Text, UsageKind};
 use std::alloc::Global;
-
-use crate::words::next_word;
 
 /// What a line asks for, or what is wrong with it.
 #[derive(Debug, Drop, PartialEq, Eq)]

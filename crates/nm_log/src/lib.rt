@@ -5,10 +5,14 @@
 mod ask;
 mod log;
 mod outcome;
+mod print;
+mod replies;
 mod script;
 mod words;
 
 pub use ask::{Asked, read_ask};
 pub use log::{Done, LineLog, SessionLog, Setting};
 pub use outcome::Outcome;
+pub use print::{print_lines, print_usage};
+pub use replies::{NewReport, count_reply, line_status, new_reply, usage_text};
 pub use script::{ScriptError, ScriptLine, read_script};

@@ -1,7 +1,6 @@
+use crate::Outcome;
 use nm_base::Many;
 use nm_maildir::Given;
-
-use crate::Outcome;
 
 /// What a run of the program is given beside its words and devices.
 #[derive(Debug, Drop)]

@@ -5,10 +5,7 @@ use nm_base::{Text, UsageKind};
 pub enum Outcome {
     Ok,
     /// The words are outside the grammar; `word` is the one at fault.
-    Usage {
-        word: Text,
-        kind: UsageKind,
-    },
+    Usage { word: Text, kind: UsageKind },
     MailFault,
     NoMemory,
 }

@@ -1,4 +1,4 @@
-use Rattle.std.proofs.Common.{◌≡◌, ◌<◌, ◌≤◌, length, sym, ◌∙◌, ap, subst, arith}
+use Rattle.std.proofs.Common.{◌<◌, length, sym, ◌∙◌, ap, arith}
 use Rattle.std.specs.List.{position_or_len}
 use Rattle.std.proofs.lemmas.Bool.Decides.{nat_tests}
 use Rattle.nm_log.specs.Words.{is_blank}
@@ -16,5 +16,5 @@ returns c =
     let some : 0 < length rest = grind (arith, nat_tests) in
     sym c.without_blanks-rest.ensures.same
     ∙ first_word rest c.split_at.result.0.now c.split_at.result.1.now c.word_len.result some c.without_blanks-rest.ensures.first
-      (c.word_len.ensures.place ∙ ap (position_or_len is_blank) c.as_bytes.ensures.value) (omega (arith, ap length c.as_bytes.ensures.value))
-      c.split_at.ensures.front c.split_at.ensures.back
+    (c.word_len.ensures.place ∙ ap (position_or_len is_blank) c.as_bytes.ensures.value) (omega (arith, ap length c.as_bytes.ensures.value))
+    c.split_at.ensures.front c.split_at.ensures.back
