@@ -1,5 +1,5 @@
 -- One put after another appends the one and then the other.
-use Rattle.std.proofs.Common.{◌≡◌, ℕ, ◌+◌, ◌-◌, ◌<◌, ◌≤◌, List, [], ◌∷◌, ◌++◌, Option, None, Some, Result, Ok, Err, length, take, min, sym, ap, ◌∙◌, refl, arith, subst, inl, inr, IsErr}
+use Rattle.std.proofs.Common.{◌≡◌, ℕ, ◌+◌, List, ◌++◌, Option, Result, Ok, Err, length, take, min, sym, ap, ◌∙◌, arith, subst, inl, inr, IsErr}
 use Rattle.std.proofs.Math.Seq.{take-append-add}
 use Rattle.std.proofs.lemmas.List.{take-append-le, take_all}
 use Rattle.std.proofs.lemmas.Bool.{cases_lt, false≢true}

@@ -1,5 +1,5 @@
 -- The texts of replies and refusals, and how a log is printed.
-use Rattle.std.specs.Prelude.{ℕ, ◌+◌, Bool, ◌&&◌, ◌==◌, List, [], ◌∷◌, ◌++◌, length, codes, if◌then◌else◌}
+use Rattle.std.specs.Prelude.{ℕ, ◌+◌, Bool, ◌==◌, List, [], ◌∷◌, ◌++◌, length, codes, if◌then◌else◌}
 use Rattle.std.specs.List.{flat_map}
 use Rattle.std.specs.Fmt.{decimal}
 use Rattle.nm_base.specs.declared.refusals.UsageKind.{UsageKind}
@@ -55,23 +55,28 @@ skip_line skipped = codes "skipped: " ++ skip_name skipped.1 ++ codes " " ++ ski
 abbrev pub is_quiet : NewReport → Bool
 is_quiet report = (report.added + report.removed + length report.skipped) == 0
 
--- what `new` says of the files, and of the messages
-abbrev pub files_part : NewReport → List ℕ
-files_part report =
-    codes "Files: +" ++ decimal report.added ++ codes " -" ++ decimal report.removed ++ codes ", skipped " ++ decimal (length report.skipped)
+-- a number behind what says of what
+abbrev pub number_after : List ℕ → ℕ → List ℕ
+number_after before n = before ++ decimal n
 
-abbrev pub messages_part : NewReport → List ℕ
-messages_part report = codes ". Messages: +" ++ decimal report.born ++ codes " -" ++ decimal report.died
+abbrev pub labelled : List ℕ × ℕ → List ℕ
+labelled number = number_after number.0 number.1
 
+-- what `new` says
 abbrev pub summary_line : NewReport → List ℕ
-summary_line report = files_part report ++ messages_part report ++ codes ".\n"
+summary_line report =
+    flat_map labelled (
+    (codes "Files: +", report.added)
+    ∷ (codes " -", report.removed)
+    ∷ (codes ", skipped ", length report.skipped)
+    ∷ (codes ". Messages: +", report.born)
+    ∷ (codes " -", report.died)
+    ∷ []
+    )
+    ++ codes ".\n"
 
 abbrev pub new_text : NewReport → List ℕ
 new_text report = if is_quiet report then codes "No new mail.\n" else summary_line report ++ flat_map skip_line report.skipped
-
--- a byte and a number
-abbrev pub number_after : List ℕ → ℕ → List ℕ
-number_after before n = before ++ decimal n
 
 -- the lane and the number of the line; the revision and the status; the length of the reply
 abbrev pub header_with : List ℕ → List ℕ → List ℕ → LineLog → List ℕ

@@ -1,7 +1,6 @@
 -- Scripts: the lines of an input that are not empty, each with its number.
 use Rattle.std.specs.Prelude.{◌≡◌, ℕ, ◌+◌, ◌<◌, ◌==◌, List, [], ◌∷◌, length, if◌then◌else◌}
 use Rattle.std.specs.Str.Lines.{lines}
-use Rattle.nm_base.specs.declared.limit.Limit.{Limit}
 use Rattle.nm_base.specs.declared.limit.Limit.TheVariants.{Lines}
 use Rattle.nm_log.specs.declared.script.ScriptLine.{ScriptLine}
 use Rattle.nm_log.specs.declared.script.ScriptError.{ScriptError}

@@ -1,5 +1,5 @@
 -- The words of a line: what stands between spaces and tabs.
-use Rattle.std.specs.Prelude.{ℕ, Bool, true, ◌||◌, ◌==◌, not, List, [], ◌∷◌, length, filter, false}
+use Rattle.std.specs.Prelude.{ℕ, Bool, ◌||◌, ◌==◌, not, List, [], ◌∷◌, length, filter, false}
 use Rattle.std.specs.List.{slice_split}
 
 abbrev pub is_blank : ℕ → Bool

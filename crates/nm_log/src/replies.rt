@@ -1,7 +1,7 @@
 ghost use Rattle.std.specs.Prelude.{◌≡◌, ◌++◌, IfOk, OnOk, codes};
 ghost use Rattle.std.specs.Fmt.{decimal};
 ghost use Rattle.std.specs.List.{flat_map};
-ghost use Rattle.nm_log.specs.Replies.{files_part, is_quiet, kind_name, messages_part, new_text, skip_line, skip_name, status_of, summary_line, usage_line};
+ghost use Rattle.nm_log.specs.Replies.{is_quiet, kind_name, new_text, number_after, skip_line, skip_name, status_of, summary_line, usage_line};
 
 use crate::Outcome;
 use itoa::Buffer;
@@ -87,32 +87,26 @@ fn nothing_happened(report: &NewReport) -> bool
 fn summary(alloc: Global, report: &NewReport) -> Result<Many<u8>, NoMemory>
     ensures { IfOk result (λ text. text ≡ summary_line report.now) }
 {
+    let numbers: [(&str, u64); 5] = [
+        ("Files: +", report.added),
+        (" -", report.removed),
+        (", skipped ", report.skipped.len() as u64),
+        (". Messages: +", report.born),
+        (" -", report.died),
+    ];
     let mut text = Many::new(alloc);
-    add_files(&mut text, report)?;
-    add_messages(&mut text, report)?;
+    add_numbers(&mut text, &numbers)?;
     text.extend_from_slice(b".\n")?;
     Ok(text)
 }
 
-fn add_files(text: &mut Many<u8>, report: &NewReport) -> Result<(), NoMemory>
-    ensures { OnOk result (text.new ≡ text.old ++ files_part report.now) }
+fn add_numbers(text: &mut Many<u8>, numbers: &[(&str, u64)]) -> Result<(), NoMemory>
+    ensures { OnOk result (text.new ≡ text.old ++ flat_map (λ n. number_after n.0.now n.1) numbers.now) }
 {
-    text.extend_from_slice(b"Files: +")?;
-    add_number(text, report.added)?;
-    text.extend_from_slice(b" -")?;
-    add_number(text, report.removed)?;
-    text.extend_from_slice(b", skipped ")?;
-    add_number(text, report.skipped.len() as u64)?;
-    Ok(())
-}
-
-fn add_messages(text: &mut Many<u8>, report: &NewReport) -> Result<(), NoMemory>
-    ensures { OnOk result (text.new ≡ text.old ++ messages_part report.now) }
-{
-    text.extend_from_slice(b". Messages: +")?;
-    add_number(text, report.born)?;
-    text.extend_from_slice(b" -")?;
-    add_number(text, report.died)?;
+    'numbers: for (before, n) in numbers {
+        text.extend_from_slice(before.as_bytes())?;
+        add_number(text, *n)?;
+    }
     Ok(())
 }
 
