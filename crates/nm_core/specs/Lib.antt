@@ -1,0 +1,4 @@
+pub mod Core
+pub mod Laws
+pub mod Machine
+pub mod Reply

@@ -1,0 +1,12 @@
+//! The lawful orders of commits, publications, sights and replies, as a pure machine: a step is refused
+//! exactly where the machine does not allow it.
+#![tactic(auto)]
+
+mod count;
+mod files;
+mod machine;
+mod reply;
+mod step;
+
+pub use machine::{Core, CoreError};
+pub use step::Step;

@@ -1,0 +1,194 @@
+ghost use Rattle.std.specs.Prelude.{◌≡◌, ◌↔◌, ◌<◌, ◌≤◌, length, replicate, IfOk, IsTrue};
+ghost use Rattle.nm_commit.specs.Index.{empty_index};
+ghost use Rattle.nm_core.specs.Core.{Answers};
+ghost use Rattle.nm_core.specs.Laws.{InOrder};
+ghost use Rattle.nm_core.specs.Machine.{IsAllowed, start};
+
+use crate::Step;
+use crate::files::{files_after, fit_changes};
+use crate::reply::may_reply;
+use nm_base::{Copies, Many, NoMemory, Request};
+use nm_commit::Commit;
+use std::alloc::Global;
+use std::marker::Model;
+use thiserror::Error;
+
+/// Why a step was not taken.
+#[derive(Clone, Copy, Debug, PartialEq, Eq, Error)]
+pub enum CoreError {
+    /// The machine does not allow it.
+    #[error("not now")]
+    NotNow,
+    #[error("no memory")]
+    NoMemory,
+}
+
+impl From<NoMemory> for CoreError {
+    ghost use Rattle.nm_core.specs.declared.machine.CoreError.TheVariants.{NoMemory as Wanted};
+
+    ghost from_gives = { λ _ e. e ≡ Wanted };
+
+    fn from(_: NoMemory) -> CoreError {
+        CoreError::NoMemory
+    }
+}
+
+/// The machine of commits and replies, from the empty index.
+#[derive(Drop)]
+pub struct Core {
+    alloc: Global,
+    commits: Many<Commit>,
+    flight: Option<Commit>,
+    shown: usize,
+    /// For each lane, how many commits it sees.
+    lanes: Many<usize>,
+    /// How many commits there were at the last meeting.
+    met: usize,
+}
+
+impl Model for Core {
+    ghost use Rattle.std.specs.Prelude.{◌<◌, length};
+    ghost use Rattle.nm_commit.specs.Index.{empty_index};
+    ghost use Rattle.nm_core.specs.Core.{Kept};
+    ghost use Rattle.nm_core.specs.Laws.{InOrder};
+    ghost use Rattle.nm_core.specs.Machine.{from_empty};
+
+    ghost Value = { Kept };
+
+    ghost view = { λ c. record { machine = from_empty c.commits c.flight c.shown c.lanes; met = c.met } };
+
+    ghost invariant = { λ c. InOrder c.met (from_empty c.commits c.flight c.shown c.lanes) × (0 < length c.lanes) };
+}
+
+impl Core {
+    /// Nothing has happened yet. Lanes number 1 to 16.
+    pub fn new(alloc: Global, lanes: u32) -> Result<Core, NoMemory>
+        requires some { 1 ≤ lanes }
+        requires most { lanes ≤ 16 }
+        ensures { IfOk result (λ core. core ≡ record { machine = start empty_index lanes; met = 0 }) }
+    {
+        Ok(Core {
+            alloc,
+            commits: Many::new(alloc),
+            flight: None,
+            shown: 0,
+            lanes: all_at(alloc, lanes as usize, 0)?,
+            met: 0,
+        })
+    }
+
+    /// Takes the step, if it may be taken now.
+    pub fn step(&mut self, step: &Step) -> Result<(), CoreError>
+        ensures answer { Answers self.old step.now result self.new }
+        ensures order { InOrder self.new.met self.new.machine }
+    {
+        let _ = &self.met;
+        match step {
+            Step::Begin { commit } => self.begin(commit),
+            Step::Append => self.append(),
+            Step::Show => self.show(),
+            Step::See { lane } => self.see(*lane),
+            Step::Meet => self.meet(),
+            Step::Reply {
+                lane,
+                request,
+                text,
+            } => self.reply(*lane, request, text.as_slice()),
+        }
+    }
+
+    fn begin(&mut self, commit: &Commit) -> Result<(), CoreError>
+        ensures answer { Answers self.old (Step.Begin commit.now) result self.new }
+    {
+        if !self.may_begin(commit)? {
+            return Err(CoreError::NotNow);
+        }
+        self.flight = Some(commit.copy()?);
+        Ok(())
+    }
+
+    fn may_begin(&self, commit: &Commit) -> Result<bool, NoMemory>
+        ensures { IfOk result (λ may. IsTrue may ↔ IsAllowed self.now.machine (Step.Begin commit.now)) }
+    {
+        if self.commits.len() != self.shown {
+            return Ok(false);
+        }
+        if self.flight.is_some() {
+            return Ok(false);
+        }
+        if commit.changes.is_empty() {
+            return Ok(false);
+        }
+        let files = files_after(self.alloc, self.commits.as_slice())?;
+        fit_changes(self.alloc, files, commit.changes.as_slice())
+    }
+
+    fn append(&mut self) -> Result<(), CoreError>
+        ensures answer { Answers self.old Step.Append result self.new }
+    {
+        let Some(commit) = &self.flight else {
+            return Err(CoreError::NotNow);
+        };
+        let copied = commit.copy()?;
+        self.commits.push(copied)?;
+        self.flight = None;
+        Ok(())
+    }
+
+    fn show(&mut self) -> Result<(), CoreError>
+        ensures answer { Answers self.old Step.Show result self.new }
+    {
+        let known = self.commits.len();
+        if known - self.shown != 1 {
+            return Err(CoreError::NotNow);
+        }
+        self.shown = known;
+        self.lanes.replace(0, known);
+        Ok(())
+    }
+
+    fn see(&mut self, lane: u32) -> Result<(), CoreError>
+        ensures answer { Answers self.old (Step.See lane) result self.new }
+    {
+        let lane = lane as usize;
+        if lane == 0 || lane >= self.lanes.len() {
+            return Err(CoreError::NotNow);
+        }
+        self.lanes.replace(lane, self.shown);
+        Ok(())
+    }
+
+    fn meet(&mut self) -> Result<(), CoreError>
+        ensures answer { Answers self.old Step.Meet result self.new }
+    {
+        if self.commits.len() != self.shown {
+            return Err(CoreError::NotNow);
+        }
+        self.lanes = all_at(self.alloc, self.lanes.len(), self.shown)?;
+        self.met = self.shown;
+        Ok(())
+    }
+
+    fn reply(&self, lane: u32, request: &Request, text: &[u8]) -> Result<(), CoreError>
+        ensures answer { Answers self.now (Step.Reply lane request.now text.now) result self.now }
+    {
+        let lane = lane as usize;
+        if lane >= self.lanes.len() {
+            return Err(CoreError::NotNow);
+        }
+        let seen = self.lanes.as_slice()[lane];
+        let files = files_after(self.alloc, &self.commits.as_slice()[..seen])?;
+        if !may_reply(self.alloc, files.as_slice(), request, text)? {
+            return Err(CoreError::NotNow);
+        }
+        Ok(())
+    }
+}
+
+fn all_at(alloc: Global, lanes: usize, seen: usize) -> Result<Many<usize>, NoMemory>
+    ensures { IfOk result (λ all. all ≡ replicate lanes seen) }
+{
+    let mut all = Vec::new(alloc);
+    all.resize(lanes, seen)?;
+    Ok(Many::from_vec(all))
+}

@@ -1,0 +1,55 @@
+use nm_base::{Copies, Many, NoMemory, Request};
+use nm_commit::Commit;
+
+/// What may happen between commits and replies. Lanes are counted from 0.
+#[derive(Debug, Drop, PartialEq, Eq)]
+pub enum Step {
+    /// A commit is on its way to the disk.
+    Begin {
+        commit: Commit,
+    },
+    /// It is there.
+    Append,
+    /// It is shown to the lanes; lane 0 sees it at once.
+    Show,
+    /// The lane sees what is shown.
+    See {
+        lane: u32,
+    },
+    /// All lanes see what is shown.
+    Meet,
+    /// The lane answers.
+    Reply {
+        lane: u32,
+        request: Request,
+        text: Many<u8>,
+    },
+}
+
+impl Copies for Step {
+    fn copy(&self) -> Result<Step, NoMemory> {
+        match self {
+            Step::Begin { commit } => {
+                let commit = commit.copy()?;
+                Ok(Step::Begin { commit })
+            }
+            Step::Append => Ok(Step::Append),
+            Step::Show => Ok(Step::Show),
+            Step::See { lane } => Ok(Step::See { lane: *lane }),
+            Step::Meet => Ok(Step::Meet),
+            Step::Reply {
+                lane,
+                request,
+                text,
+            } => {
+                let request = request.copy()?;
+                let text = text.copy()?;
+                Ok(Step::Reply {
+                    lane: *lane,
+                    request,
+                    text,
+                })
+            }
+        }
+    }
+}
