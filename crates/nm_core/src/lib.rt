@@ -8,5 +8,6 @@ mod machine;
 mod reply;
 mod step;
 
+pub use count::{count_text, is_subject_query};
 pub use machine::{Core, CoreError};
 pub use step::Step;

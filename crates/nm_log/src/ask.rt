@@ -1,13 +1,10 @@
 ghost use Rattle.std.specs.Prelude.{◌≡◌, [], ◌∷◌, IfOk};
-ghost use Rattle.std.specs.Char.{is_ascii_alphanumeric};
-ghost use Rattle.std.specs.List.{list_all, list_any};
-ghost use Rattle.nm_base.specs.Bounds.{fits_length};
-ghost use Rattle.nm_commit.specs.Count.{is_plain_word, is_subject_query, is_word_byte};
 ghost use Rattle.nm_log.specs.Ask.{asked_of, command_asked, count_asked, new_asked, words_asked};
 ghost use Rattle.nm_log.specs.Words.{words_of};
 
 use crate::words::next_word;
 use nm_base::{CountAsk, NoMemory, Output, Request, Text, UsageKind};
+use nm_core::is_subject_query;
 use std::alloc::Global;
 
 /// What a line asks for, or what is wrong with it.
@@ -83,7 +80,7 @@ fn read_count(alloc: Global, text: &str) -> Result<Asked, NoMemory>
             if next_word(words).is_some() {
                 return refuse(alloc, UsageKind::Value, word);
             }
-            if !is_query(word.as_bytes()) {
+            if !is_subject_query(word.as_bytes()) {
                 return refuse(alloc, UsageKind::Value, word);
             }
             let query = Text::of(alloc, word)?;
@@ -95,50 +92,4 @@ fn read_count(alloc: Global, text: &str) -> Result<Asked, NoMemory>
             })))
         }
     }
-}
-
-/// `subject:` and one plain word.
-fn is_query(query: &[u8]) -> bool
-    ensures { result ≡ is_subject_query query.now }
-{
-    if !query.starts_with(b"subject:") {
-        return false;
-    }
-    is_word(&query[8..])
-}
-
-fn is_word(word: &[u8]) -> bool
-    ensures { result ≡ is_plain_word word.now }
-{
-    if !fits(word) {
-        return false;
-    }
-    if !has_word_bytes(word) {
-        return false;
-    }
-    has_letter_or_digit(word)
-}
-
-fn fits(word: &[u8]) -> bool
-    ensures { result ≡ fits_length 200 word.now }
-{
-    !word.is_empty() && word.len() <= 200
-}
-
-fn has_word_bytes(word: &[u8]) -> bool
-    ensures { result ≡ list_all is_word_byte word.now }
-{
-    word.iter().all(|b| may_be_in_word(*b))
-}
-
-fn may_be_in_word(b: u8) -> bool
-    ensures { result ≡ is_word_byte b }
-{
-    b.is_ascii_alphanumeric() || b == b'_'
-}
-
-fn has_letter_or_digit(word: &[u8]) -> bool
-    ensures { result ≡ list_any is_ascii_alphanumeric word.now }
-{
-    word.iter().any(|b| b.is_ascii_alphanumeric())
 }

@@ -1,0 +1,6 @@
+pub mod Line
+pub mod Mail
+pub mod NewLine
+pub mod Reading
+pub mod Session
+pub mod State
