@@ -2,4 +2,5 @@
 #![tactic(auto)]
 
 mod index;
+mod listing;
 
