@@ -4,3 +4,4 @@ pub mod NewLine
 pub mod Reading
 pub mod Session
 pub mod State
+pub mod Steps

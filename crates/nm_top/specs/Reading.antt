@@ -67,6 +67,10 @@ answer_at tree path = answer_of (got_of tree path most_bytes)
 abbrev pub arrival_at : Tree → List ℕ → List (List ℕ × Facts)
 arrival_at tree path = arrival_of path (got_of tree path most_bytes)
 
+-- what the tree answers to reads of these paths
+abbrev pub answers_at : Tree → List (List ℕ) → List (List ℕ × ReadAnswer)
+answers_at tree paths = map (λ path. (path, answer_at tree path)) paths
+
 -- a path and the answer to its read, as it is noted
 abbrev pub read_of : List ℕ × ReadAnswer → Given
 read_of read = given.Read read.0 read.1
@@ -107,5 +111,5 @@ pub record Reads (tree : Option Tree) (noted : List Given) (paths : List (List �
   pub each : map (λ read. read.0) reads ≡ paths
   pub mails : paths_of arrivals ≡ flat_map mail_in reads
   pub dated : AllByRecursion (λ arrival. IsDate arrival.1.date) arrivals
-  pub told_answers : IfSome tree (λ t. reads ≡ map (λ path. (path, answer_at t path)) paths)
+  pub told_answers : IfSome tree (λ t. reads ≡ answers_at t paths)
   pub told_arrivals : IfSome tree (λ t. arrivals ≡ flat_map (arrival_at t) paths)

@@ -3,4 +3,5 @@
 
 mod index;
 mod listing;
+mod reading;
 
