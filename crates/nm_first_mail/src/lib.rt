@@ -1,24 +1,12 @@
-//! stub
+//! What a mail is and what its facts are, by a first and plain rule: ASCII bytes, of whose header one line
+//! gives the id and one the subject. Every file is told exactly: its facts, or that it is no mail.
 #![tactic(auto)]
-ghost use Rattle.std.specs.Prelude.{◌≡◌, IfOk, IfErr, Some, pos};
-ghost use Rattle.nm_first_mail.specs.FirstMail.{first_facts, IsExtractFault};
 
-use nm_base::{Facts, NoMemory};
-use std::alloc::Global;
-use thiserror::Error;
+mod header;
+mod mail;
+mod subject;
 
-#[derive(Clone, Copy, Debug, PartialEq, Eq, Error)]
-pub enum ExtractError {
-    #[error("not mail")]
-    NotMail,
-    #[error("no memory")]
-    NoMemory,
-}
+pub use mail::{ExtractError, extract};
 
-pub fn extract(alloc: Global, bytes: &[u8]) -> Result<Facts, ExtractError>
-    ensures ok { IfOk result (λ facts. first_facts bytes.now ≡ Some facts) }
-    ensures not_mail { IfErr result (IsExtractFault bytes.now) }
-    ensures date { IfOk result (λ facts. facts.date ≡ pos 0) }
-{
-    Err(ExtractError::NoMemory)
-}
+#[cfg(test)]
+mod tests;
