@@ -4,4 +4,5 @@
 mod index;
 mod listing;
 mod reading;
+mod sets;
 
