@@ -17,3 +17,6 @@ pub use folder_mail::FolderMail;
 pub use given::{Given, ReadAnswer};
 pub use maildir::Maildir;
 pub use still_tree::StillTree;
+
+#[cfg(test)]
+mod tests;
