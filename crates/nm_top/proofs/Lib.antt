@@ -1,2 +1,4 @@
 pub mod ReadLemmas
 pub mod SetLemmas
+pub mod FoldLemmas
+pub mod NewLemmas

@@ -21,7 +21,7 @@ use Rattle.nm_top.specs.Reading.{IsTold, Reads, answer_at, answers_at, answer_of
 use Rattle.nm_top.specs.Steps.{HasRead, HasReadAll, Judges, found_in, read_with}
 
 -- nothing more is read
-read_with-none : (r : Option (List (List ℕ))) → r ≡ read_with r []
+pub read_with-none : (r : Option (List (List ℕ))) → r ≡ read_with r []
 read_with-none None = refl
 read_with-none (Some paths) = ap Some (sym (append-nil paths))
 
@@ -31,7 +31,7 @@ read_with-more None ps qs = refl
 read_with-more (Some paths) ps qs = ap Some (append_assoc paths ps qs)
 
 -- nothing is noted
-none_told : (tree : Option Tree) → IfSome tree (λ t. AllByRecursion (IsTold t) [])
+pub none_told : (tree : Option Tree) → IfSome tree (λ t. AllByRecursion (IsTold t) [])
 none_told None = tt
 none_told (Some t) = tt
 
@@ -105,7 +105,7 @@ AllByRecursion-append : {X : Type 0} (P : X → Type 0) (xs ys : List X) → All
 AllByRecursion-append P [] ys h k = k
 AllByRecursion-append P (x ∷ xs) ys h k = (h.0, AllByRecursion-append P xs ys h.1 k)
 
-told_both : (tree : Option Tree) (xs ys : List Given) → IfSome tree (λ t. AllByRecursion (IsTold t) xs) → IfSome tree (λ t. AllByRecursion (IsTold t) ys) → IfSome tree (λ t. AllByRecursion (IsTold t) (xs ++ ys))
+pub told_both : (tree : Option Tree) (xs ys : List Given) → IfSome tree (λ t. AllByRecursion (IsTold t) xs) → IfSome tree (λ t. AllByRecursion (IsTold t) ys) → IfSome tree (λ t. AllByRecursion (IsTold t) (xs ++ ys))
 told_both None xs ys h k = tt
 told_both (Some t) xs ys h k = AllByRecursion-append (IsTold t) xs ys h k
 

@@ -1,16 +1,27 @@
 -- What the parts of `new` leave, one read after another.
-use Rattle.std.specs.Prelude.{◌≡◌, ℕ, List, [], ◌∷◌, ◌++◌, take, Option, None, Some, IfSome}
-use Rattle.std.specs.List.{AllByRecursion}
+use Rattle.std.specs.Prelude.{◌≡◌, ℕ, ◌+◌, Bool, ◌&&◌, ◌==◌, not, List, [], ◌∷◌, ◌++◌, length, filter, take, Option, None, Some, IfSome, if◌then◌else◌}
+use Rattle.std.specs.List.{AllByRecursion, flat_map}
 use Rattle.std.specs.Option.{option_map}
 use Rattle.nm_base.specs.declared.facts.Facts.{Facts}
-use Rattle.nm_commit.specs.Index.{IsDate}
+use Rattle.nm_base.specs.declared.refusals.Skip.{Skip}
+use Rattle.nm_base.specs.Order.{has_text, in_order}
+use Rattle.nm_commit.specs.Index.{IsDate, paths_of}
+use Rattle.nm_base.specs.Faults.{Rose}
+use Rattle.nm_log.specs.Replies.{new_text, refusal_line}
+use Rattle.nm_log.specs.declared.outcome.Outcome.{Outcome}
+use Rattle.nm_log.specs.declared.outcome.Outcome.TheVariants as outcomes
+use Rattle.nm_log.specs.declared.replies.NewReport.{NewReport}
 use Rattle.nm_maildir.specs.Tree.{Tree}
 use Rattle.nm_maildir.specs.declared.answers.Got.{Got}
 use Rattle.nm_maildir.specs.declared.answers.Got.TheVariants as got
 use Rattle.nm_maildir.specs.declared.given.Given.{Given}
+use Rattle.nm_maildir.specs.declared.given.Given.TheVariants as given
 use Rattle.nm_maildir.specs.declared.given.ReadAnswer.{ReadAnswer}
 use Rattle.nm_top.specs.Mail.{facts_of}
-use Rattle.nm_top.specs.Reading.{IsTold, Reads, answer_of}
+use Rattle.nm_top.specs.NewLine.{IsNew, only_in}
+use Rattle.nm_top.specs.State.{State}
+use Rattle.nm_top.specs.Reading.{IsRising, IsTold, Reads, answer_of, listed_of, skip_at, to_read}
+use Rattle.nm_top.specs.declared.index.PlainIndex.{PlainIndex}
 
 -- the paths read so far, and these
 abbrev pub read_with : Option (List (List ℕ)) → List (List ℕ) → Option (List (List ℕ))
@@ -42,3 +53,69 @@ pub record HasReadAll (tree : Option Tree) (old_reads new_reads : Option (List (
   pub noted_is : new_noted ≡ old_noted ++ noted
   pub reading : Reads tree noted paths arrivals
   pub read : new_reads ≡ read_with old_reads paths
+
+-- the path stands in the index and is not listed
+abbrev pub is_gone : List (List ℕ) → List (List ℕ) → List ℕ → Bool
+is_gone known listed path = has_text known path && not (has_text listed path)
+
+-- the files that are not gone
+abbrev pub kept : List (List ℕ) → List (List ℕ) → List (List ℕ × Facts) → List (List ℕ × Facts)
+kept known listed files = filter (λ file. not (is_gone known listed file.0)) files
+
+-- the known paths that are not listed
+abbrev pub gone_of : List (List ℕ) → List (List ℕ) → List (List ℕ)
+gone_of known listed = filter (λ path. not (has_text listed path)) known
+
+-- a commit where there is something to commit
+abbrev pub commits_for : ℕ → ℕ
+commits_for changes = if changes == 0 then 0 else 1
+
+-- why what is noted was passed over
+abbrev pub skip_given : Given → List (List ℕ × Skip)
+skip_given (given.Listed paths) = []
+skip_given (given.Read path answer) = skip_at path answer
+skip_given (given.Renamed from to answer) = []
+
+abbrev pub report_with : List (List ℕ) → List (List ℕ) → List (List ℕ × Facts) → List (List ℕ × Facts) → List (List ℕ × Facts) → List Given → NewReport
+report_with known listed before after arrivals noted = record {
+  added = length arrivals;
+  removed = length (gone_of known listed);
+  born = length (only_in before after);
+  died = length (only_in after before);
+  skipped = flat_map skip_given noted;
+}
+
+-- the index after what has come and what is gone, and what is said of it
+pub record TakesIn (known listed : List (List ℕ)) (arrivals : List (List ℕ × Facts)) (noted : List Given) (old new : PlainIndex) (text : List ℕ) : Type 0 where
+  pub files : new.files ≡ kept known listed (old.files ++ arrivals)
+  pub revision : new.revision ≡ old.revision + (commits_for (length arrivals) + commits_for (length (gone_of known listed)))
+  pub says : text ≡ new_text (report_with known listed old.files new.files arrivals noted)
+
+-- what was gathered: the listed paths, those of the index, and what has come
+pub record Gathers (tree : Option Tree) (old_reads new_reads : Option (List (List ℕ))) (files : List (List ℕ × Facts)) (noted : List Given) (known listed : List (List ℕ)) (arrivals : List (List ℕ × Facts)) : Type 0 where
+  pub rising : IsRising listed
+  pub told : IfSome tree (λ t. listed ≡ listed_of t)
+  pub known_is : known ≡ in_order (paths_of files)
+  pub answers : List Given
+  pub noted_is : noted ≡ given.Listed listed ∷ answers
+  pub reading : Reads tree answers (to_read files listed) arrivals
+  pub read : new_reads ≡ read_with old_reads (to_read files listed)
+
+-- Whatever came of it, of listed paths only such as the index lacks were read, and what is noted is what the tree answers.
+pub record HasAsked (tree : Option Tree) (old_reads new_reads : Option (List (List ℕ))) (files : List (List ℕ × Facts)) (noted : List Given) : Type 0 where
+  pub listed : List (List ℕ)
+  pub rising : IsRising listed
+  pub count : ℕ
+  pub read : new_reads ≡ read_with old_reads (take count (to_read files listed))
+  pub told : IfSome tree (λ t. AllByRecursion (IsTold t) noted)
+
+-- what a line begins with or leaves, from what the mail folder tells and the index
+abbrev pub state_with : Option Tree → Option (List (List ℕ)) → ℕ → PlainIndex → State
+state_with tree reads faults index = record { index = record { files = index.files; revision = index.revision }; tree = tree; reads = reads; faults = faults }
+
+-- how `new` may end, but for want of memory
+abbrev pub IsNewAnswer : Outcome → State → List Given → List ℕ → State → Type 0
+IsNewAnswer outcomes.Ok old noted text new = IsNew old noted text new
+IsNewAnswer (outcomes.Usage word kind) old noted text new = ⊥
+IsNewAnswer outcomes.MailFault old noted text new = Rose old.faults new.faults × (new.index ≡ old.index) × (text ≡ refusal_line outcomes.MailFault)
+IsNewAnswer outcomes.NoMemory old noted text new = ⊥

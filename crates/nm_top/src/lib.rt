@@ -3,6 +3,8 @@
 
 mod index;
 mod listing;
+mod new;
 mod reading;
 mod sets;
+mod take_in;
 

@@ -1,5 +1,6 @@
-ghost use Rattle.std.specs.Prelude.{◌≡◌, ◌&&◌, IfOk, filter, length, not};
+ghost use Rattle.std.specs.Prelude.{◌≡◌, ◌&&◌, IfOk, OnOk, filter, length, not};
 ghost use Rattle.nm_base.specs.Order.{has_text};
+ghost use Rattle.nm_top.specs.Reading.{IsRising};
 
 use nm_base::{Copies, MailPath, Many, MessageId, NoMemory};
 use std::alloc::Global;
@@ -39,7 +40,8 @@ pub(crate) fn all_paths(
     alloc: Global,
     paths: &BTreeSet<MailPath>,
 ) -> Result<Many<MailPath>, NoMemory>
-    ensures { IfOk result (λ all. all ≡ paths.now.keys) }
+    ensures all { IfOk result (λ all. all ≡ paths.now.keys) }
+    ensures rising { OnOk result (IsRising paths.now.keys) }
 {
     let mut all = Many::new(alloc);
     'paths: for path in paths {
@@ -53,4 +55,11 @@ pub(crate) fn ids_not_in(ids: &BTreeSet<MessageId>, others: &BTreeSet<MessageId>
     ensures { result ≡ length (filter (λ id. not (has_text others.now.keys id)) ids.now.keys) }
 {
     ids.iter().filter(|id| !has_id(others, id)).count()
+}
+
+/// How many paths of the first set the second lacks.
+pub(crate) fn paths_missing(paths: &BTreeSet<MailPath>, others: &BTreeSet<MailPath>) -> usize
+    ensures { result ≡ length (filter (λ path. not (has_text others.now.keys path)) paths.now.keys) }
+{
+    paths.iter().filter(|path| !has_path(others, path)).count()
 }

@@ -1,0 +1,83 @@
+ghost use Rattle.std.specs.Prelude.{◌≡◌, ◌+◌, ◌<◌, ◌≤◌, ◌^◌, [], IfOk, OnErr, OnOk, ◌++◌, ◌∷◌};
+ghost use Rattle.nm_maildir.specs.Calls.{HasMailCause};
+ghost use Rattle.nm_top.specs.Reading.{IsRising};
+ghost use Rattle.nm_top.specs.Steps.{Gathers, HasAsked, IsNewAnswer, state_with};
+
+use nm_base::{Copies, MailPath, Many, NoMemory};
+use nm_log::Outcome;
+use nm_maildir::{Given, MailError, Maildir};
+use std::alloc::Global;
+use std::collections::BTreeSet;
+
+use crate::index::{Mail, PlainIndex, path_set};
+use crate::listing::list_paths;
+use crate::reading::read_all;
+use crate::sets::{all_paths, paths_not_in};
+use crate::take_in::{Gathered, take_in};
+
+/// Takes in what has come and lets go what is gone, and gives the outcome and the reply.
+pub(crate) fn run_new<M: Maildir>(
+    alloc: Global,
+    index: &mut PlainIndex,
+    mail: &mut M,
+    noted: &mut Many<Given>,
+) -> Result<(Outcome, Many<u8>), NoMemory>
+    requires room { index.old.revision + 2 < 2 ^ 64 }
+    requires fresh { noted.old ≡ [] }
+    ensures ok { IfOk result (λ done. IsNewAnswer done.0
+        (state_with (M.tree mail.old) (M.reads mail.old) (M.faults mail.old) index.old) noted.new done.1
+        (state_with (M.tree mail.new) (M.reads mail.new) (M.faults mail.new) index.new)) }
+    ensures err { OnErr result (index.new ≡ index.old) }
+    ensures grows { index.new.revision ≤ index.old.revision + 2 }
+    ensures asked { HasAsked (M.tree mail.old) (M.reads mail.old) (M.reads mail.new) index.old.files noted.new }
+    ensures tree { M.tree mail.new ≡ M.tree mail.old }
+    ensures never_falls { M.faults mail.old ≤ M.faults mail.new }
+{
+    match gather(alloc, index.files.as_slice(), mail, noted) {
+        Ok(gathered) => {
+            let text = take_in(alloc, index, &gathered, noted.as_slice())?;
+            Ok((Outcome::Ok, text))
+        }
+        Err(MailError::Failed) => {
+            let text = Many::from_slice(alloc, b"notmuch: mail fault\n")?;
+            Ok((Outcome::MailFault, text))
+        }
+        Err(MailError::NoMemory) => Err(NoMemory),
+    }
+}
+
+/// Lists the mail, and reads what the index lacks.
+fn gather<M: Maildir>(
+    alloc: Global,
+    files: &[Mail],
+    mail: &mut M,
+    noted: &mut Many<Given>,
+) -> Result<Gathered, MailError>
+    requires { noted.old ≡ [] }
+    ensures ok { IfOk result (λ gathered. Gathers (M.tree mail.old) (M.reads mail.old) (M.reads mail.new) files.now noted.new
+        gathered.known.keys gathered.listed.keys gathered.arrivals) }
+    ensures asked { HasAsked (M.tree mail.old) (M.reads mail.old) (M.reads mail.new) files.now noted.new }
+    ensures tree { M.tree mail.new ≡ M.tree mail.old }
+    ensures cause { HasMailCause (M.faults mail.old) (M.faults mail.new) result }
+{
+    let listed = list_paths(alloc, mail)?;
+    note_listed(alloc, &listed, noted)?;
+    let known = path_set(alloc, files)?;
+    let paths = paths_not_in(alloc, &listed, &known)?;
+    let arrivals = read_all(alloc, mail, paths.as_slice(), noted)?;
+    Ok(Gathered { listed, known, arrivals })
+}
+
+fn note_listed(
+    alloc: Global,
+    listed: &BTreeSet<MailPath>,
+    noted: &mut Many<Given>,
+) -> Result<(), NoMemory>
+    ensures ok { OnOk result (noted.new ≡ noted.old ++ Given.Listed listed.now.keys ∷ []) }
+    ensures rising { OnOk result (IsRising listed.now.keys) }
+    ensures err { OnErr result (noted.new ≡ noted.old) }
+{
+    let paths = all_paths(alloc, listed)?;
+    noted.push(Given::Listed(paths))?;
+    Ok(())
+}

@@ -1,0 +1,156 @@
+ghost use Rattle.std.specs.Prelude.{◌≡◌, ◌+◌, ◌<◌, ◌++◌, IfOk, OnOk, OnErr, ◌^◌, ◌∷◌, []};
+ghost use Rattle.std.specs.List.{flat_map};
+ghost use Rattle.nm_top.specs.Reading.{skip_at};
+ghost use Rattle.nm_top.specs.Steps.{TakesIn, commits_for, gone_of, is_gone, kept, report_with, skip_given};
+
+use nm_base::{Copies, MailPath, Many, NoMemory, Skip};
+use nm_log::{NewReport, new_reply};
+use nm_maildir::{Given, ReadAnswer};
+use std::alloc::Global;
+use std::collections::BTreeSet;
+
+use crate::index::{Mail, PlainIndex, id_set};
+use crate::sets::{has_path, ids_not_in, paths_missing};
+
+/// What `new` has gathered: what is listed, what the index knows, and what has come.
+#[derive(Drop)]
+pub(crate) struct Gathered {
+    pub listed: BTreeSet<MailPath>,
+    pub known: BTreeSet<MailPath>,
+    pub arrivals: Many<Mail>,
+}
+
+/// Takes in what has come, lets go what is gone, and gives the reply.
+pub(crate) fn take_in(
+    alloc: Global,
+    index: &mut PlainIndex,
+    gathered: &Gathered,
+    noted: &[Given],
+) -> Result<Many<u8>, NoMemory>
+    requires { index.old.revision + 2 < 2 ^ 64 }
+    ensures ok { IfOk result (TakesIn gathered.now.known.keys gathered.now.listed.keys gathered.now.arrivals noted.now index.old index.new) }
+    ensures err { OnErr result (index.new ≡ index.old) }
+{
+    let files = files_after(alloc, index.files.as_slice(), gathered)?;
+    let report = make_report(alloc, index.files.as_slice(), files.as_slice(), gathered, noted)?;
+    let text = new_reply(alloc, &report)?;
+    let came = commit_count(gathered.arrivals.len());
+    let went = commit_count(paths_missing(&gathered.known, &gathered.listed));
+    index.revision += came + went;
+    index.files = files;
+    Ok(text)
+}
+
+fn commit_count(changes: usize) -> u64
+    ensures value { result ≡ commits_for changes }
+    ensures few { result < 2 }
+{
+    if changes == 0 { 0 } else { 1 }
+}
+
+fn files_after(
+    alloc: Global,
+    files: &[Mail],
+    gathered: &Gathered,
+) -> Result<Many<Mail>, NoMemory>
+    ensures { IfOk result (λ after. after ≡ kept gathered.now.known.keys gathered.now.listed.keys (files.now ++ gathered.now.arrivals)) }
+{
+    let mut after = Many::new(alloc);
+    add_kept(&mut after, files, &gathered.known, &gathered.listed)?;
+    add_kept(&mut after, gathered.arrivals.as_slice(), &gathered.known, &gathered.listed)?;
+    Ok(after)
+}
+
+fn add_kept(
+    after: &mut Many<Mail>,
+    files: &[Mail],
+    known: &BTreeSet<MailPath>,
+    listed: &BTreeSet<MailPath>,
+) -> Result<(), NoMemory>
+    ensures { OnOk result (after.new ≡ after.old ++ kept known.now.keys listed.now.keys files.now) }
+{
+    'files: for file in files {
+        add_if_kept(after, file, known, listed)?;
+    }
+    Ok(())
+}
+
+fn add_if_kept(
+    after: &mut Many<Mail>,
+    file: &Mail,
+    known: &BTreeSet<MailPath>,
+    listed: &BTreeSet<MailPath>,
+) -> Result<(), NoMemory>
+    ensures { OnOk result (after.new ≡ after.old ++ kept known.now.keys listed.now.keys (file.now ∷ [])) }
+{
+    if !went(&file.0, known, listed) {
+        let copied = file.copy()?;
+        after.push(copied)?;
+    }
+    Ok(())
+}
+
+fn went(path: &MailPath, known: &BTreeSet<MailPath>, listed: &BTreeSet<MailPath>) -> bool
+    ensures { result ≡ is_gone known.now.keys listed.now.keys path.now }
+{
+    has_path(known, path) && !has_path(listed, path)
+}
+
+fn make_report(
+    alloc: Global,
+    before: &[Mail],
+    after: &[Mail],
+    gathered: &Gathered,
+    noted: &[Given],
+) -> Result<NewReport, NoMemory>
+    ensures { IfOk result (λ report. report ≡ report_with gathered.now.known.keys gathered.now.listed.keys before.now after.now gathered.now.arrivals noted.now) }
+{
+    let old_ids = id_set(alloc, before)?;
+    let new_ids = id_set(alloc, after)?;
+    let skipped = skips(alloc, noted)?;
+    Ok(NewReport {
+        added: gathered.arrivals.len() as u64,
+        removed: paths_missing(&gathered.known, &gathered.listed) as u64,
+        born: ids_not_in(&new_ids, &old_ids) as u64,
+        died: ids_not_in(&old_ids, &new_ids) as u64,
+        skipped,
+    })
+}
+
+/// The files that were read and passed over.
+fn skips(alloc: Global, noted: &[Given]) -> Result<Many<(MailPath, Skip)>, NoMemory>
+    ensures { IfOk result (λ skips. skips ≡ flat_map skip_given noted.now) }
+{
+    let mut skips = Many::new(alloc);
+    'noted: for given in noted {
+        add_skip(&mut skips, given)?;
+    }
+    Ok(skips)
+}
+
+fn add_skip(skips: &mut Many<(MailPath, Skip)>, given: &Given) -> Result<(), NoMemory>
+    ensures { OnOk result (skips.new ≡ skips.old ++ skip_given given.now) }
+{
+    match given {
+        Given::Read { path, answer } => add_read(skips, path, answer),
+        _ => Ok(()),
+    }
+}
+
+fn add_read(
+    skips: &mut Many<(MailPath, Skip)>,
+    path: &MailPath,
+    answer: &ReadAnswer,
+) -> Result<(), NoMemory>
+    ensures { OnOk result (skips.new ≡ skips.old ++ skip_at path.now answer.now) }
+{
+    let skip = match answer {
+        ReadAnswer::NotMail => Skip::NotMail,
+        ReadAnswer::Missing => Skip::Missing,
+        ReadAnswer::TooLong => Skip::TooLong,
+        ReadAnswer::Mail | ReadAnswer::Body(_) => return Ok(()),
+    };
+    let path = path.copy()?;
+    skips.push((path, skip))?;
+    Ok(())
+}
