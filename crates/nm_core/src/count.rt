@@ -14,14 +14,14 @@ use std::alloc::Global;
 use std::collections::BTreeSet;
 
 /// Whether the query is `subject:` and a plain word.
-pub(crate) fn is_subject_query(query: &[u8]) -> bool
+pub fn is_subject_query(query: &[u8]) -> bool
     ensures { result ≡ is_subject_query query.now }
 {
     query.starts_with(b"subject:") && is_plain_word(after_prefix(query))
 }
 
 /// The number of messages that have the word of the query in a subject, and LF.
-pub(crate) fn count_text(
+pub fn count_text(
     alloc: Global,
     query: &[u8],
     files: &[(MailPath, Facts)],

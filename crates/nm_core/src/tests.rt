@@ -1,4 +1,4 @@
-use crate::{Core, CoreError, Step};
+use crate::{Core, CoreError, Step, count_text};
 use nm_base::{
     Copies, CountAsk, Facts, Field, FieldWords, MailPath, Many, Marks, MessageId, Output, Request,
     Text, Word,
@@ -233,4 +233,11 @@ fn a_reply_is_the_plain_answer(rt: HostRuntime) -> Result<(), Fail> {
     ];
     let mut core = Core::new(rt.alloc(), 1)?;
     run(&rt, rt.alloc(), &mut core, &rows)
+}
+
+#[test]
+fn a_count_of_no_mail_is_0(rt: HostRuntime) -> Result<(), Fail> {
+    let text = count_text(rt.alloc(), b"subject:red", &[])?;
+    assert_eq!(rt; text.as_slice(), b"0\n".as_slice());
+    Ok(())
 }

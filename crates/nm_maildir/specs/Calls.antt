@@ -26,7 +26,7 @@ abbrev pub reads_after : {T : Type 0} → Option (List (List ℕ)) → List ℕ 
 reads_after reads path result = option_map (λ paths. reads_with paths path result) reads
 
 -- the tree after a rename: only one that answers Moved changes it
-abbrev pub tree_with : Tree → List ℕ → List ℕ → Result Renamed MailError → Tree
+abbrev pub tree_with : {E : Type 0} → Tree → List ℕ → List ℕ → Result Renamed E → Tree
 tree_with tree from to (Ok Moved) = moved tree from to
 tree_with tree from to (Ok Missing) = tree
 tree_with tree from to (Ok Exists) = tree

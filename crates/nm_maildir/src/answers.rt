@@ -1,4 +1,8 @@
-use nm_base::{Many, Text};
+ghost use Rattle.std.specs.Prelude.{◌≡◌};
+ghost use Rattle.nm_maildir.specs.declared.answers.MailError.TheVariants as mail_error;
+
+use nm_base::{Many, NoMemory, Text};
+use std::alloc::{AllocError, AllocFailed};
 use thiserror::Error;
 
 /// The names in one folder, each list in byte order without repeats.
@@ -34,4 +38,28 @@ pub enum MailError {
     Failed,
     #[error("no memory")]
     NoMemory,
+}
+
+impl From<NoMemory> for MailError {
+    ghost from_gives = { λ _ e. e ≡ mail_error.NoMemory };
+
+    fn from(_: NoMemory) -> MailError {
+        MailError::NoMemory
+    }
+}
+
+impl From<AllocError> for MailError {
+    ghost from_gives = { λ _ e. e ≡ mail_error.NoMemory };
+
+    fn from(_: AllocError) -> MailError {
+        MailError::NoMemory
+    }
+}
+
+impl<T: Drop> From<AllocFailed<T>> for MailError {
+    ghost from_gives = { λ _ e. e ≡ mail_error.NoMemory };
+
+    fn from(_: AllocFailed<T>) -> MailError {
+        MailError::NoMemory
+    }
 }

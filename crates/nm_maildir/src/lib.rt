@@ -3,9 +3,20 @@
 #![tactic(auto)]
 
 mod answers;
+mod calls;
+mod disk;
+mod folder_mail;
 mod given;
+mod held;
 mod maildir;
+mod names;
+mod still_tree;
 
 pub use answers::{Got, Listing, MailError, Renamed};
+pub use folder_mail::FolderMail;
 pub use given::{Given, ReadAnswer};
 pub use maildir::Maildir;
+pub use still_tree::StillTree;
+
+#[cfg(test)]
+mod tests;

@@ -1,5 +1,6 @@
 ghost use Rattle.std.specs.Prelude.{◌≡◌, List, Option, ℕ, IfOk, IfSome, OnOk};
 ghost use Rattle.nm_maildir.specs.Calls.{HasMailCause, reads_after, tree_after};
+ghost use Rattle.nm_maildir.specs.Order.{AreInOrder};
 ghost use Rattle.nm_maildir.specs.Tree.{Tree, got_of, listing_of, renamed_of};
 
 use crate::{Got, Listing, MailError, Renamed};
@@ -16,9 +17,10 @@ pub trait Maildir {
     /// How often it has failed.
     ghost faults: { Self → ℕ };
 
-    /// The names in a folder. A folder that is not there has none.
+    /// The names in a folder, in byte order without repeats. A folder that is not there has none.
     fn list(&mut self, dir: &Text) -> Result<Listing, MailError>
         ensures listed { IfOk result (λ listing. IfSome (tree self.old) (λ t. listing ≡ listing_of t dir.now)) }
+        ensures order { IfOk result (λ listing. AreInOrder listing) }
         ensures tree { tree self.new ≡ tree self.old }
         ensures reads { reads self.new ≡ reads self.old }
         ensures cause { HasMailCause (faults self.old) (faults self.new) result };

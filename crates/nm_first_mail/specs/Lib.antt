@@ -1,0 +1,3 @@
+pub mod FirstMail
+pub mod Header
+pub mod SubjectWords

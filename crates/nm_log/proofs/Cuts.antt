@@ -1,0 +1,152 @@
+-- Where a text is cut: the first place of a byte, the first line, the first word.
+use Rattle.std.proofs.Common.{◌≡◌, ℕ, ◌+◌, ◌-◌, ◌<◌, ◌≤◌, ◌==◌, Bool, true, false, not, List, [], ◌∷◌, length, filter, get_or, take, drop, sym, ap, ◌∙◌, refl, arith, subst, inl, inr, cond, add-one, suc}
+use Rattle.std.specs.List.{position_or_len, slice_split, after_first, onto_first}
+use Rattle.std.specs.Str.Lines.{lines, lines_of_parts, strip_carriage_return}
+use Rattle.std.proofs.lemmas.List.{take_all, drop_all, length-drop, length-take}
+use Rattle.std.proofs.lemmas.List.Elements.{All-from_get_or}
+use Rattle.std.proofs.lemmas.List.Sums.{position_or_len_is, fails_before_first, passes_at_first}
+use Rattle.std.proofs.lemmas.List.Splits.{slice_split_first, slice_split_none, slice_split-cons_yes, slice_split-cons_no}
+use Rattle.std.proofs.lemmas.Bool.{cases_lt}
+use Rattle.std.proofs.lemmas.Bool.Decides.{nat_tests}
+use Rattle.std.proofs.Math.Seq.{drop-cons}
+use Rattle.std.specs.Str.{IsUtf8, IsCharBoundary}
+use Rattle.std.proofs.lemmas.Str.{IsCharBoundary-after_ascii, IsCharBoundary-before_ascii, IsCharBoundary-end}
+use Rattle.nm_log.specs.Words.{begins_blank, is_blank, words_of}
+
+-- the place at which a loop stops is the first
+pub first_place : (p : ℕ → Bool) (xs : List ℕ) (i : ℕ) → i < length xs → ((k : ℕ) → k < i → p (get_or xs k 0) ≡ false) → p (get_or xs i 0) ≡ true → i ≡ position_or_len p xs
+first_place p xs i within below here = sym (position_or_len_is p xs i 0 (omega arith) below (λ _. here))
+
+-- a loop that does not stop has passed no such place
+pub no_place : (p : ℕ → Bool) (xs : List ℕ) (i : ℕ) → i ≡ length xs → ((k : ℕ) → k < i → p (get_or xs k 0) ≡ false) → length xs ≡ position_or_len p xs
+no_place p xs i all below = sym (position_or_len_is p xs i 0 (omega arith) below (λ more. absurd (omega arith)) ∙ all)
+
+-- where no place passes, the list is one part
+one_part : (p : ℕ → Bool) (xs : List ℕ) → length xs ≡ position_or_len p xs → slice_split p xs ≡ xs ∷ []
+one_part p xs all = slice_split_none p xs (All-from_get_or (λ x. p x ≡ false) xs 0 (λ i within. fails_before_first p xs i 0 (omega arith)))
+
+-- a cut gives a part at least
+onto_cons : (x : ℕ) (parts : List (List ℕ)) (y : List ℕ) (more : List (List ℕ)) → parts ≡ y ∷ more → onto_first x parts ≡ (x ∷ y) ∷ more
+onto_cons x parts y more e = ap (onto_first x) e
+
+record HasPart (parts : List (List ℕ)) : Type 0 where
+  first : List ℕ
+  more : List (List ℕ)
+  is : parts ≡ first ∷ more
+
+split_by : (p : ℕ → Bool) (x : ℕ) (xs : List ℕ) (b : Bool) → p x ≡ b → HasPart (slice_split p xs) → HasPart (slice_split p (x ∷ xs))
+split_by p x xs true e h = record { first = []; more = slice_split p xs; is = slice_split-cons_yes p x xs e }
+split_by p x xs false e h = record { first = x ∷ h.first; more = h.more; is = slice_split-cons_no p x xs e ∙ onto_cons x _ h.first h.more h.is }
+
+has_part : (p : ℕ → Bool) (xs : List ℕ) → HasPart (slice_split p xs)
+has_part p [] = record { first = []; more = []; is = refl }
+has_part p (x ∷ xs) = split_by p x xs (p x) refl (has_part p xs)
+
+-- a part with one behind it is a line
+part_then : (x : List ℕ) (parts : List (List ℕ)) → HasPart parts → lines_of_parts (x ∷ parts) ≡ strip_carriage_return x ∷ lines_of_parts parts
+part_then x parts h = subst (λ (ps : List (List ℕ)). lines_of_parts (x ∷ ps) ≡ strip_carriage_return x ∷ lines_of_parts ps) (sym h.is) refl
+
+-- a length that is not 0
+pub not_empty : (n : ℕ) → 0 < n → (n == 0) ≡ false
+not_empty n some = grind (arith, nat_tests)
+
+-- what is taken of the rest is all of it
+pub all_rest : (n : ℕ) (xs : List ℕ) → take (length xs - n) (drop n xs) ≡ drop n xs
+all_rest n xs = take_all _ _ (omega (arith, length-drop n xs))
+
+-- a single part is a line where it is not empty
+one_line : (xs : List ℕ) → 0 < length xs → lines_of_parts (xs ∷ []) ≡ xs ∷ []
+one_line xs some = ap (λ (b : Bool). cond b [] (xs ∷ [])) (not_empty (length xs) some)
+
+-- the last line has no LF behind it
+pub last_line : (bytes : List ℕ) (end : ℕ) → 0 < length bytes → end ≡ position_or_len (λ b. b == 10) bytes → end ≡ length bytes
+    → (lines bytes ≡ bytes ∷ lines (take (length bytes - end) (drop end bytes))) × (length (take (length bytes - end) (drop end bytes)) < length bytes)
+last_line bytes end some at all =
+    let none : take (length bytes - end) (drop end bytes) ≡ [] = all_rest end bytes ∙ drop_all end bytes (omega arith) in (
+      ap lines_of_parts (one_part (λ b. b == 10) bytes (sym all ∙ at)) ∙ (one_line bytes some ∙ ap (λ l. bytes ∷ lines l) (sym none)),
+      subst (λ (l : List ℕ). length l < length bytes) (sym none) some,
+    )
+
+-- a line ends at the first LF
+pub first_line : (bytes line : List ℕ) (end : ℕ) → end ≡ position_or_len (λ b. b == 10) bytes → end < length bytes → line ≡ strip_carriage_return (take end bytes)
+    → (lines bytes ≡ line ∷ lines (take (length bytes - (end + 1)) (drop (end + 1) bytes))) × (length (take (length bytes - (end + 1)) (drop (end + 1) bytes)) < length bytes)
+first_line bytes line end at within is =
+    let p : ℕ → Bool = λ b. b == 10 in
+    let rest = all_rest (end + 1) bytes in
+    let cut : lines bytes ≡ strip_carriage_return (take end bytes) ∷ lines (drop (end + 1) bytes) =
+    subst (λ (n : ℕ). lines bytes ≡ strip_carriage_return (take n bytes) ∷ lines (drop (n + 1) bytes)) (sym at)
+    (ap lines_of_parts (slice_split_first p bytes 0 (omega arith)) ∙ part_then _ _ (has_part p (after_first p bytes))) in (
+      cut ∙ (ap (λ l. l ∷ lines (drop (end + 1) bytes)) (sym is) ∙ ap (λ l. line ∷ lines l) (sym rest)),
+      subst (λ (l : List ℕ). length l < length bytes) (sym rest) (omega (arith, length-drop (end + 1) bytes)),
+    )
+
+-- a blank in front is no part of a word
+pub words_of-blank : (text : List ℕ) → begins_blank text ≡ true → words_of (drop 1 text) ≡ words_of text
+words_of-blank [] e = absurd (cc)
+words_of-blank (b ∷ bs) e = sym (ap (filter (λ word. not (length word == 0))) (slice_split-cons_yes is_blank b bs e))
+
+-- a word is kept by the filter
+kept : (word : List ℕ) (parts : List (List ℕ)) → 0 < length word → filter (λ word. not (length word == 0)) (word ∷ parts) ≡ word ∷ filter (λ word. not (length word == 0)) parts
+kept word parts some = ap (λ (b : Bool). cond (not b) (word ∷ filter (λ word. not (length word == 0)) parts) (filter (λ word. not (length word == 0)) parts)) (not_empty (length word) some)
+
+-- a text that begins with no blank has its first blank behind that
+past_first : (text : List ℕ) → 0 < length text → begins_blank text ≡ false → 0 < position_or_len is_blank text
+past_first [] some e = absurd (omega arith)
+past_first (b ∷ bs) some e = subst (λ (t : Bool). 0 < cond (not t) (1 + position_or_len is_blank bs) 0) (sym e) (omega arith)
+
+-- what stands from a blank on
+words_from : (text : List ℕ) (end : ℕ) → end < length text → is_blank (get_or text end 0) ≡ true → words_of (drop end text) ≡ words_of (drop (end + 1) text)
+words_from text end within blank =
+    ap words_of (drop-cons text end 0 within)
+    ∙ (ap (filter (λ word. not (length word == 0))) (slice_split-cons_yes is_blank (get_or text end 0) (drop (suc end) text) blank)
+    ∙ ap (λ n. words_of (drop n text)) (sym (add-one end)))
+
+-- a word with a blank behind it
+word_then : (text : List ℕ) → position_or_len is_blank text < length text → 0 < position_or_len is_blank text
+    → words_of text ≡ take (position_or_len is_blank text) text ∷ words_of (drop (position_or_len is_blank text + 1) text)
+word_then text within some =
+    ap (filter (λ word. not (length word == 0))) (slice_split_first is_blank text 0 within)
+    ∙ kept _ (slice_split is_blank (after_first is_blank text)) (omega (arith, length-take (position_or_len is_blank text) text))
+
+-- a word that ends with the text
+word_at_end : (text : List ℕ) → position_or_len is_blank text ≡ length text → 0 < length text → words_of text ≡ take (length text) text ∷ words_of (drop (length text) text)
+word_at_end text all some =
+    ap (filter (λ word. not (length word == 0))) (one_part is_blank text (sym all))
+    ∙ (kept text [] some ∙ (ap (λ l. l ∷ []) (sym (take_all _ text (omega arith))) ∙ ap (λ l. take (length text) text ∷ words_of l) (sym (drop_all _ text (omega arith)))))
+
+-- the first word ends at the first blank, or with the text
+pub words_of-word : (text : List ℕ) → 0 < length text → begins_blank text ≡ false → position_or_len is_blank text ≤ length text
+    → words_of text ≡ take (position_or_len is_blank text) text ∷ words_of (drop (position_or_len is_blank text) text)
+words_of-word text some e within =
+    let n = position_or_len is_blank text in
+    elim (cases_lt n (length text)) [
+      | inl more ↦ word_then text more (past_first text some e) ∙ ap (λ l. take n text ∷ l) (sym (words_from text n more (passes_at_first is_blank text 0 more)))
+      | inr done ↦
+          let all : n ≡ length text = omega arith in
+          subst (λ (m : ℕ). words_of text ≡ take m text ∷ words_of (drop m text)) (sym all) (word_at_end text all some)
+    ]
+
+-- a blank is ASCII
+blank_below : (b : ℕ) → is_blank b ≡ true → b < 128
+blank_below b e = grind (arith, nat_tests)
+
+-- a text may be cut behind a blank in front
+pub cut_behind_blank : (text : List ℕ) → IsUtf8 text → begins_blank text ≡ true → IsCharBoundary text 1
+cut_behind_blank [] u e = absurd (cc)
+cut_behind_blank (b ∷ bs) u e = IsCharBoundary-after_ascii (b ∷ bs) 0 u (omega arith) (blank_below b e)
+
+-- a text may be cut before its first blank
+pub cut_before_blank : (text : List ℕ) (end : ℕ) → end ≡ position_or_len is_blank text → end ≤ length text → IsCharBoundary text end
+cut_before_blank text end at within =
+    elim (cases_lt end (length text)) [
+      | inl more ↦ IsCharBoundary-before_ascii text end more (blank_below _ (subst (λ (n : ℕ). is_blank (get_or text n 0) ≡ true) (sym at) (passes_at_first is_blank text 0 (omega arith))))
+      | inr done ↦ let all : length text ≡ end = omega arith in subst (λ (n : ℕ). IsCharBoundary text n) all (IsCharBoundary-end text)
+    ]
+
+-- the same, of a text that was cut there
+pub first_word : (text word more : List ℕ) (end : ℕ) → 0 < length text → begins_blank text ≡ false → end ≡ position_or_len is_blank text → end ≤ length text → word ≡ take end text → more ≡ drop end text
+    → words_of text ≡ word ∷ words_of more
+first_word text word more end some e at within front back =
+    let n = position_or_len is_blank text in
+    words_of-word text some e (omega arith)
+    ∙ (ap (λ l. l ∷ words_of (drop n text)) (ap (λ m. take m text) (sym at) ∙ sym front) ∙ ap (λ l. word ∷ words_of l) (ap (λ m. drop m text) (sym at) ∙ sym back))

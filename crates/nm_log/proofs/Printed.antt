@@ -1,0 +1,28 @@
+-- The printed log, line by line.
+use Rattle.std.proofs.Common.{◌≡◌, ℕ, ◌<◌, List, ◌∷◌, ◌++◌, Option, Result, Ok, Err, IsErr, length, take, drop, get_or, suc, sym, ap, ◌∙◌, subst, take-append-drop}
+use Rattle.std.proofs.Math.Seq.{drop-cons}
+use Rattle.std.proofs.lemmas.Bool.{false≢true}
+use Rattle.std.proofs.lemmas.Grind.{flat_map-append}
+use Rattle.std.specs.Io.KnownBytes.{Appends}
+use Rattle.nm_io.specs.Sink.{PutAppends}
+use Rattle.nm_log.specs.declared.log.LineLog.{LineLog}
+use Rattle.nm_log.specs.Replies.{printed, printed_line}
+use Rattle.nm_log.proofs.Puts.{PutAppends-first, PutAppends-then}
+
+-- all that is printed: the lines before one, that line, and those behind it
+split_line : (lines : List LineLog) (i : ℕ) (log : LineLog) → i < length lines → log ≡ get_or lines i log → printed lines ≡ printed (take i lines) ++ (printed_line log ++ printed (drop (suc i) lines))
+split_line lines i log within is =
+    ap printed (sym (take-append-drop i lines)) ∙ (flat_map-append printed_line (take i lines) (drop i lines)
+    ∙ ap (λ (l : List LineLog). printed (take i lines) ++ printed l) (drop-cons lines i log within ∙ ap (λ (x : LineLog). x ∷ drop (suc i) lines) (sym is)))
+
+-- what a put that failed has appended
+put_failed : {T E : Type 0} (b c : Option (List ℕ)) (r : Result T E) (xs : List ℕ) → IsErr r → (n : ℕ) × Appends b c (take n xs) → PutAppends b c r xs
+put_failed b c (Ok x) xs failed h = absurd (false≢true failed)
+put_failed b c (Err e) xs failed h = h
+
+-- where a line isn't printed whole, the log isn't
+pub line_fails : {T E : Type 0} (a b c : Option (List ℕ)) (r : Result T E) (lines : List LineLog) (i : ℕ) (log : LineLog) → i < length lines → log ≡ get_or lines i log → IsErr r
+    → Appends a b (printed (take i lines)) → (n : ℕ) × Appends b c (take n (printed_line log)) → PutAppends a c r (printed lines)
+line_fails a b c r lines i log within is failed so_far put =
+    subst (PutAppends a c r) (sym (split_line lines i log within is))
+    (PutAppends-then a b c r (printed (take i lines)) (printed_line log ++ printed (drop (suc i) lines)) so_far (PutAppends-first b c r (printed_line log) (printed (drop (suc i) lines)) failed (put_failed b c r (printed_line log) failed put)))

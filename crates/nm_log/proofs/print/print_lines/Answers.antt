@@ -1,0 +1,7 @@
+use Rattle.nm_log.proofs.Printed.{line_fails}
+use Rattle.nm_log.proofs.print.print_lines.Goals as goal
+
+pub returns-in_err-print_line-clause-bytes : goal.returns-in_err-print_line-clause-bytes
+returns-in_err-print_line-clause-bytes g c =
+    line_fails (g.O.Sink.taken c.args.out.now) (g.O.Sink.taken c.lines.out) (g.O.Sink.taken c.print_line.new.out) c.from_residual.result c.args.lines.now c.lines.log-index c.log-item.result
+    c.lines-test.true c.log-item.is c.from_residual.ensures.0 c.lines.invariant.bytes c.in_err-print_line.ensures.bytes

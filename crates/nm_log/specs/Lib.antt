@@ -1,0 +1,4 @@
+pub mod Ask
+pub mod Replies
+pub mod Script
+pub mod Words

@@ -1,0 +1,96 @@
+-- The texts of replies and refusals, and how a log is printed.
+use Rattle.std.specs.Prelude.{ℕ, ◌+◌, Bool, ◌==◌, List, [], ◌∷◌, ◌++◌, length, codes, if◌then◌else◌}
+use Rattle.std.specs.List.{flat_map}
+use Rattle.std.specs.Fmt.{decimal}
+use Rattle.nm_base.specs.declared.refusals.UsageKind.{UsageKind}
+use Rattle.nm_base.specs.declared.refusals.UsageKind.TheVariants as kinds
+use Rattle.nm_base.specs.declared.refusals.Skip.{Skip}
+use Rattle.nm_base.specs.declared.refusals.Skip.TheVariants as skips
+use Rattle.nm_log.specs.declared.outcome.Outcome.{Outcome}
+use Rattle.nm_log.specs.declared.outcome.Outcome.TheVariants as outcomes
+use Rattle.nm_log.specs.declared.log.LineLog.{LineLog}
+use Rattle.nm_log.specs.declared.replies.NewReport.{NewReport}
+
+-- the kind of a usage fault, in lower case
+abbrev pub kind_name : UsageKind → List ℕ
+kind_name kinds.Command = codes "command"
+kind_name kinds.Option = codes "option"
+kind_name kinds.Value = codes "value"
+kind_name kinds.Repeat = codes "repeat"
+kind_name kinds.Missing = codes "missing"
+kind_name kinds.Extra = codes "extra"
+kind_name kinds.Tag = codes "tag"
+kind_name kinds.Clash = codes "clash"
+kind_name kinds.Lane = codes "lane"
+kind_name kinds.Input = codes "input"
+kind_name kinds.Utf8 = codes "utf8"
+
+abbrev pub usage_line : UsageKind → List ℕ → List ℕ
+usage_line kind word = codes "notmuch: usage: " ++ (kind_name kind ++ (codes ": " ++ (word ++ codes "\n")))
+
+-- the line of a refusal; an Ok has none
+abbrev pub refusal_line : Outcome → List ℕ
+refusal_line outcomes.Ok = []
+refusal_line (outcomes.Usage word kind) = usage_line kind word
+refusal_line outcomes.MailFault = codes "notmuch: mail fault\n"
+refusal_line outcomes.NoMemory = codes "notmuch: no memory\n"
+
+-- the status of a line
+abbrev pub status_of : Outcome → ℕ
+status_of outcomes.Ok = 0
+status_of (outcomes.Usage word kind) = 2
+status_of outcomes.MailFault = 3
+status_of outcomes.NoMemory = 7
+
+-- why a file was passed over
+abbrev pub skip_name : Skip → List ℕ
+skip_name skips.NotMail = codes "not mail"
+skip_name skips.Missing = codes "missing"
+skip_name skips.TooLong = codes "too long"
+
+abbrev pub skip_line : List ℕ × Skip → List ℕ
+skip_line skipped = codes "skipped: " ++ skip_name skipped.1 ++ codes " " ++ skipped.0 ++ codes "\n"
+
+-- nothing came, went or was passed over
+abbrev pub is_quiet : NewReport → Bool
+is_quiet report = (report.added + report.removed + length report.skipped) == 0
+
+-- a number behind what says of what
+abbrev pub number_after : List ℕ → ℕ → List ℕ
+number_after before n = before ++ decimal n
+
+abbrev pub labelled : List ℕ × ℕ → List ℕ
+labelled number = number_after number.0 number.1
+
+-- what `new` says
+abbrev pub summary_line : NewReport → List ℕ
+summary_line report =
+    flat_map labelled (
+    (codes "Files: +", report.added)
+    ∷ (codes " -", report.removed)
+    ∷ (codes ", skipped ", length report.skipped)
+    ∷ (codes ". Messages: +", report.born)
+    ∷ (codes " -", report.died)
+    ∷ []
+    )
+    ++ codes ".\n"
+
+abbrev pub new_text : NewReport → List ℕ
+new_text report = if is_quiet report then codes "No new mail.\n" else summary_line report ++ flat_map skip_line report.skipped
+
+-- the lane and the number of the line; the revision and the status; the length of the reply
+abbrev pub header_with : List ℕ → List ℕ → List ℕ → LineLog → List ℕ
+header_with begin space end log =
+    (number_after begin log.lane ++ number_after space log.line)
+    ++ ((number_after space log.revision ++ number_after space log.status) ++ (number_after space (length log.text) ++ end))
+
+abbrev pub header_of : LineLog → List ℕ
+header_of log = header_with (codes "@") (codes " ") (codes "\n") log
+
+-- a reply behind its header
+abbrev pub printed_line : LineLog → List ℕ
+printed_line log = header_of log ++ log.text
+
+-- all replies, in the order of the log
+abbrev pub printed : List LineLog → List ℕ
+printed lines = flat_map printed_line lines

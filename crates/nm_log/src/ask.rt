@@ -1,0 +1,95 @@
+ghost use Rattle.std.specs.Prelude.{◌≡◌, [], ◌∷◌, IfOk};
+ghost use Rattle.nm_log.specs.Ask.{asked_of, command_asked, count_asked, new_asked, words_asked};
+ghost use Rattle.nm_log.specs.Words.{words_of};
+
+use crate::words::next_word;
+use nm_base::{CountAsk, NoMemory, Output, Request, Text, UsageKind};
+use nm_core::is_subject_query;
+use std::alloc::Global;
+
+/// What a line asks for, or what is wrong with it.
+#[derive(Debug, Drop, PartialEq, Eq)]
+pub enum Asked {
+    Request(Request),
+    Usage { word: Text, kind: UsageKind },
+}
+
+/// Reads what a line of a script asks for.
+pub fn read_ask(alloc: Global, line: &[u8]) -> Result<Asked, NoMemory>
+    ensures { IfOk result (λ asked. asked ≡ asked_of line.now) }
+{
+    match str::from_utf8(line) {
+        Ok(text) => read_lane(alloc, text),
+        Err(_) => refuse(alloc, UsageKind::Utf8, ""),
+    }
+}
+
+fn refuse(alloc: Global, kind: UsageKind, word: &str) -> Result<Asked, NoMemory>
+    ensures { IfOk result (λ asked. asked ≡ Asked.Usage word.now kind) }
+{
+    let word = Text::of(alloc, word)?;
+    Ok(Asked::Usage { word, kind })
+}
+
+fn read_lane(alloc: Global, text: &str) -> Result<Asked, NoMemory>
+    ensures { IfOk result (λ asked. asked ≡ words_asked (words_of text.now)) }
+{
+    match next_word(text) {
+        None => refuse(alloc, UsageKind::Command, ""),
+        Some((lane, words)) => {
+            if lane != "0" {
+                return refuse(alloc, UsageKind::Lane, lane);
+            }
+            read_command(alloc, words)
+        }
+    }
+}
+
+fn read_command(alloc: Global, text: &str) -> Result<Asked, NoMemory>
+    ensures { IfOk result (λ asked. asked ≡ command_asked (words_of text.now)) }
+{
+    match next_word(text) {
+        None => refuse(alloc, UsageKind::Command, ""),
+        Some((name, words)) => {
+            if name == "new" {
+                return read_new(alloc, words);
+            }
+            if name == "count" {
+                return read_count(alloc, words);
+            }
+            refuse(alloc, UsageKind::Command, name)
+        }
+    }
+}
+
+fn read_new(alloc: Global, text: &str) -> Result<Asked, NoMemory>
+    ensures { IfOk result (λ asked. asked ≡ new_asked (words_of text.now)) }
+{
+    match next_word(text) {
+        None => Ok(Asked::Request(Request::New)),
+        Some((word, _)) => refuse(alloc, UsageKind::Extra, word),
+    }
+}
+
+fn read_count(alloc: Global, text: &str) -> Result<Asked, NoMemory>
+    ensures { IfOk result (λ asked. asked ≡ count_asked (words_of text.now)) }
+{
+    match next_word(text) {
+        None => refuse(alloc, UsageKind::Missing, ""),
+        Some((word, words)) => {
+            if next_word(words).is_some() {
+                return refuse(alloc, UsageKind::Value, word);
+            }
+            if !is_subject_query(word.as_bytes()) {
+                return refuse(alloc, UsageKind::Value, word);
+            }
+            let query = Text::of(alloc, word)?;
+            Ok(Asked::Request(Request::Count(CountAsk {
+                output: Output::Messages,
+                exclude: true,
+                batch: false,
+                query,
+            })))
+        }
+    }
+}

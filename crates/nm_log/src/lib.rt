@@ -1,0 +1,18 @@
+//! What a session reads and says: the lines of a script and what each asks for, the log of what was done,
+//! the text of each reply, and how the log is printed.
+#![tactic(auto)]
+
+mod ask;
+mod log;
+mod outcome;
+mod print;
+mod replies;
+mod script;
+mod words;
+
+pub use ask::{Asked, read_ask};
+pub use log::{Done, LineLog, SessionLog, Setting};
+pub use outcome::Outcome;
+pub use print::{print_lines, print_usage};
+pub use replies::{NewReport, count_reply, line_status, new_reply, usage_text};
+pub use script::{ScriptError, ScriptLine, read_script};

@@ -1,0 +1,48 @@
+use crate::Outcome;
+use nm_base::Many;
+use nm_maildir::Given;
+
+/// What a run of the program is given beside its words and devices.
+#[derive(Debug, Drop)]
+pub struct Setting {
+    /// The present second, counted from 1970-01-01 00:00:00 UTC.
+    pub moment: i64,
+    /// Names an index that is made anew.
+    pub seed: u128,
+    /// How many threads read mail, 1 to 16.
+    pub workers: u32,
+}
+
+/// What a session did with one line of its script.
+#[derive(Debug, Drop)]
+pub struct LineLog {
+    /// The phase of the line, from 0.
+    pub phase: u32,
+    pub lane: u32,
+    /// The number of the line in the script, from 1.
+    pub line: u32,
+    /// The revision of the index that answered.
+    pub revision: u64,
+    pub status: u8,
+    pub outcome: Outcome,
+    /// The reply, or the line of the refusal.
+    pub text: Many<u8>,
+    /// What the mail folder answered, in order.
+    pub given: Many<Given>,
+    /// How often the mail folder had failed when the line ended.
+    pub mail_faults: u64,
+}
+
+/// What a session did, line by line.
+#[derive(Debug, Drop)]
+pub struct SessionLog {
+    pub lines: Many<LineLog>,
+}
+
+/// How a run of the program ended.
+#[derive(Debug, Drop)]
+pub struct Done {
+    /// What the process exits with.
+    pub status: u8,
+    pub log: SessionLog,
+}

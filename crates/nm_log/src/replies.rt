@@ -1,0 +1,160 @@
+ghost use Rattle.std.specs.Prelude.{◌≡◌, ◌++◌, IfOk, OnOk, codes};
+ghost use Rattle.std.specs.Fmt.{decimal};
+ghost use Rattle.std.specs.List.{flat_map};
+ghost use Rattle.nm_log.specs.Replies.{is_quiet, kind_name, new_text, number_after, skip_line, skip_name, status_of, summary_line, usage_line};
+
+use crate::Outcome;
+use itoa::Buffer;
+use nm_base::{MailPath, Many, NoMemory, Skip, Text, UsageKind};
+use std::alloc::Global;
+
+/// What `new` did.
+#[derive(Debug, Drop)]
+pub struct NewReport {
+    /// Files.
+    pub added: u64,
+    pub removed: u64,
+    /// Messages that are live now and were not before.
+    pub born: u64,
+    /// Messages that were live before and are not now.
+    pub died: u64,
+    /// The files passed over, in the order of their paths.
+    pub skipped: Many<(MailPath, Skip)>,
+}
+
+/// The status of a line that ended so.
+pub fn line_status(outcome: &Outcome) -> u8
+    ensures { result ≡ status_of outcome.now }
+{
+    match outcome {
+        Outcome::Ok => 0,
+        Outcome::Usage { .. } => 2,
+        Outcome::MailFault => 3,
+        Outcome::NoMemory => 7,
+    }
+}
+
+/// The kind as it is printed.
+pub(crate) fn printed_kind(kind: UsageKind) -> &'static str
+    ensures { result.now ≡ kind_name kind }
+{
+    match kind {
+        UsageKind::Command => "command",
+        UsageKind::Option => "option",
+        UsageKind::Value => "value",
+        UsageKind::Repeat => "repeat",
+        UsageKind::Missing => "missing",
+        UsageKind::Extra => "extra",
+        UsageKind::Tag => "tag",
+        UsageKind::Clash => "clash",
+        UsageKind::Lane => "lane",
+        UsageKind::Input => "input",
+        UsageKind::Utf8 => "utf8",
+    }
+}
+
+/// The line that refuses words.
+pub fn usage_text(alloc: Global, kind: UsageKind, word: &Text) -> Result<Many<u8>, NoMemory>
+    ensures { IfOk result (λ text. text ≡ usage_line kind word.now) }
+{
+    let kind = printed_kind(kind);
+    let mut text = Many::from_slice(alloc, b"notmuch: usage: ")?;
+    text.extend_from_slice(kind.as_bytes())?;
+    text.extend_from_slice(b": ")?;
+    text.extend_from_slice(word.as_bytes())?;
+    text.extend_from_slice(b"\n")?;
+    Ok(text)
+}
+
+/// The reply of `new`.
+pub fn new_reply(alloc: Global, report: &NewReport) -> Result<Many<u8>, NoMemory>
+    ensures { IfOk result (λ text. text ≡ new_text report.now) }
+{
+    if nothing_happened(report) {
+        return Many::from_slice(alloc, b"No new mail.\n");
+    }
+    let mut text = summary(alloc, report)?;
+    add_skips(&mut text, report.skipped.as_slice())?;
+    Ok(text)
+}
+
+fn nothing_happened(report: &NewReport) -> bool
+    ensures { result ≡ is_quiet report.now }
+{
+    report.added == 0 && report.removed == 0 && report.skipped.is_empty()
+}
+
+fn summary(alloc: Global, report: &NewReport) -> Result<Many<u8>, NoMemory>
+    ensures { IfOk result (λ text. text ≡ summary_line report.now) }
+{
+    let numbers: [(&str, u64); 5] = [
+        ("Files: +", report.added),
+        (" -", report.removed),
+        (", skipped ", report.skipped.len() as u64),
+        (". Messages: +", report.born),
+        (" -", report.died),
+    ];
+    let mut text = Many::new(alloc);
+    add_numbers(&mut text, &numbers)?;
+    text.extend_from_slice(b".\n")?;
+    Ok(text)
+}
+
+fn add_numbers(text: &mut Many<u8>, numbers: &[(&str, u64)]) -> Result<(), NoMemory>
+    ensures { OnOk result (text.new ≡ text.old ++ flat_map (λ n. number_after n.0.now n.1) numbers.now) }
+{
+    'numbers: for (before, n) in numbers {
+        text.extend_from_slice(before.as_bytes())?;
+        add_number(text, *n)?;
+    }
+    Ok(())
+}
+
+fn add_number(text: &mut Many<u8>, n: u64) -> Result<(), NoMemory>
+    ensures { OnOk result (text.new ≡ text.old ++ decimal n) }
+{
+    let mut buffer = Buffer::new();
+    text.extend_from_slice(buffer.format(n).as_bytes())?;
+    Ok(())
+}
+
+fn add_skips(text: &mut Many<u8>, all: &[(MailPath, Skip)]) -> Result<(), NoMemory>
+    ensures { OnOk result (text.new ≡ text.old ++ flat_map skip_line all.now) }
+{
+    'files: for skipped in all {
+        add_skip(text, skipped)?;
+    }
+    Ok(())
+}
+
+fn add_skip(text: &mut Many<u8>, skipped: &(MailPath, Skip)) -> Result<(), NoMemory>
+    ensures { OnOk result (text.new ≡ text.old ++ skip_line skipped.now) }
+{
+    let why = printed_skip(skipped.1);
+    text.extend_from_slice(b"skipped: ")?;
+    text.extend_from_slice(why.as_bytes())?;
+    text.extend_from_slice(b" ")?;
+    text.extend_from_slice(skipped.0.text().as_bytes())?;
+    text.extend_from_slice(b"\n")?;
+    Ok(())
+}
+
+fn printed_skip(skip: Skip) -> &'static str
+    ensures { result.now ≡ skip_name skip }
+{
+    match skip {
+        Skip::NotMail => "not mail",
+        Skip::Missing => "missing",
+        Skip::TooLong => "too long",
+    }
+}
+
+/// The reply of a count.
+pub fn count_reply(alloc: Global, count: usize) -> Result<Many<u8>, NoMemory>
+    ensures { IfOk result (λ text. text ≡ decimal count ++ codes "\n") }
+{
+    let mut text = Many::new(alloc);
+    add_number(&mut text, count as u64)?;
+    text.extend_from_slice(b"\n")?;
+    Ok(text)
+}

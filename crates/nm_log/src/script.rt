@@ -1,0 +1,98 @@
+ghost use Rattle.std.specs.Prelude.{◌≡◌, ◌==◌, ◌<◌, ◌≤◌, [], ◌∷◌, length, IfErr, IfOk, MatchOption};
+ghost use Rattle.std.specs.List.{position_or_len};
+ghost use Rattle.std.specs.Str.Lines.{lines, strip_carriage_return};
+ghost use Rattle.nm_log.specs.Script.{IsScriptFault, script_lines};
+
+use nm_base::{Limit, Many, NoMemory};
+use std::alloc::Global;
+use thiserror::Error;
+
+/// The most lines of a script.
+const MOST_LINES: u32 = 4096;
+
+/// One line of a script that is not empty.
+#[derive(Clone, Debug, Drop, PartialEq, Eq)]
+pub struct ScriptLine {
+    /// Counted from 1, empty lines too.
+    pub number: u32,
+    pub text: Many<u8>,
+}
+
+/// Why a script was not read.
+#[derive(Clone, Copy, Debug, PartialEq, Eq, Error)]
+pub enum ScriptError {
+    #[error("the script passes a limit")]
+    Limit(Limit),
+    #[error("no memory")]
+    NoMemory,
+}
+
+impl From<NoMemory> for ScriptError {
+    ghost use Rattle.nm_log.specs.declared.script.ScriptError.TheVariants as faults;
+
+    ghost from_gives = { λ _ e. e ≡ faults.NoMemory };
+
+    fn from(_: NoMemory) -> ScriptError {
+        ScriptError::NoMemory
+    }
+}
+
+/// Reads the lines of a script, each ended by LF or CR LF. Empty lines are passed over.
+pub fn read_script(alloc: Global, bytes: &[u8]) -> Result<Many<ScriptLine>, ScriptError>
+    ensures ok { IfOk result (λ script. script ≡ script_lines bytes.now) }
+    ensures few { IfOk result (λ script. length (lines bytes.now) ≤ 4096) }
+    ensures limit { IfErr result (IsScriptFault bytes.now) }
+{
+    let mut script = Many::new(alloc);
+    let mut number = 0;
+    let mut rest = bytes;
+    'lines: while let Some((line, more)) = next_line(rest) {
+        if number == MOST_LINES {
+            return Err(ScriptError::Limit(Limit::Lines));
+        }
+        number += 1;
+        rest = more;
+        if !line.is_empty() {
+            let text = Many::from_slice(alloc, line)?;
+            script.push(ScriptLine { number, text })?;
+        }
+    }
+    Ok(script)
+}
+
+/// The first line of a text, and the text behind it.
+fn next_line(bytes: &[u8]) -> Option<(&[u8], &[u8])>
+    ensures { MatchOption result (lines bytes.now ≡ []) (λ split. (lines bytes.now ≡ split.0.now ∷ lines split.1.now) × (length split.1.now < length bytes.now)) }
+{
+    if bytes.is_empty() {
+        return None;
+    }
+    let end = line_len(bytes);
+    if end == bytes.len() {
+        return Some((bytes, &bytes[end..]));
+    }
+    Some((without_return(&bytes[..end]), &bytes[end + 1..]))
+}
+
+/// The place of the first LF, or the length.
+fn line_len(bytes: &[u8]) -> usize
+    ensures place { result ≡ position_or_len (λ b. b == 10) bytes.now }
+    ensures within { result ≤ length bytes.now }
+{
+    for (at, b) in bytes.iter().enumerate() {
+        if *b == b'\n' {
+            return at;
+        }
+    }
+    bytes.len()
+}
+
+/// The line without a CR at its end.
+fn without_return(line: &[u8]) -> &[u8]
+    ensures { result.now ≡ strip_carriage_return line.now }
+{
+    match line {
+        [front @ .., b'\r'] => front,
+        _ => line,
+    }
+}

@@ -1,0 +1,56 @@
+ghost use Rattle.std.specs.Prelude.{◌≡◌, ◌<◌, ◌≤◌, [], ◌∷◌, length, MatchOption, false};
+ghost use Rattle.std.specs.List.{position_or_len};
+ghost use Rattle.nm_log.specs.Words.{begins_blank, is_blank, words_of};
+
+/// The first word of a text, and the text behind it.
+pub(crate) fn next_word(text: &str) -> Option<(&str, &str)>
+    ensures { MatchOption result (words_of text.now ≡ []) (λ split. words_of text.now ≡ split.0.now ∷ words_of split.1.now) }
+{
+    let rest = without_blanks(text);
+    if rest.is_empty() {
+        return None;
+    }
+    let (word, more) = rest.split_at(word_len(rest.as_bytes()));
+    Some((word, more))
+}
+
+/// The text from its first byte on that is no blank.
+fn without_blanks(text: &str) -> &str
+    ensures same { words_of result.now ≡ words_of text.now }
+    ensures first { begins_blank result.now ≡ false }
+{
+    let mut rest = text;
+    'blanks: while begins_with_blank(rest) {
+        rest = &rest[1..];
+    }
+    rest
+}
+
+fn begins_with_blank(text: &str) -> bool
+    ensures { result ≡ begins_blank text.now }
+{
+    match text.as_bytes() {
+        [] => false,
+        [first, ..] => may_part_words(*first),
+    }
+}
+
+/// The place of the first blank, or the length.
+fn word_len(text: &[u8]) -> usize
+    ensures place { result ≡ position_or_len is_blank text.now }
+    ensures within { result ≤ length text.now }
+{
+    for (at, b) in text.iter().enumerate() {
+        if may_part_words(*b) {
+            return at;
+        }
+    }
+    text.len()
+}
+
+/// A space or a tab.
+fn may_part_words(b: u8) -> bool
+    ensures { result ≡ is_blank b }
+{
+    b == b' ' || b == b'\t'
+}

@@ -1,0 +1,4 @@
+pub mod NameLemmas
+pub mod PlaceLemmas
+pub mod OrderLemmas
+pub mod IndexLemmas

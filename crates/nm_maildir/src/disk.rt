@@ -1,0 +1,172 @@
+ghost use Rattle.std.specs.Prelude.{IfOk};
+ghost use Rattle.nm_maildir.specs.Order.{AreInOrder};
+
+use crate::held::no_names;
+use crate::names::into_list;
+use crate::{Got, Listing, Renamed};
+use nm_base::{MailPath, Many, NoMemory, Text};
+use std::alloc::{AllocError, AllocFailed, Global};
+use std::collections::BTreeSet;
+use std::fs::{self, Metadata};
+use std::io::{self, ErrorKind, Read};
+use std::rt::Files;
+
+/// Why a call on a real folder gave nothing.
+#[derive(Drop)]
+pub(crate) enum Trouble {
+    Io,
+    NoMemory,
+}
+
+impl From<io::Error> for Trouble {
+    fn from(error: io::Error) -> Trouble {
+        if error.kind() == ErrorKind::OutOfMemory {
+            Trouble::NoMemory
+        } else {
+            Trouble::Io
+        }
+    }
+}
+
+impl From<NoMemory> for Trouble {
+    fn from(_: NoMemory) -> Trouble {
+        Trouble::NoMemory
+    }
+}
+
+impl From<AllocError> for Trouble {
+    fn from(_: AllocError) -> Trouble {
+        Trouble::NoMemory
+    }
+}
+
+impl<T: Drop> From<AllocFailed<T>> for Trouble {
+    fn from(_: AllocFailed<T>) -> Trouble {
+        Trouble::NoMemory
+    }
+}
+
+/// The names in a folder. A link is neither a folder nor a file.
+pub(crate) fn names_at<R: Files + AllocGlobal + Clone + Drop>(
+    rt: &R,
+    root: &Text,
+    dir: &Text,
+) -> Result<Listing, Trouble>
+    ensures { IfOk result (λ listing. AreInOrder listing) }
+{
+    let alloc = rt.alloc();
+    let place = below(alloc, root.as_str(), dir.as_str())?;
+    if !is_folder(rt, dir, place.as_str())? {
+        return Ok(no_names(alloc));
+    }
+    let mut dirs = BTreeSet::new(alloc);
+    let mut files = BTreeSet::new(alloc);
+    'entries: for entry in fs::read_dir(rt, place.as_str())? {
+        let entry = entry?;
+        let Some(kind) = where_there(entry.metadata())? else {
+            continue;
+        };
+        let name = Text::of(alloc, entry.file_name())?;
+        if kind.is_dir() {
+            dirs.insert(name)?;
+        } else if kind.is_file() {
+            files.insert(name)?;
+        }
+    }
+    let dirs = into_list(alloc, dirs)?;
+    let files = into_list(alloc, files)?;
+    Ok(Listing { dirs, files })
+}
+
+/// The bytes of a file, where it has at most `max`.
+pub(crate) fn bytes_in<R: Files + AllocGlobal>(
+    rt: &R,
+    root: &Text,
+    path: &MailPath,
+    max: u64,
+) -> Result<Got, Trouble> {
+    let alloc = rt.alloc();
+    let place = below(alloc, root.as_str(), path.text().as_str())?;
+    let Some(size) = file_size(rt, place.as_str())? else {
+        return Ok(Got::Missing);
+    };
+    if size > max {
+        return Ok(Got::TooLong);
+    }
+    match fs::open(rt, place.as_str()) {
+        Ok(file) => read_up_to(alloc, file, size, max),
+        Err(error) if error.kind() == ErrorKind::NotFound => Ok(Got::Missing),
+        Err(error) => Err(Trouble::from(error)),
+    }
+}
+
+/// Reads a file that may have grown since its size was taken.
+fn read_up_to<F: Read + Drop>(alloc: Global, file: F, size: u64, max: u64) -> Result<Got, Trouble> {
+    let mut bytes = Vec::with_capacity(alloc, size as usize)?;
+    let mut front = file.take(max.saturating_add(1));
+    front.read_to_end(&mut bytes)?;
+    if bytes.len() as u64 > max {
+        return Ok(Got::TooLong);
+    }
+    Ok(Got::Found(Many::from_vec(bytes)))
+}
+
+/// Renames a file. The target is tested for first, since the system would write over it.
+pub(crate) fn rename_in<R: Files + AllocGlobal>(
+    rt: &R,
+    root: &Text,
+    from: &MailPath,
+    to: &MailPath,
+) -> Result<Renamed, Trouble> {
+    let alloc = rt.alloc();
+    let source = below(alloc, root.as_str(), from.text().as_str())?;
+    let target = below(alloc, root.as_str(), to.text().as_str())?;
+    if file_size(rt, source.as_str())?.is_none() {
+        return Ok(Renamed::Missing);
+    }
+    if where_there(fs::symlink_metadata(rt, target.as_str()))?.is_some() {
+        return Ok(Renamed::Exists);
+    }
+    fs::rename(rt, source.as_str(), target.as_str())?;
+    Ok(Renamed::Moved)
+}
+
+/// Whether the folder is there. The root itself may be a link, no folder below it may.
+fn is_folder<R: Files>(rt: &R, dir: &Text, place: &str) -> Result<bool, Trouble> {
+    let found = if dir.as_str().is_empty() {
+        fs::metadata(rt, place)
+    } else {
+        fs::symlink_metadata(rt, place)
+    };
+    match where_there(found)? {
+        Some(kind) => Ok(kind.is_dir()),
+        None => Ok(false),
+    }
+}
+
+/// The size of a file, or none where no file is there. A link is no file.
+fn file_size<R: Files>(rt: &R, place: &str) -> Result<Option<u64>, Trouble> {
+    match where_there(fs::symlink_metadata(rt, place))? {
+        Some(kind) if kind.is_file() => Ok(Some(kind.len())),
+        _ => Ok(None),
+    }
+}
+
+/// What is known of a thing, or none where it is not there.
+fn where_there(found: io::Result<Metadata>) -> Result<Option<Metadata>, Trouble> {
+    match found {
+        Ok(kind) => Ok(Some(kind)),
+        Err(error) if error.kind() == ErrorKind::NotFound => Ok(None),
+        Err(error) => Err(Trouble::from(error)),
+    }
+}
+
+/// The path of the system for a path below the root.
+fn below(alloc: Global, root: &str, path: &str) -> Result<String, Trouble> {
+    let mut place = String::from_str(alloc, root)?;
+    if !path.is_empty() {
+        place.push('/')?;
+        place.push_str(path)?;
+    }
+    Ok(place)
+}

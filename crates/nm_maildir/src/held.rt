@@ -1,0 +1,171 @@
+ghost use Rattle.std.specs.Bool.{OnFalse};
+ghost use Rattle.std.specs.Prelude.{◌≡◌, [], true, None, Some, is_some, IfOk, IsTrue, OnOk, OnErr};
+ghost use Rattle.nm_maildir.specs.Held.{IsIndex, Locates, place_of};
+ghost use Rattle.nm_maildir.specs.Order.{AreInOrder};
+ghost use Rattle.nm_maildir.specs.Still.{are_distinct, paths_of};
+ghost use Rattle.nm_maildir.specs.Tree.{bytes_at, got_from};
+
+use crate::names::{names_of_dirs, names_of_files};
+use crate::{Got, Listing, Renamed};
+use nm_base::{Copies, MailPath, Many, NoMemory, Text};
+use std::alloc::Global;
+use std::collections::BTreeMap;
+
+/// Folders, and files with their bytes, in memory. The places of the files are gathered at the first look-up.
+#[derive(Drop)]
+pub(crate) struct Held {
+    alloc: Global,
+    dirs: Many<Text>,
+    files: Vec<(MailPath, Many<u8>)>,
+    places: BTreeMap<MailPath, usize>,
+    is_indexed: bool,
+    ghost distinct: { IsTrue (are_distinct (paths_of files.items)) },
+    ghost indexed: { is_indexed ≡ true → IsIndex places files.items },
+}
+
+impl Held {
+    ghost use Rattle.nm_maildir.specs.HeldTree.{held_tree};
+    ghost use Rattle.nm_maildir.specs.Tree.{got_of, is_folder, listing_of, moved, renamed_of};
+    ghost use Rattle.nm_maildir.specs.Calls.{tree_with};
+
+    pub(crate) fn new(alloc: Global, dirs: Many<Text>, files: Many<(MailPath, Many<u8>)>) -> Held
+        requires { IsTrue (are_distinct (paths_of files)) }
+        ensures { held_tree result ≡ record { dirs = dirs; files = files } }
+    {
+        Held {
+            alloc,
+            dirs,
+            files: files.into_vec(),
+            places: BTreeMap::new(alloc),
+            is_indexed: false,
+        }
+    }
+
+    pub(crate) fn list(&self, dir: &Text) -> Result<Listing, NoMemory>
+        ensures listed { IfOk result (λ listing. listing ≡ listing_of (held_tree self.now) dir.now) }
+        ensures order { IfOk result (λ listing. AreInOrder listing) }
+    {
+        if !self.has_folder(dir) {
+            return Ok(no_names(self.alloc));
+        }
+        let dirs = names_of_dirs(self.alloc, dir.as_str(), self.dirs.as_slice())?;
+        let files = names_of_files(self.alloc, dir.as_str(), self.files.as_slice())?;
+        Ok(Listing { dirs, files })
+    }
+
+    fn has_folder(&self, dir: &Text) -> bool
+        ensures { result ≡ is_folder (held_tree self.now) dir.now }
+    {
+        dir.as_str().is_empty() || self.dirs.as_slice().contains(dir)
+    }
+
+    /// The bytes of a file, where it has at most `max`.
+    pub(crate) fn read(&mut self, path: &MailPath, max: u64) -> Result<Got, NoMemory>
+        ensures got { IfOk result (λ got. got ≡ got_of (held_tree self.old) path.now max) }
+        ensures tree { held_tree self.new ≡ held_tree self.old }
+    {
+        self.index()?;
+        match self.place(path) {
+            None => Ok(Got::Missing),
+            Some(at) => got(&self.files[at].1, max),
+        }
+    }
+
+    /// Renames a file, where the target is not there yet.
+    pub(crate) fn rename(&mut self, from: &MailPath, to: &MailPath) -> Result<Renamed, NoMemory>
+        ensures renamed { IfOk result (λ renamed. renamed ≡ renamed_of (held_tree self.old) from.now to.now) }
+        ensures tree { held_tree self.new ≡ tree_with (held_tree self.old) from.now to.now result }
+    {
+        self.index()?;
+        let Some(at) = self.place(from) else {
+            return Ok(Renamed::Missing);
+        };
+        if self.has_file(to) {
+            return Ok(Renamed::Exists);
+        }
+        self.move_file(at, from, to)?;
+        Ok(Renamed::Moved)
+    }
+
+    /// Gathers the places, where that was not done yet.
+    fn index(&mut self) -> Result<(), NoMemory>
+        ensures ok { OnOk result (self.new.is_indexed ≡ true) }
+        ensures tree { held_tree self.new ≡ held_tree self.old }
+    {
+        if !self.is_indexed {
+            self.places = places_of(self.alloc, self.files.as_slice())?;
+            self.is_indexed = true;
+        }
+        Ok(())
+    }
+
+    #[tactic(auto, using(crate::proofs::IndexLemmas::place_lemmas))]
+    fn place(&self, path: &MailPath) -> Option<usize>
+        requires { self.now.is_indexed ≡ true }
+        ensures place { result ≡ place_of self.now.files.items path.now }
+        ensures there { is_some result ≡ is_some (bytes_at self.now.files.items path.now) }
+        ensures bytes { Locates self.now.files.items path.now result }
+    {
+        self.places.get(path).copied()
+    }
+
+    fn has_file(&self, path: &MailPath) -> bool
+        requires { self.now.is_indexed ≡ true }
+        ensures there { result ≡ is_some (bytes_at self.now.files.items path.now) }
+        ensures missing { OnFalse result (place_of self.now.files.items path.now ≡ None) }
+    {
+        self.place(path).is_some()
+    }
+
+    /// Gives the file at the place of `from` the path `to`.
+    fn move_file(&mut self, at: usize, from: &MailPath, to: &MailPath) -> Result<(), NoMemory>
+        requires indexed { self.old.is_indexed ≡ true }
+        requires found { place_of self.old.files.items from.now ≡ Some at }
+        requires missing { place_of self.old.files.items to.now ≡ None }
+        ensures ok { OnOk result (held_tree self.new ≡ moved (held_tree self.old) from.now to.now) }
+        ensures err { OnErr result (held_tree self.new ≡ held_tree self.old) }
+    {
+        let path = to.copy()?;
+        self.places.insert(to.copy()?, at)?;
+        self.places.remove(from);
+        self.files[at].0 = path;
+        Ok(())
+    }
+}
+
+fn got(bytes: &Many<u8>, max: u64) -> Result<Got, NoMemory>
+    ensures { IfOk result (λ got. got ≡ got_from max (Some bytes.now)) }
+{
+    if bytes.len() as u64 > max {
+        return Ok(Got::TooLong);
+    }
+    let copied = bytes.copy()?;
+    Ok(Got::Found(copied))
+}
+
+/// The place of each file by its path.
+fn places_of(
+    alloc: Global,
+    files: &[(MailPath, Many<u8>)],
+) -> Result<BTreeMap<MailPath, usize>, NoMemory>
+    requires { IsTrue (are_distinct (paths_of files.now)) }
+    ensures { IfOk result (λ places. IsIndex places files.now) }
+{
+    let mut places = BTreeMap::new(alloc);
+    'files: for (at, file) in files.iter().enumerate() {
+        places.insert(file.0.copy()?, at)?;
+    }
+    Ok(places)
+}
+
+/// A listing of a folder that holds nothing.
+#[tactic(auto, using(crate::proofs::OrderLemmas::none_in_order))]
+pub(crate) fn no_names(alloc: Global) -> Listing
+    ensures names { result ≡ record { dirs = []; files = [] } }
+    ensures order { AreInOrder result }
+{
+    Listing {
+        dirs: Many::new(alloc),
+        files: Many::new(alloc),
+    }
+}

@@ -1,0 +1,7 @@
+pub mod Line
+pub mod Mail
+pub mod NewLine
+pub mod Reading
+pub mod Session
+pub mod State
+pub mod Steps

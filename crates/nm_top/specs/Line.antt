@@ -1,0 +1,61 @@
+-- What a session does with one line of its script.
+use Rattle.std.specs.Prelude.{◌≡◌, ℕ, ◌≤◌, List, [], ◌∷◌, ◌++◌, take, Option, IfSome}
+use Rattle.std.specs.List.{AllByRecursion}
+use Rattle.std.specs.Option.{option_map}
+use Rattle.nm_base.specs.Faults.{Rose}
+use Rattle.nm_base.specs.declared.request.Request.{Request}
+use Rattle.nm_base.specs.declared.request.Request.TheVariants as requests
+use Rattle.nm_commit.specs.Count.{count_text}
+use Rattle.nm_maildir.specs.declared.given.Given.{Given}
+use Rattle.nm_log.specs.Ask.{asked_of}
+use Rattle.nm_log.specs.Replies.{refusal_line, status_of}
+use Rattle.nm_log.specs.declared.ask.Asked.TheVariants as asked
+use Rattle.nm_log.specs.declared.log.LineLog.{LineLog}
+use Rattle.nm_log.specs.declared.outcome.Outcome.{Outcome}
+use Rattle.nm_log.specs.declared.outcome.Outcome.TheVariants as outcomes
+use Rattle.nm_log.specs.declared.script.ScriptLine.{ScriptLine}
+use Rattle.nm_top.specs.NewLine.{IsNew}
+use Rattle.nm_top.specs.Reading.{IsRising, IsTold, to_read}
+use Rattle.nm_top.specs.State.{State}
+
+-- The reply to a request: a count answers on the index as it is and asks the mail folder nothing.
+abbrev pub IsReply : Request → State → List Given → List ℕ → State → Type 0
+IsReply requests.New old noted text new = IsNew old noted text new
+IsReply (requests.Count ask) old noted text new = (noted ≡ []) × (new ≡ old) × (text ≡ count_text ask.query old.index.files)
+
+-- How a line may end. A refused line has its cause, and leaves the index as it was.
+abbrev pub IsAnswer : Outcome → State → ScriptLine → List Given → List ℕ → State → Type 0
+IsAnswer outcomes.Ok old line noted text new = (request : Request) × (asked_of line.text ≡ asked.Request request) × IsReply request old noted text new
+IsAnswer (outcomes.Usage word kind) old line noted text new =
+    (asked_of line.text ≡ asked.Usage word kind) × (noted ≡ []) × (new ≡ old) × (text ≡ refusal_line (outcomes.Usage word kind))
+IsAnswer outcomes.MailFault old line noted text new =
+    (asked_of line.text ≡ asked.Request requests.New) × Rose old.faults new.faults × (new.index ≡ old.index) × (text ≡ refusal_line outcomes.MailFault)
+IsAnswer outcomes.NoMemory old line noted text new = (new.index ≡ old.index) × (text ≡ refusal_line outcomes.NoMemory)
+
+-- Of listed paths only such as the index lacks are read, each once, in their order.
+pub record ReadsNoKnown (old new : State) : Type 0 where
+  pub listed : List (List ℕ)
+  pub rising : IsRising listed
+  pub count : ℕ
+  pub read : new.reads ≡ option_map (λ paths. paths ++ take count (to_read old.index.files listed)) old.reads
+
+-- A line of the script, what its log says, and what it leaves.
+pub record Answers (old : State) (line : ScriptLine) (log : LineLog) (new : State) : Type 0 where
+  pub phase : log.phase ≡ 0
+  pub lane : log.lane ≡ 0
+  pub number : log.line ≡ line.number
+  pub revision : log.revision ≡ new.index.revision
+  pub status : log.status ≡ status_of log.outcome
+  pub answer : IsAnswer log.outcome old line log.given log.text new
+  pub told : IfSome old.tree (λ t. AllByRecursion (IsTold t) log.given)
+  pub tree : new.tree ≡ old.tree
+  pub reads : ReadsNoKnown old new
+  pub faults : log.mail_faults ≡ new.faults
+  pub never_falls : old.faults ≤ new.faults
+
+-- the lines one after the other, each beginning where the one before it ended
+abbrev pub Runs : State → List ScriptLine → List LineLog → State → Type 0
+Runs old [] [] new = new ≡ old
+Runs old (line ∷ lines) (log ∷ logs) new = (mid : State) × Answers old line log mid × Runs mid lines logs new
+Runs old [] (log ∷ logs) new = ⊥
+Runs old (line ∷ lines) [] new = ⊥

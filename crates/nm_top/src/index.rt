@@ -1,0 +1,41 @@
+ghost use Rattle.std.specs.Prelude.{◌≡◌, ◌+◌, ◌++◌, IfOk, length, map, filter, not};
+ghost use Rattle.nm_base.specs.Order.{has_text, in_order};
+ghost use Rattle.nm_commit.specs.Count.{ids_of};
+ghost use Rattle.nm_commit.specs.Index.{paths_of};
+
+use nm_base::{Copies, Facts, MailPath, Many, MessageId, NoMemory};
+use std::alloc::Global;
+use std::collections::BTreeSet;
+
+/// A mail of the index: where it lies, and its facts.
+pub(crate) type Mail = (MailPath, Facts);
+
+/// The index as a plain list of mail, in the order of arrival.
+#[derive(Debug, Drop)]
+pub(crate) struct PlainIndex {
+    pub files: Many<Mail>,
+    /// How many commits were made.
+    pub revision: u64,
+}
+
+/// The paths of the files.
+pub(crate) fn path_set(alloc: Global, files: &[Mail]) -> Result<BTreeSet<MailPath>, NoMemory>
+    ensures { IfOk result (λ set. set.keys ≡ in_order (paths_of files.now)) }
+{
+    let mut paths = BTreeSet::new(alloc);
+    'files: for file in files {
+        paths.insert(file.0.copy()?)?;
+    }
+    Ok(paths)
+}
+
+/// The ids of the files.
+pub(crate) fn id_set(alloc: Global, files: &[Mail]) -> Result<BTreeSet<MessageId>, NoMemory>
+    ensures { IfOk result (λ set. set.keys ≡ ids_of files.now) }
+{
+    let mut ids = BTreeSet::new(alloc);
+    'files: for file in files {
+        ids.insert(file.1.id.copy()?)?;
+    }
+    Ok(ids)
+}

@@ -1,0 +1,8 @@
+//! The top call: reads a script, runs its lines over a mail folder, prints the replies, and tells what it did.
+#![tactic(auto)]
+
+mod index;
+mod listing;
+mod reading;
+mod sets;
+

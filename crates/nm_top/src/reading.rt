@@ -1,0 +1,98 @@
+ghost use Rattle.std.specs.Prelude.{◌≡◌, ℕ, List, ◌∷◌, [], ◌++◌, IfOk};
+ghost use Rattle.nm_base.specs.declared.facts.Facts.{Facts};
+ghost use Rattle.nm_maildir.specs.Calls.{HasMailCause};
+ghost use Rattle.nm_top.specs.Reading.{arrival};
+ghost use Rattle.nm_top.specs.Steps.{HasRead, HasReadAll, Judges};
+
+use nm_base::{Copies, Facts, MailPath, Many, NoMemory};
+use nm_first_mail::{ExtractError, extract};
+use nm_maildir::{Given, Got, MailError, Maildir, ReadAnswer};
+use std::alloc::Global;
+
+use crate::index::Mail;
+
+/// The most bytes of a mail file.
+const MOST_BYTES: u64 = 67_108_864;
+
+/// Reads the files, notes what is answered of each, and gives those that are mail.
+pub(crate) fn read_all<M: Maildir>(
+    alloc: Global,
+    mail: &mut M,
+    paths: &[MailPath],
+    noted: &mut Many<Given>,
+) -> Result<Many<Mail>, MailError>
+    ensures ok { IfOk result (λ arrivals.
+        HasReadAll (M.tree mail.old) (M.reads mail.old) (M.reads mail.new) noted.old noted.new paths.now arrivals) }
+    ensures so_far { HasRead (M.tree mail.old) (M.reads mail.old) (M.reads mail.new) noted.old noted.new paths.now }
+    ensures tree { M.tree mail.new ≡ M.tree mail.old }
+    ensures cause { HasMailCause (M.faults mail.old) (M.faults mail.new) result }
+{
+    let mut arrivals = Many::new(alloc);
+    'files: for path in paths {
+        read_next(alloc, mail, path, noted, &mut arrivals)?;
+    }
+    Ok(arrivals)
+}
+
+/// Reads one file more. Where it is mail it joins the arrivals.
+fn read_next<M: Maildir>(
+    alloc: Global,
+    mail: &mut M,
+    path: &MailPath,
+    noted: &mut Many<Given>,
+    arrivals: &mut Many<Mail>,
+) -> Result<(), MailError>
+    ensures ok { IfOk result (λ _. (found : List (List ℕ × Facts)) × (arrivals.new ≡ arrivals.old ++ found)
+        × HasReadAll (M.tree mail.old) (M.reads mail.old) (M.reads mail.new) noted.old noted.new (path.now ∷ []) found) }
+    ensures so_far { HasRead (M.tree mail.old) (M.reads mail.old) (M.reads mail.new) noted.old noted.new (path.now ∷ []) }
+    ensures tree { M.tree mail.new ≡ M.tree mail.old }
+    ensures cause { HasMailCause (M.faults mail.old) (M.faults mail.new) result }
+{
+    let found = read_one(alloc, mail, path, noted)?;
+    if let Some(facts) = found {
+        let path = path.copy()?;
+        arrivals.push((path, facts))?;
+    }
+    Ok(())
+}
+
+/// Reads one file and notes what is answered of it.
+fn read_one<M: Maildir>(
+    alloc: Global,
+    mail: &mut M,
+    path: &MailPath,
+    noted: &mut Many<Given>,
+) -> Result<Option<Facts>, MailError>
+    ensures ok { IfOk result (λ found.
+        HasReadAll (M.tree mail.old) (M.reads mail.old) (M.reads mail.new) noted.old noted.new (path.now ∷ []) (arrival path.now found)) }
+    ensures so_far { HasRead (M.tree mail.old) (M.reads mail.old) (M.reads mail.new) noted.old noted.new (path.now ∷ []) }
+    ensures tree { M.tree mail.new ≡ M.tree mail.old }
+    ensures cause { HasMailCause (M.faults mail.old) (M.faults mail.new) result }
+{
+    let got = mail.read(path, MOST_BYTES)?;
+    let (answer, found) = judge(alloc, got)?;
+    let path = path.copy()?;
+    noted.push(Given::Read { path, answer })?;
+    Ok(found)
+}
+
+/// What a read tells, and the facts where it found mail.
+fn judge(alloc: Global, got: Got) -> Result<(ReadAnswer, Option<Facts>), NoMemory>
+    ensures { IfOk result (Judges got) }
+{
+    match got {
+        Got::Missing => Ok((ReadAnswer::Missing, None)),
+        Got::TooLong => Ok((ReadAnswer::TooLong, None)),
+        Got::Found(bytes) => judge_bytes(alloc, bytes.as_slice()),
+    }
+}
+
+fn judge_bytes(alloc: Global, bytes: &[u8]) -> Result<(ReadAnswer, Option<Facts>), NoMemory>
+    ensures { IfOk result (Judges (Got.Found bytes.now)) }
+{
+    match extract(alloc, bytes) {
+        Ok(facts) => Ok((ReadAnswer::Mail, Some(facts))),
+        Err(ExtractError::NotMail) => Ok((ReadAnswer::NotMail, None)),
+        Err(ExtractError::NoMemory) => Err(NoMemory),
+    }
+}
