@@ -11,6 +11,7 @@ use nm_base::{Copies, Many, NoMemory, Request};
 use nm_commit::Commit;
 use std::alloc::Global;
 use std::marker::Model;
+use std::mem;
 use thiserror::Error;
 
 /// Why a step was not taken.
@@ -72,7 +73,7 @@ impl Core {
             commits: Many::new(alloc),
             flight: None,
             shown: 0,
-            lanes: all_at(alloc, lanes as usize, 0)?,
+            lanes: none_seeing(alloc, lanes as usize)?,
             met: 0,
         })
     }
@@ -164,7 +165,8 @@ impl Core {
         if self.commits.len() != self.shown {
             return Err(CoreError::NotNow);
         }
-        self.lanes = all_at(self.alloc, self.lanes.len(), self.shown)?;
+        let lanes = mem::replace(&mut self.lanes, Many::new(self.alloc));
+        self.lanes = all_seeing(lanes, self.shown);
         self.met = self.shown;
         Ok(())
     }
@@ -185,10 +187,19 @@ impl Core {
     }
 }
 
-fn all_at(alloc: Global, lanes: usize, seen: usize) -> Result<Many<usize>, NoMemory>
-    ensures { IfOk result (λ all. all ≡ replicate lanes seen) }
+fn none_seeing(alloc: Global, lanes: usize) -> Result<Many<usize>, NoMemory>
+    ensures { IfOk result (λ all. all ≡ replicate lanes 0) }
 {
     let mut all = Vec::new(alloc);
-    all.resize(lanes, seen)?;
+    all.resize(lanes, 0)?;
     Ok(Many::from_vec(all))
+}
+
+// In place, since a meeting is to take no memory.
+fn all_seeing(lanes: Many<usize>, shown: usize) -> Many<usize>
+    ensures { result ≡ replicate (length lanes) shown }
+{
+    let mut all = lanes.into_vec();
+    all.as_mut_slice().fill(shown);
+    Many::from_vec(all)
 }

@@ -2,7 +2,7 @@ use crate::{MemSink, MemSource, Sink, Source, StdSink, StdSource, TakeError, tak
 use nm_base::{Failed, Many};
 use std::env;
 use std::fs::{self, File};
-use std::process::Abort;
+use std::process::{self, Abort};
 use std::test::Fail;
 
 /// Puts the pieces, and answers what each put answered.
@@ -97,7 +97,8 @@ fn a_sink_in_memory_fails_at_its_listed_calls(rt: HostRuntime) -> Result<(), Fai
 
 #[test]
 fn what_is_put_into_a_file_is_taken_from_it(rt: HostRuntime) -> Result<(), Fail> {
-    let path = env::temp_dir(&rt)?.join(rt.alloc(), "nm_io_adapters")?;
+    let name = format!(in rt.alloc(); "nm_io_{}", process::id(rt.process()))?;
+    let path = env::temp_dir(&rt)?.join(rt.alloc(), name.as_str())?;
     let mut sink = StdSink::new(File::create(&rt, path.as_path())?);
     let answers = put_all(&mut sink, [b"ab", b"", b"cde"]);
     assert_eq!(rt; answers, [Ok(()), Ok(()), Ok(())]);
