@@ -1,13 +1,12 @@
-// A library with one function.
+//! The header of a mail: its fields, and the ids, mailboxes and plain text in a field (RFC 5322).
+//! Any bytes and any text are read; what has no meaning is skipped.
 #![tactic(auto)]
 
-ghost use Rattle.std.specs.Prelude.{◌≡◌};
-ghost use Rattle.nm_header.specs.Echo.{echo_of};
+mod field_line;
+mod fields;
+mod id_list;
+mod lines;
+mod space;
 
-// The `ensures` clause is the contract: what `echo` returns is `echo_of` of its argument, a definition
-// in `specs/Echo.antt`, which a caller's clause can cite too.
-pub fn echo(x: usize) -> usize
-    ensures { result ≡ echo_of x }
-{
-    x
-}
+pub use fields::{HeaderField, HeaderList};
+pub use id_list::ids;
