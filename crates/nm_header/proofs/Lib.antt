@@ -1,4 +1,6 @@
 pub mod CutLemmas
+pub mod FieldLemmas
+pub mod HeaderLemmas
 pub mod IdLemmas
 pub mod LineLemmas
 pub mod SplitLemmas

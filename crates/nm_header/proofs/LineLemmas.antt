@@ -7,7 +7,7 @@ use Rattle.nm_header.specs.Lines.{is_line_feed, line_more, lines_of}
 use Rattle.nm_header.proofs.CutLemmas.{cut-cons}
 use Rattle.nm_header.proofs.SplitLemmas.{place_of, no_place_of}
 
-line_first : (bs : List ℕ) → 0 < length bs → lines_of bs ≡ take (position_or_len is_line_feed bs + 1) bs ∷ lines_of (drop (position_or_len is_line_feed bs + 1) bs)
+pub line_first : (bs : List ℕ) → 0 < length bs → lines_of bs ≡ take (position_or_len is_line_feed bs + 1) bs ∷ lines_of (drop (position_or_len is_line_feed bs + 1) bs)
 line_first [] h = absurd (omega arith)
 line_first (b ∷ bs) h =
     let n : ℕ = position_or_len is_line_feed bs in

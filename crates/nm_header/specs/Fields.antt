@@ -2,8 +2,8 @@
 use Rattle.std.specs.Prelude.{ℕ, Bool, false, ◌&&◌, ◌||◌, ◌==◌, not, List, [], ◌∷◌, ◌++◌, length, map, nat_le, nat_eq, is_some, position, codes, if◌then◌else◌}
 use Rattle.std.specs.Char.{to_ascii_lowercase}
 use Rattle.std.specs.List.{before_first, after_first, concat, list_all, starts_with, take_while}
-use Rattle.nm_header.specs.declared.fields.HeaderField.{HeaderField}
-use Rattle.nm_header.specs.declared.fields.HeaderList.{HeaderList}
+use Rattle.nm_header.specs.declared.header.HeaderField.{HeaderField}
+use Rattle.nm_header.specs.declared.header.HeaderList.{HeaderList}
 use Rattle.nm_header.specs.Lines.{content, header_lines, rest_of}
 use Rattle.nm_header.specs.Space.{trimmed, trimmed_end}
 
@@ -34,9 +34,13 @@ is_name name = not (length name == 0) && list_all is_name_byte name
 abbrev pub begins_field : List ℕ → Bool
 begins_field line = not (continues line) && (is_some (position is_colon (content line)) && is_name (name_of line))
 
+-- what the lines that continue a field add to its body, where these lines follow
+abbrev pub folded_of : List (List ℕ) → List ℕ
+folded_of lines = concat (map content (take_while continues lines))
+
 -- what stands behind the colon, and in the lines that continue it, without the line ends
 abbrev pub joined_of : List ℕ → List (List ℕ) → List ℕ
-joined_of line more = after_first is_colon (content line) ++ concat (map content (take_while continues more))
+joined_of line more = after_first is_colon (content line) ++ folded_of more
 
 -- the field that begins with this line, where these lines follow; names have no case
 abbrev pub field_of : List ℕ → List (List ℕ) → HeaderField

@@ -1,12 +1,12 @@
-ghost use Rattle.std.specs.Prelude.{◌≡◌, IfOk, map, position, Some};
+ghost use Rattle.std.specs.Prelude.{◌≡◌, IfOk, map, position, true, Some};
 ghost use Rattle.std.specs.Char.{to_ascii_lowercase};
-ghost use Rattle.std.specs.List.{before_first, list_all};
+ghost use Rattle.std.specs.List.{after_first, before_first, list_all};
 ghost use Rattle.nm_header.specs.Fields.{begins_field, continues, is_colon, is_from_line, is_name, is_name_byte, name_of};
 ghost use Rattle.nm_header.specs.Lines.{content};
 ghost use Rattle.nm_header.specs.Space.{trimmed_end};
 
 use crate::lines::content;
-use crate::space::trimmed_end;
+use crate::space::{text_of, trimmed_end};
 use nm_base::{NoMemory, Text};
 use std::alloc::Global;
 
@@ -37,6 +37,43 @@ pub(crate) fn begins_field(line: &[u8]) -> bool
     match colon_at(text) {
         None => false,
         Some(at) => is_name(name_before(text, at)),
+    }
+}
+
+/// The name of a field in lower case.
+pub(crate) fn name_text(alloc: Global, line: &[u8]) -> Result<Text, NoMemory>
+    requires { begins_field line.now ≡ true }
+    ensures { IfOk result (λ name. name ≡ map to_ascii_lowercase (name_of line.now)) }
+{
+    let name = lowercase(alloc, name_in(line))?;
+    Ok(text_of(name))
+}
+
+fn lowercase(alloc: Global, name: &[u8]) -> Result<Vec<u8>, NoMemory>
+    ensures { IfOk result (λ lower. lower.items ≡ map to_ascii_lowercase name.now) }
+{
+    let lower: Vec<u8> = name.iter().map(|b| b.to_ascii_lowercase()).collect(alloc)?;
+    Ok(lower)
+}
+
+fn name_in(line: &[u8]) -> &[u8]
+    ensures { result.now ≡ name_of line.now }
+{
+    let text = content(line);
+    match colon_at(text) {
+        None => trimmed_end(text),
+        Some(at) => name_before(text, at),
+    }
+}
+
+/// What stands behind the colon, or nothing.
+pub(crate) fn behind_colon(line: &[u8]) -> &[u8]
+    ensures { result.now ≡ after_first is_colon (content line.now) }
+{
+    let text = content(line);
+    match colon_at(text) {
+        None => &text[text.len()..],
+        Some(at) => &text[at + 1..],
     }
 }
 

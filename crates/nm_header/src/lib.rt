@@ -3,10 +3,13 @@
 #![tactic(auto)]
 
 mod field_line;
-mod fields;
+mod header;
+mod header_lines;
 mod id_list;
 mod lines;
 mod space;
+#[cfg(test)]
+mod tests;
 
-pub use fields::{HeaderField, HeaderList};
+pub use header::{HeaderField, HeaderList, fields};
 pub use id_list::ids;

@@ -1,0 +1,81 @@
+use crate::{HeaderList, fields, ids};
+use nm_base::{Many, MessageId};
+use std::alloc::{AllocError, Global};
+use std::test::Fail;
+
+#[test]
+fn fields_of_a_header(rt: HostRuntime) -> Result<(), Fail> {
+    let alloc = rt.alloc();
+    let cases: [(&[u8], &str, usize); 17] = [
+        (b"", "", 0),
+        (b"\n", "", 1),
+        (b"\r\nbody", "", 2),
+        (b"\r", "", 1),
+        (b"A: b\n\nbody", "a=b|", 6),
+        (b"A: b\r\n\r\nbody", "a=b|", 8),
+        (b"A: b", "a=b|", 4),
+        (
+            b"Subject: one\n two\r\n\tthree \n\nx",
+            "subject=one two\tthree|",
+            29,
+        ),
+        (b"Subject:\r\n  \r\n late\r\n\r\n", "subject=late|", 23),
+        (b"A: 1\nA: 2\na: 3\n", "a=1|a=2|a=3|", 15),
+        (b"From x: y\nA: b\n", "a=b|", 15),
+        (b"From me: y\n folded\nFrom: z\n", "from=z|", 27),
+        (b"A: b\nFrom : c\n", "a=b|from=c|", 14),
+        (b" lost\nA: b\n", "a=b|", 11),
+        (b"no field\n lost\nA \t: b\n", "a=b|", 22),
+        (b": b\n lost\na b: c\n\xC3\xA9: d\nA:\n", "a=|", 26),
+        (b"A: b:c\rd\n", "a=b:c\rd|", 9),
+    ];
+    for (bytes, wanted, rest) in cases {
+        let header = fields(alloc, bytes)?;
+        let shown = shown_fields(alloc, &header)?;
+        assert_eq!(rt; shown.as_str(), wanted);
+        assert_eq!(rt; header.rest, rest, "of {wanted}");
+    }
+    Ok(())
+}
+
+#[test]
+fn ids_of_a_text(rt: HostRuntime) -> Result<(), Fail> {
+    let alloc = rt.alloc();
+    let cases: [(&str, &str); 8] = [
+        ("", ""),
+        ("<a@x>", "a@x|"),
+        ("text <a@x> more<b@x>", "a@x|b@x|"),
+        ("< a\r\n\t@x >", "a@x|"),
+        ("<a@x", ""),
+        ("a@x> <b@x>", "b@x|"),
+        ("<a<b> <> < > <c>", "c|"),
+        ("<a(b)c@x>", "a(b)c@x|"),
+    ];
+    for (text, wanted) in cases {
+        let found = ids(alloc, text)?;
+        let shown = shown_ids(alloc, &found)?;
+        assert_eq!(rt; shown.as_str(), wanted, "of {text}");
+    }
+    Ok(())
+}
+
+fn shown_fields(alloc: Global, header: &HeaderList) -> Result<String, AllocError> {
+    let mut shown = String::new(alloc);
+    for field in header.list.as_slice() {
+        let body = String::from_utf8_lossy(alloc, field.body.as_slice())?;
+        shown.push_str(field.name.as_str())?;
+        shown.push('=')?;
+        shown.push_str(body.as_str())?;
+        shown.push('|')?;
+    }
+    Ok(shown)
+}
+
+fn shown_ids(alloc: Global, ids: &Many<MessageId>) -> Result<String, AllocError> {
+    let mut shown = String::new(alloc);
+    for id in ids.as_slice() {
+        shown.push_str(id.text().as_str())?;
+        shown.push('|')?;
+    }
+    Ok(shown)
+}
