@@ -1,7 +1,10 @@
 pub mod CutLemmas
+pub mod DepthLemmas
 pub mod FieldLemmas
 pub mod HeaderLemmas
 pub mod IdLemmas
 pub mod LineLemmas
+pub mod PieceLemmas
+pub mod PlainLemmas
 pub mod SplitLemmas
 pub mod Utf8Lemmas

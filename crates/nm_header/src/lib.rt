@@ -7,9 +7,12 @@ mod header;
 mod header_lines;
 mod id_list;
 mod lines;
+mod pieces;
+mod plain_text;
 mod space;
 #[cfg(test)]
 mod tests;
 
 pub use header::{HeaderField, HeaderList, fields};
 pub use id_list::ids;
+pub use plain_text::plain;

@@ -17,7 +17,7 @@ fn fields_of_a_header(rt: HostRuntime) -> Result<(), Fail> {
         (
             b"Subject: one\n two\r\n\tthree \n\nx",
             "subject=one two\tthree|",
-            29,
+            28,
         ),
         (b"Subject:\r\n  \r\n late\r\n\r\n", "subject=late|", 23),
         (b"A: 1\nA: 2\na: 3\n", "a=1|a=2|a=3|", 15),
