@@ -4,6 +4,7 @@ pub mod FieldLemmas
 pub mod HeaderLemmas
 pub mod IdLemmas
 pub mod LineLemmas
+pub mod NameLemmas
 pub mod PieceLemmas
 pub mod PlainLemmas
 pub mod SplitLemmas

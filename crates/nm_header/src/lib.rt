@@ -2,6 +2,7 @@
 //! Any bytes and any text are read; what has no meaning is skipped.
 #![tactic(auto)]
 
+mod display_name;
 mod field_line;
 mod header;
 mod header_lines;
