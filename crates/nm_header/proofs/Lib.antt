@@ -4,8 +4,10 @@ pub mod FieldLemmas
 pub mod HeaderLemmas
 pub mod IdLemmas
 pub mod LineLemmas
+pub mod MailboxLemmas
 pub mod NameLemmas
 pub mod PieceLemmas
 pub mod PlainLemmas
 pub mod SplitLemmas
+pub mod TokenLemmas
 pub mod Utf8Lemmas

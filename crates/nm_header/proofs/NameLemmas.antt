@@ -1,5 +1,5 @@
 -- The turns of the two loops that make a name.
-use Rattle.std.proofs.Common.{◌≡◌, ℕ, zero, suc, ◌+◌, ◌-◌, ◌<◌, ◌≤◌, Bool, true, false, cond, not, ◌==◌, List, [], ◌∷◌, ◌++◌, Option, Some, None, length, take, drop, filter, refl, sym, ap, subst, ◌∙◌, arith, append_assoc}
+use Rattle.std.proofs.Common.{◌≡◌, ℕ, ◌+◌, ◌-◌, ◌<◌, true, false, cond, ◌==◌, List, [], ◌∷◌, ◌++◌, Some, None, length, take, drop, filter, refl, sym, ap, subst, ◌∙◌, arith, append_assoc}
 use Rattle.std.specs.Prelude.{IsUtf8, position}
 use Rattle.std.specs.List.{flat_map, join_with_byte, slice_split}
 use Rattle.std.proofs.lemmas.Bool.{eqb-true}
@@ -7,7 +7,7 @@ use Rattle.std.proofs.lemmas.Bool.Decides.{nat_tests}
 use Rattle.std.proofs.lemmas.List.{append-nil, take-append-drop}
 use Rattle.nm_base.specs.Bounds.{is_white_space}
 use Rattle.nm_header.specs.Pieces.{unit_more, units_of}
-use Rattle.nm_header.specs.Mailboxes.{added_word, is_some_text, spaced_of, unquoted, unquoted_of}
+use Rattle.nm_header.specs.Mailboxes.{added_word, is_some_text, unquoted, unquoted_of}
 use Rattle.nm_header.proofs.CutLemmas.{cut-nil, cut-cons}
 use Rattle.nm_header.proofs.SplitLemmas.{split_at, split_none}
 use Rattle.nm_header.proofs.Utf8Lemmas.{drop_ascii}
@@ -56,23 +56,23 @@ pair_is : (left : List ℕ) (b c : ℕ) (more : List ℕ) (rest : List (List ℕ
 pair_is [] b c more rest e = absurd (let no : [] ≡ (b ∷ c ∷ more) ∷ rest = sym (cut-nil unit_more) ∙ e in cc)
 pair_is (x ∷ xs) b c more rest e =
     elim (x == 92) as (λ v. (x == 92) ≡ v → b < 128) [
-      true ↦ λ h.
-        let first : (x ∷ take (unit_more x xs) xs) ∷ units_of (drop (unit_more x xs) xs) ≡ (b ∷ c ∷ more) ∷ rest = sym (cut-cons unit_more x xs) ∙ e in
-        let same : x ≡ b = cc in
-        let sign : x ≡ 92 = eqb-true x 92 h in
-        omega arith
-    | false ↦ λ h.
-        let first : (x ∷ take (unit_more x xs) xs) ∷ units_of (drop (unit_more x xs) xs) ≡ (b ∷ c ∷ more) ∷ rest = sym (cut-cons unit_more x xs) ∙ e in
-        let none : take (unit_more x xs) xs ≡ [] = ap (λ v. take (cond v 1 0) xs) h in
-        absurd (cc)
+      | true ↦ λ h.
+          let first : (x ∷ take (unit_more x xs) xs) ∷ units_of (drop (unit_more x xs) xs) ≡ (b ∷ c ∷ more) ∷ rest = sym (cut-cons unit_more x xs) ∙ e in
+          let same : x ≡ b = cc in
+          let sign : x ≡ 92 = eqb-true x 92 h in
+          omega arith
+      | false ↦ λ h.
+          let first : (x ∷ take (unit_more x xs) xs) ∷ units_of (drop (unit_more x xs) xs) ≡ (b ∷ c ∷ more) ∷ rest = sym (cut-cons unit_more x xs) ∙ e in
+          let none : take (unit_more x xs) xs ≡ [] = ap (λ v. take (cond v 1 0) xs) h in
+          absurd (cc)
     ] refl
 
 kept_utf8 : (before unit behind : List ℕ) → ((b c : ℕ) (more : List ℕ) → unit ≡ b ∷ c ∷ more → b < 128) → IsUtf8 (before ++ (unit ++ behind)) → IsUtf8 ((before ++ unquoted unit) ++ behind)
 kept_utf8 before [] behind small u = subst IsUtf8 (sym (append_assoc before [] behind)) u
 kept_utf8 before (b ∷ []) behind small u =
     elim (b == 34) as (λ v. (b == 34) ≡ v → IsUtf8 ((before ++ cond v [] (b ∷ [])) ++ behind)) [
-      true ↦ λ e. subst IsUtf8 (sym (append_assoc before [] behind)) (drop_ascii before behind b (let sign : b ≡ 34 = eqb-true b 34 e in omega arith) u)
-    | false ↦ λ e. subst IsUtf8 (sym (append_assoc before (b ∷ []) behind)) u
+      | true ↦ λ e. subst IsUtf8 (sym (append_assoc before [] behind)) (drop_ascii before behind b (let sign : b ≡ 34 = eqb-true b 34 e in omega arith) u)
+      | false ↦ λ e. subst IsUtf8 (sym (append_assoc before (b ∷ []) behind)) u
     ] refl
 kept_utf8 before (b ∷ c ∷ more) behind small u =
     subst IsUtf8 (sym (append_assoc before (c ∷ more) behind)) (drop_ascii before ((c ∷ more) ++ behind) b (small b c more refl) u)

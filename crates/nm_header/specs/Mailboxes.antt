@@ -1,6 +1,6 @@
 -- Mailboxes in a field's text (RFC 5322, section 3.4): names and addresses, without comments.
-use Rattle.std.specs.Prelude.{ℕ, ◌+◌, Bool, false, true, ◌==◌, not, List, [], ◌∷◌, ◌++◌, length, map, filter, drop, codes, if◌then◌else◌}
-use Rattle.std.specs.List.{after_last, before_first, concat, flat_map, join_with_byte, list_all, list_any, position_or_len, slice_split}
+use Rattle.std.specs.Prelude.{◌≡◌, ℕ, ◌+◌, ◌<◌, ◌≤◌, Bool, false, true, ◌==◌, List, [], ◌∷◌, ◌++◌, length, filter, take, drop, if◌then◌else◌}
+use Rattle.std.specs.List.{before_first, concat, flat_map, join_with_byte, list_all, list_any, position_or_len, slice_split}
 use Rattle.nm_base.specs.Bounds.{is_white_space}
 use Rattle.nm_base.specs.declared.facts.Mailbox.{Mailbox}
 use Rattle.nm_header.specs.Cut.{cut}
@@ -44,7 +44,7 @@ mailbox_from tokens [] = record { name = []; address = without_space (concat tok
 mailbox_from tokens (angle ∷ more) = record { name = spaced_of (unquoted_of (concat tokens)); address = without_space (before_first is_close (drop 1 angle)) }
 
 abbrev pub is_angle : List ℕ → Bool
-is_angle token = begins_with (codes "<") token
+is_angle token = begins_with (60 ∷ []) token
 
 abbrev pub mailbox_of : List (List ℕ) → Mailbox
 mailbox_of tokens = mailbox_from (before_first is_angle tokens) (drop (position_or_len is_angle tokens) tokens)
@@ -52,13 +52,47 @@ mailbox_of tokens = mailbox_from (before_first is_angle tokens) (drop (position_
 abbrev pub is_blank : List (List ℕ) → Bool
 is_blank tokens = list_all is_white_space (concat tokens)
 
--- the parts between `,` and `;`, each without what stands up to a `:` in it, the blank ones dropped
+abbrev pub is_separator : List ℕ → Bool
+is_separator token = begins_with (44 ∷ 59 ∷ []) token
+
+abbrev pub is_colon : List ℕ → Bool
+is_colon token = begins_with (58 ∷ []) token
+
+-- what stands behind the last `:`, or all where there is none
+abbrev pub behind_colon : List (List ℕ) → List (List ℕ)
+behind_colon [] = []
+behind_colon (token ∷ tokens) =
+    if list_any is_colon tokens then behind_colon tokens else (if is_colon token then tokens else token ∷ tokens)
+
+-- the mailbox of a part, if it has more than white space
+abbrev pub mailbox_in : List (List ℕ) → List Mailbox
+mailbox_in part = if is_blank part then [] else mailbox_of part ∷ []
+
+-- the parts between `,` and `;`, each without what stands up to a `:` in it
 abbrev pub mailboxes_in : List (List ℕ) → List Mailbox
-mailboxes_in tokens =
-    map mailbox_of (filter (λ part. not (is_blank part)) (map (after_last (begins_with (codes ":"))) (slice_split (begins_with (codes ",;")) tokens)))
+mailboxes_in tokens = flat_map (λ part. mailbox_in (behind_colon part)) (slice_split is_separator tokens)
 
 abbrev pub mailboxes_of : List ℕ → List Mailbox
 mailboxes_of text = mailboxes_in (tokens_of (plain_of text))
+
+-- the signs that end a part, and those that end the name in it
+abbrev pub part_ends : List ℕ
+part_ends = 44 ∷ 59 ∷ 58 ∷ []
+
+abbrev pub name_ends : List ℕ
+name_ends = 44 ∷ 59 ∷ 58 ∷ 60 ∷ []
+
+-- the tokens before the first that begins with one of these signs
+abbrev pub tokens_before : List ℕ → List ℕ → List (List ℕ)
+tokens_before signs text = before_first (begins_with signs) (tokens_of text)
+
+-- n is how many bytes they have
+pub record StopsAt (signs text : List ℕ) (n : ℕ) : Type 0 where
+  pub bytes : concat (tokens_before signs text) ≡ take n text
+  pub tokens : tokens_of text ≡ tokens_before signs text ++ tokens_of (drop n text)
+  pub none : list_any (begins_with signs) (tokens_before signs text) ≡ false
+  pub within : n ≤ length text
+  pub stop : n < length text → begins_with signs (drop n text) ≡ true
 
 -- a word behind the words so far
 abbrev pub added_word : List ℕ → List ℕ → List ℕ

@@ -40,7 +40,7 @@ fn open_at(text: &str) -> Option<usize>
     text.as_bytes().iter().position(|b| *b == b'<')
 }
 
-fn close_at(text: &str) -> Option<usize>
+pub(crate) fn close_at(text: &str) -> Option<usize>
     ensures { result ≡ position is_close text.now }
 {
     text.as_bytes().iter().position(|b| *b == b'>')

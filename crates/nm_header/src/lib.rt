@@ -8,12 +8,15 @@ mod header;
 mod header_lines;
 mod id_list;
 mod lines;
+mod mailbox_list;
 mod pieces;
 mod plain_text;
 mod space;
 #[cfg(test)]
 mod tests;
+mod tokens;
 
 pub use header::{HeaderField, HeaderList, fields};
 pub use id_list::ids;
+pub use mailbox_list::mailboxes;
 pub use plain_text::plain;

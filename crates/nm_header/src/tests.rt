@@ -1,5 +1,5 @@
-use crate::{HeaderList, fields, ids};
-use nm_base::{Many, MessageId};
+use crate::{HeaderList, fields, ids, mailboxes, plain};
+use nm_base::{Mailbox, Many, MessageId};
 use std::alloc::{AllocError, Global};
 use std::test::Fail;
 
@@ -59,6 +59,61 @@ fn ids_of_a_text(rt: HostRuntime) -> Result<(), Fail> {
     Ok(())
 }
 
+#[test]
+fn a_text_without_its_comments(rt: HostRuntime) -> Result<(), Fail> {
+    let alloc = rt.alloc();
+    let cases: [(&str, &str); 13] = [
+        ("", ""),
+        ("plain é", "plain é"),
+        ("a (b) c", "a   c"),
+        ("a(b(c)d)e", "a e"),
+        ("()()", "  "),
+        ("a (b", "a  "),
+        ("a (b (c) d", "a  "),
+        ("(a \\) b) c", "  c"),
+        ("(a \\( b) c", "  c"),
+        ("\"(a)\" (b)", "\"(a)\"  "),
+        ("\"a \\\" (b)\" c", "\"a \\\" (b)\" c"),
+        ("(a \" b) c \"(d)", "  c \"(d)"),
+        ("\\(a) \\é (\\é)\\", "\\(a) \\é  \\"),
+    ];
+    for (text, wanted) in cases {
+        let shown = plain(alloc, text)?;
+        assert_eq!(rt; shown.as_str(), wanted, "of {text}");
+    }
+    Ok(())
+}
+
+#[test]
+fn mailboxes_of_a_text(rt: HostRuntime) -> Result<(), Fail> {
+    let alloc = rt.alloc();
+    let cases: [(&str, &str); 17] = [
+        ("", ""),
+        (" , ; ", ""),
+        ("j@x", "/j@x|"),
+        (" j @ x ", "/j@x|"),
+        ("Jane Doe <j@x>", "Jane Doe/j@x|"),
+        ("\"Doe, Jane\" <j@x>", "Doe, Jane/j@x|"),
+        ("a@x, b@x; c@x", "/a@x|/b@x|/c@x|"),
+        ("friends: a@x, b@x;", "/a@x|/b@x|"),
+        ("none:;", ""),
+        ("a: b: c@x", "/c@x|"),
+        ("Jane (home) \t Doe <j@x> (work)", "Jane Doe/j@x|"),
+        ("Jane <j@x, k@x", "Jane/j@x,k@x|"),
+        ("J <a<b> c> d, e@x", "J/a<b|/e@x|"),
+        ("\"a \\\"b\\\" c <d>\" e <f@x>", "a \"b\" c <d> e/f@x|"),
+        ("\"open, <a@x>", "/\"open,<a@x>|"),
+        ("a\\, b <c@x>", "a, b/c@x|"),
+        ("<>, René é <é@x>", "/|René é/é@x|"),
+    ];
+    for (text, wanted) in cases {
+        let found = mailboxes(alloc, text)?;
+        let shown = shown_mailboxes(alloc, &found)?;
+        assert_eq!(rt; shown.as_str(), wanted, "of {text}");
+    }
+    Ok(())
+}
+
 fn shown_fields(alloc: Global, header: &HeaderList) -> Result<String, AllocError> {
     let mut shown = String::new(alloc);
     for field in header.list.as_slice() {
@@ -75,6 +130,17 @@ fn shown_ids(alloc: Global, ids: &Many<MessageId>) -> Result<String, AllocError>
     let mut shown = String::new(alloc);
     for id in ids.as_slice() {
         shown.push_str(id.text().as_str())?;
+        shown.push('|')?;
+    }
+    Ok(shown)
+}
+
+fn shown_mailboxes(alloc: Global, mailboxes: &Many<Mailbox>) -> Result<String, AllocError> {
+    let mut shown = String::new(alloc);
+    for mailbox in mailboxes.as_slice() {
+        shown.push_str(mailbox.name.as_str())?;
+        shown.push('/')?;
+        shown.push_str(mailbox.address.as_str())?;
         shown.push('|')?;
     }
     Ok(shown)

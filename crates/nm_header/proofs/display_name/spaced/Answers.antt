@@ -15,8 +15,9 @@ range_from-left-requires c = λ _. boundary_after is_white_space white_is_ascii 
 
 pub words-preserved : goal.words-preserved
 words-preserved c = (
-    c.range_from-left.utf8,
-    ap (λ left. joined (string_bytes c.add_word.new.spaced ∷ slice_split is_white_space left)) c.range_from-left.ensures.value ∙ words_turn (string_bytes c.words.spaced) (string_bytes c.add_word.new.spaced) c.words.left.now c.range.result.now c.in-Some.at (sym c.in-Some.ensures) c.range.ensures.value c.in_ok-add_word.ensures ∙ c.words.invariant.1)
+  c.range_from-left.utf8,
+  ap (λ left. joined (string_bytes c.add_word.new.spaced ∷ slice_split is_white_space left)) c.range_from-left.ensures.value ∙ words_turn (string_bytes c.words.spaced) (string_bytes c.add_word.new.spaced) c.words.left.now c.range.result.now c.in-Some.at (sym c.in-Some.ensures) c.range.ensures.value c.in_ok-add_word.ensures ∙ c.words.invariant.1,
+)
 
 pub returns : goal.returns
 returns c =
