@@ -14,6 +14,7 @@ mod plain_text;
 mod space;
 #[cfg(test)]
 mod tests;
+mod texts;
 mod tokens;
 
 pub use header::{HeaderField, HeaderList, fields};

@@ -1,5 +1,5 @@
 use crate::{HeaderList, fields, ids, mailboxes, plain};
-use nm_base::{Mailbox, Many, MessageId};
+use nm_base::{Mailbox, Many, MessageId, Text};
 use std::alloc::{AllocError, Global};
 use std::test::Fail;
 
@@ -55,6 +55,25 @@ fn ids_of_a_text(rt: HostRuntime) -> Result<(), Fail> {
         let found = ids(alloc, text)?;
         let shown = shown_ids(alloc, &found)?;
         assert_eq!(rt; shown.as_str(), wanted, "of {text}");
+    }
+    Ok(())
+}
+
+#[test]
+fn texts_of_a_name(rt: HostRuntime) -> Result<(), Fail> {
+    let alloc = rt.alloc();
+    let header = fields(alloc, b"To: a\nSubject: b\nTO: c\nsubject: d\nX: \xFFe\n")?;
+    let cases: [(&str, &str); 5] = [
+        ("to", "a|c|"),
+        ("subject", "b|"),
+        ("x", "\u{FFFD}e|"),
+        ("from", ""),
+        ("in-reply-to", ""),
+    ];
+    for (name, wanted) in cases {
+        let found = header.texts(alloc, name)?;
+        let shown = shown_texts(alloc, &found)?;
+        assert_eq!(rt; shown.as_str(), wanted, "of {name}");
     }
     Ok(())
 }
@@ -141,6 +160,15 @@ fn shown_mailboxes(alloc: Global, mailboxes: &Many<Mailbox>) -> Result<String, A
         shown.push_str(mailbox.name.as_str())?;
         shown.push('/')?;
         shown.push_str(mailbox.address.as_str())?;
+        shown.push('|')?;
+    }
+    Ok(shown)
+}
+
+fn shown_texts(alloc: Global, texts: &Many<Text>) -> Result<String, AllocError> {
+    let mut shown = String::new(alloc);
+    for text in texts.as_slice() {
+        shown.push_str(text.as_str())?;
         shown.push('|')?;
     }
     Ok(shown)
