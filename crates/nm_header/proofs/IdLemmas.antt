@@ -24,7 +24,7 @@ closed_before : (stretch : List ℕ) (more : List (List ℕ)) → 0 < length mor
 closed_before stretch [] h = absurd (omega arith)
 closed_before stretch (next ∷ more) h = refl
 
-closed-cons : (stretch text : List ℕ) → closed (stretch ∷ slice_split is_close text) ≡ stretch ∷ closed (slice_split is_close text)
+pub closed-cons : (stretch text : List ℕ) → closed (stretch ∷ slice_split is_close text) ≡ stretch ∷ closed (slice_split is_close text)
 closed-cons stretch text =
     let one : length (slice_split is_close text) ≡ count_by is_close text + 1 = length-slice_split is_close text in
     closed_before stretch (slice_split is_close text) (omega arith)

@@ -3,6 +3,7 @@ pub mod DepthLemmas
 pub mod FieldLemmas
 pub mod HeaderLemmas
 pub mod IdLemmas
+pub mod LawLemmas
 pub mod LineLemmas
 pub mod MailboxLemmas
 pub mod NameLemmas

@@ -7,6 +7,7 @@ mod field_line;
 mod header;
 mod header_lines;
 mod id_list;
+mod laws;
 mod lines;
 mod mailbox_list;
 mod pieces;
@@ -19,5 +20,6 @@ mod tokens;
 
 pub use header::{HeaderField, HeaderList, fields};
 pub use id_list::ids;
+pub use laws::{a_mail_is_its_header_and_its_body, nothing_is_lost, written_ids_are_read};
 pub use mailbox_list::mailboxes;
 pub use plain_text::plain;
