@@ -1,0 +1,14 @@
+pub mod CutLemmas
+pub mod DepthLemmas
+pub mod FieldLemmas
+pub mod HeaderLemmas
+pub mod IdLemmas
+pub mod LawLemmas
+pub mod LineLemmas
+pub mod MailboxLemmas
+pub mod NameLemmas
+pub mod PieceLemmas
+pub mod PlainLemmas
+pub mod SplitLemmas
+pub mod TokenLemmas
+pub mod Utf8Lemmas

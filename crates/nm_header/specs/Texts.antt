@@ -1,0 +1,23 @@
+-- Which fields of a name count (RFC 5322, section 3.6), and the text in them.
+use Rattle.std.specs.Prelude.{ℕ, Bool, ◌||◌, List, map, filter, find, codes, if◌then◌else◌}
+use Rattle.std.specs.Option.{option_map, option_to_list}
+use Rattle.std.specs.Str.Lossy.{utf8_lossy}
+use Rattle.std.specs.Str.{bytes_eq}
+use Rattle.nm_header.specs.declared.header.HeaderField.{HeaderField}
+
+abbrev pub is_named : List ℕ → HeaderField → Bool
+is_named name field = bytes_eq field.name name
+
+-- the body read as UTF-8, with U+FFFD for damage
+abbrev pub text_in : HeaderField → List ℕ
+text_in field = utf8_lossy field.body
+
+-- a name of which all fields count
+abbrev pub counts_all : List ℕ → Bool
+counts_all name =
+    bytes_eq name (codes "to") || (bytes_eq name (codes "cc") || (bytes_eq name (codes "bcc") || (bytes_eq name (codes "references") || bytes_eq name (codes "in-reply-to"))))
+
+-- the texts of the fields of a name that count: all, or the first
+abbrev pub texts_of : List HeaderField → List ℕ → List (List ℕ)
+texts_of fields name =
+    if counts_all name then map text_in (filter (is_named name) fields) else option_to_list (option_map text_in (find (is_named name) fields))

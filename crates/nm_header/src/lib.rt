@@ -1,0 +1,25 @@
+//! The header of a mail: its fields, and the ids, mailboxes and plain text in a field (RFC 5322).
+//! Any bytes and any text are read; what has no meaning is skipped.
+#![tactic(auto)]
+
+mod display_name;
+mod field_line;
+mod header;
+mod header_lines;
+mod id_list;
+mod laws;
+mod lines;
+mod mailbox_list;
+mod pieces;
+mod plain_text;
+mod space;
+#[cfg(test)]
+mod tests;
+mod texts;
+mod tokens;
+
+pub use header::{HeaderField, HeaderList, fields};
+pub use id_list::ids;
+pub use laws::{a_mail_is_its_header_and_its_body, nothing_is_lost, written_ids_are_read};
+pub use mailbox_list::mailboxes;
+pub use plain_text::plain;

@@ -1,0 +1,92 @@
+ghost use Rattle.std.specs.Prelude.{◌≡◌, IfOk, map, filter, find};
+ghost use Rattle.std.specs.Option.{option_copied, option_map, option_to_list};
+ghost use Rattle.std.specs.Str.Lossy.{utf8_lossy};
+ghost use Rattle.nm_header.specs.Texts.{counts_all, is_named, text_in, texts_of};
+
+use crate::{HeaderField, HeaderList};
+use nm_base::{Many, NoMemory, Text};
+use std::alloc::Global;
+
+impl HeaderField {
+    /// The body read as UTF-8, with U+FFFD for damage.
+    pub fn text(&self, alloc: Global) -> Result<Text, NoMemory>
+        ensures { IfOk result (λ text. text ≡ utf8_lossy self.now.body) }
+    {
+        let text = String::from_utf8_lossy(alloc, self.body.as_slice())?;
+        Ok(Text::from_string(text))
+    }
+
+    fn is_named(&self, name: &str) -> bool
+        ensures { result ≡ is_named name.now self.now }
+    {
+        self.name.as_str() == name
+    }
+}
+
+impl HeaderList {
+    /// The texts of the fields with this name, which is in lower case: of `to`, `cc`, `bcc`, `references`
+    /// and `in-reply-to` all in their order, of every other name the first.
+    pub fn texts(&self, alloc: Global, name: &str) -> Result<Many<Text>, NoMemory>
+        ensures { IfOk result (λ texts. texts ≡ texts_of self.now.list name.now) }
+    {
+        if counts_all(name) {
+            all_texts(alloc, self.list.as_slice(), name)
+        } else {
+            first_text(alloc, self.list.as_slice(), name)
+        }
+    }
+}
+
+fn counts_all(name: &str) -> bool
+    ensures { result ≡ counts_all name.now }
+{
+    if name == "to" {
+        return true;
+    }
+    if name == "cc" {
+        return true;
+    }
+    if name == "bcc" {
+        return true;
+    }
+    if name == "references" {
+        return true;
+    }
+    name == "in-reply-to"
+}
+
+fn all_texts(alloc: Global, fields: &[HeaderField], name: &str) -> Result<Many<Text>, NoMemory>
+    ensures { IfOk result (λ texts. texts ≡ map text_in (filter (is_named name.now) fields.now)) }
+{
+    let mut texts = Many::new(alloc);
+    'fields: for field in fields {
+        if field.is_named(name) {
+            texts.push(field.text(alloc)?)?;
+        }
+    }
+    Ok(texts)
+}
+
+fn first_text(alloc: Global, fields: &[HeaderField], name: &str) -> Result<Many<Text>, NoMemory>
+    ensures { IfOk result (λ texts. texts ≡ option_to_list (option_map text_in (find (is_named name.now) fields.now))) }
+{
+    let mut texts = Many::new(alloc);
+    match first_named(fields, name) {
+        None => Ok(texts),
+        Some(field) => {
+            texts.push(field.text(alloc)?)?;
+            Ok(texts)
+        }
+    }
+}
+
+fn first_named<'a>(fields: &'a [HeaderField], name: &str) -> Option<&'a HeaderField>
+    ensures { option_copied result ≡ find (is_named name.now) fields.now }
+{
+    'fields: for field in fields {
+        if field.is_named(name) {
+            return Some(field);
+        }
+    }
+    None
+}

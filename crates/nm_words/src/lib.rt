@@ -1,0 +1,9 @@
+//! The words of a text, as an index keeps them: those of UAX 29, cut at ASCII signs, without case.
+#![tactic(auto)]
+
+mod pieces;
+#[cfg(test)]
+mod tests;
+mod text;
+
+pub use text::words;

@@ -1,0 +1,20 @@
+ghost use Rattle.std.specs.Prelude.{◌≡◌, IfOk};
+ghost use Rattle.nm_words.specs.Words.{words_of};
+
+use crate::pieces::add_pieces;
+use nm_base::{Many, NoMemory, Word};
+use std::alloc::Global;
+use unicode_segmentation::UnicodeSegmentation;
+
+/// The words of the text in their order (UAX 29), each cut at every ASCII character that is no
+/// letter, no digit and no `_`, and folded. Those that come out empty or longer than 200 bytes
+/// are left out.
+pub fn words(alloc: Global, text: &str) -> Result<Many<Word>, NoMemory>
+    ensures { IfOk result (λ found. found ≡ words_of text.now) }
+{
+    let mut found = Many::new(alloc);
+    'words: for word in text.unicode_words() {
+        add_pieces(alloc, word, &mut found)?;
+    }
+    Ok(found)
+}
