@@ -1,0 +1,4 @@
+pub mod Escapes
+pub mod GroupLemmas
+pub mod Lines
+pub mod Spelling

@@ -1,0 +1,12 @@
+//! Bodies and header text as Unicode: quoted-printable, base64, charsets and encoded words.
+//! Damage never stops it; want of memory is the only refusal.
+#![tactic(auto)]
+
+mod charset;
+mod groups;
+mod quoted;
+mod scan;
+
+pub use charset::charset_text;
+pub use groups::base64_bytes;
+pub use quoted::quoted_printable;
