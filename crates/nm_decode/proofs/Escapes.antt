@@ -1,11 +1,10 @@
 -- Escapes, one at a time.
-use Rattle.std.proofs.Common.{◌≡◌, ℕ, suc, ◌+◌, ◌<◌, ◌≤◌, Bool, true, false, ◌&&◌, not, List, [], ◌∷◌, ◌++◌, Some, None, length, take, drop, refl, sym, ap, ◌∙◌, subst, cond, eqb, get_or, arith, add-zero, append_assoc}
+use Rattle.std.proofs.Common.{◌≡◌, ℕ, suc, ◌+◌, ◌<◌, Bool, true, false, ◌&&◌, List, [], ◌∷◌, ◌++◌, Some, None, length, take, drop, refl, sym, ap, ◌∙◌, subst, cond, eqb, get_or, arith, add-zero, append_assoc}
 use Rattle.std.specs.List.{position_or_len}
 use Rattle.std.proofs.lemmas.List.{append-nil, get_or-drop, length-drop}
 use Rattle.std.proofs.lemmas.List.Sums.{passes_at_first}
 use Rattle.std.proofs.lemmas.Bool.Decides.{nat_tests}
-use Rattle.nm_decode.specs.Bytes.{hex_byte, is_byte, is_hex}
-use Rattle.nm_decode.specs.EscapeSteps.{escape_of}
+use Rattle.nm_decode.specs.Bytes.{escape_of, hex_byte, is_byte, is_hex}
 use Rattle.nm_decode.specs.QuotedPrintable.{unescaped}
 
 -- a byte that is no `=` stands for itself

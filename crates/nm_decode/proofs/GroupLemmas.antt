@@ -1,5 +1,5 @@
 -- Base64, symbol by symbol, is base64 in groups of four.
-use Rattle.std.proofs.Common.{◌≡◌, ℕ, zero, suc, ◌+◌, ◌*◌, ◌/◌, ◌%◌, ◌<◌, Bool, true, false, List, [], ◌∷◌, ◌++◌, length, Some, None, map, drop, get_or, refl, sym, ap, ◌∙◌, subst, cond, arith, rules, append_assoc}
+use Rattle.std.proofs.Common.{◌≡◌, ℕ, ◌+◌, ◌*◌, ◌/◌, ◌%◌, ◌<◌, Bool, true, false, List, [], ◌∷◌, ◌++◌, length, Some, None, map, drop, get_or, refl, sym, ap, ◌∙◌, subst, cond, append_assoc}
 use Rattle.std.specs.List.{filter}
 use Rattle.std.proofs.lemmas.List.{at_drop_more}
 use Rattle.nm_decode.specs.Base64.{bytes_of_groups, is_symbol, six_bits, symbol_of}

@@ -1,7 +1,6 @@
 -- The first line of a text ends at its first LF.
 use Rattle.std.proofs.Common.{◌≡◌, ℕ, suc, ◌+◌, ◌<◌, ◌≤◌, Bool, true, false, List, [], ◌∷◌, ◌++◌, length, take, drop, refl, sym, ap, ◌∙◌, subst, cond, eqb, ltb, arith, append_assoc}
 use Rattle.std.specs.List.{onto_first, position_or_len, flat_map}
-use Rattle.std.proofs.lemmas.Grind.{common_steps}
 use Rattle.std.proofs.lemmas.Bool.Decides.{nat_tests}
 use Rattle.nm_decode.specs.Bytes.{is_byte}
 use Rattle.nm_decode.specs.QuotedPrintable.{line_bytes, lines_of, quoted_of}

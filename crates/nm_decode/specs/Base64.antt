@@ -1,5 +1,5 @@
 -- Base64 (RFC 2045, section 6.8), read leniently: what is no symbol is passed over, and the first `=` ends the data.
-use Rattle.std.specs.Prelude.{ℕ, Bool, ◌||◌, ◌==◌, nat_lt, if◌then◌else◌, ◌+◌, ◌-◌, ◌*◌, ◌/◌, ◌%◌, List, [], ◌∷◌, map, Option, None, Some}
+use Rattle.std.specs.Prelude.{ℕ, Bool, ◌||◌, ◌==◌, if◌then◌else◌, ◌+◌, ◌-◌, ◌*◌, ◌/◌, ◌%◌, List, [], ◌∷◌, map, Option, None, Some}
 use Rattle.std.specs.List.{before_first, filter}
 use Rattle.nm_decode.specs.Bytes.{is_between, is_byte}
 

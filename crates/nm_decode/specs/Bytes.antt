@@ -1,5 +1,5 @@
 -- Tests on bytes that more than one encoding uses.
-use Rattle.std.specs.Prelude.{ℕ, Bool, ◌||◌, ◌&&◌, ◌==◌, nat_lt, nat_le, if◌then◌else◌, ◌+◌, ◌-◌, ◌*◌}
+use Rattle.std.specs.Prelude.{ℕ, Bool, ◌||◌, ◌&&◌, ◌==◌, nat_lt, nat_le, if◌then◌else◌, ◌+◌, ◌-◌, ◌*◌, List, ◌∷◌, Option, None, Some}
 
 -- space, tab, CR or LF
 abbrev pub is_white : ℕ → Bool
@@ -24,3 +24,12 @@ hex_byte high low = hex_value high * 16 + hex_value low
 -- this byte
 abbrev pub is_byte : ℕ → ℕ → Bool
 is_byte wanted b = b == wanted
+
+-- the value of a hex digit, where it is one
+abbrev pub hex_of : ℕ → Option ℕ
+hex_of b = if is_hex b then Some (hex_value b) else None
+
+-- the byte of the two hex digits with which a text begins
+abbrev pub escape_of : List ℕ → Option ℕ
+escape_of (a ∷ b ∷ more) = if is_hex a && is_hex b then Some (hex_byte a b) else None
+escape_of _ = None

@@ -1,6 +1,7 @@
 pub mod Base64
 pub mod Bytes
 pub mod Charsets
-pub mod EscapeSteps
+pub mod EncodedWords
 pub mod GroupSteps
 pub mod QuotedPrintable
+pub mod WordSteps

@@ -3,10 +3,14 @@
 #![tactic(auto)]
 
 mod charset;
+mod decodes;
+mod fields;
 mod groups;
 mod quoted;
 mod scan;
+mod words;
 
 pub use charset::charset_text;
 pub use groups::base64_bytes;
 pub use quoted::quoted_printable;
+pub use words::encoded_words;

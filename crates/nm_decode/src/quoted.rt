@@ -1,7 +1,6 @@
 ghost use Rattle.std.specs.Prelude.{◌≡◌, ◌≤◌, ◌<◌, ◌++◌, ◌∷◌, List, ℕ, length, take, drop, IfOk, IfSome, OnOk, MatchOption};
-ghost use Rattle.nm_decode.specs.Bytes.{hex_value, is_hex, is_white};
+ghost use Rattle.nm_decode.specs.Bytes.{escape_of, hex_of, is_white};
 ghost use Rattle.nm_decode.specs.QuotedPrintable.{ends_with, line_bytes, lines_of, quoted_of, trimmed_end, unescaped};
-ghost use Rattle.nm_decode.specs.EscapeSteps.{escape_of, hex_of};
 
 use crate::scan::first_place;
 use nm_base::{Many, NoMemory};
@@ -97,7 +96,7 @@ pub(crate) fn push_unescaped(out: &mut Vec<u8>, text: &[u8]) -> Result<(), NoMem
 }
 
 /// The byte of the two hex digits with which a text begins.
-fn escape(text: &[u8]) -> Option<u8>
+pub(crate) fn escape(text: &[u8]) -> Option<u8>
     ensures value { result ≡ escape_of text.now }
     ensures room { IfSome result (λ _. 2 ≤ length text.now) }
 {

@@ -1,4 +1,4 @@
-use Rattle.std.proofs.Common.{sym, ◌∙◌, ap, rules, ◌++◌, ◌≡◌, arith, [], ◌∷◌}
+use Rattle.std.proofs.Common.{rules, ◌++◌, ◌≡◌, arith, ◌∷◌}
 use Rattle.std.proofs.lemmas.List.{nil_from_length}
 use Rattle.std.proofs.lemmas.Grind.{common_steps}
 use Rattle.std.specs.Str.{IsAscii}

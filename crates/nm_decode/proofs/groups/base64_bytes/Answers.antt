@@ -1,5 +1,5 @@
 use Rattle.std.proofs.Common.{ap, ◌∙◌, ◌+◌, ◌%◌, ◌++◌, arith, sym, refl, get_or, drop}
-use Rattle.nm_decode.proofs.GroupLemmas.{after-start, symbol-turn, other-turn, after, values}
+use Rattle.nm_decode.proofs.GroupLemmas.{after-start, symbol-turn, after, values}
 use Rattle.nm_decode.specs.Base64.{bytes_of_groups}
 use Rattle.nm_decode.proofs.groups.base64_bytes.Goals as goal
 
