@@ -8,7 +8,7 @@ use Rattle.nm_decode.specs.Bytes.{escape_of, hex_byte, is_byte, is_hex}
 use Rattle.nm_decode.specs.QuotedPrintable.{unescaped}
 
 -- a byte that is no `=` stands for itself
-unescaped-plain : (a : ℕ) (more : List ℕ) → eqb a 61 ≡ false → unescaped (a ∷ more) ≡ a ∷ unescaped more
+pub unescaped-plain : (a : ℕ) (more : List ℕ) → eqb a 61 ≡ false → unescaped (a ∷ more) ≡ a ∷ unescaped more
 unescaped-plain a [] e = refl
 unescaped-plain a (b ∷ []) e = refl
 unescaped-plain a (b ∷ c ∷ more) e = rw e refl

@@ -1,11 +1,12 @@
 -- Where encoded words stand, and the first of a text.
-use Rattle.std.proofs.Common.{◌≡◌, ℕ, zero, suc, ◌+◌, ◌-◌, ◌<◌, ◌≤◌, Bool, true, List, [], ◌∷◌, ◌++◌, Option, Some, None, length, take, drop, get_or, refl, sym, ap, ◌∙◌, subst, arith, append_assoc, zero-add, add-zero}
+use Rattle.std.proofs.Common.{◌≡◌, ℕ, zero, suc, ◌+◌, ◌-◌, ◌<◌, ◌≤◌, Bool, true, false, List, [], ◌∷◌, ◌++◌, Option, Some, None, length, take, drop, get_or, refl, sym, ap, ◌∙◌, subst, arith, append_assoc, zero-add, add-zero}
 use Rattle.std.proofs.lemmas.List.{at_drop_more, at_drop_all, get_or-drop, get_or_at, length-append, length-drop}
 use Rattle.std.proofs.lemmas.Str.{IsCharBoundary-after_ascii}
+use Rattle.std.specs.List.{flat_map}
 use Rattle.std.specs.Option.{option_map}
 use Rattle.std.specs.Str.{IsCharBoundary, IsUtf8}
-use Rattle.nm_decode.specs.EncodedWords.{cut_text, first_word, or_later, stretch_text, with_word, word_of}
-use Rattle.nm_decode.specs.WordSteps.{IsFramed, IsStretch}
+use Rattle.nm_decode.specs.EncodedWords.{between, cut_found, cut_words, first_word, joined, later_word, or_later, word_of}
+use Rattle.nm_decode.specs.WordSteps.{IsFramed, IsStretch, decoded_text, stretch_text, with_word}
 use Rattle.nm_decode.specs.declared.words.Found.{Found}
 use Rattle.nm_decode.specs.declared.words.Word.{Word}
 
@@ -86,24 +87,24 @@ found_none text at l g = g ∙ ap (later at) (at_drop_all first_word text at l)
 
 -- the turn of a loop over the words, and its end
 pub cut_turn : (out rest all : List ℕ) (n : ℕ) (follows : Bool) (found : Found) → first_word rest ≡ Some found
-    → IsStretch rest found.at (found.at + found.word.len) → length rest ≤ n → out ++ cut_text n follows rest ≡ all
+    → IsStretch rest found.at (found.at + found.word.len) → length rest ≤ n → out ++ decoded_text n follows rest ≡ all
     → (m : ℕ) × (length (drop (found.at + found.word.len) rest) ≤ m)
-    × (((out ++ stretch_text follows (take found.at rest)) ++ found.word.text) ++ cut_text m true (drop (found.at + found.word.len) rest) ≡ all)
+    × (((out ++ stretch_text follows (take found.at rest)) ++ found.word.text) ++ decoded_text m true (drop (found.at + found.word.len) rest) ≡ all)
 cut_turn out rest all zero follows found e s l g = absurd (omega (arith, s.rises, s.within))
 cut_turn out rest all (suc m) follows found e s l g =
     let end = found.at + found.word.len in
     let stretch = stretch_text follows (take found.at rest) in (
       m,
       omega (arith, length-drop end rest, s.rises, s.within),
-      append_assoc (out ++ stretch) found.word.text (cut_text m true (drop end rest))
-          ∙ append_assoc out stretch (found.word.text ++ cut_text m true (drop end rest))
-          ∙ ap (λ o. out ++ with_word (cut_text m true) follows rest o) (sym e)
+      append_assoc (out ++ stretch) found.word.text (decoded_text m true (drop end rest))
+          ∙ append_assoc out stretch (found.word.text ++ decoded_text m true (drop end rest))
+          ∙ ap (λ o. out ++ with_word (decoded_text m true) follows rest o) (sym e)
           ∙ g,
     )
 
-pub cut_end : (out rest all : List ℕ) (n : ℕ) (follows : Bool) → first_word rest ≡ None → out ++ cut_text n follows rest ≡ all → out ++ rest ≡ all
+pub cut_end : (out rest all : List ℕ) (n : ℕ) (follows : Bool) → first_word rest ≡ None → out ++ decoded_text n follows rest ≡ all → out ++ rest ≡ all
 cut_end out rest all zero follows e g = g
-cut_end out rest all (suc n) follows e g = ap (λ o. out ++ with_word (cut_text n true) follows rest o) (sym e) ∙ g
+cut_end out rest all (suc n) follows e g = ap (λ o. out ++ with_word (decoded_text n true) follows rest o) (sym e) ∙ g
 
 -- a text may be cut behind a stretch
 pub stretch_end : (text : List ℕ) (from to : ℕ) → IsUtf8 text → IsStretch text from to → IsCharBoundary text to
@@ -113,3 +114,28 @@ stretch_end text from to u s =
     let e : to - 1 + 1 ≡ to = omega arith in
     let P : ℕ → Type 0 = λ i. IsCharBoundary text i in
     subst P e (IsCharBoundary-after_ascii text (to - 1) u (omega arith) (omega (arith, s.last)))
+
+-- word by word, behind another word, is the rest of the cut
+abbrev IsRest : ℕ → List ℕ → Type 0
+IsRest n text = decoded_text n true text ≡ flat_map later_word (cut_words n text).words ++ (cut_words n text).last
+
+rest_found : (n : ℕ) (text : List ℕ) (o : Option Found) → ((xs : List ℕ) → IsRest n xs)
+    → with_word (decoded_text n true) true text o ≡ flat_map later_word (cut_found (cut_words n) text o).words ++ (cut_found (cut_words n) text o).last
+rest_found n text None h = refl
+rest_found n text (Some found) h =
+    let rest = drop (found.at + found.word.len) text in
+    ap (λ xs. between (take found.at text) ++ (found.word.text ++ xs)) (h rest) ∙ simp append_assoc
+
+rest_is : (n : ℕ) (text : List ℕ) → IsRest n text
+rest_is zero text = refl
+rest_is (suc n) text = rest_found n text (first_word text) (rest_is n)
+
+whole_found : (n : ℕ) (text : List ℕ) (o : Option Found)
+    → with_word (decoded_text n true) false text o ≡ joined (cut_found (cut_words n) text o).words (cut_found (cut_words n) text o).last
+whole_found n text None = refl
+whole_found n text (Some found) = ap (λ xs. take found.at text ++ (found.word.text ++ xs)) (rest_is n (drop (found.at + found.word.len) text))
+
+-- word by word from the start is the whole text
+pub decoded_whole : (n : ℕ) (text : List ℕ) → decoded_text n false text ≡ joined (cut_words n text).words (cut_words n text).last
+decoded_whole zero text = refl
+decoded_whole (suc n) text = whole_found n text (first_word text)

@@ -1,6 +1,6 @@
 -- Encoded words in header text (RFC 2047, sections 2 and 6.2).
 use Rattle.std.specs.Prelude.{ℕ, zero, suc, Bool, true, false, not, ◌&&◌, ◌||◌, ◌==◌, if◌then◌else◌, ◌+◌, List, [], ◌∷◌, ◌++◌, length, take, drop, map, Option, None, Some}
-use Rattle.std.specs.List.{before_first, list_all, slice_split}
+use Rattle.std.specs.List.{before_first, flat_map, list_all, slice_split}
 use Rattle.std.specs.Option.{is_some, option_and_then, option_map}
 use Rattle.std.specs.Result.{result_ok}
 use Rattle.base64.specs.Engines.{standard}
@@ -81,21 +81,39 @@ abbrev pub first_word : List ℕ → Option Found
 first_word [] = None
 first_word (b ∷ more) = or_later (word_of (b ∷ more)) (first_word more)
 
--- a stretch between words: where a word stands before it too, white space alone is dropped
-abbrev pub stretch_text : Bool → List ℕ → List ℕ
-stretch_text follows stretch = if follows && list_all is_white stretch then [] else stretch
+-- a text cut into encoded words that decode and the stretches between them: each word's text with the stretch before
+-- it, in order, and the stretch behind the last word
+pub record Cut : Type 0 where
+  pub words : List (List ℕ × List ℕ)
+  pub last : List ℕ
 
--- a text with the first word found in it; `behind` says what becomes of the text behind that word
-abbrev pub with_word : (List ℕ → List ℕ) → Bool → List ℕ → Option Found → List ℕ
-with_word behind follows text None = text
-with_word behind follows text (Some found) = stretch_text follows (take found.at text)
-    ++ (found.word.text ++ behind (drop (found.at + found.word.len) text))
+-- one word more at the front
+abbrev pub and_then_cut : List ℕ → List ℕ → Cut → Cut
+and_then_cut stretch word cut = record { words = (stretch, word) ∷ cut.words; last = cut.last }
 
--- the text, cut into its first n words that decode and the stretches between them; `follows`: a word stands before it
-abbrev pub cut_text : ℕ → Bool → List ℕ → List ℕ
-cut_text zero follows text = text
-cut_text (suc n) follows text = with_word (cut_text n true) follows text (first_word text)
+-- the cut at a word that was found, with the cut of what follows it
+abbrev pub cut_found : (List ℕ → Cut) → List ℕ → Option Found → Cut
+cut_found cut_rest text None = record { words = []; last = text }
+cut_found cut_rest text (Some found) = and_then_cut (take found.at text) found.word.text (cut_rest (drop (found.at + found.word.len) text))
 
--- the text with its encoded words decoded
+-- the cut at the first n words that decode, each sought behind the one before it
+abbrev pub cut_words : ℕ → List ℕ → Cut
+cut_words zero text = record { words = []; last = text }
+cut_words (suc n) text = cut_found (cut_words n) text (first_word text)
+
+-- a stretch between two words: white space alone goes
+abbrev pub between : List ℕ → List ℕ
+between stretch = if list_all is_white stretch then [] else stretch
+
+-- a word behind another, with the stretch between them
+abbrev pub later_word : List ℕ × List ℕ → List ℕ
+later_word piece = between piece.0 ++ piece.1
+
+-- the text of a cut: its words decoded
+abbrev pub joined : List (List ℕ × List ℕ) → List ℕ → List ℕ
+joined [] last = last
+joined (piece ∷ more) last = piece.0 ++ (piece.1 ++ (flat_map later_word more ++ last))
+
+-- the text with its encoded words decoded: it has no more words than bytes
 abbrev pub unworded : List ℕ → List ℕ
-unworded text = cut_text (length text) false text
+unworded text = let cut = cut_words (length text) text in joined cut.words cut.last

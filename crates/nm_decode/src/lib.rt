@@ -6,8 +6,11 @@ mod charset;
 mod decodes;
 mod fields;
 mod groups;
+mod laws;
 mod quoted;
 mod scan;
+#[cfg(test)]
+mod tests;
 mod words;
 
 pub use charset::charset_text;

@@ -1,8 +1,8 @@
 ghost use Rattle.std.specs.Prelude.{◌≡◌, ◌+◌, ◌++◌, IfOk, IfSome, OnOk, string_bytes};
 ghost use Rattle.std.specs.List.{list_all};
 ghost use Rattle.nm_decode.specs.Bytes.{is_white};
-ghost use Rattle.nm_decode.specs.WordSteps.{IsStretch};
-ghost use Rattle.nm_decode.specs.EncodedWords.{first_word, stretch_text, unworded, word_of};
+ghost use Rattle.nm_decode.specs.WordSteps.{IsStretch, stretch_text};
+ghost use Rattle.nm_decode.specs.EncodedWords.{first_word, unworded, word_of};
 
 use crate::decodes::word_text;
 use crate::fields::fields;

@@ -1,9 +1,19 @@
-use Rattle.std.proofs.Common.{◌≡◌, ◌+◌, ◌++◌, ℕ, List, Some, sym, ◌∙◌, ap, subst, arith, rules, length, take, drop, true, string_bytes}
+use Rattle.std.proofs.Common.{◌≡◌, ◌+◌, ◌++◌, ℕ, List, Some, sym, ◌∙◌, ap, subst, arith, rules, length, take, drop, true, false, string_bytes}
 use Rattle.std.specs.Str.{IsUtf8}
-use Rattle.nm_decode.specs.EncodedWords.{cut_text, first_word, stretch_text}
-use Rattle.nm_decode.specs.WordSteps.{IsStretch}
-use Rattle.nm_decode.proofs.WordLemmas.{cut_turn, stretch_end}
+use Rattle.nm_decode.specs.EncodedWords.{first_word}
+use Rattle.nm_decode.specs.WordSteps.{IsStretch, decoded_text, stretch_text}
+use Rattle.nm_decode.proofs.WordLemmas.{cut_turn, decoded_whole, stretch_end}
 use Rattle.nm_decode.proofs.words.encoded_words.Goals as goal
+
+pub words-init : goal.words-init
+words-init c = record {
+  utf8 = c.utf8.text;
+  shown = (
+    length c.args.text.now,
+    omega arith,
+    ap (λ xs. xs ++ decoded_text (length c.args.text.now) false c.args.text.now) c.in_ok-out.ensures.bytes ∙ decoded_whole (length c.args.text.now) c.args.text.now,
+  );
+}
 
 pub range_from-rest-requires : goal.range_from-rest-requires
 range_from-rest-requires c =
@@ -37,6 +47,6 @@ words-preserved c =
       shown = (
         t.0,
         omega (arith, ap length w, t.1),
-        ap (λ xs. string_bytes c.push_str.new.self ++ cut_text t.0 true xs) w ∙ ap (λ xs. xs ++ cut_text t.0 true (drop end rest)) grown ∙ t.2,
+        ap (λ xs. string_bytes c.push_str.new.self ++ decoded_text t.0 true xs) w ∙ ap (λ xs. xs ++ decoded_text t.0 true (drop end rest)) grown ∙ t.2,
       );
     }
