@@ -10,7 +10,7 @@ use Rattle.nm_decode.specs.Base64.{base64_of, bytes_of_groups, is_symbol, kept, 
 use Rattle.nm_decode.specs.Bytes.{is_byte}
 
 -- the character of six bits
-abbrev symbol_at : ℕ → ℕ
+abbrev pub symbol_at : ℕ → ℕ
 symbol_at v = slice_index (engine_symbols standard) v
 
 -- it counts, it has these bits, and it isn't `=`
@@ -29,7 +29,7 @@ below-step : (p : ℕ → Bool) (n v : ℕ) → v < suc n → (v < n) ⊎ (n ≤
 below-step p n v l (inl k) e h = h k
 below-step p n v l (inr k) e h = let q : v ≡ n = omega arith in ap p q ∙ e
 
-below : (p : ℕ → Bool) (n v : ℕ) → v < n → all_below p n ≡ true → p v ≡ true
+pub below : (p : ℕ → Bool) (n v : ℕ) → v < n → all_below p n ≡ true → p v ≡ true
 below p zero v l e = absurd (omega arith)
 below p (suc n) v l e =
     let h = both (p n) (all_below p n) e in
@@ -51,7 +51,7 @@ filter-keep : (s : ℕ) (rest : List ℕ) → is_symbol s ≡ true → filter is
 filter-keep s rest h = ap (λ t. cond t (s ∷ filter is_symbol rest) (filter is_symbol rest)) h
 
 -- numbers of six bits
-abbrev Small : List ℕ → Type 0
+abbrev pub Small : List ℕ → Type 0
 Small [] = Unit {0}
 Small (v ∷ vs) = (v < 64) × Small vs
 
@@ -74,13 +74,13 @@ kept-back (v ∷ vs) k h =
     ∙ ap (λ xs. v ∷ xs) (kept-back vs k h.1)
 
 -- the six bits of the characters of a message
-abbrev sextets : List ℕ → List ℕ
+abbrev pub sextets : List ℕ → List ℕ
 sextets [] = []
 sextets (a ∷ []) = (a / 4) ∷ (a % 4 * 16) ∷ []
 sextets (a ∷ b ∷ []) = (a / 4) ∷ (a % 4 * 16 + b / 16) ∷ (b % 16 * 4) ∷ []
 sextets (a ∷ b ∷ c ∷ rest) = (a / 4) ∷ (a % 4 * 16 + b / 16) ∷ (b % 16 * 4 + c / 64) ∷ (c % 64) ∷ sextets rest
 
-symbols-are : (m : List ℕ) → encode_symbols (engine_symbols standard) m ≡ map symbol_at (sextets m)
+pub symbols-are : (m : List ℕ) → encode_symbols (engine_symbols standard) m ≡ map symbol_at (sextets m)
 unfolding encode_symbols
 symbols-are [] = refl
 symbols-are (a ∷ []) = refl
@@ -88,7 +88,7 @@ symbols-are (a ∷ b ∷ []) = refl
 symbols-are (a ∷ b ∷ c ∷ rest) =
     ap (λ xs. symbol_at (a / 4) ∷ symbol_at (a % 4 * 16 + b / 16) ∷ symbol_at (b % 16 * 4 + c / 64) ∷ symbol_at (c % 64) ∷ xs) (symbols-are rest)
 
-small-sextets : (m : List ℕ) → ((i : ℕ) → get_or m i 0 < 256) → Small (sextets m)
+pub small-sextets : (m : List ℕ) → ((i : ℕ) → get_or m i 0 < 256) → Small (sextets m)
 small-sextets [] h = tt
 small-sextets (a ∷ []) h = (omega (arith, h 0), (omega (arith, h 0), tt))
 small-sextets (a ∷ b ∷ []) h = (omega (arith, h 0), (omega (arith, h 0, h 1), (omega (arith, h 1), tt)))

@@ -7,4 +7,5 @@ pub mod Pieces
 pub mod QTexts
 pub mod QuotedLaw
 pub mod Spelling
+pub mod WordLaw
 pub mod WordLemmas

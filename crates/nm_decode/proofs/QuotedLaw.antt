@@ -10,7 +10,7 @@ use Rattle.nm_decode.specs.QuotedPrintable.{ends_with, line_bytes, lines_of, quo
 use Rattle.nm_decode.proofs.Escapes.{unescaped-plain}
 
 -- hex digits
-digit-hex : (n : ℕ) → n < 16 → is_hex (hex_digit n) ≡ true
+pub digit-hex : (n : ℕ) → n < 16 → is_hex (hex_digit n) ≡ true
 digit-hex n h = grind (arith, nat_tests)
 
 digit-value : (n : ℕ) → n < 16 → hex_value (hex_digit n) ≡ n
@@ -40,7 +40,7 @@ back-step plain b rest bytes false k e h f =
     let y : b % 16 < 16 = omega arith in
     rw e (escaped-byte (hex_digit (b / 16)) (hex_digit (b % 16)) b rest bytes (digit-hex (b / 16) x) (digit-hex (b % 16) y) (byte-back b h) f)
 
-unescaped-back : (plain : ℕ → Bool) (bytes : List ℕ) → IsPlainTest plain → ((i : ℕ) → get_or bytes i 0 < 256) → unescaped (quoted_line plain bytes) ≡ bytes
+pub unescaped-back : (plain : ℕ → Bool) (bytes : List ℕ) → IsPlainTest plain → ((i : ℕ) → get_or bytes i 0 < 256) → unescaped (quoted_line plain bytes) ≡ bytes
 unescaped-back plain [] k h = refl
 unescaped-back plain (b ∷ bytes) k h = back-step plain b (quoted_line plain bytes) bytes (plain b) k refl (h 0) (unescaped-back plain bytes k (λ i. h (suc i)))
 

@@ -5,7 +5,7 @@ ghost use Rattle.base64.specs.Engines.{standard};
 ghost use Rattle.base64.specs.GeneralPurpose.{encode_of};
 ghost use Rattle.nm_decode.specs.Base64.{base64_of};
 ghost use Rattle.nm_decode.specs.EncodedWords.{unworded};
-ghost use Rattle.nm_decode.specs.Laws.{IsPlainTest, has_mark, quoted_line};
+ghost use Rattle.nm_decode.specs.Laws.{IsPlainTest, IsQTest, b_word, has_mark, q_word, quoted_line};
 ghost use Rattle.nm_decode.specs.QuotedPrintable.{quoted_of};
 
 /// A text in which no `=?` stands stays as it is.
@@ -31,4 +31,18 @@ pub fn quoted_printable_reads_back(bytes: &[u8], behind: &[u8])
 {
     let _ = bytes;
     let _ = behind;
+}
+
+/// Any text as one encoded word in B reads back as the text.
+pub fn a_b_word_reads_back(text: &str)
+    ensures { unworded (b_word text.now) ≡ text.now }
+{
+    let _ = text.as_bytes();
+}
+
+/// Any text as one encoded word in Q reads back as the text, whichever of its bytes stand for themselves.
+pub fn a_q_word_reads_back(text: &str)
+    ensures { (plain : ℕ → Bool) → IsQTest plain → unworded (q_word plain text.now) ≡ text.now }
+{
+    let _ = text.as_bytes();
 }
