@@ -44,10 +44,12 @@ word_text charset letter text = if is_field charset && is_field text
     then option_map (λ bytes. text_of bytes (before_first (is_byte 42) charset)) (word_bytes letter text)
     else None
 
+-- `=` alone
 abbrev pub is_equals : List ℕ → Bool
 is_equals (a ∷ []) = a == 61
 is_equals _ = false
 
+-- the first piece begins with `=`
 abbrev pub begins_with_equals : List (List ℕ) → Bool
 begins_with_equals ((a ∷ more) ∷ pieces) = a == 61
 begins_with_equals _ = false
@@ -56,8 +58,8 @@ begins_with_equals _ = false
 abbrev pub pieces_of : List ℕ → List (List ℕ)
 pieces_of text = slice_split (is_byte 63) text
 
--- The charset, the letter and the encoded text of the word with which a text begins, by its pieces: `=`, the
--- charset, the letter, the encoded text, and a piece that begins with `=`.
+-- the charset, the letter and the encoded text of the word with which a text begins, by its pieces: `=`, the charset,
+-- the letter, the encoded text, and a piece that begins with `=`
 abbrev pub fields_of : List (List ℕ) → Option (List ℕ × List ℕ × List ℕ)
 fields_of (first ∷ charset ∷ letter ∷ text ∷ more) =
     if is_equals first && begins_with_equals more then Some (charset, letter, text) else None
