@@ -1,0 +1,11 @@
+pub mod Base64Law
+pub mod Escapes
+pub mod GroupLemmas
+pub mod Lines
+pub mod MarkLaw
+pub mod Pieces
+pub mod QTexts
+pub mod QuotedLaw
+pub mod Spelling
+pub mod WordLaw
+pub mod WordLemmas

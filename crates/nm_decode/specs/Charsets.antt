@@ -1,0 +1,36 @@
+-- Charsets (RFC 2045, section 2.2; RFC 2046, section 4.1.2): the text that bytes spell under a label.
+use Rattle.std.specs.Prelude.{ℕ, Bool, ◌||◌, nat_lt, if◌then◌else◌, List, map, codes}
+use Rattle.std.specs.Char.{to_ascii_lowercase}
+use Rattle.std.specs.Str.{bytes_eq, encode_utf8_all}
+use Rattle.std.specs.Str.Lossy.{utf8_lossy}
+use Rattle.nm_decode.specs.declared.charset.Charset.{Charset}
+use Rattle.nm_decode.specs.declared.charset.Charset.TheVariants.{Ascii, Latin1, Utf8}
+
+-- the two are one, without ASCII case
+abbrev pub is_label : List ℕ → List ℕ → Bool
+is_label label name = bytes_eq (map to_ascii_lowercase label) (map to_ascii_lowercase name)
+
+-- the charset of a label: one row a charset
+abbrev pub charset_of : List ℕ → Charset
+charset_of label =
+    if is_label label (codes "utf-8") || is_label label (codes "utf8") then Utf8
+    else (if is_label label (codes "iso-8859-1") || is_label label (codes "latin1") then Latin1
+    else Ascii)
+
+-- the character of a byte in a charset of one byte a character: one row a charset, and ASCII, with U+FFFD above 0x7F
+abbrev pub char_in : Charset → ℕ → ℕ
+char_in Latin1 b = b
+char_in _ b = if nat_lt b 128 then b else 0xFFFD
+
+-- the text of bytes that stand for a character each
+abbrev pub spelt_in : Charset → List ℕ → List ℕ
+spelt_in charset bytes = encode_utf8_all (map (char_in charset) bytes)
+
+-- the text of bytes in a charset; damaged UTF-8 is U+FFFD for each maximal piece
+abbrev pub text_in : Charset → List ℕ → List ℕ
+text_in Utf8 bytes = utf8_lossy bytes
+text_in charset bytes = spelt_in charset bytes
+
+-- the text of bytes under a label
+abbrev pub text_of : List ℕ → List ℕ → List ℕ
+text_of bytes label = text_in (charset_of label) bytes

@@ -1,0 +1,40 @@
+-- What the definitions have to satisfy: encodings read back, and texts without words stay.
+use Rattle.std.specs.Prelude.{◌≡◌, ◌≢◌, ℕ, Bool, true, false, ◌&&◌, ◌||◌, ◌==◌, ◌+◌, ◌/◌, ◌%◌, nat_lt, if◌then◌else◌, List, [], ◌∷◌, ◌++◌, codes}
+use Rattle.std.specs.List.{flat_map}
+use Rattle.base64.specs.Engines.{standard}
+use Rattle.base64.specs.GeneralPurpose.{encode_of}
+use Rattle.nm_decode.specs.Bytes.{is_white}
+
+-- a `=?` stands somewhere in the text
+abbrev pub has_mark : List ℕ → Bool
+has_mark [] = false
+has_mark (a ∷ []) = false
+has_mark (a ∷ b ∷ more) = a == 61 && b == 63 || has_mark (b ∷ more)
+
+-- bytes that may stand for themselves in quoted-printable: neither `=` nor white space
+abbrev pub IsPlainTest : (ℕ → Bool) → Type 0
+IsPlainTest plain = (b : ℕ) → plain b ≡ true → (b ≢ 61) × (is_white b ≡ false)
+
+-- the hex digit of a number below 16
+abbrev pub hex_digit : ℕ → ℕ
+hex_digit n = if nat_lt n 10 then n + 48 else n + 55
+
+-- a byte in quoted-printable: itself, or `=` and two hex digits
+abbrev pub quoted_byte : (ℕ → Bool) → ℕ → List ℕ
+quoted_byte plain b = if plain b then b ∷ [] else 61 ∷ hex_digit (b / 16) ∷ hex_digit (b % 16) ∷ []
+
+-- bytes in quoted-printable, on one line
+abbrev pub quoted_line : (ℕ → Bool) → List ℕ → List ℕ
+quoted_line plain bytes = flat_map (quoted_byte plain) bytes
+
+-- a text as one encoded word in B
+abbrev pub b_word : List ℕ → List ℕ
+b_word text = codes "=?utf-8?B?" ++ (encode_of standard text ++ codes "?=")
+
+-- bytes that may stand for themselves in Q: neither `=`, `?`, `_` nor white space
+abbrev pub IsQTest : (ℕ → Bool) → Type 0
+IsQTest plain = (b : ℕ) → plain b ≡ true → (b ≢ 61) × (is_white b ≡ false) × (b ≢ 63) × (b ≢ 95)
+
+-- a text as one encoded word in Q
+abbrev pub q_word : (ℕ → Bool) → List ℕ → List ℕ
+q_word plain text = codes "=?utf-8?Q?" ++ (quoted_line plain text ++ codes "?=")

@@ -1,0 +1,33 @@
+-- Encoded words, step by step: what the private functions say.
+use Rattle.std.specs.Prelude.{◌≡◌, ℕ, zero, suc, ◌+◌, ◌-◌, ◌<◌, ◌≤◌, Bool, true, ◌&&◌, if◌then◌else◌, List, [], ◌∷◌, ◌++◌, length, take, drop, Option, None, Some, slice_index}
+use Rattle.std.specs.List.{list_all}
+use Rattle.nm_decode.specs.Bytes.{is_white}
+use Rattle.nm_decode.specs.EncodedWords.{first_word}
+use Rattle.nm_decode.specs.declared.words.Found.{Found}
+
+-- the text begins with `=?charset?letter?encoded?=`
+abbrev pub IsFramed : List ℕ → List ℕ → List ℕ → List ℕ → Type 0
+IsFramed text charset letter encoded = (behind : List ℕ)
+    × (text ≡ 61 ∷ 63 ∷ (charset ++ (63 ∷ (letter ++ (63 ∷ (encoded ++ (63 ∷ 61 ∷ behind)))))))
+
+-- a stretch of the text that begins and ends with `=`
+pub record IsStretch (text : List ℕ) (from to : ℕ) : Type 0 where
+  pub rises : from < to
+  pub within : to ≤ length text
+  pub first : slice_index text from ≡ 61
+  pub last : slice_index text (to - 1) ≡ 61
+
+-- a stretch before a word; `follows`: a word stands before it too
+abbrev pub stretch_text : Bool → List ℕ → List ℕ
+stretch_text follows stretch = if follows && list_all is_white stretch then [] else stretch
+
+-- a text with the first word found in it; `behind` says what becomes of the text behind that word
+abbrev pub with_word : (List ℕ → List ℕ) → Bool → List ℕ → Option Found → List ℕ
+with_word behind follows text None = text
+with_word behind follows text (Some found) = stretch_text follows (take found.at text)
+    ++ (found.word.text ++ behind (drop (found.at + found.word.len) text))
+
+-- a text with its first n words decoded; `follows`: a word stands before it
+abbrev pub decoded_text : ℕ → Bool → List ℕ → List ℕ
+decoded_text zero follows text = text
+decoded_text (suc n) follows text = with_word (decoded_text n true) follows text (first_word text)

@@ -1,0 +1,96 @@
+ghost use Rattle.std.specs.Prelude.{◌≡◌, map, IfOk};
+ghost use Rattle.nm_decode.specs.EncodedWords.{b_bytes, is_field, is_q_text, q_bytes, spaced, word_bytes, word_text};
+
+use crate::charset::{labelled, read_text};
+use crate::quoted::{escape, push_unescaped, white};
+use crate::scan::first_place;
+use base64::DecodeAllocError;
+use base64::engine::general_purpose::STANDARD;
+use nm_base::{Many, NoMemory, Text};
+use std::alloc::Global;
+
+/// The text of an encoded word by its fields, or none where it doesn't decode.
+pub(crate) fn word_text(
+    alloc: Global,
+    charset: &[u8],
+    letter: &[u8],
+    encoded: &[u8],
+) -> Result<Option<Text>, NoMemory>
+    ensures { IfOk result (λ text. text ≡ word_text charset.now letter.now encoded.now) }
+{
+    if !is_field(charset) || !is_field(encoded) {
+        return Ok(None);
+    }
+    let Some(bytes) = word_bytes(alloc, letter, encoded)? else {
+        return Ok(None);
+    };
+    let label = &charset[..first_place(charset, b'*')];
+    Ok(Some(read_text(alloc, labelled(label), bytes.as_slice())?))
+}
+
+fn is_field(field: &[u8]) -> bool
+    ensures { result ≡ is_field field.now }
+{
+    field.iter().all(|byte| !white(*byte))
+}
+
+fn word_bytes(alloc: Global, letter: &[u8], encoded: &[u8]) -> Result<Option<Many<u8>>, NoMemory>
+    ensures { IfOk result (λ bytes. bytes ≡ word_bytes letter.now encoded.now) }
+{
+    match letter {
+        [b'B' | b'b'] => b_bytes(alloc, encoded),
+        [b'Q' | b'q'] => q_bytes(alloc, encoded),
+        _ => Ok(None),
+    }
+}
+
+fn b_bytes(alloc: Global, encoded: &[u8]) -> Result<Option<Many<u8>>, NoMemory>
+    ensures { IfOk result (λ bytes. bytes ≡ b_bytes encoded.now) }
+{
+    match STANDARD.decode(alloc, encoded) {
+        Ok(bytes) => Ok(Some(Many::from_vec(bytes))),
+        Err(DecodeAllocError::DecodeError(_)) => Ok(None),
+        Err(DecodeAllocError::OutOfMemory) => Err(NoMemory),
+    }
+}
+
+fn q_bytes(alloc: Global, encoded: &[u8]) -> Result<Option<Many<u8>>, NoMemory>
+    ensures { IfOk result (λ bytes. bytes ≡ q_bytes encoded.now) }
+{
+    if !is_q_text(encoded) {
+        return Ok(None);
+    }
+    let text = spaces(alloc, encoded)?;
+    let mut out = Vec::with_capacity(alloc, encoded.len())?;
+    push_unescaped(&mut out, text.as_slice())?;
+    Ok(Some(Many::from_vec(out)))
+}
+
+fn spaces(alloc: Global, encoded: &[u8]) -> Result<Many<u8>, NoMemory>
+    ensures { IfOk result (λ text. text ≡ map spaced encoded.now) }
+{
+    let text = encoded.iter().map(|byte| space(*byte)).collect(alloc)?;
+    Ok(Many::from_vec(text))
+}
+
+fn space(byte: u8) -> u8
+    ensures { result ≡ spaced byte }
+{
+    if byte == b'_' { b' ' } else { byte }
+}
+
+fn is_q_text(encoded: &[u8]) -> bool
+    ensures { result ≡ is_q_text encoded.now }
+{
+    let mut rest = encoded;
+    'marks: loop {
+        let (_, behind) = rest.split_at(first_place(rest, b'='));
+        let Some((_, more)) = behind.split_first() else {
+            return true;
+        };
+        let Some(_) = escape(more) else {
+            return false;
+        };
+        rest = more;
+    }
+}

@@ -1,0 +1,121 @@
+ghost use Rattle.std.specs.Prelude.{◌≡◌, ◌≤◌, ◌<◌, ◌++◌, ◌∷◌, List, ℕ, length, take, drop, IfOk, IfSome, OnOk, MatchOption};
+ghost use Rattle.nm_decode.specs.Bytes.{escape_of, hex_of, is_white};
+ghost use Rattle.nm_decode.specs.QuotedPrintable.{ends_with, line_bytes, lines_of, quoted_of, trimmed_end, unescaped};
+
+use crate::scan::first_place;
+use nm_base::{Many, NoMemory};
+use std::alloc::Global;
+
+/// The bytes of a quoted-printable body (RFC 2045, section 6.7), line by line: white space at a line's end is dropped,
+/// a `=` at its end takes the line end with it, `=` and two hex digits are a byte, any other `=` stands for itself.
+pub fn quoted_printable(alloc: Global, bytes: &[u8]) -> Result<Many<u8>, NoMemory>
+    ensures { IfOk result (λ many. many ≡ quoted_of bytes.now) }
+{
+    let mut out = Vec::with_capacity(alloc, bytes.len())?;
+    let mut rest = bytes;
+    'lines: while !rest.is_empty() {
+        let (line, more) = rest.split_at(line_len(rest));
+        push_line(&mut out, line)?;
+        rest = more;
+    }
+    Ok(Many::from_vec(out))
+}
+
+/// The length of the first line with its LF.
+fn line_len(bytes: &[u8]) -> usize
+    requires { 0 < length bytes.now }
+    ensures some { 0 < result }
+    ensures within { result ≤ length bytes.now }
+    ensures line { lines_of bytes.now ≡ take result bytes.now ∷ lines_of (drop result bytes.now) }
+{
+    let at = first_place(bytes, b'\n');
+    if at < bytes.len() { at + 1 } else { at }
+}
+
+fn push_line(out: &mut Vec<u8>, line: &[u8]) -> Result<(), NoMemory>
+    ensures { OnOk result (out.new.items ≡ out.old.items ++ line_bytes line.now) }
+{
+    let content = trimmed(line);
+    if has_last(content, b'=') {
+        return push_unescaped(out, &content[..content.len() - 1]);
+    }
+    push_unescaped(out, content)?;
+    if has_last(line, b'\n') {
+        out.push(b'\n')?;
+    }
+    Ok(())
+}
+
+fn trimmed(line: &[u8]) -> &[u8]
+    ensures { result.now ≡ trimmed_end line.now }
+{
+    let mut len = line.len();
+    'ends: while len > 0 && white(line[len - 1]) {
+        len -= 1;
+    }
+    &line[..len]
+}
+
+pub(crate) fn white(byte: u8) -> bool
+    ensures { result ≡ is_white byte }
+{
+    matches!(byte, b' ' | b'\t' | b'\r' | b'\n')
+}
+
+fn has_last(line: &[u8], byte: u8) -> bool
+    ensures { result ≡ ends_with byte line.now }
+{
+    match line.last() {
+        Some(last) => *last == byte,
+        None => false,
+    }
+}
+
+/// Runs of plain bytes go over in one piece.
+pub(crate) fn push_unescaped(out: &mut Vec<u8>, text: &[u8]) -> Result<(), NoMemory>
+    ensures { OnOk result (out.new.items ≡ out.old.items ++ unescaped text.now) }
+{
+    let mut rest = text;
+    'escapes: loop {
+        let (run, behind) = rest.split_at(first_place(rest, b'='));
+        out.extend_from_slice(run)?;
+        let Some((equals, more)) = behind.split_first() else {
+            return Ok(());
+        };
+        match escape(more) {
+            Some(byte) => {
+                out.push(byte)?;
+                rest = &more[2..];
+            }
+            None => {
+                out.push(*equals)?;
+                rest = more;
+            }
+        }
+    }
+}
+
+/// The byte of the two hex digits with which a text begins.
+pub(crate) fn escape(text: &[u8]) -> Option<u8>
+    ensures value { result ≡ escape_of text.now }
+    ensures room { IfSome result (λ _. 2 ≤ length text.now) }
+{
+    let [high, low, ..] = text else {
+        return None;
+    };
+    let high = hex(*high)?;
+    let low = hex(*low)?;
+    Some(high * 16 + low)
+}
+
+fn hex(byte: u8) -> Option<u8>
+    ensures value { result ≡ hex_of byte }
+    ensures small { IfSome result (λ digit. digit < 16) }
+{
+    match byte {
+        b'0'..=b'9' => Some(byte - 48),
+        b'A'..=b'F' => Some(byte - 55),
+        b'a'..=b'f' => Some(byte - 87),
+        _ => None,
+    }
+}
