@@ -2,3 +2,4 @@ pub mod ReadLemmas
 pub mod SetLemmas
 pub mod FoldLemmas
 pub mod NewLemmas
+pub mod RunLemmas

@@ -2,6 +2,7 @@ pub mod Line
 pub mod Mail
 pub mod NewLine
 pub mod Reading
+pub mod RunLog
 pub mod Session
 pub mod State
 pub mod Steps

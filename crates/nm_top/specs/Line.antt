@@ -24,12 +24,12 @@ IsReply requests.New old noted text new = IsNew old noted text new
 IsReply (requests.Count ask) old noted text new = (noted ≡ []) × (new ≡ old) × (text ≡ count_text ask.query old.index.files)
 
 -- How a line may end. A refused line has its cause, and leaves the index as it was.
-abbrev pub IsAnswer : Outcome → State → ScriptLine → List Given → List ℕ → State → Type 0
-IsAnswer outcomes.Ok old line noted text new = (request : Request) × (asked_of line.text ≡ asked.Request request) × IsReply request old noted text new
+abbrev pub IsAnswer : Outcome → State → List ℕ → List Given → List ℕ → State → Type 0
+IsAnswer outcomes.Ok old line noted text new = (request : Request) × (asked_of line ≡ asked.Request request) × IsReply request old noted text new
 IsAnswer (outcomes.Usage word kind) old line noted text new =
-    (asked_of line.text ≡ asked.Usage word kind) × (noted ≡ []) × (new ≡ old) × (text ≡ refusal_line (outcomes.Usage word kind))
+    (asked_of line ≡ asked.Usage word kind) × (noted ≡ []) × (new ≡ old) × (text ≡ refusal_line (outcomes.Usage word kind))
 IsAnswer outcomes.MailFault old line noted text new =
-    (asked_of line.text ≡ asked.Request requests.New) × Rose old.faults new.faults × (new.index ≡ old.index) × (text ≡ refusal_line outcomes.MailFault)
+    (asked_of line ≡ asked.Request requests.New) × Rose old.faults new.faults × (new.index ≡ old.index) × (text ≡ refusal_line outcomes.MailFault)
 IsAnswer outcomes.NoMemory old line noted text new = (new.index ≡ old.index) × (text ≡ refusal_line outcomes.NoMemory)
 
 -- Of listed paths only such as the index lacks are read, each once, in their order.
@@ -46,7 +46,7 @@ pub record Answers (old : State) (line : ScriptLine) (log : LineLog) (new : Stat
   pub number : log.line ≡ line.number
   pub revision : log.revision ≡ new.index.revision
   pub status : log.status ≡ status_of log.outcome
-  pub answer : IsAnswer log.outcome old line log.given log.text new
+  pub answer : IsAnswer log.outcome old line.text log.given log.text new
   pub told : IfSome old.tree (λ t. AllByRecursion (IsTold t) log.given)
   pub tree : new.tree ≡ old.tree
   pub reads : ReadsNoKnown old new

@@ -23,21 +23,31 @@ use Rattle.nm_top.specs.State.{State}
 abbrev pub most_input : ℕ
 most_input = 67108864
 
--- The devices at one moment: what they tell, and how often each has failed.
-pub record Outside : Type 0 where
+-- What an input or an output tells at one moment: its bytes left or taken, and how often it has failed.
+pub record Told : Type 0 where
+  pub bytes : Option (List ℕ)
+  pub faults : ℕ
+
+-- What the mail folder tells.
+pub record MailTold : Type 0 where
   pub tree : Option Tree
   pub reads : Option (List (List ℕ))
-  pub mail_faults : ℕ
-  pub input : Option (List ℕ)
-  pub input_faults : ℕ
-  pub out : Option (List ℕ)
-  pub out_faults : ℕ
-  pub err : Option (List ℕ)
-  pub err_faults : ℕ
+  pub faults : ℕ
+
+-- All devices at one moment.
+pub record Outside : Type 0 where
+  pub mail : MailTold
+  pub input : Told
+  pub out : Told
+  pub err : Told
 
 -- what the first line begins with
-abbrev pub opening_state : Outside → State
-opening_state outside = record { index = empty_index; tree = outside.tree; reads = outside.reads; faults = outside.mail_faults }
+abbrev pub opening_state : MailTold → State
+opening_state mail = record { index = empty_index; tree = mail.tree; reads = mail.reads; faults = mail.faults }
+
+-- what the mail folder tells after a line
+abbrev pub mail_in : State → MailTold
+mail_in state = record { tree = state.tree; reads = state.reads; faults = state.faults }
 
 -- the fault of the words: they must be the one word `session`
 abbrev pub words_fault : List (List ℕ) → Option (UsageKind × List ℕ)
@@ -45,15 +55,15 @@ words_fault [] = Some (kinds.Command, [])
 words_fault (word ∷ []) = if same_text word (codes "session") then None else Some (kinds.Command, word)
 words_fault (word ∷ other ∷ more) = if same_text word (codes "session") then Some (kinds.Extra, other) else Some (kinds.Command, word)
 
--- A sink gained the bytes, or where it failed the first of them.
-abbrev pub Gains : Bool → Option (List ℕ) → Option (List ℕ) → ℕ → ℕ → List ℕ → Type 0
-Gains false old new before now bytes = Appends old new bytes × (now ≡ before)
-Gains true old new before now bytes = ((n : ℕ) × Appends old new (take n bytes)) × Rose before now
+-- An output gained the bytes, or where it failed the first of them.
+abbrev pub Gains : Bool → Told → Told → List ℕ → Type 0
+Gains false old new bytes = Appends old.bytes new.bytes bytes × (new.faults ≡ old.faults)
+Gains true old new bytes = ((n : ℕ) × Appends old.bytes new.bytes (take n bytes)) × Rose old.faults new.faults
 
--- one line was said to the user, or none
-abbrev pub Says : Option (List ℕ) → Outside → Outside → Type 0
-Says None old new = (new.err ≡ old.err) × (new.err_faults ≡ old.err_faults)
-Says (Some line) old new = (failed : Bool) × Gains failed old.err new.err old.err_faults new.err_faults line
+-- one line was said, or none
+abbrev pub Says : Option (List ℕ) → Told → Told → Type 0
+Says None old new = new ≡ old
+Says (Some line) old new = (failed : Bool) × Gains failed old new line
 
 abbrev pub is_mail_fault : Outcome → Bool
 is_mail_fault outcomes.Ok = false
@@ -67,56 +77,51 @@ is_no_memory (outcomes.Usage word kind) = false
 is_no_memory outcomes.MailFault = false
 is_no_memory outcomes.NoMemory = true
 
+abbrev pub has_mail_fault : List LineLog → Bool
+has_mail_fault logs = list_any (λ log. is_mail_fault log.outcome) logs
+
+abbrev pub has_no_memory : List LineLog → Bool
+has_no_memory logs = list_any (λ log. is_no_memory log.outcome) logs
+
 -- Want of memory before the end of the script; else the first fault of a device; else a line's want of memory.
 abbrev pub session_status : Bool → List LineLog → Bool → ℕ
 session_status whole logs out_failed =
-    if not whole then 7
-    else (if list_any (λ log. is_mail_fault log.outcome) logs then 3
-    else (if out_failed then 6
-    else (if list_any (λ log. is_no_memory log.outcome) logs then 7 else 0)))
+    if not whole then 7 else (if has_mail_fault logs then 3 else (if out_failed then 6 else (if has_no_memory logs then 7 else 0)))
 
 -- what a session says besides its replies
 abbrev pub last_word : Bool → Bool → Option (List ℕ)
 last_word whole out_failed =
-    if out_failed then Some (codes "notmuch: write fault\n")
-    else (if whole then None else Some (codes "notmuch: no memory\n"))
+    if out_failed then Some (codes "notmuch: write fault\n") else (if whole then None else Some (codes "notmuch: no memory\n"))
 
--- The mail folder and the output are as they were, and nothing is in the log.
-pub record IsRefused (old new : Outside) (done : Done) (code : ℕ) (line : List ℕ) : Type 0 where
-  pub status : done.status ≡ code
-  pub log : done.log.lines ≡ []
-  pub tree : new.tree ≡ old.tree
-  pub reads : new.reads ≡ old.reads
-  pub mail_faults : new.mail_faults ≡ old.mail_faults
-  pub out : new.out ≡ old.out
-  pub out_faults : new.out_faults ≡ old.out_faults
-  pub says : Says (Some line) old new
-
--- The input was read to its end, and these are its bytes.
-pub record IsRead (script : List ℕ) (old new : Outside) : Type 0 where
-  pub bytes : Consumes old.input new.input script
-  pub end : IsAtEnd new.input
-  pub within : length script ≤ most_input
-  pub sound : new.input_faults ≡ old.input_faults
-
--- The lines of the script were run, all of them or, for want of memory, the first.
-pub record IsRun (script : List ℕ) (old new : Outside) (done : Done) : Type 0 where
+-- The lines were run in their order, all of them or, for want of memory, the first; then their replies were printed.
+pub record IsRun (script : List ScriptLine) (old_mail new_mail : MailTold) (old_out new_out old_err new_err : Told) (done : Done) : Type 0 where
   pub ran : List ScriptLine
   pub unrun : List ScriptLine
   pub whole : Bool
   pub out_failed : Bool
   pub last : State
-  pub read : IsRead script old new
-  pub few : length (lines script) ≤ 4096
-  pub lines : script_lines script ≡ ran ++ unrun
+  pub lines : script ≡ ran ++ unrun
   pub all : whole ≡ true → unrun ≡ []
-  pub run : Runs (opening_state old) ran done.log.lines last
-  pub tree : new.tree ≡ last.tree
-  pub reads : new.reads ≡ last.reads
-  pub mail_faults : new.mail_faults ≡ last.faults
-  pub out : Gains out_failed old.out new.out old.out_faults new.out_faults (printed done.log.lines)
+  pub run : Runs (opening_state old_mail) ran done.log.lines last
+  pub mail : new_mail ≡ mail_in last
+  pub out : Gains out_failed old_out new_out (printed done.log.lines)
   pub status : done.status ≡ session_status whole done.log.lines out_failed
-  pub says : Says (last_word whole out_failed) old new
+  pub says : Says (last_word whole out_failed) old_err new_err
+
+-- The mail folder and the output are as they were, and nothing is in the log.
+pub record IsRefused (old new : Outside) (done : Done) (code : ℕ) (line : List ℕ) : Type 0 where
+  pub status : done.status ≡ code
+  pub log : done.log.lines ≡ []
+  pub mail : new.mail ≡ old.mail
+  pub out : new.out ≡ old.out
+  pub says : Says (Some line) old.err new.err
+
+-- The input was read to its end, and these are its bytes.
+pub record IsRead (script : List ℕ) (old new : Told) : Type 0 where
+  pub bytes : Consumes old.bytes new.bytes script
+  pub end : IsAtEnd new.bytes
+  pub within : length script ≤ most_input
+  pub sound : new.faults ≡ old.faults
 
 -- how the call may end
 pub data Ending : Type 0 where
@@ -130,13 +135,14 @@ pub data Ending : Type 0 where
 -- What each ending means. Every ending but a run has its cause; want of memory alone is free.
 abbrev pub Ends : Ending → List ℕ → List (List ℕ) → Outside → Outside → Done → Type 0
 Ends WordsRefused script words old new done =
-    (fault : UsageKind × List ℕ) × (words_fault words ≡ Some fault) × (new.input ≡ old.input) × (new.input_faults ≡ old.input_faults)
-    × IsRefused old new done 2 (usage_line fault.0 fault.1)
+    (fault : UsageKind × List ℕ) × (words_fault words ≡ Some fault) × (new.input ≡ old.input) × IsRefused old new done 2 (usage_line fault.0 fault.1)
 Ends ReadFailed script words old new done =
-    (words_fault words ≡ None) × Rose old.input_faults new.input_faults × IsRefused old new done 5 (codes "notmuch: read fault\n")
+    (words_fault words ≡ None) × Rose old.input.faults new.input.faults × IsRefused old new done 5 (codes "notmuch: read fault\n")
 Ends InputTooLong script words old new done =
-    (words_fault words ≡ None) × IfSome old.input (λ bytes. most_input < length bytes) × IsRefused old new done 9 (codes "notmuch: limit: inputbytes\n")
+    (words_fault words ≡ None) × IfSome old.input.bytes (λ bytes. most_input < length bytes) × IsRefused old new done 9 (codes "notmuch: limit: inputbytes\n")
 Ends TooManyLines script words old new done =
-    (words_fault words ≡ None) × IsRead script old new × (4096 < length (lines script)) × IsRefused old new done 9 (codes "notmuch: limit: lines\n")
+    (words_fault words ≡ None) × IsRead script old.input new.input × (4096 < length (lines script)) × IsRefused old new done 9 (codes "notmuch: limit: lines\n")
 Ends MemoryWanted script words old new done = (words_fault words ≡ None) × IsRefused old new done 7 (codes "notmuch: no memory\n")
-Ends Ran script words old new done = (words_fault words ≡ None) × IsRun script old new done
+Ends Ran script words old new done =
+    (words_fault words ≡ None) × IsRead script old.input new.input × (length (lines script) ≤ 4096)
+    × IsRun (script_lines script) old.mail new.mail old.out new.out old.err new.err done

@@ -5,6 +5,7 @@ mod index;
 mod listing;
 mod new;
 mod reading;
+mod session;
 mod sets;
 mod take_in;
 
