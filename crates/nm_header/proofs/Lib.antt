@@ -1,6 +1,8 @@
+pub mod BodyLemmas
 pub mod CutLemmas
 pub mod DepthLemmas
 pub mod FieldLemmas
+pub mod FoldLemmas
 pub mod HeaderLemmas
 pub mod IdLemmas
 pub mod LawLemmas

@@ -1,7 +1,7 @@
--- What follows from the definitions: no byte of a header is lost or read twice, and ids that are written are read.
-use Rattle.std.specs.Prelude.{ℕ, List, [], ◌∷◌, ◌++◌, length, take, drop}
-use Rattle.std.specs.List.{concat, flat_map}
-use Rattle.nm_header.specs.Lines.{header_lines, lines_of, rest_of}
+-- What follows from the definitions: no byte of a header is lost or read twice, and ids and fields that are written are read.
+use Rattle.std.specs.Prelude.{ℕ, Bool, ◌||◌, ◌==◌, not, List, [], ◌∷◌, ◌++◌, length, take, drop}
+use Rattle.std.specs.List.{concat, flat_map, list_any}
+use Rattle.nm_header.specs.Lines.{header_lines, is_line_feed, lines_of, rest_of}
 
 -- the empty line behind the header, if there is one
 abbrev pub line_behind_header : List ℕ → List ℕ
@@ -14,3 +14,15 @@ put_together bytes = concat (header_lines bytes) ++ (line_behind_header bytes ++
 -- ids as they are written in a field: each in angles, behind a blank
 abbrev pub written : List (List ℕ) → List ℕ
 written ids = flat_map (λ id. 32 ∷ 60 ∷ (id ++ 62 ∷ [])) ids
+
+-- it has no LF
+abbrev pub stands_on_one_line : List ℕ → Bool
+stands_on_one_line text = not (list_any is_line_feed text)
+
+-- CR or LF
+abbrev pub is_line_end : ℕ → Bool
+is_line_end b = b == 13 || b == 10
+
+-- the header of one field, with the front of its body on the first line and the back on the second
+abbrev pub folded : List ℕ → List ℕ → List ℕ → List ℕ
+folded name front back = (name ++ 58 ∷ 32 ∷ front) ++ 10 ∷ (back ++ 10 ∷ 10 ∷ [])
