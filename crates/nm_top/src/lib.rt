@@ -1,6 +1,7 @@
 //! The top call: reads a script, runs its lines over a mail folder, prints the replies, and tells what it did.
 #![tactic(auto)]
 
+mod ending;
 mod index;
 mod listing;
 mod new;
@@ -8,4 +9,6 @@ mod reading;
 mod session;
 mod sets;
 mod take_in;
+mod top_call;
 
+pub use top_call::notmuch;
