@@ -5,3 +5,6 @@
 mod change;
 
 pub use change::{Change, Commit};
+
+#[cfg(test)]
+mod tests;

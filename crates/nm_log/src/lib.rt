@@ -16,3 +16,6 @@ pub use outcome::Outcome;
 pub use print::{print_lines, print_usage};
 pub use replies::{NewReport, count_reply, line_status, new_reply, usage_text};
 pub use script::{ScriptError, ScriptLine, read_script};
+
+#[cfg(test)]
+mod tests;
