@@ -35,3 +35,6 @@ pub use tag::Tag;
 pub use tags::Tags;
 pub use text::Text;
 pub use word::Word;
+
+#[cfg(test)]
+mod tests;
