@@ -64,13 +64,13 @@ pub asked_reading : (tree mid_tree : Option Tree) (old mid new : Option (List (L
 asked_reading tree mid_tree old mid new files before noted0 noted known listed paths same none is rising told known_is paths_are same_tree h' =
     let h : HasRead tree mid new noted0 noted paths = subst (λ (t : Option Tree). HasRead t mid new noted0 noted paths) same_tree h' in
     record {
-  listed = listed;
-  rising = rising;
-  count = h.count;
-  read = h.read ∙ (ap (λ (r : Option (List (List ℕ))). read_with r (take h.count paths)) same ∙ ap (λ (l : List (List ℕ)). read_with old (take h.count l)) (paths_are ∙ to_read-is files known listed known_is));
-  told = subst (λ (l : List Given). IfSome tree (λ t. AllByRecursion (IsTold t) l)) (sym (h.noted_is ∙ ap (λ l. l ++ h.noted) (is ∙ ap (λ l. l ++ given.Listed listed ∷ []) none)))
-      (told_both tree (given.Listed listed ∷ []) h.noted (listed_told tree listed told) h.told);
-}
+      listed = listed;
+      rising = rising;
+      count = h.count;
+      read = h.read ∙ (ap (λ (r : Option (List (List ℕ))). read_with r (take h.count paths)) same ∙ ap (λ (l : List (List ℕ)). read_with old (take h.count l)) (paths_are ∙ to_read-is files known listed known_is));
+      told = subst (λ (l : List Given). IfSome tree (λ t. AllByRecursion (IsTold t) l)) (sym (h.noted_is ∙ ap (λ l. l ++ h.noted) (is ∙ ap (λ l. l ++ given.Listed listed ∷ []) none)))
+          (told_both tree (given.Listed listed ∷ []) h.noted (listed_told tree listed told) h.told);
+    }
 
 -- all was gathered
 pub gathered_all : (tree mid_tree : Option Tree) (old mid new : Option (List (List ℕ))) (files : List (List ℕ × Facts)) (before noted0 noted : List Given) (known listed paths : List (List ℕ)) (arrivals : List (List ℕ × Facts)) → mid ≡ old → before ≡ [] → noted0 ≡ before ++ given.Listed listed ∷ []

@@ -3,17 +3,16 @@ ghost use Rattle.nm_maildir.specs.Calls.{HasMailCause};
 ghost use Rattle.nm_top.specs.Reading.{IsRising};
 ghost use Rattle.nm_top.specs.Steps.{Gathers, HasAsked, IsNewAnswer, state_with};
 
-use nm_base::{Copies, MailPath, Many, NoMemory};
-use nm_log::Outcome;
-use nm_maildir::{Given, MailError, Maildir};
-use std::alloc::Global;
-use std::collections::BTreeSet;
-
 use crate::index::{Mail, PlainIndex, path_set};
 use crate::listing::list_paths;
 use crate::reading::read_all;
 use crate::sets::{all_paths, paths_not_in};
 use crate::take_in::{Gathered, take_in};
+use nm_base::{Copies, MailPath, Many, NoMemory};
+use nm_log::Outcome;
+use nm_maildir::{Given, MailError, Maildir};
+use std::alloc::Global;
+use std::collections::BTreeSet;
 
 /// Takes in what has come and lets go what is gone, and gives the outcome and the reply.
 pub(crate) fn run_new<M: Maildir>(
@@ -65,7 +64,11 @@ fn gather<M: Maildir>(
     let known = path_set(alloc, files)?;
     let paths = paths_not_in(alloc, &listed, &known)?;
     let arrivals = read_all(alloc, mail, paths.as_slice(), noted)?;
-    Ok(Gathered { listed, known, arrivals })
+    Ok(Gathered {
+        listed,
+        known,
+        arrivals,
+    })
 }
 
 fn note_listed(

@@ -4,12 +4,11 @@ ghost use Rattle.nm_maildir.specs.Calls.{HasMailCause};
 ghost use Rattle.nm_top.specs.Reading.{arrival};
 ghost use Rattle.nm_top.specs.Steps.{HasRead, HasReadAll, Judges};
 
+use crate::index::Mail;
 use nm_base::{Copies, Facts, MailPath, Many, NoMemory};
 use nm_first_mail::{ExtractError, extract};
 use nm_maildir::{Given, Got, MailError, Maildir, ReadAnswer};
 use std::alloc::Global;
-
-use crate::index::Mail;
 
 /// The most bytes of a mail file.
 const MOST_BYTES: u64 = 67_108_864;

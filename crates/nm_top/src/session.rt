@@ -4,14 +4,13 @@ ghost use Rattle.nm_top.specs.Line.{Answers, IsAnswer};
 ghost use Rattle.nm_top.specs.RunLog.{HasRunLines};
 ghost use Rattle.nm_top.specs.Steps.{HasAsked, state_with};
 
+use crate::index::PlainIndex;
+use crate::new::run_new;
 use nm_base::{Many, NoMemory, Request, Room, Text, UsageKind};
 use nm_core::count_text;
 use nm_log::{Asked, LineLog, Outcome, ScriptLine, line_status, read_ask, usage_text};
 use nm_maildir::{Given, Maildir};
 use std::alloc::Global;
-
-use crate::index::PlainIndex;
-use crate::new::run_new;
 
 /// What was run of a script.
 #[derive(Drop)]
@@ -133,11 +132,7 @@ fn answer<M: Maildir>(
     }
 }
 
-fn refuse_line(
-    alloc: Global,
-    word: Text,
-    kind: UsageKind,
-) -> Result<(Outcome, Many<u8>), NoMemory>
+fn refuse_line(alloc: Global, word: Text, kind: UsageKind) -> Result<(Outcome, Many<u8>), NoMemory>
     ensures { IfOk result (λ done. done ≡ (Outcome.Usage word kind, usage_line kind word)) }
 {
     let text = usage_text(alloc, kind, &word)?;

@@ -3,14 +3,13 @@ ghost use Rattle.std.specs.List.{flat_map};
 ghost use Rattle.nm_top.specs.Reading.{skip_at};
 ghost use Rattle.nm_top.specs.Steps.{TakesIn, commits_for, gone_of, is_gone, kept, report_with, skip_given};
 
+use crate::index::{Mail, PlainIndex, id_set};
+use crate::sets::{has_path, ids_not_in, paths_missing};
 use nm_base::{Copies, MailPath, Many, NoMemory, Skip};
 use nm_log::{NewReport, new_reply};
 use nm_maildir::{Given, ReadAnswer};
 use std::alloc::Global;
 use std::collections::BTreeSet;
-
-use crate::index::{Mail, PlainIndex, id_set};
-use crate::sets::{has_path, ids_not_in, paths_missing};
 
 /// What `new` has gathered: what is listed, what the index knows, and what has come.
 #[derive(Drop)]
@@ -32,7 +31,13 @@ pub(crate) fn take_in(
     ensures err { OnErr result (index.new ≡ index.old) }
 {
     let files = files_after(alloc, index.files.as_slice(), gathered)?;
-    let report = make_report(alloc, index.files.as_slice(), files.as_slice(), gathered, noted)?;
+    let report = make_report(
+        alloc,
+        index.files.as_slice(),
+        files.as_slice(),
+        gathered,
+        noted,
+    )?;
     let text = new_reply(alloc, &report)?;
     let came = commit_count(gathered.arrivals.len());
     let went = commit_count(paths_missing(&gathered.known, &gathered.listed));
@@ -48,16 +53,17 @@ fn commit_count(changes: usize) -> u64
     if changes == 0 { 0 } else { 1 }
 }
 
-fn files_after(
-    alloc: Global,
-    files: &[Mail],
-    gathered: &Gathered,
-) -> Result<Many<Mail>, NoMemory>
+fn files_after(alloc: Global, files: &[Mail], gathered: &Gathered) -> Result<Many<Mail>, NoMemory>
     ensures { IfOk result (λ after. after ≡ kept gathered.now.known.keys gathered.now.listed.keys (files.now ++ gathered.now.arrivals)) }
 {
     let mut after = Many::new(alloc);
     add_kept(&mut after, files, &gathered.known, &gathered.listed)?;
-    add_kept(&mut after, gathered.arrivals.as_slice(), &gathered.known, &gathered.listed)?;
+    add_kept(
+        &mut after,
+        gathered.arrivals.as_slice(),
+        &gathered.known,
+        &gathered.listed,
+    )?;
     Ok(after)
 }
 

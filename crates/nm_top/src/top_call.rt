@@ -1,14 +1,13 @@
 ghost use Rattle.std.specs.Prelude.{◌≡◌, ℕ, List, ◌∷◌, [], ◌≤◌, None, Some, MatchOption, pos, ◌≤ℤ◌};
 ghost use Rattle.nm_top.specs.Session.{Ending, Ends, IsRun, words_fault};
 
+use crate::ending::{print_all, refuse, refuse_words, say_last, status_of_run};
+use crate::session::run_lines;
 use nm_base::{Text, UsageKind};
 use nm_io::{Sink, Source, TakeError, take_all};
 use nm_log::{Done, ScriptError, ScriptLine, SessionLog, Setting, read_script};
 use nm_maildir::Maildir;
 use std::alloc::Global;
-
-use crate::ending::{print_all, refuse, refuse_words, say_last, status_of_run};
-use crate::session::run_lines;
 
 /// The most bytes of an input.
 const MOST_INPUT: u64 = 67_108_864;
@@ -30,10 +29,18 @@ pub fn notmuch<M: Maildir, I: Source, O: Sink, E: Sink>(
     requires from_1970 { pos 0 ≤ℤ setting.now.moment }
     requires moment { setting.now.moment ≤ℤ pos 253000000000 }
     ensures history { (ending : Ending) × (script : List ℕ) × Ends ending script words.now
-        (record { mail = record { tree = M.tree mail.old; reads = M.reads mail.old; faults = M.faults mail.old }; input = record { bytes = I.left input.old; faults = I.faults input.old };
-            out = record { bytes = O.taken out.old; faults = O.faults out.old }; err = record { bytes = E.taken err.old; faults = E.faults err.old } })
-        (record { mail = record { tree = M.tree mail.new; reads = M.reads mail.new; faults = M.faults mail.new }; input = record { bytes = I.left input.new; faults = I.faults input.new };
-            out = record { bytes = O.taken out.new; faults = O.faults out.new }; err = record { bytes = E.taken err.new; faults = E.faults err.new } }) result }
+        (record {
+          mail = record { tree = M.tree mail.old; reads = M.reads mail.old; faults = M.faults mail.old };
+          input = record { bytes = I.left input.old; faults = I.faults input.old };
+          out = record { bytes = O.taken out.old; faults = O.faults out.old };
+          err = record { bytes = E.taken err.old; faults = E.faults err.old };
+        })
+        (record {
+          mail = record { tree = M.tree mail.new; reads = M.reads mail.new; faults = M.faults mail.new };
+          input = record { bytes = I.left input.new; faults = I.faults input.new };
+          out = record { bytes = O.taken out.new; faults = O.faults out.new };
+          err = record { bytes = E.taken err.new; faults = E.faults err.new };
+        }) result }
 {
     match fault_of(words) {
         Some((kind, word)) => refuse_words(alloc, err, kind, word),
@@ -78,10 +85,18 @@ fn read_and_run<M: Maildir, I: Source, O: Sink, E: Sink>(
     err: &mut E,
 ) -> Done
     ensures { (words : List (List ℕ)) → words_fault words ≡ None → (ending : Ending) × (script : List ℕ) × Ends ending script words
-        (record { mail = record { tree = M.tree mail.old; reads = M.reads mail.old; faults = M.faults mail.old }; input = record { bytes = I.left input.old; faults = I.faults input.old };
-            out = record { bytes = O.taken out.old; faults = O.faults out.old }; err = record { bytes = E.taken err.old; faults = E.faults err.old } })
-        (record { mail = record { tree = M.tree mail.new; reads = M.reads mail.new; faults = M.faults mail.new }; input = record { bytes = I.left input.new; faults = I.faults input.new };
-            out = record { bytes = O.taken out.new; faults = O.faults out.new }; err = record { bytes = E.taken err.new; faults = E.faults err.new } }) result }
+        (record {
+          mail = record { tree = M.tree mail.old; reads = M.reads mail.old; faults = M.faults mail.old };
+          input = record { bytes = I.left input.old; faults = I.faults input.old };
+          out = record { bytes = O.taken out.old; faults = O.faults out.old };
+          err = record { bytes = E.taken err.old; faults = E.faults err.old };
+        })
+        (record {
+          mail = record { tree = M.tree mail.new; reads = M.reads mail.new; faults = M.faults mail.new };
+          input = record { bytes = I.left input.new; faults = I.faults input.new };
+          out = record { bytes = O.taken out.new; faults = O.faults out.new };
+          err = record { bytes = E.taken err.new; faults = E.faults err.new };
+        }) result }
 {
     match take_all(alloc, input, MOST_INPUT) {
         Ok(bytes) => match read_script(alloc, bytes.as_slice()) {

@@ -9,12 +9,11 @@ use nm_log::Setting;
 use nm_maildir::FolderMail;
 use nm_top::notmuch;
 use std::alloc::Global;
-use std::env;
-use std::io;
 use std::process::ExitCode;
 use std::random::RandomSource;
 use std::rt::{Clock, Env};
 use std::time::SystemTime;
+use std::{env, io};
 
 /// How many threads read mail.
 const WORKERS: u32 = 4;

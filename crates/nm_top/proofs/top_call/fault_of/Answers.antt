@@ -13,6 +13,6 @@ pub returns-in-len2-up : goal.returns-in-len2-up
 returns-in-len2-up c =
     subst (λ (words : List (List ℕ)). MatchOption c.extra_fault.result (words_fault words ≡ None) (λ fault. words_fault words ≡ Some (fault.0, fault.1.now)))
     (sym (two_words c.args.words.now c.as_str-in-len2-up.result.now c.as_str-in-len2-up-2.result.now c.in-len2-up.len_at_least
-        (subst (λ (w : List ℕ). w ≡ get_or c.args.words.now 0 w) (sym c.as_str-in-len2-up.ensures) c.word-item-2.is)
-        (subst (λ (w : List ℕ). w ≡ get_or c.args.words.now 1 w) (sym c.as_str-in-len2-up-2.ensures) c.other-item.is)))
+    (subst (λ (w : List ℕ). w ≡ get_or c.args.words.now 0 w) (sym c.as_str-in-len2-up.ensures) c.word-item-2.is)
+    (subst (λ (w : List ℕ). w ≡ get_or c.args.words.now 1 w) (sym c.as_str-in-len2-up-2.ensures) c.other-item.is)))
     (c.extra_fault.ensures (drop 2 c.args.words.now))

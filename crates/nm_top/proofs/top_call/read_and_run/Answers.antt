@@ -10,8 +10,10 @@ returns-in-Err-Limit g c = λ words sound.
     let fault : IsScriptFault c.as_slice.result.now (faults.Limit c.in-Err-Limit.field-0-0) = subst (IsScriptFault c.as_slice.result.now) c.in-Err-Limit.field-0-is c.in-Err-Limit.ensures.limit in (
       TooManyLines,
       c.in-Ok.bytes,
-      (sound,
-      record { bytes = c.in-Ok.ensures.consumed; end = c.in-Ok.ensures.end; within = c.in-Ok.ensures.within; sound = c.in-Ok.ensures.cause },
-      subst (λ (bytes : List ℕ). 4096 < length (lines bytes)) c.as_slice.ensures fault.1,
-      record { status = c.refuse.ensures.status; log = c.refuse.ensures.log; mail = refl; out = refl; says = c.refuse.ensures.says }),
+      (
+        sound,
+        record { bytes = c.in-Ok.ensures.consumed; end = c.in-Ok.ensures.end; within = c.in-Ok.ensures.within; sound = c.in-Ok.ensures.cause },
+        subst (λ (bytes : List ℕ). 4096 < length (lines bytes)) c.as_slice.ensures fault.1,
+        record { status = c.refuse.ensures.status; log = c.refuse.ensures.log; mail = refl; out = refl; says = c.refuse.ensures.says },
+      ),
     )
