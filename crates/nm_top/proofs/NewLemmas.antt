@@ -1,9 +1,7 @@
 -- What `new` asks and makes, from its parts.
-use Rattle.std.proofs.Common.{◌≡◌, ℕ, ◌+◌, ◌≤◌, not, List, [], ◌∷◌, ◌++◌, Option, None, Some, IfSome, length, map, filter, take, refl, sym, ap, ◌∙◌, subst}
+use Rattle.std.proofs.Common.{◌≡◌, ℕ, not, List, [], ◌∷◌, ◌++◌, Option, None, Some, IfSome, length, map, filter, take, refl, sym, ap, ◌∙◌, subst}
 use Rattle.std.specs.List.{AllByRecursion, flat_map}
 use Rattle.std.specs.List.Sorted.{IsStrictlySortedBy}
-use Rattle.std.specs.Cmp.Lexicographic.{slice_cmp}
-use Rattle.std.specs.Ordering.{nat_cmp}
 use Rattle.nm_base.specs.Order.{has_text, in_order}
 use Rattle.nm_base.specs.declared.facts.Facts.{Facts}
 use Rattle.nm_commit.specs.Index.{Index, folded, paths_of}
@@ -11,14 +9,12 @@ use Rattle.nm_maildir.specs.Tree.{Tree}
 use Rattle.nm_maildir.specs.declared.given.Given.{Given}
 use Rattle.nm_maildir.specs.declared.given.Given.TheVariants as given
 use Rattle.nm_maildir.specs.declared.given.ReadAnswer.{ReadAnswer}
-use Rattle.nm_maildir.specs.declared.given.ReadAnswer.TheVariants as answers
 use Rattle.nm_base.specs.declared.refusals.Skip.{Skip}
 use Rattle.nm_log.specs.Replies.{new_text}
 use Rattle.nm_log.specs.declared.replies.NewReport.{NewReport}
-use Rattle.nm_top.specs.NewLine.{IsNew, gone, new_commits, only_in, report_of}
+use Rattle.nm_top.specs.NewLine.{IsNew, gone, new_commits, only_in}
 use Rattle.nm_top.specs.Reading.{IsRising, IsTold, Reads, listed_of, read_of, skip_in, to_read}
-use Rattle.nm_top.specs.State.{State}
-use Rattle.nm_top.specs.Steps.{Gathers, HasAsked, HasRead, HasReadAll, TakesIn, gone_of, kept, read_with, report_with, skip_given, state_with}
+use Rattle.nm_top.specs.Steps.{Gathers, HasAsked, HasRead, HasReadAll, TakesIn, gone_of, read_with, skip_given, state_with}
 use Rattle.nm_top.specs.declared.index.PlainIndex.{PlainIndex}
 use Rattle.nm_top.proofs.FoldLemmas.{filter-same, new-files, new-revision}
 use Rattle.nm_top.proofs.ReadLemmas.{none_told, read_with-none, told_both}

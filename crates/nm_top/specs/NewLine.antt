@@ -1,11 +1,11 @@
 -- What `new` does: the commits that it makes, and what it says.
-use Rattle.std.specs.Prelude.{◌≡◌, ℕ, not, List, [], ◌∷◌, ◌++◌, length, map, filter, Option, IfSome}
+use Rattle.std.specs.Prelude.{◌≡◌, ℕ, not, List, [], ◌∷◌, ◌++◌, length, map, filter, IfSome}
 use Rattle.std.specs.List.{flat_map}
 use Rattle.std.specs.Option.{option_map}
 use Rattle.nm_base.specs.Order.{has_text, in_order}
 use Rattle.nm_base.specs.declared.facts.Facts.{Facts}
 use Rattle.nm_commit.specs.Count.{ids_of}
-use Rattle.nm_commit.specs.Index.{Index, folded, paths_of}
+use Rattle.nm_commit.specs.Index.{folded, paths_of}
 use Rattle.nm_commit.specs.declared.change.Change.{Change}
 use Rattle.nm_commit.specs.declared.change.Change.TheVariants.{Add, Drop}
 use Rattle.nm_commit.specs.declared.change.Commit.{Commit}

@@ -1,6 +1,5 @@
 -- What is run of a script.
 use Rattle.std.specs.Prelude.{◌≡◌, ℕ, true, List, [], ◌++◌, Option}
-use Rattle.nm_commit.specs.Index.{empty_index}
 use Rattle.nm_log.specs.declared.script.ScriptLine.{ScriptLine}
 use Rattle.nm_maildir.specs.Tree.{Tree}
 use Rattle.nm_top.specs.Line.{Runs}

@@ -1,5 +1,5 @@
-use Rattle.std.proofs.Common.{sym, ◌∙◌}
-use Rattle.nm_top.proofs.NewLemmas.{asked_listing, asked_nothing, asked_reading, gathered_all}
+use Rattle.std.proofs.Common.{◌∙◌}
+use Rattle.nm_top.proofs.NewLemmas.{asked_nothing, asked_reading, gathered_all}
 use Rattle.nm_top.proofs.new.gather.Goals as goal
 
 pub returns-in_err-note_listed-clause-asked : goal.returns-in_err-note_listed-clause-asked

@@ -1,5 +1,3 @@
-use Rattle.std.proofs.Common.{ℕ, List, subst}
-use Rattle.nm_base.specs.declared.facts.Facts.{Facts}
 use Rattle.nm_top.proofs.NewLemmas.{is_new_of}
 use Rattle.nm_top.proofs.new.run_new.Goals as goal
 

@@ -1,6 +1,5 @@
 use Rattle.std.proofs.Common.{[], take, drop, refl, sym, ◌∙◌, append-nil, take-append-drop, arith}
 use Rattle.std.proofs.lemmas.Bool.{false≢true}
-use Rattle.nm_top.specs.Session.{opening_state}
 use Rattle.nm_top.specs.Steps.{state_with}
 use Rattle.nm_top.proofs.RunLemmas.{run_all, run_logs, run_next}
 use Rattle.nm_top.proofs.session.run_lines.Goals as goal

@@ -1,4 +1,4 @@
-use Rattle.std.proofs.Common.{◌≡◌, ◌*◌, ◌≤◌, take}
+use Rattle.std.proofs.Common.{◌*◌, ◌≤◌, take}
 use Rattle.nm_top.specs.Line.{Runs}
 use Rattle.nm_top.specs.Session.{opening_state}
 use Rattle.nm_top.specs.Steps.{state_with}
