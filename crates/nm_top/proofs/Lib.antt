@@ -3,3 +3,4 @@ pub mod SetLemmas
 pub mod FoldLemmas
 pub mod NewLemmas
 pub mod RunLemmas
+pub mod CompleteLemmas

@@ -1,3 +1,4 @@
+pub mod Complete
 pub mod Line
 pub mod Mail
 pub mod NewLine

@@ -1,4 +1,5 @@
 ghost use Rattle.std.specs.Prelude.{◌≡◌, ℕ, List, ◌∷◌, [], ◌≤◌, None, Some, MatchOption, pos, ◌≤ℤ◌};
+ghost use Rattle.nm_top.specs.Complete.{IsComplete};
 ghost use Rattle.nm_top.specs.Session.{Ending, Ends, IsRun, words_fault};
 
 use crate::ending::{print_all, refuse, refuse_words, say_last, status_of_run};
@@ -29,6 +30,21 @@ pub fn notmuch<M: Maildir, I: Source, O: Sink, E: Sink>(
     requires from_1970 { pos 0 ≤ℤ setting.now.moment }
     requires moment { setting.now.moment ≤ℤ pos 253000000000 }
     ensures history { (ending : Ending) × (script : List ℕ) × Ends ending script words.now
+        (record {
+          mail = record { tree = M.tree mail.old; reads = M.reads mail.old; faults = M.faults mail.old };
+          input = record { bytes = I.left input.old; faults = I.faults input.old };
+          out = record { bytes = O.taken out.old; faults = O.faults out.old };
+          err = record { bytes = E.taken err.old; faults = E.faults err.old };
+        })
+        (record {
+          mail = record { tree = M.tree mail.new; reads = M.reads mail.new; faults = M.faults mail.new };
+          input = record { bytes = I.left input.new; faults = I.faults input.new };
+          out = record { bytes = O.taken out.new; faults = O.faults out.new };
+          err = record { bytes = E.taken err.new; faults = E.faults err.new };
+        }) result }
+
+    // Where nothing is in its way, the script is answered to its end.
+    ensures complete { IsComplete words.now
         (record {
           mail = record { tree = M.tree mail.old; reads = M.reads mail.old; faults = M.faults mail.old };
           input = record { bytes = I.left input.old; faults = I.faults input.old };

@@ -1,0 +1,100 @@
+-- A session in which nothing fails ends with status 0, or 7 for want of memory.
+use Rattle.std.proofs.Common.{◌≡◌, ℕ, ◌+◌, ◌<◌, ◌≤◌, ◌⊎◌, inl, inr, Bool, true, false, ◌||◌, not, cond, List, [], ◌∷◌, ◌++◌, Option, None, Some, IfSome, length, refl, sym, ap, ◌∙◌, subst, append-nil, arith, suc}
+use Rattle.std.proofs.lemmas.Bool.{false≢true}
+use Rattle.std.specs.Io.KnownBytes.{Consumes, IsAtEnd}
+use Rattle.std.specs.Str.Lines.{lines}
+use Rattle.nm_log.specs.Script.{script_lines}
+use Rattle.nm_log.specs.declared.log.Done.{Done}
+use Rattle.nm_log.specs.declared.log.LineLog.{LineLog}
+use Rattle.nm_log.specs.declared.outcome.Outcome.{Outcome}
+use Rattle.nm_log.specs.declared.outcome.Outcome.TheVariants as outcomes
+use Rattle.nm_log.specs.declared.script.ScriptLine.{ScriptLine}
+use Rattle.nm_maildir.specs.declared.given.Given.{Given}
+use Rattle.nm_top.specs.Complete.{IsComplete, IsFinished, IsWithin, NoFault}
+use Rattle.nm_top.specs.Line.{Answers, IsAnswer, Runs}
+use Rattle.nm_top.specs.Session.{Ending, Ends, Gains, IsRead, IsRun, InputTooLong, MemoryWanted, Outside, Ran, ReadFailed, Told, TooManyLines, WordsRefused, has_mail_fault, has_no_memory, is_mail_fault, most_input, session_status, words_fault}
+use Rattle.nm_top.specs.State.{State}
+
+-- each line has its log
+Runs-length : (old new : State) (ls : List ScriptLine) (logs : List LineLog) → Runs old ls logs new → length logs ≡ length ls
+Runs-length old new [] [] h = refl
+Runs-length old new [] (log ∷ logs) h = absurd h
+Runs-length old new (line ∷ ls) [] h = absurd h
+Runs-length old new (line ∷ ls) (log ∷ logs) h = ap suc (Runs-length h.0 new ls logs h.2)
+
+-- the count never falls along the lines
+Runs-grows : (old new : State) (ls : List ScriptLine) (logs : List LineLog) → Runs old ls logs new → old.faults ≤ new.faults
+Runs-grows old new [] [] h = let same : new.faults ≡ old.faults = ap (λ (s : State). s.faults) h in omega arith
+Runs-grows old new [] (log ∷ logs) h = absurd h
+Runs-grows old new (line ∷ ls) [] h = absurd h
+Runs-grows old new (line ∷ ls) (log ∷ logs) h = let first = h.1.never_falls in let rest = Runs-grows h.0 new ls logs h.2 in omega arith
+
+-- a line in which the count stands is no mail fault
+quiet_line : (outcome : Outcome) (old : State) (line : List ℕ) (noted : List Given) (text : List ℕ) (new : State) → new.faults ≤ old.faults → old.faults < 18446744073709551615 → IsAnswer outcome old line noted text new → is_mail_fault outcome ≡ false
+quiet_line outcomes.Ok old line noted text new stands room h = refl
+quiet_line (outcomes.Usage word kind) old line noted text new stands room h = refl
+quiet_line outcomes.MailFault old line noted text new stands room h = let rose = h.1.1 room in absurd (omega arith)
+quiet_line outcomes.NoMemory old line noted text new stands room h = refl
+
+quiet_run : (old new : State) (ls : List ScriptLine) (logs : List LineLog) → new.faults ≤ old.faults → old.faults < 18446744073709551615 → Runs old ls logs new → has_mail_fault logs ≡ false
+quiet_run old new [] [] stands room h = refl
+quiet_run old new [] (log ∷ logs) stands room h = absurd h
+quiet_run old new (line ∷ ls) [] stands room h = absurd h
+quiet_run old new (line ∷ ls) (log ∷ logs) stands room h =
+    let first = h.1.never_falls in
+    let rest = Runs-grows h.0 new ls logs h.2 in
+    ap (λ b. b || has_mail_fault logs) (quiet_line log.outcome old line.text log.given log.text h.0 (omega arith) room h.1.answer) ∙ quiet_run h.0 new ls logs (omega arith) (omega arith) h.2
+
+-- what was read to its end is what was told
+read_is : (old new : Option (List ℕ)) (script read : List ℕ) → old ≡ Some script → Consumes old new read → IsAtEnd new → read ≡ script
+read_is None new script read told h end = absurd (cc)
+read_is (Some bytes) None script read told h end = absurd h
+read_is (Some bytes) (Some rest) script read told h end =
+    let same : bytes ≡ script = cc in
+    sym (append-nil read) ∙ (ap (λ l. read ++ l) (sym end) ∙ (sym h ∙ same))
+
+-- an output that did not fail
+quiet_out : (failed : Bool) (old new : Told) (bytes : List ℕ) → new.faults ≡ old.faults → old.faults < 18446744073709551615 → Gains failed old new bytes → failed ≡ false
+quiet_out false old new bytes stands room h = refl
+quiet_out true old new bytes stands room h = let rose = h.1.1 room in absurd (omega arith)
+
+-- the statuses that are left
+abbrev status_by : Bool → Bool → Bool → Bool → ℕ
+status_by whole mail out memory = cond (not whole) 7 (cond mail 3 (cond out 6 (cond memory 7 0)))
+
+left_status : (whole mail out memory : Bool) → mail ≡ false → out ≡ false → ((whole ≡ true) × (status_by whole mail out memory ≡ 0)) ⊎ (status_by whole mail out memory ≡ 7)
+left_status false mail out memory e d = inr refl
+left_status true true out memory e d = absurd (false≢true (sym e))
+left_status true false true memory e d = absurd (false≢true (sym d))
+left_status true false false true e d = inr refl
+left_status true false false false e d = inl (refl, refl)
+
+ran_complete : (script : List ℕ) (old new : Outside) (done : Done) → NoFault old new → IsRun (script_lines script) old.mail new.mail old.out new.out old.err new.err done → IsFinished script done ⊎ (done.status ≡ 7)
+ran_complete script old new done quiet h =
+    let last_faults : new.mail.faults ≡ h.last.faults = ap (λ m. m.faults) h.mail in
+    let no_mail : has_mail_fault done.log.lines ≡ false = quiet_run _ h.last h.ran done.log.lines (omega (arith, quiet.mail)) quiet.mail_room h.run in
+    let no_out : h.out_failed ≡ false = quiet_out h.out_failed old.out new.out _ quiet.out quiet.out_room h.out in
+    elim (left_status h.whole (has_mail_fault done.log.lines) h.out_failed (has_no_memory done.log.lines) no_mail no_out) [
+      inl w ↦ inl (record {
+        status = h.status ∙ w.1;
+        each = Runs-length _ h.last h.ran done.log.lines h.run ∙ ap length (sym (append-nil h.ran) ∙ (ap (λ l. h.ran ++ l) (sym (h.all w.0)) ∙ sym h.lines));
+      })
+    | inr w ↦ inr (h.status ∙ w)
+    ]
+
+pub complete : (ending : Ending) (read : List ℕ) (words : List (List ℕ)) (old new : Outside) (done : Done) → Ends ending read words old new done → IsComplete words old new done
+complete WordsRefused read words old new done h script sound quiet within = absurd (cc)
+complete ReadFailed read words old new done h script sound quiet within = let rose = h.1.1 quiet.input_room in let same = quiet.input in absurd (omega arith)
+complete InputTooLong read words old new done h script sound quiet within =
+    let long : most_input < length script = subst (λ (o : Option (List ℕ)). IfSome o (λ bytes. most_input < length bytes)) within.told h.1 in
+    let short = within.bytes in
+    absurd (omega arith)
+complete TooManyLines read words old new done h script sound quiet within =
+    let same = read_is old.input.bytes new.input.bytes script read within.told h.1.bytes h.1.end in
+    let many : 4096 < length (lines script) = subst (λ (l : List ℕ). 4096 < length (lines l)) same h.2 in
+    let few = within.few in
+    absurd (omega arith)
+complete MemoryWanted read words old new done h script sound quiet within = inr h.1.status
+complete Ran read words old new done h script sound quiet within =
+    let same = read_is old.input.bytes new.input.bytes script read within.told h.1.bytes h.1.end in
+    ran_complete script old new done quiet (subst (λ (l : List ℕ). IsRun (script_lines l) old.mail new.mail old.out new.out old.err new.err done) same h.3)
