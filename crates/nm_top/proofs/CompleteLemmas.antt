@@ -75,11 +75,11 @@ ran_complete script old new done quiet h =
     let no_mail : has_mail_fault done.log.lines ≡ false = quiet_run _ h.last h.ran done.log.lines (omega (arith, quiet.mail)) quiet.mail_room h.run in
     let no_out : h.out_failed ≡ false = quiet_out h.out_failed old.out new.out _ quiet.out quiet.out_room h.out in
     elim (left_status h.whole (has_mail_fault done.log.lines) h.out_failed (has_no_memory done.log.lines) no_mail no_out) [
-      inl w ↦ inl (record {
+      | inl w ↦ inl (record {
         status = h.status ∙ w.1;
         each = Runs-length _ h.last h.ran done.log.lines h.run ∙ ap length (sym (append-nil h.ran) ∙ (ap (λ l. h.ran ++ l) (sym (h.all w.0)) ∙ sym h.lines));
       })
-    | inr w ↦ inr (h.status ∙ w)
+      | inr w ↦ inr (h.status ∙ w)
     ]
 
 pub complete : (ending : Ending) (read : List ℕ) (words : List (List ℕ)) (old new : Outside) (done : Done) → Ends ending read words old new done → IsComplete words old new done

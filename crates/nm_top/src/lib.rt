@@ -9,6 +9,8 @@ mod reading;
 mod session;
 mod sets;
 mod take_in;
+#[cfg(test)]
+mod tests;
 mod top_call;
 
 pub use top_call::notmuch;
