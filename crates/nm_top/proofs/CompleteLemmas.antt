@@ -1,5 +1,5 @@
 -- A session in which nothing fails ends with status 0, or 7 for want of memory.
-use Rattle.std.proofs.Common.{◌≡◌, ℕ, ◌+◌, ◌<◌, ◌≤◌, ◌⊎◌, inl, inr, Bool, true, false, ◌||◌, not, cond, List, [], ◌∷◌, ◌++◌, Option, None, Some, IfSome, length, refl, sym, ap, ◌∙◌, subst, append-nil, arith, suc}
+use Rattle.std.proofs.Common.{◌≡◌, ℕ, ◌<◌, ◌≤◌, ◌⊎◌, inl, inr, Bool, true, false, ◌||◌, not, cond, List, [], ◌∷◌, ◌++◌, Option, None, Some, IfSome, length, refl, sym, ap, ◌∙◌, subst, append-nil, arith, suc}
 use Rattle.std.proofs.lemmas.Bool.{false≢true}
 use Rattle.std.specs.Io.KnownBytes.{Consumes, IsAtEnd}
 use Rattle.std.specs.Str.Lines.{lines}
@@ -10,9 +10,9 @@ use Rattle.nm_log.specs.declared.outcome.Outcome.{Outcome}
 use Rattle.nm_log.specs.declared.outcome.Outcome.TheVariants as outcomes
 use Rattle.nm_log.specs.declared.script.ScriptLine.{ScriptLine}
 use Rattle.nm_maildir.specs.declared.given.Given.{Given}
-use Rattle.nm_top.specs.Complete.{IsComplete, IsFinished, IsWithin, NoFault}
-use Rattle.nm_top.specs.Line.{Answers, IsAnswer, Runs}
-use Rattle.nm_top.specs.Session.{Ending, Ends, Gains, IsRead, IsRun, InputTooLong, MemoryWanted, Outside, Ran, ReadFailed, Told, TooManyLines, WordsRefused, has_mail_fault, has_no_memory, is_mail_fault, most_input, session_status, words_fault}
+use Rattle.nm_top.specs.Complete.{IsComplete, IsFinished, NoFault}
+use Rattle.nm_top.specs.Line.{IsAnswer, Runs}
+use Rattle.nm_top.specs.Session.{Ending, Ends, Gains, IsRun, InputTooLong, MemoryWanted, Outside, Ran, ReadFailed, Told, TooManyLines, WordsRefused, has_mail_fault, has_no_memory, is_mail_fault, most_input}
 use Rattle.nm_top.specs.State.{State}
 
 -- each line has its log

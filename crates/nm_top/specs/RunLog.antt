@@ -3,7 +3,7 @@ use Rattle.std.specs.Prelude.{◌≡◌, ℕ, true, List, [], ◌++◌, Option}
 use Rattle.nm_log.specs.declared.script.ScriptLine.{ScriptLine}
 use Rattle.nm_maildir.specs.Tree.{Tree}
 use Rattle.nm_top.specs.Line.{Runs}
-use Rattle.nm_top.specs.Session.{mail_in, opening_state}
+use Rattle.nm_top.specs.Session.{mail_after, mail_told, opening_state}
 use Rattle.nm_top.specs.State.{State}
 use Rattle.nm_top.specs.declared.session.RunLog.{RunLog}
 
@@ -15,4 +15,4 @@ pub record HasRunLines (lines : List ScriptLine) (run_log : RunLog) (tree : Opti
   pub lines_are : lines ≡ ran ++ unrun
   pub all : run_log.whole ≡ true → unrun ≡ []
   pub run : Runs (opening_state (record { tree = tree; reads = reads; faults = faults })) ran run_log.logs last
-  pub mail : mail_in last ≡ record { tree = new_tree; reads = new_reads; faults = new_faults }
+  pub mail : mail_after last ≡ mail_told new_tree new_reads new_faults

@@ -28,11 +28,17 @@ pub record Told : Type 0 where
   pub bytes : Option (List ℕ)
   pub faults : ℕ
 
+abbrev pub told : Option (List ℕ) → ℕ → Told
+told known count = record { bytes = known; faults = count }
+
 -- What the mail folder tells.
 pub record MailTold : Type 0 where
   pub tree : Option Tree
   pub reads : Option (List (List ℕ))
   pub faults : ℕ
+
+abbrev pub mail_told : Option Tree → Option (List (List ℕ)) → ℕ → MailTold
+mail_told known asked count = record { tree = known; reads = asked; faults = count }
 
 -- All devices at one moment.
 pub record Outside : Type 0 where
@@ -41,13 +47,16 @@ pub record Outside : Type 0 where
   pub out : Told
   pub err : Told
 
+abbrev pub outside : MailTold → Told → Told → Told → Outside
+outside folder source sink errors = record { mail = folder; input = source; out = sink; err = errors }
+
 -- what the first line begins with
 abbrev pub opening_state : MailTold → State
 opening_state mail = record { index = empty_index; tree = mail.tree; reads = mail.reads; faults = mail.faults }
 
 -- what the mail folder tells after a line
-abbrev pub mail_in : State → MailTold
-mail_in state = record { tree = state.tree; reads = state.reads; faults = state.faults }
+abbrev pub mail_after : State → MailTold
+mail_after state = mail_told state.tree state.reads state.faults
 
 -- the fault of the words: they must be the one word `session`
 abbrev pub words_fault : List (List ℕ) → Option (UsageKind × List ℕ)
@@ -103,7 +112,7 @@ pub record IsRun (script : List ScriptLine) (old_mail new_mail : MailTold) (old_
   pub lines : script ≡ ran ++ unrun
   pub all : whole ≡ true → unrun ≡ []
   pub run : Runs (opening_state old_mail) ran done.log.lines last
-  pub mail : new_mail ≡ mail_in last
+  pub mail : new_mail ≡ mail_after last
   pub out : Gains out_failed old_out new_out (printed done.log.lines)
   pub status : done.status ≡ session_status whole done.log.lines out_failed
   pub says : Says (last_word whole out_failed) old_err new_err

@@ -1,6 +1,6 @@
 ghost use Rattle.std.specs.Prelude.{◌≡◌, [], Some};
 ghost use Rattle.nm_log.specs.Replies.{printed, usage_line};
-ghost use Rattle.nm_top.specs.Session.{Gains, Says, has_mail_fault, has_no_memory, is_mail_fault, is_no_memory, last_word, session_status};
+ghost use Rattle.nm_top.specs.Session.{Gains, Says, has_mail_fault, has_no_memory, is_mail_fault, is_no_memory, last_word, session_status, told};
 
 use nm_base::{Many, UsageKind};
 use nm_io::Sink;
@@ -9,21 +9,21 @@ use std::alloc::Global;
 
 /// Prints the replies, and says whether that failed.
 pub(crate) fn print_all<O: Sink>(out: &mut O, logs: &[LineLog]) -> bool
-    ensures { Gains result (record { bytes = O.taken out.old; faults = O.faults out.old }) (record { bytes = O.taken out.new; faults = O.faults out.new }) (printed logs.now) }
+    ensures { Gains result (told (O.taken out.old) (O.faults out.old)) (told (O.taken out.new) (O.faults out.new)) (printed logs.now) }
 {
     print_lines(out, logs).is_err()
 }
 
 /// Says one line to the user, where that is possible.
 fn say<E: Sink>(err: &mut E, line: &[u8])
-    ensures { Says (Some line.now) (record { bytes = E.taken err.old; faults = E.faults err.old }) (record { bytes = E.taken err.new; faults = E.faults err.new }) }
+    ensures { Says (Some line.now) (told (E.taken err.old) (E.faults err.old)) (told (E.taken err.new) (E.faults err.new)) }
 {
     let _ = err.put(line);
 }
 
 /// What a session says in the end besides its replies.
 pub(crate) fn say_last<E: Sink>(err: &mut E, whole: bool, out_failed: bool)
-    ensures { Says (last_word whole out_failed) (record { bytes = E.taken err.old; faults = E.faults err.old }) (record { bytes = E.taken err.new; faults = E.faults err.new }) }
+    ensures { Says (last_word whole out_failed) (told (E.taken err.old) (E.faults err.old)) (told (E.taken err.new) (E.faults err.new)) }
 {
     if out_failed {
         say(err, b"notmuch: write fault\n");
@@ -38,7 +38,7 @@ pub(crate) fn say_last<E: Sink>(err: &mut E, whole: bool, out_failed: bool)
 pub(crate) fn refuse<E: Sink>(alloc: Global, err: &mut E, status: u8, line: &[u8]) -> Done
     ensures status { result.status ≡ status }
     ensures log { result.log.lines ≡ [] }
-    ensures says { Says (Some line.now) (record { bytes = E.taken err.old; faults = E.faults err.old }) (record { bytes = E.taken err.new; faults = E.faults err.new }) }
+    ensures says { Says (Some line.now) (told (E.taken err.old) (E.faults err.old)) (told (E.taken err.new) (E.faults err.new)) }
 {
     say(err, line);
     ended(alloc, status)
@@ -48,7 +48,7 @@ pub(crate) fn refuse<E: Sink>(alloc: Global, err: &mut E, status: u8, line: &[u8
 pub(crate) fn refuse_words<E: Sink>(alloc: Global, err: &mut E, kind: UsageKind, word: &str) -> Done
     ensures status { result.status ≡ 2 }
     ensures log { result.log.lines ≡ [] }
-    ensures says { Says (Some (usage_line kind word.now)) (record { bytes = E.taken err.old; faults = E.faults err.old }) (record { bytes = E.taken err.new; faults = E.faults err.new }) }
+    ensures says { Says (Some (usage_line kind word.now)) (told (E.taken err.old) (E.faults err.old)) (told (E.taken err.new) (E.faults err.new)) }
 {
     let _ = print_usage(err, kind, word);
     ended(alloc, 2)

@@ -1,6 +1,6 @@
 ghost use Rattle.std.specs.Prelude.{◌≡◌, ℕ, List, ◌∷◌, [], ◌≤◌, None, Some, MatchOption, pos, ◌≤ℤ◌};
 ghost use Rattle.nm_top.specs.Complete.{IsComplete};
-ghost use Rattle.nm_top.specs.Session.{Ending, Ends, IsRun, words_fault};
+ghost use Rattle.nm_top.specs.Session.{Ending, Ends, IsRun, mail_told, outside, told, words_fault};
 
 use crate::ending::{print_all, refuse, refuse_words, say_last, status_of_run};
 use crate::session::run_lines;
@@ -30,33 +30,17 @@ pub fn notmuch<M: Maildir, I: Source, O: Sink, E: Sink>(
     requires from_1970 { pos 0 ≤ℤ setting.now.moment }
     requires moment { setting.now.moment ≤ℤ pos 253000000000 }
     ensures history { (ending : Ending) × (script : List ℕ) × Ends ending script words.now
-        (record {
-          mail = record { tree = M.tree mail.old; reads = M.reads mail.old; faults = M.faults mail.old };
-          input = record { bytes = I.left input.old; faults = I.faults input.old };
-          out = record { bytes = O.taken out.old; faults = O.faults out.old };
-          err = record { bytes = E.taken err.old; faults = E.faults err.old };
-        })
-        (record {
-          mail = record { tree = M.tree mail.new; reads = M.reads mail.new; faults = M.faults mail.new };
-          input = record { bytes = I.left input.new; faults = I.faults input.new };
-          out = record { bytes = O.taken out.new; faults = O.faults out.new };
-          err = record { bytes = E.taken err.new; faults = E.faults err.new };
-        }) result }
+        (outside (mail_told (M.tree mail.old) (M.reads mail.old) (M.faults mail.old)) (told (I.left input.old) (I.faults input.old))
+        (told (O.taken out.old) (O.faults out.old)) (told (E.taken err.old) (E.faults err.old)))
+        (outside (mail_told (M.tree mail.new) (M.reads mail.new) (M.faults mail.new)) (told (I.left input.new) (I.faults input.new))
+        (told (O.taken out.new) (O.faults out.new)) (told (E.taken err.new) (E.faults err.new))) result }
 
     // Where nothing is in its way, the script is answered to its end.
     ensures complete { IsComplete words.now
-        (record {
-          mail = record { tree = M.tree mail.old; reads = M.reads mail.old; faults = M.faults mail.old };
-          input = record { bytes = I.left input.old; faults = I.faults input.old };
-          out = record { bytes = O.taken out.old; faults = O.faults out.old };
-          err = record { bytes = E.taken err.old; faults = E.faults err.old };
-        })
-        (record {
-          mail = record { tree = M.tree mail.new; reads = M.reads mail.new; faults = M.faults mail.new };
-          input = record { bytes = I.left input.new; faults = I.faults input.new };
-          out = record { bytes = O.taken out.new; faults = O.faults out.new };
-          err = record { bytes = E.taken err.new; faults = E.faults err.new };
-        }) result }
+        (outside (mail_told (M.tree mail.old) (M.reads mail.old) (M.faults mail.old)) (told (I.left input.old) (I.faults input.old))
+        (told (O.taken out.old) (O.faults out.old)) (told (E.taken err.old) (E.faults err.old)))
+        (outside (mail_told (M.tree mail.new) (M.reads mail.new) (M.faults mail.new)) (told (I.left input.new) (I.faults input.new))
+        (told (O.taken out.new) (O.faults out.new)) (told (E.taken err.new) (E.faults err.new))) result }
 {
     match fault_of(words) {
         Some((kind, word)) => refuse_words(alloc, err, kind, word),
@@ -101,18 +85,10 @@ fn read_and_run<M: Maildir, I: Source, O: Sink, E: Sink>(
     err: &mut E,
 ) -> Done
     ensures { (words : List (List ℕ)) → words_fault words ≡ None → (ending : Ending) × (script : List ℕ) × Ends ending script words
-        (record {
-          mail = record { tree = M.tree mail.old; reads = M.reads mail.old; faults = M.faults mail.old };
-          input = record { bytes = I.left input.old; faults = I.faults input.old };
-          out = record { bytes = O.taken out.old; faults = O.faults out.old };
-          err = record { bytes = E.taken err.old; faults = E.faults err.old };
-        })
-        (record {
-          mail = record { tree = M.tree mail.new; reads = M.reads mail.new; faults = M.faults mail.new };
-          input = record { bytes = I.left input.new; faults = I.faults input.new };
-          out = record { bytes = O.taken out.new; faults = O.faults out.new };
-          err = record { bytes = E.taken err.new; faults = E.faults err.new };
-        }) result }
+        (outside (mail_told (M.tree mail.old) (M.reads mail.old) (M.faults mail.old)) (told (I.left input.old) (I.faults input.old))
+        (told (O.taken out.old) (O.faults out.old)) (told (E.taken err.old) (E.faults err.old)))
+        (outside (mail_told (M.tree mail.new) (M.reads mail.new) (M.faults mail.new)) (told (I.left input.new) (I.faults input.new))
+        (told (O.taken out.new) (O.faults out.new)) (told (E.taken err.new) (E.faults err.new))) result }
 {
     match take_all(alloc, input, MOST_INPUT) {
         Ok(bytes) => match read_script(alloc, bytes.as_slice()) {
@@ -135,9 +111,9 @@ fn run_script<M: Maildir, O: Sink, E: Sink>(
     err: &mut E,
 ) -> Done
     ensures { IsRun script.now
-        (record { tree = M.tree mail.old; reads = M.reads mail.old; faults = M.faults mail.old }) (record { tree = M.tree mail.new; reads = M.reads mail.new; faults = M.faults mail.new })
-        (record { bytes = O.taken out.old; faults = O.faults out.old }) (record { bytes = O.taken out.new; faults = O.faults out.new })
-        (record { bytes = E.taken err.old; faults = E.faults err.old }) (record { bytes = E.taken err.new; faults = E.faults err.new }) result }
+        (mail_told (M.tree mail.old) (M.reads mail.old) (M.faults mail.old)) (mail_told (M.tree mail.new) (M.reads mail.new) (M.faults mail.new))
+        (told (O.taken out.old) (O.faults out.old)) (told (O.taken out.new) (O.faults out.new))
+        (told (E.taken err.old) (E.faults err.old)) (told (E.taken err.new) (E.faults err.new)) result }
 {
     let run = run_lines(alloc, script, mail);
     let out_failed = print_all(out, run.logs.as_slice());

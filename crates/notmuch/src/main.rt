@@ -3,9 +3,9 @@
 
 ghost use Rattle.std.specs.Prelude.{pos, ◌≤ℤ◌, IfOk};
 
-use nm_base::{Many, NoMemory, Text};
-use nm_io::{StdSink, StdSource};
-use nm_log::Setting;
+use nm_base::{Many, NoMemory, Text, UsageKind};
+use nm_io::{Sink, StdSink, StdSource};
+use nm_log::{Setting, print_usage};
 use nm_maildir::FolderMail;
 use nm_top::notmuch;
 use std::alloc::Global;
@@ -21,16 +21,29 @@ const WORKERS: u32 = 4;
 /// The last second that a run may begin at.
 const LAST_MOMENT: u64 = 253_000_000_000;
 
-/// The status where the program finds no memory before it begins.
-const NO_MEMORY: u8 = 7;
+/// Why the call has no words to run.
+#[derive(Drop)]
+enum WordsFault {
+    /// A word is not UTF-8.
+    Utf8,
+    NoMemory,
+}
+
+impl From<NoMemory> for WordsFault {
+    fn from(_: NoMemory) -> WordsFault {
+        WordsFault::NoMemory
+    }
+}
 
 fn main(rt: HostRuntime) -> ExitCode {
     let alloc = rt.alloc();
-    let Ok(words) = read_words(&rt, alloc) else {
-        return ExitCode::from(NO_MEMORY);
+    let mut err = StdSink::new(rt.stderr());
+    let words = match read_words(&rt, alloc) {
+        Ok(words) => words,
+        Err(fault) => return refuse(&mut err, &fault),
     };
     let Ok(root) = Text::of(alloc, "mail") else {
-        return ExitCode::from(NO_MEMORY);
+        return refuse(&mut err, &WordsFault::NoMemory);
     };
     let setting = Setting {
         moment: present_second(&rt),
@@ -39,7 +52,6 @@ fn main(rt: HostRuntime) -> ExitCode {
     };
     let mut input = StdSource::new(rt.stdin());
     let mut out = StdSink::new(rt.stdout());
-    let mut err = StdSink::new(rt.stderr());
     let mut mail = FolderMail::new(rt, root);
     let done = notmuch(
         alloc,
@@ -53,11 +65,27 @@ fn main(rt: HostRuntime) -> ExitCode {
     ExitCode::from(done.status)
 }
 
+/// Ends a run that has no words: says so, and gives the status.
+fn refuse<E: Sink>(err: &mut E, fault: &WordsFault) -> ExitCode {
+    match fault {
+        WordsFault::Utf8 => {
+            let _ = print_usage(err, UsageKind::Utf8, "");
+            ExitCode::from(2)
+        }
+        WordsFault::NoMemory => {
+            let _ = err.put(b"notmuch: no memory\n");
+            ExitCode::from(7)
+        }
+    }
+}
+
 /// The words behind the program's own name.
-fn read_words<R: Env + AllocGlobal>(rt: &R, alloc: Global) -> Result<Many<Text>, NoMemory> {
+fn read_words<R: Env + AllocGlobal>(rt: &R, alloc: Global) -> Result<Many<Text>, WordsFault> {
     let mut words = Many::new(alloc);
-    let Ok(args) = env::args(rt) else {
-        return Err(NoMemory);
+    let args = match env::args(rt) {
+        Ok(args) => args,
+        Err(error) if error.kind() == io::ErrorKind::InvalidData => return Err(WordsFault::Utf8),
+        Err(_) => return Err(WordsFault::NoMemory),
     };
     for arg in args.skip(1) {
         words.push(Text::from_string(arg))?;
