@@ -1,5 +1,5 @@
 -- The lines of a multipart, one by one.
-use Rattle.std.proofs.Common.{◌≡◌, ℕ, zero, suc, ◌+◌, ◌-◌, ◌<◌, ◌≤◌, Bool, true, false, cond, not, ◌||◌, ◌==◌, List, [], ◌∷◌, ◌++◌, length, take, drop, refl, sym, ap, subst, ◌∙◌, arith, append_assoc, length-drop}
+use Rattle.std.proofs.Common.{◌≡◌, ℕ, ◌+◌, ◌-◌, true, false, cond, ◌==◌, List, [], ◌∷◌, ◌++◌, length, take, drop, refl, sym, ap, ◌∙◌, arith, append_assoc}
 use Rattle.std.specs.List.{concat}
 use Rattle.std.proofs.lemmas.List.{append-nil}
 use Rattle.std.proofs.lemmas.Bool.{eqb-true}
@@ -8,7 +8,7 @@ use Rattle.nm_header.proofs.CutLemmas.{cut-nil}
 use Rattle.nm_header.proofs.LawLemmas.{concat-cut}
 use Rattle.nm_mime.specs.declared.children.Marks.{Marks}
 use Rattle.nm_mime.specs.declared.children.Stretch.{Stretch}
-use Rattle.nm_mime.specs.Children.{ends_part, is_line_of, part_at, part_behind, part_size, stops, stretches_in, stretches_of}
+use Rattle.nm_mime.specs.Children.{ends_part, is_line_of, part_at, part_size, stops, stretches_in, stretches_of}
 
 pub lines_long : (bytes : List ℕ) → length (concat (lines_of bytes)) ≡ length bytes
 lines_long bytes = ap length (concat-cut line_more bytes)
@@ -34,7 +34,7 @@ size_turn marks done kept left line behind n e l b goes =
     let rest : ℕ = cond (stops marks more) (length (content line)) (length line + part_size marks more) in
     let now : size_so_far marks done kept (line ∷ more) ≡ done + rest = ap (λ v. cond v kept (done + cond v 0 rest)) goes in
     let step : cond (stops marks more) (done + length (content line)) ((done + length line) + part_size marks more) ≡ done + rest =
-        elim (stops marks more) as (λ v. cond v (done + length (content line)) ((done + length line) + part_size marks more) ≡ done + cond v (length (content line)) (length line + part_size marks more)) [ true ↦ refl | false ↦ omega arith ] in
+    elim (stops marks more) as (λ v. cond v (done + length (content line)) ((done + length line) + part_size marks more) ≡ done + cond v (length (content line)) (length line + part_size marks more)) [ true ↦ refl | false ↦ omega arith ] in
     step ∙ sym now ∙ ap (size_so_far marks done kept) (sym lines)
 
 pub size_stop : (marks : Marks) (done kept : ℕ) (left line : List ℕ) (n : ℕ) → lines_of left ≡ take n left ∷ lines_of (drop n left) → line ≡ take n left → ends_part marks line ≡ true → kept ≡ size_so_far marks done kept (lines_of left)

@@ -1,3 +1,5 @@
 pub mod ChildLemmas
 pub mod ParamLemmas
+pub mod PartLemmas
+pub mod TreeLemmas
 pub mod TypeLemmas

@@ -1,5 +1,5 @@
 -- The parts in the content of a multipart (RFC 2046, section 5.1.1): what stands between its delimiter lines.
-use Rattle.std.specs.Prelude.{◌≡◌, ℕ, ◌+◌, ◌-◌, ◌<◌, ◌≤◌, Bool, false, ◌&&◌, ◌||◌, List, [], ◌∷◌, ◌++◌, length, drop, nat_eq, codes, if◌then◌else◌}
+use Rattle.std.specs.Prelude.{ℕ, ◌+◌, ◌-◌, Bool, false, ◌&&◌, ◌||◌, List, [], ◌∷◌, ◌++◌, length, drop, nat_eq, codes, if◌then◌else◌}
 use Rattle.std.specs.List.{concat, list_all, starts_with}
 use Rattle.nm_base.specs.Bounds.{is_white_space}
 use Rattle.nm_header.specs.Lines.{content, lines_of}

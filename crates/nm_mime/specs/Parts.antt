@@ -29,6 +29,12 @@ pub record IsWithin (size : ℕ) (entity : Entity) : Type 0 where
   pub ends : entity.to ≤ size
   pub depth : entity.depth ≤ 32
 
+-- the content of the part stands inside a mail of this size, and is not too deep
+pub record IsInside (size : ℕ) (part : Part) : Type 0 where
+  pub rises : part.from ≤ part.to
+  pub ends : part.to ≤ size
+  pub depth : part.depth ≤ 32
+
 -- the text of the first field with this name, or nothing
 abbrev pub field_text : List HeaderField → List ℕ → List ℕ
 field_text fields name = unwrap_or (slice_get (texts_of fields name) 0) []
@@ -62,6 +68,10 @@ opening_in entity header = opening_from entity header.rest (type_of entity.diges
 unfoldable pub opening_of : List ℕ → Entity → Opening
 opening_of mail entity = opening_in entity (header_of (bytes_in mail entity.from entity.to))
 
+-- the second part of a multipart/signed
+abbrev pub is_signature : Part → ℕ → Bool
+is_signature part before = before == 1 && bytes_eq part.kind (codes "multipart/signed")
+
 -- a stretch in a part as an entity; so many stand before it
 abbrev pub entity_in : Part → ℕ → Stretch → Entity
 entity_in part before stretch = record {
@@ -69,7 +79,7 @@ entity_in part before stretch = record {
   from = stretch.from;
   to = stretch.to;
   digest = bytes_eq part.kind (codes "multipart/digest");
-  signature = bytes_eq part.kind (codes "multipart/signed") && before == 1;
+  signature = is_signature part before;
 }
 
 abbrev pub entities_from : Part → ℕ → List Stretch → List Entity
@@ -102,5 +112,5 @@ abbrev pub whole_of : List ℕ → Entity
 whole_of mail = record { depth = 0; from = 0; to = length mail; digest = false; signature = false }
 
 -- the parts of a mail, from depth 0 to depth 32
-abbrev pub parts_of : List ℕ → List Part
+unfoldable pub parts_of : List ℕ → List Part
 parts_of mail = parts_upto 33 mail (whole_of mail)

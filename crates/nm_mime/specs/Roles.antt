@@ -1,6 +1,5 @@
 -- How a part is encoded, whether it is attached, and what becomes of it: the first of eight rules that fits.
-use Rattle.std.specs.Prelude.{ℕ, Bool, true, false, ◌&&◌, ◌||◌, ◌==◌, not, List, ◌++◌, Option, None, Some, map, nat_le, nat_lt, nat_eq, codes, if◌then◌else◌}
-use Rattle.std.specs.Char.{to_ascii_lowercase}
+use Rattle.std.specs.Prelude.{ℕ, Bool, true, false, ◌&&◌, ◌||◌, ◌==◌, not, List, Option, None, Some, nat_le, nat_lt, nat_eq, codes, if◌then◌else◌}
 use Rattle.std.specs.List.{before_first, list_any, starts_with}
 use Rattle.std.specs.Option.{option_map}
 use Rattle.std.specs.Str.{bytes_eq}

@@ -1,4 +1,3 @@
-
 use crate::roles::{Encoding, Role};
 use nm_base::Text;
 

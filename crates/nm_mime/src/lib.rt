@@ -7,11 +7,14 @@ mod entity;
 mod lines;
 mod param_list;
 mod quoted;
+mod reading;
 mod roles;
 mod space;
+mod tree;
 mod types;
 
 pub use entity::Part;
 pub use param_list::Param;
 pub use roles::{Encoding, Role};
+pub use tree::parts;
 pub use types::{ContentType, content_type};

@@ -1,4 +1,4 @@
-use Rattle.std.proofs.Common.{sym, ◌∙◌, arith, ap, ◌≡◌}
+use Rattle.std.proofs.Common.{sym, ◌∙◌, arith, ap}
 use Rattle.nm_mime.specs.Children.{is_line_of}
 use Rattle.nm_mime.proofs.ChildLemmas.{stretches_end, stretches_stop, stretches_turn}
 use Rattle.nm_mime.proofs.children.stretches.Goals as goal
