@@ -1,4 +1,5 @@
 pub mod ChildLemmas
+pub mod LawLemmas
 pub mod ParamLemmas
 pub mod PartLemmas
 pub mod TreeLemmas

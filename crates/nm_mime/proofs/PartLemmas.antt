@@ -43,7 +43,7 @@ through_short test (line ∷ lines) =
 pub rest_short : (bytes : List ℕ) → rest_of bytes ≤ length bytes
 rest_short bytes = subst (λ n. rest_of bytes ≤ n) (lines_long bytes) (through_short is_empty_line (lines_of bytes))
 
-stretch_long : (mail : List ℕ) (from to : ℕ) → from ≤ to → to ≤ length mail → length (bytes_in mail from to) ≡ to - from
+pub stretch_long : (mail : List ℕ) (from to : ℕ) → from ≤ to → to ≤ length mail → length (bytes_in mail from to) ≡ to - from
 stretch_long mail from to h k =
     let left : length (drop from mail) ≡ length mail - from = length-drop from mail in
     length-take-le (to - from) (drop from mail) (omega arith)

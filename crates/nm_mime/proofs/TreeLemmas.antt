@@ -76,13 +76,13 @@ strip_short : (line : List ℕ) → length (strip_carriage_return line) ≤ leng
 strip_short line = let one = take_short (length line - 1) line in
     elim (slice_index line (length line - 1) == 13) as (λ v. length (cond v (take (length line - 1) line) line) ≤ length line) [ true ↦ omega arith | false ↦ omega arith ]
 
-content_short : (line : List ℕ) → length (content line) ≤ length line
+pub content_short : (line : List ℕ) → length (content line) ≤ length line
 content_short line =
     let one = take_short (length line - 1) line in
     let two = strip_short (take (length line - 1) line) in
     elim (slice_index line (length line - 1) == 10) as (λ v. length (cond v (strip_carriage_return (take (length line - 1) line)) line) ≤ length line) [ true ↦ omega arith | false ↦ omega arith ]
 
-size_short : (marks : Marks) (lines : List (List ℕ)) → part_size marks lines ≤ length (concat lines)
+pub size_short : (marks : Marks) (lines : List (List ℕ)) → part_size marks lines ≤ length (concat lines)
 size_short marks [] = omega arith
 size_short marks (line ∷ more) =
     let rest = size_short marks more in
@@ -180,7 +180,7 @@ children_level mail opening d e =
       | false ↦ refl
     ]
 
-same_depth : (mail : List ℕ) (entity : Entity) → (opening_of mail entity).part.depth ≡ entity.depth
+pub same_depth : (mail : List ℕ) (entity : Entity) → (opening_of mail entity).part.depth ≡ entity.depth
 unfolding opening_of
 same_depth mail entity = refl
 

@@ -1,4 +1,5 @@
 pub mod Children
+pub mod Laws
 pub mod Params
 pub mod Parts
 pub mod Roles

@@ -4,6 +4,7 @@
 
 mod children;
 mod entity;
+mod laws;
 mod lines;
 mod param_list;
 mod quoted;
@@ -14,6 +15,7 @@ mod tree;
 mod types;
 
 pub use entity::Part;
+pub use laws::{a_part_stands_before_those_in_it, parts_in_a_part_stand_apart};
 pub use param_list::Param;
 pub use roles::{Encoding, Role};
 pub use tree::parts;

@@ -1,4 +1,5 @@
 ghost use Rattle.std.specs.Prelude.{◌≡◌, ◌&&◌, ◌==◌, ◌++◌, ◌≤◌, IfOk, OnOk, length, reverse};
+ghost use Rattle.std.specs.List.{All};
 ghost use Rattle.nm_mime.specs.Parts.{IsInside, IsWithin, children_of, entities_from, entity_in, inside, is_opened, is_signature, opening_of, parts_of, whole_of};
 
 use crate::children::{Stretch, line_marks, stretches};
@@ -11,7 +12,8 @@ use std::alloc::Global;
 /// The parts of a mail (RFC 2046, section 5), each before those in it. The mail itself is the first, at
 /// depth 0. At depth 32 no part is opened, so that any bytes are read in a time linear in their number.
 pub fn parts(alloc: Global, bytes: &[u8]) -> Result<Many<Part>, NoMemory>
-    ensures { IfOk result (λ parts. parts ≡ parts_of bytes.now) }
+    ensures value { IfOk result (λ parts. parts ≡ parts_of bytes.now) }
+    ensures inside { IfOk result (λ parts. All (IsInside (length bytes.now)) parts) }
 {
     let mut found = Many::new(alloc);
     let mut left = Many::new(alloc);

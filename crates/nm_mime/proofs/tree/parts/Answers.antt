@@ -1,5 +1,8 @@
 -- Each turn reads one of the parts that are left, and puts those in it on top.
-use Rattle.std.proofs.Common.{◌∙◌, ap, [], ◌∷◌, ◌++◌}
+use Rattle.std.proofs.Common.{◌∙◌, ap, [], ◌∷◌, ◌++◌, length}
+use Rattle.std.proofs.lemmas.List.Elements.{All-same}
+use Rattle.nm_mime.specs.Parts.{IsInside, parts_of}
+use Rattle.nm_mime.proofs.LawLemmas.{parts_inside}
 use Rattle.nm_mime.proofs.TreeLemmas.{parts_begin, parts_end, parts_turn, top_within, turn_less, turn_within}
 use Rattle.nm_mime.proofs.tree.parts.Goals as goal
 
@@ -15,8 +18,11 @@ parts-preserved c = (
   turn_within c.args.bytes.now c.in-Some.entity c.parts.left c.pop.new.self c.open_part.new.left c.parts.invariant.1 c.in-Some.ensures c.in_ok-part.ensures.left,
 )
 
-pub returns : goal.returns
-returns c = parts_end c.args.bytes.now c.parts.found c.parts.left c.in_default.ensures.0 c.parts.invariant.0
+pub returns-clause-value : goal.returns-clause-value
+returns-clause-value c = parts_end c.args.bytes.now c.parts.found c.parts.left c.in_default.ensures.0 c.parts.invariant.0
+
+pub returns-clause-inside : goal.returns-clause-inside
+returns-clause-inside c = All-same (IsInside (length c.args.bytes.now)) c.parts.found (parts_of c.args.bytes.now) (parts_end c.args.bytes.now c.parts.found c.parts.left c.in_default.ensures.0 c.parts.invariant.0) (parts_inside c.args.bytes.now)
 
 pub open_part-requires : goal.open_part-requires
 open_part-requires c = top_within _ c.in-Some.entity c.parts.left c.pop.new.self c.parts.invariant.1 c.in-Some.ensures

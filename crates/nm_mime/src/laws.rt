@@ -1,0 +1,14 @@
+ghost use Rattle.std.specs.Prelude.{List, ℕ, length};
+ghost use Rattle.nm_mime.specs.Laws.{AreApart, GoDown};
+ghost use Rattle.nm_mime.specs.Parts.{IsInside, inside, parts_of};
+ghost use Rattle.nm_mime.specs.declared.entity.Opening.{Opening};
+
+/// The parts in a part stand one behind the other, inside its content.
+pub fn parts_in_a_part_stand_apart()
+    ensures { (mail : List ℕ) → (opening : Opening) → IsInside (length mail) opening.part → AreApart opening.part.from opening.part.to (inside mail opening) }
+{}
+
+/// The first part is the mail itself, and each other is at most one level deeper than the one before it.
+pub fn a_part_stands_before_those_in_it()
+    ensures { (mail : List ℕ) → GoDown 0 (parts_of mail) }
+{}
