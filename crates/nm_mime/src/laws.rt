@@ -1,5 +1,7 @@
-ghost use Rattle.std.specs.Prelude.{List, ℕ, length};
-ghost use Rattle.nm_mime.specs.Laws.{AreApart, GoDown};
+ghost use Rattle.std.specs.Prelude.{◌≡◌, List, ℕ, length, true};
+ghost use Rattle.std.specs.List.{list_all};
+ghost use Rattle.nm_mime.specs.Children.{marks_of};
+ghost use Rattle.nm_mime.specs.Laws.{AreApart, GoDown, is_kept, is_one_line, read_parts, written_parts};
 ghost use Rattle.nm_mime.specs.Parts.{IsInside, inside, parts_of};
 ghost use Rattle.nm_mime.specs.declared.entity.Opening.{Opening};
 
@@ -11,4 +13,9 @@ pub fn parts_in_a_part_stand_apart()
 /// The first part is the mail itself, and each other is at most one level deeper than the one before it.
 pub fn a_part_stands_before_those_in_it()
     ensures { (mail : List ℕ) → GoDown 0 (parts_of mail) }
+{}
+
+/// The parts that are written into a multipart are read again, if none of their lines ends a part.
+pub fn written_parts_are_read()
+    ensures { (boundary : List ℕ) → (parts : List (List ℕ)) → is_one_line boundary ≡ true → list_all (is_kept (marks_of boundary)) parts ≡ true → read_parts (marks_of boundary) (written_parts (marks_of boundary) parts) ≡ parts }
 {}

@@ -15,7 +15,9 @@ mod tree;
 mod types;
 
 pub use entity::Part;
-pub use laws::{a_part_stands_before_those_in_it, parts_in_a_part_stand_apart};
+pub use laws::{
+    a_part_stands_before_those_in_it, parts_in_a_part_stand_apart, written_parts_are_read,
+};
 pub use param_list::Param;
 pub use roles::{Encoding, Role};
 pub use tree::parts;
