@@ -5,3 +5,4 @@ pub mod PartLemmas
 pub mod RoundLemmas
 pub mod TreeLemmas
 pub mod TypeLemmas
+pub mod Utf8Lemmas

@@ -7,7 +7,7 @@ use Rattle.std.specs.List.{after_first, position_or_len, prefix_len}
 use Rattle.std.proofs.lemmas.List.{append-nil}
 use Rattle.std.proofs.lemmas.Bool.{eqb-true}
 use Rattle.nm_mime.specs.declared.param_list.Param.{Param}
-use Rattle.nm_mime.specs.Params.{behind_name, behind_param, behind_quoted, behind_space, behind_value, ends_name, goes_on, is_pair, is_semicolon, param_in, params_behind, params_upto, quoted_text, begins_with, kept_param, param_from, value_in}
+use Rattle.nm_mime.specs.Params.{behind_name, behind_param, behind_quoted, behind_space, behind_value, ends_name, goes_on, is_pair, is_semicolon, param_in, params_behind, params_of, params_upto, quoted_text, begins_with, kept_param, param_from, value_in}
 use Rattle.nm_base.specs.Bounds.{is_white_space}
 
 -- ---- quoted strings
@@ -155,3 +155,6 @@ drop_less n text = let long : length (drop n text) ≡ length text - n = length-
 pub some_left : (left : List ℕ) → (length left == 0) ≡ false → 0 < length left
 some_left [] e = absurd (cc)
 some_left (b ∷ left) e = omega arith
+
+pub params_begin : (found : List Param) (left text : List ℕ) → found ≡ [] → left ≡ after_first is_semicolon text → found ++ params_behind left ≡ params_of text
+params_begin found left text f l = ap (λ x. x ++ params_behind left) f ∙ ap params_behind l

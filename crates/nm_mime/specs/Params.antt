@@ -3,7 +3,6 @@ use Rattle.std.specs.Prelude.{ℕ, zero, suc, Bool, false, ◌||◌, ◌==◌, n
 use Rattle.std.specs.Char.{to_ascii_lowercase}
 use Rattle.std.specs.List.{after_first, before_first, list_any, position_or_len, prefix_len}
 use Rattle.std.specs.Option.{option_map}
-use Rattle.std.specs.Str.Lossy.{utf8_lossy}
 use Rattle.std.specs.Str.{bytes_eq}
 use Rattle.nm_base.specs.Bounds.{is_white_space}
 use Rattle.nm_header.specs.Space.{trimmed}
@@ -68,7 +67,7 @@ begins_with sign (b ∷ more) = b == sign
 -- names have no case; one with a `*` is passed over
 abbrev pub kept_param : List ℕ → List ℕ → List Param
 kept_param name value =
-    if list_any is_star name then [] else record { name = utf8_lossy (map to_ascii_lowercase (trimmed name)); value = utf8_lossy value } ∷ []
+    if list_any is_star name then [] else record { name = map to_ascii_lowercase (trimmed name); value = value } ∷ []
 
 -- the parameter of a name behind which this stands: there is none where no `=` follows it
 abbrev pub param_from : List ℕ → List ℕ → List Param

@@ -1,13 +1,12 @@
-ghost use Rattle.std.specs.Prelude.{◌≡◌, ◌++◌, ◌<◌, ◌≤◌, IfOk, OnOk, drop, find, length, map, position, string_bytes};
+ghost use Rattle.std.specs.Prelude.{◌≡◌, ◌++◌, ◌<◌, ◌≤◌, IfOk, IsUtf8, OnOk, drop, find, length, map, position, string_bytes};
 ghost use Rattle.std.specs.Char.{to_ascii_lowercase};
 ghost use Rattle.std.specs.List.{after_first, before_first, list_any, position_or_len};
 ghost use Rattle.std.specs.Option.{option_copied, option_map};
-ghost use Rattle.std.specs.Str.Lossy.{utf8_lossy};
 ghost use Rattle.nm_header.specs.Space.{trimmed};
 ghost use Rattle.nm_mime.specs.Params.{begins_with, behind_name, behind_param, behind_space, behind_value, ends_name, ends_value, is_param, is_semicolon, is_star, kept_param, param_from, param_in, param_of, params_behind, params_of, value_in, value_of};
 
 use crate::quoted::{behind_quoted, quoted_text};
-use crate::space::{behind_space, is_white_space, trimmed};
+use crate::space::{behind_space, is_white_space, text_of, trimmed};
 use nm_base::{Copies, Many, NoMemory, Text};
 use std::alloc::Global;
 
@@ -22,6 +21,7 @@ pub struct Param {
 
 /// The parameters in a field's text, in their order.
 pub(crate) fn params(alloc: Global, text: &[u8]) -> Result<Many<Param>, NoMemory>
+    requires { IsUtf8 text.now }
     ensures { IfOk result (λ params. params ≡ params_of text.now) }
 {
     let mut found = Many::new(alloc);
@@ -39,7 +39,8 @@ fn add_param<'a>(
     text: &'a [u8],
     found: &mut Many<Param>,
 ) -> Result<&'a [u8], NoMemory>
-    requires { 0 < length text.now }
+    requires some { 0 < length text.now }
+    requires utf8 { IsUtf8 text.now }
     ensures found { OnOk result (found.new ≡ found.old ++ param_in text.now) }
     ensures left { IfOk result (λ left. left.now ≡ behind_param text.now) }
     ensures less { IfOk result (λ left. length left.now < length text.now) }
@@ -56,6 +57,8 @@ fn add_named(
     behind: &[u8],
     found: &mut Many<Param>,
 ) -> Result<(), NoMemory>
+    requires name { IsUtf8 name.now }
+    requires behind { IsUtf8 behind.now }
     ensures { OnOk result (found.new ≡ found.old ++ param_from name.now behind.now) }
 {
     if !begins_with(b'=', behind) {
@@ -69,22 +72,26 @@ fn add_named(
 }
 
 fn named_value(alloc: Global, name: &[u8], text: &[u8]) -> Result<Param, NoMemory>
-    ensures { IfOk result (λ param. param ≡ record { name = utf8_lossy (map to_ascii_lowercase (trimmed name.now)); value = utf8_lossy (value_in text.now) }) }
+    requires name { IsUtf8 name.now }
+    requires text { IsUtf8 text.now }
+    ensures { IfOk result (λ param. param ≡ record { name = map to_ascii_lowercase (trimmed name.now); value = value_in text.now }) }
 {
     let name = lowercase(alloc, trimmed(name))?;
-    let name = lossy(alloc, name.as_slice())?;
-    let value = value(alloc, text)?;
-    Ok(Param { name, value })
+    let value = value_bytes(alloc, text)?;
+    Ok(Param {
+        name: text_of(name),
+        value: text_of(value),
+    })
 }
 
-fn value(alloc: Global, text: &[u8]) -> Result<Text, NoMemory>
-    ensures { IfOk result (λ value. value ≡ utf8_lossy (value_in text.now)) }
+fn value_bytes(alloc: Global, text: &[u8]) -> Result<Vec<u8>, NoMemory>
+    ensures { IfOk result (λ value. value.items ≡ value_in text.now) }
 {
     if begins_with(b'"', text) {
-        let said = quoted_text(alloc, &text[1..])?;
-        return lossy(alloc, said.as_slice());
+        return quoted_text(alloc, &text[1..]);
     }
-    lossy(alloc, run(text))
+    let value = Vec::from_slice(alloc, run(text))?;
+    Ok(value)
 }
 
 fn run(text: &[u8]) -> &[u8]
@@ -171,13 +178,6 @@ pub(crate) fn lowercase(alloc: Global, text: &[u8]) -> Result<Vec<u8>, NoMemory>
 {
     let lower: Vec<u8> = text.iter().map(|b| b.to_ascii_lowercase()).collect(alloc)?;
     Ok(lower)
-}
-
-fn lossy(alloc: Global, bytes: &[u8]) -> Result<Text, NoMemory>
-    ensures { IfOk result (λ text. text ≡ utf8_lossy bytes.now) }
-{
-    let text = String::from_utf8_lossy(alloc, bytes)?;
-    Ok(Text::from_string(text))
 }
 
 /// The value of the first parameter with this name, which is in lower case.

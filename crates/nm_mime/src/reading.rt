@@ -34,7 +34,7 @@ fn read_fields(alloc: Global, entity: Entity, header: &HeaderList) -> Result<Ope
         entity,
         header.rest,
         &content_type,
-        disposition.as_bytes(),
+        disposition.as_str(),
         encoding,
     )
 }
@@ -56,7 +56,7 @@ fn opening_from(
     entity: Entity,
     rest: usize,
     content_type: &ContentType,
-    disposition: &[u8],
+    disposition: &str,
     encoding: Encoding,
 ) -> Result<Opening, NoMemory>
     requires { entity.from + rest ≤ entity.to }
@@ -65,7 +65,7 @@ fn opening_from(
     let params = content_type.params.as_slice();
     let boundary = value_text(alloc, params, "boundary")?;
     let kind = content_type.kind.copy()?;
-    let attached = is_attachment(disposition);
+    let attached = is_attachment(disposition.as_bytes());
     let role = fitting_role(
         attached,
         entity.signature,

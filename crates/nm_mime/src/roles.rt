@@ -96,15 +96,15 @@ fn is_special(b: u8) -> bool
 /// The name of an attached part's file; `params` are those of its type.
 pub(crate) fn filename(
     alloc: Global,
-    disposition: &[u8],
+    disposition: &str,
     of_type: &[Param],
 ) -> Result<Option<Text>, NoMemory>
     ensures { IfOk result (λ name. name ≡ filename_of disposition.now of_type.now) }
 {
-    if !is_attachment(disposition) {
+    if !is_attachment(disposition.as_bytes()) {
         return Ok(None);
     }
-    let own = params(alloc, disposition)?;
+    let own = params(alloc, disposition.as_bytes())?;
     match param_text(alloc, own.as_slice(), "filename")? {
         Some(name) => unworded(alloc, Some(name)),
         None => {

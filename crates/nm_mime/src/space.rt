@@ -1,8 +1,10 @@
-ghost use Rattle.std.specs.Prelude.{◌≡◌, ◌-◌, ◌≤◌, length};
+ghost use Rattle.std.specs.Prelude.{◌≡◌, ◌-◌, ◌≤◌, IsUtf8, length};
 ghost use Rattle.std.specs.List.{prefix_len, suffix_len};
 ghost use Rattle.nm_base.specs.Bounds.{is_white_space};
 ghost use Rattle.nm_header.specs.Space.{trimmed, trimmed_end};
 ghost use Rattle.nm_mime.specs.Params.{behind_space};
+
+use nm_base::Text;
 
 pub(crate) fn is_white_space(b: u8) -> bool
     ensures { result ≡ is_white_space b }
@@ -50,4 +52,15 @@ fn kept_len(bytes: &[u8]) -> usize
         count -= 1;
     }
     count
+}
+
+/// Takes no memory.
+pub(crate) fn text_of(bytes: Vec<u8>) -> Text
+    requires { IsUtf8 bytes.items }
+    ensures { result ≡ bytes.items }
+{
+    match String::from_utf8(bytes) {
+        Ok(string) => Text::from_string(string),
+        Err(_) => unreachable!(),
+    }
 }

@@ -5,7 +5,7 @@ ghost use Rattle.nm_mime.specs.Params.{params_of};
 ghost use Rattle.nm_mime.specs.Types.{content_type_of, ends_type, has_slash_inside, is_slash, mail_type, plain_type, read_type, run_of, type_of};
 
 use crate::param_list::{Param, lowercase, params};
-use crate::space::behind_space;
+use crate::space::{behind_space, text_of};
 use nm_base::{Many, NoMemory, Text};
 use std::alloc::Global;
 
@@ -42,6 +42,7 @@ pub(crate) fn part_type(alloc: Global, text: &str, digest: bool) -> Result<Conte
 }
 
 fn read(alloc: Global, run: &[u8], text: &[u8]) -> Result<ContentType, NoMemory>
+    requires utf8 { IsUtf8 text.now }
     requires run { run.now ≡ run_of text.now }
     requires slash { has_slash_inside run.now ≡ true }
     ensures { IfOk result (λ read. read ≡ record { kind = map to_ascii_lowercase run.now; params = params_of text.now }) }
@@ -109,15 +110,4 @@ fn has_slash(inside: &[u8]) -> bool
     ensures { result ≡ list_any is_slash inside.now }
 {
     inside.iter().any(|b| *b == b'/')
-}
-
-/// Takes no memory.
-fn text_of(bytes: Vec<u8>) -> Text
-    requires { IsUtf8 bytes.items }
-    ensures { result ≡ bytes.items }
-{
-    match String::from_utf8(bytes) {
-        Ok(string) => Text::from_string(string),
-        Err(_) => unreachable!(),
-    }
 }
