@@ -1,3 +1,4 @@
+pub mod BetweenLemmas
 pub mod ChildLemmas
 pub mod LawLemmas
 pub mod ParamLemmas
