@@ -1,0 +1,194 @@
+-- The pieces of a text are text: it is cut at ASCII signs, and only ASCII signs are taken out or changed.
+use Rattle.std.proofs.Common.{◌≡◌, ℕ, zero, suc, ◌+◌, ◌-◌, ◌<◌, ◌≤◌, Bool, true, false, cond, not, ◌==◌, List, [], ◌∷◌, ◌++◌, length, map, take, drop, get_or, reverse, ltb, refl, sym, ap, subst, ◌∙◌, arith, append_assoc}
+use Rattle.std.specs.Prelude.{IsUtf8}
+use Rattle.std.specs.Char.{to_ascii_lowercase}
+use Rattle.std.specs.List.{after_first, before_first, position_or_len, prefix_len, suffix_len}
+use Rattle.std.proofs.lemmas.Bool.{eqb-true, ltb-false, ltb-true}
+use Rattle.std.proofs.lemmas.Bool.Decides.{nat_tests}
+use Rattle.std.proofs.lemmas.List.{append-nil, drop_all, get_or-reverse, length-reverse, take_all}
+use Rattle.std.proofs.lemmas.List.Sums.{prefix_len_passes, prefix_len_stops, suffix_len-le-length}
+use Rattle.std.proofs.lemmas.Str.{IsCharBoundary-after_ascii, IsCharBoundary-before_ascii, IsUtf8-append, IsUtf8-drop, IsUtf8-from_ascii, IsUtf8-nil, IsUtf8-take}
+use Rattle.std.proofs.lemmas.Str.Ascii.{IsAscii-cons, IsAscii-nil, lowercase_ascii, lowercase_is}
+use Rattle.nm_base.specs.Bounds.{is_white_space}
+use Rattle.nm_header.specs.Space.{trimmed, trimmed_end}
+use Rattle.nm_header.proofs.Utf8Lemmas.{drop_ascii, split_ascii}
+use Rattle.nm_mime.specs.Params.{begins_with, behind_name, behind_param, behind_quoted, behind_space, behind_value, ends_name, ends_value, is_semicolon, quoted_text, value_in}
+
+passes : (b : Bool) → not b ≡ false → b ≡ true
+passes true e = refl
+passes false e = absurd (cc)
+
+-- ---- cut at the first ASCII sign
+module _ (p : ℕ → Bool) (ascii : (b : ℕ) → p b ≡ true → b < 128) where
+  sign_small : (text : List ℕ) → position_or_len p text < length text → get_or text (position_or_len p text) 0 < 128
+  sign_small text h = ascii (get_or text (position_or_len p text) 0) (passes (p (get_or text (position_or_len p text) 0)) (prefix_len_stops (λ b. not (p b)) text 0 h))
+
+  pub before_utf8 : (text : List ℕ) → IsUtf8 text → IsUtf8 (before_first p text)
+  before_utf8 text u =
+      let n : ℕ = position_or_len p text in
+      elim (ltb n (length text)) as (λ v. ltb n (length text) ≡ v → IsUtf8 (take n text)) [
+        | true ↦ λ h. let inside = ltb-true n (length text) h in IsUtf8-take text n u (IsCharBoundary-before_ascii text n inside (sign_small text inside))
+        | false ↦ λ h. subst IsUtf8 (sym (take_all n text (ltb-false n (length text) h))) u
+      ] refl
+
+  pub from_utf8 : (text : List ℕ) → IsUtf8 text → IsUtf8 (drop (position_or_len p text) text)
+  from_utf8 text u =
+      let n : ℕ = position_or_len p text in
+      elim (ltb n (length text)) as (λ v. ltb n (length text) ≡ v → IsUtf8 (drop n text)) [
+        | true ↦ λ h. let inside = ltb-true n (length text) h in IsUtf8-drop text n u (IsCharBoundary-before_ascii text n inside (sign_small text inside))
+        | false ↦ λ h. subst IsUtf8 (sym (drop_all n text (ltb-false n (length text) h))) IsUtf8-nil
+      ] refl
+
+  pub after_utf8 : (text : List ℕ) → IsUtf8 text → IsUtf8 (after_first p text)
+  after_utf8 text u =
+      let n : ℕ = position_or_len p text in
+      elim (ltb n (length text)) as (λ v. ltb n (length text) ≡ v → IsUtf8 (drop (n + 1) text)) [
+        | true ↦ λ h. let inside = ltb-true n (length text) h in IsUtf8-drop text (n + 1) u (IsCharBoundary-after_ascii text n u inside (sign_small text inside))
+        | false ↦ λ h. let past = ltb-false n (length text) h in subst IsUtf8 (sym (drop_all (n + 1) text (omega arith))) IsUtf8-nil
+      ] refl
+
+name_end_small : (b : ℕ) → ends_name b ≡ true → b < 128
+name_end_small b e = grind (arith, nat_tests)
+
+semicolon_small : (b : ℕ) → is_semicolon b ≡ true → b < 128
+semicolon_small b e = let same : b ≡ 59 = eqb-true b 59 e in omega arith
+
+space_small : (b : ℕ) → is_white_space b ≡ true → b < 128
+space_small b e = grind (arith, nat_tests)
+
+value_end_small : (b : ℕ) → ends_value b ≡ true → b < 128
+value_end_small b e = grind (arith, nat_tests)
+
+pub name_utf8 : (text : List ℕ) → IsUtf8 text → IsUtf8 (before_first ends_name text)
+name_utf8 text u = before_utf8 ends_name name_end_small text u
+
+pub rest_utf8 : (text : List ℕ) → IsUtf8 text → IsUtf8 (drop (position_or_len ends_name text) text)
+rest_utf8 text u = from_utf8 ends_name name_end_small text u
+
+pub semicolon_utf8 : (text : List ℕ) → IsUtf8 text → IsUtf8 (after_first is_semicolon text)
+semicolon_utf8 text u = after_utf8 is_semicolon semicolon_small text u
+
+-- ---- white space taken off
+pub tail_utf8 : (b : ℕ) (more : List ℕ) → b < 128 → IsUtf8 (b ∷ more) → IsUtf8 more
+tail_utf8 b more small u = (split_ascii [] more b small u).1
+
+pub space_utf8 : (text : List ℕ) → IsUtf8 text → IsUtf8 (behind_space text)
+space_utf8 [] u = u
+space_utf8 (b ∷ more) u =
+    let n : ℕ = prefix_len is_white_space more in
+    let one : 1 + n ≡ suc n = omega arith in
+    elim (is_white_space b) as (λ v. is_white_space b ≡ v → IsUtf8 (drop (cond v (1 + n) 0) (b ∷ more))) [
+      | true ↦ λ h. subst (λ k. IsUtf8 (drop k (b ∷ more))) (sym one) (space_utf8 more (tail_utf8 b more (space_small b h) u))
+      | false ↦ λ h. u
+    ] refl
+
+end_utf8 : (text : List ℕ) → IsUtf8 text → IsUtf8 (trimmed_end text)
+end_utf8 text u =
+    let s : ℕ = suffix_len is_white_space text in
+    let k : ℕ = length text - s in
+    let most = suffix_len-le-length is_white_space text in
+    elim (ltb 0 s) as (λ v. ltb 0 s ≡ v → IsUtf8 (take k text)) [
+      | true ↦ λ h.
+          let some = ltb-true 0 s h in
+          let long : length (reverse text) ≡ length text = length-reverse text in
+          let back : get_or (reverse text) (s - 1) 0 ≡ get_or text (length text - 1 - (s - 1)) 0 = get_or-reverse text (s - 1) 0 (omega arith) in
+          let at : length text - 1 - (s - 1) ≡ k = omega arith in
+          let white : is_white_space (get_or text k 0) ≡ true = ap is_white_space (sym (back ∙ ap (λ i. get_or text i 0) at)) ∙ prefix_len_passes is_white_space (reverse text) (s - 1) 0 (omega arith) in
+          IsUtf8-take text k u (IsCharBoundary-before_ascii text k (omega arith) (space_small (get_or text k 0) white))
+      | false ↦ λ h. let none = ltb-false 0 s h in subst IsUtf8 (sym (take_all k text (omega arith))) u
+    ] refl
+
+pub trimmed_utf8 : (text : List ℕ) → IsUtf8 text → IsUtf8 (trimmed text)
+trimmed_utf8 text u = end_utf8 (behind_space text) (space_utf8 text u)
+
+-- ---- letters made small
+lower_behind : (front text : List ℕ) → IsUtf8 (front ++ text) → IsUtf8 (front ++ map to_ascii_lowercase text)
+lower_behind front [] u = u
+lower_behind front (b ∷ text) u =
+    let c : ℕ = to_ascii_lowercase b in
+    elim (ltb b 128) as (λ v. ltb b 128 ≡ v → IsUtf8 (front ++ c ∷ map to_ascii_lowercase text)) [
+      | true ↦ λ h.
+          let small = ltb-true b 128 h in
+          let parts = split_ascii front text b small u in
+          let one : IsUtf8 (c ∷ []) = IsUtf8-from_ascii (c ∷ []) (IsAscii-cons c [] (lowercase_ascii b small) IsAscii-nil) in
+          let changed : IsUtf8 ((front ++ c ∷ []) ++ text) = IsUtf8-append (front ++ c ∷ []) text (IsUtf8-append front (c ∷ []) parts.0 one) parts.1 in
+          subst IsUtf8 (append_assoc front (c ∷ []) (map to_ascii_lowercase text)) (lower_behind (front ++ c ∷ []) text changed)
+      | false ↦ λ h.
+          let large = ltb-false b 128 h in
+          let same : c ≡ b = (lowercase_is b).2 (omega arith) in
+          let kept : IsUtf8 ((front ++ c ∷ []) ++ text) = subst IsUtf8 (ap (λ x. front ++ x ∷ text) (sym same) ∙ sym (append_assoc front (c ∷ []) text)) u in
+          subst IsUtf8 (append_assoc front (c ∷ []) (map to_ascii_lowercase text)) (lower_behind (front ++ c ∷ []) text kept)
+    ] refl
+
+pub lower_utf8 : (text : List ℕ) → IsUtf8 text → IsUtf8 (map to_ascii_lowercase text)
+lower_utf8 text u = lower_behind [] text u
+
+-- ---- quoted strings
+said_behind : (n : ℕ) (front text : List ℕ) → length text ≤ n → IsUtf8 (front ++ text) → IsUtf8 (front ++ quoted_text text)
+said_behind n front [] h u = u
+said_behind n front (b ∷ []) h u =
+    elim (b == 34) as (λ v. (b == 34) ≡ v → IsUtf8 (front ++ cond v [] (b ∷ []))) [
+      | true ↦ λ e. let sign : b ≡ 34 = eqb-true b 34 e in drop_ascii front [] b (omega arith) u
+      | false ↦ λ e. u
+    ] refl
+said_behind zero front (b ∷ c ∷ more) h u = absurd (omega arith)
+said_behind (suc n) front (b ∷ c ∷ more) h u =
+    elim (b == 34) as (λ v. (b == 34) ≡ v → IsUtf8 (front ++ cond v [] (cond (b == 92) (c ∷ quoted_text more) (b ∷ quoted_text (c ∷ more))))) [
+      | true ↦ λ e. let sign : b ≡ 34 = eqb-true b 34 e in subst IsUtf8 (sym (append-nil front)) (split_ascii front (c ∷ more) b (omega arith) u).0
+      | false ↦ λ e. elim (b == 92) as (λ v. (b == 92) ≡ v → IsUtf8 (front ++ cond v (c ∷ quoted_text more) (b ∷ quoted_text (c ∷ more)))) [
+        | true ↦ λ f.
+            let sign : b ≡ 92 = eqb-true b 92 f in
+            subst IsUtf8 (append_assoc front (c ∷ []) (quoted_text more)) (said_behind n (front ++ c ∷ []) more (omega arith) (subst IsUtf8 (sym (append_assoc front (c ∷ []) more)) (drop_ascii front (c ∷ more) b (omega arith) u)))
+        | false ↦ λ f. subst IsUtf8 (append_assoc front (b ∷ []) (quoted_text (c ∷ more))) (said_behind n (front ++ b ∷ []) (c ∷ more) (omega arith) (subst IsUtf8 (sym (append_assoc front (b ∷ []) (c ∷ more))) u))
+      ] refl
+    ] refl
+
+rest_behind : (n : ℕ) (front text : List ℕ) → length text ≤ n → IsUtf8 (front ++ text) → IsUtf8 (behind_quoted text)
+rest_behind n front [] h u = IsUtf8-nil
+rest_behind n front (b ∷ []) h u = IsUtf8-nil
+rest_behind zero front (b ∷ c ∷ more) h u = absurd (omega arith)
+rest_behind (suc n) front (b ∷ c ∷ more) h u =
+    elim (b == 34) as (λ v. (b == 34) ≡ v → IsUtf8 (cond v (c ∷ more) (cond (b == 92) (behind_quoted more) (behind_quoted (c ∷ more))))) [
+      | true ↦ λ e. let sign : b ≡ 34 = eqb-true b 34 e in (split_ascii front (c ∷ more) b (omega arith) u).1
+      | false ↦ λ e. elim (b == 92) as (λ v. IsUtf8 (cond v (behind_quoted more) (behind_quoted (c ∷ more)))) [
+        | true ↦ rest_behind n (front ++ b ∷ c ∷ []) more (omega arith) (subst IsUtf8 (sym (append_assoc front (b ∷ c ∷ []) more)) u)
+        | false ↦ rest_behind n (front ++ b ∷ []) (c ∷ more) (omega arith) (subst IsUtf8 (sym (append_assoc front (b ∷ []) (c ∷ more))) u)
+      ]
+    ] refl
+
+-- ---- values
+pub value_utf8 : (text : List ℕ) → IsUtf8 text → IsUtf8 (value_in text)
+value_utf8 [] u = u
+value_utf8 (b ∷ more) u =
+    elim (b == 34) as (λ v. (b == 34) ≡ v → IsUtf8 (cond v (quoted_text more) (before_first ends_value (b ∷ more)))) [
+      | true ↦ λ e. let sign : b ≡ 34 = eqb-true b 34 e in said_behind (length more) [] more (omega arith) (tail_utf8 b more (omega arith) u)
+      | false ↦ λ e. before_utf8 ends_value value_end_small (b ∷ more) u
+    ] refl
+
+behind_value_utf8 : (text : List ℕ) → IsUtf8 text → IsUtf8 (behind_value text)
+behind_value_utf8 [] u = u
+behind_value_utf8 (b ∷ more) u =
+    elim (b == 34) as (λ v. (b == 34) ≡ v → IsUtf8 (cond v (behind_quoted more) (b ∷ more))) [
+      | true ↦ λ e. let sign : b ≡ 34 = eqb-true b 34 e in rest_behind (length more) [] more (omega arith) (tail_utf8 b more (omega arith) u)
+      | false ↦ λ e. u
+    ] refl
+
+pub behind_name_utf8 : (text : List ℕ) → IsUtf8 text → IsUtf8 (behind_name text)
+behind_name_utf8 [] u = u
+behind_name_utf8 (b ∷ more) u =
+    elim (b == 61) as (λ v. (b == 61) ≡ v → IsUtf8 (cond v (behind_value (behind_space more)) (b ∷ more))) [
+      | true ↦ λ e. let sign : b ≡ 61 = eqb-true b 61 e in behind_value_utf8 (behind_space more) (space_utf8 more (tail_utf8 b more (omega arith) u))
+      | false ↦ λ e. u
+    ] refl
+
+-- what stands behind a parameter of a text is text
+pub param_utf8 : (text : List ℕ) → IsUtf8 text → IsUtf8 (behind_param text)
+param_utf8 text u = semicolon_utf8 (behind_name (drop (position_or_len ends_name text) text)) (behind_name_utf8 (drop (position_or_len ends_name text) text) (rest_utf8 text u))
+
+-- and so is what stands behind its sign and white space
+pub sign_utf8 : (text : List ℕ) → begins_with 61 text ≡ true → IsUtf8 text → IsUtf8 (behind_space (take (length text - 1) (drop 1 text)))
+sign_utf8 [] e u = absurd (cc)
+sign_utf8 (b ∷ more) e u =
+    let sign : b ≡ 61 = eqb-true b 61 e in
+    let all : take (length (b ∷ more) - 1) more ≡ more = take_all (length (b ∷ more) - 1) more (omega arith) in
+    subst (λ x. IsUtf8 (behind_space x)) (sym all) (space_utf8 more (tail_utf8 b more (omega arith) u))

@@ -1,0 +1,6 @@
+pub mod Children
+pub mod Laws
+pub mod Params
+pub mod Parts
+pub mod Roles
+pub mod Types

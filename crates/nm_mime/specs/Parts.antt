@@ -1,0 +1,116 @@
+-- The tree of parts (RFC 2046, section 5): each part stands before those in it.
+use Rattle.std.specs.Prelude.{ℕ, zero, suc, ◌+◌, ◌-◌, ◌≤◌, Bool, true, false, ◌&&◌, ◌==◌, List, [], ◌∷◌, length, take, drop, slice_get, unwrap_or, codes, if◌then◌else◌}
+use Rattle.std.specs.List.{flat_map}
+use Rattle.std.specs.Str.{bytes_eq}
+use Rattle.nm_header.specs.Fields.{header_of}
+use Rattle.nm_header.specs.Texts.{texts_of}
+use Rattle.nm_header.specs.declared.header.HeaderField.{HeaderField}
+use Rattle.nm_header.specs.declared.header.HeaderList.{HeaderList}
+use Rattle.nm_mime.specs.Children.{marks_of, stretches_of}
+use Rattle.nm_mime.specs.Params.{value_of}
+use Rattle.nm_mime.specs.Roles.{encoding_of, filename_of, is_attachment, is_multipart, role_of}
+use Rattle.nm_mime.specs.Types.{type_of}
+use Rattle.nm_mime.specs.declared.children.Stretch.{Stretch}
+use Rattle.nm_mime.specs.declared.entity.Entity.{Entity}
+use Rattle.nm_mime.specs.declared.entity.Part.{Part}
+use Rattle.nm_mime.specs.declared.entity.Opening.{Opening}
+use Rattle.nm_mime.specs.declared.roles.Encoding.{Encoding}
+use Rattle.nm_mime.specs.declared.roles.Role.{Role}
+use Rattle.nm_mime.specs.declared.roles.Role.TheVariants.{Opened, Readable, Signature, Unread}
+use Rattle.nm_mime.specs.declared.types.ContentType.{ContentType}
+
+-- the bytes from one place to another
+abbrev pub bytes_in : List ℕ → ℕ → ℕ → List ℕ
+bytes_in mail from to = take (to - from) (drop from mail)
+
+-- the entity stands inside a mail of this size, and is not too deep
+pub record IsWithin (size : ℕ) (entity : Entity) : Type 0 where
+  pub rises : entity.from ≤ entity.to
+  pub ends : entity.to ≤ size
+  pub depth : entity.depth ≤ 32
+
+-- the content of the part stands inside a mail of this size, and is not too deep
+pub record IsInside (size : ℕ) (part : Part) : Type 0 where
+  pub rises : part.from ≤ part.to
+  pub ends : part.to ≤ size
+  pub depth : part.depth ≤ 32
+
+-- the text of the first field with this name, or nothing
+abbrev pub field_text : List HeaderField → List ℕ → List ℕ
+field_text fields name = unwrap_or (slice_get (texts_of fields name) 0) []
+
+abbrev pub boundary_of : ContentType → List ℕ
+boundary_of type = value_of type.params (codes "boundary")
+
+-- an entity whose content begins so many bytes behind its front, and what its fields say
+abbrev pub part_from : Entity → ℕ → ContentType → List ℕ → Encoding → Part
+part_from entity rest type disposition encoding = record {
+  depth = entity.depth;
+  kind = type.kind;
+  charset = value_of type.params (codes "charset");
+  encoding = encoding;
+  attached = is_attachment disposition;
+  filename = filename_of disposition type.params;
+  role = role_of (is_attachment disposition) entity.signature entity.depth type.kind (boundary_of type) encoding;
+  from = entity.from + rest;
+  to = entity.to;
+}
+
+abbrev pub opening_from : Entity → ℕ → ContentType → List ℕ → Encoding → Opening
+opening_from entity rest type disposition encoding =
+    record { part = part_from entity rest type disposition encoding; boundary = boundary_of type }
+
+-- the part of an entity with this header
+abbrev pub opening_in : Entity → HeaderList → Opening
+opening_in entity header = opening_from entity header.rest (type_of entity.digest (field_text header.list (codes "content-type"))) (field_text header.list (codes "content-disposition")) (encoding_of (field_text header.list (codes "content-transfer-encoding")))
+
+-- the part of an entity, and the boundary that its type names
+unfoldable pub opening_of : List ℕ → Entity → Opening
+opening_of mail entity = opening_in entity (header_of (bytes_in mail entity.from entity.to))
+
+-- the second part of a multipart/signed
+abbrev pub is_signature : Part → ℕ → Bool
+is_signature part before = before == 1 && bytes_eq part.kind (codes "multipart/signed")
+
+-- a stretch in a part as an entity; so many stand before it
+abbrev pub entity_in : Part → ℕ → Stretch → Entity
+entity_in part before stretch = record {
+  depth = part.depth + 1;
+  from = stretch.from;
+  to = stretch.to;
+  digest = bytes_eq part.kind (codes "multipart/digest");
+  signature = is_signature part before;
+}
+
+abbrev pub entities_from : Part → ℕ → List Stretch → List Entity
+entities_from part before [] = []
+entities_from part before (stretch ∷ more) = entity_in part before stretch ∷ entities_from part (before + 1) more
+
+abbrev pub is_opened : Role → Bool
+is_opened Opened = true
+is_opened Readable = false
+is_opened Unread = false
+is_opened Signature = false
+
+-- the stretches in a part that is opened: those of a multipart, or the mail that the content is
+abbrev pub inside : List ℕ → Opening → List Stretch
+inside mail opening =
+    if is_multipart opening.part.kind then stretches_of (marks_of opening.boundary) opening.part.to (bytes_in mail opening.part.from opening.part.to)
+    else record { from = opening.part.from; to = opening.part.to } ∷ []
+
+unfoldable pub children_of : List ℕ → Opening → List Entity
+children_of mail opening = if is_opened opening.part.role then entities_from opening.part 0 (inside mail opening) else []
+
+-- the part of an entity, and those in it down to the n-th level
+abbrev pub parts_upto : ℕ → List ℕ → Entity → List Part
+parts_upto zero mail entity = []
+parts_upto (suc n) mail entity =
+    (opening_of mail entity).part ∷ flat_map (parts_upto n mail) (children_of mail (opening_of mail entity))
+
+-- the whole mail
+abbrev pub whole_of : List ℕ → Entity
+whole_of mail = record { depth = 0; from = 0; to = length mail; digest = false; signature = false }
+
+-- the parts of a mail, from depth 0 to depth 32
+unfoldable pub parts_of : List ℕ → List Part
+parts_of mail = parts_upto 33 mail (whole_of mail)

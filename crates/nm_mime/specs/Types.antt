@@ -1,0 +1,41 @@
+-- Content types (RFC 2045, sections 5.1 and 5.2).
+use Rattle.std.specs.Prelude.{ℕ, ◌-◌, Bool, ◌&&◌, ◌||◌, ◌==◌, not, List, [], ◌∷◌, Option, None, Some, length, map, take, drop, nat_le, unwrap_or, codes, if◌then◌else◌}
+use Rattle.std.specs.Char.{to_ascii_lowercase}
+use Rattle.std.specs.List.{before_first, list_any}
+use Rattle.nm_mime.specs.declared.types.ContentType.{ContentType}
+use Rattle.nm_mime.specs.Params.{behind_space, params_of}
+
+-- no printable ASCII character, or a `;`
+abbrev pub ends_type : ℕ → Bool
+ends_type b = not (nat_le 33 b && nat_le b 126) || b == 59
+
+abbrev pub is_slash : ℕ → Bool
+is_slash b = b == 47
+
+-- the characters with which the text begins
+abbrev pub run_of : List ℕ → List ℕ
+run_of text = before_first ends_type (behind_space text)
+
+-- a `/` that has something on both sides
+abbrev pub has_slash_inside : List ℕ → Bool
+has_slash_inside run = list_any is_slash (drop 1 (take (length run - 1) run))
+
+-- the type that is read in a field's text, if there is one
+abbrev pub read_type : List ℕ → Option ContentType
+read_type text =
+    if has_slash_inside (run_of text) then Some (record { kind = map to_ascii_lowercase (run_of text); params = params_of text }) else None
+
+-- where none is read: text/plain in ASCII
+abbrev pub plain_type : ContentType
+plain_type = record { kind = codes "text/plain"; params = record { name = codes "charset"; value = codes "us-ascii" } ∷ [] }
+
+-- and in a digest a mail
+abbrev pub mail_type : ContentType
+mail_type = record { kind = codes "message/rfc822"; params = [] }
+
+abbrev pub content_type_of : List ℕ → ContentType
+content_type_of text = unwrap_or (read_type text) plain_type
+
+-- the type of a part; `digest`: it stands in a digest
+abbrev pub type_of : Bool → List ℕ → ContentType
+type_of digest text = unwrap_or (read_type text) (if digest then mail_type else plain_type)

@@ -1,0 +1,25 @@
+//! The parts of a mail (RFC 2045, RFC 2046): a tree of any form is read without recursion.
+//! Damage never stops it; want of memory is the only refusal.
+#![tactic(auto)]
+
+mod children;
+mod entity;
+mod laws;
+mod lines;
+mod param_list;
+mod quoted;
+mod reading;
+mod roles;
+mod space;
+mod tree;
+mod types;
+
+pub use entity::Part;
+pub use laws::{
+    a_part_stands_before_those_in_it, parts_in_a_part_stand_apart, parts_stand_between_delimiters,
+    written_parts_are_read,
+};
+pub use param_list::Param;
+pub use roles::{Encoding, Role};
+pub use tree::parts;
+pub use types::{ContentType, content_type};

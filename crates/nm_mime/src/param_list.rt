@@ -1,0 +1,225 @@
+ghost use Rattle.std.specs.Prelude.{◌≡◌, ◌++◌, ◌<◌, ◌≤◌, IfOk, IsUtf8, OnOk, drop, find, length, map, position, string_bytes};
+ghost use Rattle.std.specs.Char.{to_ascii_lowercase};
+ghost use Rattle.std.specs.List.{after_first, before_first, list_any, position_or_len};
+ghost use Rattle.std.specs.Option.{option_copied, option_map};
+ghost use Rattle.nm_header.specs.Space.{trimmed};
+ghost use Rattle.nm_mime.specs.Params.{begins_with, behind_name, behind_param, behind_space, behind_value, ends_name, ends_value, is_param, is_semicolon, is_star, kept_param, param_from, param_in, param_of, params_behind, params_of, value_in, value_of};
+
+use crate::quoted::{behind_quoted, quoted_text};
+use crate::space::{behind_space, is_white_space, text_of, trimmed};
+use nm_base::{Copies, Many, NoMemory, Text};
+use std::alloc::Global;
+
+/// A parameter of a header field.
+#[derive(Clone, Debug, Drop, PartialEq, Eq)]
+pub struct Param {
+    /// In lower case.
+    pub name: Text,
+    /// Without quotes.
+    pub value: Text,
+}
+
+/// The parameters in a field's text, in their order.
+pub(crate) fn params(alloc: Global, text: &[u8]) -> Result<Many<Param>, NoMemory>
+    requires { IsUtf8 text.now }
+    ensures { IfOk result (λ params. params ≡ params_of text.now) }
+{
+    let mut found = Many::new(alloc);
+    let mut left = behind_semicolon(text);
+    'params: while !left.is_empty() {
+        left = add_param(alloc, left, &mut found)?;
+    }
+    Ok(found)
+}
+
+/// Adds the first parameter, if there is one, and answers what stands behind it.
+#[tactic(auto, using(crate::proofs::ParamLemmas::after_less, crate::proofs::ParamLemmas::drop_less))]
+fn add_param<'a>(
+    alloc: Global,
+    text: &'a [u8],
+    found: &mut Many<Param>,
+) -> Result<&'a [u8], NoMemory>
+    requires some { 0 < length text.now }
+    requires utf8 { IsUtf8 text.now }
+    ensures found { OnOk result (found.new ≡ found.old ++ param_in text.now) }
+    ensures left { IfOk result (λ left. left.now ≡ behind_param text.now) }
+    ensures less { IfOk result (λ left. length left.now < length text.now) }
+{
+    let (name, behind) = text.split_at(name_len(text));
+    add_named(alloc, name, behind, found)?;
+    Ok(behind_semicolon(behind_name(behind)))
+}
+
+/// Adds the parameter of the name behind which this stands.
+fn add_named(
+    alloc: Global,
+    name: &[u8],
+    behind: &[u8],
+    found: &mut Many<Param>,
+) -> Result<(), NoMemory>
+    requires name { IsUtf8 name.now }
+    requires behind { IsUtf8 behind.now }
+    ensures { OnOk result (found.new ≡ found.old ++ param_from name.now behind.now) }
+{
+    if !begins_with(b'=', behind) {
+        return Ok(());
+    }
+    if has_star(name) {
+        return Ok(());
+    }
+    let param = named_value(alloc, name, behind_space(&behind[1..]))?;
+    found.push(param)
+}
+
+fn named_value(alloc: Global, name: &[u8], text: &[u8]) -> Result<Param, NoMemory>
+    requires name { IsUtf8 name.now }
+    requires text { IsUtf8 text.now }
+    ensures { IfOk result (λ param. param ≡ record { name = map to_ascii_lowercase (trimmed name.now); value = value_in text.now }) }
+{
+    let name = lowercase(alloc, trimmed(name))?;
+    let value = value_bytes(alloc, text)?;
+    Ok(Param {
+        name: text_of(name),
+        value: text_of(value),
+    })
+}
+
+fn value_bytes(alloc: Global, text: &[u8]) -> Result<Vec<u8>, NoMemory>
+    ensures { IfOk result (λ value. value.items ≡ value_in text.now) }
+{
+    if begins_with(b'"', text) {
+        return quoted_text(alloc, &text[1..]);
+    }
+    let value = Vec::from_slice(alloc, run(text))?;
+    Ok(value)
+}
+
+fn run(text: &[u8]) -> &[u8]
+    ensures { result.now ≡ before_first ends_value text.now }
+{
+    match value_end(text) {
+        Some(at) => &text[..at],
+        None => text,
+    }
+}
+
+fn value_end(text: &[u8]) -> Option<usize>
+    ensures { result ≡ position ends_value text.now }
+{
+    text.iter().position(|b| *b == b';' || is_white_space(*b))
+}
+
+/// What stands behind the quoted value of a name, or all.
+fn behind_name(behind: &[u8]) -> &[u8]
+    ensures value { result.now ≡ behind_name behind.now }
+    ensures within { length result.now ≤ length behind.now }
+{
+    if !begins_with(b'=', behind) {
+        return behind;
+    }
+    let value = behind_space(&behind[1..]);
+    if begins_with(b'"', value) {
+        return behind_quoted(&value[1..]);
+    }
+    value
+}
+
+fn begins_with(sign: u8, text: &[u8]) -> bool
+    ensures { result ≡ begins_with sign text.now }
+{
+    match text {
+        [] => false,
+        [first, ..] => *first == sign,
+    }
+}
+
+fn has_star(name: &[u8]) -> bool
+    ensures { result ≡ list_any is_star name.now }
+{
+    name.iter().any(|b| *b == b'*')
+}
+
+/// How many bytes stand before the first `=` or `;`.
+#[tactic(auto, using(crate::proofs::ParamLemmas::place_some, crate::proofs::ParamLemmas::place_none))]
+fn name_len(text: &[u8]) -> usize
+    ensures value { result ≡ position_or_len ends_name text.now }
+    ensures within { result ≤ length text.now }
+{
+    match name_end(text) {
+        Some(at) => at,
+        None => text.len(),
+    }
+}
+
+fn name_end(text: &[u8]) -> Option<usize>
+    ensures { result ≡ position ends_name text.now }
+{
+    text.iter().position(|b| *b == b'=' || *b == b';')
+}
+
+/// What stands behind the first `;`, or nothing.
+fn behind_semicolon(text: &[u8]) -> &[u8]
+    ensures { result.now ≡ after_first is_semicolon text.now }
+{
+    match semicolon_at(text) {
+        Some(at) => &text[at + 1..],
+        None => &text[text.len()..],
+    }
+}
+
+fn semicolon_at(text: &[u8]) -> Option<usize>
+    ensures { result ≡ position is_semicolon text.now }
+{
+    text.iter().position(|b| *b == b';')
+}
+
+pub(crate) fn lowercase(alloc: Global, text: &[u8]) -> Result<Vec<u8>, NoMemory>
+    ensures { IfOk result (λ lower. lower.items ≡ map to_ascii_lowercase text.now) }
+{
+    let lower: Vec<u8> = text.iter().map(|b| b.to_ascii_lowercase()).collect(alloc)?;
+    Ok(lower)
+}
+
+/// The value of the first parameter with this name, which is in lower case.
+pub(crate) fn param_text(
+    alloc: Global,
+    params: &[Param],
+    name: &str,
+) -> Result<Option<Text>, NoMemory>
+    ensures { IfOk result (λ text. text ≡ param_of params.now name.now) }
+{
+    match first_named(params, name) {
+        None => Ok(None),
+        Some(param) => {
+            let value = param.value.copy()?;
+            Ok(Some(value))
+        }
+    }
+}
+
+/// That value, or the empty text.
+pub(crate) fn value_text(alloc: Global, params: &[Param], name: &str) -> Result<Text, NoMemory>
+    ensures { IfOk result (λ text. text ≡ value_of params.now name.now) }
+{
+    match first_named(params, name) {
+        None => Ok(Text::new(alloc)),
+        Some(param) => param.value.copy(),
+    }
+}
+
+fn first_named<'a>(params: &'a [Param], name: &str) -> Option<&'a Param>
+    ensures { option_copied result ≡ find (is_param name.now) params.now }
+{
+    'params: for param in params {
+        if is_named(param, name) {
+            return Some(param);
+        }
+    }
+    None
+}
+
+fn is_named(param: &Param, name: &str) -> bool
+    ensures { result ≡ is_param name.now param.now }
+{
+    param.name.as_str() == name
+}

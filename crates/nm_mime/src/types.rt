@@ -1,0 +1,113 @@
+ghost use Rattle.std.specs.Prelude.{◌≡◌, IfOk, IsUtf8, map, position, true};
+ghost use Rattle.std.specs.Char.{to_ascii_lowercase};
+ghost use Rattle.std.specs.List.{before_first, list_any};
+ghost use Rattle.nm_mime.specs.Params.{params_of};
+ghost use Rattle.nm_mime.specs.Types.{content_type_of, ends_type, has_slash_inside, is_slash, mail_type, plain_type, read_type, run_of, type_of};
+
+use crate::param_list::{Param, lowercase, params};
+use crate::space::{behind_space, text_of};
+use nm_base::{Many, NoMemory, Text};
+use std::alloc::Global;
+
+/// A content type with its parameters.
+#[derive(Clone, Debug, Drop, PartialEq, Eq)]
+pub struct ContentType {
+    /// `type/subtype`, in lower case.
+    pub kind: Text,
+    /// Of a name that stands twice the first counts.
+    pub params: Many<Param>,
+}
+
+/// Reads the text of a Content-Type field (RFC 2045, section 5.1). Where no `type/subtype` stands at its
+/// front it is text/plain in US-ASCII. A parameter with a `*` in its name is passed over.
+pub fn content_type(alloc: Global, text: &str) -> Result<ContentType, NoMemory>
+    ensures { IfOk result (λ content_type. content_type ≡ content_type_of text.now) }
+{
+    part_type(alloc, text, false)
+}
+
+/// The type of a part, which may stand in a digest.
+pub(crate) fn part_type(alloc: Global, text: &str, digest: bool) -> Result<ContentType, NoMemory>
+    ensures { IfOk result (λ content_type. content_type ≡ type_of digest text.now) }
+{
+    let run = run(text.as_bytes());
+    if has_slash_inside(run) {
+        return read(alloc, run, text.as_bytes());
+    }
+    if digest {
+        mail_type(alloc)
+    } else {
+        plain_type(alloc)
+    }
+}
+
+fn read(alloc: Global, run: &[u8], text: &[u8]) -> Result<ContentType, NoMemory>
+    requires utf8 { IsUtf8 text.now }
+    requires run { run.now ≡ run_of text.now }
+    requires slash { has_slash_inside run.now ≡ true }
+    ensures { IfOk result (λ read. read ≡ record { kind = map to_ascii_lowercase run.now; params = params_of text.now }) }
+{
+    let kind = text_of(lowercase(alloc, run)?);
+    let params = params(alloc, text)?;
+    Ok(ContentType { kind, params })
+}
+
+fn plain_type(alloc: Global) -> Result<ContentType, NoMemory>
+    ensures { IfOk result (λ plain. plain ≡ plain_type) }
+{
+    let name = Text::of(alloc, "charset")?;
+    let value = Text::of(alloc, "us-ascii")?;
+    let mut params = Many::new(alloc);
+    params.push(Param { name, value })?;
+    let kind = Text::of(alloc, "text/plain")?;
+    Ok(ContentType { kind, params })
+}
+
+fn mail_type(alloc: Global) -> Result<ContentType, NoMemory>
+    ensures { IfOk result (λ mail. mail ≡ mail_type) }
+{
+    let kind = Text::of(alloc, "message/rfc822")?;
+    let params = Many::new(alloc);
+    Ok(ContentType { kind, params })
+}
+
+/// The printable ASCII characters other than `;` at the front.
+fn run(text: &[u8]) -> &[u8]
+    ensures { result.now ≡ run_of text.now }
+{
+    let text = behind_space(text);
+    match type_end(text) {
+        Some(at) => &text[..at],
+        None => text,
+    }
+}
+
+fn type_end(text: &[u8]) -> Option<usize>
+    ensures { result ≡ position ends_type text.now }
+{
+    text.iter().position(|b| ends_type(*b))
+}
+
+fn ends_type(b: u8) -> bool
+    ensures { result ≡ ends_type b }
+{
+    if b < 33 {
+        return true;
+    }
+    b > 126 || b == b';'
+}
+
+fn has_slash_inside(run: &[u8]) -> bool
+    ensures { result ≡ has_slash_inside run.now }
+{
+    if run.len() < 2 {
+        return false;
+    }
+    has_slash(&run[1..run.len() - 1])
+}
+
+fn has_slash(inside: &[u8]) -> bool
+    ensures { result ≡ list_any is_slash inside.now }
+{
+    inside.iter().any(|b| *b == b'/')
+}
