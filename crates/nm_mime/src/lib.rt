@@ -11,6 +11,8 @@ mod quoted;
 mod reading;
 mod roles;
 mod space;
+#[cfg(test)]
+mod tests;
 mod tree;
 mod types;
 
