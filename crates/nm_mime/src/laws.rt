@@ -1,9 +1,10 @@
-ghost use Rattle.std.specs.Prelude.{◌≡◌, List, ℕ, length, true};
-ghost use Rattle.std.specs.List.{list_all};
+ghost use Rattle.std.specs.Prelude.{◌≡◌, List, ℕ, ◌∷◌, length, suc, true};
+ghost use Rattle.std.specs.List.{flat_map, list_all};
 ghost use Rattle.nm_header.specs.Lines.{lines_of};
 ghost use Rattle.nm_mime.specs.Children.{marks_of};
 ghost use Rattle.nm_mime.specs.Laws.{AreApart, GoDown, is_kept, is_one_line, parts_between, read_parts, written_parts};
-ghost use Rattle.nm_mime.specs.Parts.{IsInside, inside, parts_of};
+ghost use Rattle.nm_mime.specs.Parts.{IsInside, children_of, inside, opening_of, parts_of, parts_upto};
+ghost use Rattle.nm_mime.specs.declared.entity.Entity.{Entity};
 ghost use Rattle.nm_mime.specs.declared.entity.Opening.{Opening};
 
 /// The parts in a part stand one behind the other, inside its content.
@@ -14,6 +15,11 @@ pub fn parts_in_a_part_stand_apart()
 /// The first part is the mail itself, and each other is at most one level deeper than the one before it.
 pub fn a_part_stands_before_those_in_it()
     ensures { (mail : List ℕ) → GoDown 0 (parts_of mail) }
+{}
+
+/// A part stands before those in it, and behind all that stand in its elder siblings.
+pub fn elder_siblings_come_first()
+    ensures { (n : ℕ) → (mail : List ℕ) → (entity : Entity) → parts_upto (suc n) mail entity ≡ (opening_of mail entity).part ∷ flat_map (parts_upto n mail) (children_of mail (opening_of mail entity)) }
 {}
 
 /// The parts in the content of a multipart are what stands between neighbouring delimiter lines, up to the
