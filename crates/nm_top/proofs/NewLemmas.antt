@@ -1,5 +1,5 @@
 -- What `new` asks and makes, from its parts.
-use Rattle.std.proofs.Common.{◌≡◌, ℕ, not, List, [], ◌∷◌, ◌++◌, Option, None, Some, IfSome, length, map, filter, take, refl, sym, ap, ◌∙◌, subst}
+use Rattle.std.proofs.Common.{◌≡◌, ◌⊎◌, inl, inr, ℕ, not, List, [], ◌∷◌, ◌++◌, Option, None, Some, IfSome, length, map, filter, take, refl, sym, ap, ◌∙◌, subst}
 use Rattle.std.specs.List.{AllByRecursion, flat_map}
 use Rattle.std.specs.List.Sorted.{IsStrictlySortedBy}
 use Rattle.nm_base.specs.Order.{has_text, in_order}
@@ -29,6 +29,7 @@ none_rising = tt
 pub asked_nothing : (tree : Option Tree) (old new : Option (List (List ℕ))) (files : List (List ℕ × Facts)) (noted : List Given) → new ≡ old → noted ≡ [] → HasAsked tree old new files noted
 asked_nothing tree old new files noted same none = record {
   listed = [];
+  listed_is = inl refl;
   rising = none_rising;
   count = 0;
   read = same ∙ read_with-none old;
@@ -38,17 +39,6 @@ asked_nothing tree old new files noted same none = record {
 listed_told : (tree : Option Tree) (listed : List (List ℕ)) → IfSome tree (λ t. listed ≡ listed_of t) → IfSome tree (λ t. AllByRecursion (IsTold t) (given.Listed listed ∷ []))
 listed_told None listed h = tt
 listed_told (Some t) listed h = (h, tt)
-
--- only the listing was asked
-pub asked_listing : (tree : Option Tree) (old new : Option (List (List ℕ))) (files : List (List ℕ × Facts)) (before noted : List Given) (listed : List (List ℕ)) → new ≡ old → before ≡ [] → noted ≡ before ++ given.Listed listed ∷ []
-    → IsRising listed → IfSome tree (λ t. listed ≡ listed_of t) → HasAsked tree old new files noted
-asked_listing tree old new files before noted listed same none is rising told = record {
-  listed = listed;
-  rising = rising;
-  count = 0;
-  read = same ∙ read_with-none old;
-  told = subst (λ (l : List Given). IfSome tree (λ t. AllByRecursion (IsTold t) l)) (sym (is ∙ ap (λ l. l ++ given.Listed listed ∷ []) none)) (listed_told tree listed told);
-}
 
 -- the paths to read are those that the known ones lack
 pub to_read-is : (files : List (List ℕ × Facts)) (known listed : List (List ℕ)) → known ≡ in_order (paths_of files) → filter (λ path. not (has_text known path)) listed ≡ to_read files listed
@@ -61,6 +51,7 @@ asked_reading tree mid_tree old mid new files before noted0 noted known listed p
     let h : HasRead tree mid new noted0 noted paths = subst (λ (t : Option Tree). HasRead t mid new noted0 noted paths) same_tree h' in
     record {
       listed = listed;
+      listed_is = inr told;
       rising = rising;
       count = h.count;
       read = h.read ∙ (ap (λ (r : Option (List (List ℕ))). read_with r (take h.count paths)) same ∙ ap (λ (l : List (List ℕ)). read_with old (take h.count l)) (paths_are ∙ to_read-is files known listed known_is));

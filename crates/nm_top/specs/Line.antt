@@ -15,7 +15,7 @@ use Rattle.nm_log.specs.declared.outcome.Outcome.{Outcome}
 use Rattle.nm_log.specs.declared.outcome.Outcome.TheVariants as outcomes
 use Rattle.nm_log.specs.declared.script.ScriptLine.{ScriptLine}
 use Rattle.nm_top.specs.NewLine.{IsNew}
-use Rattle.nm_top.specs.Reading.{IsRising, IsTold, to_read}
+use Rattle.nm_top.specs.Reading.{IsRising, IsTold, WasListed, to_read}
 use Rattle.nm_top.specs.State.{State}
 
 -- The reply to a request: a count answers on the index as it is and asks the mail folder nothing.
@@ -35,6 +35,7 @@ IsAnswer outcomes.NoMemory old line noted text new = (new.index ≡ old.index) �
 -- Of listed paths only such as the index lacks are read, each once, in their order.
 pub record ReadsNoKnown (old new : State) : Type 0 where
   pub listed : List (List ℕ)
+  pub listed_is : WasListed old.tree listed
   pub rising : IsRising listed
   pub count : ℕ
   pub read : new.reads ≡ option_map (λ paths. paths ++ take count (to_read old.index.files listed)) old.reads

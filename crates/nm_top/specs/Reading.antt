@@ -1,5 +1,5 @@
 -- What `new` learns from the mail folder: which files are there, and what those hold that it doesn't know.
-use Rattle.std.specs.Prelude.{◌≡◌, ℕ, Bool, false, not, ◌==◌, List, [], ◌∷◌, ◌++◌, map, filter, codes, Option, Some, None, IfSome, is_some, if◌then◌else◌}
+use Rattle.std.specs.Prelude.{◌≡◌, ◌⊎◌, ℕ, Bool, false, not, ◌==◌, List, [], ◌∷◌, ◌++◌, map, filter, codes, Option, Some, None, IfSome, is_some, if◌then◌else◌}
 use Rattle.std.specs.List.{flat_map, AllByRecursion}
 use Rattle.std.specs.Cmp.Lexicographic.{slice_cmp}
 use Rattle.std.specs.Ordering.{nat_cmp}
@@ -40,6 +40,10 @@ listed_of tree =
 -- strictly rising by their bytes
 abbrev pub IsRising : List (List ℕ) → Type 0
 IsRising paths = IsStrictlySortedBy (slice_cmp nat_cmp) paths
+
+-- Nothing was listed, or this is what the tree lists.
+abbrev pub WasListed : Option Tree → List (List ℕ) → Type 0
+WasListed tree listed = (listed ≡ []) ⊎ IfSome tree (λ t. listed ≡ listed_of t)
 
 -- the listed paths that the index lacks
 abbrev pub to_read : List (List ℕ × Facts) → List (List ℕ) → List (List ℕ)

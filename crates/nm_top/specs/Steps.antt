@@ -20,7 +20,7 @@ use Rattle.nm_maildir.specs.declared.given.ReadAnswer.{ReadAnswer}
 use Rattle.nm_top.specs.Mail.{facts_of}
 use Rattle.nm_top.specs.NewLine.{IsNew, only_in}
 use Rattle.nm_top.specs.State.{State}
-use Rattle.nm_top.specs.Reading.{IsRising, IsTold, Reads, answer_of, listed_of, skip_at, to_read}
+use Rattle.nm_top.specs.Reading.{IsRising, IsTold, Reads, WasListed, answer_of, listed_of, skip_at, to_read}
 use Rattle.nm_top.specs.declared.index.PlainIndex.{PlainIndex}
 
 -- the paths read so far, and these
@@ -104,6 +104,7 @@ pub record Gathers (tree : Option Tree) (old_reads new_reads : Option (List (Lis
 -- Whatever came of it, of listed paths only such as the index lacks were read, and what is noted is what the tree answers.
 pub record HasAsked (tree : Option Tree) (old_reads new_reads : Option (List (List ℕ))) (files : List (List ℕ × Facts)) (noted : List Given) : Type 0 where
   pub listed : List (List ℕ)
+  pub listed_is : WasListed tree listed
   pub rising : IsRising listed
   pub count : ℕ
   pub read : new_reads ≡ read_with old_reads (take count (to_read files listed))

@@ -1,7 +1,7 @@
 //! The program `notmuch`: one run of the top call over the folder `mail`, the standard streams and the clock.
 #![tactic(auto)]
 
-ghost use Rattle.std.specs.Prelude.{pos, ◌≤ℤ◌, IfOk};
+ghost use Rattle.std.specs.Prelude.{pos, ◌≤ℤ◌};
 
 use nm_base::{Many, NoMemory, Text, UsageKind};
 use nm_io::{Sink, StdSink, StdSource};
