@@ -1,5 +1,6 @@
 use crate::Outcome;
 use nm_base::Many;
+use nm_core::Step;
 use nm_maildir::Given;
 
 /// What a run of the program is given beside its words and devices.
@@ -33,9 +34,11 @@ pub struct LineLog {
     pub mail_faults: u64,
 }
 
-/// What a session did, line by line.
+/// What a session did.
 #[derive(Debug, Drop)]
 pub struct SessionLog {
+    /// Its commits and its replies, in the order in which they came.
+    pub steps: Many<Step>,
     pub lines: Many<LineLog>,
 }
 

@@ -3,6 +3,7 @@ use Rattle.std.proofs.Common.{◌≡◌, ℕ, ◌<◌, ◌≤◌, ◌⊎◌, inl
 use Rattle.std.proofs.lemmas.Bool.{false≢true}
 use Rattle.std.specs.Io.KnownBytes.{Consumes, IsAtEnd}
 use Rattle.std.specs.Str.Lines.{lines}
+use Rattle.nm_core.specs.declared.step.Step.{Step}
 use Rattle.nm_log.specs.Script.{script_lines}
 use Rattle.nm_log.specs.declared.log.Done.{Done}
 use Rattle.nm_log.specs.declared.log.LineLog.{LineLog}
@@ -16,34 +17,34 @@ use Rattle.nm_top.specs.Session.{Ending, Ends, Gains, IsRun, InputTooLong, Memor
 use Rattle.nm_top.specs.State.{State}
 
 -- each line has its log
-Runs-length : (old new : State) (ls : List ScriptLine) (logs : List LineLog) → Runs old ls logs new → length logs ≡ length ls
-Runs-length old new [] [] h = refl
-Runs-length old new [] (log ∷ logs) h = absurd h
-Runs-length old new (line ∷ ls) [] h = absurd h
-Runs-length old new (line ∷ ls) (log ∷ logs) h = ap suc (Runs-length h.0 new ls logs h.2)
+Runs-length : (old new : State) (ls : List ScriptLine) (logs : List LineLog) (taken : List Step) → Runs old ls logs taken new → length logs ≡ length ls
+Runs-length old new [] [] taken h = refl
+Runs-length old new [] (log ∷ logs) taken h = absurd h
+Runs-length old new (line ∷ ls) [] taken h = absurd h
+Runs-length old new (line ∷ ls) (log ∷ logs) taken h = ap suc (Runs-length h.0 new ls logs h.2 h.5)
 
 -- the count never falls along the lines
-Runs-grows : (old new : State) (ls : List ScriptLine) (logs : List LineLog) → Runs old ls logs new → old.faults ≤ new.faults
-Runs-grows old new [] [] h = let same : new.faults ≡ old.faults = ap (λ (s : State). s.faults) h in omega arith
-Runs-grows old new [] (log ∷ logs) h = absurd h
-Runs-grows old new (line ∷ ls) [] h = absurd h
-Runs-grows old new (line ∷ ls) (log ∷ logs) h = let first = h.1.never_falls in let rest = Runs-grows h.0 new ls logs h.2 in omega arith
+Runs-grows : (old new : State) (ls : List ScriptLine) (logs : List LineLog) (taken : List Step) → Runs old ls logs taken new → old.faults ≤ new.faults
+Runs-grows old new [] [] taken h = let same : new.faults ≡ old.faults = ap (λ (s : State). s.faults) h.1 in omega arith
+Runs-grows old new [] (log ∷ logs) taken h = absurd h
+Runs-grows old new (line ∷ ls) [] taken h = absurd h
+Runs-grows old new (line ∷ ls) (log ∷ logs) taken h = let first = h.4.never_falls in let rest = Runs-grows h.0 new ls logs h.2 h.5 in omega arith
 
 -- a line in which the count stands is no mail fault
-quiet_line : (outcome : Outcome) (old : State) (line : List ℕ) (noted : List Given) (text : List ℕ) (new : State) → new.faults ≤ old.faults → old.faults < 18446744073709551615 → IsAnswer outcome old line noted text new → is_mail_fault outcome ≡ false
-quiet_line outcomes.Ok old line noted text new stands room h = refl
-quiet_line (outcomes.Usage word kind) old line noted text new stands room h = refl
-quiet_line outcomes.MailFault old line noted text new stands room h = let rose = h.1.1 room in absurd (omega arith)
-quiet_line outcomes.NoMemory old line noted text new stands room h = refl
+quiet_line : (outcome : Outcome) (old : State) (line : List ℕ) (noted : List Given) (text : List ℕ) (taken : List Step) (new : State) → new.faults ≤ old.faults → old.faults < 18446744073709551615 → IsAnswer outcome old line noted text taken new → is_mail_fault outcome ≡ false
+quiet_line outcomes.Ok old line noted text taken new stands room h = refl
+quiet_line (outcomes.Usage word kind) old line noted text taken new stands room h = refl
+quiet_line outcomes.MailFault old line noted text taken new stands room h = let rose = h.1.1 room in absurd (omega arith)
+quiet_line outcomes.NoMemory old line noted text taken new stands room h = refl
 
-quiet_run : (old new : State) (ls : List ScriptLine) (logs : List LineLog) → new.faults ≤ old.faults → old.faults < 18446744073709551615 → Runs old ls logs new → has_mail_fault logs ≡ false
-quiet_run old new [] [] stands room h = refl
-quiet_run old new [] (log ∷ logs) stands room h = absurd h
-quiet_run old new (line ∷ ls) [] stands room h = absurd h
-quiet_run old new (line ∷ ls) (log ∷ logs) stands room h =
-    let first = h.1.never_falls in
-    let rest = Runs-grows h.0 new ls logs h.2 in
-    ap (λ b. b || has_mail_fault logs) (quiet_line log.outcome old line.text log.given log.text h.0 (omega arith) room h.1.answer) ∙ quiet_run h.0 new ls logs (omega arith) (omega arith) h.2
+quiet_run : (old new : State) (ls : List ScriptLine) (logs : List LineLog) (taken : List Step) → new.faults ≤ old.faults → old.faults < 18446744073709551615 → Runs old ls logs taken new → has_mail_fault logs ≡ false
+quiet_run old new [] [] taken stands room h = refl
+quiet_run old new [] (log ∷ logs) taken stands room h = absurd h
+quiet_run old new (line ∷ ls) [] taken stands room h = absurd h
+quiet_run old new (line ∷ ls) (log ∷ logs) taken stands room h =
+    let first = h.4.never_falls in
+    let rest = Runs-grows h.0 new ls logs h.2 h.5 in
+    ap (λ b. b || has_mail_fault logs) (quiet_line log.outcome old line.text log.given log.text h.1 h.0 (omega arith) room h.4.answer) ∙ quiet_run h.0 new ls logs h.2 (omega arith) (omega arith) h.5
 
 -- what was read to its end is what was told
 read_is : (old new : Option (List ℕ)) (script read : List ℕ) → old ≡ Some script → Consumes old new read → IsAtEnd new → read ≡ script
@@ -72,12 +73,12 @@ left_status true false false false e d = inl (refl, refl)
 ran_complete : (script : List ℕ) (old new : Outside) (done : Done) → NoFault old new → IsRun (script_lines script) old.mail new.mail old.out new.out old.err new.err done → IsFinished script done ⊎ (done.status ≡ 7)
 ran_complete script old new done quiet h =
     let last_faults : new.mail.faults ≡ h.last.faults = ap (λ m. m.faults) h.mail in
-    let no_mail : has_mail_fault done.log.lines ≡ false = quiet_run _ h.last h.ran done.log.lines (omega (arith, quiet.mail)) quiet.mail_room h.run in
+    let no_mail : has_mail_fault done.log.lines ≡ false = quiet_run _ h.last h.ran done.log.lines done.log.steps (omega (arith, quiet.mail)) quiet.mail_room h.run in
     let no_out : h.out_failed ≡ false = quiet_out h.out_failed old.out new.out _ quiet.out quiet.out_room h.out in
     elim (left_status h.whole (has_mail_fault done.log.lines) h.out_failed (has_no_memory done.log.lines) no_mail no_out) [
       | inl w ↦ inl (record {
         status = h.status ∙ w.1;
-        each = Runs-length _ h.last h.ran done.log.lines h.run ∙ ap length (sym (append-nil h.ran) ∙ (ap (λ l. h.ran ++ l) (sym (h.all w.0)) ∙ sym h.lines));
+        each = Runs-length _ h.last h.ran done.log.lines done.log.steps h.run ∙ ap length (sym (append-nil h.ran) ∙ (ap (λ l. h.ran ++ l) (sym (h.all w.0)) ∙ sym h.lines));
       })
       | inr w ↦ inr (h.status ∙ w)
     ]

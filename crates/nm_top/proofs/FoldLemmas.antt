@@ -7,13 +7,13 @@ use Rattle.nm_commit.specs.Index.{Index, changed, committed, folded, paths_of, w
 use Rattle.nm_commit.specs.declared.change.Change.{Change}
 use Rattle.nm_commit.specs.declared.change.Commit.{Commit}
 use Rattle.nm_top.specs.NewLine.{add_of, commit_of, drop_of, gone, new_commits}
-use Rattle.nm_top.specs.Steps.{commits_for, gone_of, kept}
+use Rattle.nm_top.specs.Steps.{commits_for, commits_with, gone_of, kept}
 use Rattle.nm_top.proofs.SetLemmas.{has_text-filter}
 use Rattle.std.proofs.lemmas.Bool.Decides.{nat_tests}
 use Rattle.std.proofs.lemmas.List.{length-append}
 
 -- what has come, one by one
-fold-adds : (files arrivals : List (List ℕ × Facts)) → fold changed files (map add_of arrivals) ≡ files ++ arrivals
+pub fold-adds : (files arrivals : List (List ℕ × Facts)) → fold changed files (map add_of arrivals) ≡ files ++ arrivals
 fold-adds files [] = sym (append-nil files)
 fold-adds files (arrival ∷ arrivals) = fold-adds (files ++ (arrival.0, arrival.1) ∷ []) arrivals ∙ append_assoc files (arrival ∷ []) arrivals
 
@@ -36,7 +36,7 @@ pub filter-same : {X : Type 0} (p q : X → Bool) → ((x : X) → p x ≡ q x) 
 filter-same p q h [] = refl
 filter-same {X} p q h (x ∷ xs) = ap (λ (b : Bool). cond b (x ∷ filter p xs) (filter p xs)) (h x) ∙ ap (λ (l : List X). cond (q x) (x ∷ l) l) (filter-same p q h xs)
 
-filter-all : (files : List (List ℕ × Facts)) → filter (λ file. not false) files ≡ files
+pub filter-all : (files : List (List ℕ × Facts)) → filter (λ file. not false) files ≡ files
 filter-all [] = refl
 filter-all (file ∷ files) = ap (λ (l : List (List ℕ × Facts)). file ∷ l) (filter-all files)
 
@@ -46,23 +46,23 @@ fold-drops files [] = sym (filter-all files)
 fold-drops files (path ∷ paths) = fold-drops (without_path files path) paths ∙ (filter-filter (λ file. not (same_text path file.0)) (λ file. not (has_text paths file.0)) files ∙ filter-same _ _ (λ file. not-or (same_text path file.0) (has_text paths file.0) ∙ ap (λ b. not (b || has_text paths file.0)) (nat_list_eq_equiv.symm path file.0)) files)
 
 -- the files after the commits of these changes
-commit_of-files : (index : Index) (changes : List Change) → (folded index (commit_of changes)).files ≡ fold changed index.files changes
+pub commit_of-files : (index : Index) (changes : List Change) → (folded index (commit_of changes)).files ≡ fold changed index.files changes
 commit_of-files index [] = refl
 commit_of-files index (change ∷ changes) = refl
 
 -- each commit raises the revision by one
-folded-revision : (index : Index) (commits : List Commit) → (folded index commits).revision ≡ index.revision + length commits
+pub folded-revision : (index : Index) (commits : List Commit) → (folded index commits).revision ≡ index.revision + length commits
 folded-revision index [] = omega arith
 folded-revision index (commit ∷ commits) = folded-revision (committed index commit) commits ∙ omega arith
 
-some_is : (n : ℕ) → 0 < n → (n == 0) ≡ false
+pub some_is : (n : ℕ) → 0 < n → (n == 0) ≡ false
 some_is n some = grind (arith, nat_tests)
 
 commit_of-length : {X : Type 0} (change : X → Change) (xs : List X) → length (commit_of (map change xs)) ≡ commits_for (length xs)
 commit_of-length change [] = refl
 commit_of-length change (x ∷ xs) = sym (ap (λ (b : Bool). cond b 0 1) (some_is (suc (length xs)) (omega arith)))
 
-fold-append : {A B : Type 0} (f : A → B → A) (a : A) (xs ys : List B) → fold f a (xs ++ ys) ≡ fold f (fold f a xs) ys
+pub fold-append : {A B : Type 0} (f : A → B → A) (a : A) (xs ys : List B) → fold f a (xs ++ ys) ≡ fold f (fold f a xs) ys
 fold-append f a [] ys = refl
 fold-append f a (x ∷ xs) ys = fold-append f (f a x) xs ys
 
@@ -86,3 +86,8 @@ new-revision index known listed arrivals is =
     folded-revision index (adds ++ drops)
     ∙ ap (λ n. index.revision + n) (length-append adds drops ∙ (ap (λ n. n + length drops) (commit_of-length add_of arrivals)
     ∙ ap (λ n. commits_for (length arrivals) + n) (commit_of-length drop_of (gone index.files listed) ∙ ap (λ (l : List (List ℕ)). commits_for (length (gone_of l listed))) (sym is))))
+
+-- the commits by the known paths are those of the index
+pub commits-are : (index : Index) (known listed : List (List ℕ)) (arrivals : List (List ℕ × Facts)) → known ≡ in_order (paths_of index.files) → commits_with known listed arrivals ≡ new_commits index.files listed arrivals
+commits-are index known listed arrivals is =
+    ap (λ (l : List (List ℕ)). commit_of (map add_of arrivals) ++ commit_of (map drop_of (gone_of l listed))) is

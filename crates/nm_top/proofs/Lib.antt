@@ -1,6 +1,10 @@
 pub mod ReadLemmas
 pub mod SetLemmas
 pub mod FoldLemmas
+pub mod FitLemmas
+pub mod StandLemmas
 pub mod NewLemmas
+pub mod LineLemmas
 pub mod RunLemmas
+pub mod MachineLemmas
 pub mod CompleteLemmas

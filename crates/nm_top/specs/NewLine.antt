@@ -5,7 +5,7 @@ use Rattle.std.specs.Option.{option_map}
 use Rattle.nm_base.specs.Order.{has_text, in_order}
 use Rattle.nm_base.specs.declared.facts.Facts.{Facts}
 use Rattle.nm_commit.specs.Count.{ids_of}
-use Rattle.nm_commit.specs.Index.{folded, paths_of}
+use Rattle.nm_commit.specs.Index.{Fits, Index, committed, folded, paths_of}
 use Rattle.nm_commit.specs.declared.change.Change.{Change}
 use Rattle.nm_commit.specs.declared.change.Change.TheVariants.{Add, Drop}
 use Rattle.nm_commit.specs.declared.change.Commit.{Commit}
@@ -49,8 +49,13 @@ report_of before after listed arrivals reads = record {
   skipped = flat_map skip_in reads;
 }
 
+-- each commit fits the index that those before it leave
+abbrev pub FitInTurn : Index → List Commit → Type 0
+FitInTurn index [] = Unit {0}
+FitInTurn index (commit ∷ commits) = Fits index commit × FitInTurn (committed index commit) commits
+
 -- A `new` that went well: it listed, read each path that the index lacks, and made the commits of that.
-pub record IsNew (old : State) (noted : List Given) (text : List ℕ) (new : State) : Type 0 where
+pub record IsNew (old : State) (noted : List Given) (text : List ℕ) (commits : List Commit) (new : State) : Type 0 where
   pub listed : List (List ℕ)
   pub rising : IsRising listed
   pub told : IfSome old.tree (λ t. listed ≡ listed_of t)
@@ -58,6 +63,8 @@ pub record IsNew (old : State) (noted : List Given) (text : List ℕ) (new : Sta
   pub arrivals : List (List ℕ × Facts)
   pub noted_is : noted ≡ Listed listed ∷ answers
   pub reading : Reads old.tree answers (to_read old.index.files listed) arrivals
-  pub index : new.index ≡ folded old.index (new_commits old.index.files listed arrivals)
+  pub commits_are : commits ≡ new_commits old.index.files listed arrivals
+  pub fit : FitInTurn old.index commits
+  pub index : new.index ≡ folded old.index commits
   pub says : text ≡ new_text (report_of old.index.files new.index.files listed arrivals reading.reads)
   pub read : new.reads ≡ option_map (λ paths. paths ++ to_read old.index.files listed) old.reads

@@ -14,5 +14,5 @@ pub record HasRunLines (lines : List ScriptLine) (run_log : RunLog) (tree : Opti
   pub last : State
   pub lines_are : lines ≡ ran ++ unrun
   pub all : run_log.whole ≡ true → unrun ≡ []
-  pub run : Runs (opening_state (record { tree = tree; reads = reads; faults = faults })) ran run_log.logs last
+  pub run : Runs (opening_state (record { tree = tree; reads = reads; faults = faults })) ran run_log.logs run_log.steps last
   pub mail : mail_after last ≡ mail_told new_tree new_reads new_faults

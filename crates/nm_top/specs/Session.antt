@@ -7,7 +7,10 @@ use Rattle.nm_base.specs.Faults.{Rose}
 use Rattle.nm_base.specs.Order.{same_text}
 use Rattle.nm_base.specs.declared.refusals.UsageKind.{UsageKind}
 use Rattle.nm_base.specs.declared.refusals.UsageKind.TheVariants as kinds
-use Rattle.nm_commit.specs.Index.{empty_index}
+use Rattle.nm_commit.specs.Index.{Index, empty_index, folded}
+use Rattle.nm_core.specs.Machine as machine
+use Rattle.nm_core.specs.Machine.{Machine}
+use Rattle.nm_core.specs.declared.step.Step.{Step}
 use Rattle.nm_log.specs.Replies.{printed, usage_line}
 use Rattle.nm_log.specs.Script.{script_lines}
 use Rattle.nm_log.specs.declared.log.Done.{Done}
@@ -102,6 +105,15 @@ abbrev pub last_word : Bool → Bool → Option (List ℕ)
 last_word whole out_failed =
     if out_failed then Some (codes "notmuch: write fault\n") else (if whole then None else Some (codes "notmuch: no memory\n"))
 
+-- lanes 0 to 15
+abbrev pub lane_count : ℕ
+lane_count = 16
+
+-- The steps are a run of the machine of commits and replies, from the empty index to this one.
+abbrev pub IsMachineRun : List Step → Index → Type 0
+IsMachineRun steps index =
+    (last : Machine) × machine.Runs (machine.start empty_index lane_count) steps last × (folded empty_index last.commits ≡ index)
+
 -- The lines were run in their order, all of them or, for want of memory, the first; then their replies were printed.
 pub record IsRun (script : List ScriptLine) (old_mail new_mail : MailTold) (old_out new_out old_err new_err : Told) (done : Done) : Type 0 where
   pub ran : List ScriptLine
@@ -111,7 +123,8 @@ pub record IsRun (script : List ScriptLine) (old_mail new_mail : MailTold) (old_
   pub last : State
   pub lines : script ≡ ran ++ unrun
   pub all : whole ≡ true → unrun ≡ []
-  pub run : Runs (opening_state old_mail) ran done.log.lines last
+  pub run : Runs (opening_state old_mail) ran done.log.lines done.log.steps last
+  pub machine : IsMachineRun done.log.steps last.index
   pub mail : new_mail ≡ mail_after last
   pub out : Gains out_failed old_out new_out (printed done.log.lines)
   pub status : done.status ≡ session_status whole done.log.lines out_failed
@@ -121,6 +134,7 @@ pub record IsRun (script : List ScriptLine) (old_mail new_mail : MailTold) (old_
 pub record IsRefused (old new : Outside) (done : Done) (code : ℕ) (line : List ℕ) : Type 0 where
   pub status : done.status ≡ code
   pub log : done.log.lines ≡ []
+  pub steps : done.log.steps ≡ []
   pub mail : new.mail ≡ old.mail
   pub out : new.out ≡ old.out
   pub says : Says (Some line) old.err new.err

@@ -1,11 +1,14 @@
 -- What the parts of `new` leave, one read after another.
-use Rattle.std.specs.Prelude.{◌≡◌, ℕ, ◌+◌, Bool, ◌&&◌, ◌==◌, not, List, [], ◌∷◌, ◌++◌, length, filter, take, Option, None, IfSome, if◌then◌else◌}
+use Rattle.std.specs.Prelude.{◌≡◌, ℕ, ◌+◌, Bool, ◌&&◌, ◌==◌, not, List, [], ◌∷◌, ◌++◌, length, map, filter, take, Option, None, IfSome, if◌then◌else◌}
 use Rattle.std.specs.List.{AllByRecursion, flat_map}
 use Rattle.std.specs.Option.{option_map}
 use Rattle.nm_base.specs.declared.facts.Facts.{Facts}
 use Rattle.nm_base.specs.declared.refusals.Skip.{Skip}
 use Rattle.nm_base.specs.Order.{has_text, in_order}
+use Rattle.nm_base.specs.declared.request.Request.TheVariants as requests
 use Rattle.nm_commit.specs.Index.{IsDate, paths_of}
+use Rattle.nm_commit.specs.declared.change.Commit.{Commit}
+use Rattle.nm_core.specs.declared.step.Step.{Step}
 use Rattle.nm_base.specs.Faults.{Rose}
 use Rattle.nm_log.specs.Replies.{new_text, refusal_line}
 use Rattle.nm_log.specs.declared.outcome.Outcome.{Outcome}
@@ -18,10 +21,12 @@ use Rattle.nm_maildir.specs.declared.given.Given.{Given}
 use Rattle.nm_maildir.specs.declared.given.Given.TheVariants as given
 use Rattle.nm_maildir.specs.declared.given.ReadAnswer.{ReadAnswer}
 use Rattle.nm_top.specs.Mail.{facts_of}
-use Rattle.nm_top.specs.NewLine.{IsNew, only_in}
+use Rattle.nm_top.specs.Line.{IsAnswer, reply_steps}
+use Rattle.nm_top.specs.NewLine.{IsNew, add_of, commit_of, drop_of, only_in}
 use Rattle.nm_top.specs.State.{State}
 use Rattle.nm_top.specs.Reading.{IsRising, IsTold, Reads, WasListed, answer_of, listed_of, skip_at, to_read}
 use Rattle.nm_top.specs.declared.index.PlainIndex.{PlainIndex}
+use Rattle.nm_top.specs.declared.steps.Answered.{Answered}
 
 -- the paths read so far, and these
 abbrev pub read_with : Option (List (List ℕ)) → List (List ℕ) → Option (List (List ℕ))
@@ -85,17 +90,28 @@ report_with known listed before after arrivals noted = record {
   skipped = flat_map skip_given noted;
 }
 
--- the index after what has come and what is gone, and what is said of it
-pub record TakesIn (known listed : List (List ℕ)) (arrivals : List (List ℕ × Facts)) (noted : List Given) (old new : PlainIndex) (text : List ℕ) : Type 0 where
+-- what is said where nothing has come and nothing is gone
+abbrev pub standing_report : List Given → NewReport
+standing_report noted = record { added = 0; removed = 0; born = 0; died = 0; skipped = flat_map skip_given noted }
+
+-- the commits of what has come and what is gone
+abbrev pub commits_with : List (List ℕ) → List (List ℕ) → List (List ℕ × Facts) → List Commit
+commits_with known listed arrivals = commit_of (map add_of arrivals) ++ commit_of (map drop_of (gone_of known listed))
+
+-- the index after what has come and what is gone, what is said of it, and the steps of that
+pub record TakesIn (known listed : List (List ℕ)) (arrivals : List (List ℕ × Facts)) (noted : List Given) (old new : PlainIndex) (done : Answered) : Type 0 where
   pub files : new.files ≡ kept known listed (old.files ++ arrivals)
   pub revision : new.revision ≡ old.revision + (commits_for (length arrivals) + commits_for (length (gone_of known listed)))
-  pub says : text ≡ new_text (report_with known listed old.files new.files arrivals noted)
+  pub outcome : done.outcome ≡ outcomes.Ok
+  pub says : done.text ≡ new_text (report_with known listed old.files new.files arrivals noted)
+  pub steps : done.steps ≡ reply_steps (commits_with known listed arrivals) requests.New done.text
 
 -- what was gathered: the listed paths, those of the index, and what has come
 pub record Gathers (tree : Option Tree) (old_reads new_reads : Option (List (List ℕ))) (files : List (List ℕ × Facts)) (noted : List Given) (known listed : List (List ℕ)) (arrivals : List (List ℕ × Facts)) : Type 0 where
   pub rising : IsRising listed
   pub told : IfSome tree (λ t. listed ≡ listed_of t)
   pub known_is : known ≡ in_order (paths_of files)
+  pub known_rising : IsRising known
   pub answers : List Given
   pub noted_is : noted ≡ given.Listed listed ∷ answers
   pub reading : Reads tree answers (to_read files listed) arrivals
@@ -115,8 +131,21 @@ abbrev pub state_with : Option Tree → Option (List (List ℕ)) → ℕ → Pla
 state_with tree reads faults index = record { index = record { files = index.files; revision = index.revision }; tree = tree; reads = reads; faults = faults }
 
 -- how `new` may end, but for want of memory
-abbrev pub IsNewAnswer : Outcome → State → List Given → List ℕ → State → Type 0
-IsNewAnswer outcomes.Ok old noted text new = IsNew old noted text new
-IsNewAnswer (outcomes.Usage word kind) old noted text new = ⊥
-IsNewAnswer outcomes.MailFault old noted text new = Rose old.faults new.faults × (new.index ≡ old.index) × (text ≡ refusal_line outcomes.MailFault)
-IsNewAnswer outcomes.NoMemory old noted text new = ⊥
+abbrev pub IsNewOutcome : Outcome → State → List Given → List ℕ → List Step → State → Type 0
+IsNewOutcome outcomes.Ok old noted text taken new =
+    (commits : List Commit) × IsNew old noted text commits new × (taken ≡ reply_steps commits requests.New text)
+IsNewOutcome (outcomes.Usage word kind) old noted text taken new = ⊥
+IsNewOutcome outcomes.MailFault old noted text taken new =
+    Rose old.faults new.faults × (taken ≡ []) × (new.index ≡ old.index) × (text ≡ refusal_line outcomes.MailFault)
+IsNewOutcome outcomes.NoMemory old noted text taken new = ⊥
+
+abbrev pub IsNewAnswer : State → List Given → Answered → State → Type 0
+IsNewAnswer old noted done new = IsNewOutcome done.outcome old noted done.text done.steps new
+
+-- the answer to a line
+abbrev pub IsLineAnswer : State → List ℕ → List Given → Answered → State → Type 0
+IsLineAnswer old line noted done new = IsAnswer done.outcome old line noted done.text done.steps new
+
+-- no step more than two commits and a reply take
+abbrev pub most_steps : ℕ
+most_steps = 7

@@ -38,6 +38,7 @@ pub(crate) fn say_last<E: Sink>(err: &mut E, whole: bool, out_failed: bool)
 pub(crate) fn refuse<E: Sink>(alloc: Global, err: &mut E, status: u8, line: &[u8]) -> Done
     ensures status { result.status ≡ status }
     ensures log { result.log.lines ≡ [] }
+    ensures steps { result.log.steps ≡ [] }
     ensures says { Says (Some line.now) (told (E.taken err.old) (E.faults err.old)) (told (E.taken err.new) (E.faults err.new)) }
 {
     say(err, line);
@@ -48,6 +49,7 @@ pub(crate) fn refuse<E: Sink>(alloc: Global, err: &mut E, status: u8, line: &[u8
 pub(crate) fn refuse_words<E: Sink>(alloc: Global, err: &mut E, kind: UsageKind, word: &str) -> Done
     ensures status { result.status ≡ 2 }
     ensures log { result.log.lines ≡ [] }
+    ensures steps { result.log.steps ≡ [] }
     ensures says { Says (Some (usage_line kind word.now)) (told (E.taken err.old) (E.faults err.old)) (told (E.taken err.new) (E.faults err.new)) }
 {
     let _ = print_usage(err, kind, word);
@@ -57,10 +59,12 @@ pub(crate) fn refuse_words<E: Sink>(alloc: Global, err: &mut E, kind: UsageKind,
 fn ended(alloc: Global, status: u8) -> Done
     ensures status { result.status ≡ status }
     ensures log { result.log.lines ≡ [] }
+    ensures steps { result.log.steps ≡ [] }
 {
     Done {
         status,
         log: SessionLog {
+            steps: Many::new(alloc),
             lines: Many::new(alloc),
         },
     }

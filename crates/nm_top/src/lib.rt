@@ -8,6 +8,7 @@ mod new;
 mod reading;
 mod session;
 mod sets;
+mod steps;
 mod take_in;
 #[cfg(test)]
 mod tests;

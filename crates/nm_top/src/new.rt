@@ -1,12 +1,13 @@
-ghost use Rattle.std.specs.Prelude.{◌≡◌, ◌+◌, ◌<◌, ◌≤◌, ◌^◌, [], IfOk, OnErr, OnOk, ◌++◌, ◌∷◌};
+ghost use Rattle.std.specs.Prelude.{◌≡◌, ◌+◌, ◌<◌, ◌≤◌, ◌^◌, [], IfOk, OnErr, OnOk, ◌++◌, ◌∷◌, length};
 ghost use Rattle.nm_maildir.specs.Calls.{HasMailCause};
 ghost use Rattle.nm_top.specs.Reading.{IsRising};
-ghost use Rattle.nm_top.specs.Steps.{Gathers, HasAsked, IsNewAnswer, state_with};
+ghost use Rattle.nm_top.specs.Steps.{Gathers, HasAsked, IsNewAnswer, most_steps, state_with};
 
 use crate::index::{Mail, PlainIndex, path_set};
 use crate::listing::list_paths;
 use crate::reading::read_all;
-use crate::sets::{all_paths, paths_not_in};
+use crate::sets::{all_paths, paths_not_in, rises};
+use crate::steps::Answered;
 use crate::take_in::{Gathered, take_in};
 use nm_base::{Copies, MailPath, Many, NoMemory};
 use nm_log::Outcome;
@@ -14,18 +15,19 @@ use nm_maildir::{Given, MailError, Maildir};
 use std::alloc::Global;
 use std::collections::BTreeSet;
 
-/// Takes in what has come and lets go what is gone, and gives the outcome and the reply.
+/// Takes in what has come and lets go what is gone, and gives the answer.
 pub(crate) fn run_new<M: Maildir>(
     alloc: Global,
     index: &mut PlainIndex,
     mail: &mut M,
     noted: &mut Many<Given>,
-) -> Result<(Outcome, Many<u8>), NoMemory>
+) -> Result<Answered, NoMemory>
     requires room { index.old.revision + 2 < 2 ^ 64 }
     requires fresh { noted.old ≡ [] }
-    ensures ok { IfOk result (λ done. IsNewAnswer done.0
-        (state_with (M.tree mail.old) (M.reads mail.old) (M.faults mail.old) index.old) noted.new done.1
+    ensures ok { IfOk result (λ done. IsNewAnswer
+        (state_with (M.tree mail.old) (M.reads mail.old) (M.faults mail.old) index.old) noted.new done
         (state_with (M.tree mail.new) (M.reads mail.new) (M.faults mail.new) index.new)) }
+    ensures few { IfOk result (λ done. length done.steps ≤ most_steps) }
     ensures err { OnErr result (index.new ≡ index.old) }
     ensures grows { index.new.revision ≤ index.old.revision + 2 }
     ensures asked { HasAsked (M.tree mail.old) (M.reads mail.old) (M.reads mail.new) index.old.files noted.new }
@@ -33,13 +35,14 @@ pub(crate) fn run_new<M: Maildir>(
     ensures never_falls { M.faults mail.old ≤ M.faults mail.new }
 {
     match gather(alloc, index.files.as_slice(), mail, noted) {
-        Ok(gathered) => {
-            let text = take_in(alloc, index, &gathered, noted.as_slice())?;
-            Ok((Outcome::Ok, text))
-        }
+        Ok(gathered) => take_in(alloc, index, gathered, noted.as_slice()),
         Err(MailError::Failed) => {
             let text = Many::from_slice(alloc, b"notmuch: mail fault\n")?;
-            Ok((Outcome::MailFault, text))
+            Ok(Answered {
+                outcome: Outcome::MailFault,
+                text,
+                steps: Many::new(alloc),
+            })
         }
         Err(MailError::NoMemory) => Err(NoMemory),
     }
@@ -62,6 +65,7 @@ fn gather<M: Maildir>(
     let listed = list_paths(alloc, mail)?;
     note_listed(alloc, &listed, noted)?;
     let known = path_set(alloc, files)?;
+    rises(&known);
     let paths = paths_not_in(alloc, &listed, &known)?;
     let arrivals = read_all(alloc, mail, paths.as_slice(), noted)?;
     Ok(Gathered {

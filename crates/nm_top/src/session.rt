@@ -1,13 +1,15 @@
-ghost use Rattle.std.specs.Prelude.{◌≡◌, ◌+◌, ◌<◌, ◌≤◌, ◌^◌, [], IfOk, IfSome, OnErr, MatchResult, codes};
+ghost use Rattle.std.specs.Prelude.{◌≡◌, ◌+◌, ◌<◌, ◌≤◌, ◌^◌, ◌++◌, [], IfOk, IfSome, OnErr, MatchResult, codes, length};
 ghost use Rattle.nm_log.specs.Replies.{usage_line};
-ghost use Rattle.nm_top.specs.Line.{Answers, IsAnswer};
+ghost use Rattle.nm_commit.specs.Count.{count_text};
+ghost use Rattle.nm_top.specs.Line.{Answers, reply_steps};
 ghost use Rattle.nm_top.specs.RunLog.{HasRunLines};
-ghost use Rattle.nm_top.specs.Steps.{HasAsked, state_with};
+ghost use Rattle.nm_top.specs.Steps.{HasAsked, IsLineAnswer, most_steps, state_with};
 
-use crate::index::PlainIndex;
+use crate::index::{Mail, PlainIndex};
 use crate::new::run_new;
-use nm_base::{Many, NoMemory, Request, Room, Text, UsageKind};
-use nm_core::count_text;
+use crate::steps::{Answered, reply_step};
+use nm_base::{CountAsk, Many, NoMemory, Request, Room, Text, UsageKind};
+use nm_core::{Step, count_text};
 use nm_log::{Asked, LineLog, Outcome, ScriptLine, line_status, read_ask, usage_text};
 use nm_maildir::{Given, Maildir};
 use std::alloc::Global;
@@ -16,6 +18,7 @@ use std::alloc::Global;
 #[derive(Drop)]
 pub(crate) struct RunLog {
     pub logs: Many<LineLog>,
+    pub steps: Many<Step>,
     /// Whether every line was run.
     pub whole: bool,
 }
@@ -31,33 +34,53 @@ pub(crate) fn run_lines<M: Maildir>(alloc: Global, lines: &[ScriptLine], mail: &
         revision: 0,
     };
     let mut logs = Room::new(alloc);
+    let mut steps = Room::new(alloc);
     'lines: for line in lines {
-        let Some(spare) = make_room(alloc, &mut logs) else {
+        let Some(spare) = make_room(alloc, &mut logs, &mut steps) else {
             return RunLog {
                 logs: logs.into_many(),
+                steps: steps.into_many(),
                 whole: false,
             };
         };
-        let log = run_line(alloc, line, &mut index, mail, spare);
+        let (log, taken) = run_line(alloc, line, &mut index, mail, spare);
         logs.push_spare(log);
+        add_steps(&mut steps, taken);
     }
     RunLog {
         logs: logs.into_many(),
+        steps: steps.into_many(),
         whole: true,
     }
 }
 
-/// Makes room for the log of one line, and the text of a line that finds no memory.
-fn make_room(alloc: Global, logs: &mut Room<LineLog>) -> Option<Many<u8>>
-    ensures same { logs.new.0 ≡ logs.old.0 }
-    ensures some { IfSome result (λ spare. (spare ≡ codes "notmuch: no memory\n") × (0 < logs.new.1)) }
+/// The most steps of a line: those of two commits and a reply.
+const MOST_STEPS: usize = 7;
+
+/// Makes room for the log and the steps of one line, and the text of a line that finds no memory.
+fn make_room(alloc: Global, logs: &mut Room<LineLog>, steps: &mut Room<Step>) -> Option<Many<u8>>
+    ensures logs { logs.new.0 ≡ logs.old.0 }
+    ensures steps { steps.new.0 ≡ steps.old.0 }
+    ensures some { IfSome result (λ spare. (spare ≡ codes "notmuch: no memory\n") × (0 < logs.new.1) × (most_steps ≤ steps.new.1)) }
 {
     if logs.reserve(1).is_err() {
+        return None;
+    }
+    if steps.reserve(MOST_STEPS).is_err() {
         return None;
     }
     match Many::from_slice(alloc, b"notmuch: no memory\n") {
         Ok(spare) => Some(spare),
         Err(_) => None,
+    }
+}
+
+fn add_steps(steps: &mut Room<Step>, taken: Many<Step>)
+    requires { length taken ≤ steps.old.1 }
+    ensures { steps.new.0 ≡ steps.old.0 ++ taken }
+{
+    'steps: for step in taken.into_vec() {
+        steps.push_spare(step);
     }
 }
 
@@ -68,17 +91,22 @@ fn run_line<M: Maildir>(
     index: &mut PlainIndex,
     mail: &mut M,
     spare: Many<u8>,
-) -> LineLog
+) -> (LineLog, Many<Step>)
     requires room { index.old.revision + 2 < 2 ^ 64 }
     requires spare { spare ≡ codes "notmuch: no memory\n" }
-    ensures answers { Answers (state_with (M.tree mail.old) (M.reads mail.old) (M.faults mail.old) index.old) line.now result
+    ensures answers { Answers (state_with (M.tree mail.old) (M.reads mail.old) (M.faults mail.old) index.old) line.now result.0 result.1
         (state_with (M.tree mail.new) (M.reads mail.new) (M.faults mail.new) index.new) }
+    ensures few { length result.1 ≤ most_steps }
     ensures grows { index.new.revision ≤ index.old.revision + 2 }
 {
     let mut given = Many::new(alloc);
     let answered = answer(alloc, line.text.as_slice(), index, mail, &mut given);
-    let (outcome, text) = outcome_of(answered, spare);
-    LineLog {
+    let Answered {
+        outcome,
+        text,
+        steps,
+    } = answered_or(alloc, answered, spare);
+    let log = LineLog {
         phase: 0,
         lane: 0,
         line: line.number,
@@ -88,18 +116,21 @@ fn run_line<M: Maildir>(
         text,
         given,
         mail_faults: mail.faults(),
-    }
+    };
+    (log, steps)
 }
 
-fn outcome_of(
-    answered: Result<(Outcome, Many<u8>), NoMemory>,
-    spare: Many<u8>,
-) -> (Outcome, Many<u8>)
-    ensures { MatchResult answered (λ done. result ≡ done) (λ _. result ≡ (Outcome.NoMemory, spare)) }
+/// The answer, or that of a line that finds no memory.
+fn answered_or(alloc: Global, answered: Result<Answered, NoMemory>, spare: Many<u8>) -> Answered
+    ensures { MatchResult answered (λ done. result ≡ done) (λ _. result ≡ record { outcome = Outcome.NoMemory; text = spare; steps = [] }) }
 {
     match answered {
         Ok(done) => done,
-        Err(_) => (Outcome::NoMemory, spare),
+        Err(_) => Answered {
+            outcome: Outcome::NoMemory,
+            text: spare,
+            steps: Many::new(alloc),
+        },
     }
 }
 
@@ -110,12 +141,13 @@ fn answer<M: Maildir>(
     index: &mut PlainIndex,
     mail: &mut M,
     given: &mut Many<Given>,
-) -> Result<(Outcome, Many<u8>), NoMemory>
+) -> Result<Answered, NoMemory>
     requires room { index.old.revision + 2 < 2 ^ 64 }
     requires fresh { given.old ≡ [] }
-    ensures ok { IfOk result (λ done. IsAnswer done.0
-        (state_with (M.tree mail.old) (M.reads mail.old) (M.faults mail.old) index.old) line.now given.new done.1
+    ensures ok { IfOk result (λ done. IsLineAnswer
+        (state_with (M.tree mail.old) (M.reads mail.old) (M.faults mail.old) index.old) line.now given.new done
         (state_with (M.tree mail.new) (M.reads mail.new) (M.faults mail.new) index.new)) }
+    ensures few { IfOk result (λ done. length done.steps ≤ most_steps) }
     ensures err { OnErr result (index.new ≡ index.old) }
     ensures grows { index.new.revision ≤ index.old.revision + 2 }
     ensures asked { HasAsked (M.tree mail.old) (M.reads mail.old) (M.reads mail.new) index.old.files given.new }
@@ -125,16 +157,33 @@ fn answer<M: Maildir>(
     match read_ask(alloc, line)? {
         Asked::Usage { word, kind } => refuse_line(alloc, word, kind),
         Asked::Request(Request::New) => run_new(alloc, index, mail, given),
-        Asked::Request(Request::Count(ask)) => {
-            let text = count_text(alloc, ask.query.as_bytes(), index.files.as_slice())?;
-            Ok((Outcome::Ok, text))
-        }
+        Asked::Request(Request::Count(ask)) => count(alloc, index.files.as_slice(), ask),
     }
 }
 
-fn refuse_line(alloc: Global, word: Text, kind: UsageKind) -> Result<(Outcome, Many<u8>), NoMemory>
-    ensures { IfOk result (λ done. done ≡ (Outcome.Usage word kind, usage_line kind word)) }
+/// Counts over the index as it is.
+fn count(alloc: Global, files: &[Mail], ask: CountAsk) -> Result<Answered, NoMemory>
+    ensures outcome { IfOk result (λ done. done.outcome ≡ Outcome.Ok) }
+    ensures text { IfOk result (λ done. done.text ≡ count_text ask.query files.now) }
+    ensures steps { IfOk result (λ done. done.steps ≡ reply_steps [] (Request.Count ask) done.text) }
+    ensures few { IfOk result (λ done. length done.steps ≤ most_steps) }
+{
+    let text = count_text(alloc, ask.query.as_bytes(), files)?;
+    let steps = reply_step(alloc, Request::Count(ask), &text)?;
+    Ok(Answered {
+        outcome: Outcome::Ok,
+        text,
+        steps,
+    })
+}
+
+fn refuse_line(alloc: Global, word: Text, kind: UsageKind) -> Result<Answered, NoMemory>
+    ensures { IfOk result (λ done. done ≡ record { outcome = Outcome.Usage word kind; text = usage_line kind word; steps = [] }) }
 {
     let text = usage_text(alloc, kind, &word)?;
-    Ok((Outcome::Usage { word, kind }, text))
+    Ok(Answered {
+        outcome: Outcome::Usage { word, kind },
+        text,
+        steps: Many::new(alloc),
+    })
 }

@@ -18,6 +18,13 @@ fn has_id(set: &BTreeSet<MessageId>, id: &MessageId) -> bool
     set.contains(id)
 }
 
+/// A set is in order. It runs no code: its clause is what is wanted.
+pub(crate) fn rises(paths: &BTreeSet<MailPath>)
+    ensures { IsRising paths.now.keys }
+{
+    let _ = paths.iter();
+}
+
 /// The paths of the first set that the second lacks.
 pub(crate) fn paths_not_in(
     alloc: Global,

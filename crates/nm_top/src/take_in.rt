@@ -1,12 +1,15 @@
-ghost use Rattle.std.specs.Prelude.{◌≡◌, ◌+◌, ◌<◌, ◌++◌, IfOk, OnOk, OnErr, ◌^◌, ◌∷◌, []};
+ghost use Rattle.std.specs.Prelude.{◌≡◌, ◌+◌, ◌<◌, ◌≤◌, ◌++◌, IfOk, OnOk, OnErr, ◌^◌, ◌∷◌, [], length};
 ghost use Rattle.std.specs.List.{flat_map};
+ghost use Rattle.nm_log.specs.Replies.{new_text};
+ghost use Rattle.nm_top.specs.Line.{reply_steps};
 ghost use Rattle.nm_top.specs.Reading.{skip_at};
-ghost use Rattle.nm_top.specs.Steps.{TakesIn, commits_for, gone_of, is_gone, kept, report_with, skip_given};
+ghost use Rattle.nm_top.specs.Steps.{TakesIn, commits_for, gone_of, is_gone, kept, most_steps, report_with, skip_given, standing_report};
 
 use crate::index::{Mail, PlainIndex, id_set};
-use crate::sets::{has_path, ids_not_in, paths_missing};
-use nm_base::{Copies, MailPath, Many, NoMemory, Skip};
-use nm_log::{NewReport, new_reply};
+use crate::sets::{has_path, ids_not_in, paths_missing, paths_not_in};
+use crate::steps::{Answered, new_steps, reply_step};
+use nm_base::{Copies, MailPath, Many, NoMemory, Request, Skip};
+use nm_log::{NewReport, Outcome, new_reply};
 use nm_maildir::{Given, ReadAnswer};
 use std::alloc::Global;
 use std::collections::BTreeSet;
@@ -19,31 +22,85 @@ pub(crate) struct Gathered {
     pub arrivals: Many<Mail>,
 }
 
-/// Takes in what has come, lets go what is gone, and gives the reply.
+/// Takes in what has come, lets go what is gone, and gives the reply with the steps of that.
 pub(crate) fn take_in(
     alloc: Global,
     index: &mut PlainIndex,
-    gathered: &Gathered,
+    gathered: Gathered,
     noted: &[Given],
-) -> Result<Many<u8>, NoMemory>
+) -> Result<Answered, NoMemory>
     requires { index.old.revision + 2 < 2 ^ 64 }
-    ensures ok { IfOk result (TakesIn gathered.now.known.keys gathered.now.listed.keys gathered.now.arrivals noted.now index.old index.new) }
+    ensures ok { IfOk result (TakesIn gathered.known.keys gathered.listed.keys gathered.arrivals noted.now index.old index.new) }
+    ensures few { IfOk result (λ done. length done.steps ≤ most_steps) }
+    ensures grows { index.new.revision ≤ index.old.revision + 2 }
     ensures err { OnErr result (index.new ≡ index.old) }
 {
-    let files = files_after(alloc, index.files.as_slice(), gathered)?;
+    let gone = paths_not_in(alloc, &gathered.known, &gathered.listed)?;
+    if gathered.arrivals.is_empty() {
+        if gone.is_empty() {
+            return stand(alloc, noted);
+        }
+    }
+    change(alloc, index, gathered, gone, noted)
+}
+
+/// The answer where nothing has come and nothing is gone: the index is not touched.
+fn stand(alloc: Global, noted: &[Given]) -> Result<Answered, NoMemory>
+    ensures outcome { IfOk result (λ done. done.outcome ≡ Outcome.Ok) }
+    ensures says { IfOk result (λ done. done.text ≡ new_text (standing_report noted.now)) }
+    ensures steps { IfOk result (λ done. done.steps ≡ reply_steps [] Request.New done.text) }
+    ensures few { IfOk result (λ done. length done.steps ≤ most_steps) }
+{
+    let report = NewReport {
+        added: 0,
+        removed: 0,
+        born: 0,
+        died: 0,
+        skipped: skips(alloc, noted)?,
+    };
+    let text = new_reply(alloc, &report)?;
+    let steps = reply_step(alloc, Request::New, &text)?;
+    Ok(Answered {
+        outcome: Outcome::Ok,
+        text,
+        steps,
+    })
+}
+
+/// Takes in what has come, and lets these paths go.
+fn change(
+    alloc: Global,
+    index: &mut PlainIndex,
+    gathered: Gathered,
+    gone: Many<MailPath>,
+    noted: &[Given],
+) -> Result<Answered, NoMemory>
+    requires room { index.old.revision + 2 < 2 ^ 64 }
+    requires gone { gone ≡ gone_of gathered.known.keys gathered.listed.keys }
+    ensures ok { IfOk result (TakesIn gathered.known.keys gathered.listed.keys gathered.arrivals noted.now index.old index.new) }
+    ensures few { IfOk result (λ done. length done.steps ≤ most_steps) }
+    ensures grows { index.new.revision ≤ index.old.revision + 2 }
+    ensures err { OnErr result (index.new ≡ index.old) }
+{
+    let files = files_after(alloc, index.files.as_slice(), &gathered)?;
     let report = make_report(
         alloc,
         index.files.as_slice(),
         files.as_slice(),
-        gathered,
+        &gathered,
         noted,
     )?;
     let text = new_reply(alloc, &report)?;
     let came = commit_count(gathered.arrivals.len());
-    let went = commit_count(paths_missing(&gathered.known, &gathered.listed));
+    let went = commit_count(gone.len());
+    let steps = new_steps(alloc, gathered.arrivals, gone, &text)?;
     index.revision += came + went;
     index.files = files;
-    Ok(text)
+    Ok(Answered {
+        outcome: Outcome::Ok,
+        text,
+        steps,
+    })
 }
 
 fn commit_count(changes: usize) -> u64

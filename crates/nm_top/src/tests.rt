@@ -1,5 +1,6 @@
 use crate::notmuch;
 use nm_base::{MailPath, Many, NoMemory, Text};
+use nm_core::Step;
 use nm_io::{MemSink, MemSource};
 use nm_log::Setting;
 use nm_maildir::StillTree;
@@ -12,10 +13,11 @@ const SETTING: Setting = Setting {
     workers: 1,
 };
 
-/// What a call left: its status, and what it printed and said.
+/// What a call left: its status, the steps of its log, and what it printed and said.
 #[derive(Debug, Drop, PartialEq, Eq)]
 struct Left {
     status: u8,
+    steps: Text,
     out: Text,
     err: Text,
 }
@@ -39,6 +41,22 @@ fn text_of(alloc: Global, bytes: &[u8]) -> Result<Text, NoMemory> {
         Ok(text) => Text::of(alloc, text),
         Err(_) => Text::of(alloc, "not text"),
     }
+}
+
+/// A letter for each step: it is begun, it is there, it is shown; a look, a meeting, a reply.
+fn letters_of(alloc: Global, steps: &[Step]) -> Result<Text, NoMemory> {
+    let mut letters = String::new(alloc);
+    'steps: for step in steps {
+        letters.push(match step {
+            Step::Begin { .. } => 'B',
+            Step::Append => 'A',
+            Step::Show => 'S',
+            Step::See { .. } => 'L',
+            Step::Meet => 'M',
+            Step::Reply { .. } => 'R',
+        })?;
+    }
+    Ok(Text::from_string(letters))
 }
 
 /// The files that the rows name by one letter each: their paths and bytes.
@@ -103,14 +121,22 @@ fn call(
     );
     Ok(Some(Left {
         status: done.status,
+        steps: letters_of(alloc, done.log.steps.as_slice())?,
         out: text_of(alloc, out.bytes())?,
         err: text_of(alloc, err.bytes())?,
     }))
 }
 
-fn expected(alloc: Global, status: u8, out: &str, err: &str) -> Result<Option<Left>, NoMemory> {
+fn expected(
+    alloc: Global,
+    status: u8,
+    steps: &str,
+    out: &str,
+    err: &str,
+) -> Result<Option<Left>, NoMemory> {
     Ok(Some(Left {
         status,
+        steps: Text::of(alloc, steps)?,
         out: Text::of(alloc, out)?,
         err: Text::of(alloc, err)?,
     }))
@@ -118,54 +144,60 @@ fn expected(alloc: Global, status: u8, out: &str, err: &str) -> Result<Option<Le
 
 #[test]
 fn the_replies_are_those_of_the_rows(rt: HostRuntime) -> Result<(), Fail> {
-    let rows: [(&str, &str, &str, &str); 6] = [
+    let rows: [(&str, &str, &str, &str, &str); 6] = [
         (
             "an empty folder",
             "",
             "0 new\n0 count subject:word\n",
+            "RR",
             "@0 1 0 0 13\nNo new mail.\n@0 2 0 0 2\n0\n",
         ),
         (
             "one mail",
             "a",
             "0 new\n0 count subject:Apples\n0 count subject:pear\n1 new\n",
+            "BASRRR",
             "@0 1 1 0 42\nFiles: +1 -0, skipped 0. Messages: +1 -0.\n@0 2 1 0 2\n1\n@0 3 1 0 2\n0\n@0 4 1 2 24\nnotmuch: usage: lane: 1\n",
         ),
         (
             "two files of one message",
             "apg",
             "0 new\n0 count subject:apples\n0 new\n",
+            "BASRRR",
             "@0 1 1 0 42\nFiles: +3 -0, skipped 0. Messages: +2 -0.\n@0 2 1 0 2\n1\n@0 3 1 0 13\nNo new mail.\n",
         ),
         (
             "a file that is no mail",
             "x",
             "0 new\n",
+            "R",
             "@0 1 0 0 66\nFiles: +0 -0, skipped 1. Messages: +0 -0.\nskipped: not mail new/x\n",
         ),
         (
             "a name that begins with a dot",
             "h",
             "0 new\n",
+            "R",
             "@0 1 0 0 13\nNo new mail.\n",
         ),
         (
             "empty lines, and faults of words",
             "",
             "\n0 frob\r\n\n0 new x\n0 count\n0 count *\n",
+            "",
             "@0 2 0 2 30\nnotmuch: usage: command: frob\n@0 4 0 2 25\nnotmuch: usage: extra: x\n@0 5 0 2 26\nnotmuch: usage: missing: \n@0 6 0 2 25\nnotmuch: usage: value: *\n",
         ),
     ];
-    for (name, files, script, out) in rows {
+    for (name, files, script, steps, out) in rows {
         let seen = call(rt.alloc(), &["session"], files, script, NONE)?;
-        assert_eq!(rt; seen, expected(rt.alloc(), 0, out, "")?, "{name}");
+        assert_eq!(rt; seen, expected(rt.alloc(), 0, steps, out, "")?, "{name}");
     }
     Ok(())
 }
 
 #[test]
 fn a_device_that_fails_is_told(rt: HostRuntime) -> Result<(), Fail> {
-    let rows: [(&str, Failing, u8, &str, &str); 3] = [
+    let rows: [(&str, Failing, u8, &str, &str, &str); 3] = [
         (
             "the first listing",
             Failing {
@@ -174,6 +206,7 @@ fn a_device_that_fails_is_told(rt: HostRuntime) -> Result<(), Fail> {
                 out: &[],
             },
             3,
+            "",
             "@0 1 0 3 20\nnotmuch: mail fault\n",
             "",
         ),
@@ -186,6 +219,7 @@ fn a_device_that_fails_is_told(rt: HostRuntime) -> Result<(), Fail> {
             },
             5,
             "",
+            "",
             "notmuch: read fault\n",
         ),
         (
@@ -196,13 +230,18 @@ fn a_device_that_fails_is_told(rt: HostRuntime) -> Result<(), Fail> {
                 out: &[1],
             },
             6,
+            "BASR",
             "",
             "notmuch: write fault\n",
         ),
     ];
-    for (name, failing, status, out, err) in rows {
+    for (name, failing, status, steps, out, err) in rows {
         let seen = call(rt.alloc(), &["session"], "a", "0 new\n", failing)?;
-        assert_eq!(rt; seen, expected(rt.alloc(), status, out, err)?, "{name}");
+        assert_eq!(rt;
+            seen,
+            expected(rt.alloc(), status, steps, out, err)?,
+            "{name}"
+        );
     }
     Ok(())
 }
@@ -216,7 +255,7 @@ fn words_and_scripts_out_of_bounds_are_refused(rt: HostRuntime) -> Result<(), Fa
     ];
     for (words, err) in rows {
         let seen = call(rt.alloc(), words, "", "0 new\n", NONE)?;
-        assert_eq!(rt; seen, expected(rt.alloc(), 2, "", err)?, "{err}");
+        assert_eq!(rt; seen, expected(rt.alloc(), 2, "", "", err)?, "{err}");
     }
     let mut lines = String::new(rt.alloc());
     for _ in 0..4097 {
@@ -225,7 +264,7 @@ fn words_and_scripts_out_of_bounds_are_refused(rt: HostRuntime) -> Result<(), Fa
     let seen = call(rt.alloc(), &["session"], "", lines.as_str(), NONE)?;
     assert_eq!(rt;
         seen,
-        expected(rt.alloc(), 9, "", "notmuch: limit: lines\n")?
+        expected(rt.alloc(), 9, "", "", "notmuch: limit: lines\n")?
     );
     Ok(())
 }

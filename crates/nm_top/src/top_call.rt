@@ -121,6 +121,9 @@ fn run_script<M: Maildir, O: Sink, E: Sink>(
     let status = status_of_run(run.whole, run.logs.as_slice(), out_failed);
     Done {
         status,
-        log: SessionLog { lines: run.logs },
+        log: SessionLog {
+            steps: run.steps,
+            lines: run.logs,
+        },
     }
 }

@@ -13,7 +13,7 @@ returns-in_default g c =
       last = state_with (mail.tree c.lines.mail) (mail.reads c.lines.mail) (mail.faults c.lines.mail) c.lines.index;
       lines_are = sym (take-append-drop c.lines.line-index c.args.lines.now);
       all = λ e. absurd (false≢true e);
-      run = run_logs _ _ _ c.lines.logs.0 _ (c.into_many.ensures ∙ c.make_room.ensures.same) c.lines.invariant.run;
+      run = run_logs _ _ _ c.lines.logs.0 _ c.lines.steps.0 _ (c.into_many.ensures ∙ c.make_room.ensures.logs) (c.into_many-in_default.ensures ∙ c.make_room.ensures.steps) c.lines.invariant.run;
       mail = refl;
     }
 
@@ -21,8 +21,8 @@ pub lines-preserved : goal.lines-preserved
 lines-preserved g c =
     let mail = g.M.Maildir in
     record {
-      run = run_next _ (state_with (mail.tree c.lines.mail) (mail.reads c.lines.mail) (mail.faults c.lines.mail) c.lines.index) _ c.args.lines.now c.lines.line-index c.line-item.result c.lines.logs.0 c.make_room.new.logs.0 _ c.run_line-log.result
-          c.lines-test.true c.line-item.is c.make_room.ensures.same c.push_spare.ensures.list c.lines.invariant.run c.run_line-log.ensures.answers;
+      run = run_next _ (state_with (mail.tree c.lines.mail) (mail.reads c.lines.mail) (mail.faults c.lines.mail) c.lines.index) _ c.args.lines.now c.lines.line-index c.line-item.result c.lines.logs.0 c.make_room.new.logs.0 _ _ c.lines.steps.0 c.make_room.new.steps.0 _ _
+          c.lines-test.true c.line-item.is c.make_room.ensures.logs c.push_spare.ensures.list c.make_room.ensures.steps c.add_steps.ensures c.lines.invariant.run c.run_line-log.ensures.answers;
       few = omega (arith, c.run_line-log.ensures.grows, c.lines.invariant.few);
     }
 
@@ -35,6 +35,6 @@ returns g c =
       last = state_with (mail.tree c.lines.mail) (mail.reads c.lines.mail) (mail.faults c.lines.mail) c.lines.index;
       lines_are = sym (append-nil c.args.lines.now);
       all = λ e. refl;
-      run = run_all _ _ c.args.lines.now c.lines.line-index c.lines.logs.0 _ c.lines-test.false c.into_many-2.ensures c.lines.invariant.run;
+      run = run_all _ _ c.args.lines.now c.lines.line-index c.lines.logs.0 _ c.lines.steps.0 _ c.lines-test.false c.into_many-2.ensures c.into_many-3.ensures c.lines.invariant.run;
       mail = refl;
     }

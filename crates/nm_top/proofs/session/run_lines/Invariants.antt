@@ -9,7 +9,7 @@ abbrev pub invariant-lines : goal.invariant-lines
 invariant-lines g l =
     let mail = g.M.Maildir in
     record {
-      run : Runs (opening_state (record { tree = mail.tree l.initial.mail; reads = mail.reads l.initial.mail; faults = mail.faults l.initial.mail })) (take l.line-index l.lines) l.logs.0
+      run : Runs (opening_state (record { tree = mail.tree l.initial.mail; reads = mail.reads l.initial.mail; faults = mail.faults l.initial.mail })) (take l.line-index l.lines) l.logs.0 l.steps.0
           (state_with (mail.tree l.mail) (mail.reads l.mail) (mail.faults l.mail) l.index);
       few : l.index.revision ≤ 2 * l.line-index;
     }

@@ -14,6 +14,6 @@ returns-in-Err-Limit g c = λ words sound.
         sound,
         record { bytes = c.in-Ok.ensures.consumed; end = c.in-Ok.ensures.end; within = c.in-Ok.ensures.within; sound = c.in-Ok.ensures.cause },
         subst (λ (bytes : List ℕ). 4096 < length (lines bytes)) c.as_slice.ensures fault.1,
-        record { status = c.refuse.ensures.status; log = c.refuse.ensures.log; mail = refl; out = refl; says = c.refuse.ensures.says },
+        record { status = c.refuse.ensures.status; log = c.refuse.ensures.log; steps = c.refuse.ensures.steps; mail = refl; out = refl; says = c.refuse.ensures.says },
       ),
     )
