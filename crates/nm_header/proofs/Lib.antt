@@ -12,5 +12,6 @@ pub mod NameLemmas
 pub mod PieceLemmas
 pub mod PlainLemmas
 pub mod SplitLemmas
+pub mod TextLemmas
 pub mod TokenLemmas
 pub mod Utf8Lemmas

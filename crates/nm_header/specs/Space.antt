@@ -7,6 +7,10 @@ use Rattle.nm_base.specs.Bounds.{is_white_space}
 abbrev pub without_space : List ℕ → List ℕ
 without_space bytes = filter (λ b. not (is_white_space b)) bytes
 
+-- without that at the front
+abbrev pub trimmed_start : List ℕ → List ℕ
+trimmed_start bytes = drop (prefix_len is_white_space bytes) bytes
+
 -- without that at the end
 abbrev pub trimmed_end : List ℕ → List ℕ
 trimmed_end bytes = take (length bytes - suffix_len is_white_space bytes) bytes

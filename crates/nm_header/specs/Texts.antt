@@ -1,5 +1,6 @@
 -- Which fields of a name count (RFC 5322, section 3.6), and the text in them.
-use Rattle.std.specs.Prelude.{ℕ, Bool, ◌||◌, List, map, filter, find, codes, if◌then◌else◌}
+use Rattle.std.specs.Prelude.{ℕ, Bool, ◌||◌, List, [], map, filter, find, slice_get, unwrap_or, codes, if◌then◌else◌}
+use Rattle.std.specs.List.{list_any}
 use Rattle.std.specs.Option.{option_map, option_to_list}
 use Rattle.std.specs.Str.Lossy.{utf8_lossy}
 use Rattle.std.specs.Str.{bytes_eq}
@@ -21,3 +22,11 @@ counts_all name =
 abbrev pub texts_of : List HeaderField → List ℕ → List (List ℕ)
 texts_of fields name =
     if counts_all name then map text_in (filter (is_named name) fields) else option_to_list (option_map text_in (find (is_named name) fields))
+
+-- the text of the first field with this name, or nothing
+abbrev pub field_text : List HeaderField → List ℕ → List ℕ
+field_text fields name = unwrap_or (slice_get (texts_of fields name) 0) []
+
+-- a field with this name stands among them
+abbrev pub has_field : List HeaderField → List ℕ → Bool
+has_field fields name = list_any (is_named name) fields

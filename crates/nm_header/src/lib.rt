@@ -24,5 +24,7 @@ pub use laws::{
     a_body_has_no_line_feed, a_folded_body_is_read_whole, a_mail_is_its_header_and_its_body,
     nothing_is_lost, written_ids_are_read,
 };
+pub use lines::{content, line_len};
 pub use mailbox_list::mailboxes;
 pub use plain_text::plain;
+pub use space::{is_white_space, text_of, trimmed, trimmed_start};

@@ -3,7 +3,7 @@ ghost use Rattle.std.specs.Str.Lines.{strip_carriage_return};
 ghost use Rattle.nm_header.specs.Lines.{content, is_empty_line, is_line_feed, lines_of};
 
 /// How many bytes the first line has, its end with it.
-pub(crate) fn line_len(bytes: &[u8]) -> usize
+pub fn line_len(bytes: &[u8]) -> usize
     requires { 0 < length bytes.now }
     ensures first { lines_of bytes.now ≡ take result bytes.now ∷ lines_of (drop result bytes.now) }
     ensures some { 0 < result }
@@ -16,8 +16,9 @@ pub(crate) fn line_len(bytes: &[u8]) -> usize
 }
 
 /// The line without its end: LF, or CR LF.
-pub(crate) fn content(line: &[u8]) -> &[u8]
-    ensures { result.now ≡ content line.now }
+pub fn content(line: &[u8]) -> &[u8]
+    ensures value { result.now ≡ content line.now }
+    ensures within { length result.now ≤ length line.now }
 {
     let length = line.len();
     if length == 0 {
@@ -30,7 +31,8 @@ pub(crate) fn content(line: &[u8]) -> &[u8]
 }
 
 fn without_carriage_return(line: &[u8]) -> &[u8]
-    ensures { result.now ≡ strip_carriage_return line.now }
+    ensures value { result.now ≡ strip_carriage_return line.now }
+    ensures within { length result.now ≤ length line.now }
 {
     let length = line.len();
     if length == 0 {

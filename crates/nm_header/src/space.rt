@@ -1,7 +1,7 @@
 ghost use Rattle.std.specs.Prelude.{◌≡◌, ◌-◌, ◌≤◌, IfOk, IsUtf8, length};
 ghost use Rattle.std.specs.List.{prefix_len, suffix_len};
 ghost use Rattle.nm_base.specs.Bounds.{is_white_space};
-ghost use Rattle.nm_header.specs.Space.{trimmed, trimmed_end, without_space};
+ghost use Rattle.nm_header.specs.Space.{trimmed, trimmed_end, trimmed_start, without_space};
 
 use nm_base::{NoMemory, Text};
 use std::alloc::Global;
@@ -25,8 +25,8 @@ fn kept_bytes(alloc: Global, bytes: &[u8]) -> Result<Vec<u8>, NoMemory>
     Ok(kept)
 }
 
-/// Takes no memory.
-pub(crate) fn text_of(bytes: Vec<u8>) -> Text
+/// The bytes as text. Takes no memory.
+pub fn text_of(bytes: Vec<u8>) -> Text
     requires { IsUtf8 bytes.items }
     ensures { result ≡ bytes.items }
 {
@@ -36,16 +36,25 @@ pub(crate) fn text_of(bytes: Vec<u8>) -> Text
     }
 }
 
-pub(crate) fn is_white_space(b: u8) -> bool
+/// Whether it is space, tab, CR or LF.
+pub fn is_white_space(b: u8) -> bool
     ensures { result ≡ is_white_space b }
 {
     matches!(b, b' ' | b'\t' | b'\r' | b'\n')
 }
 
-pub(crate) fn trimmed(bytes: &[u8]) -> &[u8]
+/// The bytes without the white space at either end.
+pub fn trimmed(bytes: &[u8]) -> &[u8]
     ensures { result.now ≡ trimmed bytes.now }
 {
-    trimmed_end(&bytes[space_len(bytes)..])
+    trimmed_end(trimmed_start(bytes))
+}
+
+/// The bytes without the white space at their front.
+pub fn trimmed_start(bytes: &[u8]) -> &[u8]
+    ensures { result.now ≡ trimmed_start bytes.now }
+{
+    &bytes[space_len(bytes)..]
 }
 
 fn space_len(bytes: &[u8]) -> usize

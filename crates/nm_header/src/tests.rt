@@ -92,6 +92,25 @@ fn texts_of_a_name(rt: HostRuntime) -> Result<(), Fail> {
 }
 
 #[test]
+fn the_first_text_of_a_name(rt: HostRuntime) -> Result<(), Fail> {
+    let alloc = rt.alloc();
+    let header = fields(alloc, b"To: a\nSubject: b\nTO: c\nsubject: d\nX:\n")?;
+    let cases: [(&str, &str, bool); 5] = [
+        ("to", "a", true),
+        ("subject", "b", true),
+        ("x", "", true),
+        ("from", "", false),
+        ("in-reply-to", "", false),
+    ];
+    for (name, wanted, stands) in cases {
+        let text = header.first_text(alloc, name)?;
+        assert_eq!(rt; text.as_str(), wanted, "of {name}");
+        assert_eq!(rt; header.has(name), stands, "of {name}");
+    }
+    Ok(())
+}
+
+#[test]
 fn a_text_without_its_comments(rt: HostRuntime) -> Result<(), Fail> {
     let alloc = rt.alloc();
     let cases: [(&str, &str); 13] = [

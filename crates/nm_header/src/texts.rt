@@ -1,7 +1,7 @@
 ghost use Rattle.std.specs.Prelude.{◌≡◌, IfOk, map, filter, find};
 ghost use Rattle.std.specs.Option.{option_copied, option_map, option_to_list};
 ghost use Rattle.std.specs.Str.Lossy.{utf8_lossy};
-ghost use Rattle.nm_header.specs.Texts.{counts_all, is_named, text_in, texts_of};
+ghost use Rattle.nm_header.specs.Texts.{counts_all, field_text, has_field, is_named, text_in, texts_of};
 
 use crate::{HeaderField, HeaderList};
 use nm_base::{Many, NoMemory, Text};
@@ -32,8 +32,29 @@ impl HeaderList {
         if counts_all(name) {
             all_texts(alloc, self.list.as_slice(), name)
         } else {
-            first_text(alloc, self.list.as_slice(), name)
+            lone_text(alloc, self.list.as_slice(), name)
         }
+    }
+
+    /// The text of the first field with this name, or the empty text.
+    #[tactic(auto, using(crate::proofs::TextLemmas::first_some, crate::proofs::TextLemmas::first_none))]
+    pub fn first_text(&self, alloc: Global, name: &str) -> Result<Text, NoMemory>
+        ensures { IfOk result (λ text. text ≡ field_text self.now.list name.now) }
+    {
+        match first_named(self.list.as_slice(), name) {
+            None => Ok(Text::new(alloc)),
+            Some(field) => field.text(alloc),
+        }
+    }
+
+    /// Whether a field with this name stands in the header.
+    pub fn has(&self, name: &str) -> bool
+        ensures { result ≡ has_field self.now.list name.now }
+    {
+        self.list
+            .as_slice()
+            .iter()
+            .any(|field| field.is_named(name))
     }
 }
 
@@ -67,7 +88,8 @@ fn all_texts(alloc: Global, fields: &[HeaderField], name: &str) -> Result<Many<T
     Ok(texts)
 }
 
-fn first_text(alloc: Global, fields: &[HeaderField], name: &str) -> Result<Many<Text>, NoMemory>
+/// The text of the first field with this name, if there is one.
+fn lone_text(alloc: Global, fields: &[HeaderField], name: &str) -> Result<Many<Text>, NoMemory>
     ensures { IfOk result (λ texts. texts ≡ option_to_list (option_map text_in (find (is_named name.now) fields.now))) }
 {
     let mut texts = Many::new(alloc);

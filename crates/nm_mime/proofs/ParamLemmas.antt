@@ -7,8 +7,9 @@ use Rattle.std.specs.List.{after_first, position_or_len, prefix_len}
 use Rattle.std.proofs.lemmas.List.{append-nil}
 use Rattle.std.proofs.lemmas.Bool.{eqb-true}
 use Rattle.nm_mime.specs.declared.param_list.Param.{Param}
-use Rattle.nm_mime.specs.Params.{behind_name, behind_param, behind_quoted, behind_space, behind_value, ends_name, goes_on, is_pair, is_semicolon, param_in, params_behind, params_of, params_upto, quoted_text, begins_with, kept_param, param_from, value_in}
+use Rattle.nm_mime.specs.Params.{behind_name, behind_param, behind_quoted, behind_value, ends_name, goes_on, is_pair, is_semicolon, param_in, params_behind, params_of, params_upto, quoted_text, begins_with, kept_param, param_from, value_in}
 use Rattle.nm_base.specs.Bounds.{is_white_space}
+use Rattle.nm_header.specs.Space.{trimmed_start}
 
 -- ---- quoted strings
 not_sign : (b : Bool) → not b ≡ true → b ≡ false
@@ -91,9 +92,9 @@ value_short (b ∷ more) = let one = quoted_short (length more) more (omega arit
 name_short : (text : List ℕ) → length (behind_name text) ≤ length text
 name_short [] = omega arith
 name_short (b ∷ more) =
-    let one = value_short (behind_space more) in
-    let two : length (behind_space more) ≡ length more - prefix_len is_white_space more = length-drop (prefix_len is_white_space more) more in
-    elim (b == 61) as (λ v. length (cond v (behind_value (behind_space more)) (b ∷ more)) ≤ suc (length more)) [ true ↦ omega arith | false ↦ omega arith ]
+    let one = value_short (trimmed_start more) in
+    let two : length (trimmed_start more) ≡ length more - prefix_len is_white_space more = length-drop (prefix_len is_white_space more) more in
+    elim (b == 61) as (λ v. length (cond v (behind_value (trimmed_start more)) (b ∷ more)) ≤ suc (length more)) [ true ↦ omega arith | false ↦ omega arith ]
 
 pub param_short : (text : List ℕ) → length (behind_param text) ≤ length text - 1
 param_short text =
@@ -133,21 +134,21 @@ params_end found [] e = sym (ap (λ x. found ++ x) params-nil ∙ append-nil fou
 params_end found (b ∷ left) e = absurd (let no : length (b ∷ left) ≡ 0 = eqb-true (length (b ∷ left)) 0 e in omega arith)
 
 -- a text begun with the equals sign is that and more
-pub named_from : (name text : List ℕ) → begins_with 61 text ≡ true → param_from name text ≡ kept_param name (value_in (behind_space (drop 1 text)))
+pub named_from : (name text : List ℕ) → begins_with 61 text ≡ true → param_from name text ≡ kept_param name (value_in (trimmed_start (drop 1 text)))
 named_from name [] e = absurd (cc)
-named_from name (b ∷ more) e = ap (λ v. cond v (kept_param name (value_in (behind_space more))) []) e
+named_from name (b ∷ more) e = ap (λ v. cond v (kept_param name (value_in (trimmed_start more))) []) e
 
 pub unnamed_from : (name text : List ℕ) → begins_with 61 text ≡ false → param_from name text ≡ []
 unnamed_from name [] e = refl
-unnamed_from name (b ∷ more) e = ap (λ v. cond v (kept_param name (value_in (behind_space more))) []) e
+unnamed_from name (b ∷ more) e = ap (λ v. cond v (kept_param name (value_in (trimmed_start more))) []) e
 
-pub named_behind : (text : List ℕ) → begins_with 61 text ≡ true → behind_name text ≡ behind_value (behind_space (drop 1 text))
+pub named_behind : (text : List ℕ) → begins_with 61 text ≡ true → behind_name text ≡ behind_value (trimmed_start (drop 1 text))
 named_behind [] e = absurd (cc)
-named_behind (b ∷ more) e = ap (λ v. cond v (behind_value (behind_space more)) (b ∷ more)) e
+named_behind (b ∷ more) e = ap (λ v. cond v (behind_value (trimmed_start more)) (b ∷ more)) e
 
 pub unnamed_behind : (text : List ℕ) → begins_with 61 text ≡ false → behind_name text ≡ text
 unnamed_behind [] e = refl
-unnamed_behind (b ∷ more) e = ap (λ v. cond v (behind_value (behind_space more)) (b ∷ more)) e
+unnamed_behind (b ∷ more) e = ap (λ v. cond v (behind_value (trimmed_start more)) (b ∷ more)) e
 
 pub drop_less : (n : ℕ) (text : List ℕ) → length (drop n text) ≤ length text
 drop_less n text = let long : length (drop n text) ≡ length text - n = length-drop n text in omega arith

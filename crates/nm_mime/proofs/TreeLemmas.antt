@@ -4,8 +4,9 @@ use Rattle.std.specs.List.{concat, flat_map}
 use Rattle.std.proofs.lemmas.List.{append-nil, reverse-append}
 use Rattle.std.proofs.lemmas.List.Concat.{flat_map-append}
 use Rattle.nm_header.specs.Lines.{content, lines_of}
+use Rattle.nm_header.specs.Texts.{field_text}
 use Rattle.nm_mime.specs.Children.{ends_part, is_line_of, marks_of, part_at, part_behind, part_size, stops, stretches_in, stretches_of}
-use Rattle.nm_mime.specs.Parts.{IsInside, IsWithin, bytes_in, children_of, boundary_of, entities_from, entity_in, field_text, inside, is_opened, opening_in, opening_of, parts_of, parts_upto, whole_of}
+use Rattle.nm_mime.specs.Parts.{IsInside, IsWithin, bytes_in, children_of, boundary_of, entities_from, entity_in, inside, is_opened, opening_in, opening_of, parts_of, parts_upto, whole_of}
 use Rattle.nm_mime.specs.Roles.{encoding_of, is_attachment, is_kind_of, is_message, is_multipart, is_plain, role_of}
 use Rattle.nm_mime.specs.Types.{type_of}
 use Rattle.nm_mime.specs.declared.types.ContentType.{ContentType}

@@ -7,7 +7,7 @@ use Rattle.std.specs.Str.{IsAscii}
 use Rattle.std.proofs.lemmas.Bool.{leb-true}
 use Rattle.std.proofs.lemmas.Str.{IsUtf8-from_ascii}
 use Rattle.std.proofs.lemmas.Str.Ascii.{IsAscii-cons, IsAscii-map, IsAscii-nil, lowercase_ascii}
-use Rattle.nm_mime.specs.Params.{behind_space}
+use Rattle.nm_header.specs.Space.{trimmed_start}
 use Rattle.nm_mime.specs.Types.{ends_type, run_of}
 
 small_of : (a b c : Bool) → (not (a && b) || c) ≡ false → b ≡ true
@@ -29,4 +29,4 @@ type_ascii (b ∷ text) =
 
 pub kind_utf8 : (text run kind : List ℕ) → run ≡ run_of text → kind ≡ map to_ascii_lowercase run → IsUtf8 kind
 kind_utf8 text run kind r k =
-    subst IsUtf8 (sym (k ∙ ap (map to_ascii_lowercase) r)) (IsUtf8-from_ascii _ (IsAscii-map to_ascii_lowercase (run_of text) lowercase_ascii (type_ascii (behind_space text))))
+    subst IsUtf8 (sym (k ∙ ap (map to_ascii_lowercase) r)) (IsUtf8-from_ascii _ (IsAscii-map to_ascii_lowercase (run_of text) lowercase_ascii (type_ascii (trimmed_start text))))

@@ -10,9 +10,9 @@ use Rattle.std.proofs.lemmas.List.Sums.{prefix_len_passes, prefix_len_stops, suf
 use Rattle.std.proofs.lemmas.Str.{IsCharBoundary-after_ascii, IsCharBoundary-before_ascii, IsUtf8-append, IsUtf8-drop, IsUtf8-from_ascii, IsUtf8-nil, IsUtf8-take}
 use Rattle.std.proofs.lemmas.Str.Ascii.{IsAscii-cons, IsAscii-nil, lowercase_ascii, lowercase_is}
 use Rattle.nm_base.specs.Bounds.{is_white_space}
-use Rattle.nm_header.specs.Space.{trimmed, trimmed_end}
+use Rattle.nm_header.specs.Space.{trimmed, trimmed_end, trimmed_start}
 use Rattle.nm_header.proofs.Utf8Lemmas.{drop_ascii, split_ascii}
-use Rattle.nm_mime.specs.Params.{begins_with, behind_name, behind_param, behind_quoted, behind_space, behind_value, ends_name, ends_value, is_semicolon, quoted_text, value_in}
+use Rattle.nm_mime.specs.Params.{begins_with, behind_name, behind_param, behind_quoted, behind_value, ends_name, ends_value, is_semicolon, quoted_text, value_in}
 
 passes : (b : Bool) → not b ≡ false → b ≡ true
 passes true e = refl
@@ -72,7 +72,7 @@ semicolon_utf8 text u = after_utf8 is_semicolon semicolon_small text u
 pub tail_utf8 : (b : ℕ) (more : List ℕ) → b < 128 → IsUtf8 (b ∷ more) → IsUtf8 more
 tail_utf8 b more small u = (split_ascii [] more b small u).1
 
-pub space_utf8 : (text : List ℕ) → IsUtf8 text → IsUtf8 (behind_space text)
+pub space_utf8 : (text : List ℕ) → IsUtf8 text → IsUtf8 (trimmed_start text)
 space_utf8 [] u = u
 space_utf8 (b ∷ more) u =
     let n : ℕ = prefix_len is_white_space more in
@@ -99,7 +99,7 @@ end_utf8 text u =
     ] refl
 
 pub trimmed_utf8 : (text : List ℕ) → IsUtf8 text → IsUtf8 (trimmed text)
-trimmed_utf8 text u = end_utf8 (behind_space text) (space_utf8 text u)
+trimmed_utf8 text u = end_utf8 (trimmed_start text) (space_utf8 text u)
 
 -- ---- letters made small
 lower_behind : (front text : List ℕ) → IsUtf8 (front ++ text) → IsUtf8 (front ++ map to_ascii_lowercase text)
@@ -176,8 +176,8 @@ behind_value_utf8 (b ∷ more) u =
 pub behind_name_utf8 : (text : List ℕ) → IsUtf8 text → IsUtf8 (behind_name text)
 behind_name_utf8 [] u = u
 behind_name_utf8 (b ∷ more) u =
-    elim (b == 61) as (λ v. (b == 61) ≡ v → IsUtf8 (cond v (behind_value (behind_space more)) (b ∷ more))) [
-      | true ↦ λ e. let sign : b ≡ 61 = eqb-true b 61 e in behind_value_utf8 (behind_space more) (space_utf8 more (tail_utf8 b more (omega arith) u))
+    elim (b == 61) as (λ v. (b == 61) ≡ v → IsUtf8 (cond v (behind_value (trimmed_start more)) (b ∷ more))) [
+      | true ↦ λ e. let sign : b ≡ 61 = eqb-true b 61 e in behind_value_utf8 (trimmed_start more) (space_utf8 more (tail_utf8 b more (omega arith) u))
       | false ↦ λ e. u
     ] refl
 
@@ -186,9 +186,9 @@ pub param_utf8 : (text : List ℕ) → IsUtf8 text → IsUtf8 (behind_param text
 param_utf8 text u = semicolon_utf8 (behind_name (drop (position_or_len ends_name text) text)) (behind_name_utf8 (drop (position_or_len ends_name text) text) (rest_utf8 text u))
 
 -- and so is what stands behind its sign and white space
-pub sign_utf8 : (text : List ℕ) → begins_with 61 text ≡ true → IsUtf8 text → IsUtf8 (behind_space (take (length text - 1) (drop 1 text)))
+pub sign_utf8 : (text : List ℕ) → begins_with 61 text ≡ true → IsUtf8 text → IsUtf8 (trimmed_start (take (length text - 1) (drop 1 text)))
 sign_utf8 [] e u = absurd (cc)
 sign_utf8 (b ∷ more) e u =
     let sign : b ≡ 61 = eqb-true b 61 e in
     let all : take (length (b ∷ more) - 1) more ≡ more = take_all (length (b ∷ more) - 1) more (omega arith) in
-    subst (λ x. IsUtf8 (behind_space x)) (sym all) (space_utf8 more (tail_utf8 b more (omega arith) u))
+    subst (λ x. IsUtf8 (trimmed_start x)) (sym all) (space_utf8 more (tail_utf8 b more (omega arith) u))

@@ -1,11 +1,11 @@
 -- Parameters of a header field (RFC 2045, section 5.1), read generously: `;name=value`, the value a run or a quoted string.
 use Rattle.std.specs.Prelude.{ℕ, zero, suc, Bool, false, ◌||◌, ◌==◌, not, List, [], ◌∷◌, ◌++◌, Option, length, map, drop, find, unwrap_or, if◌then◌else◌}
 use Rattle.std.specs.Char.{to_ascii_lowercase}
-use Rattle.std.specs.List.{after_first, before_first, list_any, position_or_len, prefix_len}
+use Rattle.std.specs.List.{after_first, before_first, list_any, position_or_len}
 use Rattle.std.specs.Option.{option_map}
 use Rattle.std.specs.Str.{bytes_eq}
 use Rattle.nm_base.specs.Bounds.{is_white_space}
-use Rattle.nm_header.specs.Space.{trimmed}
+use Rattle.nm_header.specs.Space.{trimmed, trimmed_start}
 use Rattle.nm_mime.specs.declared.param_list.Param.{Param}
 
 abbrev pub is_semicolon : ℕ → Bool
@@ -21,10 +21,6 @@ ends_name b = b == 61 || b == 59
 -- `;` or white space
 abbrev pub ends_value : ℕ → Bool
 ends_value b = b == 59 || is_white_space b
-
--- without the white space at the front
-abbrev pub behind_space : List ℕ → List ℕ
-behind_space text = drop (prefix_len is_white_space text) text
 
 -- what a quoted string says behind its `"`: up to the next `"`, or to the end; a `\` takes the next byte as it is
 abbrev pub quoted_text : List ℕ → List ℕ
@@ -72,12 +68,12 @@ kept_param name value =
 -- the parameter of a name behind which this stands: there is none where no `=` follows it
 abbrev pub param_from : List ℕ → List ℕ → List Param
 param_from name [] = []
-param_from name (sign ∷ more) = if sign == 61 then kept_param name (value_in (behind_space more)) else []
+param_from name (sign ∷ more) = if sign == 61 then kept_param name (value_in (trimmed_start more)) else []
 
 -- what stands behind the name's value, if it has one
 abbrev pub behind_name : List ℕ → List ℕ
 behind_name [] = []
-behind_name (sign ∷ more) = if sign == 61 then behind_value (behind_space more) else sign ∷ more
+behind_name (sign ∷ more) = if sign == 61 then behind_value (trimmed_start more) else sign ∷ more
 
 -- the parameter with which a text begins that stands behind a `;`
 abbrev pub param_in : List ℕ → List Param

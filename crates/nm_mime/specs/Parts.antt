@@ -1,10 +1,9 @@
 -- The tree of parts (RFC 2046, section 5): each part stands before those in it.
-use Rattle.std.specs.Prelude.{ℕ, zero, suc, ◌+◌, ◌-◌, ◌≤◌, Bool, true, false, ◌&&◌, ◌==◌, List, [], ◌∷◌, length, take, drop, slice_get, unwrap_or, codes, if◌then◌else◌}
+use Rattle.std.specs.Prelude.{ℕ, zero, suc, ◌+◌, ◌-◌, ◌≤◌, Bool, true, false, ◌&&◌, ◌==◌, List, [], ◌∷◌, length, take, drop, codes, if◌then◌else◌}
 use Rattle.std.specs.List.{flat_map}
 use Rattle.std.specs.Str.{bytes_eq}
 use Rattle.nm_header.specs.Fields.{header_of}
-use Rattle.nm_header.specs.Texts.{texts_of}
-use Rattle.nm_header.specs.declared.header.HeaderField.{HeaderField}
+use Rattle.nm_header.specs.Texts.{field_text}
 use Rattle.nm_header.specs.declared.header.HeaderList.{HeaderList}
 use Rattle.nm_mime.specs.Children.{marks_of, stretches_of}
 use Rattle.nm_mime.specs.Params.{value_of}
@@ -34,10 +33,6 @@ pub record IsInside (size : ℕ) (part : Part) : Type 0 where
   pub rises : part.from ≤ part.to
   pub ends : part.to ≤ size
   pub depth : part.depth ≤ 32
-
--- the text of the first field with this name, or nothing
-abbrev pub field_text : List HeaderField → List ℕ → List ℕ
-field_text fields name = unwrap_or (slice_get (texts_of fields name) 0) []
 
 abbrev pub boundary_of : ContentType → List ℕ
 boundary_of type = value_of type.params (codes "boundary")

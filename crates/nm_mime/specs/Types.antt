@@ -2,8 +2,9 @@
 use Rattle.std.specs.Prelude.{ℕ, ◌-◌, Bool, ◌&&◌, ◌||◌, ◌==◌, not, List, [], ◌∷◌, Option, None, Some, length, map, take, drop, nat_le, unwrap_or, codes, if◌then◌else◌}
 use Rattle.std.specs.Char.{to_ascii_lowercase}
 use Rattle.std.specs.List.{before_first, list_any}
+use Rattle.nm_header.specs.Space.{trimmed_start}
 use Rattle.nm_mime.specs.declared.types.ContentType.{ContentType}
-use Rattle.nm_mime.specs.Params.{behind_space, params_of}
+use Rattle.nm_mime.specs.Params.{params_of}
 
 -- no printable ASCII character, or a `;`
 abbrev pub ends_type : ℕ → Bool
@@ -14,7 +15,7 @@ is_slash b = b == 47
 
 -- the characters with which the text begins
 abbrev pub run_of : List ℕ → List ℕ
-run_of text = before_first ends_type (behind_space text)
+run_of text = before_first ends_type (trimmed_start text)
 
 -- a `/` that has something on both sides
 abbrev pub has_slash_inside : List ℕ → Bool

@@ -4,9 +4,8 @@ ghost use Rattle.nm_base.specs.Bounds.{is_white_space};
 ghost use Rattle.nm_header.specs.Lines.{lines_of};
 ghost use Rattle.nm_mime.specs.Children.{ends_part, is_line_of, marks_of, part_at, part_behind, part_size, stretches_of};
 
-use crate::lines::{content, line_len};
-use crate::space::is_white_space;
 use nm_base::{Many, NoMemory};
+use nm_header::{content, is_white_space, line_len};
 use std::alloc::Global;
 
 /// What a line begins with that ends a part.

@@ -5,12 +5,10 @@
 mod children;
 mod entity;
 mod laws;
-mod lines;
 mod param_list;
 mod quoted;
 mod reading;
 mod roles;
-mod space;
 #[cfg(test)]
 mod tests;
 mod tree;

@@ -3,11 +3,11 @@ ghost use Rattle.std.specs.Char.{to_ascii_lowercase};
 ghost use Rattle.std.specs.List.{after_first, before_first, list_any, position_or_len};
 ghost use Rattle.std.specs.Option.{option_copied, option_map};
 ghost use Rattle.nm_header.specs.Space.{trimmed};
-ghost use Rattle.nm_mime.specs.Params.{begins_with, behind_name, behind_param, behind_space, behind_value, ends_name, ends_value, is_param, is_semicolon, is_star, kept_param, param_from, param_in, param_of, params_behind, params_of, value_in, value_of};
+ghost use Rattle.nm_mime.specs.Params.{begins_with, behind_name, behind_param, behind_value, ends_name, ends_value, is_param, is_semicolon, is_star, kept_param, param_from, param_in, param_of, params_behind, params_of, value_in, value_of};
 
 use crate::quoted::{behind_quoted, quoted_text};
-use crate::space::{behind_space, is_white_space, text_of, trimmed};
 use nm_base::{Copies, Many, NoMemory, Text};
+use nm_header::{is_white_space, text_of, trimmed, trimmed_start};
 use std::alloc::Global;
 
 /// A parameter of a header field.
@@ -67,7 +67,7 @@ fn add_named(
     if has_star(name) {
         return Ok(());
     }
-    let param = named_value(alloc, name, behind_space(&behind[1..]))?;
+    let param = named_value(alloc, name, trimmed_start(&behind[1..]))?;
     found.push(param)
 }
 
@@ -117,7 +117,7 @@ fn behind_name(behind: &[u8]) -> &[u8]
     if !begins_with(b'=', behind) {
         return behind;
     }
-    let value = behind_space(&behind[1..]);
+    let value = trimmed_start(&behind[1..]);
     if begins_with(b'"', value) {
         return behind_quoted(&value[1..]);
     }

@@ -1,11 +1,11 @@
 ghost use Rattle.std.specs.Prelude.{◌≡◌, ◌+◌, ◌≤◌, IfOk, length};
-ghost use Rattle.nm_mime.specs.Parts.{IsWithin, field_text, opening_from, opening_in, opening_of};
+ghost use Rattle.nm_mime.specs.Parts.{IsWithin, opening_from, opening_in, opening_of};
 
 use crate::entity::{Entity, Opening, Part};
 use crate::param_list::value_text;
 use crate::roles::{Encoding, filename, fitting_role, is_attachment, named_encoding};
 use crate::types::{ContentType, part_type};
-use nm_base::{Copies, NoMemory, Text};
+use nm_base::{Copies, NoMemory};
 use nm_header::{HeaderList, fields};
 use std::alloc::Global;
 
@@ -24,9 +24,9 @@ fn read_fields(alloc: Global, entity: Entity, header: &HeaderList) -> Result<Ope
     requires { entity.from + header.now.rest ≤ entity.to }
     ensures { IfOk result (λ opening. opening ≡ opening_in entity header.now) }
 {
-    let kind = field_text(alloc, header, "content-type")?;
-    let disposition = field_text(alloc, header, "content-disposition")?;
-    let encoding = field_text(alloc, header, "content-transfer-encoding")?;
+    let kind = header.first_text(alloc, "content-type")?;
+    let disposition = header.first_text(alloc, "content-disposition")?;
+    let encoding = header.first_text(alloc, "content-transfer-encoding")?;
     let content_type = part_type(alloc, kind.as_str(), entity.digest)?;
     let encoding = named_encoding(encoding.as_bytes());
     opening_from(
@@ -37,17 +37,6 @@ fn read_fields(alloc: Global, entity: Entity, header: &HeaderList) -> Result<Ope
         disposition.as_str(),
         encoding,
     )
-}
-
-/// The text of the first field with this name, or the empty text.
-fn field_text(alloc: Global, header: &HeaderList, name: &str) -> Result<Text, NoMemory>
-    ensures { IfOk result (λ text. text ≡ field_text header.now.list name.now) }
-{
-    let texts = header.texts(alloc, name)?;
-    match texts.get(0) {
-        Some(text) => text.copy(),
-        None => Ok(Text::new(alloc)),
-    }
 }
 
 /// The part whose content begins `rest` bytes behind the entity's front.

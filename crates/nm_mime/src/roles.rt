@@ -7,9 +7,9 @@ ghost use Rattle.nm_decode.specs.EncodedWords.{unworded};
 ghost use Rattle.nm_mime.specs.Roles.{encoding_of, ends_token, filename_of, is_attachment, is_message, is_multipart, is_plain, is_special, is_too_deep, role_of};
 
 use crate::param_list::{Param, param_text, params};
-use crate::space::trimmed;
 use nm_base::{NoMemory, Text};
 use nm_decode::encoded_words;
+use nm_header::trimmed;
 use std::alloc::Global;
 
 /// How the content of a part is encoded (RFC 2045, section 6).

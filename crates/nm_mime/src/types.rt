@@ -5,8 +5,8 @@ ghost use Rattle.nm_mime.specs.Params.{params_of};
 ghost use Rattle.nm_mime.specs.Types.{content_type_of, ends_type, has_slash_inside, is_slash, mail_type, plain_type, read_type, run_of, type_of};
 
 use crate::param_list::{Param, lowercase, params};
-use crate::space::{behind_space, text_of};
 use nm_base::{Many, NoMemory, Text};
+use nm_header::{text_of, trimmed_start};
 use std::alloc::Global;
 
 /// A content type with its parameters.
@@ -75,7 +75,7 @@ fn mail_type(alloc: Global) -> Result<ContentType, NoMemory>
 fn run(text: &[u8]) -> &[u8]
     ensures { result.now ≡ run_of text.now }
 {
-    let text = behind_space(text);
+    let text = trimmed_start(text);
     match type_end(text) {
         Some(at) => &text[..at],
         None => text,
