@@ -1,0 +1,6 @@
+pub mod Date
+pub mod Ids
+pub mod Lists
+pub mod Mail
+pub mod Mailboxes
+pub mod PartText

@@ -1,0 +1,52 @@
+-- The text of a readable part: its content decoded, and of HTML what stands outside the tags.
+use Rattle.std.specs.Prelude.{ℕ, Bool, true, false, ◌==◌, List, [], ◌∷◌, map, filter, codes, if◌then◌else◌}
+use Rattle.std.specs.Str.{bytes_eq}
+use Rattle.nm_decode.specs.Base64.{base64_of}
+use Rattle.nm_decode.specs.Charsets.{text_of}
+use Rattle.nm_decode.specs.QuotedPrintable.{quoted_of}
+use Rattle.nm_mime.specs.Parts.{bytes_in, parts_of}
+use Rattle.nm_mime.specs.declared.entity.Part.{Part}
+use Rattle.nm_mime.specs.declared.roles.Encoding.{Encoding}
+use Rattle.nm_mime.specs.declared.roles.Encoding.TheVariants.{Plain, Quoted, Base64}
+use Rattle.nm_mime.specs.declared.roles.Role.{Role}
+use Rattle.nm_mime.specs.declared.roles.Role.TheVariants.{Opened, Readable, Unread, Signature}
+
+abbrev pub is_readable : Role → Bool
+is_readable Opened = false
+is_readable Readable = true
+is_readable Unread = false
+is_readable Signature = false
+
+-- the bytes that a content encodes
+abbrev pub decoded : Encoding → List ℕ → List ℕ
+decoded Plain content = content
+decoded Quoted content = quoted_of content
+decoded Base64 content = base64_of content
+
+-- the text of a part
+abbrev pub part_text : List ℕ → Part → List ℕ
+part_text mail part = text_of (decoded part.encoding (bytes_in mail part.from part.to)) part.charset
+
+-- the text of each readable part
+abbrev pub bodies_of : List ℕ → List (List ℕ)
+bodies_of mail = map (part_text mail) (filter (λ part. is_readable part.role) (parts_of mail))
+
+-- A tag goes from its `<` to the next `>`, or to the end, and is one space. `inside`: the text begins in a tag.
+abbrev pub tagless : Bool → List ℕ → List ℕ
+tagless inside [] = []
+tagless true (b ∷ more) = if b == 62 then tagless false more else tagless true more
+tagless false (b ∷ more) = if b == 60 then 32 ∷ tagless true more else b ∷ tagless false more
+
+abbrev pub is_html : List ℕ → Bool
+is_html kind = bytes_eq kind (codes "text/html")
+
+-- what is read of a text of this type
+abbrev pub read_text : List ℕ → List ℕ → List ℕ
+read_text kind text = if is_html kind then tagless false text else text
+
+-- `<` and `>`
+abbrev pub is_less : ℕ → Bool
+is_less b = b == 60
+
+abbrev pub is_greater : ℕ → Bool
+is_greater b = b == 62

@@ -1,0 +1,14 @@
+//! The facts of a mail: who wrote it and to whom, when, about what, and which words it has.
+//! Any bytes are told exactly: their facts, or that they are no mail.
+#![tactic(auto)]
+
+mod body_text;
+mod dates;
+mod ids;
+mod lists;
+mod mail;
+mod mailboxes;
+#[cfg(test)]
+mod tests;
+
+pub use mail::{ExtractError, bodies, extract};
