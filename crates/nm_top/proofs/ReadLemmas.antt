@@ -16,7 +16,7 @@ use Rattle.nm_maildir.specs.declared.given.Given.{Given}
 use Rattle.nm_maildir.specs.declared.given.Given.TheVariants as given
 use Rattle.nm_maildir.specs.declared.given.ReadAnswer.{ReadAnswer}
 use Rattle.nm_maildir.specs.declared.given.ReadAnswer.TheVariants as answers
-use Rattle.nm_top.specs.Mail.{facts_of}
+use Rattle.nm_extract.specs.Mail.{facts_of}
 use Rattle.nm_top.specs.Reading.{IsTold, Reads, answer_at, answers_at, answer_of, arrival, arrival_at, arrival_of, mail_at, mail_in, most_bytes, read_of}
 use Rattle.nm_top.specs.Steps.{HasRead, HasReadAll, Judges, found_in, read_with}
 

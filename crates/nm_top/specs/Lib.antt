@@ -1,6 +1,5 @@
 pub mod Complete
 pub mod Line
-pub mod Mail
 pub mod NewLine
 pub mod Reading
 pub mod RunLog

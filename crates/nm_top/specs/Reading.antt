@@ -10,6 +10,7 @@ use Rattle.nm_base.specs.declared.facts.Facts.{Facts}
 use Rattle.nm_base.specs.declared.refusals.Skip.{Skip}
 use Rattle.nm_base.specs.declared.refusals.Skip.TheVariants as skips
 use Rattle.nm_commit.specs.Index.{IsDate, has_path, paths_of}
+use Rattle.nm_extract.specs.Mail.{facts_of}
 use Rattle.nm_maildir.specs.Tree.{Tree, listing_of, got_of}
 use Rattle.nm_maildir.specs.declared.answers.Got.{Got}
 use Rattle.nm_maildir.specs.declared.answers.Got.TheVariants as got
@@ -17,7 +18,6 @@ use Rattle.nm_maildir.specs.declared.given.Given.{Given}
 use Rattle.nm_maildir.specs.declared.given.Given.TheVariants as given
 use Rattle.nm_maildir.specs.declared.given.ReadAnswer.{ReadAnswer}
 use Rattle.nm_maildir.specs.declared.given.ReadAnswer.TheVariants as answers
-use Rattle.nm_top.specs.Mail.{facts_of}
 
 -- the most bytes of a mail
 abbrev pub most_bytes : ℕ

@@ -20,7 +20,7 @@ use Rattle.nm_maildir.specs.declared.answers.Got.TheVariants as got
 use Rattle.nm_maildir.specs.declared.given.Given.{Given}
 use Rattle.nm_maildir.specs.declared.given.Given.TheVariants as given
 use Rattle.nm_maildir.specs.declared.given.ReadAnswer.{ReadAnswer}
-use Rattle.nm_top.specs.Mail.{facts_of}
+use Rattle.nm_extract.specs.Mail.{facts_of}
 use Rattle.nm_top.specs.Line.{IsAnswer, reply_steps}
 use Rattle.nm_top.specs.NewLine.{IsNew, add_of, commit_of, drop_of, only_in}
 use Rattle.nm_top.specs.State.{State}

@@ -6,7 +6,7 @@ ghost use Rattle.nm_top.specs.Steps.{HasRead, HasReadAll, Judges};
 
 use crate::index::Mail;
 use nm_base::{Copies, Facts, MailPath, Many, NoMemory};
-use nm_first_mail::{ExtractError, extract};
+use nm_extract::{ExtractError, extract};
 use nm_maildir::{Given, Got, MailError, Maildir, ReadAnswer};
 use std::alloc::Global;
 

@@ -60,7 +60,7 @@ fn letters_of(alloc: Global, steps: &[Step]) -> Result<Text, NoMemory> {
 }
 
 /// The files that the rows name by one letter each: their paths and bytes.
-const FILES: [(char, &str, &str); 5] = [
+const FILES: [(char, &str, &str); 9] = [
     ('a', "new/1", "Message-ID: <m1@x>\nSubject: red apples\n\nx"),
     ('p', "cur/2:2,S", "Message-ID: <m2@x>\nSubject: Pears\n"),
     (
@@ -68,7 +68,15 @@ const FILES: [(char, &str, &str); 5] = [
         "cur/3:2,S",
         "Message-ID: <m1@x>\nSubject: apples again\n",
     ),
-    ('x', "new/x", "hi"),
+    ('x', "new/x", "Message-ID: <q@x>\n\nhi"),
+    (
+        'f',
+        "new/1",
+        "From: Ann <ann@x.org>\r\nSubject: red\r\n apples\r\nMessage-ID: <m1@x>\r\n\r\nHello there\r\n",
+    ),
+    ('n', "new/1", "Subject: none\n\nx"),
+    ('o', "new/2", "Subject: none\n\nx"),
+    ('c', "new/1", "Subject: cut"),
     ('h', "new/.1", "Message-ID: <m3@x>\nSubject: hidden\n\n"),
 ];
 
@@ -144,7 +152,7 @@ fn expected(
 
 #[test]
 fn the_replies_are_those_of_the_rows(rt: HostRuntime) -> Result<(), Fail> {
-    let rows: [(&str, &str, &str, &str, &str); 6] = [
+    let rows: [(&str, &str, &str, &str, &str); 9] = [
         (
             "an empty folder",
             "",
@@ -179,6 +187,27 @@ fn the_replies_are_those_of_the_rows(rt: HostRuntime) -> Result<(), Fail> {
             "0 new\n",
             "R",
             "@0 1 0 0 13\nNo new mail.\n",
+        ),
+        (
+            "a folded subject",
+            "f",
+            "0 new\n0 count subject:apples\n0 count subject:hello\n",
+            "BASRRR",
+            "@0 1 1 0 42\nFiles: +1 -0, skipped 0. Messages: +1 -0.\n@0 2 1 0 2\n1\n@0 3 1 0 2\n0\n",
+        ),
+        (
+            "two equal files without an id",
+            "no",
+            "0 new\n0 count subject:none\n",
+            "BASRR",
+            "@0 1 1 0 42\nFiles: +2 -0, skipped 0. Messages: +1 -0.\n@0 2 1 0 2\n1\n",
+        ),
+        (
+            "a subject without a line end",
+            "c",
+            "0 new\n0 count subject:CUT\n",
+            "BASRR",
+            "@0 1 1 0 42\nFiles: +1 -0, skipped 0. Messages: +1 -0.\n@0 2 1 0 2\n1\n",
         ),
         (
             "empty lines, and faults of words",

@@ -1,6 +1,0 @@
-use Rattle.std.proofs.Common.{◌≡◌, ℕ, ◌<◌, false, get_or}
-use Rattle.nm_first_mail.specs.SubjectWords.{parts_runs}
-use Rattle.nm_first_mail.proofs.subject.run_len.Given as goal
-
-abbrev pub invariant-loop-at : goal.invariant-loop-at
-invariant-loop-at l = (k : ℕ) → k < l.at → parts_runs (get_or l.bytes k 0) ≡ false

@@ -1,3 +1,0 @@
-pub mod FirstMail
-pub mod Header
-pub mod SubjectWords
