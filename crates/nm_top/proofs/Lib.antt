@@ -2,6 +2,7 @@ pub mod ReadLemmas
 pub mod SetLemmas
 pub mod FoldLemmas
 pub mod FitLemmas
+pub mod LeanLemmas
 pub mod StandLemmas
 pub mod NewLemmas
 pub mod LineLemmas

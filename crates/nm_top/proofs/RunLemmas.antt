@@ -33,3 +33,7 @@ run_logs old last lines logs all taken steps same same_steps h =
 pub run_all : (old last : State) (lines : List ScriptLine) (i : ℕ) (logs all : List LineLog) (taken steps : List Step) → length lines ≤ i → all ≡ logs → steps ≡ taken → Runs old (take i lines) logs taken last → Runs old lines all steps last
 run_all old last lines i logs all taken steps whole same same_steps h =
     run_logs old last lines logs all taken steps same same_steps (subst (λ (l : List ScriptLine). Runs old l logs taken last) (take_all i lines whole) h)
+
+-- no line was run yet
+pub run_none : (old : State) (logs : List LineLog) (steps : List Step) → logs ≡ [] → steps ≡ [] → Runs old [] logs steps old
+run_none old logs steps none no_steps = subst (λ (l : List LineLog). Runs old [] l steps old) (sym none) (no_steps, refl)

@@ -8,6 +8,7 @@ use Rattle.nm_log.specs.Replies.{new_text}
 use Rattle.nm_log.specs.declared.outcome.Outcome.TheVariants as outcomes
 use Rattle.nm_log.specs.declared.replies.NewReport.{NewReport}
 use Rattle.nm_maildir.specs.declared.given.Given.{Given}
+use Rattle.nm_top.specs.Lean.{lean}
 use Rattle.nm_top.specs.Line.{reply_steps}
 use Rattle.nm_top.specs.NewLine.{commit_of, drop_of, only_in}
 use Rattle.nm_top.specs.Steps.{TakesIn, commits_for, commits_with, gone_of, is_gone, kept, report_with, skip_given, standing_report}
@@ -52,7 +53,7 @@ stands known listed arrivals noted index done none gone outcome says steps =
     ∙ (ap (λ (n : ℕ). made n (length (only_in index.files index.files)) (length (only_in index.files index.files))) (ap length gone)
     ∙ ap (λ (n : ℕ). made 0 n n) same_ids) in
     record {
-      files = sym (ap (λ (l : List (List ℕ × Facts)). kept known listed (index.files ++ l)) none ∙ (ap (kept known listed) (append-nil index.files) ∙ all-kept known listed index.files gone));
+      files = sym (ap (λ (l : List (List ℕ × Facts)). kept known listed (index.files ++ map lean l)) none ∙ (ap (kept known listed) (append-nil index.files) ∙ all-kept known listed index.files gone));
       revision = stays (commits_for (length arrivals) + commits_for (length (gone_of known listed))) index.revision (ap (λ (n : ℕ). commits_for n + commits_for (length (gone_of known listed))) (ap length none) ∙ ap (λ (n : ℕ). commits_for 0 + commits_for n) (ap length gone));
       outcome = outcome;
       says = says ∙ ap new_text (sym report);

@@ -1,4 +1,5 @@
 pub mod Complete
+pub mod Lean
 pub mod Line
 pub mod NewLine
 pub mod Reading

@@ -6,7 +6,7 @@ use Rattle.nm_base.specs.declared.facts.Facts.{Facts}
 use Rattle.nm_base.specs.declared.refusals.Skip.{Skip}
 use Rattle.nm_base.specs.Order.{has_text, in_order}
 use Rattle.nm_base.specs.declared.request.Request.TheVariants as requests
-use Rattle.nm_commit.specs.Index.{IsDate, paths_of}
+use Rattle.nm_commit.specs.Index.{Index, IsDate, paths_of}
 use Rattle.nm_commit.specs.declared.change.Commit.{Commit}
 use Rattle.nm_core.specs.declared.step.Step.{Step}
 use Rattle.nm_base.specs.Faults.{Rose}
@@ -21,6 +21,7 @@ use Rattle.nm_maildir.specs.declared.given.Given.{Given}
 use Rattle.nm_maildir.specs.declared.given.Given.TheVariants as given
 use Rattle.nm_maildir.specs.declared.given.ReadAnswer.{ReadAnswer}
 use Rattle.nm_extract.specs.Mail.{facts_of}
+use Rattle.nm_top.specs.Lean.{StandsFor, lean}
 use Rattle.nm_top.specs.Line.{IsAnswer, reply_steps}
 use Rattle.nm_top.specs.NewLine.{IsNew, add_of, commit_of, drop_of, only_in}
 use Rattle.nm_top.specs.State.{State}
@@ -100,7 +101,7 @@ commits_with known listed arrivals = commit_of (map add_of arrivals) ++ commit_o
 
 -- the index after what has come and what is gone, what is said of it, and the steps of that
 pub record TakesIn (known listed : List (List ℕ)) (arrivals : List (List ℕ × Facts)) (noted : List Given) (old new : PlainIndex) (done : Answered) : Type 0 where
-  pub files : new.files ≡ kept known listed (old.files ++ arrivals)
+  pub files : new.files ≡ kept known listed (old.files ++ map lean arrivals)
   pub revision : new.revision ≡ old.revision + (commits_for (length arrivals) + commits_for (length (gone_of known listed)))
   pub outcome : done.outcome ≡ outcomes.Ok
   pub says : done.text ≡ new_text (report_with known listed old.files new.files arrivals noted)
@@ -127,8 +128,8 @@ pub record HasAsked (tree : Option Tree) (old_reads new_reads : Option (List (Li
   pub told : IfSome tree (λ t. AllByRecursion (IsTold t) noted)
 
 -- what a line begins with or leaves, from what the mail folder tells and the index
-abbrev pub state_with : Option Tree → Option (List (List ℕ)) → ℕ → PlainIndex → State
-state_with tree reads faults index = record { index = record { files = index.files; revision = index.revision }; tree = tree; reads = reads; faults = faults }
+abbrev pub state_with : Option Tree → Option (List (List ℕ)) → ℕ → Index → State
+state_with tree reads faults index = record { index = index; tree = tree; reads = reads; faults = faults }
 
 -- how `new` may end, but for want of memory
 abbrev pub IsNewOutcome : Outcome → State → List Given → List ℕ → List Step → State → Type 0
@@ -145,6 +146,12 @@ IsNewAnswer old noted done new = IsNewOutcome done.outcome old noted done.text d
 -- the answer to a line
 abbrev pub IsLineAnswer : State → List ℕ → List Given → Answered → State → Type 0
 IsLineAnswer old line noted done new = IsAnswer done.outcome old line noted done.text done.steps new
+
+-- the index that is held afterwards stands for one with which this holds
+pub record Leaves (held : PlainIndex) (P : Index → Type 0) : Type 0 where
+  pub index : Index
+  pub stands : StandsFor held index
+  pub holds : P index
 
 -- no step more than two commits and a reply take
 abbrev pub most_steps : ℕ

@@ -10,7 +10,7 @@ use std::collections::BTreeSet;
 /// A mail of the index: where it lies, and its facts.
 pub(crate) type Mail = (MailPath, Facts);
 
-/// The index as a plain list of mail, in the order of arrival.
+/// The index as a plain list of mail, in the order of arrival: of each what a request asks.
 #[derive(Debug, Drop)]
 pub(crate) struct PlainIndex {
     pub files: Many<Mail>,

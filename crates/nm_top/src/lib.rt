@@ -3,6 +3,7 @@
 
 mod ending;
 mod index;
+mod lean;
 mod listing;
 mod new;
 mod reading;

@@ -1,7 +1,9 @@
 ghost use Rattle.std.specs.Prelude.{◌≡◌, ◌+◌, ◌<◌, ◌≤◌, ◌^◌, [], IfOk, OnErr, OnOk, ◌++◌, ◌∷◌, length};
+ghost use Rattle.nm_commit.specs.Index.{Index};
 ghost use Rattle.nm_maildir.specs.Calls.{HasMailCause};
+ghost use Rattle.nm_top.specs.Lean.{StandsFor};
 ghost use Rattle.nm_top.specs.Reading.{IsRising};
-ghost use Rattle.nm_top.specs.Steps.{Gathers, HasAsked, IsNewAnswer, most_steps, state_with};
+ghost use Rattle.nm_top.specs.Steps.{Gathers, HasAsked, IsNewAnswer, Leaves, most_steps, state_with};
 
 use crate::index::{Mail, PlainIndex, path_set};
 use crate::listing::list_paths;
@@ -24,9 +26,9 @@ pub(crate) fn run_new<M: Maildir>(
 ) -> Result<Answered, NoMemory>
     requires room { index.old.revision + 2 < 2 ^ 64 }
     requires fresh { noted.old ≡ [] }
-    ensures ok { IfOk result (λ done. IsNewAnswer
-        (state_with (M.tree mail.old) (M.reads mail.old) (M.faults mail.old) index.old) noted.new done
-        (state_with (M.tree mail.new) (M.reads mail.new) (M.faults mail.new) index.new)) }
+    ensures ok { (old : Index) → StandsFor index.old old → IfOk result (λ done. Leaves index.new (λ new. IsNewAnswer
+        (state_with (M.tree mail.old) (M.reads mail.old) (M.faults mail.old) old) noted.new done
+        (state_with (M.tree mail.new) (M.reads mail.new) (M.faults mail.new) new))) }
     ensures few { IfOk result (λ done. length done.steps ≤ most_steps) }
     ensures err { OnErr result (index.new ≡ index.old) }
     ensures grows { index.new.revision ≤ index.old.revision + 2 }

@@ -1,9 +1,11 @@
 ghost use Rattle.std.specs.Prelude.{◌≡◌, ◌+◌, ◌<◌, ◌≤◌, ◌^◌, ◌++◌, [], IfOk, IfSome, OnErr, MatchResult, codes, length};
 ghost use Rattle.nm_log.specs.Replies.{usage_line};
 ghost use Rattle.nm_commit.specs.Count.{count_text};
+ghost use Rattle.nm_commit.specs.Index.{Index};
+ghost use Rattle.nm_top.specs.Lean.{StandsFor};
 ghost use Rattle.nm_top.specs.Line.{Answers, reply_steps};
 ghost use Rattle.nm_top.specs.RunLog.{HasRunLines};
-ghost use Rattle.nm_top.specs.Steps.{HasAsked, IsLineAnswer, most_steps, state_with};
+ghost use Rattle.nm_top.specs.Steps.{HasAsked, IsLineAnswer, Leaves, most_steps, state_with};
 
 use crate::index::{Mail, PlainIndex};
 use crate::new::run_new;
@@ -94,8 +96,9 @@ fn run_line<M: Maildir>(
 ) -> (LineLog, Many<Step>)
     requires room { index.old.revision + 2 < 2 ^ 64 }
     requires spare { spare ≡ codes "notmuch: no memory\n" }
-    ensures answers { Answers (state_with (M.tree mail.old) (M.reads mail.old) (M.faults mail.old) index.old) line.now result.0 result.1
-        (state_with (M.tree mail.new) (M.reads mail.new) (M.faults mail.new) index.new) }
+    ensures answers { (old : Index) → StandsFor index.old old → Leaves index.new (λ new.
+        Answers (state_with (M.tree mail.old) (M.reads mail.old) (M.faults mail.old) old) line.now result.0 result.1
+        (state_with (M.tree mail.new) (M.reads mail.new) (M.faults mail.new) new)) }
     ensures few { length result.1 ≤ most_steps }
     ensures grows { index.new.revision ≤ index.old.revision + 2 }
 {
@@ -144,9 +147,9 @@ fn answer<M: Maildir>(
 ) -> Result<Answered, NoMemory>
     requires room { index.old.revision + 2 < 2 ^ 64 }
     requires fresh { given.old ≡ [] }
-    ensures ok { IfOk result (λ done. IsLineAnswer
-        (state_with (M.tree mail.old) (M.reads mail.old) (M.faults mail.old) index.old) line.now given.new done
-        (state_with (M.tree mail.new) (M.reads mail.new) (M.faults mail.new) index.new)) }
+    ensures ok { (old : Index) → StandsFor index.old old → IfOk result (λ done. Leaves index.new (λ new. IsLineAnswer
+        (state_with (M.tree mail.old) (M.reads mail.old) (M.faults mail.old) old) line.now given.new done
+        (state_with (M.tree mail.new) (M.reads mail.new) (M.faults mail.new) new))) }
     ensures few { IfOk result (λ done. length done.steps ≤ most_steps) }
     ensures err { OnErr result (index.new ≡ index.old) }
     ensures grows { index.new.revision ≤ index.old.revision + 2 }

@@ -1,11 +1,13 @@
-ghost use Rattle.std.specs.Prelude.{◌≡◌, ◌+◌, ◌<◌, ◌≤◌, ◌++◌, IfOk, OnOk, OnErr, ◌^◌, ◌∷◌, [], length};
+ghost use Rattle.std.specs.Prelude.{◌≡◌, ◌+◌, ◌<◌, ◌≤◌, ◌++◌, IfOk, OnOk, OnErr, ◌^◌, ◌∷◌, [], length, map};
 ghost use Rattle.std.specs.List.{flat_map};
 ghost use Rattle.nm_log.specs.Replies.{new_text};
+ghost use Rattle.nm_top.specs.Lean.{lean};
 ghost use Rattle.nm_top.specs.Line.{reply_steps};
 ghost use Rattle.nm_top.specs.Reading.{skip_at};
 ghost use Rattle.nm_top.specs.Steps.{TakesIn, commits_for, gone_of, is_gone, kept, most_steps, report_with, skip_given, standing_report};
 
 use crate::index::{Mail, PlainIndex, id_set};
+use crate::lean::lean_mails;
 use crate::sets::{has_path, ids_not_in, paths_missing, paths_not_in};
 use crate::steps::{Answered, new_steps, reply_step};
 use nm_base::{Copies, MailPath, Many, NoMemory, Request, Skip};
@@ -111,13 +113,14 @@ fn commit_count(changes: usize) -> u64
 }
 
 fn files_after(alloc: Global, files: &[Mail], gathered: &Gathered) -> Result<Many<Mail>, NoMemory>
-    ensures { IfOk result (λ after. after ≡ kept gathered.now.known.keys gathered.now.listed.keys (files.now ++ gathered.now.arrivals)) }
+    ensures { IfOk result (λ after. after ≡ kept gathered.now.known.keys gathered.now.listed.keys (files.now ++ map lean gathered.now.arrivals)) }
 {
     let mut after = Many::new(alloc);
     add_kept(&mut after, files, &gathered.known, &gathered.listed)?;
+    let arrivals = lean_mails(alloc, gathered.arrivals.as_slice())?;
     add_kept(
         &mut after,
-        gathered.arrivals.as_slice(),
+        arrivals.as_slice(),
         &gathered.known,
         &gathered.listed,
     )?;

@@ -13,7 +13,7 @@ use std::process::ExitCode;
 use std::random::RandomSource;
 use std::rt::{Clock, Env};
 use std::time::SystemTime;
-use std::{env, io};
+use std::{env, io, mem};
 
 /// How many threads read mail.
 const WORKERS: u32 = 4;
@@ -62,7 +62,10 @@ fn main(rt: HostRuntime) -> ExitCode {
         &mut out,
         &mut err,
     );
-    ExitCode::from(done.status)
+    let status = done.status;
+    // The log may be large, and the system takes back the memory of a process that ends.
+    mem::forget(done);
+    ExitCode::from(status)
 }
 
 /// Ends a run that has no words: says so, and gives the status.

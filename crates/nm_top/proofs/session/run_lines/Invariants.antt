@@ -1,7 +1,7 @@
 use Rattle.std.proofs.Common.{◌*◌, ◌≤◌, take}
 use Rattle.nm_top.specs.Line.{Runs}
 use Rattle.nm_top.specs.Session.{opening_state}
-use Rattle.nm_top.specs.Steps.{state_with}
+use Rattle.nm_top.specs.Steps.{Leaves, state_with}
 use Rattle.nm_top.proofs.session.run_lines.Given as goal
 
 -- the lines so far were run, each with two commits at most
@@ -9,7 +9,7 @@ abbrev pub invariant-lines : goal.invariant-lines
 invariant-lines g l =
     let mail = g.M.Maildir in
     record {
-      run : Runs (opening_state (record { tree = mail.tree l.initial.mail; reads = mail.reads l.initial.mail; faults = mail.faults l.initial.mail })) (take l.line-index l.lines) l.logs.0 l.steps.0
-          (state_with (mail.tree l.mail) (mail.reads l.mail) (mail.faults l.mail) l.index);
+      run : Leaves l.index (λ index. Runs (opening_state (record { tree = mail.tree l.initial.mail; reads = mail.reads l.initial.mail; faults = mail.faults l.initial.mail })) (take l.line-index l.lines) l.logs.0 l.steps.0
+          (state_with (mail.tree l.mail) (mail.reads l.mail) (mail.faults l.mail) index));
       few : l.index.revision ≤ 2 * l.line-index;
     }
