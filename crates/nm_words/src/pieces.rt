@@ -1,6 +1,6 @@
-ghost use Rattle.std.specs.Prelude.{◌≡◌, [], ◌∷◌, ◌++◌, OnOk, position};
+ghost use Rattle.std.specs.Prelude.{◌≡◌, [], ◌∷◌, ◌++◌, IfOk, IsAscii, OnOk, position, string_bytes};
 ghost use Rattle.std.specs.List.{slice_split};
-ghost use Rattle.nm_words.specs.Words.{is_cut, words_in};
+ghost use Rattle.nm_words.specs.Words.{folded, is_cut, words_in};
 
 use caseless::default_case_fold_str;
 use nm_base::{Many, NoMemory, Text, Word};
@@ -21,11 +21,32 @@ pub(crate) fn add_pieces(alloc: Global, word: &str, found: &mut Many<Word>) -> R
 fn add_piece(alloc: Global, piece: &str, found: &mut Many<Word>) -> Result<(), NoMemory>
     ensures { OnOk result (found.new ≡ found.old ++ words_in (piece.now ∷ [])) }
 {
-    let folded = default_case_fold_str(alloc, piece)?;
-    match Word::new(Text::from_string(folded)) {
+    let text = folded(alloc, piece)?;
+    match Word::new(Text::from_string(text)) {
         Ok(word) => found.push(word),
         Err(_) => Ok(()),
     }
+}
+
+/// The piece without case.
+fn folded(alloc: Global, piece: &str) -> Result<String, NoMemory>
+    ensures { IfOk result (λ text. string_bytes text ≡ folded piece.now) }
+{
+    // Nearly all pieces are ASCII, where no character has to be decoded.
+    if piece.is_ascii() {
+        return folded_ascii(alloc, piece);
+    }
+    Ok(default_case_fold_str(alloc, piece)?)
+}
+
+#[tactic(auto, using(crate::proofs::FoldLemmas::folded_ascii))]
+fn folded_ascii(alloc: Global, piece: &str) -> Result<String, NoMemory>
+    requires { IsAscii piece.now }
+    ensures { IfOk result (λ text. string_bytes text ≡ folded piece.now) }
+{
+    let mut text = String::from_str(alloc, piece)?;
+    text.make_ascii_lowercase();
+    Ok(text)
 }
 
 fn cut_at(text: &str) -> Option<usize>
