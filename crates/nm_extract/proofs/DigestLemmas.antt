@@ -1,5 +1,5 @@
 -- The id that is made of the bytes of a mail is a message id.
-use Rattle.std.proofs.Common.{◌≡◌, ℕ, zero, suc, ◌+◌, ◌*◌, ◌<◌, ◌≤◌, Bool, true, false, ◌&&◌, cond, List, [], ◌∷◌, ◌++◌, Ok, length, get_or, ltb, codes, refl, sym, ap, ◌∙◌, arith, length-append}
+use Rattle.std.proofs.Common.{◌≡◌, ℕ, zero, suc, ◌+◌, ◌*◌, ◌≤◌, true, false, ◌&&◌, cond, List, [], ◌∷◌, Ok, length, get_or, ltb, codes, refl, ap, ◌∙◌, arith, length-append}
 use Rattle.std.specs.List.{list_all}
 use Rattle.std.specs.Prelude.{◌/◌, ◌%◌, Err, nat_le}
 use Rattle.std.proofs.lemmas.Bool.{le-leb, ltb-false, ltb-true}
@@ -8,7 +8,7 @@ use Rattle.std.proofs.lemmas.List.Elements.{All-get_or}
 use Rattle.std.proofs.lemmas.List.Sums.{AllPass-from_list_all}
 use Rattle.hex.specs.Hex.{encode_lower, encode_with, lower_digits}
 use Rattle.hex.proofs.HexLemmas.{length-encode_with}
-use Rattle.sha1.specs.Sha1.{digest_bytes, hash_after, padded_message, sha1}
+use Rattle.sha1.specs.Sha1.{digest_bytes, sha1}
 use Rattle.nm_base.specs.declared.names.BadValue.TheVariants.{Length, Byte}
 use Rattle.nm_base.specs.Bounds.{checked, fits_length}
 use Rattle.nm_base.specs.MessageId.{is_id_byte, is_id_text}
