@@ -1,3 +1,4 @@
 mod DigestLemmas
 mod LinkLemmas
 mod TagLemmas
+mod LawLemmas
