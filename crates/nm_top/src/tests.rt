@@ -2,7 +2,7 @@ use crate::notmuch;
 use nm_base::{MailPath, Many, NoMemory, Text};
 use nm_core::Step;
 use nm_io::{MemSink, MemSource};
-use nm_log::Setting;
+use nm_log::{Done, Setting};
 use nm_maildir::StillTree;
 use std::alloc::Global;
 use std::test::Fail;
@@ -47,16 +47,20 @@ fn text_of(alloc: Global, bytes: &[u8]) -> Result<Text, NoMemory> {
 fn letters_of(alloc: Global, steps: &[Step]) -> Result<Text, NoMemory> {
     let mut letters = String::new(alloc);
     'steps: for step in steps {
-        letters.push(match step {
-            Step::Begin { .. } => 'B',
-            Step::Append => 'A',
-            Step::Show => 'S',
-            Step::See { .. } => 'L',
-            Step::Meet => 'M',
-            Step::Reply { .. } => 'R',
-        })?;
+        letters.push(letter_of(step))?;
     }
     Ok(Text::from_string(letters))
+}
+
+fn letter_of(step: &Step) -> char {
+    match step {
+        Step::Begin { .. } => 'B',
+        Step::Append => 'A',
+        Step::Show => 'S',
+        Step::See { .. } => 'L',
+        Step::Meet => 'M',
+        Step::Reply { .. } => 'R',
+    }
 }
 
 /// The files that the rows name by one letter each: their paths and bytes.
@@ -127,12 +131,22 @@ fn call(
         &mut out,
         &mut err,
     );
-    Ok(Some(Left {
-        status: done.status,
-        steps: letters_of(alloc, done.log.steps.as_slice())?,
-        out: text_of(alloc, out.bytes())?,
-        err: text_of(alloc, err.bytes())?,
-    }))
+    let left = left_of(alloc, done, out.bytes(), err.bytes())?;
+    Ok(Some(left))
+}
+
+fn left_of(alloc: Global, done: Done, out: &[u8], err: &[u8]) -> Result<Left, NoMemory> {
+    let status = done.status;
+    let steps = letters_of(alloc, done.log.steps.as_slice());
+    drop(done);
+    let out = text_of(alloc, out)?;
+    let err = text_of(alloc, err)?;
+    Ok(Left {
+        status,
+        steps: steps?,
+        out,
+        err,
+    })
 }
 
 fn expected(
