@@ -18,7 +18,7 @@ fn has_id(set: &BTreeSet<MessageId>, id: &MessageId) -> bool
     set.contains(id)
 }
 
-/// A set is in order. It runs no code: its clause is what is wanted.
+/// Tells that a set is in order; only the proof wants it.
 pub(crate) fn rises(paths: &BTreeSet<MailPath>)
     ensures { IsRising paths.now.keys }
 {
