@@ -1,0 +1,265 @@
+#!/usr/bin/env python3
+"""Checks of this repository's own, which the gate runs after `rt ci`: what its documents say is what stands in it.
+
+    tools/checks.py          all of them; silent and 0 where all is well, else a line for each fault, and 1
+
+None proves anything. One runs the program that `rt ci` has built, over examples/."""
+import functools
+import os
+import re
+import subprocess
+import sys
+
+sys.dont_write_bytecode = True
+sys.path.insert(0, os.path.dirname(os.path.abspath(__file__)))
+import definitions  # noqa: E402
+from definitions import ROOT, crates, read  # noqa: E402
+
+LAYERS = """values; the outside; reading one mail; the plain index; bytes on the disk; searching; committing and publishing;
+commands and replies""".replace("\n", " ").split("; ")
+# The commit from which on messages are held to the rules of CONTRIBUTING.md.
+FROM = "70802d7"
+MACHINE_PATH = re.compile(r"(?<![\w.~/])/(?:work|home|root|tmp|opt|usr|var|mnt|srv|etc|Users)/(?!bin/env\b)")
+PROGRAM = f"{ROOT}/crates/notmuch/out/notmuch"
+SECONDS = 60
+
+
+def git(*words):
+    """What git prints of this repository, whoever owns it."""
+    ran = subprocess.run(["git", "-c", "safe.directory=*", "-C", ROOT, *words], capture_output=True, check=False)
+    return ran.returncode, ran.stdout.decode(errors="replace"), ran.stderr.decode(errors="replace").strip()
+
+
+def files_below(folder, ends):
+    for at, folders, names in os.walk(f"{ROOT}/{folder}"):
+        folders[:] = sorted(it for it in folders if it not in ("out", ".git", "__pycache__"))
+        for name in sorted(names):
+            if name.endswith(ends):
+                yield os.path.relpath(f"{at}/{name}", ROOT)
+
+
+def cells(line):
+    """The cells of a row of a table."""
+    return [it.strip().replace("\\|", "|") for it in re.split(r"(?<!\\)\|", line.strip())[1:-1]]
+
+
+def quoted(text):
+    return re.findall(r"`([^`]+)`", text)
+
+
+def definitions_are_told():
+    """docs/DEFINITIONS.md is what tools/definitions.py prints."""
+    text, bare = definitions.page()
+    if read(f"{ROOT}/docs/DEFINITIONS.md") != text:
+        yield "docs/DEFINITIONS.md is not what tools/definitions.py prints"
+    yield from (f"no comment stands above {it}" for it in bare)
+
+
+def edits_of(crate):
+    """The names of a crate's edits."""
+    return {os.path.basename(it)[: -len(".edit")] for it in files_below(f"crates/{crate}/must-fail", ".edit")}
+
+
+@functools.lru_cache(maxsize=None)
+def code_of(crate):
+    """The words of a crate's sources and definitions."""
+    texts = [read(f"{ROOT}/{it}") for part in ("src", "specs") for it in files_below(f"crates/{crate}/{part}", (".rt", ".antt"))]
+    return set(re.findall(r"\w+", "\n".join(texts)))
+
+
+def promises():
+    """Of docs/PROMISES.md the rows of each crate, by its heading."""
+    crate, found = None, {}
+    for line in read(f"{ROOT}/docs/PROMISES.md").splitlines():
+        if line.startswith("#"):
+            words = quoted(line)
+            crate = words[0] if words else None
+        elif crate and line.startswith("|") and not set(line) <= set("|-: "):
+            found.setdefault(crate, []).append(cells(line))
+    return {crate: rows[1:] for crate, rows in found.items()}
+
+
+def promises_are_there():
+    """Each edit stands in docs/PROMISES.md under its crate, each edit named there exists, and so does each clause."""
+    told = promises()
+    yield from (f"docs/PROMISES.md: there is no crate {it}" for it in told if it not in crates())
+    for crate in crates():
+        rows = [it for it in told.get(crate, []) if len(it) == 3]
+        if len(rows) < len(told.get(crate, [])):
+            yield f"docs/PROMISES.md: a row of {crate} has not three cells"
+        named = {it for row in rows for it in quoted(row[2])}
+        there, words = edits_of(crate), code_of(crate)
+        yield from (f"docs/PROMISES.md: the edit {it} of {crate} is not named" for it in sorted(there - named))
+        yield from (f"docs/PROMISES.md: {crate} has no edit {it}" for it in sorted(named - there))
+        clauses = {it for row in rows for text in quoted(row[1]) for it in re.findall(r"\w+", text)}
+        known = words | {it for other in crates() for it in code_of(other)} | set(crates())
+        yield from (f"docs/PROMISES.md: nothing of {crate} is called {it}" for it in sorted(clauses - known))
+
+
+def layers_of_list():
+    """The layer of each crate, by the headings of crates.txt."""
+    layer, order, found = None, [], {}
+    for line in read(f"{ROOT}/crates.txt").splitlines():
+        heading = line[1:].partition(":")[0].strip() if line.startswith("#") else ""
+        if heading in LAYERS:
+            layer = heading
+            order.append(heading)
+        elif line.strip() and not line.startswith("#"):
+            found[line.partition(":")[0].split()[0]] = layer
+    return order, found
+
+
+def layers_of_map():
+    """The same by the rows of the table in docs/ARCHITECTURE.md."""
+    layer, order, found = None, [], {}
+    for line in read(f"{ROOT}/docs/ARCHITECTURE.md").splitlines():
+        row = cells(line) if line.startswith("|") else [""]
+        heading, crate = re.fullmatch(r"\*([^*]+)\*", row[0]), re.fullmatch(r"`(\w+)`", row[0])
+        if heading:
+            layer = heading[1]
+            order.append(layer)
+        elif crate and layer:
+            found[crate[1]] = layer
+        elif not line.startswith("|"):
+            layer = None
+    return order, found
+
+
+def layer_of_head(crate):
+    """The layer that a crate's first line names."""
+    source = next(it for it in ("lib.rt", "main.rt") if os.path.isfile(f"{ROOT}/crates/{crate}/src/{it}"))
+    line = read(f"{ROOT}/crates/{crate}/src/{source}").partition("\n")[0]
+    front = line.removeprefix("//! ").partition(":")[0]
+    return front[:1].lower() + front[1:]
+
+
+def layers_agree():
+    """crates.txt, docs/ARCHITECTURE.md and the first line of each crate name one layer for it."""
+    (order, by_list), (map_order, by_map) = layers_of_list(), layers_of_map()
+    if order != LAYERS:
+        yield f"crates.txt: its headings are not the layers in their order ({'; '.join(LAYERS)})"
+    if map_order != LAYERS:
+        yield "docs/ARCHITECTURE.md: the headings of its table are not the layers in their order"
+    if [*by_list] != [*by_map]:
+        yield "docs/ARCHITECTURE.md: the crates of its table are not those of crates.txt in their order"
+    for crate, layer in by_list.items():
+        if by_map.get(crate, layer) != layer:
+            yield f"{crate}: crates.txt has it under '{layer}', docs/ARCHITECTURE.md under '{by_map[crate]}'"
+        if layer_of_head(crate) != layer:
+            yield f"{crate}: its first line does not begin with its layer, '{layer}'"
+
+
+def proofs_stay_inside():
+    """No crate cites the proofs of another one."""
+    known = set(crates())
+    for crate in crates():
+        for path in files_below(f"crates/{crate}", (".rt", ".antt")):
+            for other in re.findall(r"\bRattle\.(\w+)\.proofs\b", read(f"{ROOT}/{path}")):
+                if other in known and other != crate:
+                    yield f"{path} cites the proofs of {other}"
+
+
+def section(text, title):
+    """The lines of a section of a document, without those of the next."""
+    found = re.search(rf"^## [^\n]*{title}[^\n]*\n(.*?)(?=^## |\Z)", text, re.M | re.S)
+    return found[1] if found else ""
+
+
+def blocks(text):
+    """The indented blocks of a text."""
+    found = re.findall(r"(?:(?<=\n\n)|\A)((?:    [^\n]*\n)+)", text)
+    return ["".join(f"{line[4:]}\n" for line in it.splitlines()) for it in found]
+
+
+def tour_is_true():
+    """The tour of the README: its table has the example's files, its script is the example's, and the program prints the rest."""
+    tour = section(read(f"{ROOT}/README.md"), "tour")
+    named = {it for line in tour.splitlines() if line.startswith("|") for it in quoted(cells(line)[0])}
+    there = {os.path.relpath(it, "examples/mail") for it in files_below("examples/mail", "")}
+    if named != there:
+        yield f"README.md: the tour's table differs from examples/mail: {', '.join(sorted(named ^ there))}"
+    found = blocks(tour)
+    if len(found) != 2:
+        yield "README.md: the tour has not two blocks, a script and what it prints"
+        return
+    with open(f"{ROOT}/examples/session.txt", "rb") as file:
+        script = file.read()
+    if script.decode() != found[0]:
+        yield "README.md: the tour's script is not examples/session.txt"
+    if not os.path.isfile(PROGRAM):
+        yield "README.md: the tour was not run: crates/notmuch/out/notmuch is not built"
+        return
+    how = {"cwd": f"{ROOT}/examples", "input": script, "capture_output": True, "timeout": SECONDS, "check": False}
+    ran = subprocess.run([PROGRAM, "session"], **how)
+    if ran.returncode or ran.stdout.decode(errors="replace") != found[1]:
+        yield f"README.md: the tour does not print what it says (status {ran.returncode})"
+
+
+def readme_names_all_crates():
+    """The README has one row for each crate."""
+    rows = [cells(it)[0] for it in read(f"{ROOT}/README.md").splitlines() if it.startswith("| `")]
+    named = [it for row in rows for it in quoted(row) if re.fullmatch(r"[a-z]\w*", it)]
+    yield from (f"README.md: it has no row for {it}" for it in crates() if it not in named)
+
+
+def links_lead_somewhere():
+    """Each link of a document to a file of the repository leads to one."""
+    for path in [it for it in files_below("", ".md") if not it.startswith("crates/")]:
+        for link in re.findall(r"\]\(([^)\s#]+)[^)]*\)", read(f"{ROOT}/{path}")):
+            if "://" not in link and not os.path.exists(f"{ROOT}/{os.path.dirname(path)}/{link}"):
+                yield f"{path}: there is no {link}"
+
+
+def messages_are_clean():
+    """Since FROM no commit is a merge, and no message names a path of a machine."""
+    status, text, said = git("log", "--format=%h %p%n%B%x00", f"{FROM}..HEAD")
+    if status:
+        yield f"the commits since {FROM} cannot be listed: {said}"
+    for it in text.split("\0"):
+        head, _, message = it.strip().partition("\n")
+        name = head.partition(" ")[0]
+        if len(head.split()) > 2 or re.search(r"^Merge (branch|remote|pull)", message, re.M):
+            yield f"commit {name} is a merge"
+        if MACHINE_PATH.search(message):
+            yield f"commit {name}: its message names a path of a machine"
+
+
+def files_name_no_machine():
+    """No file of the repository names a path of a machine."""
+    status, text, said = git("ls-files", "-z")
+    if status:
+        yield f"the files cannot be listed: {said}"
+    for path in text.split("\0")[:-1]:
+        if os.path.isfile(f"{ROOT}/{path}") and path != os.path.relpath(os.path.abspath(__file__), ROOT):
+            with open(f"{ROOT}/{path}", "rb") as file:
+                if MACHINE_PATH.search(file.read().decode(errors="replace")):
+                    yield f"{path} names a path of a machine"
+
+
+CHECKS = [
+    definitions_are_told,
+    promises_are_there,
+    layers_agree,
+    proofs_stay_inside,
+    readme_names_all_crates,
+    tour_is_true,
+    links_lead_somewhere,
+    messages_are_clean,
+    files_name_no_machine,
+]
+
+
+def main():
+    faults = []
+    for check in CHECKS:
+        try:
+            faults += check()
+        except (OSError, LookupError, UnicodeError, subprocess.SubprocessError) as error:
+            faults.append(f"{check.__name__}: {type(error).__name__}: {error}")
+    for it in faults:
+        print(f"checks: {it}")
+    return int(bool(faults))
+
+
+if __name__ == "__main__":
+    sys.exit(main())
