@@ -230,7 +230,7 @@ def files_name_no_machine():
     if status:
         yield f"the files cannot be listed: {said}"
     for path in text.split("\0")[:-1]:
-        if os.path.isfile(f"{ROOT}/{path}") and path != os.path.relpath(os.path.abspath(__file__), ROOT):
+        if os.path.isfile(f"{ROOT}/{path}"):
             with open(f"{ROOT}/{path}", "rb") as file:
                 if MACHINE_PATH.search(file.read().decode(errors="replace")):
                     yield f"{path} names a path of a machine"
