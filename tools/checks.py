@@ -210,6 +210,25 @@ def links_lead_somewhere():
                 yield f"{path}: there is no {link}"
 
 
+def named_files_are_there():
+    """Each file or folder of the repository that a document names is there; `src/..` is of the crate named before it in the line."""
+    folders = {"docs", "tools", "bench", "examples", "crates", *os.listdir(f"{ROOT}/crates")}
+    for path in [it for it in files_below("", ".md") if not it.startswith("crates/")]:
+        for line in read(f"{ROOT}/{path}").splitlines():
+            crate = None
+            for it in re.findall(r"`([\w.]+(?:/[\w.]*)*)`", line):
+                first, _, rest = it.removeprefix("crates/").partition("/")
+                crate = first if first in crates() else crate
+                if first in ("src", "specs", "proofs", "must-fail") and rest and crate:
+                    it = f"crates/{crate}/{it}"
+                elif first in crates() and rest:
+                    it = f"crates/{it.removeprefix('crates/')}"
+                elif first not in folders or not rest:
+                    continue
+                if not os.path.exists(f"{ROOT}/{it}") and "/out/" not in it:
+                    yield f"{path}: there is no {it}"
+
+
 def messages_are_clean():
     """Since FROM no commit is a merge, and no message names a path of a machine."""
     status, text, said = git("log", "--format=%h %p%n%B%x00", f"{FROM}..HEAD")
@@ -244,6 +263,7 @@ CHECKS = [
     readme_names_all_crates,
     tour_is_true,
     links_lead_somewhere,
+    named_files_are_there,
     messages_are_clean,
     files_name_no_machine,
 ]
