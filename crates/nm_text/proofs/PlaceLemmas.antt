@@ -1,0 +1,37 @@
+-- A text is cut at the first place of an ASCII character: the parts, and that each is text.
+use Rattle.std.proofs.Common.{◌≡◌, ℕ, ◌+◌, ◌-◌, ◌<◌, ◌≤◌, false, List, [], ◌∷◌, length, take, drop, get_or, refl, sym, ap, ◌∙◌, arith}
+use Rattle.std.specs.Prelude.{IsUtf8}
+use Rattle.std.specs.Str.{IsCharBoundary}
+use Rattle.std.specs.List.{position_or_len, slice_split}
+use Rattle.std.proofs.lemmas.Bool.{eqb-true}
+use Rattle.std.proofs.lemmas.List.Elements.{All-from_get_or}
+use Rattle.std.proofs.lemmas.List.Splits.{slice_split_first, slice_split_none}
+use Rattle.std.proofs.lemmas.List.Sums.{fails_before_first, passes_at_first}
+use Rattle.std.proofs.lemmas.Str.{IsCharBoundary-after_ascii, IsCharBoundary-before_ascii}
+use Rattle.nm_text.specs.Cuts.{is_byte}
+
+-- the place, as a loop over the bytes of the text gives it
+module _ (wanted : ℕ) (text bytes : List ℕ) (at : ℕ) (same : bytes ≡ text) (place : at ≡ position_or_len (is_byte wanted) bytes) where
+  first : at ≡ position_or_len (is_byte wanted) text
+  first = place ∙ ap (position_or_len (is_byte wanted)) same
+
+  pub split_none : at ≡ length text → slice_split (is_byte wanted) text ≡ text ∷ []
+  split_none all =
+      let here = first in
+      slice_split_none (is_byte wanted) text (All-from_get_or (λ x. is_byte wanted x ≡ false) text 0 (λ i within. fails_before_first (is_byte wanted) text i 0 (omega arith)))
+
+  byte_at : at < length text → get_or text at 0 ≡ wanted
+  byte_at within =
+      let here = first in
+      ap (λ n. get_or text n 0) here ∙ eqb-true (get_or text (position_or_len (is_byte wanted) text) 0) wanted (passes_at_first (is_byte wanted) text 0 (omega arith))
+
+  pub before_place : wanted < 128 → at < length text → IsCharBoundary text at
+  before_place ascii within = let byte = byte_at within in IsCharBoundary-before_ascii text at within (omega arith)
+
+  pub after_place : wanted < 128 → at < length text → IsUtf8 text → IsCharBoundary text (at + 1)
+  after_place ascii within u = let byte = byte_at within in IsCharBoundary-after_ascii text at u within (omega arith)
+
+  pub split_first : at < length text → slice_split (is_byte wanted) text ≡ take at text ∷ slice_split (is_byte wanted) (drop (at + 1) text)
+  split_first within =
+      let here = first in
+      slice_split_first (is_byte wanted) text 0 (omega arith) ∙ ap (λ n. take n text ∷ slice_split (is_byte wanted) (drop (n + 1) text)) (sym here)

@@ -1,0 +1,67 @@
+-- Text stays text where ASCII characters are taken out of it, or where it is cut at one.
+use Rattle.std.proofs.Common.{◌≡◌, ℕ, ◌+◌, ◌<◌, Bool, true, false, cond, not, List, [], ◌∷◌, ◌++◌, length, map, take, drop, get_or, ltb, refl, sym, ap, subst, ◌∙◌, arith, filter, append_assoc, length-append}
+use Rattle.std.specs.Prelude.{IsUtf8}
+use Rattle.std.specs.Char.{to_ascii_lowercase}
+use Rattle.std.proofs.lemmas.List.{take_at, drop_at, drop-drop, get_or_at}
+use Rattle.std.proofs.lemmas.Str.{IsUtf8-append, IsUtf8-take, IsUtf8-drop, IsCharBoundary-before_ascii, IsCharBoundary-after_ascii}
+use Rattle.std.proofs.lemmas.Str.{IsUtf8-from_ascii}
+use Rattle.std.proofs.lemmas.Str.Ascii.{IsAscii-cons, IsAscii-nil, lowercase_ascii, lowercase_is}
+use Rattle.std.proofs.lemmas.Bool.{ltb-false, ltb-true}
+use Rattle.std.proofs.lemmas.Bool.Decides.{nat_tests}
+use Rattle.nm_base.specs.Bounds.{is_white_space}
+use Rattle.nm_text.specs.WhiteSpace.{without_white_space}
+
+-- what stands before an ASCII character is text, and what stands behind it
+pub split_ascii : (xs ys : List ℕ) (b : ℕ) → b < 128 → IsUtf8 (xs ++ b ∷ ys) → IsUtf8 xs × IsUtf8 ys
+split_ascii xs ys b small u =
+    let at : get_or (xs ++ b ∷ ys) (length xs) 0 ≡ b = get_or_at xs b ys 0 (length xs) refl in
+    let low : get_or (xs ++ b ∷ ys) (length xs) 0 < 128 = omega arith in
+    let inside : length xs < length (xs ++ b ∷ ys) = simp length-append (omega arith) in
+    let front : IsUtf8 (take (length xs) (xs ++ b ∷ ys)) = IsUtf8-take (xs ++ b ∷ ys) (length xs) u (IsCharBoundary-before_ascii (xs ++ b ∷ ys) (length xs) inside low) in
+    let back : IsUtf8 (drop (length xs + 1) (xs ++ b ∷ ys)) = IsUtf8-drop (xs ++ b ∷ ys) (length xs + 1) u (IsCharBoundary-after_ascii (xs ++ b ∷ ys) (length xs) u inside low) in
+    let rest : drop (length xs + 1) (xs ++ b ∷ ys) ≡ ys = sym (drop-drop 1 (length xs) (xs ++ b ∷ ys)) ∙ ap (drop 1) (drop_at xs (b ∷ ys) (length xs) refl) in
+    (subst IsUtf8 (take_at xs (b ∷ ys) (length xs) refl) front, subst IsUtf8 rest back)
+
+-- an ASCII character taken out
+pub drop_ascii : (xs ys : List ℕ) (b : ℕ) → b < 128 → IsUtf8 (xs ++ b ∷ ys) → IsUtf8 (xs ++ ys)
+drop_ascii xs ys b small u = let parts = split_ascii xs ys b small u in IsUtf8-append xs ys parts.0 parts.1
+
+filter_after : (p : ℕ → Bool) → ((b : ℕ) → p b ≡ false → b < 128) → (front bs : List ℕ) → IsUtf8 (front ++ bs) → IsUtf8 (front ++ filter p bs)
+filter_after p ascii front [] u = u
+filter_after p ascii front (b ∷ bs) u =
+    elim (p b) as (λ v. p b ≡ v → IsUtf8 (front ++ cond v (b ∷ filter p bs) (filter p bs))) [
+      | true ↦ λ e. subst IsUtf8 (append_assoc front (b ∷ []) (filter p bs)) (filter_after p ascii (front ++ b ∷ []) bs (subst IsUtf8 (sym (append_assoc front (b ∷ []) bs)) u))
+      | false ↦ λ e. filter_after p ascii front bs (drop_ascii front bs b (ascii b e) u)
+    ] refl
+
+-- a filter that takes out ASCII characters alone
+pub IsUtf8-filter : (p : ℕ → Bool) (bs : List ℕ) → ((b : ℕ) → p b ≡ false → b < 128) → IsUtf8 bs → IsUtf8 (filter p bs)
+IsUtf8-filter p bs ascii u = filter_after p ascii [] bs u
+
+white_space_is_ascii : (b : ℕ) → not (is_white_space b) ≡ false → b < 128
+white_space_is_ascii b e = grind (arith, nat_tests)
+
+pub without_white_space_utf8 : (bs : List ℕ) → IsUtf8 bs → IsUtf8 (without_white_space bs)
+without_white_space_utf8 bs u = IsUtf8-filter (λ b. not (is_white_space b)) bs white_space_is_ascii u
+
+-- letters in lower case: only ASCII letters change, and into ASCII letters
+lower_after : (front text : List ℕ) → IsUtf8 (front ++ text) → IsUtf8 (front ++ map to_ascii_lowercase text)
+lower_after front [] u = u
+lower_after front (b ∷ text) u =
+    let c : ℕ = to_ascii_lowercase b in
+    elim (ltb b 128) as (λ v. ltb b 128 ≡ v → IsUtf8 (front ++ c ∷ map to_ascii_lowercase text)) [
+      | true ↦ λ h.
+          let small = ltb-true b 128 h in
+          let parts = split_ascii front text b small u in
+          let one : IsUtf8 (c ∷ []) = IsUtf8-from_ascii (c ∷ []) (IsAscii-cons c [] (lowercase_ascii b small) IsAscii-nil) in
+          let changed : IsUtf8 ((front ++ c ∷ []) ++ text) = IsUtf8-append (front ++ c ∷ []) text (IsUtf8-append front (c ∷ []) parts.0 one) parts.1 in
+          subst IsUtf8 (append_assoc front (c ∷ []) (map to_ascii_lowercase text)) (lower_after (front ++ c ∷ []) text changed)
+      | false ↦ λ h.
+          let large = ltb-false b 128 h in
+          let same : c ≡ b = (lowercase_is b).2 (omega arith) in
+          let kept : IsUtf8 ((front ++ c ∷ []) ++ text) = subst IsUtf8 (ap (λ x. front ++ x ∷ text) (sym same) ∙ sym (append_assoc front (c ∷ []) text)) u in
+          subst IsUtf8 (append_assoc front (c ∷ []) (map to_ascii_lowercase text)) (lower_after (front ++ c ∷ []) text kept)
+    ] refl
+
+pub lower_utf8 : (text : List ℕ) → IsUtf8 text → IsUtf8 (map to_ascii_lowercase text)
+lower_utf8 text u = lower_after [] text u

@@ -1,0 +1,21 @@
+-- Cuts: a text before and after a byte, and a text cut into lexemes one after the other.
+use Rattle.std.specs.Prelude.{ℕ, zero, suc, ◌+◌, Bool, ◌==◌, List, [], ◌∷◌, length, take, drop, if◌then◌else◌}
+
+-- this byte
+abbrev pub is_byte : ℕ → ℕ → Bool
+is_byte wanted b = b == wanted
+
+-- each lexeme has its first byte, and as many more as `more` says of that byte and of what follows it; n bounds how many lexemes there are
+abbrev pub cut_upto : ℕ → (ℕ → List ℕ → ℕ) → List ℕ → List (List ℕ)
+cut_upto zero more xs = []
+cut_upto (suc n) more [] = []
+cut_upto (suc n) more (x ∷ xs) = (x ∷ take (more x xs) xs) ∷ cut_upto n more (drop (more x xs) xs)
+
+-- all lexemes of the text
+unfoldable pub cut : (ℕ → List ℕ → ℕ) → List ℕ → List (List ℕ)
+cut more xs = cut_upto (length xs) more xs
+
+-- how many bytes stand in the lexemes up to the first that passes the test, and in that one
+abbrev pub length_through : (List ℕ → Bool) → List (List ℕ) → ℕ
+length_through test [] = 0
+length_through test (x ∷ xs) = if test x then length x else length x + length_through test xs

@@ -1,0 +1,34 @@
+ghost use Rattle.std.specs.Prelude.{◌≡◌, [], ◌∷◌, ◌<◌, ◌≤◌, length, IfSome, MatchOption};
+ghost use Rattle.std.specs.List.{after_first, before_first, position_or_len, slice_split};
+ghost use Rattle.nm_text.specs.Cuts.{is_byte};
+
+/// The first place of a byte, or the length where it isn't there.
+pub fn first_place(bytes: &[u8], wanted: u8) -> usize
+    ensures place { result ≡ position_or_len (is_byte wanted) bytes.now }
+    ensures within { result ≤ length bytes.now }
+{
+    'places: for (at, byte) in bytes.iter().enumerate() {
+        if *byte == wanted {
+            return at;
+        }
+    }
+    bytes.len()
+}
+
+/// What stands before the first such ASCII character and what stands after it.
+pub fn cut_at(text: &str, wanted: u8) -> Option<(&str, &str)>
+    requires { wanted < 128 }
+    ensures place { MatchOption result (length text.now ≤ position_or_len (is_byte wanted) text.now)
+        (λ cut. position_or_len (is_byte wanted) text.now < length text.now) }
+    ensures front { IfSome result (λ cut. cut.0.now ≡ before_first (is_byte wanted) text.now) }
+    ensures back { IfSome result (λ cut. cut.1.now ≡ after_first (is_byte wanted) text.now) }
+    ensures split { MatchOption result (slice_split (is_byte wanted) text.now ≡ text.now ∷ [])
+        (λ cut. slice_split (is_byte wanted) text.now ≡ cut.0.now ∷ slice_split (is_byte wanted) cut.1.now) }
+    ensures shorter { IfSome result (λ cut. length cut.1.now < length text.now) }
+{
+    let at = first_place(text.as_bytes(), wanted);
+    if at == text.len() {
+        return None;
+    }
+    Some((&text[..at], &text[at + 1..]))
+}

@@ -1,0 +1,25 @@
+ghost use Rattle.std.specs.Prelude.{◌≡◌, IfOk, IsUtf8};
+
+use nm_base::{NoMemory, Text};
+
+/// The bytes as text that owns them.
+pub fn text_of(bytes: Vec<u8>) -> Result<Text, NoMemory>
+    requires { IsUtf8 bytes.items }
+    ensures { IfOk result (λ text. text ≡ bytes.items) }
+{
+    match String::from_utf8(bytes) {
+        Ok(string) => Ok(Text::from_string(string)),
+        Err(_) => unreachable!(),
+    }
+}
+
+/// The bytes as text that borrows them.
+pub fn as_text(bytes: &[u8]) -> &str
+    requires { IsUtf8 bytes.now }
+    ensures { result.now ≡ bytes.now }
+{
+    match str::from_utf8(bytes) {
+        Ok(text) => text,
+        Err(_) => unreachable!(),
+    }
+}
