@@ -59,7 +59,7 @@ not-false : (t : Bool) → not t ≡ true → t ≡ false
 not-false true e = (cc)
 not-false false e = refl
 
--- their characters, with padding behind them, give them back
+-- their characters, with padding after them, give them back
 kept-back : (vs : List ℕ) (k : ℕ) → Small vs → map six_bits (kept (map symbol_at vs ++ replicate k 61)) ≡ vs
 kept-back [] zero h = refl
 kept-back [] (suc k) h = refl

@@ -38,7 +38,7 @@ not_taken : (t : Bool) (x : ℕ) (r q : List ℕ) → cond t (Some x) None ≡ N
 not_taken true x r q e = (cc)
 not_taken false x r q e = refl
 
--- a `=` with two hex digits behind it, and another
+-- a `=` with two hex digits after it, and another
 pub unescaped-some : (more : List ℕ) (byte : ℕ) → escape_of more ≡ Some byte → unescaped (61 ∷ more) ≡ byte ∷ unescaped (drop 2 more)
 unescaped-some [] byte e = (cc)
 unescaped-some (b ∷ []) byte e = (cc)
@@ -50,10 +50,10 @@ unescaped-none (b ∷ []) e = refl
 unescaped-none (b ∷ c ∷ more) e = not_taken (is_hex b && is_hex c) (hex_byte b c) (unescaped more) (61 ∷ unescaped (b ∷ c ∷ more)) e
 
 -- the turns of a loop over the escapes, and its end
-pub escape-turn : (out text run behind more rest all : List ℕ) (byte equals : ℕ) → run ≡ take (position_or_len (is_byte 61) text) text
-    → behind ≡ drop (position_or_len (is_byte 61) text) text → behind ≡ equals ∷ more → equals ≡ 61 → escape_of more ≡ Some byte → rest ≡ drop 2 more
+pub escape-turn : (out text run after more rest all : List ℕ) (byte equals : ℕ) → run ≡ take (position_or_len (is_byte 61) text) text
+    → after ≡ drop (position_or_len (is_byte 61) text) text → after ≡ equals ∷ more → equals ≡ 61 → escape_of more ≡ Some byte → rest ≡ drop 2 more
     → out ++ unescaped text ≡ all → ((out ++ run) ++ byte ∷ []) ++ unescaped rest ≡ all
-escape-turn out text run behind more rest all byte equals a b c d e f g =
+escape-turn out text run after more rest all byte equals a b c d e f g =
     append_assoc (out ++ run) (byte ∷ []) (unescaped rest)
     ∙ append_assoc out run (byte ∷ unescaped rest)
     ∙ ap (λ xs. out ++ (run ++ xs)) (ap (λ xs. byte ∷ unescaped xs) f ∙ sym (unescaped-some more byte e) ∙ ap (λ x. unescaped (x ∷ more)) (sym d) ∙ ap unescaped (sym c ∙ b))
@@ -61,10 +61,10 @@ escape-turn out text run behind more rest all byte equals a b c d e f g =
     ∙ ap (λ xs. out ++ xs) (sym (unescaped-run text))
     ∙ g
 
-pub equals-turn : (out text run behind more all : List ℕ) (equals : ℕ) → run ≡ take (position_or_len (is_byte 61) text) text
-    → behind ≡ drop (position_or_len (is_byte 61) text) text → behind ≡ equals ∷ more → equals ≡ 61 → escape_of more ≡ None
+pub equals-turn : (out text run after more all : List ℕ) (equals : ℕ) → run ≡ take (position_or_len (is_byte 61) text) text
+    → after ≡ drop (position_or_len (is_byte 61) text) text → after ≡ equals ∷ more → equals ≡ 61 → escape_of more ≡ None
     → out ++ unescaped text ≡ all → ((out ++ run) ++ equals ∷ []) ++ unescaped more ≡ all
-equals-turn out text run behind more all equals a b c d e g =
+equals-turn out text run after more all equals a b c d e g =
     append_assoc (out ++ run) (equals ∷ []) (unescaped more)
     ∙ append_assoc out run (equals ∷ unescaped more)
     ∙ ap (λ xs. out ++ (run ++ xs)) (ap (λ x. x ∷ unescaped more) d ∙ sym (unescaped-none more e) ∙ ap (λ x. unescaped (x ∷ more)) (sym d) ∙ ap unescaped (sym c ∙ b))
@@ -72,18 +72,18 @@ equals-turn out text run behind more all equals a b c d e g =
     ∙ ap (λ xs. out ++ xs) (sym (unescaped-run text))
     ∙ g
 
-pub escapes-end : (out text run behind all : List ℕ) → run ≡ take (position_or_len (is_byte 61) text) text
-    → behind ≡ drop (position_or_len (is_byte 61) text) text → behind ≡ [] → out ++ unescaped text ≡ all → out ++ run ≡ all
-escapes-end out text run behind all a b c g =
+pub escapes-end : (out text run after all : List ℕ) → run ≡ take (position_or_len (is_byte 61) text) text
+    → after ≡ drop (position_or_len (is_byte 61) text) text → after ≡ [] → out ++ unescaped text ≡ all → out ++ run ≡ all
+escapes-end out text run after all a b c g =
     ap (λ xs. out ++ xs) (sym (append-nil run) ∙ ap (λ xs. run ++ unescaped xs) (sym c ∙ b) ∙ ap (λ xs. xs ++ unescaped (drop (position_or_len (is_byte 61) text) text)) a ∙ sym (unescaped-run text))
     ∙ g
 
--- what stands behind the first run begins with `=`
-pub equals-first : (text behind more : List ℕ) (equals : ℕ) → behind ≡ drop (position_or_len (is_byte 61) text) text → behind ≡ equals ∷ more → equals ≡ 61
-equals-first text behind more equals b c =
+-- what stands after the first run begins with `=`
+pub equals-first : (text after more : List ℕ) (equals : ℕ) → after ≡ drop (position_or_len (is_byte 61) text) text → after ≡ equals ∷ more → equals ≡ 61
+equals-first text after more equals b c =
     let n = position_or_len (is_byte 61) text in
     let l : n < length text = omega (arith, length-drop n text, ap length (sym c ∙ b)) in
     let p = passes_at_first (is_byte 61) text 0 l in
-    let q : get_or behind 0 0 ≡ equals = ap (λ xs. get_or xs 0 0) c in
-    let r : get_or behind 0 0 ≡ get_or text n 0 = ap (λ xs. get_or xs 0 0) b ∙ get_or-drop n text 0 0 ∙ ap (λ i. get_or text i 0) (add-zero n) in
+    let q : get_or after 0 0 ≡ equals = ap (λ xs. get_or xs 0 0) c in
+    let r : get_or after 0 0 ≡ get_or text n 0 = ap (λ xs. get_or xs 0 0) b ∙ get_or-drop n text 0 0 ∙ ap (λ i. get_or text i 0) (add-zero n) in
     grind (arith, nat_tests)

@@ -1,11 +1,12 @@
 pub mod Base64Law
 pub mod Escapes
+pub mod GapLaw
 pub mod GroupLemmas
 pub mod Lines
 pub mod MarkLaw
 pub mod Pieces
 pub mod QTexts
 pub mod QuotedLaw
-pub mod Spelling
+pub mod SingleByteLemmas
 pub mod WordLaw
 pub mod WordLemmas

@@ -1,7 +1,7 @@
 -- A text in which no `=?` stands has no word.
 use Rattle.std.proofs.Common.{◌≡◌, ℕ, zero, suc, Bool, true, false, ◌&&◌, ◌||◌, List, [], ◌∷◌, None, length, refl, ap, ◌∙◌, eqb, arith}
 use Rattle.std.specs.Option.{option_and_then}
-use Rattle.nm_decode.specs.EncodedWords.{cut_found, cut_words, fields_of, first_word, joined, or_later, pieces_of, unworded, word_of, word_of_fields}
+use Rattle.nm_decode.specs.EncodedWords.{cut_found, cut_words, fields_of, first_word, joined, or_later, pieces_of, words_decoded, word_of, word_of_fields}
 use Rattle.nm_decode.specs.Laws.{has_mark}
 use Rattle.nm_decode.proofs.Pieces.{not_opened, too_short}
 
@@ -13,7 +13,7 @@ parts true true r e = (cc)
 parts true false r e = (λ _. refl, e)
 parts false t r e = (λ k. (cc), e)
 
-no-word : (text : List ℕ) → has_mark text ≡ false → first_word text ≡ None
+pub no-word : (text : List ℕ) → has_mark text ≡ false → first_word text ≡ None
 no-word [] h = refl
 no-word (a ∷ []) h = ap (λ o. or_later o None) (none-here (a ∷ []) (too_short (a ∷ []) (omega arith)))
 no-word (a ∷ b ∷ more) h =
@@ -25,5 +25,5 @@ uncut : (n : ℕ) (text : List ℕ) → first_word text ≡ None → joined (cut
 uncut zero text h = refl
 uncut (suc n) text h = ap (λ o. joined (cut_found (cut_words n) text o).words (cut_found (cut_words n) text o).last) h
 
-pub without_marks : (text : List ℕ) → has_mark text ≡ false → unworded text ≡ text
+pub without_marks : (text : List ℕ) → has_mark text ≡ false → words_decoded text ≡ text
 without_marks text h = uncut (length text) text (no-word text h)

@@ -25,18 +25,18 @@ q-run : (xs : List ℕ) → is_q_text xs ≡ is_q_text (drop (position_or_len (i
 q-run [] = refl
 q-run (a ∷ more) = run-step a more (eqb a 61) refl (q-run more)
 
-pub q-end : (text behind : List ℕ) → behind ≡ drop (position_or_len (is_byte 61) text) text → behind ≡ [] → is_q_text text ≡ true
-q-end text behind b c = q-run text ∙ ap is_q_text (sym b ∙ c)
+pub q-end : (text after : List ℕ) → after ≡ drop (position_or_len (is_byte 61) text) text → after ≡ [] → is_q_text text ≡ true
+q-end text after b c = q-run text ∙ ap is_q_text (sym b ∙ c)
 
-pub q-mark : (text behind more : List ℕ) (equals : ℕ) → behind ≡ drop (position_or_len (is_byte 61) text) text → behind ≡ equals ∷ more
+pub q-mark : (text after more : List ℕ) (equals : ℕ) → after ≡ drop (position_or_len (is_byte 61) text) text → after ≡ equals ∷ more
     → is_q_text text ≡ (is_some (escape_of more) && is_q_text more)
-q-mark text behind more equals b c =
-    q-run text ∙ ap is_q_text (sym b ∙ c) ∙ ap (λ x. is_q_text (x ∷ more)) (equals-first text behind more equals b c)
+q-mark text after more equals b c =
+    q-run text ∙ ap is_q_text (sym b ∙ c) ∙ ap (λ x. is_q_text (x ∷ more)) (equals-first text after more equals b c)
 
-pub q-some : (text behind more : List ℕ) (equals byte : ℕ) → behind ≡ drop (position_or_len (is_byte 61) text) text → behind ≡ equals ∷ more
+pub q-some : (text after more : List ℕ) (equals byte : ℕ) → after ≡ drop (position_or_len (is_byte 61) text) text → after ≡ equals ∷ more
     → escape_of more ≡ Some byte → is_q_text text ≡ is_q_text more
-q-some text behind more equals byte b c e = q-mark text behind more equals b c ∙ ap (λ o. is_some o && is_q_text more) e
+q-some text after more equals byte b c e = q-mark text after more equals b c ∙ ap (λ o. is_some o && is_q_text more) e
 
-pub q-none : (text behind more : List ℕ) (equals : ℕ) → behind ≡ drop (position_or_len (is_byte 61) text) text → behind ≡ equals ∷ more
+pub q-none : (text after more : List ℕ) (equals : ℕ) → after ≡ drop (position_or_len (is_byte 61) text) text → after ≡ equals ∷ more
     → escape_of more ≡ None → is_q_text text ≡ false
-q-none text behind more equals b c e = q-mark text behind more equals b c ∙ ap (λ o. is_some o && is_q_text more) e
+q-none text after more equals b c e = q-mark text after more equals b c ∙ ap (λ o. is_some o && is_q_text more) e

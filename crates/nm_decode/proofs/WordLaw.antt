@@ -14,10 +14,10 @@ use Rattle.base64.specs.Tables.{all_below}
 use Rattle.base64.proofs.EngineFacts.{decode_of-encode_of}
 use Rattle.nm_decode.specs.Bytes.{escape_of, hex_byte, is_hex, is_white}
 use Rattle.nm_decode.specs.Charsets.{text_of}
-use Rattle.nm_decode.specs.EncodedWords.{Cut, b_bytes, cut_found, cut_words, fields_of, first_word, is_field, is_q_text, joined, later_word, or_later, pieces_of, q_bytes, spaced, unworded, word_bytes, word_of, word_of_fields, word_text}
+use Rattle.nm_decode.specs.EncodedWords.{Cut, b_bytes, cut_found, cut_words, fields_of, first_word, is_field, is_q_text, joined, later_word, or_later, pieces_of, q_bytes, spaced, words_decoded, word_bytes, word_of, word_of_fields, word_text}
 use Rattle.nm_decode.specs.Laws.{IsQTest, IsPlainTest, b_word, hex_digit, q_word, quoted_byte, quoted_line}
 use Rattle.nm_decode.specs.QuotedPrintable.{unescaped}
-use Rattle.nm_decode.specs.declared.words.Word.{Word}
+use Rattle.nm_decode.specs.declared.words.EncodedWord.{EncodedWord}
 use Rattle.nm_decode.proofs.Base64Law.{Small, below, sextets, small-sextets, symbol_at, symbols-are}
 use Rattle.nm_decode.proofs.QuotedLaw.{digit-hex, unescaped-back}
 
@@ -42,32 +42,32 @@ clean-append [] ys h k = k
 clean-append (b ∷ xs) ys h k = (h.0, h.1, clean-append xs ys h.2 k)
 
 -- the text of a word in UTF-8
-utf8-text : (letter encoded bytes : List ℕ) → IsUtf8 bytes → Clean encoded → word_bytes letter encoded ≡ Some bytes
-    → word_text (codes "utf-8") letter encoded ≡ Some bytes
-utf8-text letter encoded bytes u h e =
-    ap (λ t. cond t (option_map (λ bs. text_of bs (codes "utf-8")) (word_bytes letter encoded)) None) (clean-field encoded h)
+utf8-text : (encoding encoded bytes : List ℕ) → IsUtf8 bytes → Clean encoded → word_bytes encoding encoded ≡ Some bytes
+    → word_text (codes "utf-8") encoding encoded ≡ Some bytes
+utf8-text encoding encoded bytes u h e =
+    ap (λ t. cond t (option_map (λ bs. text_of bs (codes "utf-8")) (word_bytes encoding encoded)) None) (clean-field encoded h)
     ∙ ap (option_map (λ bs. text_of bs (codes "utf-8"))) e
     ∙ ap Some (utf8_lossy-IsUtf8 bytes u)
 
-nothing-behind : (n : ℕ) → flat_map later_word (cut_words n []).words ++ (cut_words n []).last ≡ []
-nothing-behind zero = refl
-nothing-behind (suc n) = refl
+nothing-after : (n : ℕ) → flat_map later_word (cut_words n []).words ++ (cut_words n []).last ≡ []
+nothing-after zero = refl
+nothing-after (suc n) = refl
 
 -- a text that is one word
-whole-word : (first : ℕ) (more : List ℕ) (word : Word) → word_of (first ∷ more) ≡ Some word → length (first ∷ more) ≡ word.len → unworded (first ∷ more) ≡ word.text
+whole-word : (first : ℕ) (more : List ℕ) (word : EncodedWord) → word_of (first ∷ more) ≡ Some word → length (first ∷ more) ≡ word.len → words_decoded (first ∷ more) ≡ word.text
 whole-word first more word e l =
     let text = first ∷ more in
     let f : first_word text ≡ Some (record { at = 0; word = word }) = ap (λ o. or_later o (first_word more)) e in
     let d : drop (0 + word.len) text ≡ [] = drop_all (0 + word.len) text (omega arith) in
     ap (λ o. let cut : Cut = cut_found (cut_words (length more)) text o in joined cut.words cut.last) f
     ∙ ap (λ xs. word.text ++ (flat_map later_word (cut_words (length more) xs).words ++ (cut_words (length more) xs).last)) d
-    ∙ ap (λ xs. word.text ++ xs) (nothing-behind (length more))
+    ∙ ap (λ xs. word.text ++ xs) (nothing-after (length more))
     ∙ append-nil word.text
 
 word-pieces : (encoded : List ℕ) → Clean encoded → pieces_of (encoded ++ 63 ∷ 61 ∷ []) ≡ encoded ∷ (61 ∷ []) ∷ []
 word-pieces encoded h = clean-piece encoded (61 ∷ []) h
 
-abbrev word_record : List ℕ → List ℕ → Word
+abbrev word_record : List ℕ → List ℕ → EncodedWord
 word_record encoded bytes = record { len = 5 + 1 + length encoded + 6; text = bytes }
 
 b-of : (encoded bytes : List ℕ) → IsUtf8 bytes → Clean encoded → b_bytes encoded ≡ Some bytes → word_of (codes "=?utf-8?B?" ++ (encoded ++ codes "?=")) ≡ Some (word_record encoded bytes)
@@ -111,13 +111,13 @@ clean-base64 m h =
 b-back : (m : List ℕ) → ((i : ℕ) → get_or m i 0 < 256) → b_bytes (encode_of standard m) ≡ Some m
 b-back m h = ap result_ok (decode_of-encode_of standard m refl h)
 
-pub b_word_back : (m : List ℕ) → IsUtf8 m → ((i : ℕ) → get_or m i 0 < 256) → unworded (b_word m) ≡ m
+pub b_word_back : (m : List ℕ) → IsUtf8 m → ((i : ℕ) → get_or m i 0 < 256) → words_decoded (b_word m) ≡ m
 b_word_back m u h =
     let encoded = encode_of standard m in
     whole-word 61 (63 ∷ 117 ∷ 116 ∷ 102 ∷ 45 ∷ 56 ∷ 63 ∷ 66 ∷ 63 ∷ (encoded ++ 63 ∷ 61 ∷ [])) (word_record encoded m)
     (b-of encoded m u (clean-base64 m h) (b-back m h)) (omega (arith, length-append encoded (63 ∷ 61 ∷ [])))
 
--- a text in Q: clean, with two digits behind each `=`, and without `_`
+-- a text in Q: clean, with two digits after each `=`, and without `_`
 abbrev QText : List ℕ → Type 0
 QText xs = Clean xs × (is_q_text xs ≡ true) × (map spaced xs ≡ xs)
 
@@ -163,7 +163,7 @@ q-back plain m k h =
     ap (λ t. cond t (Some (unescaped (map spaced (quoted_line plain m)))) None) q.1
     ∙ ap (λ xs. Some (unescaped xs)) q.2 ∙ ap Some (unescaped-back plain m p h)
 
-pub q_word_back : (plain : ℕ → Bool) (m : List ℕ) → IsQTest plain → IsUtf8 m → ((i : ℕ) → get_or m i 0 < 256) → unworded (q_word plain m) ≡ m
+pub q_word_back : (plain : ℕ → Bool) (m : List ℕ) → IsQTest plain → IsUtf8 m → ((i : ℕ) → get_or m i 0 < 256) → words_decoded (q_word plain m) ≡ m
 q_word_back plain m k u h =
     let encoded = quoted_line plain m in
     whole-word 61 (63 ∷ 117 ∷ 116 ∷ 102 ∷ 45 ∷ 56 ∷ 63 ∷ 81 ∷ 63 ∷ (encoded ++ 63 ∷ 61 ∷ [])) (word_record encoded m)

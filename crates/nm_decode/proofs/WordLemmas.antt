@@ -6,38 +6,38 @@ use Rattle.std.specs.List.{flat_map}
 use Rattle.std.specs.Option.{option_map}
 use Rattle.std.specs.Str.{IsCharBoundary, IsUtf8}
 use Rattle.nm_decode.specs.EncodedWords.{between, cut_found, cut_words, first_word, joined, later_word, or_later, word_of}
-use Rattle.nm_decode.specs.WordSteps.{IsFramed, IsStretch, decoded_text, stretch_text, with_word}
-use Rattle.nm_decode.specs.declared.words.Found.{Found}
-use Rattle.nm_decode.specs.declared.words.Word.{Word}
+use Rattle.nm_decode.specs.WordSteps.{IsFramed, IsSpan, decoded_text, gap_text, with_word}
+use Rattle.nm_decode.specs.declared.words.FoundWord.{FoundWord}
+use Rattle.nm_decode.specs.declared.words.EncodedWord.{EncodedWord}
 
 -- all of a framed word but its last `=`
 abbrev front : List ℕ → List ℕ → List ℕ → List ℕ
-front charset letter encoded = 61 ∷ 63 ∷ (charset ++ (63 ∷ (letter ++ (63 ∷ (encoded ++ (63 ∷ []))))))
+front charset encoding encoded = 61 ∷ 63 ∷ (charset ++ (63 ∷ (encoding ++ (63 ∷ (encoded ++ (63 ∷ []))))))
 
-framed-front : (charset letter encoded behind : List ℕ) → 61 ∷ 63 ∷ (charset ++ (63 ∷ (letter ++ (63 ∷ (encoded ++ (63 ∷ 61 ∷ behind))))))
-    ≡ front charset letter encoded ++ 61 ∷ behind
-framed-front charset letter encoded behind = simp append_assoc
+framed-front : (charset encoding encoded after : List ℕ) → 61 ∷ 63 ∷ (charset ++ (63 ∷ (encoding ++ (63 ∷ (encoded ++ (63 ∷ 61 ∷ after))))))
+    ≡ front charset encoding encoded ++ 61 ∷ after
+framed-front charset encoding encoded after = simp append_assoc
 
-length-front : (charset letter encoded : List ℕ) → length (front charset letter encoded) ≡ length charset + length letter + length encoded + 5
-length-front charset letter encoded = simp length-append (omega arith)
+length-front : (charset encoding encoded : List ℕ) → length (front charset encoding encoded) ≡ length charset + length encoding + length encoded + 5
+length-front charset encoding encoded = simp length-append (omega arith)
 
-pub framed_len : (text charset letter encoded : List ℕ) → IsFramed text charset letter encoded → length charset + length letter + length encoded + 6 ≤ length text
-framed_len text charset letter encoded f =
-    let e = ap length (f.1 ∙ framed-front charset letter encoded f.0) ∙ length-append (front charset letter encoded) (61 ∷ f.0) in
-    omega (arith, e, length-front charset letter encoded)
+pub framed_len : (text charset encoding encoded : List ℕ) → IsFramed text charset encoding encoded → length charset + length encoding + length encoded + 6 ≤ length text
+framed_len text charset encoding encoded f =
+    let e = ap length (f.1 ∙ framed-front charset encoding encoded f.0) ∙ length-append (front charset encoding encoded) (61 ∷ f.0) in
+    omega (arith, e, length-front charset encoding encoded)
 
-pub framed_stretch : (text charset letter encoded : List ℕ) (n : ℕ) → n ≡ length charset + length letter + length encoded + 6 → IsFramed text charset letter encoded
-    → IsStretch text 0 n
-framed_stretch text charset letter encoded n k f = record {
+pub framed_span : (text charset encoding encoded : List ℕ) (n : ℕ) → n ≡ length charset + length encoding + length encoded + 6 → IsFramed text charset encoding encoded
+    → IsSpan text 0 n
+framed_span text charset encoding encoded n k f = record {
   rises = omega arith;
-  within = omega (arith, framed_len text charset letter encoded f);
+  within = omega (arith, framed_len text charset encoding encoded f);
   first = ap (λ xs. get_or xs 0 0) f.1;
-  last = ap (λ xs. get_or xs (n - 1) 0) (f.1 ∙ framed-front charset letter encoded f.0)
-      ∙ get_or_at (front charset letter encoded) 61 f.0 0 (n - 1) (omega (arith, length-front charset letter encoded));
+  last = ap (λ xs. get_or xs (n - 1) 0) (f.1 ∙ framed-front charset encoding encoded f.0)
+      ∙ get_or_at (front charset encoding encoded) 61 f.0 0 (n - 1) (omega (arith, length-front charset encoding encoded));
 }
 
-pub later_stretch : (text rest : List ℕ) (at n : ℕ) → rest ≡ drop at text → at ≤ length text → IsStretch rest 0 n → IsStretch text at (at + n)
-later_stretch text rest at n e l s =
+pub later_span : (text rest : List ℕ) (at n : ℕ) → rest ≡ drop at text → at ≤ length text → IsSpan rest 0 n → IsSpan text at (at + n)
+later_span text rest at n e l s =
     let r : 0 < n = s.rises in
     let k : length rest ≡ length text - at = ap length e ∙ length-drop at text in
     let m : at + (n - 1) ≡ at + n - 1 = omega arith in
@@ -48,17 +48,17 @@ later_stretch text rest at n e l s =
       last = ap (λ i. get_or text i 0) (sym m) ∙ sym (get_or-drop at text (n - 1) 0) ∙ ap (λ xs. get_or xs (n - 1) 0) (sym e) ∙ s.last;
     }
 
--- a word found behind the first n bytes
-abbrev pub later : ℕ → Option Found → Option Found
+-- a word found after the first n bytes
+abbrev pub later : ℕ → Option FoundWord → Option FoundWord
 later n o = option_map (λ found. record { at = found.at + n; word = found.word }) o
 
-later-one : (n : ℕ) (o : Option Found) → later n (later 1 o) ≡ later (n + 1) o
+later-one : (n : ℕ) (o : Option FoundWord) → later n (later 1 o) ≡ later (n + 1) o
 later-one n None = refl
 later-one n (Some found) =
     let k : found.at + 1 + n ≡ found.at + (n + 1) = omega arith in
     ap (λ i. Some (record { at = i; word = found.word })) k
 
-pub later-zero : (o : Option Found) → o ≡ later 0 o
+pub later-zero : (o : Option FoundWord) → o ≡ later 0 o
 later-zero None = refl
 later-zero (Some found) = ap (λ i. Some (record { at = i; word = found.word })) (sym (add-zero found.at))
 
@@ -68,7 +68,7 @@ first-step text rest at e l =
     let d : drop at text ≡ get_or text at 0 ∷ drop (at + 1) text = at_drop_more (λ xs. xs) text at 0 l in
     ap first_word (e ∙ d) ∙ ap (λ xs. or_later (word_of xs) (first_word (drop (at + 1) text))) (sym d ∙ sym e)
 
-pub found_here : (text rest : List ℕ) (at : ℕ) (word : Word) → rest ≡ drop at text → at < length text → word_of rest ≡ Some word
+pub found_here : (text rest : List ℕ) (at : ℕ) (word : EncodedWord) → rest ≡ drop at text → at < length text → word_of rest ≡ Some word
     → first_word text ≡ later at (first_word (drop at text)) → first_word text ≡ Some (record { at = at; word = word })
 found_here text rest at word e l w g =
     g ∙ ap (λ xs. later at (first_word xs)) (sym e)
@@ -86,18 +86,18 @@ pub found_none : (text : List ℕ) (at : ℕ) → length text ≤ at → first_w
 found_none text at l g = g ∙ ap (later at) (at_drop_all first_word text at l)
 
 -- the turn of a loop over the words, and its end
-pub cut_turn : (out rest all : List ℕ) (n : ℕ) (follows : Bool) (found : Found) → first_word rest ≡ Some found
-    → IsStretch rest found.at (found.at + found.word.len) → length rest ≤ n → out ++ decoded_text n follows rest ≡ all
+pub cut_turn : (out rest all : List ℕ) (n : ℕ) (follows : Bool) (found : FoundWord) → first_word rest ≡ Some found
+    → IsSpan rest found.at (found.at + found.word.len) → length rest ≤ n → out ++ decoded_text n follows rest ≡ all
     → (m : ℕ) × (length (drop (found.at + found.word.len) rest) ≤ m)
-    × (((out ++ stretch_text follows (take found.at rest)) ++ found.word.text) ++ decoded_text m true (drop (found.at + found.word.len) rest) ≡ all)
+    × (((out ++ gap_text follows (take found.at rest)) ++ found.word.text) ++ decoded_text m true (drop (found.at + found.word.len) rest) ≡ all)
 cut_turn out rest all zero follows found e s l g = absurd (omega (arith, s.rises, s.within))
 cut_turn out rest all (suc m) follows found e s l g =
     let end = found.at + found.word.len in
-    let stretch = stretch_text follows (take found.at rest) in (
+    let gap = gap_text follows (take found.at rest) in (
       m,
       omega (arith, length-drop end rest, s.rises, s.within),
-      append_assoc (out ++ stretch) found.word.text (decoded_text m true (drop end rest))
-          ∙ append_assoc out stretch (found.word.text ++ decoded_text m true (drop end rest))
+      append_assoc (out ++ gap) found.word.text (decoded_text m true (drop end rest))
+          ∙ append_assoc out gap (found.word.text ++ decoded_text m true (drop end rest))
           ∙ ap (λ o. out ++ with_word (decoded_text m true) follows rest o) (sym e)
           ∙ g,
     )
@@ -106,20 +106,20 @@ pub cut_end : (out rest all : List ℕ) (n : ℕ) (follows : Bool) → first_wor
 cut_end out rest all zero follows e g = g
 cut_end out rest all (suc n) follows e g = ap (λ o. out ++ with_word (decoded_text n true) follows rest o) (sym e) ∙ g
 
--- a text may be cut behind a stretch
-pub stretch_end : (text : List ℕ) (from to : ℕ) → IsUtf8 text → IsStretch text from to → IsCharBoundary text to
-stretch_end text from to u s =
+-- a text may be cut after a gap
+pub span_end : (text : List ℕ) (from to : ℕ) → IsUtf8 text → IsSpan text from to → IsCharBoundary text to
+span_end text from to u s =
     let r : from < to = s.rises in
     let w : to ≤ length text = s.within in
     let e : to - 1 + 1 ≡ to = omega arith in
     let P : ℕ → Type 0 = λ i. IsCharBoundary text i in
     subst P e (IsCharBoundary-after_ascii text (to - 1) u (omega arith) (omega (arith, s.last)))
 
--- word by word, behind another word, is the rest of the cut
+-- word by word, after another word, is the rest of the cut
 abbrev IsRest : ℕ → List ℕ → Type 0
 IsRest n text = decoded_text n true text ≡ flat_map later_word (cut_words n text).words ++ (cut_words n text).last
 
-rest_found : (n : ℕ) (text : List ℕ) (o : Option Found) → ((xs : List ℕ) → IsRest n xs)
+rest_found : (n : ℕ) (text : List ℕ) (o : Option FoundWord) → ((xs : List ℕ) → IsRest n xs)
     → with_word (decoded_text n true) true text o ≡ flat_map later_word (cut_found (cut_words n) text o).words ++ (cut_found (cut_words n) text o).last
 rest_found n text None h = refl
 rest_found n text (Some found) h =
@@ -130,7 +130,7 @@ rest_is : (n : ℕ) (text : List ℕ) → IsRest n text
 rest_is zero text = refl
 rest_is (suc n) text = rest_found n text (first_word text) (rest_is n)
 
-whole_found : (n : ℕ) (text : List ℕ) (o : Option Found)
+whole_found : (n : ℕ) (text : List ℕ) (o : Option FoundWord)
     → with_word (decoded_text n true) false text o ≡ joined (cut_found (cut_words n) text o).words (cut_found (cut_words n) text o).last
 whole_found n text None = refl
 whole_found n text (Some found) = ap (λ xs. take found.at text ++ (found.word.text ++ xs)) (rest_is n (drop (found.at + found.word.len) text))

@@ -1,4 +1,4 @@
--- Charsets (RFC 2045, section 2.2; RFC 2046, section 4.1.2): the text that bytes spell under a label.
+-- Charsets (RFC 2045, section 2.2; RFC 2046, section 4.1.2): the text of bytes under a label.
 use Rattle.std.specs.Prelude.{ℕ, Bool, ◌||◌, nat_lt, if◌then◌else◌, List, map, codes}
 use Rattle.std.specs.Char.{to_ascii_lowercase}
 use Rattle.std.specs.Str.{bytes_eq, encode_utf8_all}
@@ -23,13 +23,13 @@ char_in Latin1 b = b
 char_in _ b = if nat_lt b 128 then b else 0xFFFD
 
 -- the text of bytes that stand for a character each
-abbrev pub spelt_in : Charset → List ℕ → List ℕ
-spelt_in charset bytes = encode_utf8_all (map (char_in charset) bytes)
+abbrev pub single_byte_text : Charset → List ℕ → List ℕ
+single_byte_text charset bytes = encode_utf8_all (map (char_in charset) bytes)
 
 -- the text of bytes in a charset; damaged UTF-8 is U+FFFD for each maximal piece
 abbrev pub text_in : Charset → List ℕ → List ℕ
 text_in Utf8 bytes = utf8_lossy bytes
-text_in charset bytes = spelt_in charset bytes
+text_in charset bytes = single_byte_text charset bytes
 
 -- the text of bytes under a label
 abbrev pub text_of : List ℕ → List ℕ → List ℕ

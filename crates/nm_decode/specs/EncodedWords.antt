@@ -8,10 +8,10 @@ use Rattle.base64.specs.GeneralPurpose.{decode_of}
 use Rattle.nm_decode.specs.Bytes.{escape_of, is_byte, is_white}
 use Rattle.nm_decode.specs.Charsets.{text_of}
 use Rattle.nm_decode.specs.QuotedPrintable.{unescaped}
-use Rattle.nm_decode.specs.declared.words.Found.{Found}
-use Rattle.nm_decode.specs.declared.words.Word.{Word}
+use Rattle.nm_decode.specs.declared.words.FoundWord.{FoundWord}
+use Rattle.nm_decode.specs.declared.words.EncodedWord.{EncodedWord}
 
--- each `=` has two hex digits behind it
+-- each `=` has two hex digits after it
 abbrev pub is_q_text : List ℕ → Bool
 is_q_text [] = true
 is_q_text (a ∷ more) = (not (a == 61) || is_some (escape_of more)) && is_q_text more
@@ -28,20 +28,20 @@ q_bytes text = if is_q_text text then Some (unescaped (map spaced text)) else No
 abbrev pub b_bytes : List ℕ → Option (List ℕ)
 b_bytes text = result_ok (decode_of standard text)
 
--- the bytes of a text in the encoding of a letter
+-- the bytes of a text in an encoding: B or Q, in either case
 abbrev pub word_bytes : List ℕ → List ℕ → Option (List ℕ)
-word_bytes (letter ∷ []) text = if letter == 66 || letter == 98 then b_bytes text
-    else (if letter == 81 || letter == 113 then q_bytes text else None)
+word_bytes (encoding ∷ []) text = if encoding == 66 || encoding == 98 then b_bytes text
+    else (if encoding == 81 || encoding == 113 then q_bytes text else None)
 word_bytes _ text = None
 
 -- no white space stands in it
 abbrev pub is_field : List ℕ → Bool
 is_field field = list_all (λ b. not (is_white b)) field
 
--- the text of a word with this charset, letter and encoded text; a language behind `*` counts for nothing
+-- the text of a word with this charset, encoding and encoded text; a language after `*` counts for nothing
 abbrev pub word_text : List ℕ → List ℕ → List ℕ → Option (List ℕ)
-word_text charset letter text = if is_field charset && is_field text
-    then option_map (λ bytes. text_of bytes (before_first (is_byte 42) charset)) (word_bytes letter text)
+word_text charset encoding text = if is_field charset && is_field text
+    then option_map (λ bytes. text_of bytes (before_first (is_byte 42) charset)) (word_bytes encoding text)
     else None
 
 -- `=` alone
@@ -58,56 +58,56 @@ begins_with_equals _ = false
 abbrev pub pieces_of : List ℕ → List (List ℕ)
 pieces_of text = slice_split (is_byte 63) text
 
--- the charset, the letter and the encoded text of the word with which a text begins, by its pieces: `=`, the charset,
--- the letter, the encoded text, and a piece that begins with `=`
+-- the charset, the encoding and the encoded text of the word with which a text begins, by its pieces: `=`, the charset,
+-- the encoding, the encoded text, and a piece that begins with `=`
 abbrev pub fields_of : List (List ℕ) → Option (List ℕ × List ℕ × List ℕ)
-fields_of (first ∷ charset ∷ letter ∷ text ∷ more) =
-    if is_equals first && begins_with_equals more then Some (charset, letter, text) else None
+fields_of (first ∷ charset ∷ encoding ∷ text ∷ more) =
+    if is_equals first && begins_with_equals more then Some (charset, encoding, text) else None
 fields_of _ = None
 
 -- the word of these fields, if it decodes; beside them it has two `=` and four `?`
-abbrev pub word_of_fields : List ℕ × List ℕ × List ℕ → Option Word
+abbrev pub word_of_fields : List ℕ × List ℕ × List ℕ → Option EncodedWord
 word_of_fields f = option_map (λ text. record { len = length f.0 + length f.1 + length f.2 + 6; text = text }) (word_text f.0 f.1 f.2)
 
 -- the encoded word that decodes with which a text begins
-abbrev pub word_of : List ℕ → Option Word
+abbrev pub word_of : List ℕ → Option EncodedWord
 word_of text = option_and_then word_of_fields (fields_of (pieces_of text))
 
 -- a word at the front, or else a later one
-abbrev pub or_later : Option Word → Option Found → Option Found
+abbrev pub or_later : Option EncodedWord → Option FoundWord → Option FoundWord
 or_later (Some word) later = Some (record { at = 0; word = word })
 or_later None later = option_map (λ found. record { at = found.at + 1; word = found.word }) later
 
 -- the first encoded word in a text that decodes
-abbrev pub first_word : List ℕ → Option Found
+abbrev pub first_word : List ℕ → Option FoundWord
 first_word [] = None
 first_word (b ∷ more) = or_later (word_of (b ∷ more)) (first_word more)
 
--- a text cut into encoded words that decode and the stretches between them: each word's text with the stretch before
--- it, in order, and the stretch behind the last word
+-- a text cut into encoded words that decode and the gaps between them: each word's text with the gap before
+-- it, in order, and the gap after the last word
 pub record Cut : Type 0 where
   pub words : List (List ℕ × List ℕ)
   pub last : List ℕ
 
 -- one word more at the front
 abbrev pub and_then_cut : List ℕ → List ℕ → Cut → Cut
-and_then_cut stretch word cut = record { words = (stretch, word) ∷ cut.words; last = cut.last }
+and_then_cut gap word cut = record { words = (gap, word) ∷ cut.words; last = cut.last }
 
 -- the cut at a word that was found, with the cut of what follows it
-abbrev pub cut_found : (List ℕ → Cut) → List ℕ → Option Found → Cut
+abbrev pub cut_found : (List ℕ → Cut) → List ℕ → Option FoundWord → Cut
 cut_found cut_rest text None = record { words = []; last = text }
 cut_found cut_rest text (Some found) = and_then_cut (take found.at text) found.word.text (cut_rest (drop (found.at + found.word.len) text))
 
--- the cut at the first n words that decode, each sought behind the one before it
+-- the cut at the first n words that decode, each sought after the one before it
 abbrev pub cut_words : ℕ → List ℕ → Cut
 cut_words zero text = record { words = []; last = text }
 cut_words (suc n) text = cut_found (cut_words n) text (first_word text)
 
--- a stretch between two words: white space alone goes
+-- a gap between two words: white space alone goes
 abbrev pub between : List ℕ → List ℕ
-between stretch = if list_all is_white stretch then [] else stretch
+between gap = if list_all is_white gap then [] else gap
 
--- a word behind another, with the stretch between them
+-- a word after another, with the gap between them
 abbrev pub later_word : List ℕ × List ℕ → List ℕ
 later_word piece = between piece.0 ++ piece.1
 
@@ -117,5 +117,5 @@ joined [] last = last
 joined (piece ∷ more) last = piece.0 ++ (piece.1 ++ (flat_map later_word more ++ last))
 
 -- the text with its encoded words decoded: it has no more words than bytes
-abbrev pub unworded : List ℕ → List ℕ
-unworded text = let cut = cut_words (length text) text in joined cut.words cut.last
+abbrev pub words_decoded : List ℕ → List ℕ
+words_decoded text = let cut = cut_words (length text) text in joined cut.words cut.last

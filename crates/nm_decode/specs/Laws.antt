@@ -1,9 +1,10 @@
--- What the definitions have to satisfy: encodings read back, and texts without words stay.
-use Rattle.std.specs.Prelude.{◌≡◌, ◌≢◌, ℕ, Bool, true, false, ◌&&◌, ◌||◌, ◌==◌, ◌+◌, ◌/◌, ◌%◌, nat_lt, if◌then◌else◌, List, [], ◌∷◌, ◌++◌, codes}
-use Rattle.std.specs.List.{flat_map}
+-- What the definitions have to satisfy: encodings read back, texts without words stay, and white space between words goes.
+use Rattle.std.specs.Prelude.{◌≡◌, ◌≢◌, ℕ, Bool, true, false, ◌&&◌, ◌||◌, ◌==◌, ◌+◌, ◌/◌, ◌%◌, nat_lt, if◌then◌else◌, List, [], ◌∷◌, ◌++◌, Some, codes}
+use Rattle.std.specs.List.{flat_map, list_any}
 use Rattle.base64.specs.Engines.{standard}
 use Rattle.base64.specs.GeneralPurpose.{encode_of}
-use Rattle.nm_decode.specs.Bytes.{is_white}
+use Rattle.nm_decode.specs.Bytes.{is_byte, is_white}
+use Rattle.nm_decode.specs.EncodedWords.{word_text}
 
 -- a `=?` stands somewhere in the text
 abbrev pub has_mark : List ℕ → Bool
@@ -38,3 +39,18 @@ IsQTest plain = (b : ℕ) → plain b ≡ true → (b ≢ 61) × (is_white b ≡
 -- a text as one encoded word in Q
 abbrev pub q_word : (ℕ → Bool) → List ℕ → List ℕ
 q_word plain text = codes "=?utf-8?Q?" ++ (quoted_line plain text ++ codes "?=")
+
+-- an encoded word of these fields
+abbrev pub word_written : List ℕ → List ℕ → List ℕ → List ℕ
+word_written charset encoding encoded = codes "=?" ++ (charset ++ (codes "?" ++ (encoding ++ (codes "?" ++ (encoded ++ codes "?=")))))
+
+-- one encoded word and nothing else, which decodes to the text; no `?` stands in its fields
+pub record IsWordOf (word text : List ℕ) : Type 0 where
+  pub charset : List ℕ
+  pub encoding : List ℕ
+  pub encoded : List ℕ
+  pub written : word ≡ word_written charset encoding encoded
+  pub charset_free : list_any (is_byte 63) charset ≡ false
+  pub encoding_free : list_any (is_byte 63) encoding ≡ false
+  pub encoded_free : list_any (is_byte 63) encoded ≡ false
+  pub decoded : word_text charset encoding encoded ≡ Some text

@@ -3,29 +3,29 @@ use Rattle.std.specs.Prelude.{◌≡◌, ℕ, zero, suc, ◌+◌, ◌-◌, ◌<�
 use Rattle.std.specs.List.{list_all}
 use Rattle.nm_decode.specs.Bytes.{is_white}
 use Rattle.nm_decode.specs.EncodedWords.{first_word}
-use Rattle.nm_decode.specs.declared.words.Found.{Found}
+use Rattle.nm_decode.specs.declared.words.FoundWord.{FoundWord}
 
--- the text begins with `=?charset?letter?encoded?=`
+-- the text begins with `=?charset?encoding?encoded?=`
 abbrev pub IsFramed : List ℕ → List ℕ → List ℕ → List ℕ → Type 0
-IsFramed text charset letter encoded = (behind : List ℕ)
-    × (text ≡ 61 ∷ 63 ∷ (charset ++ (63 ∷ (letter ++ (63 ∷ (encoded ++ (63 ∷ 61 ∷ behind)))))))
+IsFramed text charset encoding encoded = (after : List ℕ)
+    × (text ≡ 61 ∷ 63 ∷ (charset ++ (63 ∷ (encoding ++ (63 ∷ (encoded ++ (63 ∷ 61 ∷ after)))))))
 
--- a stretch of the text that begins and ends with `=`
-pub record IsStretch (text : List ℕ) (from to : ℕ) : Type 0 where
+-- a span of the text that begins and ends with `=`
+pub record IsSpan (text : List ℕ) (from to : ℕ) : Type 0 where
   pub rises : from < to
   pub within : to ≤ length text
   pub first : slice_index text from ≡ 61
   pub last : slice_index text (to - 1) ≡ 61
 
--- a stretch before a word; `follows`: a word stands before it too
-abbrev pub stretch_text : Bool → List ℕ → List ℕ
-stretch_text follows stretch = if follows && list_all is_white stretch then [] else stretch
+-- a gap before a word; `follows`: a word stands before it too
+abbrev pub gap_text : Bool → List ℕ → List ℕ
+gap_text follows gap = if follows && list_all is_white gap then [] else gap
 
--- a text with the first word found in it; `behind` says what becomes of the text behind that word
-abbrev pub with_word : (List ℕ → List ℕ) → Bool → List ℕ → Option Found → List ℕ
-with_word behind follows text None = text
-with_word behind follows text (Some found) = stretch_text follows (take found.at text)
-    ++ (found.word.text ++ behind (drop (found.at + found.word.len) text))
+-- a text with the first word found in it; `after` says what becomes of the text after that word
+abbrev pub with_word : (List ℕ → List ℕ) → Bool → List ℕ → Option FoundWord → List ℕ
+with_word after follows text None = text
+with_word after follows text (Some found) = gap_text follows (take found.at text)
+    ++ (found.word.text ++ after (drop (found.at + found.word.len) text))
 
 -- a text with its first n words decoded; `follows`: a word stands before it
 abbrev pub decoded_text : ℕ → Bool → List ℕ → List ℕ

@@ -1,6 +1,6 @@
 ghost use Rattle.std.specs.Prelude.{◌≡◌, ◌&&◌, map, take, drop, length, slice_index, nat_lt, IfOk, ◌++◌, string_bytes, ℕ, ◌<◌, ◌≤◌};
 ghost use Rattle.std.specs.Str.{IsAscii};
-ghost use Rattle.nm_decode.specs.Charsets.{charset_of, char_in, is_label, spelt_in, text_in, text_of};
+ghost use Rattle.nm_decode.specs.Charsets.{charset_of, char_in, is_label, single_byte_text, text_in, text_of};
 
 use nm_base::{NoMemory, Text};
 use std::alloc::Global;
@@ -13,35 +13,35 @@ pub enum Charset {
     Utf8,
 }
 
-/// The text that the bytes spell under a charset's label (RFC 2046, section 4.1.2), without ASCII case:
+/// The text of the bytes under a charset's label (RFC 2046, section 4.1.2), without ASCII case:
 /// `utf-8` and `utf8`, `iso-8859-1` and `latin1`. Every other label is ASCII. Damage is U+FFFD.
 pub fn charset_text(alloc: Global, bytes: &[u8], label: &str) -> Result<Text, NoMemory>
     ensures { IfOk result (λ text. text ≡ text_of bytes.now label.now) }
 {
-    read_text(alloc, labelled(label.as_bytes()), bytes)
+    text_in(alloc, charset_of(label.as_bytes()), bytes)
 }
 
 /// The charset of a label: one row a charset.
-pub(crate) fn labelled(label: &[u8]) -> Charset
+pub(crate) fn charset_of(label: &[u8]) -> Charset
     ensures { result ≡ charset_of label.now }
 {
-    if has_label(label, b"utf-8") || has_label(label, b"utf8") {
+    if is_label(label, b"utf-8") || is_label(label, b"utf8") {
         return Charset::Utf8;
     }
-    if has_label(label, b"iso-8859-1") || has_label(label, b"latin1") {
+    if is_label(label, b"iso-8859-1") || is_label(label, b"latin1") {
         return Charset::Latin1;
     }
     Charset::Ascii
 }
 
-fn has_label(label: &[u8], name: &[u8]) -> bool
+fn is_label(label: &[u8], name: &[u8]) -> bool
     ensures { result ≡ is_label label.now name.now }
 {
     label.eq_ignore_ascii_case(name)
 }
 
 /// The character of a byte: one row a charset.
-fn character(charset: Charset, byte: u8) -> char
+fn char_in(charset: Charset, byte: u8) -> char
     ensures { result ≡ char_in charset byte }
 {
     match charset {
@@ -56,28 +56,28 @@ fn character(charset: Charset, byte: u8) -> char
     }
 }
 
-pub(crate) fn read_text(alloc: Global, charset: Charset, bytes: &[u8]) -> Result<Text, NoMemory>
+pub(crate) fn text_in(alloc: Global, charset: Charset, bytes: &[u8]) -> Result<Text, NoMemory>
     ensures { IfOk result (λ text. text ≡ text_in charset bytes.now) }
 {
     match charset {
         Charset::Utf8 => Ok(Text::from_string(String::from_utf8_lossy(alloc, bytes)?)),
-        _ => spell(alloc, charset, bytes),
+        _ => decode_single_byte(alloc, charset, bytes),
     }
 }
 
 /// Runs of ASCII go over in one piece.
-fn spell(alloc: Global, charset: Charset, bytes: &[u8]) -> Result<Text, NoMemory>
-    ensures { IfOk result (λ text. text ≡ spelt_in charset bytes.now) }
+fn decode_single_byte(alloc: Global, charset: Charset, bytes: &[u8]) -> Result<Text, NoMemory>
+    ensures { IfOk result (λ text. text ≡ single_byte_text charset bytes.now) }
 {
     let mut text = String::with_capacity(alloc, bytes.len())?;
     let mut rest = bytes;
     'runs: loop {
-        let (run, behind) = rest.split_at(ascii_len(rest));
+        let (run, after) = rest.split_at(ascii_len(rest));
         text.push_str(as_text(run))?;
-        let Some((byte, more)) = behind.split_first() else {
+        let Some((byte, more)) = after.split_first() else {
             return Ok(Text::from_string(text));
         };
-        text.push(character(charset, *byte))?;
+        text.push(char_in(charset, *byte))?;
         rest = more;
     }
 }

@@ -1,7 +1,7 @@
 ghost use Rattle.std.specs.Prelude.{◌≡◌, map, IfOk};
 ghost use Rattle.nm_decode.specs.EncodedWords.{b_bytes, is_field, is_q_text, q_bytes, spaced, word_bytes, word_text};
 
-use crate::charset::{labelled, read_text};
+use crate::charset::{charset_of, text_in};
 use crate::quoted::{escape, push_unescaped, white};
 use crate::scan::first_place;
 use base64::DecodeAllocError;
@@ -13,19 +13,19 @@ use std::alloc::Global;
 pub(crate) fn word_text(
     alloc: Global,
     charset: &[u8],
-    letter: &[u8],
+    encoding: &[u8],
     encoded: &[u8],
 ) -> Result<Option<Text>, NoMemory>
-    ensures { IfOk result (λ text. text ≡ word_text charset.now letter.now encoded.now) }
+    ensures { IfOk result (λ text. text ≡ word_text charset.now encoding.now encoded.now) }
 {
     if !is_field(charset) || !is_field(encoded) {
         return Ok(None);
     }
-    let Some(bytes) = word_bytes(alloc, letter, encoded)? else {
+    let Some(bytes) = word_bytes(alloc, encoding, encoded)? else {
         return Ok(None);
     };
     let label = &charset[..first_place(charset, b'*')];
-    Ok(Some(read_text(alloc, labelled(label), bytes.as_slice())?))
+    Ok(Some(text_in(alloc, charset_of(label), bytes.as_slice())?))
 }
 
 fn is_field(field: &[u8]) -> bool
@@ -34,10 +34,10 @@ fn is_field(field: &[u8]) -> bool
     field.iter().all(|byte| !white(*byte))
 }
 
-fn word_bytes(alloc: Global, letter: &[u8], encoded: &[u8]) -> Result<Option<Many<u8>>, NoMemory>
-    ensures { IfOk result (λ bytes. bytes ≡ word_bytes letter.now encoded.now) }
+fn word_bytes(alloc: Global, encoding: &[u8], encoded: &[u8]) -> Result<Option<Many<u8>>, NoMemory>
+    ensures { IfOk result (λ bytes. bytes ≡ word_bytes encoding.now encoded.now) }
 {
-    match letter {
+    match encoding {
         [b'B' | b'b'] => b_bytes(alloc, encoded),
         [b'Q' | b'q'] => q_bytes(alloc, encoded),
         _ => Ok(None),
@@ -60,20 +60,20 @@ fn q_bytes(alloc: Global, encoded: &[u8]) -> Result<Option<Many<u8>>, NoMemory>
     if !is_q_text(encoded) {
         return Ok(None);
     }
-    let text = spaces(alloc, encoded)?;
+    let text = spaced_text(alloc, encoded)?;
     let mut out = Vec::with_capacity(alloc, encoded.len())?;
     push_unescaped(&mut out, text.as_slice())?;
     Ok(Some(Many::from_vec(out)))
 }
 
-fn spaces(alloc: Global, encoded: &[u8]) -> Result<Many<u8>, NoMemory>
+fn spaced_text(alloc: Global, encoded: &[u8]) -> Result<Many<u8>, NoMemory>
     ensures { IfOk result (λ text. text ≡ map spaced encoded.now) }
 {
-    let text = encoded.iter().map(|byte| space(*byte)).collect(alloc)?;
+    let text = encoded.iter().map(|byte| spaced(*byte)).collect(alloc)?;
     Ok(Many::from_vec(text))
 }
 
-fn space(byte: u8) -> u8
+fn spaced(byte: u8) -> u8
     ensures { result ≡ spaced byte }
 {
     if byte == b'_' { b' ' } else { byte }
@@ -84,8 +84,8 @@ fn is_q_text(encoded: &[u8]) -> bool
 {
     let mut rest = encoded;
     'marks: loop {
-        let (_, behind) = rest.split_at(first_place(rest, b'='));
-        let Some((_, more)) = behind.split_first() else {
+        let (_, after) = rest.split_at(first_place(rest, b'='));
+        let Some((_, more)) = after.split_first() else {
             return true;
         };
         let Some(_) = escape(more) else {

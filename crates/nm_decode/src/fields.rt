@@ -4,7 +4,7 @@ ghost use Rattle.nm_decode.specs.WordSteps.{IsFramed};
 
 use crate::scan::first_place;
 
-/// The charset, the letter and the encoded text of the word with which a text begins.
+/// The charset, the encoding and the encoded text of the word with which a text begins.
 pub(crate) fn fields(text: &[u8]) -> Option<(&[u8], &[u8], &[u8])>
     ensures value { MatchOption result (fields_of (pieces_of text.now) ≡ None)
         (λ f. fields_of (pieces_of text.now) ≡ Some (f.0.now, f.1.now, f.2.now)) }
@@ -12,12 +12,12 @@ pub(crate) fn fields(text: &[u8]) -> Option<(&[u8], &[u8], &[u8])>
 {
     let rest = opened(text)?;
     let (charset, rest) = piece(rest)?;
-    let (letter, rest) = piece(rest)?;
+    let (encoding, rest) = piece(rest)?;
     let (encoded, rest) = piece(rest)?;
     if !closes(rest) {
         return None;
     }
-    Some((charset, letter, encoded))
+    Some((charset, encoding, encoded))
 }
 
 /// What follows the `=?` at the front. It looks no further: a text without words is passed over in one go.
@@ -52,7 +52,7 @@ fn piece(text: &[u8]) -> Option<(&[u8], &[u8])>
 
 fn closes(text: &[u8]) -> bool
     ensures value { result ≡ begins_with_equals (pieces_of text.now) }
-    ensures form { IsTrue result → (behind : List ℕ) × (text.now ≡ 61 ∷ behind) }
+    ensures form { IsTrue result → (after : List ℕ) × (text.now ≡ 61 ∷ after) }
 {
     match text.split_first() {
         Some((first, _)) => *first == b'=',

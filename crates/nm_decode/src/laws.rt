@@ -1,17 +1,19 @@
 //! Laws of the definitions that the calls are stated by. The bodies are empty: the contract is the law.
 
-ghost use Rattle.std.specs.Prelude.{◌≡◌, ◌++◌, ◌∷◌, ℕ, Bool, false};
+ghost use Rattle.std.specs.Prelude.{◌≡◌, ◌++◌, ◌∷◌, ℕ, Bool, List, false, true};
+ghost use Rattle.std.specs.List.{list_all};
 ghost use Rattle.base64.specs.Engines.{standard};
 ghost use Rattle.base64.specs.GeneralPurpose.{encode_of};
 ghost use Rattle.nm_decode.specs.Base64.{base64_of};
-ghost use Rattle.nm_decode.specs.EncodedWords.{unworded};
-ghost use Rattle.nm_decode.specs.Laws.{IsPlainTest, IsQTest, b_word, has_mark, q_word, quoted_line};
+ghost use Rattle.nm_decode.specs.Bytes.{is_white};
+ghost use Rattle.nm_decode.specs.EncodedWords.{words_decoded};
+ghost use Rattle.nm_decode.specs.Laws.{IsPlainTest, IsQTest, IsWordOf, b_word, has_mark, q_word, quoted_line};
 ghost use Rattle.nm_decode.specs.QuotedPrintable.{quoted_of};
 
 /// A text in which no `=?` stands stays as it is.
 pub fn a_text_without_words_stays(text: &[u8])
     requires { has_mark text.now ≡ false }
-    ensures { unworded text.now ≡ text.now }
+    ensures { words_decoded text.now ≡ text.now }
 {
     let _ = text;
 }
@@ -24,25 +26,33 @@ pub fn base64_reads_back(bytes: &[u8])
 }
 
 /// Bytes in quoted-printable (RFC 2045, section 6.7) read back as the bytes, whichever of them stand for themselves, and
-/// the soft break behind them vanishes.
-pub fn quoted_printable_reads_back(bytes: &[u8], behind: &[u8])
+/// the soft break after them vanishes.
+pub fn quoted_printable_reads_back(bytes: &[u8], after: &[u8])
     ensures { (plain : ℕ → Bool) → IsPlainTest plain
-        → quoted_of (quoted_line plain bytes.now ++ 61 ∷ 10 ∷ behind.now) ≡ bytes.now ++ quoted_of behind.now }
+        → quoted_of (quoted_line plain bytes.now ++ 61 ∷ 10 ∷ after.now) ≡ bytes.now ++ quoted_of after.now }
 {
     let _ = bytes;
-    let _ = behind;
+    let _ = after;
 }
 
 /// Any text as one encoded word in B reads back as the text.
 pub fn a_b_word_reads_back(text: &str)
-    ensures { unworded (b_word text.now) ≡ text.now }
+    ensures { words_decoded (b_word text.now) ≡ text.now }
 {
     let _ = text.as_bytes();
 }
 
 /// Any text as one encoded word in Q reads back as the text, whichever of its bytes stand for themselves.
 pub fn a_q_word_reads_back(text: &str)
-    ensures { (plain : ℕ → Bool) → IsQTest plain → unworded (q_word plain text.now) ≡ text.now }
+    ensures { (plain : ℕ → Bool) → IsQTest plain → words_decoded (q_word plain text.now) ≡ text.now }
 {
     let _ = text.as_bytes();
 }
+
+/// White space between two encoded words goes, and their texts are joined; beside other text it stays.
+pub fn white_space_between_words_goes()
+    ensures between { (first second a b gap after : List ℕ) → IsWordOf first a → IsWordOf second b → list_all is_white gap ≡ true
+        → has_mark after ≡ false → words_decoded (first ++ (gap ++ (second ++ after))) ≡ a ++ (b ++ after) }
+    ensures beside_text { (word text after : List ℕ) → IsWordOf word text → has_mark after ≡ false
+        → words_decoded (word ++ after) ≡ text ++ after }
+{}

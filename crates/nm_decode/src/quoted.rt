@@ -77,9 +77,9 @@ pub(crate) fn push_unescaped(out: &mut Vec<u8>, text: &[u8]) -> Result<(), NoMem
 {
     let mut rest = text;
     'escapes: loop {
-        let (run, behind) = rest.split_at(first_place(rest, b'='));
+        let (run, after) = rest.split_at(first_place(rest, b'='));
         out.extend_from_slice(run)?;
-        let Some((equals, more)) = behind.split_first() else {
+        let Some((equals, more)) = after.split_first() else {
             return Ok(());
         };
         match escape(more) {

@@ -1,8 +1,8 @@
 ghost use Rattle.std.specs.Prelude.{◌≡◌, ◌+◌, ◌++◌, IfOk, IfSome, OnOk, string_bytes};
 ghost use Rattle.std.specs.List.{list_all};
 ghost use Rattle.nm_decode.specs.Bytes.{is_white};
-ghost use Rattle.nm_decode.specs.WordSteps.{IsStretch, stretch_text};
-ghost use Rattle.nm_decode.specs.EncodedWords.{first_word, unworded, word_of};
+ghost use Rattle.nm_decode.specs.WordSteps.{IsSpan, gap_text};
+ghost use Rattle.nm_decode.specs.EncodedWords.{first_word, words_decoded, word_of};
 
 use crate::decodes::word_text;
 use crate::fields::fields;
@@ -12,29 +12,29 @@ use std::alloc::Global;
 
 /// An encoded word that decodes: its length in bytes, and its text.
 #[derive(Debug, Drop)]
-pub struct Word {
+pub struct EncodedWord {
     pub len: usize,
     pub text: Text,
 }
 
 /// The first such word of a text, and the byte at which it begins.
 #[derive(Debug, Drop)]
-pub struct Found {
+pub struct FoundWord {
     pub at: usize,
-    pub word: Word,
+    pub word: EncodedWord,
 }
 
 /// The text with its encoded words decoded (RFC 2047, sections 2 and 6.2), wherever they stand. White space between two
 /// of them goes; a word that doesn't decode stands as written.
 pub fn encoded_words(alloc: Global, text: &str) -> Result<Text, NoMemory>
-    ensures { IfOk result (λ shown. shown ≡ unworded text.now) }
+    ensures { IfOk result (λ shown. shown ≡ words_decoded text.now) }
 {
     let mut out = String::with_capacity(alloc, text.len())?;
     let mut rest = text;
     let mut follows = false;
     'words: while let Some(found) = first_word(alloc, rest.as_bytes())? {
         let end = found.at + found.word.len;
-        push_stretch(&mut out, follows, &rest[..found.at])?;
+        push_gap(&mut out, follows, &rest[..found.at])?;
         out.push_str(found.word.text.as_str())?;
         rest = &rest[end..];
         follows = true;
@@ -43,47 +43,47 @@ pub fn encoded_words(alloc: Global, text: &str) -> Result<Text, NoMemory>
     Ok(Text::from_string(out))
 }
 
-fn push_stretch(out: &mut String, follows: bool, stretch: &str) -> Result<(), NoMemory>
-    ensures { OnOk result (string_bytes out.new ≡ string_bytes out.old ++ stretch_text follows stretch.now) }
+fn push_gap(out: &mut String, follows: bool, gap: &str) -> Result<(), NoMemory>
+    ensures { OnOk result (string_bytes out.new ≡ string_bytes out.old ++ gap_text follows gap.now) }
 {
-    if follows && is_blank(stretch.as_bytes()) {
+    if follows && is_blank(gap.as_bytes()) {
         return Ok(());
     }
-    out.push_str(stretch)?;
+    out.push_str(gap)?;
     Ok(())
 }
 
-fn is_blank(stretch: &[u8]) -> bool
-    ensures { result ≡ list_all is_white stretch.now }
+fn is_blank(gap: &[u8]) -> bool
+    ensures { result ≡ list_all is_white gap.now }
 {
-    stretch.iter().all(|byte| white(*byte))
+    gap.iter().all(|byte| white(*byte))
 }
 
-fn first_word(alloc: Global, text: &[u8]) -> Result<Option<Found>, NoMemory>
+fn first_word(alloc: Global, text: &[u8]) -> Result<Option<FoundWord>, NoMemory>
     ensures value { IfOk result (λ found. found ≡ first_word text.now) }
-    ensures place { IfOk result (λ found. IfSome found (λ f. IsStretch text.now f.at (f.at + f.word.len))) }
+    ensures place { IfOk result (λ found. IfSome found (λ f. IsSpan text.now f.at (f.at + f.word.len))) }
 {
     let mut at = 0;
     'places: while at < text.len() {
         let (_, rest) = text.split_at(at);
         if let Some(word) = word_at(alloc, rest)? {
-            return Ok(Some(Found { at, word }));
+            return Ok(Some(FoundWord { at, word }));
         }
         at += 1;
     }
     Ok(None)
 }
 
-fn word_at(alloc: Global, text: &[u8]) -> Result<Option<Word>, NoMemory>
+fn word_at(alloc: Global, text: &[u8]) -> Result<Option<EncodedWord>, NoMemory>
     ensures value { IfOk result (λ word. word ≡ word_of text.now) }
-    ensures place { IfOk result (λ word. IfSome word (λ w. IsStretch text.now 0 w.len)) }
+    ensures place { IfOk result (λ word. IfSome word (λ w. IsSpan text.now 0 w.len)) }
 {
-    let Some((charset, letter, encoded)) = fields(text) else {
+    let Some((charset, encoding, encoded)) = fields(text) else {
         return Ok(None);
     };
-    let len = charset.len() + letter.len() + encoded.len() + 6;
-    let Some(shown) = word_text(alloc, charset, letter, encoded)? else {
+    let len = charset.len() + encoding.len() + encoded.len() + 6;
+    let Some(shown) = word_text(alloc, charset, encoding, encoded)? else {
         return Ok(None);
     };
-    Ok(Some(Word { len, text: shown }))
+    Ok(Some(EncodedWord { len, text: shown }))
 }

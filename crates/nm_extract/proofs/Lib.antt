@@ -1,4 +1,5 @@
 mod DigestLemmas
+mod HtmlLaws
+mod HtmlLemmas
+mod LinkLaws
 mod LinkLemmas
-mod TagLemmas
-mod LawLemmas

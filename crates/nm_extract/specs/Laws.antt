@@ -1,8 +1,12 @@
--- What follows from the definitions: links are other mails, each once, and no tag is read.
-use Rattle.std.specs.Prelude.{◌≡◌, ℕ, false, List, [], ◌∷◌}
+-- What follows from the definitions: which links there are and in which order, and what is read of HTML.
+use Rattle.std.specs.Prelude.{◌≡◌, ℕ, false, List, [], ◌∷◌, ◌++◌}
 use Rattle.nm_base.specs.Order.{has_text}
 
 -- no text stands twice
-abbrev pub StandOnce : List (List ℕ) → Type 0
-StandOnce [] = Unit {0}
-StandOnce (text ∷ texts) = (has_text texts text ≡ false) × StandOnce texts
+abbrev pub AreDistinct : List (List ℕ) → Type 0
+AreDistinct [] = Unit {0}
+AreDistinct (text ∷ texts) = (has_text texts text ≡ false) × AreDistinct texts
+
+-- the texts begin with these
+abbrev pub BeginsWith : List (List ℕ) → List (List ℕ) → Type 0
+BeginsWith texts front = (rest : List (List ℕ)) × (texts ≡ front ++ rest)

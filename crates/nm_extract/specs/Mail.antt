@@ -1,10 +1,10 @@
 -- The facts of a mail, from its header and its parts.
 use Rattle.std.specs.Prelude.{◌≡◌, ℕ, Bool, ◌||◌, List, map, Option, Some, None, ⊤, codes, if◌then◌else◌}
 use Rattle.nm_base.specs.declared.facts.Facts.{Facts}
-use Rattle.nm_decode.specs.EncodedWords.{unworded}
+use Rattle.nm_decode.specs.EncodedWords.{words_decoded}
 use Rattle.nm_extract.specs.Date.{date_of}
 use Rattle.nm_extract.specs.Ids.{links_among, named_ids, own_id}
-use Rattle.nm_extract.specs.Lists.{lists_of, marks_of}
+use Rattle.nm_extract.specs.WordLists.{word_lists, marks_of}
 use Rattle.nm_extract.specs.Mailboxes.{from_of, to_of}
 use Rattle.nm_extract.specs.declared.mail.ExtractError.{ExtractError}
 use Rattle.nm_extract.specs.declared.mail.ExtractError.TheVariants.{NotMail, NoMemory}
@@ -19,7 +19,7 @@ abbrev pub is_mail : List HeaderField → Bool
 is_mail fields = has_field fields (codes "from") || (has_field fields (codes "to") || has_field fields (codes "subject"))
 
 abbrev pub subject_of : List HeaderField → List ℕ
-subject_of fields = unworded (field_text fields (codes "subject"))
+subject_of fields = words_decoded (field_text fields (codes "subject"))
 
 -- the facts of a mail with these fields and these parts
 abbrev pub facts_from : List ℕ → List HeaderField → List Part → Facts
@@ -30,7 +30,7 @@ facts_from mail fields parts = record {
   from = from_of fields;
   to = to_of fields;
   subject = subject_of fields;
-  lists = lists_of (from_of fields) (to_of fields) (subject_of fields) mail parts;
+  lists = word_lists (from_of fields) (to_of fields) (subject_of fields) mail parts;
   types = map (λ part. part.kind) parts;
   marks = marks_of parts;
 }

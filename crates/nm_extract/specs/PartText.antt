@@ -1,9 +1,10 @@
 -- The text of a readable part: its content decoded, and of HTML what stands outside the tags.
-use Rattle.std.specs.Prelude.{ℕ, Bool, true, false, ◌==◌, List, [], ◌∷◌, map, filter, codes, if◌then◌else◌}
+use Rattle.std.specs.Prelude.{ℕ, Bool, true, false, List, map, filter, codes, if◌then◌else◌}
 use Rattle.std.specs.Str.{bytes_eq}
 use Rattle.nm_decode.specs.Base64.{base64_of}
 use Rattle.nm_decode.specs.Charsets.{text_of}
 use Rattle.nm_decode.specs.QuotedPrintable.{quoted_of}
+use Rattle.nm_extract.specs.Html.{strip_html_tags}
 use Rattle.nm_mime.specs.Parts.{bytes_in, parts_of}
 use Rattle.nm_mime.specs.declared.entity.Part.{Part}
 use Rattle.nm_mime.specs.declared.roles.Encoding.{Encoding}
@@ -31,22 +32,9 @@ part_text mail part = text_of (decoded part.encoding (bytes_in mail part.from pa
 abbrev pub bodies_of : List ℕ → List (List ℕ)
 bodies_of mail = map (part_text mail) (filter (λ part. is_readable part.role) (parts_of mail))
 
--- A tag goes from its `<` to the next `>`, or to the end, and is one space. `inside`: the text begins in a tag.
-abbrev pub tagless : Bool → List ℕ → List ℕ
-tagless inside [] = []
-tagless true (b ∷ more) = if b == 62 then tagless false more else tagless true more
-tagless false (b ∷ more) = if b == 60 then 32 ∷ tagless true more else b ∷ tagless false more
-
 abbrev pub is_html : List ℕ → Bool
 is_html kind = bytes_eq kind (codes "text/html")
 
--- what is read of a text of this type
-abbrev pub read_text : List ℕ → List ℕ → List ℕ
-read_text kind text = if is_html kind then tagless false text else text
-
--- `<` and `>`
-abbrev pub is_less : ℕ → Bool
-is_less b = b == 60
-
-abbrev pub is_greater : ℕ → Bool
-is_greater b = b == 62
+-- what is read of a text of this type: of HTML what stands outside the tags
+abbrev pub visible_text : List ℕ → List ℕ → List ℕ
+visible_text kind text = if is_html kind then strip_html_tags text else text

@@ -8,8 +8,8 @@ ghost use Rattle.nm_mime.specs.Parts.{IsInside};
 use crate::body_text::part_texts;
 use crate::dates::date;
 use crate::ids::{links, own_id};
-use crate::lists::{lists, marks, types};
 use crate::mailboxes::{field_mailboxes, recipients};
+use crate::word_lists::{marks, types, word_lists};
 use nm_base::{Facts, Many, NoMemory, Text};
 use nm_decode::encoded_words;
 use nm_header::{HeaderList, fields};
@@ -89,7 +89,7 @@ fn facts_from(
     let from = field_mailboxes(alloc, header, "from")?;
     let to = recipients(alloc, header)?;
     let subject = subject(alloc, header)?;
-    let lists = lists(
+    let lists = word_lists(
         alloc,
         from.as_slice(),
         to.as_slice(),

@@ -1,6 +1,6 @@
 ghost use Rattle.std.specs.Prelude.{◌≡◌, ◌++◌, ◌∷◌, [], IfOk, OnOk};
 ghost use Rattle.std.specs.List.{flat_map};
-ghost use Rattle.nm_extract.specs.Mailboxes.{field_mailboxes, mailbox_words, shown_mailbox, shown_mailboxes, to_of};
+ghost use Rattle.nm_extract.specs.Mailboxes.{field_mailboxes, mailbox_words, decoded_mailbox, decoded_mailboxes, to_of};
 
 use nm_base::{Copies, Mailbox, Many, NoMemory, Word};
 use nm_decode::encoded_words;
@@ -14,51 +14,51 @@ pub(crate) fn field_mailboxes(
     header: &HeaderList,
     name: &str,
 ) -> Result<Many<Mailbox>, NoMemory>
-    ensures { IfOk result (λ people. people ≡ field_mailboxes header.now.list name.now) }
+    ensures { IfOk result (λ found. found ≡ field_mailboxes header.now.list name.now) }
 {
-    let mut people = Many::new(alloc);
-    add_field(alloc, header, name, &mut people)?;
-    Ok(people)
+    let mut found = Many::new(alloc);
+    add_field(alloc, header, name, &mut found)?;
+    Ok(found)
 }
 
 /// Those of To, Cc and Bcc.
 pub(crate) fn recipients(alloc: Global, header: &HeaderList) -> Result<Many<Mailbox>, NoMemory>
-    ensures { IfOk result (λ people. people ≡ to_of header.now.list) }
+    ensures { IfOk result (λ found. found ≡ to_of header.now.list) }
 {
-    let mut people = Many::new(alloc);
-    add_field(alloc, header, "to", &mut people)?;
-    add_field(alloc, header, "cc", &mut people)?;
-    add_field(alloc, header, "bcc", &mut people)?;
-    Ok(people)
+    let mut found = Many::new(alloc);
+    add_field(alloc, header, "to", &mut found)?;
+    add_field(alloc, header, "cc", &mut found)?;
+    add_field(alloc, header, "bcc", &mut found)?;
+    Ok(found)
 }
 
 fn add_field(
     alloc: Global,
     header: &HeaderList,
     name: &str,
-    people: &mut Many<Mailbox>,
+    found: &mut Many<Mailbox>,
 ) -> Result<(), NoMemory>
-    ensures { OnOk result (people.new ≡ people.old ++ field_mailboxes header.now.list name.now) }
+    ensures { OnOk result (found.new ≡ found.old ++ field_mailboxes header.now.list name.now) }
 {
     let texts = header.texts(alloc, name)?;
     'texts: for text in texts.as_slice() {
-        add_shown(alloc, text.as_str(), people)?;
+        add_decoded(alloc, text.as_str(), found)?;
     }
     Ok(())
 }
 
-fn add_shown(alloc: Global, text: &str, people: &mut Many<Mailbox>) -> Result<(), NoMemory>
-    ensures { OnOk result (people.new ≡ people.old ++ shown_mailboxes text.now) }
+fn add_decoded(alloc: Global, text: &str, found: &mut Many<Mailbox>) -> Result<(), NoMemory>
+    ensures { OnOk result (found.new ≡ found.old ++ decoded_mailboxes text.now) }
 {
-    let found = mailboxes(alloc, text)?;
-    'mailboxes: for mailbox in found.as_slice() {
-        people.push(shown_mailbox(alloc, mailbox)?)?;
+    let written = mailboxes(alloc, text)?;
+    'mailboxes: for mailbox in written.as_slice() {
+        found.push(decoded_mailbox(alloc, mailbox)?)?;
     }
     Ok(())
 }
 
-fn shown_mailbox(alloc: Global, mailbox: &Mailbox) -> Result<Mailbox, NoMemory>
-    ensures { IfOk result (λ shown. shown ≡ shown_mailbox mailbox.now) }
+fn decoded_mailbox(alloc: Global, mailbox: &Mailbox) -> Result<Mailbox, NoMemory>
+    ensures { IfOk result (λ shown. shown ≡ decoded_mailbox mailbox.now) }
 {
     Ok(Mailbox {
         name: encoded_words(alloc, mailbox.name.as_str())?,
@@ -67,11 +67,14 @@ fn shown_mailbox(alloc: Global, mailbox: &Mailbox) -> Result<Mailbox, NoMemory>
 }
 
 /// The words of the names and addresses, in their order.
-pub(crate) fn people_words(alloc: Global, people: &[Mailbox]) -> Result<Many<Word>, NoMemory>
-    ensures { IfOk result (λ found. found ≡ flat_map mailbox_words people.now) }
+pub(crate) fn words_of_mailboxes(
+    alloc: Global,
+    mailboxes: &[Mailbox],
+) -> Result<Many<Word>, NoMemory>
+    ensures { IfOk result (λ found. found ≡ flat_map mailbox_words mailboxes.now) }
 {
     let mut found = Vec::new(alloc);
-    'people: for mailbox in people {
+    'mailboxes: for mailbox in mailboxes {
         add_words(alloc, mailbox, &mut found)?;
     }
     Ok(Many::from_vec(found))

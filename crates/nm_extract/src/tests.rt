@@ -3,7 +3,7 @@ use nm_base::{Facts, Field, Mailbox, Marks};
 use std::alloc::{AllocError, Global};
 use std::test::Fail;
 
-mod box_of_mails;
+mod corpus;
 
 #[test]
 fn facts_of_a_file(rt: HostRuntime) -> Result<(), Fail> {
@@ -212,7 +212,7 @@ fn dates_of_a_mail(rt: HostRuntime) -> Result<(), Fail> {
 }
 
 #[test]
-fn people_of_a_mail(rt: HostRuntime) -> Result<(), Fail> {
+fn mailboxes_of_a_mail(rt: HostRuntime) -> Result<(), Fail> {
     let alloc = rt.alloc();
     let cases: [(&str, &str); 7] = [
         (
@@ -243,7 +243,7 @@ fn people_of_a_mail(rt: HostRuntime) -> Result<(), Fail> {
     ];
     for (fields, wanted) in cases {
         let facts = extract(alloc, fields.as_bytes())?;
-        let shown = shown_people(alloc, &facts)?;
+        let shown = shown_mailboxes(alloc, &facts)?;
         assert_eq!(rt; shown.as_str(), wanted, "of {fields}");
     }
     Ok(())
@@ -285,7 +285,7 @@ fn shown_facts(alloc: Global, facts: &Facts) -> Result<String, AllocError> {
     let mut shown = format!(in alloc; "{} {}\n", facts.id.text().as_str(), facts.date)?;
     shown.push_str(shown_links(alloc, facts)?.as_str())?;
     shown.push('\n')?;
-    shown.push_str(shown_people(alloc, facts)?.as_str())?;
+    shown.push_str(shown_mailboxes(alloc, facts)?.as_str())?;
     shown.push('\n')?;
     shown.push_str(shown_parts(alloc, facts)?.as_str())?;
     Ok(shown)
@@ -300,18 +300,18 @@ fn shown_links(alloc: Global, facts: &Facts) -> Result<String, AllocError> {
     Ok(shown)
 }
 
-fn shown_people(alloc: Global, facts: &Facts) -> Result<String, AllocError> {
+fn shown_mailboxes(alloc: Global, facts: &Facts) -> Result<String, AllocError> {
     let mut shown = String::from_str(alloc, "from")?;
-    push_people(&mut shown, facts.from.as_slice())?;
+    push_mailboxes(&mut shown, facts.from.as_slice())?;
     shown.push_str("\nto")?;
-    push_people(&mut shown, facts.to.as_slice())?;
+    push_mailboxes(&mut shown, facts.to.as_slice())?;
     shown.push_str("\nsubject ")?;
     shown.push_str(facts.subject.as_str())?;
     Ok(shown)
 }
 
-fn push_people(shown: &mut String, people: &[Mailbox]) -> Result<(), AllocError> {
-    for mailbox in people {
+fn push_mailboxes(shown: &mut String, mailboxes: &[Mailbox]) -> Result<(), AllocError> {
+    for mailbox in mailboxes {
         shown.push_str(" [")?;
         shown.push_str(mailbox.name.as_str())?;
         shown.push('|')?;

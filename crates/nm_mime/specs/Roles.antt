@@ -5,7 +5,7 @@ use Rattle.std.specs.Option.{option_map}
 use Rattle.std.specs.Str.{bytes_eq}
 use Rattle.nm_base.specs.Bounds.{fits_length}
 use Rattle.nm_decode.specs.Charsets.{is_label}
-use Rattle.nm_decode.specs.EncodedWords.{unworded}
+use Rattle.nm_decode.specs.EncodedWords.{words_decoded}
 use Rattle.nm_header.specs.Space.{trimmed}
 use Rattle.nm_mime.specs.declared.param_list.Param.{Param}
 use Rattle.nm_mime.specs.declared.roles.Encoding.{Encoding}
@@ -42,7 +42,7 @@ first_of (Some text) second = Some text
 abbrev pub filename_of : List ℕ → List Param → Option (List ℕ)
 filename_of disposition params =
     if is_attachment disposition
-    then option_map unworded (first_of (param_of (params_of disposition) (codes "filename")) (param_of params (codes "name")))
+    then option_map words_decoded (first_of (param_of (params_of disposition) (codes "filename")) (param_of params (codes "name")))
     else None
 
 -- the part of a type before its `/`

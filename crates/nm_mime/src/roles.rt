@@ -3,7 +3,7 @@ ghost use Rattle.std.specs.List.{before_first};
 ghost use Rattle.std.specs.Option.{option_map};
 ghost use Rattle.nm_base.specs.Bounds.{fits_length};
 ghost use Rattle.nm_decode.specs.Charsets.{is_label};
-ghost use Rattle.nm_decode.specs.EncodedWords.{unworded};
+ghost use Rattle.nm_decode.specs.EncodedWords.{words_decoded};
 ghost use Rattle.nm_mime.specs.Roles.{encoding_of, ends_token, filename_of, is_attachment, is_message, is_multipart, is_plain, is_special, is_too_deep, role_of};
 
 use crate::param_list::{Param, param_text, params};
@@ -106,17 +106,17 @@ pub(crate) fn filename(
     }
     let own = params(alloc, disposition.as_bytes())?;
     match param_text(alloc, own.as_slice(), "filename")? {
-        Some(name) => unworded(alloc, Some(name)),
+        Some(name) => words_decoded(alloc, Some(name)),
         None => {
             let name = param_text(alloc, of_type, "name")?;
-            unworded(alloc, name)
+            words_decoded(alloc, name)
         }
     }
 }
 
 /// The name with its encoded words decoded.
-fn unworded(alloc: Global, name: Option<Text>) -> Result<Option<Text>, NoMemory>
-    ensures { IfOk result (λ shown. shown ≡ option_map unworded name) }
+fn words_decoded(alloc: Global, name: Option<Text>) -> Result<Option<Text>, NoMemory>
+    ensures { IfOk result (λ shown. shown ≡ option_map words_decoded name) }
 {
     match name {
         None => Ok(None),
