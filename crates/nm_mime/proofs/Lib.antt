@@ -3,6 +3,7 @@ pub mod ChildLemmas
 pub mod LawLemmas
 pub mod ParamLemmas
 pub mod PartLemmas
+pub mod PartReaderLemmas
 pub mod RoundLemmas
 pub mod TreeLemmas
 pub mod TypeLemmas

@@ -6,6 +6,7 @@ use Rattle.std.proofs.lemmas.List.Concat.{flat_map-append}
 use Rattle.nm_header.specs.Lines.{content, lines_of}
 use Rattle.nm_header.specs.Texts.{field_text}
 use Rattle.nm_mime.specs.Children.{ends_part, is_line_of, marks_of, part_at, part_behind, part_size, stops, stretches_in, stretches_of}
+use Rattle.nm_mime.specs.PartReader.{AllWithin, parts_left}
 use Rattle.nm_mime.specs.Parts.{IsInside, IsWithin, bytes_in, children_of, boundary_of, entities_from, entity_in, inside, is_opened, opening_in, opening_of, parts_of, parts_upto, whole_of}
 use Rattle.nm_mime.specs.Roles.{encoding_of, is_attachment, is_kind_of, is_message, is_multipart, is_plain, role_of}
 use Rattle.nm_mime.specs.Types.{type_of}
@@ -54,10 +55,6 @@ unfolding children_of
 children_closed mail opening left o = ap (λ v. cond v (entities_from opening.part 0 (inside mail opening)) [] ++ reverse left) (sym o)
 
 -- ---- what is left stands inside the mail
-abbrev pub AllWithin : ℕ → List Entity → Type 0
-AllWithin size [] = Unit {0}
-AllWithin size (entity ∷ more) = IsWithin size entity × AllWithin size more
-
 within-append : (size : ℕ) (xs ys : List Entity) → AllWithin size xs → AllWithin size ys → AllWithin size (xs ++ ys)
 within-append size [] ys a b = b
 within-append size (x ∷ xs) ys a b = (a.0, within-append size xs ys a.1 b)
@@ -164,9 +161,6 @@ children_within mail entity w =
     ] refl
 
 -- ---- the parts that are left
-unfoldable pub parts_left : List ℕ → List Entity → List Part
-parts_left mail entities = flat_map (λ entity. parts_upto (33 - entity.depth) mail entity) entities
-
 same_level : (mail : List ℕ) (part : Part) (n d : ℕ) (stretches : List Stretch) → part.depth ≡ d → flat_map (parts_upto (32 - d) mail) (entities_from part n stretches) ≡ flat_map (λ entity. parts_upto (33 - entity.depth) mail entity) (entities_from part n stretches)
 same_level mail part n d [] e = refl
 same_level mail part n d (s ∷ stretches) e =
@@ -204,7 +198,7 @@ on_top : (left rest : List Entity) (entity : Entity) → left ≡ rest ++ entity
 on_top left rest entity e = ap reverse e ∙ reverse-append rest (entity ∷ [])
 
 -- all that is left before a turn is its part and all that is left behind it
-turn_all : (mail : List ℕ) (entity : Entity) (left rest after : List Entity) → AllWithin (length mail) (reverse left) → left ≡ rest ++ entity ∷ [] → reverse after ≡ children_of mail (opening_of mail entity) ++ reverse rest → parts_left mail (reverse left) ≡ (opening_of mail entity).part ∷ parts_left mail (reverse after)
+pub turn_all : (mail : List ℕ) (entity : Entity) (left rest after : List Entity) → AllWithin (length mail) (reverse left) → left ≡ rest ++ entity ∷ [] → reverse after ≡ children_of mail (opening_of mail entity) ++ reverse rest → parts_left mail (reverse left) ≡ (opening_of mail entity).part ∷ parts_left mail (reverse after)
 turn_all mail entity left rest after w l a =
     let top : reverse left ≡ entity ∷ reverse rest = on_top left rest entity l in
     let inside : IsWithin (length mail) entity = (subst (AllWithin (length mail)) top w).0 in

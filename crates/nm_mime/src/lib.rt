@@ -6,6 +6,7 @@ mod children;
 mod entity;
 mod laws;
 mod param_list;
+mod part_reader;
 mod quoted;
 mod reading;
 mod roles;
@@ -20,6 +21,7 @@ pub use laws::{
     parts_stand_between_delimiters, written_parts_are_read,
 };
 pub use param_list::Param;
+pub use part_reader::PartReader;
 pub use roles::{Encoding, Role};
 pub use tree::parts;
 pub use types::{ContentType, content_type};

@@ -20,7 +20,11 @@ pub(crate) fn read_opening(alloc: Global, bytes: &[u8], entity: Entity) -> Resul
     Ok(opening)
 }
 
-fn read_fields(alloc: Global, entity: Entity, header: &HeaderList) -> Result<Opening, NoMemory>
+pub(crate) fn read_fields(
+    alloc: Global,
+    entity: Entity,
+    header: &HeaderList,
+) -> Result<Opening, NoMemory>
     requires { entity.from + header.now.rest ≤ entity.to }
     ensures { IfOk result (λ opening. opening ≡ opening_in entity header.now) }
 {

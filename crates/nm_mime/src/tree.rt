@@ -26,7 +26,7 @@ pub fn parts(alloc: Global, bytes: &[u8]) -> Result<Many<Part>, NoMemory>
     Ok(found)
 }
 
-fn whole(bytes: &[u8]) -> Entity
+pub(crate) fn whole(bytes: &[u8]) -> Entity
     ensures { result ≡ whole_of bytes.now }
 {
     Entity {
@@ -40,7 +40,7 @@ fn whole(bytes: &[u8]) -> Entity
 
 /// Reads the part of an entity, and puts the entities in it on top of those that are left, the last one
 /// lowest.
-fn open_part(
+pub(crate) fn open_part(
     alloc: Global,
     bytes: &[u8],
     entity: Entity,
@@ -56,7 +56,7 @@ fn open_part(
     Ok(part)
 }
 
-fn push_children(
+pub(crate) fn push_children(
     alloc: Global,
     bytes: &[u8],
     opening: &Opening,

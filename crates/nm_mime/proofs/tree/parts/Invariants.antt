@@ -1,6 +1,6 @@
 use Rattle.std.proofs.Common.{◌≡◌, ◌++◌, length, reverse}
 use Rattle.nm_mime.specs.Parts.{parts_of}
-use Rattle.nm_mime.proofs.TreeLemmas.{AllWithin, parts_left}
+use Rattle.nm_mime.specs.PartReader.{AllWithin, parts_left}
 use Rattle.nm_mime.proofs.tree.parts.Given as goal
 
 -- so far, and what is left, is all

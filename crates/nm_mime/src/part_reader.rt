@@ -1,0 +1,78 @@
+ghost use Rattle.std.specs.Prelude.{◌≡◌, ◌∷◌, ◌++◌, [], IfOk, IfSome, MatchOption, OnOk, length, reverse};
+ghost use Rattle.nm_header.specs.Fields.{header_of};
+ghost use Rattle.nm_mime.specs.PartReader.{StandInside, mail_of, parts_to_come};
+ghost use Rattle.nm_mime.specs.Parts.{IsInside, children_of, opening_of, parts_of, whole_of};
+
+use crate::entity::{Entity, Opening, Part};
+use crate::reading::read_fields;
+use crate::tree::{open_part, push_children, whole};
+use nm_base::{Many, NoMemory};
+use nm_header::HeaderList;
+use std::alloc::Global;
+
+/// Reads the parts of a mail one by one, each before those in it. After want of memory it tells nothing.
+#[derive(Debug, Drop)]
+pub struct PartReader<'a> {
+    mail: &'a [u8],
+    /// The last one is read next.
+    rest: Many<Entity>,
+}
+
+impl<'a> PartReader<'a> {
+    /// The mail itself as a part, by its header, and the reader of the parts in it.
+    pub fn open(
+        alloc: Global,
+        mail: &'a [u8],
+        header: &HeaderList,
+    ) -> Result<(Part, PartReader<'a>), NoMemory>
+        requires { header.now ≡ header_of mail.now }
+        ensures parts { IfOk result (λ opened. parts_of mail.now ≡ opened.0 ∷ parts_to_come opened.1) }
+        ensures inside { IfOk result (λ opened. IsInside (length mail.now) opened.0) }
+        ensures mail { IfOk result (λ opened. mail_of opened.1 ≡ mail.now) }
+        ensures stand { IfOk result (λ opened. StandInside opened.1) }
+    {
+        let mut rest = Many::new(alloc);
+        let part = open_whole(alloc, mail, header, &mut rest)?;
+        Ok((part, PartReader { mail, rest }))
+    }
+
+    /// The next part, or none at the end.
+    pub fn next(&mut self, alloc: Global) -> Result<Option<Part>, NoMemory>
+        requires { StandInside self.old }
+        ensures next { IfOk result (λ next. MatchOption next (parts_to_come self.old ≡ []) (λ part. parts_to_come self.old ≡ part ∷ parts_to_come self.new)) }
+        ensures inside { IfOk result (λ next. IfSome next (IsInside (length (mail_of self.old)))) }
+        ensures mail { mail_of self.new ≡ mail_of self.old }
+        ensures stand { OnOk result (StandInside self.new) }
+    {
+        let Some(entity) = self.rest.pop() else {
+            return Ok(None);
+        };
+        let part = open_part(alloc, self.mail, entity, &mut self.rest)?;
+        Ok(Some(part))
+    }
+}
+
+/// The mail itself as a part; the entities in it go on top of those that are left, the last one lowest.
+fn open_whole(
+    alloc: Global,
+    mail: &[u8],
+    header: &HeaderList,
+    rest: &mut Many<Entity>,
+) -> Result<Part, NoMemory>
+    requires { header.now ≡ header_of mail.now }
+    ensures part { IfOk result (λ part. part ≡ (opening_of mail.now (whole_of mail.now)).part) }
+    ensures rest { OnOk result (reverse rest.new ≡ children_of mail.now (opening_of mail.now (whole_of mail.now)) ++ reverse rest.old) }
+{
+    let opening = read_whole(alloc, mail, header)?;
+    push_children(alloc, mail, &opening, rest)?;
+    let Opening { part, boundary: _ } = opening;
+    Ok(part)
+}
+
+fn read_whole(alloc: Global, mail: &[u8], header: &HeaderList) -> Result<Opening, NoMemory>
+    requires { header.now ≡ header_of mail.now }
+    ensures { IfOk result (λ opening. opening ≡ opening_of mail.now (whole_of mail.now)) }
+{
+    let opening = read_fields(alloc, whole(mail), header)?;
+    Ok(opening)
+}
