@@ -1,3 +1,3 @@
 pub mod Memory
-pub mod Sink
+pub mod Observed
 pub mod Taking

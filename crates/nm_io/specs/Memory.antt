@@ -1,31 +1,25 @@
--- Sources and sinks in memory, which fail at listed calls. Calls are counted from 1.
-use Rattle.std.specs.Prelude.{ℕ, ◌+◌, Bool, ◌==◌, min, List}
-use Rattle.std.specs.List.{list_any}
+-- Sources and sinks in memory, which fail at listed calls.
+use Rattle.std.specs.Prelude.{ℕ, ◌+◌, min, List, Some}
+use Rattle.nm_faults.specs.Calls.{CallCounts}
+use Rattle.nm_io.specs.Observed.{ObservedStream}
 
--- a source: the bytes left, the calls made, those that are to fail, and how many failed
-pub record Supply : Type 0 where
-  pub left : List ℕ
-  pub calls : ℕ
-  pub failing : List ℕ
-  pub faults : ℕ
+-- a source: the bytes left, and its calls
+pub record SourceState : Type 0 where
+  pub bytes : List ℕ
+  pub calls : CallCounts
 
--- a sink: the bytes taken, the calls made, those that are to fail, how many of these were met,
--- and how many calls failed because there was no memory
-pub record Store : Type 0 where
-  pub taken : List ℕ
-  pub calls : ℕ
-  pub failing : List ℕ
-  pub met : ℕ
+-- a sink: the bytes taken, its calls, and how many of them failed because there was no memory
+pub record SinkState : Type 0 where
+  pub bytes : List ℕ
+  pub calls : CallCounts
   pub wanted : ℕ
 
--- one more, in a count that stops at its type's end
-abbrev pub one_more : ℕ → ℕ
-one_more n = min (n + 1) 18446744073709551615
-
--- the call with this number is to fail
-abbrev pub is_listed : List ℕ → ℕ → Bool
-is_listed failing call = list_any (λ n. n == call) failing
+abbrev pub observed_source : SourceState → ObservedStream
+observed_source source = record { bytes = Some source.bytes; faults = source.calls.faults }
 
 -- the faults of a sink: the listed calls that it met, and those that found no memory
-abbrev pub store_faults : Store → ℕ
-store_faults store = min (store.met + store.wanted) 18446744073709551615
+abbrev pub observed_sink : SinkState → ObservedStream
+observed_sink sink = record {
+  bytes = Some sink.bytes;
+  faults = min (sink.calls.faults + sink.wanted) 18446744073709551615;
+}

@@ -1,14 +1,13 @@
--- Reading a source to its end: what an answer says of its faults and of the bytes that it gave.
-use Rattle.std.specs.Prelude.{◌≡◌, ℕ, Result, MatchResult}
-use Rattle.nm_base.specs.Faults.{Rose}
+-- Reading a source to its end: which of its errors is a fault of the source.
+use Rattle.std.specs.Prelude.{ℕ, Bool, true, false, Result}
+use Rattle.nm_faults.specs.Faults.{HasCauseOf}
 use Rattle.nm_io.specs.declared.taking.TakeError.{TakeError}
 use Rattle.nm_io.specs.declared.taking.TakeError.TheVariants.{ReadFault, TooLong, NoMemory}
 
--- the count rose where the source failed, and else it stands
-abbrev pub CountedBy : TakeError → ℕ → ℕ → Type 0
-CountedBy ReadFault before now = Rose before now
-CountedBy TooLong before now = now ≡ before
-CountedBy NoMemory before now = now ≡ before
+abbrev pub is_read_fault : TakeError → Bool
+is_read_fault ReadFault = true
+is_read_fault TooLong = false
+is_read_fault NoMemory = false
 
 abbrev pub HasTakeCause : {T : Type 0} → ℕ → ℕ → Result T TakeError → Type 0
-HasTakeCause before now result = MatchResult result (λ _. now ≡ before) (λ e. CountedBy e before now)
+HasTakeCause before now result = HasCauseOf is_read_fault before now result

@@ -1,8 +1,7 @@
-//! Where bytes come from and go to: sources and sinks, in memory and over std's readers and writers.
+//! The outside: sources and sinks of bytes, in memory and over std's readers and writers.
 //! Each counts its faults, and tells its bytes where it can.
 #![tactic(auto)]
 
-mod calls;
 mod mem_sink;
 mod mem_source;
 mod sink;

@@ -1,11 +1,12 @@
-ghost use Rattle.std.specs.Prelude.{◌≡◌, Some, [], ◌&&◌, not, is_err, IsErr, IsTrue, OnErr, if◌then◌else◌};
-ghost use Rattle.nm_base.specs.Faults.{HasCause};
-ghost use Rattle.nm_io.specs.Memory.{Store, is_listed, one_more, store_faults};
-ghost use Rattle.nm_io.specs.Sink.{PutAppends};
+ghost use Rattle.std.specs.Prelude.{◌≡◌, [], ◌&&◌, not, is_err, IsErr, IsTrue, OnErr, if◌then◌else◌};
+ghost use Rattle.nm_faults.specs.Calls.{counted, is_next_listed};
+ghost use Rattle.nm_faults.specs.Faults.{one_more};
+ghost use Rattle.nm_io.specs.Memory.{observed_sink};
+ghost use Rattle.nm_io.specs.Observed.{Puts};
 
 use crate::Sink;
-use crate::calls::Calls;
 use nm_base::{Failed, Many};
+use nm_faults::{Calls, Faults};
 use std::alloc::Global;
 use std::marker::Model;
 
@@ -14,32 +15,32 @@ use std::marker::Model;
 pub struct MemSink {
     bytes: Many<u8>,
     calls: Calls,
-    wanted: u64,
+    wanted: Faults,
 }
 
 impl Model for MemSink {
-    ghost use Rattle.nm_io.specs.Memory.{Store};
+    ghost use Rattle.nm_io.specs.Memory.{SinkState};
 
-    ghost Value = { Store };
+    ghost Value = { SinkState };
 
-    ghost view = { λ s. record { taken = s.bytes; calls = s.calls.made; failing = s.calls.failing; met = s.calls.met; wanted = s.wanted } };
+    ghost view = { λ s. record { bytes = s.bytes; calls = s.calls; wanted = s.wanted } };
 }
 
 impl MemSink {
     /// Empty. `failing` are the numbers of the calls that are to fail, the first call being 1.
     pub fn new(alloc: Global, failing: Many<u64>) -> MemSink
-        ensures { result ≡ record { taken = []; calls = 0; failing = failing; met = 0; wanted = 0 } }
+        ensures { result ≡ record { bytes = []; calls = record { failing = failing; made = 0; faults = 0 }; wanted = 0 } }
     {
         MemSink {
             bytes: Many::new(alloc),
             calls: Calls::new(failing),
-            wanted: 0,
+            wanted: Faults::new(),
         }
     }
 
     /// The bytes taken so far.
     pub fn bytes(&self) -> &[u8]
-        ensures { result.now ≡ self.now.taken }
+        ensures { result.now ≡ self.now.bytes }
     {
         self.bytes.as_slice()
     }
@@ -48,33 +49,28 @@ impl MemSink {
     pub fn wanted(&self) -> u64
         ensures { result ≡ self.now.wanted }
     {
-        self.wanted
+        self.wanted.count()
     }
 }
 
 impl Sink for MemSink {
-    ghost taken = { λ s. Some s.taken };
-
-    ghost faults = { store_faults };
+    ghost observed = { observed_sink };
 
     /// After `Failed` it has appended nothing.
     fn put(&mut self, bytes: &[u8]) -> Result<(), Failed>
-        ensures bytes { PutAppends (Some self.old.taken) (Some self.new.taken) result bytes.now }
-        ensures cause { HasCause (store_faults self.old) (store_faults self.new) result }
-        ensures err { OnErr result (self.new.taken ≡ self.old.taken) }
-        ensures calls { self.new.calls ≡ one_more self.old.calls }
-        ensures failing { self.new.failing ≡ self.old.failing }
+        ensures put { Puts (observed_sink self.old) (observed_sink self.new) result bytes.now }
+        ensures err { OnErr result (self.new.bytes ≡ self.old.bytes) }
+        ensures calls { self.new.calls ≡ counted self.old.calls }
 
-        // It fails at a listed call, or because memory was wanting.
-        ensures met { self.new.met ≡ (if is_listed self.old.failing self.new.calls then one_more self.old.met else self.old.met) }
-        ensures wanted { self.new.wanted ≡ (if is_err result && not (is_listed self.old.failing self.new.calls) then one_more self.old.wanted else self.old.wanted) }
-        ensures listed { IsTrue (is_listed self.old.failing self.new.calls) → IsErr result }
+        // It fails at a listed call, or because there was no memory.
+        ensures wanted { self.new.wanted ≡ (if is_err result && not (is_next_listed self.old.calls) then one_more self.old.wanted else self.old.wanted) }
+        ensures listed { IsTrue (is_next_listed self.old.calls) → IsErr result }
     {
-        if self.calls.is_next_to_fail() {
+        if self.calls.count() {
             return Err(Failed);
         }
         if self.bytes.extend_from_slice(bytes).is_err() {
-            self.wanted = self.wanted.saturating_add(1);
+            self.wanted.add();
             return Err(Failed);
         }
         Ok(())

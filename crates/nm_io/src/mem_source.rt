@@ -1,12 +1,11 @@
-ghost use Rattle.std.specs.Prelude.{◌≡◌, Some, [], ◌∷◌, length, min, take, is_err, IfOk, IsOk};
-ghost use Rattle.std.specs.Io.{ReadsAtMost};
-ghost use Rattle.std.specs.Io.KnownBytes.{ReadConsumes};
-ghost use Rattle.nm_base.specs.Faults.{HasCause};
-ghost use Rattle.nm_io.specs.Memory.{is_listed, one_more};
+ghost use Rattle.std.specs.Prelude.{◌≡◌, [], length, min, take, is_err, IfOk, IsOk};
+ghost use Rattle.nm_faults.specs.Calls.{counted, is_next_listed};
+ghost use Rattle.nm_io.specs.Memory.{observed_source};
+ghost use Rattle.nm_io.specs.Observed.{Takes};
 
 use crate::Source;
-use crate::calls::Calls;
 use nm_base::{Failed, Many};
+use nm_faults::Calls;
 use std::marker::Model;
 
 /// A source over bytes in memory. It fails at the listed calls and at no other, and tells its bytes.
@@ -19,19 +18,19 @@ pub struct MemSource {
 
 impl Model for MemSource {
     ghost use Rattle.std.specs.Prelude.{◌≡◌, ◌≤◌, [], drop, length};
-    ghost use Rattle.nm_io.specs.Memory.{Supply};
+    ghost use Rattle.nm_io.specs.Memory.{SourceState};
 
-    ghost Value = { Supply };
+    ghost Value = { SourceState };
 
-    ghost view = { λ s. record { left = drop s.at s.bytes; calls = s.calls.made; failing = s.calls.failing; faults = s.calls.met } };
+    ghost view = { λ s. record { bytes = drop s.at s.bytes; calls = s.calls } };
 
-    ghost invariant = { λ s. (s.at ≤ length s.bytes) × (s.calls.failing ≡ [] → s.calls.met ≡ 0) };
+    ghost invariant = { λ s. (s.at ≤ length s.bytes) × (s.calls.failing ≡ [] → s.calls.faults ≡ 0) };
 }
 
 impl MemSource {
     /// `failing` are the numbers of the calls that are to fail, the first call being 1.
     pub fn new(bytes: Many<u8>, failing: Many<u64>) -> MemSource
-        ensures { result ≡ record { left = bytes; calls = 0; failing = failing; faults = 0 } }
+        ensures { result ≡ record { bytes = bytes; calls = record { failing = failing; made = 0; faults = 0 } } }
     {
         MemSource {
             bytes,
@@ -42,25 +41,20 @@ impl MemSource {
 }
 
 impl Source for MemSource {
-    ghost left = { λ s. Some s.left };
-
-    ghost faults = { λ s. s.faults };
+    ghost observed = { observed_source };
 
     /// Gives as many bytes as there are and have room.
     fn take(&mut self, buf: &mut [u8]) -> Result<usize, Failed>
-        ensures count { ReadsAtMost result buf.new }
-        ensures bytes { ReadConsumes (Some self.old.left) (Some self.new.left) result buf.new }
-        ensures cause { HasCause self.old.faults self.new.faults result }
-        ensures most { IfOk result (λ n. n ≡ min (length self.old.left) (length buf.old)) }
-        ensures calls { self.new.calls ≡ one_more self.old.calls }
-        ensures listed { is_err result ≡ is_listed self.old.failing self.new.calls }
-        ensures failing { self.new.failing ≡ self.old.failing }
+        ensures taken { Takes (observed_source self.old) (observed_source self.new) result buf.new }
+        ensures most { IfOk result (λ n. n ≡ min (length self.old.bytes) (length buf.old)) }
+        ensures calls { self.new.calls ≡ counted self.old.calls }
+        ensures listed { is_err result ≡ is_next_listed self.old.calls }
 
         // With no listed call it never fails.
-        ensures sound { self.old.failing ≡ [] → IsOk result }
-        ensures quiet { self.old.failing ≡ [] → self.new.faults ≡ 0 }
+        ensures sound { self.old.calls.failing ≡ [] → IsOk result }
+        ensures quiet { self.old.calls.failing ≡ [] → self.new.calls.faults ≡ 0 }
     {
-        if self.calls.is_next_to_fail() {
+        if self.calls.count() {
             return Err(Failed);
         }
         let (_, left) = self.bytes.as_slice().split_at(self.at);

@@ -1,9 +1,10 @@
 ghost use Rattle.std.specs.Prelude.{◌≡◌, ◌<◌, ◌≤◌, length, IfOk};
 ghost use Rattle.std.specs.Io.KnownBytes.{Keeps, WriteAppends};
-ghost use Rattle.nm_io.specs.Sink.{PutAppends};
+ghost use Rattle.nm_io.specs.Observed.{PutAppends};
 
 use crate::Sink;
 use nm_base::Failed;
+use nm_faults::Faults;
 use std::io::{ErrorKind, Write};
 use std::marker::Model;
 
@@ -12,7 +13,7 @@ use std::marker::Model;
 #[derive(Drop)]
 pub struct StdSink<W: Write> {
     writer: W,
-    faults: u64,
+    faults: Faults,
 }
 
 impl<W: Write> Model for StdSink<W> {
@@ -30,7 +31,10 @@ impl<W: Write> StdSink<W> {
     pub fn new(writer: W) -> StdSink<W>
         ensures { result ≡ (writer, 0) }
     {
-        StdSink { writer, faults: 0 }
+        StdSink {
+            writer,
+            faults: Faults::new(),
+        }
     }
 
     /// The writer, which holds what was put.
@@ -43,15 +47,13 @@ impl<W: Write> StdSink<W> {
 }
 
 impl<W: Write> Sink for StdSink<W> {
-    ghost taken = { λ s. W.contents s.0 };
-
-    ghost faults = { λ s. s.1 };
+    ghost observed = { λ s. record { bytes = W.contents s.0; faults = s.1 } };
 
     fn put(&mut self, bytes: &[u8]) -> Result<(), Failed> {
         match write_flushed(&mut self.writer, bytes) {
             Ok(()) => Ok(()),
             Err(Failed) => {
-                self.faults = self.faults.saturating_add(1);
+                self.faults.add();
                 Err(Failed)
             }
         }

@@ -4,6 +4,7 @@ ghost use Rattle.std.specs.Io.KnownBytes.{Keeps, ReadConsumes};
 
 use crate::Source;
 use nm_base::Failed;
+use nm_faults::Faults;
 use std::io::{ErrorKind, Read};
 use std::marker::Model;
 
@@ -11,7 +12,7 @@ use std::marker::Model;
 #[derive(Drop)]
 pub struct StdSource<R: Read> {
     reader: R,
-    faults: u64,
+    faults: Faults,
 }
 
 impl<R: Read> Model for StdSource<R> {
@@ -29,20 +30,21 @@ impl<R: Read> StdSource<R> {
     pub fn new(reader: R) -> StdSource<R>
         ensures { result ≡ (reader, 0) }
     {
-        StdSource { reader, faults: 0 }
+        StdSource {
+            reader,
+            faults: Faults::new(),
+        }
     }
 }
 
 impl<R: Read> Source for StdSource<R> {
-    ghost left = { λ s. R.remaining s.0 };
-
-    ghost faults = { λ s. s.1 };
+    ghost observed = { λ s. record { bytes = R.remaining s.0; faults = s.1 } };
 
     fn take(&mut self, buf: &mut [u8]) -> Result<usize, Failed> {
         match read_once(&mut self.reader, buf) {
             Ok(n) => Ok(n),
             Err(Failed) => {
-                self.faults = self.faults.saturating_add(1);
+                self.faults.add();
                 Err(Failed)
             }
         }

@@ -24,15 +24,15 @@ const PIECE: usize = 65_536;
 /// All bytes of the source up to its end, if they are at most `max`.
 pub fn take_all<S: Source>(alloc: Global, source: &mut S, max: u64) -> Result<Many<u8>, TakeError>
     // Where the bytes are told, these are all of them.
-    ensures all { IfOk result (λ all. IfSome (S.left source.old) (λ bytes. all ≡ bytes)) }
-    ensures consumed { IfOk result (λ all. Consumes (S.left source.old) (S.left source.new) all) }
-    ensures end { OnOk result (IsAtEnd (S.left source.new)) }
+    ensures all { IfOk result (λ all. IfSome (S.observed source.old).bytes (λ bytes. all ≡ bytes)) }
+    ensures consumed { IfOk result (λ all. Consumes (S.observed source.old).bytes (S.observed source.new).bytes all) }
+    ensures end { OnOk result (IsAtEnd (S.observed source.new).bytes) }
     ensures within { IfOk result (λ all. length all ≤ max) }
 
     // After an error the first bytes are gone.
-    ensures err { OnErr result ((gone : List ℕ) × Consumes (S.left source.old) (S.left source.new) gone) }
-    ensures long { IsErrOf result TakeError.TooLong → IfSome (S.left source.old) (λ bytes. max < length bytes) }
-    ensures cause { HasTakeCause (S.faults source.old) (S.faults source.new) result }
+    ensures err { OnErr result ((gone : List ℕ) × Consumes (S.observed source.old).bytes (S.observed source.new).bytes gone) }
+    ensures long { IsErrOf result TakeError.TooLong → IfSome (S.observed source.old).bytes (λ bytes. max < length bytes) }
+    ensures cause { HasTakeCause (S.observed source.old).faults (S.observed source.new).faults result }
 {
     let Ok(mut piece) = new_piece(alloc) else {
         return Err(TakeError::NoMemory);

@@ -1,98 +1,84 @@
-use crate::{MemSink, MemSource, Sink, Source, StdSink, StdSource, TakeError, take_all};
+//! What no contract tells: how the adapters use a real file, and a stream that is interrupted or fails.
+
+use crate::{Sink, Source, StdSink, StdSource, TakeError, take_all};
 use nm_base::{Failed, Many};
-use std::env;
 use std::fs::{self, File};
-use std::process::{self, Abort};
+use std::io::{self, ErrorKind, Read, Write};
 use std::test::Fail;
+use std::{env, process};
 
-/// Puts the pieces, and answers what each put answered.
-fn put_all<S: Sink>(sink: &mut S, pieces: [&[u8]; 3]) -> [Result<(), Failed>; 3] {
-    let [first, second, third] = pieces;
-    [sink.put(first), sink.put(second), sink.put(third)]
+/// Gives one byte a call after an interrupted one; its third byte can't be read.
+#[derive(Drop)]
+struct Reader {
+    calls: u8,
 }
 
-#[test]
-fn a_source_in_memory_fails_at_its_listed_calls(rt: HostRuntime) -> Result<(), Fail> {
-    let bytes = Many::from_slice(rt.alloc(), b"abcde")?;
-    let mut source = MemSource::new(bytes, Many::from_slice(rt.alloc(), &[2])?);
-    let turns: [(&str, Result<usize, Failed>, &[u8]); 5] = [
-        ("the first piece", Ok(2), b"ab"),
-        ("the listed call", Err(Failed), b"ab"),
-        ("the second piece", Ok(2), b"cd"),
-        ("what is left", Ok(1), b"ed"),
-        ("the end", Ok(0), b"ed"),
-    ];
-    let mut buf = [0; 2];
-    for (name, answer, held) in turns {
-        assert_eq!(rt; source.take(&mut buf), answer, "{name}");
-        assert_eq!(rt; buf.as_slice(), held, "{name}");
-    }
-    Ok(())
-}
-
-#[test]
-fn all_is_taken_up_to_the_bound(rt: HostRuntime) -> Result<(), Fail> {
-    let cases: [(&str, &[u8], u64, &[u64], Result<&[u8], TakeError>); 8] = [
-        ("nothing, none allowed", b"", 0, &[], Ok(b"")),
-        ("one, none allowed", b"a", 0, &[], Err(TakeError::TooLong)),
-        (
-            "one above the bound",
-            b"abc",
-            2,
-            &[],
-            Err(TakeError::TooLong),
-        ),
-        ("at the bound", b"abc", 3, &[], Ok(b"abc")),
-        ("below the bound", b"abc", 4, &[], Ok(b"abc")),
-        ("no bound", b"abc", u64::MAX, &[], Ok(b"abc")),
-        (
-            "a fault at once",
-            b"abc",
-            3,
-            &[1],
-            Err(TakeError::ReadFault),
-        ),
-        (
-            "a fault at the end",
-            b"abc",
-            3,
-            &[2],
-            Err(TakeError::ReadFault),
-        ),
-    ];
-    for (name, bytes, max, failing, answer) in cases {
-        let mut source = MemSource::new(
-            Many::from_slice(rt.alloc(), bytes)?,
-            Many::from_slice(rt.alloc(), failing)?,
-        );
-        let taken = take_all(rt.alloc(), &mut source, max);
-        assert_taken(&rt, name, &taken, answer);
-    }
-    Ok(())
-}
-
-fn assert_taken(
-    rt: &impl Abort,
-    name: &str,
-    taken: &Result<Many<u8>, TakeError>,
-    answer: Result<&[u8], TakeError>,
-) {
-    match (taken, answer) {
-        (Ok(all), Ok(bytes)) => assert_eq!(rt; all.as_slice(), bytes, "{name}"),
-        (Err(e), Err(error)) => assert_eq!(rt; *e, error, "{name}"),
-        _ => assert!(rt; false, "{name}"),
+impl Read for Reader {
+    fn read(&mut self, buf: &mut [u8]) -> io::Result<usize> {
+        self.calls = self.calls.saturating_add(1);
+        if self.calls % 2 == 1 {
+            return Err(io::Error::from(ErrorKind::Interrupted));
+        }
+        if self.calls > 4 || buf.is_empty() {
+            return Err(io::Error::from(ErrorKind::PermissionDenied));
+        }
+        buf[0] = self.calls;
+        Ok(1)
     }
 }
 
 #[test]
-fn a_sink_in_memory_fails_at_its_listed_calls(rt: HostRuntime) -> Result<(), Fail> {
-    let mut sink = MemSink::new(rt.alloc(), Many::from_slice(rt.alloc(), &[2])?);
-    let answers = put_all(&mut sink, [b"ab", b"cd", b""]);
-    assert_eq!(rt; answers, [Ok(()), Err(Failed), Ok(())]);
-    assert_eq!(rt; sink.put(b"ef"), Ok(()));
-    assert_eq!(rt; sink.bytes(), b"abef".as_slice());
-    assert_eq!(rt; sink.wanted(), 0);
-    Ok(())
+fn an_interrupted_read_is_made_again_and_another_error_is_a_fault(rt: HostRuntime) {
+    let mut source = StdSource::new(Reader { calls: 0 });
+    let mut buf = [0; 3];
+    assert_eq!(rt; source.take(&mut buf), Ok(1));
+    assert_eq!(rt; buf, [2, 0, 0]);
+    assert_eq!(rt; source.take(&mut buf), Ok(1));
+    assert_eq!(rt; buf, [4, 0, 0]);
+    assert_eq!(rt; source.take(&mut buf), Err(Failed));
+}
+
+/// Takes one byte a call after an interrupted one, three in all.
+#[derive(Drop)]
+struct Writer {
+    calls: u8,
+    held: [u8; 4],
+    flushed: bool,
+}
+
+impl Write for Writer {
+    fn write(&mut self, buf: &[u8]) -> io::Result<usize> {
+        self.calls = self.calls.saturating_add(1);
+        if self.calls % 2 == 1 {
+            return Err(io::Error::from(ErrorKind::Interrupted));
+        }
+        if self.calls > 6 || buf.is_empty() {
+            return Err(io::Error::from(ErrorKind::StorageFull));
+        }
+        self.held[usize::from(self.calls / 2)] = buf[0];
+        Ok(1)
+    }
+
+    fn flush(&mut self) -> io::Result<()> {
+        if self.flushed {
+            return Err(io::Error::from(ErrorKind::StorageFull));
+        }
+        self.flushed = true;
+        Ok(())
+    }
+}
+
+#[test]
+fn an_interrupted_write_is_made_again_and_another_error_is_a_fault(rt: HostRuntime) {
+    let mut sink = StdSink::new(Writer {
+        calls: 0,
+        held: [0; 4],
+        flushed: false,
+    });
+    assert_eq!(rt; sink.put(b"ab"), Ok(()));
+    assert_eq!(rt; sink.put(b""), Err(Failed), "the flush fails");
+    assert_eq!(rt; sink.put(b"cd"), Err(Failed), "the fourth byte");
+    assert_eq!(rt; sink.into_inner().held, [0, b'a', b'b', b'c']);
 }
 
 #[test]
@@ -100,22 +86,30 @@ fn what_is_put_into_a_file_is_taken_from_it(rt: HostRuntime) -> Result<(), Fail>
     let name = format!(in rt.alloc(); "nm_io_{}", process::id(rt.process()))?;
     let path = env::temp_dir(&rt)?.join(rt.alloc(), name.as_str())?;
     let mut sink = StdSink::new(File::create(&rt, path.as_path())?);
-    let answers = put_all(&mut sink, [b"ab", b"", b"cde"]);
-    assert_eq!(rt; answers, [Ok(()), Ok(()), Ok(())]);
-    let mut source = StdSource::new(File::open(&rt, path.as_path())?);
-    let taken = take_all(rt.alloc(), &mut source, 5);
-    assert_taken(&rt, "the whole file", &taken, Ok(b"abcde"));
+    let pieces: [&[u8]; 3] = [b"ab", b"", b"cde"];
+    for piece in pieces {
+        assert_eq!(rt; sink.put(piece), Ok(()));
+    }
+    let cases: [(u64, Result<&[u8], TakeError>); 3] = [
+        (4, Err(TakeError::TooLong)),
+        (5, Ok(b"abcde")),
+        (u64::MAX, Ok(b"abcde")),
+    ];
+    for (max, answer) in cases {
+        let mut source = StdSource::new(File::open(&rt, path.as_path())?);
+        let taken = take_all(rt.alloc(), &mut source, max);
+        assert!(rt; is_answer(&taken, answer), "at most {max}");
+    }
     let mut unreadable = StdSource::new(File::create(&rt, path.as_path())?);
     assert_eq!(rt; unreadable.take(&mut [0; 2]), Err(Failed));
     fs::remove_file(&rt, path.as_path())?;
     Ok(())
 }
 
-#[test]
-fn a_writer_that_is_full_is_a_fault(rt: HostRuntime) {
-    let mut room = [0; 3];
-    let mut sink = StdSink::new(room.as_mut_slice());
-    assert_eq!(rt; sink.put(b"ab"), Ok(()));
-    assert_eq!(rt; sink.put(b"cd"), Err(Failed));
-    assert_eq!(rt; sink.put(b""), Ok(()));
+fn is_answer(taken: &Result<Many<u8>, TakeError>, answer: Result<&[u8], TakeError>) -> bool {
+    match (taken, answer) {
+        (Ok(all), Ok(bytes)) => *all.as_slice() == *bytes,
+        (Err(e), Err(error)) => *e == error,
+        _ => false,
+    }
 }

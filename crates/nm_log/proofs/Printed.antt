@@ -4,7 +4,7 @@ use Rattle.std.proofs.Math.Seq.{drop-cons}
 use Rattle.std.proofs.lemmas.Bool.{false≢true}
 use Rattle.std.proofs.lemmas.Grind.{flat_map-append}
 use Rattle.std.specs.Io.KnownBytes.{Appends}
-use Rattle.nm_io.specs.Sink.{PutAppends}
+use Rattle.nm_io.specs.Observed.{PutAppends}
 use Rattle.nm_log.specs.declared.log.LineLog.{LineLog}
 use Rattle.nm_log.specs.Replies.{printed, printed_line}
 use Rattle.nm_log.proofs.Puts.{PutAppends-first, PutAppends-then}

@@ -5,7 +5,7 @@ use Rattle.std.proofs.lemmas.List.{take-append-le, take_all}
 use Rattle.std.proofs.lemmas.Bool.{cases_lt, false≢true}
 use Rattle.std.specs.Io.KnownBytes.{Appends}
 use Rattle.std.proofs.KnownBytes.{Appends-trans}
-use Rattle.nm_io.specs.Sink.{PutAppends}
+use Rattle.nm_io.specs.Observed.{PutAppends}
 
 -- taking more than there is takes all
 capped : (n : ℕ) (xs : List ℕ) → take (min n (length xs)) xs ≡ take n xs

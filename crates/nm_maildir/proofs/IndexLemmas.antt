@@ -6,7 +6,7 @@ use Rattle.std.specs.Cmp.Lexicographic.{slice_cmp, texts_ties}
 use Rattle.std.specs.Ordering.{nat_cmp}
 use Rattle.std.specs.BTreeMap.{BTreeMap, get, is_at}
 use Rattle.std.proofs.lemmas.List.{take_more, length-take}
-use Rattle.nm_maildir.specs.Held.{IsIndex, Locates, place_of}
+use Rattle.nm_maildir.specs.MemoryFiles.{IsIndex, Locates, place_of}
 use Rattle.nm_maildir.specs.Still.{are_distinct, paths_of}
 use Rattle.nm_maildir.specs.Tree.{Tree, bytes_at, moved, renamed_of, same_path}
 use Rattle.nm_maildir.specs.declared.answers.Renamed.TheVariants.{Moved, Missing, Exists}

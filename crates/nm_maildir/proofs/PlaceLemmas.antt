@@ -4,7 +4,7 @@ use Rattle.std.specs.Prelude.{◌&&◌, ◌||◌, not, map, IfSome}
 use Rattle.std.specs.List.{list_any}
 use Rattle.std.specs.Option.{option_map}
 use Rattle.std.proofs.lemmas.Cmp.{nat_list_eq_equiv}
-use Rattle.nm_maildir.specs.Held.{place_of}
+use Rattle.nm_maildir.specs.MemoryFiles.{place_of}
 use Rattle.nm_maildir.specs.Still.{are_distinct, paths_of}
 use Rattle.nm_maildir.specs.Tree.{same_path, bytes_at}
 

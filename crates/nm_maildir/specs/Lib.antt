@@ -1,7 +1,7 @@
-pub mod Calls
-pub mod Held
-pub mod HeldTree
+pub mod MemoryFiles
+pub mod MemoryTree
 pub mod Names
+pub mod Observed
 pub mod Order
 pub mod Still
 pub mod Tree

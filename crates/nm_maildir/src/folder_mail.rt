@@ -1,9 +1,11 @@
-ghost use Rattle.std.specs.Prelude.{◌≡◌, None};
-ghost use Rattle.nm_maildir.specs.Calls.{CountedBy};
+ghost use Rattle.std.specs.Prelude.{None};
+ghost use Rattle.nm_faults.specs.Faults.{Counts};
+ghost use Rattle.nm_maildir.specs.Observed.{is_mail_fault};
 
-use crate::disk::{Trouble, bytes_in, names_at, rename_in};
+use crate::folder_io::{FolderError, bytes_in, names_at, rename_in};
 use crate::{Got, Listing, MailError, Maildir, Renamed};
 use nm_base::{MailPath, Text};
+use nm_faults::Faults;
 use std::rt::Files;
 
 /// A real folder of mail. It follows no link below its root, fails at a name that is not UTF-8, and tells
@@ -12,7 +14,7 @@ use std::rt::Files;
 pub struct FolderMail<R> {
     rt: R,
     root: Text,
-    faults: u64,
+    faults: Faults,
 }
 
 impl<R> FolderMail<R> {
@@ -20,53 +22,49 @@ impl<R> FolderMail<R> {
         FolderMail {
             rt,
             root,
-            faults: 0,
+            faults: Faults::new(),
         }
     }
 }
 
 /// Counts a failure of the system; want of memory is none.
-fn settle(faults: &mut u64, trouble: Trouble) -> MailError
-    ensures { CountedBy result faults.old faults.new }
+fn count_fault(faults: &mut Faults, error: FolderError) -> MailError
+    ensures { Counts (is_mail_fault result) faults.old faults.new }
 {
-    match trouble {
-        Trouble::Io => {
-            *faults = faults.saturating_add(1);
+    match error {
+        FolderError::Io => {
+            faults.add();
             MailError::Failed
         }
-        Trouble::NoMemory => MailError::NoMemory,
+        FolderError::NoMemory => MailError::NoMemory,
     }
 }
 
 impl<R: Files + AllocGlobal + Clone + Drop> Maildir for FolderMail<R> {
-    ghost tree = { λ s. None };
-
-    ghost reads = { λ s. None };
-
-    ghost faults = { λ s. s.faults };
+    ghost observed = { λ s. record { tree = None; reads = None; faults = s.faults } };
 
     fn list(&mut self, dir: &Text) -> Result<Listing, MailError> {
         match names_at(&self.rt, &self.root, dir) {
             Ok(listing) => Ok(listing),
-            Err(trouble) => Err(settle(&mut self.faults, trouble)),
+            Err(error) => Err(count_fault(&mut self.faults, error)),
         }
     }
 
     fn read(&mut self, path: &MailPath, max: u64) -> Result<Got, MailError> {
         match bytes_in(&self.rt, &self.root, path, max) {
             Ok(got) => Ok(got),
-            Err(trouble) => Err(settle(&mut self.faults, trouble)),
+            Err(error) => Err(count_fault(&mut self.faults, error)),
         }
     }
 
     fn rename(&mut self, from: &MailPath, to: &MailPath) -> Result<Renamed, MailError> {
         match rename_in(&self.rt, &self.root, from, to) {
             Ok(renamed) => Ok(renamed),
-            Err(trouble) => Err(settle(&mut self.faults, trouble)),
+            Err(error) => Err(count_fault(&mut self.faults, error)),
         }
     }
 
     fn faults(&self) -> u64 {
-        self.faults
+        self.faults.count()
     }
 }

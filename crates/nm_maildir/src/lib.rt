@@ -1,14 +1,13 @@
-//! A folder of mail in Maildir form: listed, read and renamed in. A tree in memory tells what it holds,
-//! a real folder does not.
+//! The outside: a folder of mail in Maildir form, listed, read and renamed in.
+//! A tree in memory tells what it holds, a real folder does not.
 #![tactic(auto)]
 
 mod answers;
-mod calls;
-mod disk;
+mod folder_io;
 mod folder_mail;
 mod given;
-mod held;
 mod maildir;
+mod memory_files;
 mod names;
 mod still_tree;
 

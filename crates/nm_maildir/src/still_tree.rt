@@ -1,14 +1,14 @@
-ghost use Rattle.std.specs.Prelude.{◌≡◌, Some, is_some, IfOk, IfSome, IsTrue};
+ghost use Rattle.std.specs.Prelude.{◌≡◌, is_some, IfOk, IfSome, IsTrue};
 ghost use Rattle.std.specs.List.{list_any};
-ghost use Rattle.nm_maildir.specs.Calls.{HasMailCause, reads_with, tree_with};
+ghost use Rattle.nm_maildir.specs.Observed.{KeepsMail, after_read, after_rename};
 ghost use Rattle.nm_maildir.specs.Order.{AreInOrder};
-ghost use Rattle.nm_maildir.specs.Still.{CountedBy, are_distinct, paths_of, still_of};
+ghost use Rattle.nm_maildir.specs.Still.{CountsCall, are_distinct, observed_still, paths_of, still_of};
 ghost use Rattle.nm_maildir.specs.Tree.{got_of, listing_of, renamed_of, same_path};
 
-use crate::calls::Calls;
-use crate::held::Held;
+use crate::memory_files::MemoryFiles;
 use crate::{Got, Listing, MailError, Maildir, Renamed};
 use nm_base::{Copies, MailPath, Many, Text};
+use nm_faults::Calls;
 use std::alloc::Global;
 use std::marker::Model;
 
@@ -16,18 +16,18 @@ use std::marker::Model;
 /// and at no other.
 #[derive(Drop)]
 pub struct StillTree {
-    held: Held,
+    files: MemoryFiles,
     reads: Many<MailPath>,
     calls: Calls,
 }
 
 impl Model for StillTree {
-    ghost use Rattle.nm_maildir.specs.HeldTree.{held_tree};
+    ghost use Rattle.nm_maildir.specs.MemoryTree.{tree_of};
     ghost use Rattle.nm_maildir.specs.Still.{Still};
 
     ghost Value = { Still };
 
-    ghost view = { λ s. record { tree = held_tree s.held; reads = s.reads; calls = s.calls.made; failing = s.calls.failing; faults = s.calls.faults } };
+    ghost view = { λ s. record { tree = tree_of s.files; reads = s.reads; calls = s.calls } };
 }
 
 impl StillTree {
@@ -42,7 +42,7 @@ impl StillTree {
         ensures { result ≡ still_of dirs files failing }
     {
         StillTree {
-            held: Held::new(alloc, dirs, files),
+            files: MemoryFiles::new(alloc, dirs, files),
             reads: Many::new(alloc),
             calls: Calls::new(failing),
         }
@@ -59,7 +59,7 @@ impl StillTree {
         ensures some { IfSome result (λ made. made ≡ still_of dirs files failing) }
         ensures none { is_some result ≡ are_distinct (paths_of files) }
     {
-        if lie_apart(files.as_slice()) {
+        if are_distinct(files.as_slice()) {
             Some(StillTree::new(alloc, dirs, files, failing))
         } else {
             None
@@ -68,7 +68,7 @@ impl StillTree {
 }
 
 /// Whether no path stands twice.
-fn lie_apart(files: &[(MailPath, Many<u8>)]) -> bool
+fn are_distinct(files: &[(MailPath, Many<u8>)]) -> bool
     ensures { result ≡ are_distinct (paths_of files.now) }
 {
     let mut rest = files;
@@ -95,43 +95,35 @@ fn has_path(files: &[(MailPath, Many<u8>)], path: &MailPath) -> bool
 }
 
 impl Maildir for StillTree {
-    ghost tree = { λ s. Some s.tree };
-
-    ghost reads = { λ s. Some s.reads };
-
-    ghost faults = { λ s. s.faults };
+    ghost observed = { observed_still };
 
     fn list(&mut self, dir: &Text) -> Result<Listing, MailError>
         ensures listed { IfOk result (λ listing. listing ≡ listing_of self.old.tree dir.now) }
         ensures order { IfOk result (λ listing. AreInOrder listing) }
-        ensures tree { self.new.tree ≡ self.old.tree }
-        ensures reads { self.new.reads ≡ self.old.reads }
-        ensures cause { HasMailCause self.old.faults self.new.faults result }
-        ensures counted { CountedBy self.old self.new result }
+        ensures keeps { KeepsMail (observed_still self.old) (observed_still self.new) result }
+        ensures counted { CountsCall self.old self.new result }
     {
         if self.calls.is_next_listed() {
-            self.calls.count_fault();
+            self.calls.count();
             return Err(MailError::Failed);
         }
-        let listing = self.held.list(dir)?;
+        let listing = self.files.list(dir)?;
         self.calls.count();
         Ok(listing)
     }
 
     fn read(&mut self, path: &MailPath, max: u64) -> Result<Got, MailError>
         ensures got { IfOk result (λ got. got ≡ got_of self.old.tree path.now max) }
-        ensures tree { self.new.tree ≡ self.old.tree }
-        ensures reads { self.new.reads ≡ reads_with self.old.reads path.now result }
-        ensures cause { HasMailCause self.old.faults self.new.faults result }
-        ensures counted { CountedBy self.old self.new result }
+        ensures keeps { KeepsMail (after_read (observed_still self.old) path.now result) (observed_still self.new) result }
+        ensures counted { CountsCall self.old self.new result }
     {
         let noted = path.copy()?;
         if self.calls.is_next_listed() {
             self.reads.push(noted)?;
-            self.calls.count_fault();
+            self.calls.count();
             return Err(MailError::Failed);
         }
-        let got = self.held.read(path, max)?;
+        let got = self.files.read(path, max)?;
         self.reads.push(noted)?;
         self.calls.count();
         Ok(got)
@@ -139,21 +131,19 @@ impl Maildir for StillTree {
 
     fn rename(&mut self, from: &MailPath, to: &MailPath) -> Result<Renamed, MailError>
         ensures renamed { IfOk result (λ renamed. renamed ≡ renamed_of self.old.tree from.now to.now) }
-        ensures tree { self.new.tree ≡ tree_with self.old.tree from.now to.now result }
-        ensures reads { self.new.reads ≡ self.old.reads }
-        ensures cause { HasMailCause self.old.faults self.new.faults result }
-        ensures counted { CountedBy self.old self.new result }
+        ensures keeps { KeepsMail (after_rename (observed_still self.old) from.now to.now result) (observed_still self.new) result }
+        ensures counted { CountsCall self.old self.new result }
     {
         if self.calls.is_next_listed() {
-            self.calls.count_fault();
+            self.calls.count();
             return Err(MailError::Failed);
         }
-        let renamed = self.held.rename(from, to)?;
+        let renamed = self.files.rename(from, to)?;
         self.calls.count();
         Ok(renamed)
     }
 
     fn faults(&self) -> u64 {
-        self.calls.faults
+        self.calls.faults()
     }
 }

@@ -2,7 +2,7 @@
 use Rattle.std.specs.Prelude.{◌≡◌, ℕ, ◌≤◌, List, [], ◌∷◌, ◌++◌, take, IfSome}
 use Rattle.std.specs.List.{AllByRecursion, flat_map}
 use Rattle.std.specs.Option.{option_map}
-use Rattle.nm_base.specs.Faults.{Rose}
+use Rattle.nm_faults.specs.Faults.{HasRisen}
 use Rattle.nm_base.specs.declared.request.Request.{Request}
 use Rattle.nm_base.specs.declared.request.Request.TheVariants as requests
 use Rattle.nm_commit.specs.Count.{count_text}
@@ -42,7 +42,7 @@ IsAnswer outcomes.Ok old line noted text taken new =
 IsAnswer (outcomes.Usage word kind) old line noted text taken new =
     (asked_of line ≡ asked.Usage word kind) × (noted ≡ []) × (taken ≡ []) × (new ≡ old) × (text ≡ refusal_line (outcomes.Usage word kind))
 IsAnswer outcomes.MailFault old line noted text taken new =
-    (asked_of line ≡ asked.Request requests.New) × Rose old.faults new.faults × (taken ≡ []) × (new.index ≡ old.index) × (text ≡ refusal_line outcomes.MailFault)
+    (asked_of line ≡ asked.Request requests.New) × HasRisen old.faults new.faults × (taken ≡ []) × (new.index ≡ old.index) × (text ≡ refusal_line outcomes.MailFault)
 IsAnswer outcomes.NoMemory old line noted text taken new = (taken ≡ []) × (new.index ≡ old.index) × (text ≡ refusal_line outcomes.NoMemory)
 
 -- Of listed paths only such as the index lacks are read, each once, in their order.

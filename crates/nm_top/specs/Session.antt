@@ -3,7 +3,7 @@ use Rattle.std.specs.Prelude.{◌≡◌, ℕ, ◌<◌, ◌≤◌, Bool, true, fa
 use Rattle.std.specs.List.{list_any}
 use Rattle.std.specs.Io.KnownBytes.{Appends, Consumes, IsAtEnd}
 use Rattle.std.specs.Str.Lines.{lines}
-use Rattle.nm_base.specs.Faults.{Rose}
+use Rattle.nm_faults.specs.Faults.{HasRisen}
 use Rattle.nm_base.specs.Order.{same_text}
 use Rattle.nm_base.specs.declared.refusals.UsageKind.{UsageKind}
 use Rattle.nm_base.specs.declared.refusals.UsageKind.TheVariants as kinds
@@ -70,7 +70,7 @@ words_fault (word ∷ other ∷ more) = if same_text word (codes "session") then
 -- An output gained the bytes, or where it failed the first of them.
 abbrev pub Gains : Bool → Told → Told → List ℕ → Type 0
 Gains false old new bytes = Appends old.bytes new.bytes bytes × (new.faults ≡ old.faults)
-Gains true old new bytes = ((n : ℕ) × Appends old.bytes new.bytes (take n bytes)) × Rose old.faults new.faults
+Gains true old new bytes = ((n : ℕ) × Appends old.bytes new.bytes (take n bytes)) × HasRisen old.faults new.faults
 
 -- one line was said, or none
 abbrev pub Says : Option (List ℕ) → Told → Told → Type 0
@@ -160,7 +160,7 @@ abbrev pub Ends : Ending → List ℕ → List (List ℕ) → Outside → Outsid
 Ends WordsRefused script words old new done =
     (fault : UsageKind × List ℕ) × (words_fault words ≡ Some fault) × (new.input ≡ old.input) × IsRefused old new done 2 (usage_line fault.0 fault.1)
 Ends ReadFailed script words old new done =
-    (words_fault words ≡ None) × Rose old.input.faults new.input.faults × IsRefused old new done 5 (codes "notmuch: read fault\n")
+    (words_fault words ≡ None) × HasRisen old.input.faults new.input.faults × IsRefused old new done 5 (codes "notmuch: read fault\n")
 Ends InputTooLong script words old new done =
     (words_fault words ≡ None) × IfSome old.input.bytes (λ bytes. most_input < length bytes) × IsRefused old new done 9 (codes "notmuch: limit: inputbytes\n")
 Ends TooManyLines script words old new done =

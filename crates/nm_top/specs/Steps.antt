@@ -9,7 +9,7 @@ use Rattle.nm_base.specs.declared.request.Request.TheVariants as requests
 use Rattle.nm_commit.specs.Index.{Index, IsDate, paths_of}
 use Rattle.nm_commit.specs.declared.change.Commit.{Commit}
 use Rattle.nm_core.specs.declared.step.Step.{Step}
-use Rattle.nm_base.specs.Faults.{Rose}
+use Rattle.nm_faults.specs.Faults.{HasRisen}
 use Rattle.nm_log.specs.Replies.{new_text, refusal_line}
 use Rattle.nm_log.specs.declared.outcome.Outcome.{Outcome}
 use Rattle.nm_log.specs.declared.outcome.Outcome.TheVariants as outcomes
@@ -137,7 +137,7 @@ IsNewOutcome outcomes.Ok old noted text taken new =
     (commits : List Commit) × IsNew old noted text commits new × (taken ≡ reply_steps commits requests.New text)
 IsNewOutcome (outcomes.Usage word kind) old noted text taken new = ⊥
 IsNewOutcome outcomes.MailFault old noted text taken new =
-    Rose old.faults new.faults × (taken ≡ []) × (new.index ≡ old.index) × (text ≡ refusal_line outcomes.MailFault)
+    HasRisen old.faults new.faults × (taken ≡ []) × (new.index ≡ old.index) × (text ≡ refusal_line outcomes.MailFault)
 IsNewOutcome outcomes.NoMemory old noted text taken new = ⊥
 
 abbrev pub IsNewAnswer : State → List Given → Answered → State → Type 0

@@ -2,7 +2,7 @@ ghost use Rattle.std.specs.Prelude.{◌≡◌, ◌++◌, ◌∷◌, [], fold, If
 ghost use Rattle.std.specs.BTreeSet.{insert_key};
 ghost use Rattle.std.specs.Cmp.Lexicographic.{slice_cmp};
 ghost use Rattle.std.specs.Ordering.{nat_cmp};
-ghost use Rattle.nm_maildir.specs.Calls.{HasMailCause};
+ghost use Rattle.nm_maildir.specs.Observed.{HasMailCause};
 ghost use Rattle.nm_maildir.specs.Tree.{listing_of};
 ghost use Rattle.nm_top.specs.Reading.{counts, listed_of, paths_in};
 
@@ -16,10 +16,10 @@ pub(crate) fn list_paths<M: Maildir>(
     alloc: Global,
     mail: &mut M,
 ) -> Result<BTreeSet<MailPath>, MailError>
-    ensures listed { IfOk result (λ paths. IfSome (M.tree mail.old) (λ t. paths.keys ≡ listed_of t)) }
-    ensures tree { M.tree mail.new ≡ M.tree mail.old }
-    ensures reads { M.reads mail.new ≡ M.reads mail.old }
-    ensures cause { HasMailCause (M.faults mail.old) (M.faults mail.new) result }
+    ensures listed { IfOk result (λ paths. IfSome (M.observed mail.old).tree (λ t. paths.keys ≡ listed_of t)) }
+    ensures tree { (M.observed mail.new).tree ≡ (M.observed mail.old).tree }
+    ensures reads { (M.observed mail.new).reads ≡ (M.observed mail.old).reads }
+    ensures cause { HasMailCause (M.observed mail.old).faults (M.observed mail.new).faults result }
 {
     let mut paths = BTreeSet::new(alloc);
     add_folder(alloc, mail, "new", &mut paths)?;
@@ -33,11 +33,11 @@ fn add_folder<M: Maildir>(
     folder: &str,
     paths: &mut BTreeSet<MailPath>,
 ) -> Result<(), MailError>
-    ensures listed { OnOk result (IfSome (M.tree mail.old) (λ t.
+    ensures listed { OnOk result (IfSome (M.observed mail.old).tree (λ t.
         paths.new.keys ≡ fold (insert_key (slice_cmp nat_cmp)) paths.old.keys (paths_in folder.now (listing_of t folder.now).files))) }
-    ensures tree { M.tree mail.new ≡ M.tree mail.old }
-    ensures reads { M.reads mail.new ≡ M.reads mail.old }
-    ensures cause { HasMailCause (M.faults mail.old) (M.faults mail.new) result }
+    ensures tree { (M.observed mail.new).tree ≡ (M.observed mail.old).tree }
+    ensures reads { (M.observed mail.new).reads ≡ (M.observed mail.old).reads }
+    ensures cause { HasMailCause (M.observed mail.old).faults (M.observed mail.new).faults result }
 {
     let dir = Text::of(alloc, folder)?;
     let listing = mail.list(&dir)?;

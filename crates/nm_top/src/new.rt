@@ -1,6 +1,6 @@
 ghost use Rattle.std.specs.Prelude.{◌≡◌, ◌+◌, ◌<◌, ◌≤◌, ◌^◌, [], IfOk, OnErr, OnOk, ◌++◌, ◌∷◌, length};
 ghost use Rattle.nm_commit.specs.Index.{Index};
-ghost use Rattle.nm_maildir.specs.Calls.{HasMailCause};
+ghost use Rattle.nm_maildir.specs.Observed.{HasMailCause};
 ghost use Rattle.nm_top.specs.Lean.{StandsFor};
 ghost use Rattle.nm_top.specs.Reading.{IsRising};
 ghost use Rattle.nm_top.specs.Steps.{Gathers, HasAsked, IsNewAnswer, Leaves, most_steps, state_with};
@@ -27,14 +27,14 @@ pub(crate) fn run_new<M: Maildir>(
     requires room { index.old.revision + 2 < 2 ^ 64 }
     requires fresh { noted.old ≡ [] }
     ensures ok { (old : Index) → StandsFor index.old old → IfOk result (λ done. Leaves index.new (λ new. IsNewAnswer
-        (state_with (M.tree mail.old) (M.reads mail.old) (M.faults mail.old) old) noted.new done
-        (state_with (M.tree mail.new) (M.reads mail.new) (M.faults mail.new) new))) }
+        (state_with (M.observed mail.old).tree (M.observed mail.old).reads (M.observed mail.old).faults old) noted.new done
+        (state_with (M.observed mail.new).tree (M.observed mail.new).reads (M.observed mail.new).faults new))) }
     ensures few { IfOk result (λ done. length done.steps ≤ most_steps) }
     ensures err { OnErr result (index.new ≡ index.old) }
     ensures grows { index.new.revision ≤ index.old.revision + 2 }
-    ensures asked { HasAsked (M.tree mail.old) (M.reads mail.old) (M.reads mail.new) index.old.files noted.new }
-    ensures tree { M.tree mail.new ≡ M.tree mail.old }
-    ensures never_falls { M.faults mail.old ≤ M.faults mail.new }
+    ensures asked { HasAsked (M.observed mail.old).tree (M.observed mail.old).reads (M.observed mail.new).reads index.old.files noted.new }
+    ensures tree { (M.observed mail.new).tree ≡ (M.observed mail.old).tree }
+    ensures never_falls { (M.observed mail.old).faults ≤ (M.observed mail.new).faults }
 {
     match gather(alloc, index.files.as_slice(), mail, noted) {
         Ok(gathered) => take_in(alloc, index, gathered, noted.as_slice()),
@@ -58,11 +58,11 @@ fn gather<M: Maildir>(
     noted: &mut Many<Given>,
 ) -> Result<Gathered, MailError>
     requires { noted.old ≡ [] }
-    ensures ok { IfOk result (λ gathered. Gathers (M.tree mail.old) (M.reads mail.old) (M.reads mail.new) files.now noted.new
+    ensures ok { IfOk result (λ gathered. Gathers (M.observed mail.old).tree (M.observed mail.old).reads (M.observed mail.new).reads files.now noted.new
         gathered.known.keys gathered.listed.keys gathered.arrivals) }
-    ensures asked { HasAsked (M.tree mail.old) (M.reads mail.old) (M.reads mail.new) files.now noted.new }
-    ensures tree { M.tree mail.new ≡ M.tree mail.old }
-    ensures cause { HasMailCause (M.faults mail.old) (M.faults mail.new) result }
+    ensures asked { HasAsked (M.observed mail.old).tree (M.observed mail.old).reads (M.observed mail.new).reads files.now noted.new }
+    ensures tree { (M.observed mail.new).tree ≡ (M.observed mail.old).tree }
+    ensures cause { HasMailCause (M.observed mail.old).faults (M.observed mail.new).faults result }
 {
     let listed = list_paths(alloc, mail)?;
     note_listed(alloc, &listed, noted)?;

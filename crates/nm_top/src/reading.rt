@@ -1,6 +1,6 @@
 ghost use Rattle.std.specs.Prelude.{◌≡◌, ℕ, List, ◌∷◌, [], ◌++◌, IfOk};
 ghost use Rattle.nm_base.specs.declared.facts.Facts.{Facts};
-ghost use Rattle.nm_maildir.specs.Calls.{HasMailCause};
+ghost use Rattle.nm_maildir.specs.Observed.{HasMailCause};
 ghost use Rattle.nm_top.specs.Reading.{arrival};
 ghost use Rattle.nm_top.specs.Steps.{HasRead, HasReadAll, Judges};
 
@@ -21,10 +21,10 @@ pub(crate) fn read_all<M: Maildir>(
     noted: &mut Many<Given>,
 ) -> Result<Many<Mail>, MailError>
     ensures ok { IfOk result (λ arrivals.
-        HasReadAll (M.tree mail.old) (M.reads mail.old) (M.reads mail.new) noted.old noted.new paths.now arrivals) }
-    ensures so_far { HasRead (M.tree mail.old) (M.reads mail.old) (M.reads mail.new) noted.old noted.new paths.now }
-    ensures tree { M.tree mail.new ≡ M.tree mail.old }
-    ensures cause { HasMailCause (M.faults mail.old) (M.faults mail.new) result }
+        HasReadAll (M.observed mail.old).tree (M.observed mail.old).reads (M.observed mail.new).reads noted.old noted.new paths.now arrivals) }
+    ensures so_far { HasRead (M.observed mail.old).tree (M.observed mail.old).reads (M.observed mail.new).reads noted.old noted.new paths.now }
+    ensures tree { (M.observed mail.new).tree ≡ (M.observed mail.old).tree }
+    ensures cause { HasMailCause (M.observed mail.old).faults (M.observed mail.new).faults result }
 {
     let mut arrivals = Many::new(alloc);
     'files: for path in paths {
@@ -42,10 +42,10 @@ fn read_next<M: Maildir>(
     arrivals: &mut Many<Mail>,
 ) -> Result<(), MailError>
     ensures ok { IfOk result (λ _. (found : List (List ℕ × Facts)) × (arrivals.new ≡ arrivals.old ++ found)
-        × HasReadAll (M.tree mail.old) (M.reads mail.old) (M.reads mail.new) noted.old noted.new (path.now ∷ []) found) }
-    ensures so_far { HasRead (M.tree mail.old) (M.reads mail.old) (M.reads mail.new) noted.old noted.new (path.now ∷ []) }
-    ensures tree { M.tree mail.new ≡ M.tree mail.old }
-    ensures cause { HasMailCause (M.faults mail.old) (M.faults mail.new) result }
+        × HasReadAll (M.observed mail.old).tree (M.observed mail.old).reads (M.observed mail.new).reads noted.old noted.new (path.now ∷ []) found) }
+    ensures so_far { HasRead (M.observed mail.old).tree (M.observed mail.old).reads (M.observed mail.new).reads noted.old noted.new (path.now ∷ []) }
+    ensures tree { (M.observed mail.new).tree ≡ (M.observed mail.old).tree }
+    ensures cause { HasMailCause (M.observed mail.old).faults (M.observed mail.new).faults result }
 {
     let found = read_one(alloc, mail, path, noted)?;
     if let Some(facts) = found {
@@ -63,10 +63,10 @@ fn read_one<M: Maildir>(
     noted: &mut Many<Given>,
 ) -> Result<Option<Facts>, MailError>
     ensures ok { IfOk result (λ found.
-        HasReadAll (M.tree mail.old) (M.reads mail.old) (M.reads mail.new) noted.old noted.new (path.now ∷ []) (arrival path.now found)) }
-    ensures so_far { HasRead (M.tree mail.old) (M.reads mail.old) (M.reads mail.new) noted.old noted.new (path.now ∷ []) }
-    ensures tree { M.tree mail.new ≡ M.tree mail.old }
-    ensures cause { HasMailCause (M.faults mail.old) (M.faults mail.new) result }
+        HasReadAll (M.observed mail.old).tree (M.observed mail.old).reads (M.observed mail.new).reads noted.old noted.new (path.now ∷ []) (arrival path.now found)) }
+    ensures so_far { HasRead (M.observed mail.old).tree (M.observed mail.old).reads (M.observed mail.new).reads noted.old noted.new (path.now ∷ []) }
+    ensures tree { (M.observed mail.new).tree ≡ (M.observed mail.old).tree }
+    ensures cause { HasMailCause (M.observed mail.old).faults (M.observed mail.new).faults result }
 {
     let got = mail.read(path, MOST_BYTES)?;
     let (answer, found) = judge(alloc, got)?;

@@ -28,8 +28,8 @@ pub(crate) struct RunLog {
 /// Runs the lines in their order, over an index that begins empty. Where no room can be made for the log of a
 /// line, that line and those behind it are not run.
 pub(crate) fn run_lines<M: Maildir>(alloc: Global, lines: &[ScriptLine], mail: &mut M) -> RunLog
-    ensures { HasRunLines lines.now result (M.tree mail.old) (M.reads mail.old) (M.faults mail.old)
-        (M.tree mail.new) (M.reads mail.new) (M.faults mail.new) }
+    ensures { HasRunLines lines.now result (M.observed mail.old).tree (M.observed mail.old).reads (M.observed mail.old).faults
+        (M.observed mail.new).tree (M.observed mail.new).reads (M.observed mail.new).faults }
 {
     let mut index = PlainIndex {
         files: Many::new(alloc),
@@ -97,8 +97,8 @@ fn run_line<M: Maildir>(
     requires room { index.old.revision + 2 < 2 ^ 64 }
     requires spare { spare ≡ codes "notmuch: no memory\n" }
     ensures answers { (old : Index) → StandsFor index.old old → Leaves index.new (λ new.
-        Answers (state_with (M.tree mail.old) (M.reads mail.old) (M.faults mail.old) old) line.now result.0 result.1
-        (state_with (M.tree mail.new) (M.reads mail.new) (M.faults mail.new) new)) }
+        Answers (state_with (M.observed mail.old).tree (M.observed mail.old).reads (M.observed mail.old).faults old) line.now result.0 result.1
+        (state_with (M.observed mail.new).tree (M.observed mail.new).reads (M.observed mail.new).faults new)) }
     ensures few { length result.1 ≤ most_steps }
     ensures grows { index.new.revision ≤ index.old.revision + 2 }
 {
@@ -148,14 +148,14 @@ fn answer<M: Maildir>(
     requires room { index.old.revision + 2 < 2 ^ 64 }
     requires fresh { given.old ≡ [] }
     ensures ok { (old : Index) → StandsFor index.old old → IfOk result (λ done. Leaves index.new (λ new. IsLineAnswer
-        (state_with (M.tree mail.old) (M.reads mail.old) (M.faults mail.old) old) line.now given.new done
-        (state_with (M.tree mail.new) (M.reads mail.new) (M.faults mail.new) new))) }
+        (state_with (M.observed mail.old).tree (M.observed mail.old).reads (M.observed mail.old).faults old) line.now given.new done
+        (state_with (M.observed mail.new).tree (M.observed mail.new).reads (M.observed mail.new).faults new))) }
     ensures few { IfOk result (λ done. length done.steps ≤ most_steps) }
     ensures err { OnErr result (index.new ≡ index.old) }
     ensures grows { index.new.revision ≤ index.old.revision + 2 }
-    ensures asked { HasAsked (M.tree mail.old) (M.reads mail.old) (M.reads mail.new) index.old.files given.new }
-    ensures tree { M.tree mail.new ≡ M.tree mail.old }
-    ensures never_falls { M.faults mail.old ≤ M.faults mail.new }
+    ensures asked { HasAsked (M.observed mail.old).tree (M.observed mail.old).reads (M.observed mail.new).reads index.old.files given.new }
+    ensures tree { (M.observed mail.new).tree ≡ (M.observed mail.old).tree }
+    ensures never_falls { (M.observed mail.old).faults ≤ (M.observed mail.new).faults }
 {
     match read_ask(alloc, line)? {
         Asked::Usage { word, kind } => refuse_line(alloc, word, kind),

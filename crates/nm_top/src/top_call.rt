@@ -30,17 +30,17 @@ pub fn notmuch<M: Maildir, I: Source, O: Sink, E: Sink>(
     requires from_1970 { pos 0 ≤ℤ setting.now.moment }
     requires moment { setting.now.moment ≤ℤ pos 253000000000 }
     ensures history { (ending : Ending) × (script : List ℕ) × Ends ending script words.now
-        (outside (mail_told (M.tree mail.old) (M.reads mail.old) (M.faults mail.old)) (told (I.left input.old) (I.faults input.old))
-        (told (O.taken out.old) (O.faults out.old)) (told (E.taken err.old) (E.faults err.old)))
-        (outside (mail_told (M.tree mail.new) (M.reads mail.new) (M.faults mail.new)) (told (I.left input.new) (I.faults input.new))
-        (told (O.taken out.new) (O.faults out.new)) (told (E.taken err.new) (E.faults err.new))) result }
+        (outside (mail_told (M.observed mail.old).tree (M.observed mail.old).reads (M.observed mail.old).faults) (told (I.observed input.old).bytes (I.observed input.old).faults)
+        (told (O.observed out.old).bytes (O.observed out.old).faults) (told (E.observed err.old).bytes (E.observed err.old).faults))
+        (outside (mail_told (M.observed mail.new).tree (M.observed mail.new).reads (M.observed mail.new).faults) (told (I.observed input.new).bytes (I.observed input.new).faults)
+        (told (O.observed out.new).bytes (O.observed out.new).faults) (told (E.observed err.new).bytes (E.observed err.new).faults)) result }
 
     // Where nothing is in its way, the script is answered to its end.
     ensures complete { IsComplete words.now
-        (outside (mail_told (M.tree mail.old) (M.reads mail.old) (M.faults mail.old)) (told (I.left input.old) (I.faults input.old))
-        (told (O.taken out.old) (O.faults out.old)) (told (E.taken err.old) (E.faults err.old)))
-        (outside (mail_told (M.tree mail.new) (M.reads mail.new) (M.faults mail.new)) (told (I.left input.new) (I.faults input.new))
-        (told (O.taken out.new) (O.faults out.new)) (told (E.taken err.new) (E.faults err.new))) result }
+        (outside (mail_told (M.observed mail.old).tree (M.observed mail.old).reads (M.observed mail.old).faults) (told (I.observed input.old).bytes (I.observed input.old).faults)
+        (told (O.observed out.old).bytes (O.observed out.old).faults) (told (E.observed err.old).bytes (E.observed err.old).faults))
+        (outside (mail_told (M.observed mail.new).tree (M.observed mail.new).reads (M.observed mail.new).faults) (told (I.observed input.new).bytes (I.observed input.new).faults)
+        (told (O.observed out.new).bytes (O.observed out.new).faults) (told (E.observed err.new).bytes (E.observed err.new).faults)) result }
 {
     match fault_of(words) {
         Some((kind, word)) => refuse_words(alloc, err, kind, word),
@@ -85,10 +85,10 @@ fn read_and_run<M: Maildir, I: Source, O: Sink, E: Sink>(
     err: &mut E,
 ) -> Done
     ensures { (words : List (List ℕ)) → words_fault words ≡ None → (ending : Ending) × (script : List ℕ) × Ends ending script words
-        (outside (mail_told (M.tree mail.old) (M.reads mail.old) (M.faults mail.old)) (told (I.left input.old) (I.faults input.old))
-        (told (O.taken out.old) (O.faults out.old)) (told (E.taken err.old) (E.faults err.old)))
-        (outside (mail_told (M.tree mail.new) (M.reads mail.new) (M.faults mail.new)) (told (I.left input.new) (I.faults input.new))
-        (told (O.taken out.new) (O.faults out.new)) (told (E.taken err.new) (E.faults err.new))) result }
+        (outside (mail_told (M.observed mail.old).tree (M.observed mail.old).reads (M.observed mail.old).faults) (told (I.observed input.old).bytes (I.observed input.old).faults)
+        (told (O.observed out.old).bytes (O.observed out.old).faults) (told (E.observed err.old).bytes (E.observed err.old).faults))
+        (outside (mail_told (M.observed mail.new).tree (M.observed mail.new).reads (M.observed mail.new).faults) (told (I.observed input.new).bytes (I.observed input.new).faults)
+        (told (O.observed out.new).bytes (O.observed out.new).faults) (told (E.observed err.new).bytes (E.observed err.new).faults)) result }
 {
     match take_all(alloc, input, MOST_INPUT) {
         Ok(bytes) => match read_script(alloc, bytes.as_slice()) {
@@ -111,9 +111,9 @@ fn run_script<M: Maildir, O: Sink, E: Sink>(
     err: &mut E,
 ) -> Done
     ensures { IsRun script.now
-        (mail_told (M.tree mail.old) (M.reads mail.old) (M.faults mail.old)) (mail_told (M.tree mail.new) (M.reads mail.new) (M.faults mail.new))
-        (told (O.taken out.old) (O.faults out.old)) (told (O.taken out.new) (O.faults out.new))
-        (told (E.taken err.old) (E.faults err.old)) (told (E.taken err.new) (E.faults err.new)) result }
+        (mail_told (M.observed mail.old).tree (M.observed mail.old).reads (M.observed mail.old).faults) (mail_told (M.observed mail.new).tree (M.observed mail.new).reads (M.observed mail.new).faults)
+        (told (O.observed out.old).bytes (O.observed out.old).faults) (told (O.observed out.new).bytes (O.observed out.new).faults)
+        (told (E.observed err.old).bytes (E.observed err.old).faults) (told (E.observed err.new).bytes (E.observed err.new).faults) result }
 {
     let run = run_lines(alloc, script, mail);
     let out_failed = print_all(out, run.logs.as_slice());

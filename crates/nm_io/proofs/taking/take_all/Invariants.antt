@@ -5,8 +5,8 @@ use Rattle.nm_io.proofs.taking.take_all.Given as goal
 
 abbrev pub invariant-turns : goal.invariant-turns
 invariant-turns g l = record {
-  given : Consumes (g.S.Source.left l.fn.source) (g.S.Source.left l.source) l.all;
-  faults : g.S.Source.faults l.source ≡ g.S.Source.faults l.fn.source;
+  given : Consumes (g.S.Source.observed l.fn.source).bytes (g.S.Source.observed l.source).bytes l.all;
+  faults : (g.S.Source.observed l.source).faults ≡ (g.S.Source.observed l.fn.source).faults;
   room : 0 < length l.piece.items;
 }
 

@@ -6,19 +6,19 @@ use Rattle.nm_top.proofs.ReadLemmas.{after_read, one_read_all}
 use Rattle.nm_top.proofs.reading.read_one.Goals as goal
 
 pub returns-in_err-got-clause-so_far : goal.returns-in_err-got-clause-so_far
-returns-in_err-got-clause-so_far g c = after_read _ _ _ _ _ c.read.result c.read.ensures.reads
+returns-in_err-got-clause-so_far g c = after_read _ _ _ _ _ c.read.result c.read.ensures.keeps.reads
 
 pub returns-in_err-answer-clause-so_far : goal.returns-in_err-answer-clause-so_far
-returns-in_err-answer-clause-so_far g c = after_read _ _ _ _ _ c.read.result c.read.ensures.reads
+returns-in_err-answer-clause-so_far g c = after_read _ _ _ _ _ c.read.result c.read.ensures.keeps.reads
 
 pub returns-in_err-path-clause-so_far : goal.returns-in_err-path-clause-so_far
-returns-in_err-path-clause-so_far g c = after_read _ _ _ _ _ c.read.result c.read.ensures.reads
+returns-in_err-path-clause-so_far g c = after_read _ _ _ _ _ c.read.result c.read.ensures.keeps.reads
 
 pub returns-in_err-push-clause-so_far : goal.returns-in_err-push-clause-so_far
 returns-in_err-push-clause-so_far g c =
-    subst (λ (noted : List Given). HasRead (g.M.Maildir.tree c.args.mail.now) (g.M.Maildir.reads c.args.mail.now) (g.M.Maildir.reads c.read.new.self) c.args.noted.now noted (c.args.path.now ∷ []))
-    (sym c.in_err-push.ensures.err) (after_read _ _ _ _ _ c.read.result c.read.ensures.reads)
+    subst (λ (noted : List Given). HasRead (g.M.Maildir.observed c.args.mail.now).tree (g.M.Maildir.observed c.args.mail.now).reads (g.M.Maildir.observed c.read.new.self).reads c.args.noted.now noted (c.args.path.now ∷ []))
+    (sym c.in_err-push.ensures.err) (after_read _ _ _ _ _ c.read.result c.read.ensures.keeps.reads)
 
 pub returns-clause-ok : goal.returns-clause-ok
-returns-clause-ok g c = one_read_all (g.M.Maildir.tree c.args.mail.now) _ _ c.args.noted.now _ c.args.path.now c.in_ok-got.got (c.in_ok-answer.answer, c.in_ok-answer.found) c.in_ok-answer.ensures c.in_ok-got.ensures.got
-    (c.in_ok-push.ensures.ok ∙ ap (λ (p : List ℕ). c.args.noted.now ++ given.Read p c.in_ok-answer.answer ∷ []) c.in_ok-path.ensures) c.in_ok-got.ensures.reads
+returns-clause-ok g c = one_read_all (g.M.Maildir.observed c.args.mail.now).tree _ _ c.args.noted.now _ c.args.path.now c.in_ok-got.got (c.in_ok-answer.answer, c.in_ok-answer.found) c.in_ok-answer.ensures c.in_ok-got.ensures.got
+    (c.in_ok-push.ensures.ok ∙ ap (λ (p : List ℕ). c.args.noted.now ++ given.Read p c.in_ok-answer.answer ∷ []) c.in_ok-path.ensures) c.in_ok-got.ensures.keeps.reads

@@ -16,5 +16,5 @@ returns-in-Request-Count-clause-asked g c = asked_nothing _ _ _ _ _ refl c.requi
 pub returns-in-Request-Count-clause-ok : goal.returns-in-Request-Count-clause-ok
 returns-in-Request-Count-clause-ok g c = λ old stands.
     let mail = g.M.Maildir in
-    count_line (mail.tree c.args.mail.now) (mail.reads c.args.mail.now) (mail.faults c.args.mail.now) c.args.index.now old c.args.line.now c.args.given.now c.as_slice.result.now c.in-Request-Count.ask c.count.result
+    count_line (mail.observed c.args.mail.now).tree (mail.observed c.args.mail.now).reads (mail.observed c.args.mail.now).faults c.args.index.now old c.args.line.now c.args.given.now c.as_slice.result.now c.in-Request-Count.ask c.count.result
     stands c.as_slice.ensures c.requires.fresh (sym c.in_ok-word.ensures ∙ (c.in-Request-Count.is ∙ ap asked.Request c.in-Request-Count.field-0-is)) c.count.ensures.outcome c.count.ensures.text c.count.ensures.steps

@@ -7,9 +7,9 @@ pub returns-clause-answers : goal.returns-clause-answers
 returns-clause-answers g c = λ old stands.
     let mail = g.M.Maildir in
     let done = c.answer-answered in
-    let leaves = line_answer (mail.tree c.args.mail.now) (mail.tree done.new.mail) (mail.reads c.args.mail.now) (mail.reads done.new.mail) (mail.faults c.args.mail.now) (mail.faults done.new.mail) c.args.index.now done.new.index
+    let leaves = line_answer (mail.observed c.args.mail.now).tree (mail.observed done.new.mail).tree (mail.observed c.args.mail.now).reads (mail.observed done.new.mail).reads (mail.observed c.args.mail.now).faults (mail.observed done.new.mail).faults c.args.index.now done.new.index
     old c.args.line.now.text c.as_slice.result.now done.new.given c.args.spare done.result c.answered_or-outcome.result stands c.as_slice.ensures c.answered_or-outcome.ensures c.requires.spare done.ensures.err (done.ensures.ok old stands) in
-    let asked = asked_lean (mail.tree c.args.mail.now) (mail.reads c.args.mail.now) (mail.reads done.new.mail) c.args.index.now old done.new.given stands done.ensures.asked in
+    let asked = asked_lean (mail.observed c.args.mail.now).tree (mail.observed c.args.mail.now).reads (mail.observed done.new.mail).reads c.args.index.now old done.new.given stands done.ensures.asked in
     record {
       index = leaves.index;
       stands = leaves.stands;

@@ -9,7 +9,7 @@ abbrev pub invariant-lines : goal.invariant-lines
 invariant-lines g l =
     let mail = g.M.Maildir in
     record {
-      run : Leaves l.index (λ index. Runs (opening_state (record { tree = mail.tree l.initial.mail; reads = mail.reads l.initial.mail; faults = mail.faults l.initial.mail })) (take l.line-index l.lines) l.logs.0 l.steps.0
-          (state_with (mail.tree l.mail) (mail.reads l.mail) (mail.faults l.mail) index));
+      run : Leaves l.index (λ index. Runs (opening_state (record { tree = (mail.observed l.initial.mail).tree; reads = (mail.observed l.initial.mail).reads; faults = (mail.observed l.initial.mail).faults })) (take l.line-index l.lines) l.logs.0 l.steps.0
+          (state_with (mail.observed l.mail).tree (mail.observed l.mail).reads (mail.observed l.mail).faults index));
       few : l.index.revision ≤ 2 * l.line-index;
     }

@@ -16,9 +16,9 @@ returns g c =
       lines = run.ensures.lines_are;
       all = run.ensures.all;
       run = run.ensures.run;
-      machine = machine-run (opening_state (mail_told (g.M.Maildir.tree c.args.mail.now) (g.M.Maildir.reads c.args.mail.now) (g.M.Maildir.faults c.args.mail.now))) run.ensures.last run.ensures.ran run.result.logs run.result.steps refl run.ensures.run;
+      machine = machine-run (opening_state (mail_told (g.M.Maildir.observed c.args.mail.now).tree (g.M.Maildir.observed c.args.mail.now).reads (g.M.Maildir.observed c.args.mail.now).faults)) run.ensures.last run.ensures.ran run.result.logs run.result.steps refl run.ensures.run;
       mail = sym run.ensures.mail;
-      out = subst (λ logs. Gains c.print_all-out_failed.result (told (g.O.Sink.taken c.args.out.now) (g.O.Sink.faults c.args.out.now)) (told (g.O.Sink.taken c.print_all-out_failed.new.out) (g.O.Sink.faults c.print_all-out_failed.new.out)) (printed logs)) c.as_slice.ensures c.print_all-out_failed.ensures;
+      out = subst (λ logs. Gains c.print_all-out_failed.result (told (g.O.Sink.observed c.args.out.now).bytes (g.O.Sink.observed c.args.out.now).faults) (told (g.O.Sink.observed c.print_all-out_failed.new.out).bytes (g.O.Sink.observed c.print_all-out_failed.new.out).faults) (printed logs)) c.as_slice.ensures c.print_all-out_failed.ensures;
       status = c.status_of_run-status.ensures ∙ ap (λ logs. session_status run.result.whole logs c.print_all-out_failed.result) c.as_slice-2.ensures;
       says = c.say_last.ensures;
     }

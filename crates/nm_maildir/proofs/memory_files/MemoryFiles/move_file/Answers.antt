@@ -1,8 +1,8 @@
 use Rattle.std.proofs.Common.{◌≡◌, ◌∙◌, Some, None, get_or, set, subst, sym, ap, arith}
-use Rattle.nm_maildir.specs.Held.{place_of}
+use Rattle.nm_maildir.specs.MemoryFiles.{place_of}
 use Rattle.nm_maildir.proofs.IndexLemmas.{below_length, IsIndex-moved, Puts, moved-held}
 use Rattle.nm_maildir.proofs.PlaceLemmas.{File, are_distinct-moved}
-use Rattle.nm_maildir.proofs.held.Held.move_file.Goals as goal
+use Rattle.nm_maildir.proofs.memory_files.MemoryFiles.move_file.Goals as goal
 
 pub index_mut-requires : goal.index_mut-requires
 index_mut-requires c =

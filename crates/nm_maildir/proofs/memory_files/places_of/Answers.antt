@@ -1,7 +1,7 @@
 use Rattle.std.proofs.Common.{◌≡◌, ◌∙◌, Some, ap, get_or, subst}
 use Rattle.nm_maildir.proofs.IndexLemmas.{IsIndex-push, Puts}
 use Rattle.nm_maildir.proofs.PlaceLemmas.{File}
-use Rattle.nm_maildir.proofs.held.places_of.Goals as goal
+use Rattle.nm_maildir.proofs.memory_files.places_of.Goals as goal
 
 pub files-preserved : goal.files-preserved
 files-preserved c =

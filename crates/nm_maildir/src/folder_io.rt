@@ -1,48 +1,48 @@
 ghost use Rattle.std.specs.Prelude.{IfOk};
 ghost use Rattle.nm_maildir.specs.Order.{AreInOrder};
 
-use crate::held::no_names;
+use crate::memory_files::no_names;
 use crate::names::into_list;
 use crate::{Got, Listing, Renamed};
 use nm_base::{MailPath, Many, NoMemory, Text};
 use std::alloc::{AllocError, AllocFailed, Global};
 use std::collections::BTreeSet;
-use std::fs::{self, Metadata};
+use std::fs;
 use std::io::{self, ErrorKind, Read};
 use std::rt::Files;
 
 /// Why a call on a real folder gave nothing.
 #[derive(Drop)]
-pub(crate) enum Trouble {
+pub(crate) enum FolderError {
     Io,
     NoMemory,
 }
 
-impl From<io::Error> for Trouble {
-    fn from(error: io::Error) -> Trouble {
+impl From<io::Error> for FolderError {
+    fn from(error: io::Error) -> FolderError {
         if error.kind() == ErrorKind::OutOfMemory {
-            Trouble::NoMemory
+            FolderError::NoMemory
         } else {
-            Trouble::Io
+            FolderError::Io
         }
     }
 }
 
-impl From<NoMemory> for Trouble {
-    fn from(_: NoMemory) -> Trouble {
-        Trouble::NoMemory
+impl From<NoMemory> for FolderError {
+    fn from(_: NoMemory) -> FolderError {
+        FolderError::NoMemory
     }
 }
 
-impl From<AllocError> for Trouble {
-    fn from(_: AllocError) -> Trouble {
-        Trouble::NoMemory
+impl From<AllocError> for FolderError {
+    fn from(_: AllocError) -> FolderError {
+        FolderError::NoMemory
     }
 }
 
-impl<T: Drop> From<AllocFailed<T>> for Trouble {
-    fn from(_: AllocFailed<T>) -> Trouble {
-        Trouble::NoMemory
+impl<T: Drop> From<AllocFailed<T>> for FolderError {
+    fn from(_: AllocFailed<T>) -> FolderError {
+        FolderError::NoMemory
     }
 }
 
@@ -51,11 +51,11 @@ pub(crate) fn names_at<R: Files + AllocGlobal + Clone + Drop>(
     rt: &R,
     root: &Text,
     dir: &Text,
-) -> Result<Listing, Trouble>
+) -> Result<Listing, FolderError>
     ensures { IfOk result (λ listing. AreInOrder listing) }
 {
     let alloc = rt.alloc();
-    let place = below(alloc, root.as_str(), dir.as_str())?;
+    let place = full_path(alloc, root.as_str(), dir.as_str())?;
     if !is_folder(rt, dir, place.as_str())? {
         return Ok(no_names(alloc));
     }
@@ -63,13 +63,13 @@ pub(crate) fn names_at<R: Files + AllocGlobal + Clone + Drop>(
     let mut files = BTreeSet::new(alloc);
     'entries: for entry in fs::read_dir(rt, place.as_str())? {
         let entry = entry?;
-        let Some(kind) = where_there(entry.metadata())? else {
+        let Some(file_type) = if_exists(entry.file_type())? else {
             continue;
         };
         let name = Text::of(alloc, entry.file_name())?;
-        if kind.is_dir() {
+        if file_type.is_dir() {
             dirs.insert(name)?;
-        } else if kind.is_file() {
+        } else if file_type.is_file() {
             files.insert(name)?;
         }
     }
@@ -84,9 +84,9 @@ pub(crate) fn bytes_in<R: Files + AllocGlobal>(
     root: &Text,
     path: &MailPath,
     max: u64,
-) -> Result<Got, Trouble> {
+) -> Result<Got, FolderError> {
     let alloc = rt.alloc();
-    let place = below(alloc, root.as_str(), path.text().as_str())?;
+    let place = full_path(alloc, root.as_str(), path.text().as_str())?;
     let Some(size) = file_size(rt, place.as_str())? else {
         return Ok(Got::Missing);
     };
@@ -96,12 +96,17 @@ pub(crate) fn bytes_in<R: Files + AllocGlobal>(
     match fs::open(rt, place.as_str()) {
         Ok(file) => read_up_to(alloc, file, size, max),
         Err(error) if error.kind() == ErrorKind::NotFound => Ok(Got::Missing),
-        Err(error) => Err(Trouble::from(error)),
+        Err(error) => Err(FolderError::from(error)),
     }
 }
 
 /// Reads a file that may have grown since its size was taken.
-fn read_up_to<F: Read + Drop>(alloc: Global, file: F, size: u64, max: u64) -> Result<Got, Trouble> {
+pub(crate) fn read_up_to<F: Read + Drop>(
+    alloc: Global,
+    file: F,
+    size: u64,
+    max: u64,
+) -> Result<Got, FolderError> {
     let mut bytes = Vec::with_capacity(alloc, size as usize)?;
     let mut front = file.take(max.saturating_add(1));
     front.read_to_end(&mut bytes)?;
@@ -117,14 +122,14 @@ pub(crate) fn rename_in<R: Files + AllocGlobal>(
     root: &Text,
     from: &MailPath,
     to: &MailPath,
-) -> Result<Renamed, Trouble> {
+) -> Result<Renamed, FolderError> {
     let alloc = rt.alloc();
-    let source = below(alloc, root.as_str(), from.text().as_str())?;
-    let target = below(alloc, root.as_str(), to.text().as_str())?;
+    let source = full_path(alloc, root.as_str(), from.text().as_str())?;
+    let target = full_path(alloc, root.as_str(), to.text().as_str())?;
     if file_size(rt, source.as_str())?.is_none() {
         return Ok(Renamed::Missing);
     }
-    if where_there(fs::symlink_metadata(rt, target.as_str()))?.is_some() {
+    if if_exists(fs::symlink_metadata(rt, target.as_str()))?.is_some() {
         return Ok(Renamed::Exists);
     }
     fs::rename(rt, source.as_str(), target.as_str())?;
@@ -132,37 +137,37 @@ pub(crate) fn rename_in<R: Files + AllocGlobal>(
 }
 
 /// Whether the folder is there. The root itself may be a link, no folder below it may.
-fn is_folder<R: Files>(rt: &R, dir: &Text, place: &str) -> Result<bool, Trouble> {
+fn is_folder<R: Files>(rt: &R, dir: &Text, place: &str) -> Result<bool, FolderError> {
     let found = if dir.as_str().is_empty() {
         fs::metadata(rt, place)
     } else {
         fs::symlink_metadata(rt, place)
     };
-    match where_there(found)? {
-        Some(kind) => Ok(kind.is_dir()),
+    match if_exists(found)? {
+        Some(metadata) => Ok(metadata.is_dir()),
         None => Ok(false),
     }
 }
 
 /// The size of a file, or none where no file is there. A link is no file.
-fn file_size<R: Files>(rt: &R, place: &str) -> Result<Option<u64>, Trouble> {
-    match where_there(fs::symlink_metadata(rt, place))? {
-        Some(kind) if kind.is_file() => Ok(Some(kind.len())),
+fn file_size<R: Files>(rt: &R, place: &str) -> Result<Option<u64>, FolderError> {
+    match if_exists(fs::symlink_metadata(rt, place))? {
+        Some(metadata) if metadata.is_file() => Ok(Some(metadata.len())),
         _ => Ok(None),
     }
 }
 
 /// What is known of a thing, or none where it is not there.
-fn where_there(found: io::Result<Metadata>) -> Result<Option<Metadata>, Trouble> {
+fn if_exists<T: Drop>(found: io::Result<T>) -> Result<Option<T>, FolderError> {
     match found {
-        Ok(kind) => Ok(Some(kind)),
+        Ok(known) => Ok(Some(known)),
         Err(error) if error.kind() == ErrorKind::NotFound => Ok(None),
-        Err(error) => Err(Trouble::from(error)),
+        Err(error) => Err(FolderError::from(error)),
     }
 }
 
 /// The path of the system for a path below the root.
-fn below(alloc: Global, root: &str, path: &str) -> Result<String, Trouble> {
+fn full_path(alloc: Global, root: &str, path: &str) -> Result<String, FolderError> {
     let mut place = String::from_str(alloc, root)?;
     if !path.is_empty() {
         place.push('/')?;

@@ -1,6 +1,6 @@
 ghost use Rattle.std.specs.Bool.{OnFalse};
 ghost use Rattle.std.specs.Prelude.{◌≡◌, [], true, None, Some, is_some, IfOk, IsTrue, OnOk, OnErr};
-ghost use Rattle.nm_maildir.specs.Held.{IsIndex, Locates, place_of};
+ghost use Rattle.nm_maildir.specs.MemoryFiles.{IsIndex, Locates, place_of};
 ghost use Rattle.nm_maildir.specs.Order.{AreInOrder};
 ghost use Rattle.nm_maildir.specs.Still.{are_distinct, paths_of};
 ghost use Rattle.nm_maildir.specs.Tree.{bytes_at, got_from};
@@ -13,7 +13,7 @@ use std::collections::BTreeMap;
 
 /// Folders, and files with their bytes, in memory. The places of the files are gathered at the first look-up.
 #[derive(Drop)]
-pub(crate) struct Held {
+pub(crate) struct MemoryFiles {
     alloc: Global,
     dirs: Many<Text>,
     files: Vec<(MailPath, Many<u8>)>,
@@ -23,16 +23,20 @@ pub(crate) struct Held {
     ghost indexed: { is_indexed ≡ true → IsIndex places files.items },
 }
 
-impl Held {
-    ghost use Rattle.nm_maildir.specs.HeldTree.{held_tree};
+impl MemoryFiles {
+    ghost use Rattle.nm_maildir.specs.MemoryTree.{tree_of};
     ghost use Rattle.nm_maildir.specs.Tree.{got_of, is_folder, listing_of, moved, renamed_of};
-    ghost use Rattle.nm_maildir.specs.Calls.{tree_with};
+    ghost use Rattle.nm_maildir.specs.Observed.{tree_with};
 
-    pub(crate) fn new(alloc: Global, dirs: Many<Text>, files: Many<(MailPath, Many<u8>)>) -> Held
+    pub(crate) fn new(
+        alloc: Global,
+        dirs: Many<Text>,
+        files: Many<(MailPath, Many<u8>)>,
+    ) -> MemoryFiles
         requires { IsTrue (are_distinct (paths_of files)) }
-        ensures { held_tree result ≡ record { dirs = dirs; files = files } }
+        ensures { tree_of result ≡ record { dirs = dirs; files = files } }
     {
-        Held {
+        MemoryFiles {
             alloc,
             dirs,
             files: files.into_vec(),
@@ -42,7 +46,7 @@ impl Held {
     }
 
     pub(crate) fn list(&self, dir: &Text) -> Result<Listing, NoMemory>
-        ensures listed { IfOk result (λ listing. listing ≡ listing_of (held_tree self.now) dir.now) }
+        ensures listed { IfOk result (λ listing. listing ≡ listing_of (tree_of self.now) dir.now) }
         ensures order { IfOk result (λ listing. AreInOrder listing) }
     {
         if !self.has_folder(dir) {
@@ -54,15 +58,15 @@ impl Held {
     }
 
     fn has_folder(&self, dir: &Text) -> bool
-        ensures { result ≡ is_folder (held_tree self.now) dir.now }
+        ensures { result ≡ is_folder (tree_of self.now) dir.now }
     {
         dir.as_str().is_empty() || self.dirs.as_slice().contains(dir)
     }
 
     /// The bytes of a file, where it has at most `max`.
     pub(crate) fn read(&mut self, path: &MailPath, max: u64) -> Result<Got, NoMemory>
-        ensures got { IfOk result (λ got. got ≡ got_of (held_tree self.old) path.now max) }
-        ensures tree { held_tree self.new ≡ held_tree self.old }
+        ensures got { IfOk result (λ got. got ≡ got_of (tree_of self.old) path.now max) }
+        ensures tree { tree_of self.new ≡ tree_of self.old }
     {
         self.index()?;
         match self.place(path) {
@@ -73,8 +77,8 @@ impl Held {
 
     /// Renames a file, where the target is not there yet.
     pub(crate) fn rename(&mut self, from: &MailPath, to: &MailPath) -> Result<Renamed, NoMemory>
-        ensures renamed { IfOk result (λ renamed. renamed ≡ renamed_of (held_tree self.old) from.now to.now) }
-        ensures tree { held_tree self.new ≡ tree_with (held_tree self.old) from.now to.now result }
+        ensures renamed { IfOk result (λ renamed. renamed ≡ renamed_of (tree_of self.old) from.now to.now) }
+        ensures tree { tree_of self.new ≡ tree_with (tree_of self.old) from.now to.now result }
     {
         self.index()?;
         let Some(at) = self.place(from) else {
@@ -90,7 +94,7 @@ impl Held {
     /// Gathers the places, where that was not done yet.
     fn index(&mut self) -> Result<(), NoMemory>
         ensures ok { OnOk result (self.new.is_indexed ≡ true) }
-        ensures tree { held_tree self.new ≡ held_tree self.old }
+        ensures tree { tree_of self.new ≡ tree_of self.old }
     {
         if !self.is_indexed {
             self.places = places_of(self.alloc, self.files.as_slice())?;
@@ -122,8 +126,8 @@ impl Held {
         requires indexed { self.old.is_indexed ≡ true }
         requires found { place_of self.old.files.items from.now ≡ Some at }
         requires missing { place_of self.old.files.items to.now ≡ None }
-        ensures ok { OnOk result (held_tree self.new ≡ moved (held_tree self.old) from.now to.now) }
-        ensures err { OnErr result (held_tree self.new ≡ held_tree self.old) }
+        ensures ok { OnOk result (tree_of self.new ≡ moved (tree_of self.old) from.now to.now) }
+        ensures err { OnErr result (tree_of self.new ≡ tree_of self.old) }
     {
         let path = to.copy()?;
         self.places.insert(to.copy()?, at)?;

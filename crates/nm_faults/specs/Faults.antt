@@ -1,0 +1,25 @@
+-- Faults of the outside: each object counts its own, in a number below 2 ^ 64 that never falls.
+use Rattle.std.specs.Prelude.{◌≡◌, ℕ, ◌+◌, ◌<◌, ◌≤◌, Bool, true, false, min, Result, MatchResult}
+use Rattle.nm_base.specs.declared.memory.Failed.{Failed}
+
+-- one more, in a count that stops at its type's end
+abbrev pub one_more : ℕ → ℕ
+one_more count = min (count + 1) 18446744073709551615
+
+-- The count rose. One that stands at its type's end may count as risen.
+abbrev pub HasRisen : ℕ → ℕ → Type 0
+HasRisen before now = (before ≤ now) × (before < 18446744073709551615 → before < now)
+
+-- the count rose where there was a fault, and else it stands
+abbrev pub Counts : Bool → ℕ → ℕ → Type 0
+Counts true before now = HasRisen before now
+Counts false before now = now ≡ before
+
+-- A call answers an error that is a fault only where the count rose, and else the count stands.
+-- Any other error is free: no clause tells that memory was really out.
+abbrev pub HasCauseOf : {T E : Type 0} → (E → Bool) → ℕ → ℕ → Result T E → Type 0
+HasCauseOf is_fault before now result = MatchResult result (λ _. now ≡ before) (λ e. Counts (is_fault e) before now)
+
+-- a call that can only fail by a fault
+abbrev pub HasCause : {T : Type 0} → ℕ → ℕ → Result T Failed → Type 0
+HasCause before now result = HasCauseOf (λ _. true) before now result

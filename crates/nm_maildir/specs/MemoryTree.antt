@@ -1,0 +1,6 @@
+-- What a tree in memory stands for.
+use Rattle.nm_maildir.specs.declared.memory_files.MemoryFiles.{MemoryFiles}
+use Rattle.nm_maildir.specs.Tree.{Tree}
+
+abbrev pub tree_of : MemoryFiles → Tree
+tree_of memory = record { dirs = memory.dirs; files = memory.files.items }
