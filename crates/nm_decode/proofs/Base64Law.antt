@@ -6,8 +6,8 @@ use Rattle.base64.specs.Engines.{standard}
 use Rattle.base64.specs.GeneralPurpose.{encode_of, engine_symbols}
 use Rattle.base64.specs.Rfc4648.{encode_symbols, padding_len}
 use Rattle.base64.specs.Tables.{all_below}
+use Rattle.nm_text.specs.Cuts.{is_byte}
 use Rattle.nm_decode.specs.Base64.{base64_of, bytes_of_groups, is_symbol, kept, six_bits}
-use Rattle.nm_decode.specs.Bytes.{is_byte}
 
 -- the character of six bits
 abbrev pub symbol_at : ℕ → ℕ

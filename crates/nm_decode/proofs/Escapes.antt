@@ -4,7 +4,8 @@ use Rattle.std.specs.List.{position_or_len}
 use Rattle.std.proofs.lemmas.List.{append-nil, get_or-drop, length-drop}
 use Rattle.std.proofs.lemmas.List.Sums.{passes_at_first}
 use Rattle.std.proofs.lemmas.Bool.Decides.{nat_tests}
-use Rattle.nm_decode.specs.Bytes.{escape_of, hex_byte, is_byte, is_hex}
+use Rattle.nm_text.specs.Cuts.{is_byte}
+use Rattle.nm_decode.specs.Bytes.{escape_of, hex_byte, is_hex}
 use Rattle.nm_decode.specs.QuotedPrintable.{unescaped}
 
 -- a byte that is no `=` stands for itself

@@ -5,7 +5,9 @@ use Rattle.std.specs.Option.{option_and_then, option_map}
 use Rattle.std.proofs.lemmas.Bool.{and_parts, or_parts}
 use Rattle.std.proofs.lemmas.Bool.Decides.{nat_tests}
 use Rattle.std.proofs.lemmas.List.{append-nil, drop_at, length-append, take_at}
-use Rattle.nm_decode.specs.Bytes.{is_byte, is_white}
+use Rattle.nm_base.specs.Bounds.{is_white_space}
+use Rattle.nm_text.specs.Cuts.{is_byte}
+use Rattle.nm_text.specs.WhiteSpace.{is_all_white_space}
 use Rattle.nm_decode.specs.EncodedWords.{Cut, and_then_cut, between, cut_found, cut_words, fields_of, first_word, joined, or_later, pieces_of, word_of, word_of_fields, words_decoded}
 use Rattle.nm_decode.specs.Laws.{IsWordOf, has_mark, word_written}
 use Rattle.nm_decode.specs.declared.words.EncodedWord.{EncodedWord}
@@ -62,22 +64,22 @@ other-first : (b : ℕ) (rest : List ℕ) → eqb b 61 ≡ false → word_of (b 
 other-first b [] e = ap (option_and_then word_of_fields) (too_short (b ∷ []) (omega arith))
 other-first b (c ∷ rest) e = ap (option_and_then word_of_fields) (not_opened b c rest (λ k. (cc)))
 
-white-first : (b : ℕ) → is_white b ≡ true → eqb b 61 ≡ false
+white-first : (b : ℕ) → is_white_space b ≡ true → eqb b 61 ≡ false
 white-first b h = grind (arith, nat_tests)
 
 -- the first word behind a gap
-first-behind : (gap rest : List ℕ) (word : EncodedWord) → list_all is_white gap ≡ true → first_word rest ≡ Some (record { at = 0; word = word })
+first-behind : (gap rest : List ℕ) (word : EncodedWord) → is_all_white_space gap ≡ true → first_word rest ≡ Some (record { at = 0; word = word })
     → first_word (gap ++ rest) ≡ Some (record { at = length gap; word = word })
 first-behind [] rest word h e = e
 first-behind (b ∷ gap) rest word h e =
-    let p = and_parts (is_white b) (list_all is_white gap) h in
+    let p = and_parts (is_white_space b) (list_all is_white_space gap) h in
     let n : length gap + 1 ≡ length (b ∷ gap) = omega arith in
     ap (λ o. or_later o (first_word (gap ++ rest))) (other-first b (gap ++ rest) (white-first b p.0))
     ∙ ap (or_later None) (first-behind gap rest word p.1 e)
     ∙ ap (λ i. Some (record { at = i; word = word })) n
 
 -- the cut of a text at the word behind a gap
-cut-word : {word text : List ℕ} (w : IsWordOf word text) (n : ℕ) (gap rest : List ℕ) → list_all is_white gap ≡ true
+cut-word : {word text : List ℕ} (w : IsWordOf word text) (n : ℕ) (gap rest : List ℕ) → is_all_white_space gap ≡ true
     → cut_words (suc n) (gap ++ (word ++ rest)) ≡ and_then_cut gap text (cut_words n rest)
 cut-word {word} {text} w n gap rest h =
     let all = gap ++ (word ++ rest) in
@@ -100,7 +102,7 @@ beside-from : {word text : List ℕ} (w : IsWordOf word text) (n : ℕ) (after :
 beside-from {word} {text} w n after m =
     ap shown (cut-word w n [] after refl) ∙ ap (λ cut. shown (and_then_cut [] text cut)) (cut-none n after (no-word after m))
 
-between-from : {first second a b : List ℕ} (v : IsWordOf first a) (w : IsWordOf second b) (n : ℕ) (gap after : List ℕ) → list_all is_white gap ≡ true → has_mark after ≡ false
+between-from : {first second a b : List ℕ} (v : IsWordOf first a) (w : IsWordOf second b) (n : ℕ) (gap after : List ℕ) → is_all_white_space gap ≡ true → has_mark after ≡ false
     → shown (cut_words (suc (suc n)) (first ++ (gap ++ (second ++ after)))) ≡ a ++ (b ++ after)
 between-from {first} {second} {a} {b} v w n gap after h m =
     ap shown (cut-word v (suc n) [] (gap ++ (second ++ after)) refl)
@@ -113,7 +115,7 @@ between-from {first} {second} {a} {b} v w n gap after h m =
 long : {word text : List ℕ} (w : IsWordOf word text) (rest : List ℕ) → (n : ℕ) × (length (word ++ rest) ≡ suc (suc n))
 long w rest = (_, ap length (whole-front w rest))
 
-pub words-joined : (first second a b gap after : List ℕ) → IsWordOf first a → IsWordOf second b → list_all is_white gap ≡ true → has_mark after ≡ false
+pub words-joined : (first second a b gap after : List ℕ) → IsWordOf first a → IsWordOf second b → is_all_white_space gap ≡ true → has_mark after ≡ false
     → words_decoded (first ++ (gap ++ (second ++ after))) ≡ a ++ (b ++ after)
 words-joined first second a b gap after v w h m =
     let l = long v (gap ++ (second ++ after)) in

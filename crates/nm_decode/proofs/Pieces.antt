@@ -4,7 +4,7 @@ use Rattle.std.specs.List.{onto_first, position_or_len, slice_split}
 use Rattle.std.proofs.lemmas.List.Splits.{slice_split_first}
 use Rattle.std.proofs.lemmas.List.Sums.{passes_at_first, split_at_first}
 use Rattle.std.proofs.lemmas.Bool.Decides.{nat_tests}
-use Rattle.nm_decode.specs.Bytes.{is_byte}
+use Rattle.nm_text.specs.Cuts.{is_byte}
 use Rattle.nm_decode.specs.EncodedWords.{begins_with_equals, fields_of, is_equals, pieces_of}
 
 -- a first piece that is no `=` begins no word

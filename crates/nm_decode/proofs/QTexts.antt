@@ -2,7 +2,8 @@
 use Rattle.std.proofs.Common.{◌≡◌, ℕ, suc, Bool, true, false, ◌&&◌, List, [], ◌∷◌, Some, None, drop, refl, sym, ap, ◌∙◌, eqb, arith}
 use Rattle.std.specs.List.{position_or_len}
 use Rattle.std.specs.Option.{is_some}
-use Rattle.nm_decode.specs.Bytes.{escape_of, is_byte}
+use Rattle.nm_text.specs.Cuts.{is_byte}
+use Rattle.nm_decode.specs.Bytes.{escape_of}
 use Rattle.nm_decode.specs.EncodedWords.{is_q_text}
 use Rattle.nm_decode.proofs.Escapes.{equals-first}
 

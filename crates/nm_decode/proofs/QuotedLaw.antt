@@ -4,9 +4,12 @@ use Rattle.std.specs.List.{flat_map, onto_first, suffix_len}
 use Rattle.std.proofs.lemmas.List.{length-append, get_or_at, take_at}
 use Rattle.std.proofs.lemmas.List.Sums.{suffix_len_is}
 use Rattle.std.proofs.lemmas.Bool.Decides.{nat_tests}
-use Rattle.nm_decode.specs.Bytes.{hex_byte, hex_value, is_hex, is_white}
+use Rattle.nm_base.specs.Bounds.{is_white_space}
+use Rattle.nm_text.specs.Lines.{lines_of}
+use Rattle.nm_text.specs.WhiteSpace.{trimmed_end}
+use Rattle.nm_decode.specs.Bytes.{hex_byte, hex_value, is_hex}
 use Rattle.nm_decode.specs.Laws.{IsPlainTest, hex_digit, quoted_byte, quoted_line}
-use Rattle.nm_decode.specs.QuotedPrintable.{ends_with, line_bytes, lines_of, quoted_of, trimmed_end, unescaped}
+use Rattle.nm_decode.specs.QuotedPrintable.{ends_with, line_bytes, quoted_of, unescaped}
 use Rattle.nm_decode.proofs.Escapes.{unescaped-plain}
 
 -- hex digits
@@ -80,15 +83,15 @@ joined xs rest = sym (append_assoc xs (61 ∷ []) (10 ∷ rest))
 length-pushed : (xs : List ℕ) → length (xs ++ 61 ∷ []) ≡ length xs + 1
 length-pushed xs = length-append xs (61 ∷ [])
 
-soft-suffix : (xs : List ℕ) → suffix_len is_white (xs ++ 61 ∷ 10 ∷ []) ≡ length (xs ++ 61 ∷ 10 ∷ []) - (length xs + 1)
+soft-suffix : (xs : List ℕ) → suffix_len is_white_space (xs ++ 61 ∷ 10 ∷ []) ≡ length (xs ++ 61 ∷ 10 ∷ []) - (length xs + 1)
 soft-suffix xs =
     let line = xs ++ 61 ∷ 10 ∷ [] in
     let len : length line ≡ length xs + 2 = length-append xs (61 ∷ 10 ∷ []) in
     let e : get_or line (length xs) 0 ≡ 61 = get_or_at xs 61 (10 ∷ []) 0 (length xs) refl in
     let f : get_or line (length xs + 1) 0 ≡ 10 = ap (λ ys. get_or ys (length xs + 1) 0) (joined xs []) ∙ get_or_at (xs ++ 61 ∷ []) 10 [] 0 (length xs + 1) (length-pushed xs) in
-    suffix_len_is is_white line (length xs + 1) 0 (omega arith)
-    (λ k l m. let q : k ≡ length xs + 1 = omega arith in ap (λ i. is_white (get_or line i 0)) q ∙ ap is_white f)
-    (λ _. let q : length xs + 1 - 1 ≡ length xs = omega arith in ap (λ i. is_white (get_or line i 0)) q ∙ ap is_white e)
+    suffix_len_is is_white_space line (length xs + 1) 0 (omega arith)
+    (λ k l m. let q : k ≡ length xs + 1 = omega arith in ap (λ i. is_white_space (get_or line i 0)) q ∙ ap is_white_space f)
+    (λ _. let q : length xs + 1 - 1 ≡ length xs = omega arith in ap (λ i. is_white_space (get_or line i 0)) q ∙ ap is_white_space e)
 
 soft-trimmed : (xs : List ℕ) → trimmed_end (xs ++ 61 ∷ 10 ∷ []) ≡ xs ++ 61 ∷ []
 soft-trimmed xs =

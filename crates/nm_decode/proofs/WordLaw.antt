@@ -12,7 +12,8 @@ use Rattle.base64.specs.GeneralPurpose.{encode_of}
 use Rattle.base64.specs.Rfc4648.{padding_len}
 use Rattle.base64.specs.Tables.{all_below}
 use Rattle.base64.proofs.EngineFacts.{decode_of-encode_of}
-use Rattle.nm_decode.specs.Bytes.{escape_of, hex_byte, is_hex, is_white}
+use Rattle.nm_base.specs.Bounds.{is_white_space}
+use Rattle.nm_decode.specs.Bytes.{escape_of, hex_byte, is_hex}
 use Rattle.nm_decode.specs.Charsets.{text_of}
 use Rattle.nm_decode.specs.EncodedWords.{Cut, b_bytes, cut_found, cut_words, fields_of, first_word, is_field, is_q_text, joined, later_word, or_later, pieces_of, q_bytes, spaced, words_decoded, word_bytes, word_of, word_of_fields, word_text}
 use Rattle.nm_decode.specs.Laws.{IsQTest, IsPlainTest, b_word, hex_digit, q_word, quoted_byte, quoted_line}
@@ -24,7 +25,7 @@ use Rattle.nm_decode.proofs.QuotedLaw.{digit-hex, unescaped-back}
 -- neither white space nor `?` among the bytes
 abbrev Clean : List ℕ → Type 0
 Clean [] = Unit {0}
-Clean (b ∷ bytes) = (is_white b ≡ false) × (eqb b 63 ≡ false) × Clean bytes
+Clean (b ∷ bytes) = (is_white_space b ≡ false) × (eqb b 63 ≡ false) × Clean bytes
 
 clean-field : (xs : List ℕ) → Clean xs → is_field xs ≡ true
 clean-field [] h = refl
@@ -82,7 +83,7 @@ q-of encoded bytes u h e =
 
 -- the characters of base64 are clean
 abbrev is_clean : ℕ → Bool
-is_clean v = not (is_white (symbol_at v)) && not (eqb (symbol_at v) 63)
+is_clean v = not (is_white_space (symbol_at v)) && not (eqb (symbol_at v) 63)
 
 all_clean : all_below is_clean 64 ≡ true
 all_clean = refl
@@ -95,7 +96,7 @@ not-both false false e = (refl, refl)
 clean-symbols : (vs : List ℕ) → Small vs → Clean (map symbol_at vs)
 clean-symbols [] h = tt
 clean-symbols (v ∷ vs) h =
-    let p = not-both (is_white (symbol_at v)) (eqb (symbol_at v) 63) (below is_clean 64 v h.0 all_clean) in
+    let p = not-both (is_white_space (symbol_at v)) (eqb (symbol_at v) 63) (below is_clean 64 v h.0 all_clean) in
     (p.0, p.1, clean-symbols vs h.1)
 
 clean-padding : (k : ℕ) → Clean (replicate k 61)
@@ -121,13 +122,13 @@ b_word_back m u h =
 abbrev QText : List ℕ → Type 0
 QText xs = Clean xs × (is_q_text xs ≡ true) × (map spaced xs ≡ xs)
 
-digit-clean : (n : ℕ) → n < 16 → (is_white (hex_digit n) ≡ false) × (eqb (hex_digit n) 63 ≡ false) × (eqb (hex_digit n) 61 ≡ false) × (eqb (hex_digit n) 95 ≡ false)
+digit-clean : (n : ℕ) → n < 16 → (is_white_space (hex_digit n) ≡ false) × (eqb (hex_digit n) 63 ≡ false) × (eqb (hex_digit n) 61 ≡ false) × (eqb (hex_digit n) 95 ≡ false)
 digit-clean n h = (grind (arith, nat_tests), grind (arith, nat_tests), grind (arith, nat_tests), grind (arith, nat_tests))
 
 spaced-same : (b : ℕ) → eqb b 95 ≡ false → spaced b ≡ b
 spaced-same b e = ap (λ t. cond t 32 b) e
 
-q-plain : (b : ℕ) (rest : List ℕ) → is_white b ≡ false → eqb b 63 ≡ false → eqb b 61 ≡ false → eqb b 95 ≡ false → QText rest → QText (b ∷ rest)
+q-plain : (b : ℕ) (rest : List ℕ) → is_white_space b ≡ false → eqb b 63 ≡ false → eqb b 61 ≡ false → eqb b 95 ≡ false → QText rest → QText (b ∷ rest)
 q-plain b rest w m e s q = ((w, m, q.0), rw e q.1, ap (λ x. x ∷ map spaced rest) (spaced-same b s) ∙ ap (λ xs. b ∷ xs) q.2)
 
 q-mark : (rest : List ℕ) → is_some (escape_of rest) ≡ true → QText rest → QText (61 ∷ rest)

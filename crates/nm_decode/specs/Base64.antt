@@ -1,7 +1,8 @@
 -- Base64 (RFC 2045, section 6.8), read leniently: what is no symbol is passed over, and the first `=` ends the data.
 use Rattle.std.specs.Prelude.{ℕ, Bool, ◌||◌, ◌==◌, if◌then◌else◌, ◌+◌, ◌-◌, ◌*◌, ◌/◌, ◌%◌, List, [], ◌∷◌, map, Option, None, Some}
 use Rattle.std.specs.List.{before_first, filter}
-use Rattle.nm_decode.specs.Bytes.{is_between, is_byte}
+use Rattle.nm_text.specs.Cuts.{is_byte}
+use Rattle.nm_decode.specs.Bytes.{is_between}
 
 -- a character of the alphabet: A to Z, a to z, 0 to 9, `+`, `/`
 abbrev pub is_symbol : ℕ → Bool

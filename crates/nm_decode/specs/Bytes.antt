@@ -1,9 +1,5 @@
 -- Tests on bytes that more than one encoding uses.
-use Rattle.std.specs.Prelude.{ℕ, Bool, ◌||◌, ◌&&◌, ◌==◌, nat_lt, nat_le, if◌then◌else◌, ◌+◌, ◌-◌, ◌*◌, List, ◌∷◌, Option, None, Some}
-
--- space, tab, CR or LF
-abbrev pub is_white : ℕ → Bool
-is_white b = b == 32 || b == 9 || b == 13 || b == 10
+use Rattle.std.specs.Prelude.{ℕ, Bool, ◌||◌, ◌&&◌, nat_lt, nat_le, if◌then◌else◌, ◌+◌, ◌-◌, ◌*◌, List, ◌∷◌, Option, None, Some}
 
 -- `lo` to `hi`
 abbrev pub is_between : ℕ → ℕ → ℕ → Bool
@@ -20,10 +16,6 @@ hex_value b = if nat_lt b 58 then b - 48 else (if nat_lt b 71 then b - 55 else b
 -- the byte of two hex digits
 abbrev pub hex_byte : ℕ → ℕ → ℕ
 hex_byte high low = hex_value high * 16 + hex_value low
-
--- this byte
-abbrev pub is_byte : ℕ → ℕ → Bool
-is_byte wanted b = b == wanted
 
 -- the value of a hex digit, where it is one
 abbrev pub hex_of : ℕ → Option ℕ

@@ -1,20 +1,16 @@
 -- Charsets (RFC 2045, section 2.2; RFC 2046, section 4.1.2): the text of bytes under a label.
-use Rattle.std.specs.Prelude.{ℕ, Bool, ◌||◌, nat_lt, if◌then◌else◌, List, map, codes}
-use Rattle.std.specs.Char.{to_ascii_lowercase}
-use Rattle.std.specs.Str.{bytes_eq, encode_utf8_all}
+use Rattle.std.specs.Prelude.{ℕ, ◌||◌, nat_lt, if◌then◌else◌, List, map, codes}
+use Rattle.std.specs.Str.{encode_utf8_all}
 use Rattle.std.specs.Str.Lossy.{utf8_lossy}
+use Rattle.nm_text.specs.Case.{same_ignoring_case}
 use Rattle.nm_decode.specs.declared.charset.Charset.{Charset}
 use Rattle.nm_decode.specs.declared.charset.Charset.TheVariants.{Ascii, Latin1, Utf8}
-
--- the two are one, without ASCII case
-abbrev pub is_label : List ℕ → List ℕ → Bool
-is_label label name = bytes_eq (map to_ascii_lowercase label) (map to_ascii_lowercase name)
 
 -- the charset of a label: one row a charset
 abbrev pub charset_of : List ℕ → Charset
 charset_of label =
-    if is_label label (codes "utf-8") || is_label label (codes "utf8") then Utf8
-    else (if is_label label (codes "iso-8859-1") || is_label label (codes "latin1") then Latin1
+    if same_ignoring_case label (codes "utf-8") || same_ignoring_case label (codes "utf8") then Utf8
+    else (if same_ignoring_case label (codes "iso-8859-1") || same_ignoring_case label (codes "latin1") then Latin1
     else Ascii)
 
 -- the character of a byte in a charset of one byte a character: one row a charset, and ASCII, with U+FFFD above 0x7F

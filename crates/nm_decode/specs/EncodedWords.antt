@@ -5,7 +5,10 @@ use Rattle.std.specs.Option.{is_some, option_and_then, option_map}
 use Rattle.std.specs.Result.{result_ok}
 use Rattle.base64.specs.Engines.{standard}
 use Rattle.base64.specs.GeneralPurpose.{decode_of}
-use Rattle.nm_decode.specs.Bytes.{escape_of, is_byte, is_white}
+use Rattle.nm_base.specs.Bounds.{is_white_space}
+use Rattle.nm_text.specs.Cuts.{is_byte}
+use Rattle.nm_text.specs.WhiteSpace.{is_all_white_space}
+use Rattle.nm_decode.specs.Bytes.{escape_of}
 use Rattle.nm_decode.specs.Charsets.{text_of}
 use Rattle.nm_decode.specs.QuotedPrintable.{unescaped}
 use Rattle.nm_decode.specs.declared.words.FoundWord.{FoundWord}
@@ -36,7 +39,7 @@ word_bytes _ text = None
 
 -- no white space stands in it
 abbrev pub is_field : List ℕ → Bool
-is_field field = list_all (λ b. not (is_white b)) field
+is_field field = list_all (λ b. not (is_white_space b)) field
 
 -- the text of a word with this charset, encoding and encoded text; a language after `*` counts for nothing
 abbrev pub word_text : List ℕ → List ℕ → List ℕ → Option (List ℕ)
@@ -105,7 +108,7 @@ cut_words (suc n) text = cut_found (cut_words n) text (first_word text)
 
 -- a gap between two words: white space alone goes
 abbrev pub between : List ℕ → List ℕ
-between gap = if list_all is_white gap then [] else gap
+between gap = if is_all_white_space gap then [] else gap
 
 -- a word after another, with the gap between them
 abbrev pub later_word : List ℕ × List ℕ → List ℕ

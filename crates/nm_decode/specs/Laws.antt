@@ -3,7 +3,8 @@ use Rattle.std.specs.Prelude.{◌≡◌, ◌≢◌, ℕ, Bool, true, false, ◌&
 use Rattle.std.specs.List.{flat_map, list_any}
 use Rattle.base64.specs.Engines.{standard}
 use Rattle.base64.specs.GeneralPurpose.{encode_of}
-use Rattle.nm_decode.specs.Bytes.{is_byte, is_white}
+use Rattle.nm_base.specs.Bounds.{is_white_space}
+use Rattle.nm_text.specs.Cuts.{is_byte}
 use Rattle.nm_decode.specs.EncodedWords.{word_text}
 
 -- a `=?` stands somewhere in the text
@@ -14,7 +15,7 @@ has_mark (a ∷ b ∷ more) = a == 61 && b == 63 || has_mark (b ∷ more)
 
 -- bytes that may stand for themselves in quoted-printable: neither `=` nor white space
 abbrev pub IsPlainTest : (ℕ → Bool) → Type 0
-IsPlainTest plain = (b : ℕ) → plain b ≡ true → (b ≢ 61) × (is_white b ≡ false)
+IsPlainTest plain = (b : ℕ) → plain b ≡ true → (b ≢ 61) × (is_white_space b ≡ false)
 
 -- the hex digit of a number below 16
 abbrev pub hex_digit : ℕ → ℕ
@@ -34,7 +35,7 @@ b_word text = codes "=?utf-8?B?" ++ (encode_of standard text ++ codes "?=")
 
 -- bytes that may stand for themselves in Q: neither `=`, `?`, `_` nor white space
 abbrev pub IsQTest : (ℕ → Bool) → Type 0
-IsQTest plain = (b : ℕ) → plain b ≡ true → (b ≢ 61) × (is_white b ≡ false) × (b ≢ 63) × (b ≢ 95)
+IsQTest plain = (b : ℕ) → plain b ≡ true → (b ≢ 61) × (is_white_space b ≡ false) × (b ≢ 63) × (b ≢ 95)
 
 -- a text as one encoded word in Q
 abbrev pub q_word : (ℕ → Bool) → List ℕ → List ℕ

@@ -1,12 +1,9 @@
 -- Quoted-printable (RFC 2045, section 6.7), read leniently: a `=` that begins no escape and ends no line stands for itself.
 use Rattle.std.specs.Prelude.{ℕ, Bool, ◌&&◌, ◌==◌, nat_lt, if◌then◌else◌, ◌-◌, List, [], ◌∷◌, ◌++◌, length, take, slice_index}
-use Rattle.std.specs.List.{flat_map, onto_first, suffix_len}
-use Rattle.nm_decode.specs.Bytes.{hex_byte, is_hex, is_white}
-
--- the lines, each with its LF, which the last may lack
-abbrev pub lines_of : List ℕ → List (List ℕ)
-lines_of [] = []
-lines_of (b ∷ more) = if b == 10 then (b ∷ []) ∷ lines_of more else onto_first b (lines_of more)
+use Rattle.std.specs.List.{flat_map}
+use Rattle.nm_text.specs.Lines.{lines_of}
+use Rattle.nm_text.specs.WhiteSpace.{trimmed_end}
+use Rattle.nm_decode.specs.Bytes.{hex_byte, is_hex}
 
 -- `=` and two hex digits become their byte
 abbrev pub unescaped : List ℕ → List ℕ
@@ -15,10 +12,6 @@ unescaped (a ∷ []) = a ∷ []
 unescaped (a ∷ b ∷ []) = a ∷ b ∷ []
 unescaped (a ∷ b ∷ c ∷ more) =
     if a == 61 && is_hex b && is_hex c then hex_byte b c ∷ unescaped more else a ∷ unescaped (b ∷ c ∷ more)
-
--- without the white space at the end, the LF too
-abbrev pub trimmed_end : List ℕ → List ℕ
-trimmed_end line = take (length line - suffix_len is_white line) line
 
 -- the last byte is this one
 abbrev pub ends_with : ℕ → List ℕ → Bool

@@ -1,7 +1,6 @@
 -- Encoded words, step by step: what the private functions say.
 use Rattle.std.specs.Prelude.{◌≡◌, ℕ, zero, suc, ◌+◌, ◌-◌, ◌<◌, ◌≤◌, Bool, true, ◌&&◌, if◌then◌else◌, List, [], ◌∷◌, ◌++◌, length, take, drop, Option, None, Some, slice_index}
-use Rattle.std.specs.List.{list_all}
-use Rattle.nm_decode.specs.Bytes.{is_white}
+use Rattle.nm_text.specs.WhiteSpace.{is_all_white_space}
 use Rattle.nm_decode.specs.EncodedWords.{first_word}
 use Rattle.nm_decode.specs.declared.words.FoundWord.{FoundWord}
 
@@ -19,7 +18,7 @@ pub record IsSpan (text : List ℕ) (from to : ℕ) : Type 0 where
 
 -- a gap before a word; `follows`: a word stands before it too
 abbrev pub gap_text : Bool → List ℕ → List ℕ
-gap_text follows gap = if follows && list_all is_white gap then [] else gap
+gap_text follows gap = if follows && is_all_white_space gap then [] else gap
 
 -- a text with the first word found in it; `after` says what becomes of the text after that word
 abbrev pub with_word : (List ℕ → List ℕ) → Bool → List ℕ → Option FoundWord → List ℕ

@@ -1,11 +1,12 @@
-ghost use Rattle.std.specs.Prelude.{◌≡◌, ◌&&◌, map, take, drop, length, slice_index, nat_lt, IfOk, ◌++◌, string_bytes, ℕ, ◌<◌, ◌≤◌};
+ghost use Rattle.std.specs.Prelude.{◌≡◌, take, length, IfOk, ◌<◌, ◌≤◌};
 ghost use Rattle.std.specs.Str.{IsAscii};
-ghost use Rattle.nm_decode.specs.Charsets.{charset_of, char_in, is_label, single_byte_text, text_in, text_of};
+ghost use Rattle.nm_decode.specs.Charsets.{charset_of, char_in, single_byte_text, text_in, text_of};
 
 use nm_base::{NoMemory, Text};
+use nm_text::{as_text, same_ignoring_case};
 use std::alloc::Global;
-use std::str;
 
+/// The charsets that are told apart: every other label is read as ASCII.
 #[derive(Clone, Copy, Debug, PartialEq, Eq)]
 pub enum Charset {
     Ascii,
@@ -25,19 +26,13 @@ pub fn charset_text(alloc: Global, bytes: &[u8], label: &str) -> Result<Text, No
 pub(crate) fn charset_of(label: &[u8]) -> Charset
     ensures { result ≡ charset_of label.now }
 {
-    if is_label(label, b"utf-8") || is_label(label, b"utf8") {
+    if same_ignoring_case(label, b"utf-8") || same_ignoring_case(label, b"utf8") {
         return Charset::Utf8;
     }
-    if is_label(label, b"iso-8859-1") || is_label(label, b"latin1") {
+    if same_ignoring_case(label, b"iso-8859-1") || same_ignoring_case(label, b"latin1") {
         return Charset::Latin1;
     }
     Charset::Ascii
-}
-
-fn is_label(label: &[u8], name: &[u8]) -> bool
-    ensures { result ≡ is_label label.now name.now }
-{
-    label.eq_ignore_ascii_case(name)
 }
 
 /// The character of a byte: one row a charset.
@@ -93,14 +88,4 @@ fn ascii_len(bytes: &[u8]) -> usize
         }
     }
     bytes.len()
-}
-
-fn as_text(run: &[u8]) -> &str
-    requires { IsAscii run.now }
-    ensures { result.now ≡ run.now }
-{
-    match str::from_utf8(run) {
-        Ok(text) => text,
-        Err(_) => unreachable!(),
-    }
 }

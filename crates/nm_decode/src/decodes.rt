@@ -2,11 +2,11 @@ ghost use Rattle.std.specs.Prelude.{◌≡◌, map, IfOk};
 ghost use Rattle.nm_decode.specs.EncodedWords.{b_bytes, is_field, is_q_text, q_bytes, spaced, word_bytes, word_text};
 
 use crate::charset::{charset_of, text_in};
-use crate::quoted::{escape, push_unescaped, white};
-use crate::scan::first_place;
+use crate::quoted::{escape, push_unescaped};
 use base64::DecodeAllocError;
 use base64::engine::general_purpose::STANDARD;
 use nm_base::{Many, NoMemory, Text};
+use nm_text::{first_place, is_white_space};
 use std::alloc::Global;
 
 /// The text of an encoded word by its fields, or none where it doesn't decode.
@@ -31,7 +31,7 @@ pub(crate) fn word_text(
 fn is_field(field: &[u8]) -> bool
     ensures { result ≡ is_field field.now }
 {
-    field.iter().all(|byte| !white(*byte))
+    field.iter().all(|byte| !is_white_space(*byte))
 }
 
 fn word_bytes(alloc: Global, encoding: &[u8], encoded: &[u8]) -> Result<Option<Many<u8>>, NoMemory>

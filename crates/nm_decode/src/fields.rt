@@ -2,7 +2,7 @@ ghost use Rattle.std.specs.Prelude.{◌≡◌, ◌∷◌, ◌++◌, [], None, So
 ghost use Rattle.nm_decode.specs.EncodedWords.{begins_with_equals, fields_of, pieces_of};
 ghost use Rattle.nm_decode.specs.WordSteps.{IsFramed};
 
-use crate::scan::first_place;
+use nm_text::first_place;
 
 /// The charset, the encoding and the encoded text of the word with which a text begins.
 pub(crate) fn fields(text: &[u8]) -> Option<(&[u8], &[u8], &[u8])>

@@ -1,11 +1,11 @@
 ghost use Rattle.std.specs.Prelude.{◌≡◌, ◌+◌, ◌<◌, ◌++◌, IfOk, IfSome, OnOk};
 ghost use Rattle.std.specs.List.{before_first};
+ghost use Rattle.nm_text.specs.Cuts.{is_byte};
 ghost use Rattle.nm_decode.specs.Base64.{base64_of, symbol_of};
-ghost use Rattle.nm_decode.specs.Bytes.{is_byte};
 ghost use Rattle.nm_decode.specs.GroupSteps.{made};
 
-use crate::scan::first_place;
 use nm_base::{Many, NoMemory};
+use nm_text::first_place;
 use std::alloc::Global;
 
 /// The bytes of a body in base64 (RFC 2045, section 6.8). The first `=` ends the data; what is no symbol is passed

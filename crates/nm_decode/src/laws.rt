@@ -1,11 +1,10 @@
 //! Laws of the definitions that the calls are stated by. The bodies are empty: the contract is the law.
 
 ghost use Rattle.std.specs.Prelude.{◌≡◌, ◌++◌, ◌∷◌, ℕ, Bool, List, false, true};
-ghost use Rattle.std.specs.List.{list_all};
 ghost use Rattle.base64.specs.Engines.{standard};
 ghost use Rattle.base64.specs.GeneralPurpose.{encode_of};
+ghost use Rattle.nm_text.specs.WhiteSpace.{is_all_white_space};
 ghost use Rattle.nm_decode.specs.Base64.{base64_of};
-ghost use Rattle.nm_decode.specs.Bytes.{is_white};
 ghost use Rattle.nm_decode.specs.EncodedWords.{words_decoded};
 ghost use Rattle.nm_decode.specs.Laws.{IsPlainTest, IsQTest, IsWordOf, b_word, has_mark, q_word, quoted_line};
 ghost use Rattle.nm_decode.specs.QuotedPrintable.{quoted_of};
@@ -51,7 +50,7 @@ pub fn a_q_word_reads_back(text: &str)
 
 /// White space between two encoded words goes, and their texts are joined; beside other text it stays.
 pub fn white_space_between_words_goes()
-    ensures between { (first second a b gap after : List ℕ) → IsWordOf first a → IsWordOf second b → list_all is_white gap ≡ true
+    ensures between { (first second a b gap after : List ℕ) → IsWordOf first a → IsWordOf second b → is_all_white_space gap ≡ true
         → has_mark after ≡ false → words_decoded (first ++ (gap ++ (second ++ after))) ≡ a ++ (b ++ after) }
     ensures beside_text { (word text after : List ℕ) → IsWordOf word text → has_mark after ≡ false
         → words_decoded (word ++ after) ≡ text ++ after }

@@ -1,4 +1,4 @@
-//! Bodies and header text as Unicode: quoted-printable, base64, charsets and encoded words.
+//! Reading one mail: bodies and header text as Unicode; quoted-printable, base64, charsets and encoded words.
 //! Damage never stops it; want of memory is the only refusal.
 #![tactic(auto)]
 
@@ -8,7 +8,6 @@ mod fields;
 mod groups;
 mod laws;
 mod quoted;
-mod scan;
 #[cfg(test)]
 mod tests;
 mod words;

@@ -1,9 +1,9 @@
-ghost use Rattle.std.specs.Prelude.{◌≡◌, ◌≤◌, ◌<◌, ◌++◌, ◌∷◌, List, ℕ, length, take, drop, IfOk, IfSome, OnOk, MatchOption};
-ghost use Rattle.nm_decode.specs.Bytes.{escape_of, hex_of, is_white};
-ghost use Rattle.nm_decode.specs.QuotedPrintable.{ends_with, line_bytes, lines_of, quoted_of, trimmed_end, unescaped};
+ghost use Rattle.std.specs.Prelude.{◌≡◌, ◌≤◌, ◌<◌, ◌++◌, length, IfOk, IfSome, OnOk};
+ghost use Rattle.nm_decode.specs.Bytes.{escape_of, hex_of};
+ghost use Rattle.nm_decode.specs.QuotedPrintable.{ends_with, line_bytes, quoted_of, unescaped};
 
-use crate::scan::first_place;
 use nm_base::{Many, NoMemory};
+use nm_text::{first_place, line_len, trimmed_end};
 use std::alloc::Global;
 
 /// The bytes of a quoted-printable body (RFC 2045, section 6.7), line by line: white space at a line's end is dropped,
@@ -21,21 +21,10 @@ pub fn quoted_printable(alloc: Global, bytes: &[u8]) -> Result<Many<u8>, NoMemor
     Ok(Many::from_vec(out))
 }
 
-/// The length of the first line with its LF.
-fn line_len(bytes: &[u8]) -> usize
-    requires { 0 < length bytes.now }
-    ensures some { 0 < result }
-    ensures within { result ≤ length bytes.now }
-    ensures line { lines_of bytes.now ≡ take result bytes.now ∷ lines_of (drop result bytes.now) }
-{
-    let at = first_place(bytes, b'\n');
-    if at < bytes.len() { at + 1 } else { at }
-}
-
 fn push_line(out: &mut Vec<u8>, line: &[u8]) -> Result<(), NoMemory>
     ensures { OnOk result (out.new.items ≡ out.old.items ++ line_bytes line.now) }
 {
-    let content = trimmed(line);
+    let content = trimmed_end(line);
     if has_last(content, b'=') {
         return push_unescaped(out, &content[..content.len() - 1]);
     }
@@ -44,22 +33,6 @@ fn push_line(out: &mut Vec<u8>, line: &[u8]) -> Result<(), NoMemory>
         out.push(b'\n')?;
     }
     Ok(())
-}
-
-fn trimmed(line: &[u8]) -> &[u8]
-    ensures { result.now ≡ trimmed_end line.now }
-{
-    let mut len = line.len();
-    'ends: while len > 0 && white(line[len - 1]) {
-        len -= 1;
-    }
-    &line[..len]
-}
-
-pub(crate) fn white(byte: u8) -> bool
-    ensures { result ≡ is_white byte }
-{
-    matches!(byte, b' ' | b'\t' | b'\r' | b'\n')
 }
 
 fn has_last(line: &[u8], byte: u8) -> bool

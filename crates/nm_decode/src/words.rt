@@ -1,13 +1,11 @@
 ghost use Rattle.std.specs.Prelude.{◌≡◌, ◌+◌, ◌++◌, IfOk, IfSome, OnOk, string_bytes};
-ghost use Rattle.std.specs.List.{list_all};
-ghost use Rattle.nm_decode.specs.Bytes.{is_white};
 ghost use Rattle.nm_decode.specs.WordSteps.{IsSpan, gap_text};
 ghost use Rattle.nm_decode.specs.EncodedWords.{first_word, words_decoded, word_of};
 
 use crate::decodes::word_text;
 use crate::fields::fields;
-use crate::quoted::white;
 use nm_base::{NoMemory, Text};
+use nm_text::is_all_white_space;
 use std::alloc::Global;
 
 /// An encoded word that decodes: its length in bytes, and its text.
@@ -46,17 +44,11 @@ pub fn encoded_words(alloc: Global, text: &str) -> Result<Text, NoMemory>
 fn push_gap(out: &mut String, follows: bool, gap: &str) -> Result<(), NoMemory>
     ensures { OnOk result (string_bytes out.new ≡ string_bytes out.old ++ gap_text follows gap.now) }
 {
-    if follows && is_blank(gap.as_bytes()) {
+    if follows && is_all_white_space(gap.as_bytes()) {
         return Ok(());
     }
     out.push_str(gap)?;
     Ok(())
-}
-
-fn is_blank(gap: &[u8]) -> bool
-    ensures { result ≡ list_all is_white gap.now }
-{
-    gap.iter().all(|byte| white(*byte))
 }
 
 fn first_word(alloc: Global, text: &[u8]) -> Result<Option<FoundWord>, NoMemory>

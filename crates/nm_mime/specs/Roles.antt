@@ -4,7 +4,7 @@ use Rattle.std.specs.List.{before_first, list_any, starts_with}
 use Rattle.std.specs.Option.{option_map}
 use Rattle.std.specs.Str.{bytes_eq}
 use Rattle.nm_base.specs.Bounds.{fits_length}
-use Rattle.nm_decode.specs.Charsets.{is_label}
+use Rattle.nm_text.specs.Case.{same_ignoring_case}
 use Rattle.nm_decode.specs.EncodedWords.{words_decoded}
 use Rattle.nm_header.specs.Space.{trimmed}
 use Rattle.nm_mime.specs.declared.param_list.Param.{Param}
@@ -17,8 +17,8 @@ use Rattle.nm_mime.specs.Params.{param_of, params_of}
 -- the encoding that a Content-Transfer-Encoding names (RFC 2045, section 6)
 abbrev pub encoding_of : List ℕ → Encoding
 encoding_of text =
-    if is_label (trimmed text) (codes "quoted-printable") then Quoted
-    else (if is_label (trimmed text) (codes "base64") then Base64
+    if same_ignoring_case (trimmed text) (codes "quoted-printable") then Quoted
+    else (if same_ignoring_case (trimmed text) (codes "base64") then Base64
     else Plain)
 
 -- one of RFC 2045's signs: ( ) < > @ , ; : \ " / [ ] ? =
@@ -31,7 +31,7 @@ ends_token b = not (nat_le 33 b && nat_le b 126) || is_special b
 
 -- a Content-Disposition begins with the token `attachment` (RFC 2183, section 2)
 abbrev pub is_attachment : List ℕ → Bool
-is_attachment disposition = is_label (before_first ends_token disposition) (codes "attachment")
+is_attachment disposition = same_ignoring_case (before_first ends_token disposition) (codes "attachment")
 
 -- the first, or where there is none the second
 abbrev pub first_of : Option (List ℕ) → Option (List ℕ) → Option (List ℕ)

@@ -2,7 +2,6 @@ ghost use Rattle.std.specs.Prelude.{◌≡◌, ◌&&◌, ◌||◌, IfOk, positio
 ghost use Rattle.std.specs.List.{before_first};
 ghost use Rattle.std.specs.Option.{option_map};
 ghost use Rattle.nm_base.specs.Bounds.{fits_length};
-ghost use Rattle.nm_decode.specs.Charsets.{is_label};
 ghost use Rattle.nm_decode.specs.EncodedWords.{words_decoded};
 ghost use Rattle.nm_mime.specs.Roles.{encoding_of, ends_token, filename_of, is_attachment, is_message, is_multipart, is_plain, is_special, is_too_deep, role_of};
 
@@ -10,6 +9,7 @@ use crate::param_list::{Param, param_text, params};
 use nm_base::{NoMemory, Text};
 use nm_decode::encoded_words;
 use nm_header::trimmed;
+use nm_text::same_ignoring_case;
 use std::alloc::Global;
 
 /// How the content of a part is encoded (RFC 2045, section 6).
@@ -38,26 +38,20 @@ pub(crate) fn named_encoding(text: &[u8]) -> Encoding
     ensures { result ≡ encoding_of text.now }
 {
     let name = trimmed(text);
-    if is_label(name, b"quoted-printable") {
+    if same_ignoring_case(name, b"quoted-printable") {
         return Encoding::Quoted;
     }
-    if is_label(name, b"base64") {
+    if same_ignoring_case(name, b"base64") {
         return Encoding::Base64;
     }
     Encoding::Plain
-}
-
-fn is_label(label: &[u8], name: &[u8]) -> bool
-    ensures { result ≡ is_label label.now name.now }
-{
-    label.eq_ignore_ascii_case(name)
 }
 
 /// Whether a Content-Disposition begins with the token `attachment`.
 pub(crate) fn is_attachment(disposition: &[u8]) -> bool
     ensures { result ≡ is_attachment disposition.now }
 {
-    is_label(token(disposition), b"attachment")
+    same_ignoring_case(token(disposition), b"attachment")
 }
 
 fn token(text: &[u8]) -> &[u8]

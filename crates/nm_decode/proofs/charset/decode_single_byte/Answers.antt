@@ -1,9 +1,15 @@
 use Rattle.std.proofs.Common.{rules, ◌++◌, ◌≡◌, arith, ◌∷◌}
 use Rattle.std.proofs.lemmas.List.{nil_from_length}
 use Rattle.std.proofs.lemmas.Grind.{common_steps}
+use Rattle.std.proofs.lemmas.Str.{IsUtf8-from_ascii}
 use Rattle.std.specs.Str.{IsAscii}
 use Rattle.nm_decode.proofs.SingleByteLemmas.{single_byte-turn, single_byte-end}
 use Rattle.nm_decode.proofs.charset.decode_single_byte.Goals as goal
+
+pub as_text-requires : goal.as_text-requires
+as_text-requires c =
+    let a : IsAscii c.split_at.result.0.now = search rules in
+    IsUtf8-from_ascii c.split_at.result.0.now a
 
 pub returns-in_default : goal.returns-in_default
 returns-in_default c =
