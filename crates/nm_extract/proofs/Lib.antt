@@ -3,3 +3,5 @@ mod HtmlLaws
 mod HtmlLemmas
 mod LinkLaws
 mod LinkLemmas
+mod ListLemmas
+mod PartFactLemmas

@@ -2,8 +2,8 @@
 use Rattle.std.specs.Prelude.{ℕ, ℤ, pos, negsuc, Bool, ◌&&◌, List, Result, Ok, Err, int_div, int_le, ◌≤ℤ◌, false, slice_get, codes, Option, Some, None, if◌then◌else◌}
 use Rattle.jiff_core.specs.declared.error.Error.{Error}
 use Rattle.jiff_fmt.specs.Rfc2822.{timestamp}
+use Rattle.nm_text.specs.WhiteSpace.{trimmed}
 use Rattle.nm_header.specs.Pieces.{plain_of}
-use Rattle.nm_header.specs.Space.{trimmed}
 use Rattle.nm_header.specs.Texts.{texts_of}
 use Rattle.nm_header.specs.declared.header.HeaderField.{HeaderField}
 
@@ -24,6 +24,7 @@ second_read (Err error) = pos 0
 abbrev pub second_of : List ℕ → ℤ
 second_of text = second_read (timestamp false (trimmed (plain_of text)))
 
+-- that of the first of such texts, or 0 where there is none
 abbrev pub first_second : Option (List ℕ) → ℤ
 first_second None = pos 0
 first_second (Some text) = second_of text

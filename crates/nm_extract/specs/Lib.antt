@@ -4,5 +4,7 @@ pub mod Ids
 pub mod Laws
 pub mod Mail
 pub mod Mailboxes
+pub mod PartFacts
+pub mod PartSteps
 pub mod PartText
 pub mod WordLists

@@ -12,6 +12,7 @@ use Rattle.nm_mime.specs.declared.roles.Encoding.TheVariants.{Plain, Quoted, Bas
 use Rattle.nm_mime.specs.declared.roles.Role.{Role}
 use Rattle.nm_mime.specs.declared.roles.Role.TheVariants.{Opened, Readable, Unread, Signature}
 
+-- a text that a reader of the mail is shown
 abbrev pub is_readable : Role → Bool
 is_readable Opened = false
 is_readable Readable = true

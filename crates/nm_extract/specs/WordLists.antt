@@ -12,12 +12,14 @@ use Rattle.nm_extract.specs.PartText.{is_readable, part_text, visible_text}
 use Rattle.nm_mime.specs.declared.entity.Part.{Part}
 use Rattle.nm_words.specs.Words.{words_of}
 
+-- these words, in this field
 abbrev pub list_of : Field → List (List ℕ) → FieldWords
 list_of field words = record { field = field; words = words }
 
 abbrev pub mailbox_list : Field → List Mailbox → FieldWords
 mailbox_list field mailboxes = list_of field (flat_map mailbox_words mailboxes)
 
+-- the words of a filename, where there is one
 abbrev pub name_list : Option (List ℕ) → List FieldWords
 name_list None = []
 name_list (Some name) = list_of Attachment (words_of name) ∷ []
@@ -31,11 +33,10 @@ abbrev pub body_list : List ℕ → Part → List FieldWords
 body_list mail part =
     if is_readable part.role then list_of Body (words_of (visible_text part.kind (part_text mail part))) ∷ [] else []
 
--- mailboxes and subject, then the attached files, then the bodies, each in the order of the parts
-abbrev pub word_lists : List Mailbox → List Mailbox → List ℕ → List ℕ → List Part → List FieldWords
-word_lists from to subject mail parts =
-    (mailbox_list From from ∷ mailbox_list To to ∷ list_of Subject (words_of subject) ∷ [])
-    ++ (flat_map attachment_list parts ++ flat_map (body_list mail) parts)
+-- mailboxes and subject, then the attached files, then the bodies
+abbrev pub word_lists : List Mailbox → List Mailbox → List ℕ → List FieldWords → List FieldWords → List FieldWords
+word_lists from to subject attachments bodies =
+    (mailbox_list From from ∷ mailbox_list To to ∷ list_of Subject (words_of subject) ∷ []) ++ (attachments ++ bodies)
 
 -- a part is attached
 abbrev pub has_attachment : List Part → Bool
@@ -45,6 +46,7 @@ has_attachment parts = list_any (λ part. part.attached) parts
 abbrev pub has_type : List Part → List ℕ → Bool
 has_type parts type = list_any (λ part. bytes_eq part.kind type) parts
 
+-- what is told of a mail by its parts: a file is attached, it is signed, it is encrypted
 abbrev pub marks_of : List Part → Marks
 marks_of parts = record {
   attachment = has_attachment parts;

@@ -1,4 +1,4 @@
-ghost use Rattle.std.specs.Prelude.{◌≡◌, ◌++◌, ◌∷◌, ◌≤◌, true, false, position, IfOk, OnOk, filter, length, map, string_bytes};
+ghost use Rattle.std.specs.Prelude.{◌≡◌, IfOk, filter, length, map};
 ghost use Rattle.std.specs.List.{All};
 ghost use Rattle.nm_extract.specs.PartText.{is_html, is_readable, part_text, visible_text};
 ghost use Rattle.nm_mime.specs.Parts.{IsInside};

@@ -4,7 +4,8 @@ ghost use Rattle.nm_extract.specs.Date.{IsDate, date_of, kept_second, second_of}
 use jiff::Timestamp;
 use jiff::fmt::rfc2822::DateTimeParser;
 use nm_base::NoMemory;
-use nm_header::{HeaderList, plain, trimmed};
+use nm_header::{HeaderList, plain};
+use nm_text::trimmed;
 use std::alloc::Global;
 
 /// The second that the first Date says, counted from 1970, or 0.

@@ -1,7 +1,8 @@
-ghost use Rattle.std.specs.Prelude.{◌≡◌, ◌≤◌, false, true, position, IfOk, length};
-ghost use Rattle.nm_extract.specs.Html.{is_greater_than, is_less_than, strip_from, strip_html_tags};
+ghost use Rattle.std.specs.Prelude.{◌≡◌, ◌≤◌, false, true, IfOk, length};
+ghost use Rattle.nm_extract.specs.Html.{strip_from, strip_html_tags};
 
 use nm_base::{NoMemory, Text};
+use nm_text::cut_at;
 use std::alloc::Global;
 
 /// The text with a space for each tag.
@@ -10,20 +11,13 @@ pub(crate) fn strip_html_tags(alloc: Global, text: &str) -> Result<Text, NoMemor
 {
     let mut kept = String::with_capacity(alloc, text.len())?;
     let mut rest = text;
-    'tags: while let Some(at) = less_than_at(rest) {
-        kept.push_str(&rest[..at])?;
+    'tags: while let Some((before, tag)) = cut_at(rest, b'<') {
+        kept.push_str(before)?;
         kept.push(' ')?;
-        rest = after_tag(&rest[at + 1..]);
+        rest = after_tag(tag);
     }
     kept.push_str(rest)?;
     Ok(Text::from_string(kept))
-}
-
-/// The place of the first `<`.
-fn less_than_at(text: &str) -> Option<usize>
-    ensures { result ≡ position is_less_than text.now }
-{
-    text.as_bytes().iter().position(|b| *b == b'<')
 }
 
 /// What follows the tag in which the text begins.
@@ -31,14 +25,8 @@ fn after_tag(text: &str) -> &str
     ensures value { strip_from true text.now ≡ strip_from false result.now }
     ensures shorter { length result.now ≤ length text.now }
 {
-    match greater_than_at(text) {
-        Some(at) => &text[at + 1..],
+    match cut_at(text, b'>') {
+        Some((_, after)) => after,
         None => "",
     }
-}
-
-fn greater_than_at(text: &str) -> Option<usize>
-    ensures { result ≡ position is_greater_than text.now }
-{
-    text.as_bytes().iter().position(|b| *b == b'>')
 }

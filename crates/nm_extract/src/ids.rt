@@ -1,4 +1,4 @@
-ghost use Rattle.std.specs.Prelude.{◌≡◌, ◌++◌, IfOk, OnOk, fold};
+ghost use Rattle.std.specs.Prelude.{◌≡◌, ◌++◌, IfOk, OnOk};
 ghost use Rattle.nm_base.specs.Order.{has_text};
 ghost use Rattle.nm_extract.specs.Ids.{digest_id, field_ids, links_among, named_ids, own_id};
 

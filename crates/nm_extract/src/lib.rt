@@ -9,6 +9,7 @@ mod ids;
 mod laws;
 mod mail;
 mod mailboxes;
+mod part_facts;
 #[cfg(test)]
 mod tests;
 mod word_lists;

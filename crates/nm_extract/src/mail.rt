@@ -1,19 +1,18 @@
-ghost use Rattle.std.specs.Prelude.{◌≡◌, ◌||◌, Some, IfErr, IfOk, length, map};
-ghost use Rattle.std.specs.List.{All};
+ghost use Rattle.std.specs.Prelude.{◌≡◌, Some, IfErr, IfOk};
 ghost use Rattle.nm_extract.specs.Date.{IsDate};
-ghost use Rattle.nm_extract.specs.Mail.{IsExtractFault, facts_from, facts_of, is_mail, subject_of};
+ghost use Rattle.nm_extract.specs.Mail.{IsExtractFault, facts_with, facts_of, is_mail, subject_of};
 ghost use Rattle.nm_extract.specs.PartText.{bodies_of};
-ghost use Rattle.nm_mime.specs.Parts.{IsInside};
 
 use crate::body_text::part_texts;
 use crate::dates::date;
 use crate::ids::{links, own_id};
 use crate::mailboxes::{field_mailboxes, recipients};
-use crate::word_lists::{marks, types, word_lists};
+use crate::part_facts::{PartFacts, part_facts};
+use crate::word_lists::word_lists;
 use nm_base::{Facts, Many, NoMemory, Text};
 use nm_decode::encoded_words;
 use nm_header::{HeaderList, fields};
-use nm_mime::{Part, parts};
+use nm_mime::parts;
 use std::alloc::Global;
 use thiserror::Error;
 
@@ -48,8 +47,8 @@ pub fn extract(alloc: Global, bytes: &[u8]) -> Result<Facts, ExtractError>
     if !is_mail(&header) {
         return Err(ExtractError::NotMail);
     }
-    let parts = parts(alloc, bytes)?;
-    let facts = facts_from(alloc, bytes, &header, parts.as_slice())?;
+    let parts = part_facts(alloc, bytes, &header)?;
+    let facts = facts_with(alloc, bytes, &header, parts)?;
     Ok(facts)
 }
 
@@ -73,14 +72,13 @@ fn is_mail(header: &HeaderList) -> bool
     header.has("subject")
 }
 
-fn facts_from(
+fn facts_with(
     alloc: Global,
     bytes: &[u8],
     header: &HeaderList,
-    parts: &[Part],
+    parts: PartFacts,
 ) -> Result<Facts, NoMemory>
-    requires { All (IsInside (length bytes.now)) parts.now }
-    ensures value { IfOk result (λ facts. facts ≡ facts_from bytes.now header.now.list parts.now) }
+    ensures value { IfOk result (λ facts. facts ≡ facts_with bytes.now header.now.list parts) }
     ensures date { IfOk result (λ facts. IsDate facts.date) }
 {
     let id = own_id(alloc, bytes, header)?;
@@ -94,8 +92,8 @@ fn facts_from(
         from.as_slice(),
         to.as_slice(),
         subject.as_str(),
-        bytes,
-        parts,
+        parts.attachments,
+        parts.bodies,
     )?;
     Ok(Facts {
         id,
@@ -105,8 +103,8 @@ fn facts_from(
         to,
         subject,
         lists,
-        types: types(alloc, parts)?,
-        marks: marks(parts),
+        types: parts.types,
+        marks: parts.marks,
     })
 }
 

@@ -6,7 +6,7 @@ use std::alloc::{AllocError, Global};
 use std::test::Fail;
 
 #[test]
-fn facts_of_a_box_of_sixty_mails(rt: HostRuntime) -> Result<(), Fail> {
+fn facts_of_a_corpus_of_sixty_mails(rt: HostRuntime) -> Result<(), Fail> {
     let alloc = rt.alloc();
     for number in 1..=60 {
         let mail = mail(alloc, number)?;
