@@ -2,7 +2,9 @@ pub mod Bounds
 pub mod Faults
 pub mod MailPath
 pub mod MessageId
+pub mod Limits
 pub mod Order
+pub mod Stored
 pub mod Tag
 pub mod Tags
 pub mod Word

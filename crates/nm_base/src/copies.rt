@@ -20,6 +20,24 @@ impl Copies for u64 {
     }
 }
 
+impl Copies for u32 {
+    fn copy(&self) -> Result<u32, NoMemory> {
+        Ok(*self)
+    }
+}
+
+impl Copies for i64 {
+    fn copy(&self) -> Result<i64, NoMemory> {
+        Ok(*self)
+    }
+}
+
+impl Copies for bool {
+    fn copy(&self) -> Result<bool, NoMemory> {
+        Ok(*self)
+    }
+}
+
 impl<A: Copies, B: Copies> Copies for (A, B) {
     fn copy(&self) -> Result<(A, B), NoMemory> {
         let first = self.0.copy()?;

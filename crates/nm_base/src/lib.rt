@@ -1,9 +1,12 @@
-//! The values that every crate speaks of: texts, lists, names, tags, paths and the facts of a mail.
+//! Values: what every crate speaks of: texts, lists, names, tags, paths and the facts of a mail.
 //! A contract sees a text as its bytes, a list as its items, and a struct as a record of these.
 #![tactic(auto)]
 
+mod asks;
+mod boxed;
 mod copies;
 mod facts;
+mod forms;
 mod limit;
 mod mail_path;
 mod many;
@@ -11,16 +14,21 @@ mod memory;
 mod message_id;
 mod names;
 mod refusals;
-mod request;
 mod room;
+mod short_text;
 mod steps;
 mod tag;
+mod tag_op;
 mod tags;
 mod text;
+mod text_set;
 mod word;
 
+pub use asks::{CountAsk, DumpAsk, RestoreAsk, SearchAsk, ShowAsk, TagAsk};
+pub use boxed::Boxed;
 pub use copies::Copies;
 pub use facts::{Facts, Field, FieldWords, LinkRow, Mailbox, Marks};
+pub use forms::{DumpForm, Output, ReadForm};
 pub use limit::Limit;
 pub use mail_path::MailPath;
 pub use many::Many;
@@ -28,12 +36,13 @@ pub use memory::{Failed, NoMemory};
 pub use message_id::MessageId;
 pub use names::BadValue;
 pub use refusals::{Skip, UsageKind};
-pub use request::{CountAsk, Output, Request};
 pub use room::Room;
 pub use steps::Steps;
 pub use tag::Tag;
+pub use tag_op::TagOp;
 pub use tags::Tags;
 pub use text::Text;
+pub use text_set::TextSet;
 pub use word::Word;
 
 #[cfg(test)]

@@ -77,6 +77,13 @@ impl<T> Many<T> {
         self.vec.pop()
     }
 
+    /// Gives back the memory of places that no item fills.
+    pub fn shrink_to_fit(&mut self)
+        ensures { self.new ≡ self.old }
+    {
+        self.vec.shrink_to_fit();
+    }
+
     /// Puts `item` into the place `at`, and hands out what stood there.
     pub fn replace(&mut self, at: usize, item: T) -> T
         requires { at < length self.old }

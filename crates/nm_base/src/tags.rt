@@ -1,23 +1,28 @@
-ghost use Rattle.std.specs.Prelude.{◌≡◌, [], OnOk, OnErr};
+ghost use Rattle.std.specs.Prelude.{◌≡◌, [], IfOk, OnOk, OnErr};
+ghost use Rattle.nm_base.specs.Order.{IsSorted};
 ghost use Rattle.nm_base.specs.Tags.{has_tag, with_tag, without_tag};
 
-use crate::{Copies, NoMemory, Tag};
+use crate::{Copies, Many, NoMemory, Tag, TextSet};
 use std::alloc::Global;
-use std::collections::BTreeSet;
 use std::marker::Model;
 
-/// A set of tags, seen as the strictly ascending list of them.
-#[derive(Clone, Debug, Drop)]
+/// A set of tags, seen as the strictly rising list of them.
+#[derive(Clone, Debug, Drop, PartialEq, Eq)]
 pub struct Tags {
-    set: BTreeSet<Tag>,
+    set: TextSet<Tag>,
 }
 
 impl Model for Tags {
     ghost use Rattle.std.specs.Prelude.{List, ℕ};
+    ghost use Rattle.nm_base.specs.Order.{IsSorted};
 
     ghost Value = { List (List ℕ) };
 
-    ghost view = { λ t. t.set.keys };
+    ghost view = { λ t. t.set };
+
+    ghost invariant = { λ t. IsSorted t.set };
+
+    ghost inverse = { λ tags. record { set = tags } };
 }
 
 impl Tags {
@@ -26,7 +31,7 @@ impl Tags {
         ensures { result ≡ [] }
     {
         Tags {
-            set: BTreeSet::new(alloc),
+            set: TextSet::new(alloc),
         }
     }
 
@@ -39,15 +44,25 @@ impl Tags {
     pub fn add(&mut self, tag: Tag) -> Result<(), NoMemory>
         ensures ok { OnOk result (self.new ≡ with_tag self.old tag) }
         ensures err { OnErr result (self.new ≡ self.old) }
+        ensures sorted { IsSorted self.new }
     {
         self.set.insert(tag)?;
         Ok(())
     }
 
     pub fn remove(&mut self, tag: &Tag)
-        ensures { self.new ≡ without_tag self.old tag.now }
+        ensures list { self.new ≡ without_tag self.old tag.now }
+        ensures sorted { IsSorted self.new }
     {
         self.set.remove(tag);
+    }
+
+    /// The tags in order.
+    pub fn to_list(&self, alloc: Global) -> Result<Many<Tag>, NoMemory>
+        ensures list { IfOk result (λ list. list ≡ self.now) }
+        ensures sorted { IsSorted self.now }
+    {
+        self.set.to_list(alloc)
     }
 }
 

@@ -30,7 +30,7 @@ fn padded(alloc: Global, front: &str, count: usize) -> Result<Text, Fail> {
     for _ in 0..count {
         string.push('a')?;
     }
-    Ok(Text::from_string(string))
+    Ok(Text::from_string(string)?)
 }
 
 #[test]

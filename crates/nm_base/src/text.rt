@@ -1,62 +1,135 @@
-ghost use Rattle.std.specs.Prelude.{◌≡◌, IfOk, OnOk, OnErr, Some, ◌++◌, [], refl, string_bytes};
+ghost use Rattle.std.specs.Prelude.{◌≡◌, ◌≤◌, IfOk, Some, [], length, refl, string_bytes};
 ghost use Rattle.std.specs.Cmp.{partial_equiv_from_equiv};
 ghost use Rattle.std.specs.Cmp.Lexicographic.{nat_list_cmp_total, nat_list_eq_equiv, pointwise, slice_cmp, texts_po, texts_ties};
 ghost use Rattle.std.specs.Ordering.{nat_cmp};
 ghost use Rattle.std.specs.Prelude.{nat_eq};
 
+use crate::short_text::{MAX_SHORT, ShortText};
 use crate::{Copies, NoMemory};
-use std::alloc::Global;
+use std::alloc::{AllocError, Global};
 use std::cmp::Ordering;
+use std::fmt;
+use std::fmt::{Debug, Formatter, Write};
 use std::marker::Model;
+use std::sync::ArcStr;
 
-/// UTF-8 text, seen as its bytes.
-#[derive(Clone, Debug, Drop)]
+/// UTF-8 text, seen as its bytes. A copy takes no memory: it shares a long text's bytes.
 pub struct Text {
-    string: String,
+    stored: Stored,
+}
+
+/// Where the bytes lie.
+pub(crate) enum Stored {
+    Short(ShortText),
+    Shared(ArcStr),
 }
 
 impl Model for Text {
-    ghost use Rattle.std.specs.Prelude.{List, ℕ, string_bytes};
+    ghost use Rattle.std.specs.Prelude.{List, ℕ};
 
     ghost Value = { List ℕ };
 
-    ghost view = { λ t. string_bytes t.string };
+    ghost use Rattle.nm_base.specs.Stored.{stored_bytes};
+
+    ghost view = { λ t. stored_bytes t.stored };
+}
+
+impl Drop for Text {
+    fn drop(self) {
+        let Text { stored: _ } = self;
+    }
+}
+
+impl Drop for Stored {
+    fn drop(self) {
+        match self {
+            Stored::Short(_) => {}
+            Stored::Shared(_) => {}
+        }
+    }
 }
 
 impl Text {
     /// The empty text, which takes no memory.
-    pub fn new(alloc: Global) -> Text
+    pub fn new(_: Global) -> Text
         ensures { result ≡ [] }
     {
         Text {
-            string: String::new(alloc),
+            stored: Stored::Short(ShortText::empty()),
         }
     }
 
     pub fn of(alloc: Global, s: &str) -> Result<Text, NoMemory>
         ensures { IfOk result (λ text. text ≡ s.now) }
     {
+        if s.len() <= MAX_SHORT {
+            return Ok(short(s));
+        }
         Ok(Text {
-            string: String::from_str(alloc, s)?,
+            stored: Stored::Shared(ArcStr::from_str(alloc, s)?),
         })
     }
 
-    pub fn from_string(string: String) -> Text
-        ensures { result ≡ string_bytes string }
+    pub fn from_string(string: String) -> Result<Text, NoMemory>
+        ensures { IfOk result (λ text. text ≡ string_bytes string) }
     {
-        Text { string }
+        if string.len() <= MAX_SHORT {
+            return Ok(short(string.as_str()));
+        }
+        Ok(Text {
+            stored: Stored::Shared(ArcStr::from_string(string)?),
+        })
     }
 
     pub fn as_str(&self) -> &str
         ensures { result.now ≡ self.now }
     {
-        self.string.as_str()
+        match &self.stored {
+            Stored::Short(short) => short.as_str(),
+            Stored::Shared(shared) => shared.as_str(),
+        }
     }
 
     pub fn as_bytes(&self) -> &[u8]
         ensures { result.now ≡ self.now }
     {
-        self.string.as_bytes()
+        match &self.stored {
+            Stored::Short(short) => short.as_bytes(),
+            Stored::Shared(shared) => shared.as_str().as_bytes(),
+        }
+    }
+}
+
+fn short(s: &str) -> Text
+    requires { length s.now ≤ 22 }
+    ensures { result ≡ s.now }
+{
+    Text {
+        stored: Stored::Short(ShortText::of(s)),
+    }
+}
+
+impl Clone for Text {
+    ghost is_clone = { λ text copy. copy ≡ text };
+
+    fn clone(&self) -> Result<Text, AllocError> {
+        match &self.stored {
+            Stored::Short(short) => Ok(Text {
+                stored: Stored::Short(*short),
+            }),
+            Stored::Shared(shared) => {
+                let shared = shared.clone()?;
+                Ok(Text {
+                    stored: Stored::Shared(shared),
+                })
+            }
+        }
+    }
+}
+
+impl Debug for Text {
+    fn fmt<W: Write>(&self, f: &mut Formatter<W>) -> fmt::Result {
+        Debug::fmt(&self.as_str(), f)
     }
 }
 

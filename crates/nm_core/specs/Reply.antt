@@ -2,11 +2,11 @@
 use Rattle.std.specs.Prelude.{ℕ, Bool, true, false, ◌&&◌, ◌||◌, List}
 use Rattle.nm_base.specs.Order.{same_text}
 use Rattle.nm_base.specs.declared.facts.Facts.{Facts}
-use Rattle.nm_base.specs.declared.request.CountAsk.{CountAsk}
-use Rattle.nm_base.specs.declared.request.Output.{Output}
-use Rattle.nm_base.specs.declared.request.Output.TheVariants.{Summary, Threads, Messages, Files, Tags}
-use Rattle.nm_base.specs.declared.request.Request.{Request}
-use Rattle.nm_base.specs.declared.request.Request.TheVariants.{New, Count}
+use Rattle.nm_base.specs.declared.asks.CountAsk.{CountAsk}
+use Rattle.nm_base.specs.declared.forms.Output.{Output}
+use Rattle.nm_base.specs.declared.forms.Output.TheVariants.{Summary, Threads, Messages, Files, Tags}
+use Rattle.nm_core.specs.declared.request.Request.{Request}
+use Rattle.nm_core.specs.declared.request.Request.TheVariants.{New, Count}
 use Rattle.nm_commit.specs.Count.{count_text, is_subject_query}
 
 abbrev pub is_messages : Output → Bool

@@ -7,11 +7,13 @@ mod files;
 mod laws;
 mod machine;
 mod reply;
+mod request;
 mod step;
 
 pub use count::{count_text, is_subject_query};
 pub use laws::{nothing_falls, only_what_is_shown_is_seen, what_was_met_is_seen};
 pub use machine::{Core, CoreError};
+pub use request::Request;
 pub use step::Step;
 
 #[cfg(test)]

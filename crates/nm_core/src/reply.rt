@@ -4,7 +4,8 @@ ghost use Rattle.nm_commit.specs.Count.{count_text};
 ghost use Rattle.nm_core.specs.Reply.{is_messages, is_plain_count, is_reply};
 
 use crate::count::{count_text, is_subject_query};
-use nm_base::{CountAsk, Facts, MailPath, NoMemory, Output, Request};
+use crate::request::Request;
+use nm_base::{CountAsk, Facts, MailPath, NoMemory, Output};
 use std::alloc::Global;
 
 /// Whether the request may be answered so, over these files.

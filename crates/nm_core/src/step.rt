@@ -1,4 +1,5 @@
-use nm_base::{Copies, Many, NoMemory, Request};
+use crate::request::Request;
+use nm_base::{Copies, Many, NoMemory};
 use nm_commit::Commit;
 
 /// What may happen between commits and replies. Lanes are counted from 0.

@@ -1,7 +1,7 @@
-use crate::{Core, CoreError, Step, count_text};
+use crate::{Core, CoreError, Request, Step, count_text};
 use nm_base::{
-    Copies, CountAsk, Facts, Field, FieldWords, MailPath, Many, Marks, MessageId, Output, Request,
-    Text, Word,
+    Copies, CountAsk, Facts, Field, FieldWords, MailPath, Many, Marks, MessageId, Output, Text,
+    Word,
 };
 use nm_commit::{Change, Commit};
 use std::alloc::Global;

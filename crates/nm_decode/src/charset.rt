@@ -55,7 +55,7 @@ pub(crate) fn text_in(alloc: Global, charset: Charset, bytes: &[u8]) -> Result<T
     ensures { IfOk result (λ text. text ≡ text_in charset bytes.now) }
 {
     match charset {
-        Charset::Utf8 => Ok(Text::from_string(String::from_utf8_lossy(alloc, bytes)?)),
+        Charset::Utf8 => Ok(Text::from_string(String::from_utf8_lossy(alloc, bytes)?)?),
         _ => decode_single_byte(alloc, charset, bytes),
     }
 }
@@ -70,7 +70,7 @@ fn decode_single_byte(alloc: Global, charset: Charset, bytes: &[u8]) -> Result<T
         let (run, after) = rest.split_at(ascii_len(rest));
         text.push_str(as_text(run))?;
         let Some((byte, more)) = after.split_first() else {
-            return Ok(Text::from_string(text));
+            return Ok(Text::from_string(text)?);
         };
         text.push(char_in(charset, *byte))?;
         rest = more;

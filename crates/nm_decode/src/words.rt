@@ -38,7 +38,7 @@ pub fn encoded_words(alloc: Global, text: &str) -> Result<Text, NoMemory>
         follows = true;
     }
     out.push_str(rest)?;
-    Ok(Text::from_string(out))
+    Ok(Text::from_string(out)?)
 }
 
 fn push_gap(out: &mut String, follows: bool, gap: &str) -> Result<(), NoMemory>

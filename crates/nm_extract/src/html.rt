@@ -17,7 +17,7 @@ pub(crate) fn strip_html_tags(alloc: Global, text: &str) -> Result<Text, NoMemor
         rest = after_tag(tag);
     }
     kept.push_str(rest)?;
-    Ok(Text::from_string(kept))
+    Ok(Text::from_string(kept)?)
 }
 
 /// What follows the tag in which the text begins.

@@ -40,7 +40,7 @@ fn digest_text(alloc: Global, bytes: &[u8]) -> Result<Text, NoMemory>
     let digits = hex::encode(alloc, Sha1::digest(bytes))?;
     let mut text = String::from_str(alloc, "notmuch-sha1-")?;
     text.push_str(digits.as_str())?;
-    Ok(Text::from_string(text))
+    Ok(Text::from_string(text)?)
 }
 
 /// Adds the ids in the fields of a name that count.

@@ -25,7 +25,7 @@ fn without_quotes(alloc: Global, text: &str) -> Result<Text, NoMemory>
         plain.extend_from_slice(unquoted(unit))?;
         left = behind;
     }
-    Ok(text_of(plain))
+    Ok(text_of(plain)?)
 }
 
 fn unquoted(unit: &[u8]) -> &[u8]
@@ -49,7 +49,7 @@ fn spaced(alloc: Global, text: &str) -> Result<Text, NoMemory>
         left = &left[at + 1..];
     }
     add_word(left, &mut spaced)?;
-    Ok(Text::from_string(spaced))
+    Ok(Text::from_string(spaced)?)
 }
 
 fn add_word(word: &str, spaced: &mut String) -> Result<(), NoMemory>

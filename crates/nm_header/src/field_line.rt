@@ -46,7 +46,7 @@ pub(crate) fn name_text(alloc: Global, line: &[u8]) -> Result<Text, NoMemory>
     ensures { IfOk result (λ name. name ≡ map to_ascii_lowercase (name_of line.now)) }
 {
     let name = lowercase(alloc, name_in(line))?;
-    Ok(text_of(name))
+    Ok(text_of(name)?)
 }
 
 fn lowercase(alloc: Global, name: &[u8]) -> Result<Vec<u8>, NoMemory>

@@ -19,7 +19,7 @@ pub fn plain(alloc: Global, text: &str) -> Result<Text, NoMemory>
         show(piece, &mut shown)?;
         left = behind;
     }
-    Ok(text_of(shown))
+    Ok(text_of(shown)?)
 }
 
 fn show(piece: &[u8], text: &mut Vec<u8>) -> Result<(), NoMemory>

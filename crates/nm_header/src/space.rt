@@ -11,7 +11,7 @@ pub(crate) fn without_space(alloc: Global, text: &str) -> Result<Text, NoMemory>
     ensures { IfOk result (λ kept. kept ≡ without_space text.now) }
 {
     let kept = kept_bytes(alloc, text.as_bytes())?;
-    Ok(text_of(kept))
+    Ok(text_of(kept)?)
 }
 
 fn kept_bytes(alloc: Global, bytes: &[u8]) -> Result<Vec<u8>, NoMemory>
@@ -25,10 +25,10 @@ fn kept_bytes(alloc: Global, bytes: &[u8]) -> Result<Vec<u8>, NoMemory>
     Ok(kept)
 }
 
-/// The bytes as text. Takes no memory.
-pub fn text_of(bytes: Vec<u8>) -> Text
+/// The bytes as text.
+pub fn text_of(bytes: Vec<u8>) -> Result<Text, NoMemory>
     requires { IsUtf8 bytes.items }
-    ensures { result ≡ bytes.items }
+    ensures { IfOk result (λ text. text ≡ bytes.items) }
 {
     match String::from_utf8(bytes) {
         Ok(string) => Text::from_string(string),

@@ -13,7 +13,7 @@ impl HeaderField {
         ensures { IfOk result (λ text. text ≡ utf8_lossy self.now.body) }
     {
         let text = String::from_utf8_lossy(alloc, self.body.as_slice())?;
-        Ok(Text::from_string(text))
+        Ok(Text::from_string(text)?)
     }
 
     fn is_named(&self, name: &str) -> bool

@@ -4,8 +4,8 @@ use Rattle.std.specs.Str.{is_utf8}
 use Rattle.nm_base.specs.Order.{same_text}
 use Rattle.nm_base.specs.declared.refusals.UsageKind.{UsageKind}
 use Rattle.nm_base.specs.declared.refusals.UsageKind.TheVariants as kinds
-use Rattle.nm_base.specs.declared.request.Output.TheVariants as outputs
-use Rattle.nm_base.specs.declared.request.Request.TheVariants as requests
+use Rattle.nm_base.specs.declared.forms.Output.TheVariants as outputs
+use Rattle.nm_core.specs.declared.request.Request.TheVariants as requests
 use Rattle.nm_commit.specs.Count.{is_subject_query}
 use Rattle.nm_log.specs.declared.ask.Asked.{Asked}
 use Rattle.nm_log.specs.declared.ask.Asked.TheVariants.{Request, Usage}

@@ -2,7 +2,8 @@ use crate::{
     Asked, LineLog, NewReport, Outcome, ScriptError, count_reply, line_status, new_reply,
     print_lines, print_usage, read_ask, read_script, usage_text,
 };
-use nm_base::{CountAsk, Limit, MailPath, Many, NoMemory, Output, Request, Skip, Text, UsageKind};
+use nm_base::{CountAsk, Limit, MailPath, Many, NoMemory, Output, Skip, Text, UsageKind};
+use nm_core::Request;
 use nm_io::MemSink;
 use std::alloc::Global;
 use std::test::Fail;

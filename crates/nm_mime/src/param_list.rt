@@ -79,8 +79,8 @@ fn named_value(alloc: Global, name: &[u8], text: &[u8]) -> Result<Param, NoMemor
     let name = lowercase(alloc, trimmed(name))?;
     let value = value_bytes(alloc, text)?;
     Ok(Param {
-        name: text_of(name),
-        value: text_of(value),
+        name: text_of(name)?,
+        value: text_of(value)?,
     })
 }
 

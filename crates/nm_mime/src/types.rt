@@ -47,7 +47,7 @@ fn read(alloc: Global, run: &[u8], text: &[u8]) -> Result<ContentType, NoMemory>
     requires slash { has_slash_inside run.now ≡ true }
     ensures { IfOk result (λ read. read ≡ record { kind = map to_ascii_lowercase run.now; params = params_of text.now }) }
 {
-    let kind = text_of(lowercase(alloc, run)?);
+    let kind = text_of(lowercase(alloc, run)?)?;
     let params = params(alloc, text)?;
     Ok(ContentType { kind, params })
 }

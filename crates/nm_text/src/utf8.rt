@@ -8,7 +8,7 @@ pub fn text_of(bytes: Vec<u8>) -> Result<Text, NoMemory>
     ensures { IfOk result (λ text. text ≡ bytes.items) }
 {
     match String::from_utf8(bytes) {
-        Ok(string) => Ok(Text::from_string(string)),
+        Ok(string) => Ok(Text::from_string(string)?),
         Err(_) => unreachable!(),
     }
 }

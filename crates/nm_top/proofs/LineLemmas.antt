@@ -4,8 +4,8 @@ use Rattle.std.specs.Prelude.{IfOk, Result, Ok, Err}
 use Rattle.nm_base.specs.declared.memory.NoMemory.{NoMemory}
 use Rattle.nm_base.specs.declared.facts.Facts.{Facts}
 use Rattle.nm_base.specs.declared.refusals.UsageKind.{UsageKind}
-use Rattle.nm_base.specs.declared.request.CountAsk.{CountAsk}
-use Rattle.nm_base.specs.declared.request.Request.TheVariants as requests
+use Rattle.nm_base.specs.declared.asks.CountAsk.{CountAsk}
+use Rattle.nm_core.specs.declared.request.Request.TheVariants as requests
 use Rattle.nm_commit.specs.Count.{count_text}
 use Rattle.nm_commit.specs.Index.{Index}
 use Rattle.nm_core.specs.declared.step.Step.{Step}

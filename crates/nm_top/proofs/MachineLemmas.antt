@@ -7,9 +7,9 @@ use Rattle.std.proofs.lemmas.List.{length-append, length-replicate, take_all, ge
 use Rattle.nm_base.specs.Order.{same_text}
 use Rattle.nm_base.specs.declared.facts.Facts.{Facts}
 use Rattle.nm_base.specs.declared.refusals.UsageKind.TheVariants as kinds
-use Rattle.nm_base.specs.declared.request.CountAsk.{CountAsk}
-use Rattle.nm_base.specs.declared.request.Request.{Request}
-use Rattle.nm_base.specs.declared.request.Request.TheVariants as requests
+use Rattle.nm_base.specs.declared.asks.CountAsk.{CountAsk}
+use Rattle.nm_core.specs.declared.request.Request.{Request}
+use Rattle.nm_core.specs.declared.request.Request.TheVariants as requests
 use Rattle.nm_commit.specs.Count.{count_text, is_subject_query}
 use Rattle.nm_commit.specs.Index.{Fits, Index, committed, empty_index, folded}
 use Rattle.nm_commit.specs.declared.change.Commit.{Commit}

@@ -2,7 +2,7 @@
 use Rattle.std.proofs.Common.{◌≡◌, ℕ, ◌+◌, Bool, true, false, not, cond, List, [], ◌∷◌, ◌++◌, length, map, filter, refl, sym, ap, ◌∙◌, ◌==◌, append-nil, suc, arith}
 use Rattle.nm_base.specs.Order.{has_text}
 use Rattle.nm_base.specs.declared.facts.Facts.{Facts}
-use Rattle.nm_base.specs.declared.request.Request.TheVariants as requests
+use Rattle.nm_core.specs.declared.request.Request.TheVariants as requests
 use Rattle.nm_commit.specs.Count.{ids_of}
 use Rattle.nm_log.specs.Replies.{new_text}
 use Rattle.nm_log.specs.declared.outcome.Outcome.TheVariants as outcomes

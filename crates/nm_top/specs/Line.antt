@@ -3,8 +3,8 @@ use Rattle.std.specs.Prelude.{◌≡◌, ℕ, ◌≤◌, List, [], ◌∷◌, �
 use Rattle.std.specs.List.{AllByRecursion, flat_map}
 use Rattle.std.specs.Option.{option_map}
 use Rattle.nm_faults.specs.Faults.{HasRisen}
-use Rattle.nm_base.specs.declared.request.Request.{Request}
-use Rattle.nm_base.specs.declared.request.Request.TheVariants as requests
+use Rattle.nm_core.specs.declared.request.Request.{Request}
+use Rattle.nm_core.specs.declared.request.Request.TheVariants as requests
 use Rattle.nm_commit.specs.Count.{count_text}
 use Rattle.nm_commit.specs.declared.change.Commit.{Commit}
 use Rattle.nm_core.specs.declared.step.Step.{Step}

@@ -92,5 +92,5 @@ fn joined(alloc: Global, folder: &str, name: &str) -> Result<Text, NoMemory>
     let mut text = String::from_str(alloc, folder)?;
     text.push_str("/")?;
     text.push_str(name)?;
-    Ok(Text::from_string(text))
+    Ok(Text::from_string(text)?)
 }

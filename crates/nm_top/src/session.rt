@@ -10,8 +10,8 @@ ghost use Rattle.nm_top.specs.Steps.{HasAsked, IsLineAnswer, Leaves, most_steps,
 use crate::index::{Mail, PlainIndex};
 use crate::new::run_new;
 use crate::steps::{Answered, reply_step};
-use nm_base::{CountAsk, Many, NoMemory, Request, Room, Text, UsageKind};
-use nm_core::{Step, count_text};
+use nm_base::{CountAsk, Many, NoMemory, Room, Text, UsageKind};
+use nm_core::{Request, Step, count_text};
 use nm_log::{Asked, LineLog, Outcome, ScriptLine, line_status, read_ask, usage_text};
 use nm_maildir::{Given, Maildir};
 use std::alloc::Global;

@@ -5,9 +5,9 @@ ghost use Rattle.nm_top.specs.NewLine.{add_of, commit_of, drop_of};
 ghost use Rattle.nm_top.specs.Steps.{most_steps};
 
 use crate::index::Mail;
-use nm_base::{Copies, MailPath, Many, NoMemory, Request};
+use nm_base::{Copies, MailPath, Many, NoMemory};
 use nm_commit::{Change, Commit};
-use nm_core::Step;
+use nm_core::{Request, Step};
 use nm_log::Outcome;
 use std::alloc::Global;
 

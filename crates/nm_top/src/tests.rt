@@ -49,7 +49,7 @@ fn letters_of(alloc: Global, steps: &[Step]) -> Result<Text, NoMemory> {
     'steps: for step in steps {
         letters.push(letter_of(step))?;
     }
-    Ok(Text::from_string(letters))
+    Ok(Text::from_string(letters)?)
 }
 
 fn letter_of(step: &Step) -> char {

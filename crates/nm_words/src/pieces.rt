@@ -1,4 +1,4 @@
-ghost use Rattle.std.specs.Prelude.{◌≡◌, [], ◌∷◌, ◌++◌, IfOk, IsAscii, OnOk, position, string_bytes};
+ghost use Rattle.std.specs.Prelude.{◌≡◌, [], ◌∷◌, ◌++◌, IsAscii, OnOk, position, string_bytes};
 ghost use Rattle.std.specs.List.{slice_split};
 ghost use Rattle.nm_words.specs.Words.{folded, is_cut, words_in};
 
@@ -6,47 +6,59 @@ use caseless::default_case_fold_str;
 use nm_base::{Many, NoMemory, Text, Word};
 use std::alloc::Global;
 
-/// The pieces of one word, without case, behind those that were found before.
-pub(crate) fn add_pieces(alloc: Global, word: &str, found: &mut Many<Word>) -> Result<(), NoMemory>
+/// The pieces of one word, without case, after those that were found before. `room` is for folding.
+pub(crate) fn add_pieces(
+    alloc: Global,
+    word: &str,
+    room: &mut String,
+    found: &mut Many<Word>,
+) -> Result<(), NoMemory>
     ensures { OnOk result (found.new ≡ found.old ++ words_in (slice_split is_cut word.now)) }
 {
     let mut left = word;
     'pieces: while let Some(at) = cut_at(left) {
-        add_piece(alloc, &left[..at], found)?;
+        add_piece(alloc, &left[..at], room, found)?;
         left = &left[at + 1..];
     }
-    add_piece(alloc, left, found)
+    add_piece(alloc, left, room, found)
 }
 
-fn add_piece(alloc: Global, piece: &str, found: &mut Many<Word>) -> Result<(), NoMemory>
+fn add_piece(
+    alloc: Global,
+    piece: &str,
+    room: &mut String,
+    found: &mut Many<Word>,
+) -> Result<(), NoMemory>
     ensures { OnOk result (found.new ≡ found.old ++ words_in (piece.now ∷ [])) }
 {
-    let text = folded(alloc, piece)?;
-    match Word::new(Text::from_string(text)) {
+    fold(alloc, piece, room)?;
+    match Word::new(Text::of(alloc, room.as_str())?) {
         Ok(word) => found.push(word),
         Err(_) => Ok(()),
     }
 }
 
-/// The piece without case.
-fn folded(alloc: Global, piece: &str) -> Result<String, NoMemory>
-    ensures { IfOk result (λ text. string_bytes text ≡ folded piece.now) }
+/// Leaves the piece without case in `room`.
+fn fold(alloc: Global, piece: &str, room: &mut String) -> Result<(), NoMemory>
+    ensures { OnOk result (string_bytes room.new ≡ folded piece.now) }
 {
     // Nearly all pieces are ASCII, where no character has to be decoded.
     if piece.is_ascii() {
-        return folded_ascii(alloc, piece);
+        return fold_ascii(piece, room);
     }
-    Ok(default_case_fold_str(alloc, piece)?)
+    *room = default_case_fold_str(alloc, piece)?;
+    Ok(())
 }
 
 #[tactic(auto, using(crate::proofs::FoldLemmas::folded_ascii))]
-fn folded_ascii(alloc: Global, piece: &str) -> Result<String, NoMemory>
+fn fold_ascii(piece: &str, room: &mut String) -> Result<(), NoMemory>
     requires { IsAscii piece.now }
-    ensures { IfOk result (λ text. string_bytes text ≡ folded piece.now) }
+    ensures { OnOk result (string_bytes room.new ≡ folded piece.now) }
 {
-    let mut text = String::from_str(alloc, piece)?;
-    text.make_ascii_lowercase();
-    Ok(text)
+    room.clear();
+    room.push_str(piece)?;
+    room.make_ascii_lowercase();
+    Ok(())
 }
 
 fn cut_at(text: &str) -> Option<usize>

@@ -13,8 +13,11 @@ pub fn words(alloc: Global, text: &str) -> Result<Many<Word>, NoMemory>
     ensures { IfOk result (λ found. found ≡ words_of text.now) }
 {
     let mut found = Many::new(alloc);
+    // Each piece is folded in here, so that only a word that is kept takes memory of its own.
+    let mut room = String::new(alloc);
     'words: for word in text.unicode_words() {
-        add_pieces(alloc, word, &mut found)?;
+        add_pieces(alloc, word, &mut room, &mut found)?;
     }
+    found.shrink_to_fit();
     Ok(found)
 }

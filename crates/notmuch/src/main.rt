@@ -91,7 +91,7 @@ fn read_words<R: Env + AllocGlobal>(rt: &R, alloc: Global) -> Result<Many<Text>,
         Err(_) => return Err(WordsFault::NoMemory),
     };
     for arg in args.skip(1) {
-        words.push(Text::from_string(arg))?;
+        words.push(Text::from_string(arg)?)?;
     }
     Ok(words)
 }

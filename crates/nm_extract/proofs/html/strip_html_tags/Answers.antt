@@ -18,5 +18,5 @@ tags-preserved c =
 
 pub returns : goal.returns
 returns c =
-    c.from_string.ensures
+    c.in_ok-from_string.ensures
     ∙ (c.in_ok-push_str-2.ensures.bytes ∙ (ap (λ text. string_bytes c.tags.kept ++ text) (sym (strip-whole c.tags.rest.now c.in_default.ensures.place)) ∙ c.tags.invariant.1))

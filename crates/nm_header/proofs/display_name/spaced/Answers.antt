@@ -21,4 +21,4 @@ words-preserved c = (
 
 pub returns : goal.returns
 returns c =
-    c.from_string.ensures ∙ words_end (string_bytes c.words.spaced) (string_bytes c.add_word-2.new.spaced) c.words.left.now (sym c.space_at.ensures ∙ c.in_default.is) c.in_ok-add_word-2.ensures ∙ c.words.invariant.1
+    c.in_ok-from_string.ensures ∙ words_end (string_bytes c.words.spaced) (string_bytes c.add_word-2.new.spaced) c.words.left.now (sym c.space_at.ensures ∙ c.in_default.is) c.in_ok-add_word-2.ensures ∙ c.words.invariant.1

@@ -12,4 +12,4 @@ units-preserved c =
     }
 
 pub returns : goal.returns
-returns c = c.text_of.ensures ∙ sym (unquoted_end c.units.plain.items c.units.left.now (sym c.is_empty.ensures ∙ c.units-test.false)) ∙ c.units.invariant.text
+returns c = c.in_ok-text_of.ensures ∙ sym (unquoted_end c.units.plain.items c.units.left.now (sym c.is_empty.ensures ∙ c.units-test.false)) ∙ c.units.invariant.text

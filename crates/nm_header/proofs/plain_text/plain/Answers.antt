@@ -10,4 +10,4 @@ pieces-preserved c = record {
 }
 
 pub returns : goal.returns
-returns c = c.text_of.ensures ∙ sym (plain_end c.pieces.shown.items c.pieces.left.now (sym c.is_empty.ensures ∙ c.pieces-test.false)) ∙ c.pieces.invariant.text
+returns c = c.in_ok-text_of.ensures ∙ sym (plain_end c.pieces.shown.items c.pieces.left.now (sym c.is_empty.ensures ∙ c.pieces-test.false)) ∙ c.pieces.invariant.text

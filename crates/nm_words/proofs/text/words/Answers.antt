@@ -16,4 +16,4 @@ words-preserved c =
 pub returns : goal.returns
 returns c =
     let t = YieldsList-end (YieldsList-from_gives _ _ c.into_iter-word-iterator.result) c.words.yielded _ c.words.yielded_by _ _ c.in-None.is c.next.ensures.steps in
-    c.words.invariant ∙ ap (λ l. words_in (flat_map (slice_split is_cut) l)) (t.0 ∙ ap unicode_words_left c.into_iter-word-iterator.ensures.into_iter_gives ∙ c.unicode_words-word-items.ensures.left)
+    c.shrink_to_fit.ensures ∙ c.words.invariant ∙ ap (λ l. words_in (flat_map (slice_split is_cut) l)) (t.0 ∙ ap unicode_words_left c.into_iter-word-iterator.ensures.into_iter_gives ∙ c.unicode_words-word-items.ensures.left)

@@ -1,0 +1,47 @@
+use crate::{Copies, NoMemory};
+
+/// What is printed or counted of the messages that match.
+#[derive(Clone, Copy, Debug, PartialEq, Eq)]
+pub enum Output {
+    Summary,
+    Threads,
+    Messages,
+    Files,
+    Tags,
+}
+
+/// How a dump is written.
+#[derive(Clone, Copy, Debug, PartialEq, Eq)]
+pub enum DumpForm {
+    /// A line of tag changes and the id.
+    BatchTag,
+    /// The id, and the tags in parentheses.
+    Sup,
+}
+
+/// How a dump is read.
+#[derive(Clone, Copy, Debug, PartialEq, Eq)]
+pub enum ReadForm {
+    /// The first line tells.
+    Auto,
+    BatchTag,
+    Sup,
+}
+
+impl Copies for Output {
+    fn copy(&self) -> Result<Output, NoMemory> {
+        Ok(*self)
+    }
+}
+
+impl Copies for DumpForm {
+    fn copy(&self) -> Result<DumpForm, NoMemory> {
+        Ok(*self)
+    }
+}
+
+impl Copies for ReadForm {
+    fn copy(&self) -> Result<ReadForm, NoMemory> {
+        Ok(*self)
+    }
+}

@@ -1,0 +1,21 @@
+use nm_base::{Copies, CountAsk, NoMemory};
+
+/// What a command asks for.
+#[derive(Clone, Debug, Drop, PartialEq, Eq)]
+pub enum Request {
+    /// Add the mail that the folder holds anew, and remove what it lacks.
+    New,
+    Count(CountAsk),
+}
+
+impl Copies for Request {
+    fn copy(&self) -> Result<Request, NoMemory> {
+        match self {
+            Request::New => Ok(Request::New),
+            Request::Count(ask) => {
+                let ask = ask.copy()?;
+                Ok(Request::Count(ask))
+            }
+        }
+    }
+}
