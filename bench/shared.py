@@ -30,6 +30,7 @@ si so ta te ti to va ve vi""".split()
 COMMON = """a about after all and at but by can for from has have in is it mail may more new no not of on one or our
 that the this to was we will with you your""".split()
 ACCENTED = "année café déjà façade für grün müde naïve noël über".split()
+CYRILLIC = str.maketrans("abcdefghijklmnopqrstuvwxyz", "абцдефгхийклмнопярстувшыжз")
 NAMES = "Ann Bo Cleo Dan Eve Finn Gus Hana Ines Jon Käthe Leo Mia Nils Ola Pia Quinn René Søren Tove".split()
 
 # So that the folders are removed where a script is told to stop.
@@ -61,10 +62,11 @@ class Store:
 class Texts:
     """Lines, subjects and people. As in real text, a few words are common and most are rare."""
 
-    def __init__(self):
+    def __init__(self, letters=None):
         self.chance = random.Random(SEED)
         made = {"".join(self.chance.choices(SYLLABLES, k=self.chance.randint(2, 5))) for _ in range(30_000)}
         known = COMMON + ACCENTED + sorted(made - {WORD})
+        known = [it.translate(letters) for it in known] if letters else known
         self.words = self.chance.choices(known, [1 / (at + 8) for at in range(len(known))], k=200_000)
         self.lines = [self.line() for _ in range(20_000)]
         self.ascii_lines = [it for it in self.lines if it.isascii()]
@@ -171,13 +173,18 @@ def header_of(texts, at, known, subject):
     return "".join(f"{it}\n" for it in lines).encode()
 
 
-def realistic(folder, count):
+def realistic(folder, count, letters=None):
     """So many mails as people get them. The first mails of a larger store are those of a smaller one."""
-    store, texts, known = Store(folder), Texts(), []
+    store, texts, known = Store(folder), Texts(letters), []
     for at in range(count):
         subject, has_word = texts.subject()
         store.add(header_of(texts, at, known, subject) + content_of(texts, at), has_word)
     return store
+
+
+def cyrillic(folder, count):
+    """The same with words in Cyrillic, whose letters take two bytes each."""
+    return realistic(folder, count, CYRILLIC)
 
 
 def one_mail(folder, content):
