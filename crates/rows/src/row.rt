@@ -1,0 +1,124 @@
+//! A table is paragraphs, parted by empty lines; each is a row. Lines that begin with `#` are comments.
+
+use crate::{Lines, RowError, unescaped};
+use std::alloc::{AllocError, Global};
+use std::mem;
+
+/// The lines of a row, as they stand in the table.
+#[derive(Drop)]
+pub struct Paragraph<'a> {
+    /// The number of the first line in the table, from 1.
+    pub number: usize,
+    pub lines: Vec<&'a [u8]>,
+}
+
+/// A row: its head `KIND: NAME`, and its marked lines.
+#[derive(Drop)]
+pub struct Row<'a> {
+    pub number: usize,
+    pub kind: &'a [u8],
+    pub name: &'a [u8],
+    pub lines: Vec<RowLine<'a>>,
+}
+
+/// A line of a row: what stands before its first space, and the bytes that the rest stands for.
+#[derive(Drop)]
+pub struct RowLine<'a> {
+    pub mark: &'a [u8],
+    pub bytes: Vec<u8>,
+}
+
+/// The paragraphs of a table.
+pub fn paragraphs<'a>(alloc: Global, table: &'a [u8]) -> Result<Vec<Paragraph<'a>>, AllocError> {
+    let mut found = Vec::new(alloc);
+    let mut open = Vec::new(alloc);
+    let mut first = 0usize;
+    let mut number = 0usize;
+    'lines: for line in table.split(|b| *b == b'\n') {
+        number = number.saturating_add(1);
+        if line.is_empty() {
+            close(alloc, &mut found, &mut open, first)?;
+        } else if line[0] != b'#' {
+            if open.is_empty() {
+                first = number;
+            }
+            open.push(line)?;
+        }
+    }
+    close(alloc, &mut found, &mut open, first)?;
+    Ok(found)
+}
+
+fn close<'a>(
+    alloc: Global,
+    found: &mut Vec<Paragraph<'a>>,
+    open: &mut Vec<&'a [u8]>,
+    number: usize,
+) -> Result<(), AllocError> {
+    if open.is_empty() {
+        return Ok(());
+    }
+    let lines = mem::replace(open, Vec::new(alloc));
+    found.push(Paragraph { number, lines })?;
+    Ok(())
+}
+
+/// Reads the row of a paragraph.
+pub fn read_row<'a>(alloc: Global, paragraph: &Paragraph<'a>) -> Result<Row<'a>, RowError> {
+    let Some((head, marked)) = paragraph.lines.as_slice().split_first() else {
+        return Err(RowError::Broken("no line"));
+    };
+    let (kind, name) = cut(head, b':');
+    if name.is_empty() {
+        return Err(RowError::Broken("the first line is not KIND: NAME"));
+    }
+    let mut lines = Vec::new(alloc);
+    'lines: for line in marked {
+        let (mark, rest) = cut(line, b' ');
+        let bytes = unescaped(alloc, rest)?;
+        lines.push(RowLine { mark, bytes })?;
+    }
+    Ok(Row {
+        number: paragraph.number,
+        kind,
+        name: cut(name, b' ').1,
+        lines,
+    })
+}
+
+/// What stands before the first such byte, and what stands after it.
+pub fn cut(line: &[u8], byte: u8) -> (&[u8], &[u8]) {
+    match line.iter().position(|b| *b == byte) {
+        Some(at) => (&line[..at], &line[at + 1..]),
+        None => (line, b""),
+    }
+}
+
+impl Row<'_> {
+    /// The texts of the lines with this mark, joined by LF.
+    pub fn text(&self, alloc: Global, mark: &[u8]) -> Result<Vec<u8>, AllocError> {
+        let mut lines = Lines::new(alloc);
+        'lines: for line in self.lines.as_slice() {
+            if line.mark == mark {
+                lines.line(line.bytes.as_slice())?;
+            }
+        }
+        Ok(lines.into_bytes())
+    }
+}
+
+/// The bytes as a text, where the row has a text there.
+pub fn text_of(bytes: &[u8]) -> Result<&str, RowError> {
+    match str::from_utf8(bytes) {
+        Ok(text) => Ok(text),
+        Err(_) => Err(RowError::Broken("not UTF-8 where the row has a text")),
+    }
+}
+
+/// The bytes as a number, where the row has a number there.
+pub fn number_of(bytes: &[u8]) -> Result<u64, RowError> {
+    match text_of(bytes)?.parse::<u64>() {
+        Ok(number) => Ok(number),
+        Err(_) => Err(RowError::Broken("no number where the row has one")),
+    }
+}
