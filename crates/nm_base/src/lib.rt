@@ -44,6 +44,3 @@ pub use tags::Tags;
 pub use text::Text;
 pub use text_set::TextSet;
 pub use word::Word;
-
-#[cfg(test)]
-mod tests;

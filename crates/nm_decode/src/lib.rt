@@ -8,8 +8,6 @@ mod fields;
 mod groups;
 mod laws;
 mod quoted;
-#[cfg(test)]
-mod tests;
 mod words;
 
 pub use charset::charset_text;

@@ -10,8 +10,6 @@ mod laws;
 mod mail;
 mod mailboxes;
 mod part_facts;
-#[cfg(test)]
-mod tests;
 mod word_lists;
 
 pub use laws::{

@@ -13,8 +13,6 @@ mod mailbox_list;
 mod pieces;
 mod plain_text;
 mod space;
-#[cfg(test)]
-mod tests;
 mod texts;
 mod tokens;
 

@@ -10,8 +10,6 @@ mod part_reader;
 mod quoted;
 mod reading;
 mod roles;
-#[cfg(test)]
-mod tests;
 mod tree;
 mod types;
 

@@ -2,8 +2,6 @@
 #![tactic(auto)]
 
 mod pieces;
-#[cfg(test)]
-mod tests;
 mod text;
 
 pub use text::words;
