@@ -1,0 +1,62 @@
+ghost use Rattle.std.specs.Prelude.{◌≡◌, ◌<◌, [], ◌∷◌, IfOk, OnOk, OnErr};
+ghost use Rattle.nm_shared.specs.Runs.{flat, HaveItems};
+
+use crate::run::{Run, copied};
+use nm_base::{Copies, NoMemory};
+
+/// A run with this many items is cut in two before another goes into it.
+const MAX_RUN: usize = 128;
+
+/// A second handle on each run.
+pub fn shared<T: Drop>(runs: &Vec<Run<T>>) -> Result<Vec<Run<T>>, NoMemory>
+    ensures { IfOk result (λ shared. shared.items ≡ runs.now.items) }
+{
+    let mut shared = Vec::with_capacity(*runs.allocator(), runs.len())?;
+    'runs: for run in runs.as_slice() {
+        shared.push(run.share()?)?;
+    }
+    Ok(shared)
+}
+
+/// Puts the first run there, with one item.
+pub fn put_first<T: Drop>(runs: &mut Vec<Run<T>>, item: T) -> Result<(), NoMemory>
+    requires { runs.old.items ≡ [] }
+    ensures ok { OnOk result (runs.new.items ≡ (item ∷ []) ∷ []) }
+    ensures err { OnErr result (runs.new.items ≡ runs.old.items) }
+{
+    let alloc = *runs.allocator();
+    let mut items = Vec::new(alloc);
+    items.push(item)?;
+    runs.push(Run::of(items)?)?;
+    Ok(())
+}
+
+/// Cuts the run at `at`, if it is there and full: the last one so that rising items fill runs.
+pub fn cut_run<T: Copies>(runs: &mut Vec<Run<T>>, at: usize) -> Result<(), NoMemory>
+    requires { HaveItems runs.old.items }
+    ensures items { flat runs.new.items ≡ flat runs.old.items }
+    ensures filled { HaveItems runs.new.items }
+{
+    let alloc = *runs.allocator();
+    let Some(run) = runs.get(at) else {
+        return Ok(());
+    };
+    let items = run.as_slice();
+    if items.len() < MAX_RUN {
+        return Ok(());
+    }
+    let middle = middle_of(at + 1 < runs.len());
+    let front = Run::of(copied(alloc, &items[..middle])?)?;
+    let back = Run::of(copied(alloc, &items[middle..])?)?;
+    runs.insert(at + 1, back)?;
+    runs[at] = front;
+    Ok(())
+}
+
+/// Where a full run is cut.
+fn middle_of(has_next: bool) -> usize
+    ensures low { 0 < result }
+    ensures high { result < MAX_RUN }
+{
+    if has_next { MAX_RUN / 2 } else { MAX_RUN - 1 }
+}

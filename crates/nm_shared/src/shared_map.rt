@@ -1,0 +1,157 @@
+ghost use Rattle.std.specs.Prelude.{◌≡◌, ◌==◌, [], length, slice_get, IfOk, OnOk, OnErr};
+ghost use Rattle.std.specs.BTreeMap.{insert_entry, is_at};
+ghost use Rattle.std.specs.List.Sorted.{IsStrictlySortedBy};
+ghost use Rattle.std.specs.Map.{keys_of, lookup, remove_entry};
+ghost use Rattle.std.specs.Option.{option_copied};
+
+use crate::Items;
+use crate::run::Run;
+use crate::runs::{cut_run, put_first, shared};
+use crate::search::{run_of, spot_of};
+use nm_base::{Copies, NoMemory};
+use std::alloc::Global;
+use std::marker::Model;
+
+/// Pairs in the order of their keys, each key once. A contract sees it as the list of its pairs.
+#[derive(Drop)]
+pub struct SharedMap<K: Ord, V> {
+    runs: Vec<Run<(K, V)>>,
+    len: usize,
+}
+
+impl<K: Ord, V> Model for SharedMap<K, V> {
+    ghost use Rattle.std.specs.Prelude.{List};
+    ghost use Rattle.std.specs.Coded.{coded_list, coded×};
+    ghost use Rattle.nm_shared.specs.Runs.{flat};
+    ghost use Rattle.nm_shared.specs.Map.{IsMap};
+
+    ghost Value = { List (K × V) };
+
+    ghost coded = { coded_list (coded× K.code V.code) };
+
+    ghost view = { λ m. flat m.runs.items };
+
+    ghost invariant = { λ m. IsMap K.cmp m.runs.items m.len };
+}
+
+impl<K: Ord, V> SharedMap<K, V> {
+    /// An empty map, which takes no memory.
+    pub fn new(alloc: Global) -> SharedMap<K, V>
+        ensures { result ≡ [] }
+    {
+        SharedMap {
+            runs: Vec::new(alloc),
+            len: 0,
+        }
+    }
+
+    pub fn len(&self) -> usize
+        ensures len { result ≡ length self.now }
+        ensures sorted { IsStrictlySortedBy K.cmp (keys_of self.now) }
+    {
+        self.len
+    }
+
+    pub fn is_empty(&self) -> bool
+        ensures { result ≡ (length self.now == 0) }
+    {
+        self.len == 0
+    }
+
+    pub fn get(&self, key: &K) -> Option<&V>
+        ensures { option_copied result ≡ lookup (is_at (K.cmp key.now)) self.now }
+    {
+        let spot = spot_of(self.runs.as_slice(), key);
+        if !spot.found {
+            return None;
+        }
+        let entry = &self.runs[spot.run].as_slice()[spot.at];
+        Some(&entry.1)
+    }
+
+    /// The pair with the least key.
+    pub fn first(&self) -> Option<&(K, V)>
+        ensures { option_copied result ≡ slice_get self.now 0 }
+    {
+        self.runs.first()?.as_slice().first()
+    }
+
+    /// All pairs, in order.
+    pub fn iter(&self) -> Items<'_, (K, V)>
+        ensures { result ≡ self.now }
+    {
+        Items::of(&[], self.runs.as_slice())
+    }
+}
+
+impl<K: Ord + Drop, V: Drop> SharedMap<K, V> {
+    /// A second handle, for far less than a copy. No change of one shows in the other.
+    pub fn share(&self) -> Result<SharedMap<K, V>, NoMemory>
+        ensures { IfOk result (λ map. map ≡ self.now) }
+    {
+        Ok(SharedMap {
+            runs: shared(&self.runs)?,
+            len: self.len,
+        })
+    }
+}
+
+impl<K: Ord + Copies, V: Copies> SharedMap<K, V> {
+    /// Puts `value` beside `key`. A key that is there already stays, and takes the value.
+    pub fn insert(&mut self, key: K, value: V) -> Result<(), NoMemory>
+        ensures ok { OnOk result (self.new ≡ insert_entry K.cmp self.old key value) }
+        ensures err { OnErr result (self.new ≡ self.old) }
+    {
+        self.make_room(&key);
+        self.put(key, value)
+    }
+
+    pub fn remove(&mut self, key: &K) -> Result<(), NoMemory>
+        ensures ok { OnOk result (self.new ≡ remove_entry (is_at (K.cmp key.now)) self.old) }
+        ensures err { OnErr result (self.new ≡ self.old) }
+    {
+        let spot = spot_of(self.runs.as_slice(), key);
+        if !spot.found {
+            return Ok(());
+        }
+        let len = self.len.saturating_sub(1);
+        if self.runs[spot.run].len() == 1 {
+            self.runs.remove(spot.run);
+            self.len = len;
+            return Ok(());
+        }
+        self.runs[spot.run].remove(spot.at)?;
+        self.len = len;
+        Ok(())
+    }
+
+    /// Cuts the run that `key` goes into, if it is full. Without memory for it the run grows.
+    fn make_room(&mut self, key: &K)
+        ensures { self.new ≡ self.old }
+    {
+        let run = run_of(self.runs.as_slice(), key).saturating_sub(1);
+        let _ = cut_run(&mut self.runs, run);
+    }
+
+    fn put(&mut self, key: K, value: V) -> Result<(), NoMemory>
+        ensures ok { OnOk result (self.new ≡ insert_entry K.cmp self.old key value) }
+        ensures err { OnErr result (self.new ≡ self.old) }
+    {
+        if self.len == usize::MAX {
+            return Err(NoMemory);
+        }
+        let spot = spot_of(self.runs.as_slice(), &key);
+        if spot.found {
+            self.runs[spot.run].replace_value(spot.at, value)?;
+            return Ok(());
+        }
+        if self.runs.is_empty() {
+            put_first(&mut self.runs, (key, value))?;
+            self.len += 1;
+            return Ok(());
+        }
+        self.runs[spot.run].insert(spot.at, (key, value))?;
+        self.len += 1;
+        Ok(())
+    }
+}
