@@ -8,9 +8,10 @@ use Rattle.std.specs.BTreeMap.{BTreeMap, get, is_at}
 use Rattle.std.proofs.lemmas.List.{take_more, length-take}
 use Rattle.nm_maildir.specs.MemoryFiles.{IsIndex, Locates, place_of}
 use Rattle.nm_maildir.specs.Still.{are_distinct, paths_of}
-use Rattle.nm_maildir.specs.Tree.{Tree, bytes_at, moved, renamed_of, same_path}
+use Rattle.nm_maildir.specs.Tree.{Tree, bytes_at, moved, renamed_of}
+use Rattle.nm_base.specs.Order.{same_text}
 use Rattle.nm_maildir.specs.declared.answers.Renamed.TheVariants.{Moved, Missing, Exists}
-use Rattle.nm_maildir.proofs.PlaceLemmas.{Path, File, bytes_at-place, place_of-below, place_of-push, place_of-new, place_of-moved, moved-at}
+use Rattle.nm_maildir.proofs.PlaceLemmas.{Path, File, bytes_at-place, place_of-below, place_of-push, place_of-moved, moved-at}
 
 -- what the map finds at a path
 abbrev pub found_in : BTreeMap Path ℕ → Path → Option ℕ
@@ -23,14 +24,14 @@ Puts m n path place = (q : Path) → found_in n q ≡ cond (is_at (slice_cmp nat
 pub below_length : (files : List File) (q : Path) (at : ℕ) → place_of files q ≡ Some at → at < length files
 below_length files q at e = let h = place_of-below files q in rw e at h
 
-pub IsIndex-push : (m n : BTreeMap Path ℕ) (files : List File) (i : ℕ) (d : File) → are_distinct (paths_of files) ≡ true → i < length files
+pub IsIndex-push : (m n : BTreeMap Path ℕ) (files : List File) (i : ℕ) (d : File) → place_of (take i files) (get_or files i d).0 ≡ None → i < length files
     → IsIndex m (take i files) → Puts m n (get_or files i d).0 (Some i) → IsIndex n (take (i + 1) files)
-IsIndex-push m n files i d distinct lt before puts q =
+IsIndex-push m n files i d missing lt before puts q =
     let path = (get_or files i d).0 in
-    let tests : same_path path q ≡ is_at (slice_cmp nat_cmp path) q = texts_ties path q in
+    let tests : same_text path q ≡ is_at (slice_cmp nat_cmp path) q = texts_ties path q in
     let found = puts q in
     let earlier = before q in
-    let longer = place_of-push (take i files) (get_or files i d) q (place_of-new files i d distinct lt) in
+    let longer = place_of-push (take i files) (get_or files i d) q missing in
     let count : length (take i files) ≡ i = omega (arith, length-take {A = File}) in
     let more = take_more files i d lt in
     cc
@@ -39,8 +40,8 @@ pub IsIndex-moved : (m n o : BTreeMap Path ℕ) (files : List File) (at : ℕ) (
     → place_of files from ≡ Some at → place_of files to ≡ None → IsIndex m files
     → Puts m n to (Some at) → Puts n o from None → IsIndex o (set files at (to, bytes))
 IsIndex-moved m n o files at from to bytes distinct is missing before puts takes q =
-    let tests : same_path to q ≡ is_at (slice_cmp nat_cmp to) q = texts_ties to q in
-    let tests' : same_path from q ≡ is_at (slice_cmp nat_cmp from) q = texts_ties from q in
+    let tests : same_text to q ≡ is_at (slice_cmp nat_cmp to) q = texts_ties to q in
+    let tests' : same_text from q ≡ is_at (slice_cmp nat_cmp from) q = texts_ties from q in
     let found = puts q in
     let left = takes q in
     let earlier = before q in

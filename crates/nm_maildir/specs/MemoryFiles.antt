@@ -4,12 +4,13 @@ use Rattle.std.specs.Option.{option_map}
 use Rattle.std.specs.Cmp.Lexicographic.{slice_cmp}
 use Rattle.std.specs.Ordering.{nat_cmp}
 use Rattle.std.specs.BTreeMap.{BTreeMap, get}
-use Rattle.nm_maildir.specs.Tree.{bytes_at, same_path}
+use Rattle.nm_maildir.specs.Tree.{bytes_at}
+use Rattle.nm_base.specs.Order.{same_text}
 
 -- how many files stand before the one with that path
 abbrev pub place_of : List (List ℕ × List ℕ) → List ℕ → Option ℕ
 place_of [] path = None
-place_of (file ∷ files) path = if same_path file.0 path then Some 0 else option_map suc (place_of files path)
+place_of (file ∷ files) path = if same_text file.0 path then Some 0 else option_map suc (place_of files path)
 
 -- the map finds each path at its place, and no other path
 abbrev pub IsIndex : BTreeMap (List ℕ) ℕ → List (List ℕ × List ℕ) → Type 0

@@ -14,10 +14,12 @@ pub record ObservedMail : Type 0 where
   pub reads : Option (List (List ℕ))
   pub faults : ℕ
 
+-- a failure of the system; being out of memory is none
 abbrev pub is_mail_fault : MailError → Bool
 is_mail_fault Failed = true
 is_mail_fault NoMemory = false
 
+-- the cause of what a call of a mail folder answers
 abbrev pub HasMailCause : {T : Type 0} → ℕ → ℕ → Result T MailError → Type 0
 HasMailCause before now result = HasCauseOf is_mail_fault before now result
 
@@ -33,6 +35,7 @@ reads_with reads path (Ok got) = reads ++ path ∷ []
 reads_with reads path (Err Failed) = reads ++ path ∷ []
 reads_with reads path (Err NoMemory) = reads
 
+-- the same, where the paths are told
 abbrev pub reads_after : {T : Type 0} → Option (List (List ℕ)) → List ℕ → Result T MailError → Option (List (List ℕ))
 reads_after reads path result = option_map (λ paths. reads_with paths path result) reads
 

@@ -1,11 +1,11 @@
 -- A tree of mail in memory, which fails at listed calls.
 use Rattle.std.specs.Prelude.{◌≡◌, ℕ, Bool, true, false, Result, Ok, Err, Some, ◌&&◌, not, List, [], ◌∷◌, map}
-use Rattle.std.specs.List.{list_any}
 use Rattle.nm_faults.specs.Calls.{CallCounts, counted, is_next_listed}
 use Rattle.nm_maildir.specs.Observed.{ObservedMail}
 use Rattle.nm_maildir.specs.declared.answers.MailError.{MailError}
 use Rattle.nm_maildir.specs.declared.answers.MailError.TheVariants.{Failed, NoMemory}
-use Rattle.nm_maildir.specs.Tree.{Tree, same_path}
+use Rattle.nm_maildir.specs.Tree.{Tree}
+use Rattle.nm_base.specs.Order.{has_text}
 
 -- the tree, the paths read, and its calls
 pub record Still : Type 0 where
@@ -31,7 +31,7 @@ paths_of files = map (λ file. file.0) files
 -- no path stands twice
 abbrev pub are_distinct : List (List ℕ) → Bool
 are_distinct [] = true
-are_distinct (path ∷ paths) = not (list_any (same_path path) paths) && are_distinct paths
+are_distinct (path ∷ paths) = not (has_text paths path) && are_distinct paths
 
 -- A call is counted, and failed exactly where it is listed. One that was out of memory left all as it was.
 abbrev pub CountsCall : {T : Type 0} → Still → Still → Result T MailError → Type 0

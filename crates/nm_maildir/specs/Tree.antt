@@ -1,9 +1,7 @@
 -- A tree of mail: folders, and files with their bytes, each by its path below the root (maildir(5)).
-use Rattle.std.specs.Prelude.{ℕ, Bool, ◌||◌, ◌==◌, List, [], ◌∷◌, length, map, filter, fold, Option, None, Some, is_some, nat_lt, nat_eq, if◌then◌else◌}
-use Rattle.std.specs.List.{list_any, before_last, after_last}
-use Rattle.std.specs.Cmp.Lexicographic.{slice_cmp, pointwise}
-use Rattle.std.specs.Ordering.{nat_cmp}
-use Rattle.std.specs.BTreeSet.{insert_key}
+use Rattle.std.specs.Prelude.{ℕ, Bool, ◌||◌, ◌==◌, List, [], ◌∷◌, length, map, filter, Option, None, Some, is_some, nat_lt, if◌then◌else◌}
+use Rattle.std.specs.List.{before_last, after_last}
+use Rattle.nm_base.specs.Order.{has_text, in_order, same_text}
 use Rattle.nm_maildir.specs.declared.answers.Listing.{Listing}
 use Rattle.nm_maildir.specs.declared.answers.Got.{Got}
 use Rattle.nm_maildir.specs.declared.answers.Got.TheVariants as got
@@ -15,9 +13,6 @@ pub record Tree : Type 0 where
   pub dirs : List (List ℕ)
   pub files : List (List ℕ × List ℕ)
 
-abbrev pub same_path : List ℕ → List ℕ → Bool
-same_path a b = pointwise nat_eq a b
-
 -- the folder that holds the path: all before its last `/`, or the root, which is the empty text
 abbrev pub folder_of : List ℕ → List ℕ
 folder_of path = before_last (λ b. b == 47) path
@@ -26,17 +21,13 @@ folder_of path = before_last (λ b. b == 47) path
 abbrev pub name_of : List ℕ → List ℕ
 name_of path = after_last (λ b. b == 47) path
 
--- the names in byte order, without repeats
-abbrev pub in_order : List (List ℕ) → List (List ℕ)
-in_order names = fold (insert_key (slice_cmp nat_cmp)) [] names
-
--- the names of those paths that lie directly in the folder
+-- the names of those paths that lie directly in the folder, in byte order, without repeats
 abbrev pub names_in : List ℕ → List (List ℕ) → List (List ℕ)
-names_in folder paths = in_order (map name_of (filter (λ path. same_path (folder_of path) folder) paths))
+names_in folder paths = in_order (map name_of (filter (λ path. same_text (folder_of path) folder) paths))
 
 -- the root, or a folder of the tree
 abbrev pub is_folder : Tree → List ℕ → Bool
-is_folder tree folder = (length folder == 0) || list_any (same_path folder) tree.dirs
+is_folder tree folder = (length folder == 0) || has_text tree.dirs folder
 
 -- what a folder holds; a folder that is not there holds nothing
 abbrev pub listing_of : Tree → List ℕ → Listing
@@ -48,7 +39,7 @@ listing_of tree folder =
 -- the bytes of a file
 abbrev pub bytes_at : List (List ℕ × List ℕ) → List ℕ → Option (List ℕ)
 bytes_at [] path = None
-bytes_at (file ∷ files) path = if same_path file.0 path then Some file.1 else bytes_at files path
+bytes_at (file ∷ files) path = if same_text file.0 path then Some file.1 else bytes_at files path
 
 -- what a read of at most max bytes answers
 abbrev pub got_from : ℕ → Option (List ℕ) → Got
@@ -69,5 +60,5 @@ renamed_of tree from to =
 abbrev pub moved : Tree → List ℕ → List ℕ → Tree
 moved tree from to = record {
   dirs = tree.dirs;
-  files = map (λ file. if same_path file.0 from then (to, file.1) else file) tree.files;
+  files = map (λ file. if same_text file.0 from then (to, file.1) else file) tree.files;
 }

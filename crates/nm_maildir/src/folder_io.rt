@@ -87,27 +87,27 @@ pub(crate) fn bytes_in<R: Files + AllocGlobal>(
 ) -> Result<Got, FolderError> {
     let alloc = rt.alloc();
     let place = full_path(alloc, root.as_str(), path.text().as_str())?;
-    let Some(size) = file_size(rt, place.as_str())? else {
+    let Some(len) = file_len(rt, place.as_str())? else {
         return Ok(Got::Missing);
     };
-    if size > max {
+    if len > max {
         return Ok(Got::TooLong);
     }
     match fs::open(rt, place.as_str()) {
-        Ok(file) => read_up_to(alloc, file, size, max),
+        Ok(file) => read_up_to(alloc, file, len, max),
         Err(error) if error.kind() == ErrorKind::NotFound => Ok(Got::Missing),
         Err(error) => Err(FolderError::from(error)),
     }
 }
 
-/// Reads a file that may have grown since its size was taken.
+/// Reads a file that may have grown since its length was taken.
 pub(crate) fn read_up_to<F: Read + Drop>(
     alloc: Global,
     file: F,
-    size: u64,
+    len: u64,
     max: u64,
 ) -> Result<Got, FolderError> {
-    let mut bytes = Vec::with_capacity(alloc, size as usize)?;
+    let mut bytes = Vec::with_capacity(alloc, len as usize)?;
     let mut front = file.take(max.saturating_add(1));
     front.read_to_end(&mut bytes)?;
     if bytes.len() as u64 > max {
@@ -126,7 +126,7 @@ pub(crate) fn rename_in<R: Files + AllocGlobal>(
     let alloc = rt.alloc();
     let source = full_path(alloc, root.as_str(), from.text().as_str())?;
     let target = full_path(alloc, root.as_str(), to.text().as_str())?;
-    if file_size(rt, source.as_str())?.is_none() {
+    if file_len(rt, source.as_str())?.is_none() {
         return Ok(Renamed::Missing);
     }
     if if_exists(fs::symlink_metadata(rt, target.as_str()))?.is_some() {
@@ -149,8 +149,8 @@ fn is_folder<R: Files>(rt: &R, dir: &Text, place: &str) -> Result<bool, FolderEr
     }
 }
 
-/// The size of a file, or none where no file is there. A link is no file.
-fn file_size<R: Files>(rt: &R, place: &str) -> Result<Option<u64>, FolderError> {
+/// The length of a file, or none where no file is there. A link is no file.
+fn file_len<R: Files>(rt: &R, place: &str) -> Result<Option<u64>, FolderError> {
     match if_exists(fs::symlink_metadata(rt, place))? {
         Some(metadata) if metadata.is_file() => Ok(Some(metadata.len())),
         _ => Ok(None),

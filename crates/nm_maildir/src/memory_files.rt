@@ -1,17 +1,19 @@
 ghost use Rattle.std.specs.Bool.{OnFalse};
-ghost use Rattle.std.specs.Prelude.{◌≡◌, [], true, None, Some, is_some, IfOk, IsTrue, OnOk, OnErr};
+ghost use Rattle.std.specs.Prelude.{◌≡◌, [], true, None, Some, is_some, IfOk, IfSome, IsTrue, OnOk, OnErr};
 ghost use Rattle.nm_maildir.specs.MemoryFiles.{IsIndex, Locates, place_of};
+ghost use Rattle.nm_maildir.specs.Names.{HasNames};
 ghost use Rattle.nm_maildir.specs.Order.{AreInOrder};
 ghost use Rattle.nm_maildir.specs.Still.{are_distinct, paths_of};
 ghost use Rattle.nm_maildir.specs.Tree.{bytes_at, got_from};
 
-use crate::names::{names_of_dirs, names_of_files};
+use crate::names::{list_of, names_of_dirs, names_of_files};
 use crate::{Got, Listing, Renamed};
 use nm_base::{Copies, MailPath, Many, NoMemory, Text};
 use std::alloc::Global;
-use std::collections::BTreeMap;
+use std::collections::{BTreeMap, BTreeSet};
 
-/// Folders, and files with their bytes, in memory. The places of the files are gathered at the first look-up.
+/// Folders, and files with their bytes, in memory. The places of the files are gathered at the first look-up,
+/// the names in each folder at the first listing after a file was moved.
 #[derive(Drop)]
 pub(crate) struct MemoryFiles {
     alloc: Global,
@@ -19,8 +21,12 @@ pub(crate) struct MemoryFiles {
     files: Vec<(MailPath, Many<u8>)>,
     places: BTreeMap<MailPath, usize>,
     is_indexed: bool,
+    dir_names: BTreeMap<Text, BTreeSet<Text>>,
+    file_names: BTreeMap<Text, BTreeSet<Text>>,
+    is_listed: bool,
     ghost distinct: { IsTrue (are_distinct (paths_of files.items)) },
     ghost indexed: { is_indexed ≡ true → IsIndex places files.items },
+    ghost listed: { is_listed ≡ true → HasNames dir_names dirs × HasNames file_names (paths_of files.items) },
 }
 
 impl MemoryFiles {
@@ -42,19 +48,63 @@ impl MemoryFiles {
             files: files.into_vec(),
             places: BTreeMap::new(alloc),
             is_indexed: false,
+            dir_names: BTreeMap::new(alloc),
+            file_names: BTreeMap::new(alloc),
+            is_listed: false,
         }
     }
 
-    pub(crate) fn list(&self, dir: &Text) -> Result<Listing, NoMemory>
-        ensures listed { IfOk result (λ listing. listing ≡ listing_of (tree_of self.now) dir.now) }
+    /// The same, where no path stands twice.
+    pub(crate) fn of(
+        alloc: Global,
+        dirs: Many<Text>,
+        files: Many<(MailPath, Many<u8>)>,
+    ) -> Result<Option<MemoryFiles>, NoMemory>
+        ensures some { IfOk result (λ made. IfSome made (λ memory. tree_of memory ≡ record { dirs = dirs; files = files })) }
+        ensures none { IfOk result (λ made. is_some made ≡ are_distinct (paths_of files)) }
+    {
+        let Some(places) = places_of(alloc, files.as_slice())? else {
+            return Ok(None);
+        };
+        Ok(Some(MemoryFiles {
+            alloc,
+            dirs,
+            files: files.into_vec(),
+            places,
+            is_indexed: true,
+            dir_names: BTreeMap::new(alloc),
+            file_names: BTreeMap::new(alloc),
+            is_listed: false,
+        }))
+    }
+
+    pub(crate) fn list(&mut self, dir: &Text) -> Result<Listing, NoMemory>
+        ensures listed { IfOk result (λ listing. listing ≡ listing_of (tree_of self.old) dir.now) }
         ensures order { IfOk result (λ listing. AreInOrder listing) }
+        ensures tree { tree_of self.new ≡ tree_of self.old }
     {
         if !self.has_folder(dir) {
             return Ok(no_names(self.alloc));
         }
-        let dirs = names_of_dirs(self.alloc, dir.as_str(), self.dirs.as_slice())?;
-        let files = names_of_files(self.alloc, dir.as_str(), self.files.as_slice())?;
+        self.gather_names()?;
+        let dirs = list_of(self.alloc, &self.dir_names, dir)?;
+        let files = list_of(self.alloc, &self.file_names, dir)?;
         Ok(Listing { dirs, files })
+    }
+
+    /// Gathers the names in each folder, where that was not done since the last change.
+    fn gather_names(&mut self) -> Result<(), NoMemory>
+        ensures ok { OnOk result (self.new.is_listed ≡ true) }
+        ensures tree { tree_of self.new ≡ tree_of self.old }
+    {
+        if !self.is_listed {
+            let dir_names = names_of_dirs(self.alloc, self.dirs.as_slice())?;
+            let file_names = names_of_files(self.alloc, self.files.as_slice())?;
+            self.dir_names = dir_names;
+            self.file_names = file_names;
+            self.is_listed = true;
+        }
+        Ok(())
     }
 
     fn has_folder(&self, dir: &Text) -> bool
@@ -97,7 +147,10 @@ impl MemoryFiles {
         ensures tree { tree_of self.new ≡ tree_of self.old }
     {
         if !self.is_indexed {
-            self.places = places_of(self.alloc, self.files.as_slice())?;
+            let Some(places) = places_of(self.alloc, self.files.as_slice())? else {
+                unreachable!()
+            };
+            self.places = places;
             self.is_indexed = true;
         }
         Ok(())
@@ -132,6 +185,7 @@ impl MemoryFiles {
         let path = to.copy()?;
         self.places.insert(to.copy()?, at)?;
         self.places.remove(from);
+        self.is_listed = false;
         self.files[at].0 = path;
         Ok(())
     }
@@ -147,19 +201,21 @@ fn got(bytes: &Many<u8>, max: u64) -> Result<Got, NoMemory>
     Ok(Got::Found(copied))
 }
 
-/// The place of each file by its path.
+/// The place of each file by its path, where no path stands twice.
 fn places_of(
     alloc: Global,
     files: &[(MailPath, Many<u8>)],
-) -> Result<BTreeMap<MailPath, usize>, NoMemory>
-    requires { IsTrue (are_distinct (paths_of files.now)) }
-    ensures { IfOk result (λ places. IsIndex places files.now) }
+) -> Result<Option<BTreeMap<MailPath, usize>>, NoMemory>
+    ensures places { IfOk result (λ found. IfSome found (λ places. IsIndex places files.now)) }
+    ensures distinct { IfOk result (λ found. is_some found ≡ are_distinct (paths_of files.now)) }
 {
     let mut places = BTreeMap::new(alloc);
     'files: for (at, file) in files.iter().enumerate() {
-        places.insert(file.0.copy()?, at)?;
+        if places.insert(file.0.copy()?, at)?.is_some() {
+            return Ok(None);
+        }
     }
-    Ok(places)
+    Ok(Some(places))
 }
 
 /// A listing of a folder that holds nothing.

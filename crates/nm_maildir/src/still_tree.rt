@@ -1,13 +1,12 @@
 ghost use Rattle.std.specs.Prelude.{◌≡◌, is_some, IfOk, IfSome, IsTrue};
-ghost use Rattle.std.specs.List.{list_any};
 ghost use Rattle.nm_maildir.specs.Observed.{KeepsMail, after_read, after_rename};
 ghost use Rattle.nm_maildir.specs.Order.{AreInOrder};
 ghost use Rattle.nm_maildir.specs.Still.{CountsCall, are_distinct, observed_still, paths_of, still_of};
-ghost use Rattle.nm_maildir.specs.Tree.{got_of, listing_of, renamed_of, same_path};
+ghost use Rattle.nm_maildir.specs.Tree.{got_of, listing_of, renamed_of};
 
 use crate::memory_files::MemoryFiles;
 use crate::{Got, Listing, MailError, Maildir, Renamed};
-use nm_base::{Copies, MailPath, Many, Text};
+use nm_base::{Copies, MailPath, Many, NoMemory, Text};
 use nm_faults::Calls;
 use std::alloc::Global;
 use std::marker::Model;
@@ -48,50 +47,25 @@ impl StillTree {
         }
     }
 
-    /// The same, where no path stands twice. It compares each two paths: for thousands of files that are
-    /// known to lie apart take `new`.
+    /// The same, where no path stands twice.
     pub fn of(
         alloc: Global,
         dirs: Many<Text>,
         files: Many<(MailPath, Many<u8>)>,
         failing: Many<u64>,
-    ) -> Option<StillTree>
-        ensures some { IfSome result (λ made. made ≡ still_of dirs files failing) }
-        ensures none { is_some result ≡ are_distinct (paths_of files) }
+    ) -> Result<Option<StillTree>, NoMemory>
+        ensures some { IfOk result (λ made. IfSome made (λ tree. tree ≡ still_of dirs files failing)) }
+        ensures none { IfOk result (λ made. is_some made ≡ are_distinct (paths_of files)) }
     {
-        if are_distinct(files.as_slice()) {
-            Some(StillTree::new(alloc, dirs, files, failing))
-        } else {
-            None
-        }
+        let Some(files) = MemoryFiles::of(alloc, dirs, files)? else {
+            return Ok(None);
+        };
+        Ok(Some(StillTree {
+            files,
+            reads: Many::new(alloc),
+            calls: Calls::new(failing),
+        }))
     }
-}
-
-/// Whether no path stands twice.
-fn are_distinct(files: &[(MailPath, Many<u8>)]) -> bool
-    ensures { result ≡ are_distinct (paths_of files.now) }
-{
-    let mut rest = files;
-    'files: while let [file, after @ ..] = rest {
-        if has_path(after, &file.0) {
-            return false;
-        }
-        rest = after;
-    }
-    true
-}
-
-fn has_path(files: &[(MailPath, Many<u8>)], path: &MailPath) -> bool
-    ensures { result ≡ list_any (same_path path.now) (paths_of files.now) }
-{
-    let mut rest = files;
-    'files: while let [file, after @ ..] = rest {
-        if *path == file.0 {
-            return true;
-        }
-        rest = after;
-    }
-    false
 }
 
 impl Maildir for StillTree {

@@ -100,7 +100,7 @@ fn tree(alloc: Global, letters: &str, failing: &[u64]) -> Result<Option<StillTre
         held.push((path, Many::from_slice(alloc, bytes.as_bytes())?))?;
     }
     let failing = Many::from_slice(alloc, failing)?;
-    Ok(StillTree::of(alloc, dirs, held, failing))
+    StillTree::of(alloc, dirs, held, failing)
 }
 
 /// Runs the call with these words over the files, with the script as its input.

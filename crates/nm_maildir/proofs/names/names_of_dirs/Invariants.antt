@@ -1,6 +1,6 @@
-use Rattle.std.proofs.Common.{◌≡◌, take}
-use Rattle.nm_maildir.specs.Tree.{names_in}
+use Rattle.std.proofs.Common.{take}
+use Rattle.nm_maildir.specs.Names.{HasNames}
 use Rattle.nm_maildir.proofs.names.names_of_dirs.Given as goal
 
 abbrev pub invariant-dirs : goal.invariant-dirs
-invariant-dirs l = l.names.keys ≡ names_in l.folder (take l.dir-index l.dirs)
+invariant-dirs l = HasNames l.names (take l.dir-index l.dirs)

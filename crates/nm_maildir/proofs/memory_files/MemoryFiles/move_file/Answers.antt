@@ -23,6 +23,7 @@ invariant_of-self-2 c =
           held.distinct c.requires.found missing (held.indexed c.requires.indexed)
           (subst (λ to. Puts held.places c.insert.new.self to (Some c.args.at)) (key ∙ sym path) c.in_ok-insert.ensures.updates.0)
           c.remove.ensures.updates.0;
+      listed = λ e. absurd (cc);
     }
 
 pub returns-clause-ok : goal.returns-clause-ok
