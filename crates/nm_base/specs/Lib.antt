@@ -1,5 +1,4 @@
 pub mod Bounds
-pub mod Faults
 pub mod MailPath
 pub mod MessageId
 pub mod Limits

@@ -1,5 +1,6 @@
 -- Sources and sinks in memory, which fail at listed calls.
 use Rattle.std.specs.Prelude.{ℕ, ◌+◌, min, List, Some}
+use Rattle.nm_base.specs.Limits.{max_count}
 use Rattle.nm_faults.specs.Calls.{CallCounts}
 use Rattle.nm_io.specs.Observed.{ObservedStream}
 
@@ -21,5 +22,5 @@ observed_source source = record { bytes = Some source.bytes; faults = source.cal
 abbrev pub observed_sink : SinkState → ObservedStream
 observed_sink sink = record {
   bytes = Some sink.bytes;
-  faults = min (sink.calls.faults + sink.wanted) 18446744073709551615;
+  faults = min (sink.calls.faults + sink.wanted) max_count;
 }

@@ -1,8 +1,8 @@
 -- Lists in order.
 use Rattle.std.proofs.Common.{[]}
 use Rattle.std.specs.List.Sorted.{IsStrictlySortedBy}
-use Rattle.nm_maildir.specs.Order.{IsInOrder}
+use Rattle.nm_base.specs.Order.{IsSorted}
 
-pub none_in_order : IsInOrder []
+pub none_in_order : IsSorted []
 unfolding IsStrictlySortedBy
 none_in_order = tt

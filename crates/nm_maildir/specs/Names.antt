@@ -3,14 +3,14 @@ use Rattle.std.specs.Prelude.{◌≡◌, ℕ, List, [], Option, None, Some, if�
 use Rattle.std.specs.Cmp.Lexicographic.{slice_cmp}
 use Rattle.std.specs.Ordering.{nat_cmp}
 use Rattle.std.specs.BTreeMap.{BTreeMap, get}
-use Rattle.std.specs.BTreeSet.{BTreeSet, insert_key}
+use Rattle.std.specs.BTreeSet.{BTreeSet}
 use Rattle.nm_maildir.specs.Tree.{folder_of, name_of, names_in}
-use Rattle.nm_base.specs.Order.{same_text}
+use Rattle.nm_base.specs.Order.{insert, same_text}
 
 -- the names, and that of the path where it lies directly in the folder
 abbrev pub with_name : List ℕ → List (List ℕ) → List ℕ → List (List ℕ)
 with_name folder names path =
-    if same_text (folder_of path) folder then insert_key (slice_cmp nat_cmp) names (name_of path) else names
+    if same_text (folder_of path) folder then insert names (name_of path) else names
 
 -- the names of a look-up: a folder that is not found has none
 abbrev pub found_names : Option (BTreeSet (List ℕ)) → List (List ℕ)

@@ -1,7 +1,7 @@
 -- A tree of mail: folders, and files with their bytes, each by its path below the root (maildir(5)).
 use Rattle.std.specs.Prelude.{ℕ, Bool, ◌||◌, ◌==◌, List, [], ◌∷◌, length, map, filter, Option, None, Some, is_some, nat_lt, if◌then◌else◌}
 use Rattle.std.specs.List.{before_last, after_last}
-use Rattle.nm_base.specs.Order.{has_text, in_order, same_text}
+use Rattle.nm_base.specs.Order.{has_text, same_text, sorted}
 use Rattle.nm_maildir.specs.declared.answers.Listing.{Listing}
 use Rattle.nm_maildir.specs.declared.answers.Got.{Got}
 use Rattle.nm_maildir.specs.declared.answers.Got.TheVariants as got
@@ -23,7 +23,7 @@ name_of path = after_last (λ b. b == 47) path
 
 -- the names of those paths that lie directly in the folder, in byte order, without repeats
 abbrev pub names_in : List ℕ → List (List ℕ) → List (List ℕ)
-names_in folder paths = in_order (map name_of (filter (λ path. same_text (folder_of path) folder) paths))
+names_in folder paths = sorted (map name_of (filter (λ path. same_text (folder_of path) folder) paths))
 
 -- the root, or a folder of the tree
 abbrev pub is_folder : Tree → List ℕ → Bool

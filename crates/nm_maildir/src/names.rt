@@ -1,8 +1,8 @@
 ghost use Rattle.std.specs.Prelude.{◌≡◌, ◌==◌, ◌-◌, not, length, IfOk, OnOk};
 ghost use Rattle.std.specs.List.{suffix_len};
 ghost use Rattle.std.specs.Str.{IsCharBoundary};
+ghost use Rattle.nm_base.specs.Order.{IsSorted};
 ghost use Rattle.nm_maildir.specs.Names.{AddsPath, DropsFolder, HasNames, names_at};
-ghost use Rattle.nm_maildir.specs.Order.{IsInOrder};
 ghost use Rattle.nm_maildir.specs.Still.{paths_of};
 ghost use Rattle.nm_maildir.specs.Tree.{folder_of, name_of};
 
@@ -46,7 +46,7 @@ pub(crate) fn list_of(
     folder: &Text,
 ) -> Result<Many<Text>, NoMemory>
     ensures names { IfOk result (λ list. list ≡ names_at names.now folder.now) }
-    ensures order { IfOk result (λ list. IsInOrder list) }
+    ensures order { IfOk result (λ list. IsSorted list) }
 {
     let Some(found) = names.get(folder) else {
         return Ok(Many::new(alloc));
@@ -123,7 +123,7 @@ fn name_start(path: &str) -> usize
 /// The names as a list, which is in order as the set is.
 pub(crate) fn into_list(alloc: Global, names: BTreeSet<Text>) -> Result<Many<Text>, NoMemory>
     ensures names { IfOk result (λ list. list ≡ names.keys) }
-    ensures order { IfOk result (λ list. IsInOrder list) }
+    ensures order { IfOk result (λ list. IsSorted list) }
 {
     let list: Vec<Text> = names.into_iter().collect(alloc)?;
     Ok(Many::from_vec(list))
