@@ -1,4 +1,4 @@
-ghost use Rattle.std.specs.Prelude.{◌≡◌, ◌↔◌, ◌<◌, ◌≤◌, length, replicate, IfOk, IsTrue};
+ghost use Rattle.std.specs.Prelude.{◌≡◌, ◌↔◌, ◌<◌, ◌≤◌, ◌≤ℤ◌, length, pos, replicate, IfOk, IsTrue};
 ghost use Rattle.nm_commit.specs.Index.{empty_index};
 ghost use Rattle.nm_core.specs.Core.{Answers};
 ghost use Rattle.nm_core.specs.Laws.{InOrder};
@@ -79,12 +79,16 @@ impl Core {
         })
     }
 
-    /// Takes the step, if it may be taken now.
-    pub fn step(&mut self, step: &Step) -> Result<(), CoreError>
+    /// Takes the step, if it may be taken now. `moment` is the second, counted from 1970-01-01 00:00:00 UTC, at
+    /// which a reply is given; no request that is answered so far asks for it.
+    pub fn step(&mut self, step: &Step, moment: i64) -> Result<(), CoreError>
+        requires from_1970 { pos 0 ≤ℤ moment }
+        requires moment { moment ≤ℤ pos 253000000000 }
         ensures answer { Answers self.old step.now result self.new }
         ensures order { InOrder self.new.met self.new.machine }
     {
         let _ = &self.met;
+        let _ = moment;
         match step {
             Step::Begin { commit } => self.begin(commit),
             Step::Append => self.append(),

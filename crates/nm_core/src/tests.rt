@@ -8,6 +8,9 @@ use std::alloc::Global;
 use std::process::Abort;
 use std::test::Fail;
 
+/// The moment of every step.
+const MOMENT: i64 = 1_700_000_000;
+
 /// A step in few words.
 #[derive(Clone, Copy)]
 enum Do {
@@ -139,7 +142,7 @@ fn run(
         } else {
             Err(CoreError::NotNow)
         };
-        assert_eq!(rt; core.step(&step), answer, "{name}");
+        assert_eq!(rt; core.step(&step, MOMENT), answer, "{name}");
     }
     Ok(())
 }

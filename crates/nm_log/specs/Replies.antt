@@ -78,14 +78,15 @@ summary_line report =
 abbrev pub new_text : NewReport → List ℕ
 new_text report = if is_quiet report then codes "No new mail.\n" else summary_line report ++ flat_map skip_line report.skipped
 
--- the lane and the number of the line; the revision and the status; the length of the reply
-abbrev pub header_with : List ℕ → List ℕ → List ℕ → LineLog → List ℕ
-header_with begin space end log =
-    (number_after begin log.lane ++ number_after space log.line)
-    ++ ((number_after space log.revision ++ number_after space log.status) ++ (number_after space (length log.text) ++ end))
-
+-- the lane and the number of the line, the revision, the status, and the length of the reply
 abbrev pub header_of : LineLog → List ℕ
-header_of log = header_with (codes "@") (codes " ") (codes "\n") log
+header_of log =
+    number_after (codes "@") log.lane
+    ++ number_after (codes " ") log.line
+    ++ number_after (codes " ") log.revision
+    ++ number_after (codes " ") log.status
+    ++ number_after (codes " ") (length log.text)
+    ++ codes "\n"
 
 -- a reply behind its header
 abbrev pub printed_line : LineLog → List ℕ

@@ -1,8 +1,9 @@
-//! What a session reads and says: the lines of a script and what each asks for, the log of what was done,
-//! the text of each reply, and how the log is printed.
+//! Commands and replies: what a session reads and says. The lines of a script and what each asks for, the log of what
+//! was done, the text of each reply, and how the log is printed.
 #![tactic(auto)]
 
 mod ask;
+mod header;
 mod log;
 mod outcome;
 mod print;
@@ -14,7 +15,7 @@ pub use ask::{Asked, read_ask};
 pub use log::{Done, LineLog, SessionLog, Setting};
 pub use outcome::Outcome;
 pub use print::{print_lines, print_usage};
-pub use replies::{NewReport, count_reply, line_status, new_reply, usage_text};
+pub use replies::{NewReport, line_status, new_reply, usage_text};
 pub use script::{ScriptError, ScriptLine, read_script};
 
 #[cfg(test)]

@@ -1,4 +1,4 @@
-ghost use Rattle.std.specs.Prelude.{◌≡◌, ◌++◌, IfOk, OnOk, codes};
+ghost use Rattle.std.specs.Prelude.{◌≡◌, ◌++◌, IfOk, OnOk};
 ghost use Rattle.std.specs.Fmt.{decimal};
 ghost use Rattle.std.specs.List.{flat_map};
 ghost use Rattle.nm_log.specs.Replies.{is_quiet, kind_name, new_text, number_after, skip_line, skip_name, status_of, summary_line, usage_line};
@@ -147,14 +147,4 @@ fn printed_skip(skip: Skip) -> &'static str
         Skip::Missing => "missing",
         Skip::TooLong => "too long",
     }
-}
-
-/// The reply of a count.
-pub fn count_reply(alloc: Global, count: usize) -> Result<Many<u8>, NoMemory>
-    ensures { IfOk result (λ text. text ≡ decimal count ++ codes "\n") }
-{
-    let mut text = Many::new(alloc);
-    add_number(&mut text, count as u64)?;
-    text.extend_from_slice(b"\n")?;
-    Ok(text)
 }

@@ -1,6 +1,6 @@
 use crate::{
-    Asked, LineLog, NewReport, Outcome, ScriptError, count_reply, line_status, new_reply,
-    print_lines, print_usage, read_ask, read_script, usage_text,
+    Asked, LineLog, NewReport, Outcome, ScriptError, line_status, new_reply, print_lines,
+    print_usage, read_ask, read_script, usage_text,
 };
 use nm_base::{CountAsk, Limit, MailPath, Many, NoMemory, Output, Skip, Text, UsageKind};
 use nm_core::Request;
@@ -128,7 +128,6 @@ fn replies_say_what_was_done(rt: HostRuntime) -> Result<(), Fail> {
         let reply = new_reply(alloc, &report(alloc, added, skipped)?)?;
         assert_eq!(rt; reply.as_slice(), want, "{added}");
     }
-    assert_eq!(rt; count_reply(alloc, 20)?.as_slice(), b"20\n".as_slice());
     let word = Text::of(alloc, "1")?;
     let refusal = usage_text(alloc, UsageKind::Lane, &word)?;
     assert_eq!(rt; refusal.as_slice(), b"notmuch: usage: lane: 1\n".as_slice());

@@ -11,10 +11,13 @@ use Rattle.nm_log.specs.declared.outcome.Outcome.{Outcome}
 use Rattle.nm_log.specs.declared.outcome.Outcome.TheVariants as outcomes
 use Rattle.nm_log.specs.declared.script.ScriptLine.{ScriptLine}
 use Rattle.nm_maildir.specs.declared.given.Given.{Given}
+use Rattle.nm_maildir.specs.Observed.{ObservedMail}
+use Rattle.nm_io.specs.Observed.{ObservedStream}
 use Rattle.nm_top.specs.Complete.{IsComplete, IsFinished, NoFault}
 use Rattle.nm_top.specs.Line.{IsAnswer, Runs}
-use Rattle.nm_top.specs.Session.{Ending, Ends, Gains, IsRun, InputTooLong, MemoryWanted, Outside, Ran, ReadFailed, Told, TooManyLines, WordsRefused, has_mail_fault, has_no_memory, is_mail_fault, most_input}
+use Rattle.nm_top.specs.Session.{Ending, Ends, Gains, IsRun, InputTooLong, MemoryWanted, Outside, Ran, ReadFailed, TooManyLines, WordsRefused, has_mail_fault, has_no_memory, is_mail_fault, most_input}
 use Rattle.nm_top.specs.State.{State}
+use Rattle.nm_top.proofs.StandLemmas.{none_of}
 
 -- each line has its log
 Runs-length : (old new : State) (ls : List ScriptLine) (logs : List LineLog) (taken : List Step) → Runs old ls logs taken new → length logs ≡ length ls
@@ -24,20 +27,20 @@ Runs-length old new (line ∷ ls) [] taken h = absurd h
 Runs-length old new (line ∷ ls) (log ∷ logs) taken h = ap suc (Runs-length h.0 new ls logs h.2 h.5)
 
 -- the count never falls along the lines
-Runs-grows : (old new : State) (ls : List ScriptLine) (logs : List LineLog) (taken : List Step) → Runs old ls logs taken new → old.faults ≤ new.faults
-Runs-grows old new [] [] taken h = let same : new.faults ≡ old.faults = ap (λ (s : State). s.faults) h.1 in omega arith
+Runs-grows : (old new : State) (ls : List ScriptLine) (logs : List LineLog) (taken : List Step) → Runs old ls logs taken new → old.mail.faults ≤ new.mail.faults
+Runs-grows old new [] [] taken h = let same : new.mail.faults ≡ old.mail.faults = ap (λ (s : State). s.mail.faults) h.1 in omega arith
 Runs-grows old new [] (log ∷ logs) taken h = absurd h
 Runs-grows old new (line ∷ ls) [] taken h = absurd h
 Runs-grows old new (line ∷ ls) (log ∷ logs) taken h = let first = h.4.never_falls in let rest = Runs-grows h.0 new ls logs h.2 h.5 in omega arith
 
 -- a line in which the count stands is no mail fault
-quiet_line : (outcome : Outcome) (old : State) (line : List ℕ) (noted : List Given) (text : List ℕ) (taken : List Step) (new : State) → new.faults ≤ old.faults → old.faults < 18446744073709551615 → IsAnswer outcome old line noted text taken new → is_mail_fault outcome ≡ false
+quiet_line : (outcome : Outcome) (old : State) (line : List ℕ) (noted : List Given) (text : List ℕ) (taken : List Step) (new : State) → new.mail.faults ≤ old.mail.faults → old.mail.faults < 18446744073709551615 → IsAnswer outcome old line noted text taken new → is_mail_fault outcome ≡ false
 quiet_line outcomes.Ok old line noted text taken new stands room h = refl
 quiet_line (outcomes.Usage word kind) old line noted text taken new stands room h = refl
 quiet_line outcomes.MailFault old line noted text taken new stands room h = let rose = h.1.1 room in absurd (omega arith)
 quiet_line outcomes.NoMemory old line noted text taken new stands room h = refl
 
-quiet_run : (old new : State) (ls : List ScriptLine) (logs : List LineLog) (taken : List Step) → new.faults ≤ old.faults → old.faults < 18446744073709551615 → Runs old ls logs taken new → has_mail_fault logs ≡ false
+quiet_run : (old new : State) (ls : List ScriptLine) (logs : List LineLog) (taken : List Step) → new.mail.faults ≤ old.mail.faults → old.mail.faults < 18446744073709551615 → Runs old ls logs taken new → has_mail_fault logs ≡ false
 quiet_run old new [] [] taken stands room h = refl
 quiet_run old new [] (log ∷ logs) taken stands room h = absurd h
 quiet_run old new (line ∷ ls) [] taken stands room h = absurd h
@@ -55,7 +58,7 @@ read_is (Some bytes) (Some rest) script read told h end =
     sym (append-nil read) ∙ (ap (λ l. read ++ l) (sym end) ∙ (sym h ∙ same))
 
 -- an output that did not fail
-quiet_out : (failed : Bool) (old new : Told) (bytes : List ℕ) → new.faults ≡ old.faults → old.faults < 18446744073709551615 → Gains failed old new bytes → failed ≡ false
+quiet_out : (failed : Bool) (old new : ObservedStream) (bytes : List ℕ) → new.faults ≡ old.faults → old.faults < 18446744073709551615 → Gains failed old new bytes → failed ≡ false
 quiet_out false old new bytes stands room h = refl
 quiet_out true old new bytes stands room h = let rose = h.1.1 room in absurd (omega arith)
 
@@ -72,13 +75,13 @@ left_status true false false false e d = inl (refl, refl)
 
 ran_complete : (script : List ℕ) (old new : Outside) (done : Done) → NoFault old new → IsRun (script_lines script) old.mail new.mail old.out new.out old.err new.err done → IsFinished script done ⊎ (done.status ≡ 7)
 ran_complete script old new done quiet h =
-    let last_faults : new.mail.faults ≡ h.last.faults = ap (λ m. m.faults) h.mail in
+    let last_faults : new.mail.faults ≡ h.last.mail.faults = ap (λ (m : ObservedMail). m.faults) h.mail in
     let no_mail : has_mail_fault done.log.lines ≡ false = quiet_run _ h.last h.ran done.log.lines done.log.steps (omega (arith, quiet.mail)) quiet.mail_room h.run in
     let no_out : h.out_failed ≡ false = quiet_out h.out_failed old.out new.out _ quiet.out quiet.out_room h.out in
     elim (left_status h.whole (has_mail_fault done.log.lines) h.out_failed (has_no_memory done.log.lines) no_mail no_out) [
       | inl w ↦ inl (record {
         status = h.status ∙ w.1;
-        each = Runs-length _ h.last h.ran done.log.lines done.log.steps h.run ∙ ap length (sym (append-nil h.ran) ∙ (ap (λ l. h.ran ++ l) (sym (h.all w.0)) ∙ sym h.lines));
+        each = Runs-length _ h.last h.ran done.log.lines done.log.steps h.run ∙ ap length (sym (append-nil h.ran) ∙ (ap (λ l. h.ran ++ l) (sym (none_of h.unrun (sym h.all ∙ w.0))) ∙ sym h.lines));
       })
       | inr w ↦ inr (h.status ∙ w)
     ]
@@ -87,7 +90,7 @@ pub complete : (ending : Ending) (read : List ℕ) (words : List (List ℕ)) (ol
 complete WordsRefused read words old new done h script sound quiet within = absurd (cc)
 complete ReadFailed read words old new done h script sound quiet within = let rose = h.1.1 quiet.input_room in let same = quiet.input in absurd (omega arith)
 complete InputTooLong read words old new done h script sound quiet within =
-    let long : most_input < length script = subst (λ (o : Option (List ℕ)). IfSome o (λ bytes. most_input < length bytes)) within.told h.1 in
+    let long : most_input < length script = subst (λ (o : Option (List ℕ)). IfSome o (λ bytes. most_input < length bytes)) within.told h.2 in
     let short = within.bytes in
     absurd (omega arith)
 complete TooManyLines read words old new done h script sound quiet within =
@@ -95,7 +98,7 @@ complete TooManyLines read words old new done h script sound quiet within =
     let many : 4096 < length (lines script) = subst (λ (l : List ℕ). 4096 < length (lines l)) same h.2 in
     let few = within.few in
     absurd (omega arith)
-complete MemoryWanted read words old new done h script sound quiet within = inr h.1.status
+complete MemoryWanted read words old new done h script sound quiet within = inr h.2.status
 complete Ran read words old new done h script sound quiet within =
     let same = read_is old.input.bytes new.input.bytes script read within.told h.1.bytes h.1.end in
     ran_complete script old new done quiet (subst (λ (l : List ℕ). IsRun (script_lines l) old.mail new.mail old.out new.out old.err new.err done) same h.3)

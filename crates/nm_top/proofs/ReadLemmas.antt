@@ -3,7 +3,7 @@ use Rattle.std.proofs.Common.{◌≡◌, ℕ, ◌+◌, ◌<◌, ◌≤◌, List,
 use Rattle.std.specs.List.{AllByRecursion, flat_map}
 use Rattle.std.specs.Option.{option_map}
 use Rattle.std.proofs.lemmas.Grind.{flat_map-append}
-use Rattle.std.proofs.lemmas.List.{map-append, take_all, take_more}
+use Rattle.std.proofs.lemmas.List.{length-append, map-append, take_all, take_more}
 use Rattle.nm_base.specs.declared.facts.Facts.{Facts}
 use Rattle.nm_commit.specs.Index.{IsDate, paths_of}
 use Rattle.nm_maildir.specs.Observed.{reads_after}
@@ -17,8 +17,10 @@ use Rattle.nm_maildir.specs.declared.given.Given.TheVariants as given
 use Rattle.nm_maildir.specs.declared.given.ReadAnswer.{ReadAnswer}
 use Rattle.nm_maildir.specs.declared.given.ReadAnswer.TheVariants as answers
 use Rattle.nm_extract.specs.Mail.{facts_of}
-use Rattle.nm_top.specs.Reading.{IsTold, Reads, answer_at, answers_at, answer_of, arrival, arrival_at, arrival_of, mail_at, mail_in, most_bytes, read_of}
-use Rattle.nm_top.specs.Steps.{HasRead, HasReadAll, Judges, found_in, read_with}
+use Rattle.nm_maildir.specs.Observed.{ObservedMail}
+use Rattle.nm_top.specs.Reading.{NotesReads, Reads, answer_at, answers_at, answer_of, arrival, arrival_at, arrival_of, mail_at, mail_in, most_bytes, read_of}
+use Rattle.nm_top.specs.State.{after_reads, read_with}
+use Rattle.nm_top.specs.Steps.{HasRead, HasReadAll, Judges, found_in}
 
 -- nothing more is read
 pub read_with-none : (r : Option (List (List ℕ))) → r ≡ read_with r []
@@ -30,20 +32,47 @@ read_with-more : (r : Option (List (List ℕ))) (ps qs : List (List ℕ)) → re
 read_with-more None ps qs = refl
 read_with-more (Some paths) ps qs = ap Some (append_assoc paths ps qs)
 
--- nothing is noted
-pub none_told : (tree : Option Tree) → IfSome tree (λ t. AllByRecursion (IsTold t) [])
-none_told None = tt
-none_told (Some t) = tt
-
 same_reads : (r : Option (List (List ℕ))) → option_map (λ paths. paths) r ≡ read_with r []
 same_reads None = refl
 same_reads (Some paths) = ap Some (sym (append-nil paths))
 
--- a call that read one path at most
-pub after_read : {T : Type 0} (tree : Option Tree) (old new : Option (List (List ℕ))) (noted : List Given) (path : List ℕ) (result : Result T MailError) → new ≡ reads_after old path result → HasRead tree old new noted noted (path ∷ [])
-after_read tree old new noted path (Ok x) is = record { noted = []; noted_is = sym (append-nil noted); told = none_told tree; count = 1; read = is }
-after_read tree old new noted path (Err error.Failed) is = record { noted = []; noted_is = sym (append-nil noted); told = none_told tree; count = 1; read = is }
-after_read tree old new noted path (Err error.NoMemory) is = record { noted = []; noted_is = sym (append-nil noted); told = none_told tree; count = 0; read = is ∙ same_reads old }
+-- the mail folder that tells the same
+pub same_mail : (a b : ObservedMail) → a.tree ≡ b.tree → a.reads ≡ b.reads → a.faults ≡ b.faults → a ≡ b
+same_mail a b tree reads faults =
+    ap (λ (t : Option Tree). record { tree = t; reads = a.reads; faults = a.faults }) tree
+    ∙ (ap (λ (r : Option (List (List ℕ))). record { tree = b.tree; reads = r; faults = a.faults }) reads
+    ∙ ap (λ (n : ℕ). record { tree = b.tree; reads = b.reads; faults = n }) faults)
+
+pub no_answers : (tree : Option Tree) → IfSome tree (λ t. [] ≡ answers_at t [])
+no_answers None = tt
+no_answers (Some t) = refl
+
+-- nothing is noted
+abbrev pub notes-none : (tree : Option Tree) → NotesReads tree [] []
+notes-none tree = record { reads = []; noted_is = refl; each = refl; told = no_answers tree }
+
+-- nothing is read and nothing more is noted
+pub read_none : (mail : ObservedMail) (noted : List Given) (paths : List (List ℕ)) → HasRead mail mail noted noted paths
+read_none mail noted paths = record {
+  noted = [];
+  noted_is = sym (append-nil noted);
+  reading = record { answered = 0; asked = 0; within = omega arith; last = (omega arith, omega arith); notes = notes-none mail.tree; read = read_with-none mail.reads };
+  tree = refl;
+}
+
+-- a call that read one path at most, and of which nothing is noted
+unanswered : (old new : ObservedMail) (noted : List Given) (path : List ℕ) (asked : ℕ) → asked ≤ 1 → new.tree ≡ old.tree → new.reads ≡ read_with old.reads (take asked (path ∷ [])) → HasRead old new noted noted (path ∷ [])
+unanswered old new noted path asked few tree read = record {
+  noted = [];
+  noted_is = sym (append-nil noted);
+  reading = record { answered = 0; asked = asked; within = few; last = (omega arith, omega arith); notes = notes-none old.tree; read = read };
+  tree = tree;
+}
+
+pub after_read : {T : Type 0} (old new : ObservedMail) (noted : List Given) (path : List ℕ) (result : Result T MailError) → new.tree ≡ old.tree → new.reads ≡ reads_after old.reads path result → HasRead old new noted noted (path ∷ [])
+after_read old new noted path (Ok x) tree is = unanswered old new noted path 1 (omega arith) tree is
+after_read old new noted path (Err error.Failed) tree is = unanswered old new noted path 1 (omega arith) tree is
+after_read old new noted path (Err error.NoMemory) tree is = unanswered old new noted path 0 (omega arith) tree (is ∙ same_reads old.reads)
 
 -- what is mail is an arrival
 found_mail : (path : List ℕ) (found : Option Facts) → paths_of (arrival path found) ≡ mail_at path (cond (is_some found) answers.Mail answers.NotMail)
@@ -76,38 +105,27 @@ told_arrival None path g found is h = tt
 told_arrival (Some t) path g found is h = ap (arrival path) is ∙ (arrival_is path g ∙ (ap (arrival_of path) h ∙ sym (append-nil (arrival_at t path))))
 
 -- one file was read
-pub one_read : (tree : Option Tree) (path : List ℕ) (g : Got) (judged : ReadAnswer × Option Facts) → Judges g judged → IfSome tree (λ t. g ≡ got_of t path most_bytes)
+one_read : (tree : Option Tree) (path : List ℕ) (g : Got) (judged : ReadAnswer × Option Facts) → Judges g judged → IfSome tree (λ t. g ≡ got_of t path most_bytes)
     → Reads tree (given.Read path judged.0 ∷ []) (path ∷ []) (arrival path judged.1)
 one_read tree path g judged h told = record {
-  reads = (path, judged.0) ∷ [];
-  noted_is = refl;
-  each = refl;
+  notes = record { reads = (path, judged.0) ∷ []; noted_is = refl; each = refl; told = told_answer tree path g judged.0 h.answer told };
   mails = ap (λ (f : Option Facts). paths_of (arrival path f)) h.facts ∙ (mail_is path g ∙ (ap (mail_at path) (sym h.answer) ∙ sym (append-nil (mail_at path judged.0))));
   dated = dated_one path judged.1 h.dated;
-  told_answers = told_answer tree path g judged.0 h.answer told;
-  told_arrivals = told_arrival tree path g judged.1 h.facts told;
+  told = told_arrival tree path g judged.1 h.facts told;
 }
 
-pub one_read_all : (tree : Option Tree) (old new : Option (List (List ℕ))) (noted new_noted : List Given) (path : List ℕ) (g : Got) (judged : ReadAnswer × Option Facts) → Judges g judged → IfSome tree (λ t. g ≡ got_of t path most_bytes)
-    → new_noted ≡ noted ++ given.Read path judged.0 ∷ [] → new ≡ read_with old (path ∷ []) → HasReadAll tree old new noted new_noted (path ∷ []) (arrival path judged.1)
-one_read_all tree old new noted new_noted path g judged h told is read = record { noted = given.Read path judged.0 ∷ []; noted_is = is; reading = one_read tree path g judged h told; read = read }
-
--- what is noted of all the paths is what the tree answers
-all_told : (t : Tree) (paths : List (List ℕ)) → AllByRecursion (IsTold t) (map read_of (answers_at t paths))
-all_told t [] = tt
-all_told t (path ∷ paths) = (refl, all_told t paths)
-
-reads_told : (tree : Option Tree) (noted : List Given) (paths : List (List ℕ)) (arrivals : List (List ℕ × Facts)) → Reads tree noted paths arrivals → IfSome tree (λ t. AllByRecursion (IsTold t) noted)
-reads_told None noted paths arrivals h = tt
-reads_told (Some t) noted paths arrivals h = subst (AllByRecursion (IsTold t)) (sym (h.noted_is ∙ ap (map read_of) h.told_answers)) (all_told t paths)
+pub one_read_all : (old new : ObservedMail) (noted new_noted : List Given) (path : List ℕ) (g : Got) (judged : ReadAnswer × Option Facts) → Judges g judged → IfSome old.tree (λ t. g ≡ got_of t path most_bytes)
+    → new_noted ≡ noted ++ given.Read path judged.0 ∷ [] → new.tree ≡ old.tree → new.reads ≡ read_with old.reads (path ∷ []) → new.faults ≡ old.faults → HasReadAll old new noted new_noted (path ∷ []) (arrival path judged.1)
+one_read_all old new noted new_noted path g judged h told is tree read faults = record {
+  noted = given.Read path judged.0 ∷ [];
+  noted_is = is;
+  reading = one_read old.tree path g judged h told;
+  mail = same_mail new (after_reads old (path ∷ [])) tree read faults;
+}
 
 AllByRecursion-append : {X : Type 0} (P : X → Type 0) (xs ys : List X) → AllByRecursion P xs → AllByRecursion P ys → AllByRecursion P (xs ++ ys)
 AllByRecursion-append P [] ys h k = k
 AllByRecursion-append P (x ∷ xs) ys h k = (h.0, AllByRecursion-append P xs ys h.1 k)
-
-pub told_both : (tree : Option Tree) (xs ys : List Given) → IfSome tree (λ t. AllByRecursion (IsTold t) xs) → IfSome tree (λ t. AllByRecursion (IsTold t) ys) → IfSome tree (λ t. AllByRecursion (IsTold t) (xs ++ ys))
-told_both None xs ys h k = tt
-told_both (Some t) xs ys h k = AllByRecursion-append (IsTold t) xs ys h k
 
 -- reads one after the other
 answers_both : (tree : Option Tree) (xs ys : List (List ℕ × ReadAnswer)) (ps qs : List (List ℕ)) → IfSome tree (λ t. xs ≡ answers_at t ps) → IfSome tree (λ t. ys ≡ answers_at t qs) → IfSome tree (λ t. xs ++ ys ≡ answers_at t (ps ++ qs))
@@ -118,95 +136,101 @@ arrivals_both : (tree : Option Tree) (xs ys : List (List ℕ × Facts)) (ps qs :
 arrivals_both None xs ys ps qs h k = tt
 arrivals_both (Some t) xs ys ps qs h k = ap (λ l. l ++ ys) h ∙ (ap (λ l. flat_map (arrival_at t) ps ++ l) k ∙ sym (flat_map-append (arrival_at t) ps qs))
 
-Reads-append : (tree : Option Tree) (g k : List Given) (ps qs : List (List ℕ)) (xs ys : List (List ℕ × Facts)) → Reads tree g ps xs → Reads tree k qs ys → Reads tree (g ++ k) (ps ++ qs) (xs ++ ys)
-Reads-append tree g k ps qs xs ys h j = record {
+abbrev NotesReads-append : (tree : Option Tree) (g k : List Given) (ps qs : List (List ℕ)) → NotesReads tree g ps → NotesReads tree k qs → NotesReads tree (g ++ k) (ps ++ qs)
+NotesReads-append tree g k ps qs h j = record {
   reads = h.reads ++ j.reads;
   noted_is = ap (λ l. l ++ k) h.noted_is ∙ (ap (λ l. map read_of h.reads ++ l) j.noted_is ∙ sym (map-append read_of h.reads j.reads));
   each = map-append (λ read. read.0) h.reads j.reads ∙ (ap (λ l. l ++ map (λ read. read.0) j.reads) h.each ∙ ap (λ l. ps ++ l) j.each);
-  mails = map-append (λ file. file.0) xs ys ∙ (ap (λ l. l ++ paths_of ys) h.mails ∙ (ap (λ l. flat_map mail_in h.reads ++ l) j.mails ∙ sym (flat_map-append mail_in h.reads j.reads)));
-  dated = AllByRecursion-append (λ arrival. IsDate arrival.1.date) xs ys h.dated j.dated;
-  told_answers = answers_both tree h.reads j.reads ps qs h.told_answers j.told_answers;
-  told_arrivals = arrivals_both tree xs ys ps qs h.told_arrivals j.told_arrivals;
+  told = answers_both tree h.reads j.reads ps qs h.told j.told;
 }
 
-take_nothing : (n : ℕ) → take {A = List ℕ} n [] ≡ []
-take_nothing zero = refl
-take_nothing (suc n) = refl
-
-no_answers : (tree : Option Tree) → IfSome tree (λ t. [] ≡ answers_at t [])
-no_answers None = tt
-no_answers (Some t) = refl
+Reads-append : (tree : Option Tree) (g k : List Given) (ps qs : List (List ℕ)) (xs ys : List (List ℕ × Facts)) → Reads tree g ps xs → Reads tree k qs ys → Reads tree (g ++ k) (ps ++ qs) (xs ++ ys)
+Reads-append tree g k ps qs xs ys h j = record {
+  notes = NotesReads-append tree g k ps qs h.notes j.notes;
+  mails = map-append (λ file. file.0) xs ys ∙ (ap (λ l. l ++ paths_of ys) h.mails ∙ (ap (λ l. flat_map mail_in h.notes.reads ++ l) j.mails ∙ sym (flat_map-append mail_in h.notes.reads j.notes.reads)));
+  dated = AllByRecursion-append (λ arrival. IsDate arrival.1.date) xs ys h.dated j.dated;
+  told = arrivals_both tree xs ys ps qs h.told j.told;
+}
 
 no_arrivals : (tree : Option Tree) → IfSome tree (λ t. [] ≡ flat_map (arrival_at t) [])
 no_arrivals None = tt
 no_arrivals (Some t) = refl
 
--- nothing was read yet
-pub none_read : (tree : Option Tree) (r : Option (List (List ℕ))) (noted : List Given) → HasReadAll tree r r noted noted [] []
-none_read tree r noted = record {
+-- the loop has begun
+pub begun_read : (mail : ObservedMail) (noted : List Given) (arrivals : List (List ℕ × Facts)) → arrivals ≡ [] → HasReadAll mail mail noted noted [] arrivals
+begun_read mail noted arrivals none = record {
   noted = [];
   noted_is = sym (append-nil noted);
-  reading = record { reads = []; noted_is = refl; each = refl; mails = refl; dated = tt; told_answers = no_answers tree; told_arrivals = no_arrivals tree };
-  read = read_with-none r;
+  reading = subst (λ (l : List (List ℕ × Facts)). Reads mail.tree [] [] l) (sym none) (record { notes = notes-none mail.tree; mails = refl; dated = tt; told = no_arrivals mail.tree });
+  mail = same_mail mail (after_reads mail []) refl (read_with-none mail.reads) refl;
 }
 
--- one more
-pub more_read : (tree : Option Tree) (r0 r1 r2 : Option (List (List ℕ))) (n0 n1 n2 : List Given) (ps qs : List (List ℕ)) (xs ys : List (List ℕ × Facts)) → HasReadAll tree r0 r1 n0 n1 ps xs → HasReadAll tree r1 r2 n1 n2 qs ys
-    → HasReadAll tree r0 r2 n0 n2 (ps ++ qs) (xs ++ ys)
-more_read tree r0 r1 r2 n0 n1 n2 ps qs xs ys h k = record {
-  noted = h.noted ++ k.noted;
-  noted_is = k.noted_is ∙ (ap (λ l. l ++ k.noted) h.noted_is ∙ append_assoc n0 h.noted k.noted);
-  reading = Reads-append tree h.noted k.noted ps qs xs ys h.reading k.reading;
-  read = k.read ∙ (ap (λ r. read_with r qs) h.read ∙ read_with-more r0 ps qs);
-}
-
--- all were read
-pub all_read : (tree : Option Tree) (r0 r1 : Option (List (List ℕ))) (n0 n1 : List Given) (ps : List (List ℕ)) (xs : List (List ℕ × Facts)) → HasReadAll tree r0 r1 n0 n1 ps xs → HasRead tree r0 r1 n0 n1 ps
-all_read tree r0 r1 n0 n1 ps xs h = record {
-  noted = h.noted;
-  noted_is = h.noted_is;
-  told = reads_told tree h.noted ps xs h.reading;
-  count = length ps;
-  read = h.read ∙ ap (read_with r0) (sym (take_all (length ps) ps (omega arith)));
-}
-
--- the first i, and perhaps one more
-one_more : (paths : List (List ℕ)) (i : ℕ) (path : List ℕ) (n : ℕ) → i < length paths → path ≡ get_or paths i path → (m : ℕ) × (take i paths ++ take n (path ∷ []) ≡ take m paths)
-one_more paths i path zero within is = (i, append-nil (take i paths))
-one_more paths i path (suc n) within is = (i + 1, ap (λ l. take i paths ++ path ∷ l) (take_nothing n) ∙ (ap (λ p. take i paths ++ p ∷ []) is ∙ sym (take_more paths i path within)))
-
--- the reading stopped at one of the paths
-pub stopped_read : (tree : Option Tree) (r0 r1 r2 : Option (List (List ℕ))) (n0 n1 n2 : List Given) (paths : List (List ℕ)) (i : ℕ) (path : List ℕ) (xs : List (List ℕ × Facts)) → i < length paths → path ≡ get_or paths i path
-    → HasReadAll tree r0 r1 n0 n1 (take i paths) xs → HasRead tree r1 r2 n1 n2 (path ∷ []) → HasRead tree r0 r2 n0 n2 paths
-stopped_read tree r0 r1 r2 n0 n1 n2 paths i path xs within is h k =
-    let m = one_more paths i path k.count within is in
+-- the first paths were read, and then one more
+pub more_read : (m0 m1 m2 : ObservedMail) (n0 n1 n2 : List Given) (ps qs : List (List ℕ)) (xs ys : List (List ℕ × Facts)) → HasReadAll m0 m1 n0 n1 ps xs → HasReadAll m1 m2 n1 n2 qs ys → HasReadAll m0 m2 n0 n2 (ps ++ qs) (xs ++ ys)
+more_read m0 m1 m2 n0 n1 n2 ps qs xs ys h k =
+    let tree : m1.tree ≡ m0.tree = ap (λ (m : ObservedMail). m.tree) h.mail in
     record {
       noted = h.noted ++ k.noted;
       noted_is = k.noted_is ∙ (ap (λ l. l ++ k.noted) h.noted_is ∙ append_assoc n0 h.noted k.noted);
-      told = told_both tree h.noted k.noted (reads_told tree h.noted (take i paths) xs h.reading) k.told;
-      count = m.0;
-      read = k.read ∙ (ap (λ r. read_with r (take k.count (path ∷ []))) h.read ∙ (read_with-more r0 (take i paths) (take k.count (path ∷ [])) ∙ ap (read_with r0) m.1));
+      reading = Reads-append m0.tree h.noted k.noted ps qs xs ys h.reading (subst (λ (t : Option Tree). Reads t k.noted qs ys) tree k.reading);
+      mail = k.mail ∙ (ap (λ (m : ObservedMail). after_reads m qs) h.mail ∙ ap (λ (r : Option (List (List ℕ))). record { tree = m0.tree; reads = r; faults = m0.faults }) (read_with-more m0.reads ps qs));
     }
 
 -- the loop goes on by one path
-pub next_read : (tree mid : Option Tree) (r0 r1 r2 : Option (List (List ℕ))) (n0 n1 n2 : List Given) (paths : List (List ℕ)) (i : ℕ) (path : List ℕ) (before after : List (List ℕ × Facts)) → i < length paths → path ≡ get_or paths i path → mid ≡ tree
-    → HasReadAll tree r0 r1 n0 n1 (take i paths) before → (found : List (List ℕ × Facts)) × (after ≡ before ++ found) × HasReadAll mid r1 r2 n1 n2 (path ∷ []) found → HasReadAll tree r0 r2 n0 n2 (take (i + 1) paths) after
-next_read tree mid r0 r1 r2 n0 n1 n2 paths i path before after within is same h k =
-    let front : take i paths ++ path ∷ [] ≡ take (i + 1) paths = ap (λ p. take i paths ++ p ∷ []) is ∙ sym (take_more paths i path within) in
-    subst (λ (l : List (List ℕ × Facts)). HasReadAll tree r0 r2 n0 n2 (take (i + 1) paths) l) (sym k.1)
-    (subst (λ (l : List (List ℕ)). HasReadAll tree r0 r2 n0 n2 l (before ++ k.0)) front
-    (more_read tree r0 r1 r2 n0 n1 n2 (take i paths) (path ∷ []) before k.0 h (subst (λ (t : Option Tree). HasReadAll t r1 r2 n1 n2 (path ∷ []) k.0) same k.2)))
+pub next_read : (m0 m1 m2 : ObservedMail) (n0 n1 n2 : List Given) (ps : List (List ℕ)) (path : List ℕ) (before after : List (List ℕ × Facts)) → HasReadAll m0 m1 n0 n1 ps before
+    → (found : List (List ℕ × Facts)) × (after ≡ before ++ found) × HasReadAll m1 m2 n1 n2 (path ∷ []) found → HasReadAll m0 m2 n0 n2 (ps ++ path ∷ []) after
+next_read m0 m1 m2 n0 n1 n2 ps path before after h k =
+    subst (λ (l : List (List ℕ × Facts)). HasReadAll m0 m2 n0 n2 (ps ++ path ∷ []) l) (sym k.1) (more_read m0 m1 m2 n0 n1 n2 ps (path ∷ []) before k.0 h k.2)
+
+-- all were read
+pub all_read : (old new : ObservedMail) (n0 n1 : List Given) (ps : List (List ℕ)) (xs : List (List ℕ × Facts)) → HasReadAll old new n0 n1 ps xs → HasRead old new n0 n1 ps
+all_read old new n0 n1 ps xs h =
+    let whole : ps ≡ take (length ps) ps = sym (take_all (length ps) ps (omega arith)) in
+    record {
+      noted = h.noted;
+      noted_is = h.noted_is;
+      reading = record {
+        answered = length ps;
+        asked = length ps;
+        within = omega arith;
+        last = (omega arith, omega arith);
+        notes = subst (λ (l : List (List ℕ)). NotesReads old.tree h.noted l) whole h.reading.notes;
+        read = ap (λ (m : ObservedMail). m.reads) h.mail ∙ ap (read_with old.reads) whole;
+      };
+      tree = ap (λ (m : ObservedMail). m.tree) h.mail;
+    }
+
+-- the first so many, and one more
+pub front_more : (all ys : List (List ℕ)) (x : List ℕ) → ys ≡ take (length ys) all → length ys < length all → x ≡ get_or all (length ys) x → ys ++ x ∷ [] ≡ take (length (ys ++ x ∷ [])) all
+front_more all ys x front within is =
+    ap (λ l. l ++ x ∷ []) front ∙ (ap (λ y. take (length ys) all ++ y ∷ []) is ∙ (sym (take_more all (length ys) x within) ∙ ap (λ n. take n all) (sym (length-append ys (x ∷ [])))))
+
+-- the first so many, and perhaps one more
+take_at : (all ys : List (List ℕ)) (x : List ℕ) (n : ℕ) → n ≤ 1 → ys ≡ take (length ys) all → length ys < length all → x ≡ get_or all (length ys) x → ys ++ take n (x ∷ []) ≡ take (length ys + n) all
+take_at all ys x zero few front within is = append-nil ys ∙ (front ∙ ap (λ n. take n all) (omega arith))
+take_at all ys x (suc zero) few front within is = front_more all ys x front within is ∙ ap (λ n. take n all) (length-append ys (x ∷ []))
+take_at all ys x (suc (suc n)) few front within is = absurd (omega arith)
 
 -- the loop stops at a path
-pub stops_read : (tree mid : Option Tree) (r0 r1 r2 : Option (List (List ℕ))) (n0 n1 n2 : List Given) (paths : List (List ℕ)) (i : ℕ) (path : List ℕ) (before : List (List ℕ × Facts)) → i < length paths → path ≡ get_or paths i path → mid ≡ tree
-    → HasReadAll tree r0 r1 n0 n1 (take i paths) before → HasRead mid r1 r2 n1 n2 (path ∷ []) → HasRead tree r0 r2 n0 n2 paths
-stops_read tree mid r0 r1 r2 n0 n1 n2 paths i path before within is same h k =
-    stopped_read tree r0 r1 r2 n0 n1 n2 paths i path before within is h (subst (λ (t : Option Tree). HasRead t r1 r2 n1 n2 (path ∷ [])) same k)
-
--- the loop has begun
-pub begun_read : (tree : Option Tree) (r : Option (List (List ℕ))) (noted : List Given) (arrivals : List (List ℕ × Facts)) → arrivals ≡ [] → HasReadAll tree r r noted noted [] arrivals
-begun_read tree r noted arrivals is = subst (λ (l : List (List ℕ × Facts)). HasReadAll tree r r noted noted [] l) (sym is) (none_read tree r noted)
-
--- the loop has ended
-pub ended_read : (tree : Option Tree) (r0 r1 : Option (List (List ℕ))) (n0 n1 : List Given) (paths : List (List ℕ)) (i : ℕ) (arrivals : List (List ℕ × Facts)) → length paths ≤ i → HasReadAll tree r0 r1 n0 n1 (take i paths) arrivals → HasRead tree r0 r1 n0 n1 paths
-ended_read tree r0 r1 n0 n1 paths i arrivals all h = all_read tree r0 r1 n0 n1 paths arrivals (subst (λ (l : List (List ℕ)). HasReadAll tree r0 r1 n0 n1 l arrivals) (take_all i paths all) h)
+pub stops_read : (m0 m1 m2 : ObservedMail) (n0 n1 n2 : List Given) (all ys : List (List ℕ)) (path : List ℕ) (before : List (List ℕ × Facts)) → ys ≡ take (length ys) all → length ys < length all → path ≡ get_or all (length ys) path
+    → HasReadAll m0 m1 n0 n1 ys before → HasRead m1 m2 n1 n2 (path ∷ []) → HasRead m0 m2 n0 n2 all
+stops_read m0 m1 m2 n0 n1 n2 all ys path before front inside is h k =
+    let tree : m1.tree ≡ m0.tree = ap (λ (m : ObservedMail). m.tree) h.mail in
+    let answered = k.reading.answered in
+    let asked = k.reading.asked in
+    let few : asked ≤ 1 = k.reading.within in
+    let last = k.reading.last in
+    record {
+      noted = h.noted ++ k.noted;
+      noted_is = k.noted_is ∙ (ap (λ l. l ++ k.noted) h.noted_is ∙ append_assoc n0 h.noted k.noted);
+      reading = record {
+        answered = length ys + answered;
+        asked = length ys + asked;
+        within = omega arith;
+        last = (omega (arith, last.0), omega (arith, last.1));
+        notes = subst (λ (l : List (List ℕ)). NotesReads m0.tree (h.noted ++ k.noted) l) (take_at all ys path answered (omega (arith, last.0)) front inside is)
+            (NotesReads-append m0.tree h.noted k.noted ys (take answered (path ∷ [])) h.reading.notes (subst (λ (t : Option Tree). NotesReads t k.noted (take answered (path ∷ []))) tree k.reading.notes));
+        read = k.reading.read ∙ (ap (λ (m : ObservedMail). read_with m.reads (take asked (path ∷ []))) h.mail ∙ (read_with-more m0.reads ys (take asked (path ∷ [])) ∙ ap (read_with m0.reads) (take_at all ys path asked few front inside is)));
+      };
+      tree = k.tree ∙ tree;
+    }

@@ -1,8 +1,8 @@
 -- What a session does with one line of its script.
-use Rattle.std.specs.Prelude.{◌≡◌, ℕ, ◌≤◌, List, [], ◌∷◌, ◌++◌, take, IfSome}
-use Rattle.std.specs.List.{AllByRecursion, flat_map}
-use Rattle.std.specs.Option.{option_map}
+use Rattle.std.specs.Prelude.{◌≡◌, ◌⊎◌, ℕ, ◌≤◌, List, [], ◌∷◌, ◌++◌}
+use Rattle.std.specs.List.{flat_map}
 use Rattle.nm_faults.specs.Faults.{HasRisen}
+use Rattle.nm_base.specs.declared.facts.Facts.{Facts}
 use Rattle.nm_core.specs.declared.request.Request.{Request}
 use Rattle.nm_core.specs.declared.request.Request.TheVariants as requests
 use Rattle.nm_commit.specs.Count.{count_text}
@@ -10,15 +10,18 @@ use Rattle.nm_commit.specs.declared.change.Commit.{Commit}
 use Rattle.nm_core.specs.declared.step.Step.{Step}
 use Rattle.nm_core.specs.declared.step.Step.TheVariants as steps
 use Rattle.nm_maildir.specs.declared.given.Given.{Given}
+use Rattle.nm_maildir.specs.declared.given.Given.TheVariants as given
 use Rattle.nm_log.specs.Ask.{asked_of}
 use Rattle.nm_log.specs.Replies.{refusal_line, status_of}
+use Rattle.nm_log.specs.declared.ask.Asked.{Asked}
 use Rattle.nm_log.specs.declared.ask.Asked.TheVariants as asked
 use Rattle.nm_log.specs.declared.log.LineLog.{LineLog}
 use Rattle.nm_log.specs.declared.outcome.Outcome.{Outcome}
 use Rattle.nm_log.specs.declared.outcome.Outcome.TheVariants as outcomes
 use Rattle.nm_log.specs.declared.script.ScriptLine.{ScriptLine}
+use Rattle.nm_maildir.specs.Observed.{ObservedMail}
 use Rattle.nm_top.specs.NewLine.{IsNew}
-use Rattle.nm_top.specs.Reading.{IsRising, IsTold, WasListed, to_read}
+use Rattle.nm_top.specs.Reading.{IsListing, ReadsFirst, to_read}
 use Rattle.nm_top.specs.State.{State}
 
 -- The reply to a request, and the commits that it makes: a count answers on the index as it is and asks the mail folder nothing.
@@ -42,16 +45,26 @@ IsAnswer outcomes.Ok old line noted text taken new =
 IsAnswer (outcomes.Usage word kind) old line noted text taken new =
     (asked_of line ≡ asked.Usage word kind) × (noted ≡ []) × (taken ≡ []) × (new ≡ old) × (text ≡ refusal_line (outcomes.Usage word kind))
 IsAnswer outcomes.MailFault old line noted text taken new =
-    (asked_of line ≡ asked.Request requests.New) × HasRisen old.faults new.faults × (taken ≡ []) × (new.index ≡ old.index) × (text ≡ refusal_line outcomes.MailFault)
+    (asked_of line ≡ asked.Request requests.New) × HasRisen old.mail.faults new.mail.faults × (taken ≡ []) × (new.index ≡ old.index) × (text ≡ refusal_line outcomes.MailFault)
 IsAnswer outcomes.NoMemory old line noted text taken new = (taken ≡ []) × (new.index ≡ old.index) × (text ≡ refusal_line outcomes.NoMemory)
 
--- Of listed paths only such as the index lacks are read, each once, in their order.
-pub record ReadsNoKnown (old new : State) : Type 0 where
+-- The mail was listed, and of the listed paths that the index lacks the first were read, each once, in their order.
+pub record ListsAndReads (old new : ObservedMail) (files : List (List ℕ × Facts)) (noted : List Given) : Type 0 where
   pub listed : List (List ℕ)
-  pub listed_is : WasListed old.tree listed
-  pub rising : IsRising listed
-  pub count : ℕ
-  pub read : new.reads ≡ option_map (λ paths. paths ++ take count (to_read old.index.files listed)) old.reads
+  pub listing : IsListing old.tree listed
+  pub answers : List Given
+  pub noted_is : noted ≡ given.Listed listed ∷ answers
+  pub reading : ReadsFirst old new answers (to_read files listed)
+
+-- What a `new` asks and notes, however it ends: a listing that is not noted, and no read; or a listing, and then reads.
+abbrev pub AsksNew : ObservedMail → ObservedMail → List (List ℕ × Facts) → List Given → Type 0
+AsksNew old new files noted = ((noted ≡ []) × (new.reads ≡ old.reads)) ⊎ ListsAndReads old new files noted
+
+-- What a line asks the mail folder and notes of its answers, however it ends: but for a `new` nothing.
+abbrev pub AsksMail : Asked → ObservedMail → ObservedMail → List (List ℕ × Facts) → List Given → Type 0
+AsksMail (asked.Request requests.New) old new files noted = AsksNew old new files noted
+AsksMail (asked.Request (requests.Count ask)) old new files noted = (noted ≡ []) × (new ≡ old)
+AsksMail (asked.Usage word kind) old new files noted = (noted ≡ []) × (new ≡ old)
 
 -- A line of the script, what its log says, the steps that it takes, and what it leaves.
 pub record Answers (old : State) (line : ScriptLine) (log : LineLog) (taken : List Step) (new : State) : Type 0 where
@@ -61,11 +74,10 @@ pub record Answers (old : State) (line : ScriptLine) (log : LineLog) (taken : Li
   pub revision : log.revision ≡ new.index.revision
   pub status : log.status ≡ status_of log.outcome
   pub answer : IsAnswer log.outcome old line.text log.given log.text taken new
-  pub told : IfSome old.tree (λ t. AllByRecursion (IsTold t) log.given)
-  pub tree : new.tree ≡ old.tree
-  pub reads : ReadsNoKnown old new
-  pub faults : log.mail_faults ≡ new.faults
-  pub never_falls : old.faults ≤ new.faults
+  pub asks : AsksMail (asked_of line.text) old.mail new.mail old.index.files log.given
+  pub tree : new.mail.tree ≡ old.mail.tree
+  pub faults : log.mail_faults ≡ new.mail.faults
+  pub never_falls : old.mail.faults ≤ new.mail.faults
 
 -- the lines one after the other, each beginning where the one before it ended, and their steps
 abbrev pub Runs : State → List ScriptLine → List LineLog → List Step → State → Type 0

@@ -1,7 +1,6 @@
 -- What `new` does: the commits that it makes, and what it says.
-use Rattle.std.specs.Prelude.{◌≡◌, ℕ, not, List, [], ◌∷◌, ◌++◌, length, map, filter, IfSome}
+use Rattle.std.specs.Prelude.{◌≡◌, ℕ, not, List, [], ◌∷◌, ◌++◌, length, map, filter}
 use Rattle.std.specs.List.{flat_map}
-use Rattle.std.specs.Option.{option_map}
 use Rattle.nm_base.specs.Order.{has_text, in_order}
 use Rattle.nm_base.specs.declared.facts.Facts.{Facts}
 use Rattle.nm_commit.specs.Count.{ids_of}
@@ -14,8 +13,8 @@ use Rattle.nm_maildir.specs.declared.given.Given.TheVariants.{Listed}
 use Rattle.nm_maildir.specs.declared.given.ReadAnswer.{ReadAnswer}
 use Rattle.nm_log.specs.Replies.{new_text}
 use Rattle.nm_log.specs.declared.replies.NewReport.{NewReport}
-use Rattle.nm_top.specs.Reading.{IsRising, Reads, listed_of, skip_in, to_read}
-use Rattle.nm_top.specs.State.{State}
+use Rattle.nm_top.specs.Reading.{IsListing, Reads, skip_in, to_read}
+use Rattle.nm_top.specs.State.{State, after_reads}
 
 -- the paths of the index that are not listed, by their bytes
 abbrev pub gone : List (List ℕ × Facts) → List (List ℕ) → List (List ℕ)
@@ -40,6 +39,7 @@ new_commits files listed arrivals = commit_of (map add_of arrivals) ++ commit_of
 abbrev pub only_in : List (List ℕ × Facts) → List (List ℕ × Facts) → List (List ℕ)
 only_in first second = filter (λ id. not (has_text (ids_of first) id)) (ids_of second)
 
+-- what is told of the files and of the messages, from the index before and the one after
 abbrev pub report_of : List (List ℕ × Facts) → List (List ℕ × Facts) → List (List ℕ) → List (List ℕ × Facts) → List (List ℕ × ReadAnswer) → NewReport
 report_of before after listed arrivals reads = record {
   added = length arrivals;
@@ -54,17 +54,16 @@ abbrev pub FitInTurn : Index → List Commit → Type 0
 FitInTurn index [] = Unit {0}
 FitInTurn index (commit ∷ commits) = Fits index commit × FitInTurn (committed index commit) commits
 
--- A `new` that went well: it listed, read each path that the index lacks, and made the commits of that.
+-- A `new` that went well: it listed, read each path that the index lacks, and made the commits of that. No call failed.
 pub record IsNew (old : State) (noted : List Given) (text : List ℕ) (commits : List Commit) (new : State) : Type 0 where
   pub listed : List (List ℕ)
-  pub rising : IsRising listed
-  pub told : IfSome old.tree (λ t. listed ≡ listed_of t)
+  pub listing : IsListing old.mail.tree listed
   pub answers : List Given
   pub arrivals : List (List ℕ × Facts)
   pub noted_is : noted ≡ Listed listed ∷ answers
-  pub reading : Reads old.tree answers (to_read old.index.files listed) arrivals
+  pub reading : Reads old.mail.tree answers (to_read old.index.files listed) arrivals
   pub commits_are : commits ≡ new_commits old.index.files listed arrivals
   pub fit : FitInTurn old.index commits
   pub index : new.index ≡ folded old.index commits
-  pub says : text ≡ new_text (report_of old.index.files new.index.files listed arrivals reading.reads)
-  pub read : new.reads ≡ option_map (λ paths. paths ++ to_read old.index.files listed) old.reads
+  pub says : text ≡ new_text (report_of old.index.files new.index.files listed arrivals reading.notes.reads)
+  pub mail : new.mail ≡ after_reads old.mail (to_read old.index.files listed)

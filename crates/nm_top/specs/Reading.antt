@@ -1,5 +1,5 @@
 -- What `new` learns from the mail folder: which files are there, and what those hold that it doesn't know.
-use Rattle.std.specs.Prelude.{◌≡◌, ◌⊎◌, ℕ, Bool, false, not, ◌==◌, List, [], ◌∷◌, ◌++◌, map, filter, codes, Option, Some, None, IfSome, is_some, if◌then◌else◌}
+use Rattle.std.specs.Prelude.{◌≡◌, ℕ, ◌+◌, ◌≤◌, Bool, false, not, ◌==◌, List, [], ◌∷◌, ◌++◌, length, map, filter, take, codes, Option, Some, None, IfSome, is_some, if◌then◌else◌}
 use Rattle.std.specs.List.{flat_map, AllByRecursion}
 use Rattle.std.specs.Cmp.Lexicographic.{slice_cmp}
 use Rattle.std.specs.Ordering.{nat_cmp}
@@ -18,6 +18,8 @@ use Rattle.nm_maildir.specs.declared.given.Given.{Given}
 use Rattle.nm_maildir.specs.declared.given.Given.TheVariants as given
 use Rattle.nm_maildir.specs.declared.given.ReadAnswer.{ReadAnswer}
 use Rattle.nm_maildir.specs.declared.given.ReadAnswer.TheVariants as answers
+use Rattle.nm_maildir.specs.Observed.{ObservedMail}
+use Rattle.nm_top.specs.State.{read_with}
 
 -- the most bytes of a mail
 abbrev pub most_bytes : ℕ
@@ -41,9 +43,10 @@ listed_of tree =
 abbrev pub IsRising : List (List ℕ) → Type 0
 IsRising paths = IsStrictlySortedBy (slice_cmp nat_cmp) paths
 
--- Nothing was listed, or this is what the tree lists.
-abbrev pub WasListed : Option Tree → List (List ℕ) → Type 0
-WasListed tree listed = (listed ≡ []) ⊎ IfSome tree (λ t. listed ≡ listed_of t)
+-- What was listed: the paths rise, and a tree that is told says which they are.
+pub record IsListing (tree : Option Tree) (listed : List (List ℕ)) : Type 0 where
+  pub rising : IsRising listed
+  pub told : IfSome tree (λ t. listed ≡ listed_of t)
 
 -- the listed paths that the index lacks
 abbrev pub to_read : List (List ℕ × Facts) → List (List ℕ) → List (List ℕ)
@@ -60,6 +63,7 @@ abbrev pub arrival : List ℕ → Option Facts → List (List ℕ × Facts)
 arrival path None = []
 arrival path (Some facts) = (path, facts) ∷ []
 
+-- the mail that a read finds, if it finds one
 abbrev pub arrival_of : List ℕ → Got → List (List ℕ × Facts)
 arrival_of path (got.Found bytes) = arrival path (facts_of bytes)
 arrival_of path got.Missing = []
@@ -79,6 +83,7 @@ answers_at tree paths = map (λ path. (path, answer_at tree path)) paths
 abbrev pub read_of : List ℕ × ReadAnswer → Given
 read_of read = given.Read read.0 read.1
 
+-- the path, where the answer is that mail lies there
 abbrev pub mail_at : List ℕ → ReadAnswer → List (List ℕ)
 mail_at path answers.Mail = path ∷ []
 mail_at path answers.NotMail = []
@@ -101,19 +106,25 @@ skip_at path (answers.Body bytes) = []
 abbrev pub skip_in : List ℕ × ReadAnswer → List (List ℕ × Skip)
 skip_in read = skip_at read.0 read.1
 
--- what is noted is what the tree answers
-abbrev pub IsTold : Tree → Given → Type 0
-IsTold tree (given.Listed paths) = paths ≡ listed_of tree
-IsTold tree (given.Read path answer) = answer ≡ answer_at tree path
-IsTold tree (given.Renamed from to answer) = Unit {0}
-
--- Each path was read, in order, and the arrivals are those that were found to be mail;
--- a tree that is told says which answers and arrivals these are.
-pub record Reads (tree : Option Tree) (noted : List Given) (paths : List (List ℕ)) (arrivals : List (List ℕ × Facts)) : Type 0 where
+-- Each path was read, in order, and its answer is noted; a tree that is told says which answers these are.
+pub record NotesReads (tree : Option Tree) (noted : List Given) (paths : List (List ℕ)) : Type 0 where
   pub reads : List (List ℕ × ReadAnswer)
   pub noted_is : noted ≡ map read_of reads
   pub each : map (λ read. read.0) reads ≡ paths
-  pub mails : paths_of arrivals ≡ flat_map mail_in reads
+  pub told : IfSome tree (λ t. reads ≡ answers_at t paths)
+
+-- Each path was read, and the arrivals are those that were found to be mail.
+pub record Reads (tree : Option Tree) (noted : List Given) (paths : List (List ℕ)) (arrivals : List (List ℕ × Facts)) : Type 0 where
+  pub notes : NotesReads tree noted paths
+  pub mails : paths_of arrivals ≡ flat_map mail_in notes.reads
   pub dated : AllByRecursion (λ arrival. IsDate arrival.1.date) arrivals
-  pub told_answers : IfSome tree (λ t. reads ≡ answers_at t paths)
-  pub told_arrivals : IfSome tree (λ t. arrivals ≡ flat_map (arrival_at t) paths)
+  pub told : IfSome tree (λ t. arrivals ≡ flat_map (arrival_at t) paths)
+
+-- Of the paths the first were read, in order. Each answer is noted, but for the last where the reading stopped there.
+pub record ReadsFirst (old new : ObservedMail) (noted : List Given) (paths : List (List ℕ)) : Type 0 where
+  pub answered : ℕ
+  pub asked : ℕ
+  pub within : asked ≤ length paths
+  pub last : (answered ≤ asked) × (asked ≤ answered + 1)
+  pub notes : NotesReads old.tree noted (take answered paths)
+  pub read : new.reads ≡ read_with old.reads (take asked paths)

@@ -1,5 +1,5 @@
 -- What the top call does: how it may end, and what each ending leaves and says.
-use Rattle.std.specs.Prelude.{◌≡◌, ℕ, ◌<◌, ◌≤◌, Bool, true, false, not, List, [], ◌∷◌, ◌++◌, length, take, codes, Option, None, Some, IfSome, if◌then◌else◌}
+use Rattle.std.specs.Prelude.{◌≡◌, ℕ, ◌<◌, ◌≤◌, ◌==◌, Bool, true, false, not, List, [], ◌∷◌, ◌++◌, length, take, codes, Option, None, Some, IfSome, if◌then◌else◌}
 use Rattle.std.specs.List.{list_any}
 use Rattle.std.specs.Io.KnownBytes.{Appends, Consumes, IsAtEnd}
 use Rattle.std.specs.Str.Lines.{lines}
@@ -18,48 +18,28 @@ use Rattle.nm_log.specs.declared.log.LineLog.{LineLog}
 use Rattle.nm_log.specs.declared.outcome.Outcome.{Outcome}
 use Rattle.nm_log.specs.declared.outcome.Outcome.TheVariants as outcomes
 use Rattle.nm_log.specs.declared.script.ScriptLine.{ScriptLine}
-use Rattle.nm_maildir.specs.Tree.{Tree}
+use Rattle.nm_maildir.specs.Observed.{ObservedMail}
+use Rattle.nm_io.specs.Observed.{ObservedStream}
 use Rattle.nm_top.specs.Line.{Runs}
-use Rattle.nm_top.specs.State.{State}
+use Rattle.nm_top.specs.State.{State, state_with}
 
 -- the most bytes of an input
 abbrev pub most_input : ℕ
 most_input = 67108864
 
--- What an input or an output tells at one moment: its bytes left or taken, and how often it has failed.
-pub record Told : Type 0 where
-  pub bytes : Option (List ℕ)
-  pub faults : ℕ
-
-abbrev pub told : Option (List ℕ) → ℕ → Told
-told known count = record { bytes = known; faults = count }
-
--- What the mail folder tells.
-pub record MailTold : Type 0 where
-  pub tree : Option Tree
-  pub reads : Option (List (List ℕ))
-  pub faults : ℕ
-
-abbrev pub mail_told : Option Tree → Option (List (List ℕ)) → ℕ → MailTold
-mail_told known asked count = record { tree = known; reads = asked; faults = count }
-
--- All devices at one moment.
+-- What is observed of all devices at one moment.
 pub record Outside : Type 0 where
-  pub mail : MailTold
-  pub input : Told
-  pub out : Told
-  pub err : Told
+  pub mail : ObservedMail
+  pub input : ObservedStream
+  pub out : ObservedStream
+  pub err : ObservedStream
 
-abbrev pub outside : MailTold → Told → Told → Told → Outside
+abbrev pub outside : ObservedMail → ObservedStream → ObservedStream → ObservedStream → Outside
 outside folder source sink errors = record { mail = folder; input = source; out = sink; err = errors }
 
 -- what the first line begins with
-abbrev pub opening_state : MailTold → State
-opening_state mail = record { index = empty_index; tree = mail.tree; reads = mail.reads; faults = mail.faults }
-
--- what the mail folder tells after a line
-abbrev pub mail_after : State → MailTold
-mail_after state = mail_told state.tree state.reads state.faults
+abbrev pub opening_state : ObservedMail → State
+opening_state folder = state_with folder empty_index
 
 -- the fault of the words: they must be the one word `session`
 abbrev pub words_fault : List (List ℕ) → Option (UsageKind × List ℕ)
@@ -68,21 +48,23 @@ words_fault (word ∷ []) = if same_text word (codes "session") then None else S
 words_fault (word ∷ other ∷ more) = if same_text word (codes "session") then Some (kinds.Extra, other) else Some (kinds.Command, word)
 
 -- An output gained the bytes, or where it failed the first of them.
-abbrev pub Gains : Bool → Told → Told → List ℕ → Type 0
+abbrev pub Gains : Bool → ObservedStream → ObservedStream → List ℕ → Type 0
 Gains false old new bytes = Appends old.bytes new.bytes bytes × (new.faults ≡ old.faults)
 Gains true old new bytes = ((n : ℕ) × Appends old.bytes new.bytes (take n bytes)) × HasRisen old.faults new.faults
 
 -- one line was said, or none
-abbrev pub Says : Option (List ℕ) → Told → Told → Type 0
+abbrev pub Says : Option (List ℕ) → ObservedStream → ObservedStream → Type 0
 Says None old new = new ≡ old
 Says (Some line) old new = (failed : Bool) × Gains failed old new line
 
+-- the line ended for a fault of the mail folder
 abbrev pub is_mail_fault : Outcome → Bool
 is_mail_fault outcomes.Ok = false
 is_mail_fault (outcomes.Usage word kind) = false
 is_mail_fault outcomes.MailFault = true
 is_mail_fault outcomes.NoMemory = false
 
+-- the line ended for want of memory
 abbrev pub is_no_memory : Outcome → Bool
 is_no_memory outcomes.Ok = false
 is_no_memory (outcomes.Usage word kind) = false
@@ -114,18 +96,18 @@ abbrev pub IsMachineRun : List Step → Index → Type 0
 IsMachineRun steps index =
     (last : Machine) × machine.Runs (machine.start empty_index lane_count) steps last × (folded empty_index last.commits ≡ index)
 
--- The lines were run in their order, all of them or, for want of memory, the first; then their replies were printed.
-pub record IsRun (script : List ScriptLine) (old_mail new_mail : MailTold) (old_out new_out old_err new_err : Told) (done : Done) : Type 0 where
+-- The lines were run in their order, all of them or, for want of memory, the first, but not the last; then their replies were printed.
+pub record IsRun (script : List ScriptLine) (old_mail new_mail : ObservedMail) (old_out new_out old_err new_err : ObservedStream) (done : Done) : Type 0 where
   pub ran : List ScriptLine
   pub unrun : List ScriptLine
   pub whole : Bool
   pub out_failed : Bool
   pub last : State
   pub lines : script ≡ ran ++ unrun
-  pub all : whole ≡ true → unrun ≡ []
+  pub all : whole ≡ (length unrun == 0)
   pub run : Runs (opening_state old_mail) ran done.log.lines done.log.steps last
   pub machine : IsMachineRun done.log.steps last.index
-  pub mail : new_mail ≡ mail_after last
+  pub mail : new_mail ≡ last.mail
   pub out : Gains out_failed old_out new_out (printed done.log.lines)
   pub status : done.status ≡ session_status whole done.log.lines out_failed
   pub says : Says (last_word whole out_failed) old_err new_err
@@ -140,7 +122,7 @@ pub record IsRefused (old new : Outside) (done : Done) (code : ℕ) (line : List
   pub says : Says (Some line) old.err new.err
 
 -- The input was read to its end, and these are its bytes.
-pub record IsRead (script : List ℕ) (old new : Told) : Type 0 where
+pub record IsRead (script : List ℕ) (old new : ObservedStream) : Type 0 where
   pub bytes : Consumes old.bytes new.bytes script
   pub end : IsAtEnd new.bytes
   pub within : length script ≤ most_input
@@ -162,10 +144,12 @@ Ends WordsRefused script words old new done =
 Ends ReadFailed script words old new done =
     (words_fault words ≡ None) × HasRisen old.input.faults new.input.faults × IsRefused old new done 5 (codes "notmuch: read fault\n")
 Ends InputTooLong script words old new done =
-    (words_fault words ≡ None) × IfSome old.input.bytes (λ bytes. most_input < length bytes) × IsRefused old new done 9 (codes "notmuch: limit: inputbytes\n")
+    (words_fault words ≡ None) × (new.input.faults ≡ old.input.faults) × IfSome old.input.bytes (λ bytes. most_input < length bytes)
+    × IsRefused old new done 9 (codes "notmuch: limit: inputbytes\n")
 Ends TooManyLines script words old new done =
     (words_fault words ≡ None) × IsRead script old.input new.input × (4096 < length (lines script)) × IsRefused old new done 9 (codes "notmuch: limit: lines\n")
-Ends MemoryWanted script words old new done = (words_fault words ≡ None) × IsRefused old new done 7 (codes "notmuch: no memory\n")
+Ends MemoryWanted script words old new done =
+    (words_fault words ≡ None) × (new.input.faults ≡ old.input.faults) × IsRefused old new done 7 (codes "notmuch: no memory\n")
 Ends Ran script words old new done =
     (words_fault words ≡ None) × IsRead script old.input new.input × (length (lines script) ≤ 4096)
     × IsRun (script_lines script) old.mail new.mail old.out new.out old.err new.err done

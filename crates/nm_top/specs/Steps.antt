@@ -1,7 +1,6 @@
 -- What the parts of `new` leave, one read after another.
-use Rattle.std.specs.Prelude.{◌≡◌, ℕ, ◌+◌, Bool, ◌&&◌, ◌==◌, not, List, [], ◌∷◌, ◌++◌, length, map, filter, take, Option, None, IfSome, if◌then◌else◌}
-use Rattle.std.specs.List.{AllByRecursion, flat_map}
-use Rattle.std.specs.Option.{option_map}
+use Rattle.std.specs.Prelude.{◌≡◌, ℕ, ◌+◌, Bool, ◌&&◌, ◌==◌, not, List, [], ◌∷◌, ◌++◌, length, map, filter, Option, None, IfSome, if◌then◌else◌}
+use Rattle.std.specs.List.{flat_map}
 use Rattle.nm_base.specs.declared.facts.Facts.{Facts}
 use Rattle.nm_base.specs.declared.refusals.Skip.{Skip}
 use Rattle.nm_base.specs.Order.{has_text, in_order}
@@ -14,24 +13,20 @@ use Rattle.nm_log.specs.Replies.{new_text, refusal_line}
 use Rattle.nm_log.specs.declared.outcome.Outcome.{Outcome}
 use Rattle.nm_log.specs.declared.outcome.Outcome.TheVariants as outcomes
 use Rattle.nm_log.specs.declared.replies.NewReport.{NewReport}
-use Rattle.nm_maildir.specs.Tree.{Tree}
 use Rattle.nm_maildir.specs.declared.answers.Got.{Got}
 use Rattle.nm_maildir.specs.declared.answers.Got.TheVariants as got
 use Rattle.nm_maildir.specs.declared.given.Given.{Given}
 use Rattle.nm_maildir.specs.declared.given.Given.TheVariants as given
 use Rattle.nm_maildir.specs.declared.given.ReadAnswer.{ReadAnswer}
 use Rattle.nm_extract.specs.Mail.{facts_of}
+use Rattle.nm_maildir.specs.Observed.{ObservedMail}
 use Rattle.nm_top.specs.Lean.{StandsFor, lean}
 use Rattle.nm_top.specs.Line.{IsAnswer, reply_steps}
 use Rattle.nm_top.specs.NewLine.{IsNew, add_of, commit_of, drop_of, only_in}
-use Rattle.nm_top.specs.State.{State}
-use Rattle.nm_top.specs.Reading.{IsRising, IsTold, Reads, WasListed, answer_of, listed_of, skip_at, to_read}
+use Rattle.nm_top.specs.State.{State, after_reads}
+use Rattle.nm_top.specs.Reading.{IsListing, IsRising, Reads, ReadsFirst, answer_of, skip_at, to_read}
 use Rattle.nm_top.specs.declared.index.PlainIndex.{PlainIndex}
 use Rattle.nm_top.specs.declared.steps.Answered.{Answered}
-
--- the paths read so far, and these
-abbrev pub read_with : Option (List (List ℕ)) → List (List ℕ) → Option (List (List ℕ))
-read_with reads paths = option_map (λ before. before ++ paths) reads
 
 -- the facts that a read found
 abbrev pub found_in : Got → Option Facts
@@ -45,20 +40,19 @@ pub record Judges (got : Got) (judged : ReadAnswer × Option Facts) : Type 0 whe
   pub facts : judged.1 ≡ found_in got
   pub dated : IfSome judged.1 (λ facts. IsDate facts.date)
 
--- Of the paths the first were read, and what was noted of them is what the tree answers.
-pub record HasRead (tree : Option Tree) (old_reads new_reads : Option (List (List ℕ))) (old_noted new_noted : List Given) (paths : List (List ℕ)) : Type 0 where
+-- Of the paths the first were read, and that is noted behind what was noted before.
+pub record HasRead (old new : ObservedMail) (old_noted new_noted : List Given) (paths : List (List ℕ)) : Type 0 where
   pub noted : List Given
   pub noted_is : new_noted ≡ old_noted ++ noted
-  pub told : IfSome tree (λ t. AllByRecursion (IsTold t) noted)
-  pub count : ℕ
-  pub read : new_reads ≡ read_with old_reads (take count paths)
+  pub reading : ReadsFirst old new noted paths
+  pub tree : new.tree ≡ old.tree
 
 -- All the paths were read, and these arrivals were found.
-pub record HasReadAll (tree : Option Tree) (old_reads new_reads : Option (List (List ℕ))) (old_noted new_noted : List Given) (paths : List (List ℕ)) (arrivals : List (List ℕ × Facts)) : Type 0 where
+pub record HasReadAll (old new : ObservedMail) (old_noted new_noted : List Given) (paths : List (List ℕ)) (arrivals : List (List ℕ × Facts)) : Type 0 where
   pub noted : List Given
   pub noted_is : new_noted ≡ old_noted ++ noted
-  pub reading : Reads tree noted paths arrivals
-  pub read : new_reads ≡ read_with old_reads paths
+  pub reading : Reads old.tree noted paths arrivals
+  pub mail : new ≡ after_reads old paths
 
 -- the path stands in the index and is not listed
 abbrev pub is_gone : List (List ℕ) → List (List ℕ) → List ℕ → Bool
@@ -108,28 +102,14 @@ pub record TakesIn (known listed : List (List ℕ)) (arrivals : List (List ℕ �
   pub steps : done.steps ≡ reply_steps (commits_with known listed arrivals) requests.New done.text
 
 -- what was gathered: the listed paths, those of the index, and what has come
-pub record Gathers (tree : Option Tree) (old_reads new_reads : Option (List (List ℕ))) (files : List (List ℕ × Facts)) (noted : List Given) (known listed : List (List ℕ)) (arrivals : List (List ℕ × Facts)) : Type 0 where
-  pub rising : IsRising listed
-  pub told : IfSome tree (λ t. listed ≡ listed_of t)
+pub record Gathers (old new : ObservedMail) (files : List (List ℕ × Facts)) (noted : List Given) (known listed : List (List ℕ)) (arrivals : List (List ℕ × Facts)) : Type 0 where
+  pub listing : IsListing old.tree listed
   pub known_is : known ≡ in_order (paths_of files)
   pub known_rising : IsRising known
   pub answers : List Given
   pub noted_is : noted ≡ given.Listed listed ∷ answers
-  pub reading : Reads tree answers (to_read files listed) arrivals
-  pub read : new_reads ≡ read_with old_reads (to_read files listed)
-
--- Whatever came of it, of listed paths only such as the index lacks were read, and what is noted is what the tree answers.
-pub record HasAsked (tree : Option Tree) (old_reads new_reads : Option (List (List ℕ))) (files : List (List ℕ × Facts)) (noted : List Given) : Type 0 where
-  pub listed : List (List ℕ)
-  pub listed_is : WasListed tree listed
-  pub rising : IsRising listed
-  pub count : ℕ
-  pub read : new_reads ≡ read_with old_reads (take count (to_read files listed))
-  pub told : IfSome tree (λ t. AllByRecursion (IsTold t) noted)
-
--- what a line begins with or leaves, from what the mail folder tells and the index
-abbrev pub state_with : Option Tree → Option (List (List ℕ)) → ℕ → Index → State
-state_with tree reads faults index = record { index = index; tree = tree; reads = reads; faults = faults }
+  pub reading : Reads old.tree answers (to_read files listed) arrivals
+  pub mail : new ≡ after_reads old (to_read files listed)
 
 -- how `new` may end, but for want of memory
 abbrev pub IsNewOutcome : Outcome → State → List Given → List ℕ → List Step → State → Type 0
@@ -137,7 +117,7 @@ IsNewOutcome outcomes.Ok old noted text taken new =
     (commits : List Commit) × IsNew old noted text commits new × (taken ≡ reply_steps commits requests.New text)
 IsNewOutcome (outcomes.Usage word kind) old noted text taken new = ⊥
 IsNewOutcome outcomes.MailFault old noted text taken new =
-    HasRisen old.faults new.faults × (taken ≡ []) × (new.index ≡ old.index) × (text ≡ refusal_line outcomes.MailFault)
+    HasRisen old.mail.faults new.mail.faults × (taken ≡ []) × (new.index ≡ old.index) × (text ≡ refusal_line outcomes.MailFault)
 IsNewOutcome outcomes.NoMemory old noted text taken new = ⊥
 
 abbrev pub IsNewAnswer : State → List Given → Answered → State → Type 0

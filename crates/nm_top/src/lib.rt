@@ -1,4 +1,5 @@
-//! The top call: reads a script, runs its lines over a mail folder, prints the replies, and tells what it did.
+//! Commands and replies: the top call, which reads a script, runs its lines over a mail folder, prints the replies, and
+//! tells what it did. The types of its log stand here too.
 #![tactic(auto)]
 
 mod ending;
@@ -15,4 +16,7 @@ mod take_in;
 mod tests;
 mod top_call;
 
+pub use nm_core::{Request, Step};
+pub use nm_log::{Done, LineLog, Outcome, SessionLog, Setting};
+pub use nm_maildir::{Given, ReadAnswer};
 pub use top_call::notmuch;

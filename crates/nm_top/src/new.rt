@@ -2,8 +2,10 @@ ghost use Rattle.std.specs.Prelude.{◌≡◌, ◌+◌, ◌<◌, ◌≤◌, ◌^
 ghost use Rattle.nm_commit.specs.Index.{Index};
 ghost use Rattle.nm_maildir.specs.Observed.{HasMailCause};
 ghost use Rattle.nm_top.specs.Lean.{StandsFor};
+ghost use Rattle.nm_top.specs.Line.{AsksNew};
 ghost use Rattle.nm_top.specs.Reading.{IsRising};
-ghost use Rattle.nm_top.specs.Steps.{Gathers, HasAsked, IsNewAnswer, Leaves, most_steps, state_with};
+ghost use Rattle.nm_top.specs.State.{state_with};
+ghost use Rattle.nm_top.specs.Steps.{Gathers, IsNewAnswer, Leaves, most_steps};
 
 use crate::index::{Mail, PlainIndex, path_set};
 use crate::listing::list_paths;
@@ -27,12 +29,12 @@ pub(crate) fn run_new<M: Maildir>(
     requires room { index.old.revision + 2 < 2 ^ 64 }
     requires fresh { noted.old ≡ [] }
     ensures ok { (old : Index) → StandsFor index.old old → IfOk result (λ done. Leaves index.new (λ new. IsNewAnswer
-        (state_with (M.observed mail.old).tree (M.observed mail.old).reads (M.observed mail.old).faults old) noted.new done
-        (state_with (M.observed mail.new).tree (M.observed mail.new).reads (M.observed mail.new).faults new))) }
+        (state_with (M.observed mail.old) old) noted.new done
+        (state_with (M.observed mail.new) new))) }
     ensures few { IfOk result (λ done. length done.steps ≤ most_steps) }
     ensures err { OnErr result (index.new ≡ index.old) }
     ensures grows { index.new.revision ≤ index.old.revision + 2 }
-    ensures asked { HasAsked (M.observed mail.old).tree (M.observed mail.old).reads (M.observed mail.new).reads index.old.files noted.new }
+    ensures asked { AsksNew (M.observed mail.old) (M.observed mail.new) index.old.files noted.new }
     ensures tree { (M.observed mail.new).tree ≡ (M.observed mail.old).tree }
     ensures never_falls { (M.observed mail.old).faults ≤ (M.observed mail.new).faults }
 {
@@ -58,9 +60,9 @@ fn gather<M: Maildir>(
     noted: &mut Many<Given>,
 ) -> Result<Gathered, MailError>
     requires { noted.old ≡ [] }
-    ensures ok { IfOk result (λ gathered. Gathers (M.observed mail.old).tree (M.observed mail.old).reads (M.observed mail.new).reads files.now noted.new
-        gathered.known.keys gathered.listed.keys gathered.arrivals) }
-    ensures asked { HasAsked (M.observed mail.old).tree (M.observed mail.old).reads (M.observed mail.new).reads files.now noted.new }
+    ensures ok { IfOk result (λ gathered. Gathers (M.observed mail.old) (M.observed mail.new)
+        files.now noted.new gathered.known.keys gathered.listed.keys gathered.arrivals) }
+    ensures asked { AsksNew (M.observed mail.old) (M.observed mail.new) files.now noted.new }
     ensures tree { (M.observed mail.new).tree ≡ (M.observed mail.old).tree }
     ensures cause { HasMailCause (M.observed mail.old).faults (M.observed mail.new).faults result }
 {
@@ -69,7 +71,7 @@ fn gather<M: Maildir>(
     let known = path_set(alloc, files)?;
     rises(&known);
     let paths = paths_not_in(alloc, &listed, &known)?;
-    let arrivals = read_all(alloc, mail, paths.as_slice(), noted)?;
+    let arrivals = read_all(alloc, mail, paths, noted)?;
     Ok(Gathered {
         listed,
         known,

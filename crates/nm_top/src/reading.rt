@@ -17,17 +17,15 @@ const MOST_BYTES: u64 = 67_108_864;
 pub(crate) fn read_all<M: Maildir>(
     alloc: Global,
     mail: &mut M,
-    paths: &[MailPath],
+    paths: Many<MailPath>,
     noted: &mut Many<Given>,
 ) -> Result<Many<Mail>, MailError>
-    ensures ok { IfOk result (λ arrivals.
-        HasReadAll (M.observed mail.old).tree (M.observed mail.old).reads (M.observed mail.new).reads noted.old noted.new paths.now arrivals) }
-    ensures so_far { HasRead (M.observed mail.old).tree (M.observed mail.old).reads (M.observed mail.new).reads noted.old noted.new paths.now }
-    ensures tree { (M.observed mail.new).tree ≡ (M.observed mail.old).tree }
+    ensures ok { IfOk result (λ arrivals. HasReadAll (M.observed mail.old) (M.observed mail.new) noted.old noted.new paths arrivals) }
+    ensures so_far { HasRead (M.observed mail.old) (M.observed mail.new) noted.old noted.new paths }
     ensures cause { HasMailCause (M.observed mail.old).faults (M.observed mail.new).faults result }
 {
     let mut arrivals = Many::new(alloc);
-    'files: for path in paths {
+    'files: for path in paths.into_vec() {
         read_next(alloc, mail, path, noted, &mut arrivals)?;
     }
     Ok(arrivals)
@@ -37,19 +35,17 @@ pub(crate) fn read_all<M: Maildir>(
 fn read_next<M: Maildir>(
     alloc: Global,
     mail: &mut M,
-    path: &MailPath,
+    path: MailPath,
     noted: &mut Many<Given>,
     arrivals: &mut Many<Mail>,
 ) -> Result<(), MailError>
     ensures ok { IfOk result (λ _. (found : List (List ℕ × Facts)) × (arrivals.new ≡ arrivals.old ++ found)
-        × HasReadAll (M.observed mail.old).tree (M.observed mail.old).reads (M.observed mail.new).reads noted.old noted.new (path.now ∷ []) found) }
-    ensures so_far { HasRead (M.observed mail.old).tree (M.observed mail.old).reads (M.observed mail.new).reads noted.old noted.new (path.now ∷ []) }
-    ensures tree { (M.observed mail.new).tree ≡ (M.observed mail.old).tree }
+        × HasReadAll (M.observed mail.old) (M.observed mail.new) noted.old noted.new (path ∷ []) found) }
+    ensures so_far { HasRead (M.observed mail.old) (M.observed mail.new) noted.old noted.new (path ∷ []) }
     ensures cause { HasMailCause (M.observed mail.old).faults (M.observed mail.new).faults result }
 {
-    let found = read_one(alloc, mail, path, noted)?;
+    let found = read_one(alloc, mail, &path, noted)?;
     if let Some(facts) = found {
-        let path = path.copy()?;
         arrivals.push((path, facts))?;
     }
     Ok(())
@@ -62,10 +58,8 @@ fn read_one<M: Maildir>(
     path: &MailPath,
     noted: &mut Many<Given>,
 ) -> Result<Option<Facts>, MailError>
-    ensures ok { IfOk result (λ found.
-        HasReadAll (M.observed mail.old).tree (M.observed mail.old).reads (M.observed mail.new).reads noted.old noted.new (path.now ∷ []) (arrival path.now found)) }
-    ensures so_far { HasRead (M.observed mail.old).tree (M.observed mail.old).reads (M.observed mail.new).reads noted.old noted.new (path.now ∷ []) }
-    ensures tree { (M.observed mail.new).tree ≡ (M.observed mail.old).tree }
+    ensures ok { IfOk result (λ found. HasReadAll (M.observed mail.old) (M.observed mail.new) noted.old noted.new (path.now ∷ []) (arrival path.now found)) }
+    ensures so_far { HasRead (M.observed mail.old) (M.observed mail.new) noted.old noted.new (path.now ∷ []) }
     ensures cause { HasMailCause (M.observed mail.old).faults (M.observed mail.new).faults result }
 {
     let got = mail.read(path, MOST_BYTES)?;

@@ -1,11 +1,13 @@
 ghost use Rattle.std.specs.Prelude.{◌≡◌, ◌+◌, ◌<◌, ◌≤◌, ◌^◌, ◌++◌, [], IfOk, IfSome, OnErr, MatchResult, codes, length};
+ghost use Rattle.nm_log.specs.Ask.{asked_of};
 ghost use Rattle.nm_log.specs.Replies.{usage_line};
 ghost use Rattle.nm_commit.specs.Count.{count_text};
 ghost use Rattle.nm_commit.specs.Index.{Index};
 ghost use Rattle.nm_top.specs.Lean.{StandsFor};
-ghost use Rattle.nm_top.specs.Line.{Answers, reply_steps};
+ghost use Rattle.nm_top.specs.Line.{Answers, AsksMail, reply_steps};
 ghost use Rattle.nm_top.specs.RunLog.{HasRunLines};
-ghost use Rattle.nm_top.specs.Steps.{HasAsked, IsLineAnswer, Leaves, most_steps, state_with};
+ghost use Rattle.nm_top.specs.State.{state_with};
+ghost use Rattle.nm_top.specs.Steps.{IsLineAnswer, Leaves, most_steps};
 
 use crate::index::{Mail, PlainIndex};
 use crate::new::run_new;
@@ -28,8 +30,7 @@ pub(crate) struct RunLog {
 /// Runs the lines in their order, over an index that begins empty. Where no room can be made for the log of a
 /// line, that line and those behind it are not run.
 pub(crate) fn run_lines<M: Maildir>(alloc: Global, lines: &[ScriptLine], mail: &mut M) -> RunLog
-    ensures { HasRunLines lines.now result (M.observed mail.old).tree (M.observed mail.old).reads (M.observed mail.old).faults
-        (M.observed mail.new).tree (M.observed mail.new).reads (M.observed mail.new).faults }
+    ensures { HasRunLines lines.now result (M.observed mail.old) (M.observed mail.new) }
 {
     let mut index = PlainIndex {
         files: Many::new(alloc),
@@ -97,8 +98,8 @@ fn run_line<M: Maildir>(
     requires room { index.old.revision + 2 < 2 ^ 64 }
     requires spare { spare ≡ codes "notmuch: no memory\n" }
     ensures answers { (old : Index) → StandsFor index.old old → Leaves index.new (λ new.
-        Answers (state_with (M.observed mail.old).tree (M.observed mail.old).reads (M.observed mail.old).faults old) line.now result.0 result.1
-        (state_with (M.observed mail.new).tree (M.observed mail.new).reads (M.observed mail.new).faults new)) }
+        Answers (state_with (M.observed mail.old) old) line.now result.0 result.1
+        (state_with (M.observed mail.new) new)) }
     ensures few { length result.1 ≤ most_steps }
     ensures grows { index.new.revision ≤ index.old.revision + 2 }
 {
@@ -148,12 +149,12 @@ fn answer<M: Maildir>(
     requires room { index.old.revision + 2 < 2 ^ 64 }
     requires fresh { given.old ≡ [] }
     ensures ok { (old : Index) → StandsFor index.old old → IfOk result (λ done. Leaves index.new (λ new. IsLineAnswer
-        (state_with (M.observed mail.old).tree (M.observed mail.old).reads (M.observed mail.old).faults old) line.now given.new done
-        (state_with (M.observed mail.new).tree (M.observed mail.new).reads (M.observed mail.new).faults new))) }
+        (state_with (M.observed mail.old) old) line.now given.new done
+        (state_with (M.observed mail.new) new))) }
     ensures few { IfOk result (λ done. length done.steps ≤ most_steps) }
     ensures err { OnErr result (index.new ≡ index.old) }
     ensures grows { index.new.revision ≤ index.old.revision + 2 }
-    ensures asked { HasAsked (M.observed mail.old).tree (M.observed mail.old).reads (M.observed mail.new).reads index.old.files given.new }
+    ensures asked { AsksMail (asked_of line.now) (M.observed mail.old) (M.observed mail.new) index.old.files given.new }
     ensures tree { (M.observed mail.new).tree ≡ (M.observed mail.old).tree }
     ensures never_falls { (M.observed mail.old).faults ≤ (M.observed mail.new).faults }
 {

@@ -1,6 +1,6 @@
 ghost use Rattle.std.specs.Prelude.{◌≡◌, ℕ, List, ◌∷◌, [], ◌≤◌, None, Some, MatchOption, pos, ◌≤ℤ◌};
 ghost use Rattle.nm_top.specs.Complete.{IsComplete};
-ghost use Rattle.nm_top.specs.Session.{Ending, Ends, IsRun, mail_told, outside, told, words_fault};
+ghost use Rattle.nm_top.specs.Session.{Ending, Ends, IsRun, outside, words_fault};
 
 use crate::ending::{print_all, refuse, refuse_words, say_last, status_of_run};
 use crate::session::run_lines;
@@ -30,17 +30,17 @@ pub fn notmuch<M: Maildir, I: Source, O: Sink, E: Sink>(
     requires from_1970 { pos 0 ≤ℤ setting.now.moment }
     requires moment { setting.now.moment ≤ℤ pos 253000000000 }
     ensures history { (ending : Ending) × (script : List ℕ) × Ends ending script words.now
-        (outside (mail_told (M.observed mail.old).tree (M.observed mail.old).reads (M.observed mail.old).faults) (told (I.observed input.old).bytes (I.observed input.old).faults)
-        (told (O.observed out.old).bytes (O.observed out.old).faults) (told (E.observed err.old).bytes (E.observed err.old).faults))
-        (outside (mail_told (M.observed mail.new).tree (M.observed mail.new).reads (M.observed mail.new).faults) (told (I.observed input.new).bytes (I.observed input.new).faults)
-        (told (O.observed out.new).bytes (O.observed out.new).faults) (told (E.observed err.new).bytes (E.observed err.new).faults)) result }
+        (outside (M.observed mail.old) (I.observed input.old)
+        (O.observed out.old) (E.observed err.old))
+        (outside (M.observed mail.new) (I.observed input.new)
+        (O.observed out.new) (E.observed err.new)) result }
 
     // Where nothing is in its way, the script is answered to its end.
     ensures complete { IsComplete words.now
-        (outside (mail_told (M.observed mail.old).tree (M.observed mail.old).reads (M.observed mail.old).faults) (told (I.observed input.old).bytes (I.observed input.old).faults)
-        (told (O.observed out.old).bytes (O.observed out.old).faults) (told (E.observed err.old).bytes (E.observed err.old).faults))
-        (outside (mail_told (M.observed mail.new).tree (M.observed mail.new).reads (M.observed mail.new).faults) (told (I.observed input.new).bytes (I.observed input.new).faults)
-        (told (O.observed out.new).bytes (O.observed out.new).faults) (told (E.observed err.new).bytes (E.observed err.new).faults)) result }
+        (outside (M.observed mail.old) (I.observed input.old)
+        (O.observed out.old) (E.observed err.old))
+        (outside (M.observed mail.new) (I.observed input.new)
+        (O.observed out.new) (E.observed err.new)) result }
 {
     match fault_of(words) {
         Some((kind, word)) => refuse_words(alloc, err, kind, word),
@@ -85,10 +85,10 @@ fn read_and_run<M: Maildir, I: Source, O: Sink, E: Sink>(
     err: &mut E,
 ) -> Done
     ensures { (words : List (List ℕ)) → words_fault words ≡ None → (ending : Ending) × (script : List ℕ) × Ends ending script words
-        (outside (mail_told (M.observed mail.old).tree (M.observed mail.old).reads (M.observed mail.old).faults) (told (I.observed input.old).bytes (I.observed input.old).faults)
-        (told (O.observed out.old).bytes (O.observed out.old).faults) (told (E.observed err.old).bytes (E.observed err.old).faults))
-        (outside (mail_told (M.observed mail.new).tree (M.observed mail.new).reads (M.observed mail.new).faults) (told (I.observed input.new).bytes (I.observed input.new).faults)
-        (told (O.observed out.new).bytes (O.observed out.new).faults) (told (E.observed err.new).bytes (E.observed err.new).faults)) result }
+        (outside (M.observed mail.old) (I.observed input.old)
+        (O.observed out.old) (E.observed err.old))
+        (outside (M.observed mail.new) (I.observed input.new)
+        (O.observed out.new) (E.observed err.new)) result }
 {
     match take_all(alloc, input, MOST_INPUT) {
         Ok(bytes) => match read_script(alloc, bytes.as_slice()) {
@@ -111,9 +111,9 @@ fn run_script<M: Maildir, O: Sink, E: Sink>(
     err: &mut E,
 ) -> Done
     ensures { IsRun script.now
-        (mail_told (M.observed mail.old).tree (M.observed mail.old).reads (M.observed mail.old).faults) (mail_told (M.observed mail.new).tree (M.observed mail.new).reads (M.observed mail.new).faults)
-        (told (O.observed out.old).bytes (O.observed out.old).faults) (told (O.observed out.new).bytes (O.observed out.new).faults)
-        (told (E.observed err.old).bytes (E.observed err.old).faults) (told (E.observed err.new).bytes (E.observed err.new).faults) result }
+        (M.observed mail.old) (M.observed mail.new)
+        (O.observed out.old) (O.observed out.new)
+        (E.observed err.old) (E.observed err.new) result }
 {
     let run = run_lines(alloc, script, mail);
     let out_failed = print_all(out, run.logs.as_slice());

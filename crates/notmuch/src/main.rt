@@ -1,13 +1,13 @@
-//! The program `notmuch`: one run of the top call over the folder `mail`, the standard streams and the clock.
+//! Commands and replies: the program `notmuch` is one run of the top call over the folder `mail`, the standard streams and the clock.
 #![tactic(auto)]
 
 ghost use Rattle.std.specs.Prelude.{pos, ◌≤ℤ◌};
 
 use nm_base::{Many, NoMemory, Text, UsageKind};
 use nm_io::{Sink, StdSink, StdSource};
-use nm_log::{Setting, print_usage};
+use nm_log::print_usage;
 use nm_maildir::FolderMail;
-use nm_top::notmuch;
+use nm_top::{Setting, notmuch};
 use std::alloc::Global;
 use std::process::ExitCode;
 use std::random::RandomSource;

@@ -1,23 +1,27 @@
-use Rattle.std.proofs.Common.{refl, ◌∙◌}
-use Rattle.nm_top.proofs.ReadLemmas.{begun_read, ended_read, next_read, stops_read}
+use Rattle.std.proofs.Common.{refl, rules}
+use Rattle.std.proofs.lemmas.Iterator.Adapters.{YieldsList-from_vec}
+use Rattle.std.proofs.lemmas.Iterator.Consumers.{YieldsList-turn}
+use Rattle.nm_top.proofs.ReadLemmas.{begun_read, front_more, next_read, stops_read}
 use Rattle.nm_top.proofs.reading.read_all.Goals as goal
 
 pub files-init : goal.files-init
-files-init g c = record { read = begun_read _ _ _ c.new-arrivals.result c.new-arrivals.ensures; tree = refl; cause = refl }
+files-init g c = record { read = begun_read _ _ c.new-arrivals.result c.new-arrivals.ensures; front = refl }
+
+pub files-preserved : goal.files-preserved
+files-preserved g c =
+    let mail = g.M.Maildir in
+    let turn = YieldsList-turn (YieldsList-from_vec {s = c.into_iter-path-iterator.result} c.args.paths (search rules) (search rules))
+    c.files.yielded c.files.path-iterator c.files.yielded_by c.next.result c.next.new.self c.in-Some.path c.in-Some.is c.next.ensures.steps in
+    record {
+      read = next_read (mail.observed c.args.mail.now) (mail.observed c.files.mail) (mail.observed c.read_next.new.mail) c.args.noted.now c.files.noted c.read_next.new.noted
+          c.files.yielded c.in-Some.path c.files.arrivals c.read_next.new.arrivals c.files.invariant.read c.in_ok-read_next.ensures.ok;
+      front = front_more c.args.paths c.files.yielded c.in-Some.path c.files.invariant.front turn.0 turn.1;
+    }
 
 pub returns-in_err-read_next-clause-so_far : goal.returns-in_err-read_next-clause-so_far
 returns-in_err-read_next-clause-so_far g c =
-    stops_read (g.M.Maildir.observed c.args.mail.now).tree (g.M.Maildir.observed c.files.mail).tree (g.M.Maildir.observed c.args.mail.now).reads (g.M.Maildir.observed c.files.mail).reads (g.M.Maildir.observed c.read_next.new.mail).reads c.args.noted.now c.files.noted c.read_next.new.noted
-    c.args.paths.now c.files.path-index c.path-item.result c.files.arrivals c.files-test.true c.path-item.is c.files.invariant.tree c.files.invariant.read c.read_next.ensures.so_far
-
-pub files-preserved : goal.files-preserved
-files-preserved g c = record {
-  read = next_read (g.M.Maildir.observed c.args.mail.now).tree (g.M.Maildir.observed c.files.mail).tree (g.M.Maildir.observed c.args.mail.now).reads (g.M.Maildir.observed c.files.mail).reads (g.M.Maildir.observed c.read_next.new.mail).reads c.args.noted.now c.files.noted c.read_next.new.noted
-      c.args.paths.now c.files.path-index c.path-item.result c.files.arrivals c.read_next.new.arrivals c.files-test.true c.path-item.is c.files.invariant.tree c.files.invariant.read c.in_ok-read_next.ensures.ok;
-  tree = c.read_next.ensures.tree ∙ c.files.invariant.tree;
-  cause = c.in_ok-read_next.ensures.cause ∙ c.files.invariant.cause;
-}
-
-pub returns-clause-so_far : goal.returns-clause-so_far
-returns-clause-so_far g c =
-    ended_read (g.M.Maildir.observed c.args.mail.now).tree (g.M.Maildir.observed c.args.mail.now).reads (g.M.Maildir.observed c.files.mail).reads c.args.noted.now c.files.noted c.args.paths.now c.files.path-index c.files.arrivals c.files-test.false c.files.invariant.read
+    let mail = g.M.Maildir in
+    let turn = YieldsList-turn (YieldsList-from_vec {s = c.into_iter-path-iterator.result} c.args.paths (search rules) (search rules))
+    c.files.yielded c.files.path-iterator c.files.yielded_by c.next.result c.next.new.self c.in-Some.path c.in-Some.is c.next.ensures.steps in
+    stops_read (mail.observed c.args.mail.now) (mail.observed c.files.mail) (mail.observed c.read_next.new.mail) c.args.noted.now c.files.noted c.read_next.new.noted
+    c.args.paths c.files.yielded c.in-Some.path c.files.arrivals c.files.invariant.front turn.0 turn.1 c.files.invariant.read c.read_next.ensures.so_far

@@ -1,10 +1,12 @@
-use Rattle.std.proofs.Common.{◌≡◌, take}
+use Rattle.std.proofs.Common.{◌≡◌, length, take}
 use Rattle.nm_top.specs.Steps.{HasReadAll}
 use Rattle.nm_top.proofs.reading.read_all.Given as goal
 
+-- the paths so far were read, and they are the first
 abbrev pub invariant-files : goal.invariant-files
-invariant-files g l = record {
-  read : HasReadAll (g.M.Maildir.observed l.initial.mail).tree (g.M.Maildir.observed l.initial.mail).reads (g.M.Maildir.observed l.mail).reads l.initial.noted l.noted (take l.path-index l.paths) l.arrivals;
-  tree : (g.M.Maildir.observed l.mail).tree ≡ (g.M.Maildir.observed l.initial.mail).tree;
-  cause : (g.M.Maildir.observed l.mail).faults ≡ (g.M.Maildir.observed l.initial.mail).faults;
-}
+invariant-files g l =
+    let mail = g.M.Maildir in
+    record {
+      read : HasReadAll (mail.observed l.initial.mail) (mail.observed l.mail) l.initial.noted l.noted l.yielded l.arrivals;
+      front : l.yielded ≡ take (length l.yielded) l.fn.paths;
+    }

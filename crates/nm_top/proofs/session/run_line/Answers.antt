@@ -1,4 +1,6 @@
-use Rattle.std.proofs.Common.{refl}
+use Rattle.std.proofs.Common.{ℕ, List, refl, subst}
+use Rattle.nm_log.specs.Ask.{asked_of}
+use Rattle.nm_top.specs.Line.{AsksMail}
 use Rattle.nm_top.proofs.LineLemmas.{line_answer}
 use Rattle.nm_top.proofs.NewLemmas.{asked_lean}
 use Rattle.nm_top.proofs.session.run_line.Goals as goal
@@ -7,9 +9,9 @@ pub returns-clause-answers : goal.returns-clause-answers
 returns-clause-answers g c = λ old stands.
     let mail = g.M.Maildir in
     let done = c.answer-answered in
-    let leaves = line_answer (mail.observed c.args.mail.now).tree (mail.observed done.new.mail).tree (mail.observed c.args.mail.now).reads (mail.observed done.new.mail).reads (mail.observed c.args.mail.now).faults (mail.observed done.new.mail).faults c.args.index.now done.new.index
+    let leaves = line_answer (mail.observed c.args.mail.now) (mail.observed done.new.mail) c.args.index.now done.new.index
     old c.args.line.now.text c.as_slice.result.now done.new.given c.args.spare done.result c.answered_or-outcome.result stands c.as_slice.ensures c.answered_or-outcome.ensures c.requires.spare done.ensures.err (done.ensures.ok old stands) in
-    let asked = asked_lean (mail.observed c.args.mail.now).tree (mail.observed c.args.mail.now).reads (mail.observed done.new.mail).reads c.args.index.now old done.new.given stands done.ensures.asked in
+    let asked = asked_lean (asked_of c.as_slice.result.now) (mail.observed c.args.mail.now) (mail.observed done.new.mail) c.args.index.now old done.new.given stands done.ensures.asked in
     record {
       index = leaves.index;
       stands = leaves.stands;
@@ -20,9 +22,8 @@ returns-clause-answers g c = λ old stands.
         revision = leaves.stands.revision;
         status = c.line_status.ensures;
         answer = leaves.holds;
-        told = asked.told;
+        asks = subst (λ (line : List ℕ). AsksMail (asked_of line) (mail.observed c.args.mail.now) (mail.observed done.new.mail) old.files done.new.given) c.as_slice.ensures asked;
         tree = done.ensures.tree;
-        reads = record { listed = asked.listed; listed_is = asked.listed_is; rising = asked.rising; count = asked.count; read = asked.read };
         faults = c.faults.ensures;
         never_falls = done.ensures.never_falls;
       };

@@ -1,8 +1,9 @@
-use Rattle.std.proofs.Common.{[], take, drop, refl, sym, ap, ◌∙◌, append-nil, take-append-drop, arith}
-use Rattle.std.proofs.lemmas.Bool.{false≢true}
+use Rattle.std.proofs.Common.{[], length, take, drop, refl, sym, ap, ◌∙◌, append-nil, take-append-drop, arith}
+use Rattle.std.proofs.lemmas.List.{length-drop}
 use Rattle.nm_commit.specs.Index.{empty_index}
 use Rattle.nm_top.specs.Session.{opening_state}
-use Rattle.nm_top.specs.Steps.{state_with}
+use Rattle.nm_top.specs.State.{state_with}
+use Rattle.nm_top.proofs.FoldLemmas.{some_is}
 use Rattle.nm_top.proofs.RunLemmas.{run_all, run_logs, run_next, run_none}
 use Rattle.nm_top.proofs.session.run_lines.Goals as goal
 
@@ -12,9 +13,9 @@ returns-in_default g c =
     record {
       ran = take c.lines.line-index c.args.lines.now;
       unrun = drop c.lines.line-index c.args.lines.now;
-      last = state_with (mail.observed c.lines.mail).tree (mail.observed c.lines.mail).reads (mail.observed c.lines.mail).faults c.lines.invariant.run.index;
+      last = state_with (mail.observed c.lines.mail) c.lines.invariant.run.index;
       lines_are = sym (take-append-drop c.lines.line-index c.args.lines.now);
-      all = λ e. absurd (false≢true e);
+      all = sym (some_is (length (drop c.lines.line-index c.args.lines.now)) (omega (arith, length-drop c.lines.line-index c.args.lines.now)));
       run = run_logs _ _ _ c.lines.logs.0 _ c.lines.steps.0 _ (c.into_many.ensures ∙ c.make_room.ensures.logs) (c.into_many-in_default.ensures ∙ c.make_room.ensures.steps) c.lines.invariant.run.holds;
       mail = refl;
     }
@@ -26,7 +27,7 @@ lines-init g c =
       run = record {
         index = empty_index;
         stands = record { files = c.new.ensures; revision = refl };
-        holds = run_none (opening_state (record { tree = (mail.observed c.args.mail.now).tree; reads = (mail.observed c.args.mail.now).reads; faults = (mail.observed c.args.mail.now).faults })) _ _ (ap (λ r. r.0) c.new-logs.ensures) (ap (λ r. r.0) c.new-steps.ensures);
+        holds = run_none (opening_state (mail.observed c.args.mail.now)) _ _ (ap (λ r. r.0) c.new-logs.ensures) (ap (λ r. r.0) c.new-steps.ensures);
       };
       few = omega arith;
     }
@@ -40,7 +41,7 @@ lines-preserved g c =
       run = record {
         index = after.index;
         stands = after.stands;
-        holds = run_next _ (state_with (mail.observed c.lines.mail).tree (mail.observed c.lines.mail).reads (mail.observed c.lines.mail).faults before.index) _ c.args.lines.now c.lines.line-index c.line-item.result c.lines.logs.0 c.make_room.new.logs.0 _ _ c.lines.steps.0 c.make_room.new.steps.0 _ _
+        holds = run_next _ (state_with (mail.observed c.lines.mail) before.index) _ c.args.lines.now c.lines.line-index c.line-item.result c.lines.logs.0 c.make_room.new.logs.0 _ _ c.lines.steps.0 c.make_room.new.steps.0 _ _
             c.lines-test.true c.line-item.is c.make_room.ensures.logs c.push_spare.ensures.list c.make_room.ensures.steps c.add_steps.ensures before.holds after.holds;
       };
       few = omega (arith, c.run_line-log.ensures.grows, c.lines.invariant.few);
@@ -52,9 +53,9 @@ returns g c =
     record {
       ran = c.args.lines.now;
       unrun = [];
-      last = state_with (mail.observed c.lines.mail).tree (mail.observed c.lines.mail).reads (mail.observed c.lines.mail).faults c.lines.invariant.run.index;
+      last = state_with (mail.observed c.lines.mail) c.lines.invariant.run.index;
       lines_are = sym (append-nil c.args.lines.now);
-      all = λ e. refl;
+      all = refl;
       run = run_all _ _ c.args.lines.now c.lines.line-index c.lines.logs.0 _ c.lines.steps.0 _ c.lines-test.false c.into_many-2.ensures c.into_many-3.ensures c.lines.invariant.run.holds;
       mail = refl;
     }
