@@ -195,6 +195,25 @@ def tour_is_true():
         yield f"README.md: the tour does not print what it says (status {ran.returncode})"
 
 
+def rows_of_documents_are_right():
+    """The example rows of docs/TESTING.md are right, by the programs that run rows."""
+    text = read(f"{ROOT}/docs/TESTING.md")
+    for title, crate in ("### Rows on reading one mail", "rows_mail"), ("### Rows on sessions", "rows_session"):
+        if f"\n{title}\n" not in text:
+            continue
+        part = text.partition(title)[2].partition("\n### ")[0]
+        table = "\n".join(re.findall(r"^```text\n(.*?)^```", part, re.M | re.S))
+        program = f"{ROOT}/crates/{crate}/out/{crate}"
+        if not os.path.isfile(program):
+            yield f"docs/TESTING.md: its rows were not run: {crate} is not built"
+            continue
+        how = {"input": table.encode(), "capture_output": True, "timeout": SECONDS, "check": False}
+        lines = subprocess.run([program], **how).stdout.decode(errors="replace").splitlines()
+        yield from (f"docs/TESTING.md: {it}" for it in lines if it.startswith(("WRONG", "BROKEN")))
+        if sum(it.startswith("ok ") for it in lines) != len(re.findall(r"^\w[^\n]*: ", table, re.M)):
+            yield f"docs/TESTING.md: not all of its rows are run by {crate}"
+
+
 def readme_names_all_crates():
     """The README has one row for each crate."""
     rows = [cells(it)[0] for it in read(f"{ROOT}/README.md").splitlines() if it.startswith("| `")]
@@ -262,6 +281,7 @@ CHECKS = [
     proofs_stay_inside,
     readme_names_all_crates,
     tour_is_true,
+    rows_of_documents_are_right,
     links_lead_somewhere,
     named_files_are_there,
     messages_are_clean,
