@@ -1,15 +1,12 @@
 -- The date of a mail (RFC 5322, section 3.3), as `jiff` reads it, without comments.
-use Rattle.std.specs.Prelude.{ℕ, ℤ, pos, negsuc, Bool, ◌&&◌, List, Result, Ok, Err, int_div, int_le, ◌≤ℤ◌, false, slice_get, codes, Option, Some, None, if◌then◌else◌}
+use Rattle.std.specs.Prelude.{ℕ, ℤ, pos, List, Result, Ok, Err, int_div, false, slice_get, codes, Option, Some, None, if◌then◌else◌}
 use Rattle.jiff_core.specs.declared.error.Error.{Error}
 use Rattle.jiff_fmt.specs.Rfc2822.{timestamp}
+use Rattle.nm_base.specs.Limits.{is_date}
 use Rattle.nm_text.specs.WhiteSpace.{trimmed}
 use Rattle.nm_header.specs.Pieces.{plain_of}
 use Rattle.nm_header.specs.Texts.{texts_of}
 use Rattle.nm_header.specs.declared.header.HeaderField.{HeaderField}
-
--- from the year 1 up to the last second that is taken
-abbrev pub is_date : ℤ → Bool
-is_date second = int_le (negsuc 62135596799) second && int_le second (pos 253000000000)
 
 -- a second out of the range counts as none was read
 abbrev pub kept_second : ℤ → ℤ
@@ -32,7 +29,3 @@ first_second (Some text) = second_of text
 -- the second that the first Date says, or 0
 abbrev pub date_of : List HeaderField → ℤ
 date_of fields = first_second (slice_get (texts_of fields (codes "date")) 0)
-
--- the same range, as a fact
-abbrev pub IsDate : ℤ → Type 0
-IsDate second = (negsuc 62135596799 ≤ℤ second) × (second ≤ℤ pos 253000000000)

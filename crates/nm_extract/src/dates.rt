@@ -1,5 +1,6 @@
 ghost use Rattle.std.specs.Prelude.{◌≡◌, IfOk};
-ghost use Rattle.nm_extract.specs.Date.{IsDate, date_of, kept_second, second_of};
+ghost use Rattle.nm_base.specs.Limits.{IsDate};
+ghost use Rattle.nm_extract.specs.Date.{date_of, kept_second, second_of};
 
 use jiff::Timestamp;
 use jiff::fmt::rfc2822::DateTimeParser;

@@ -1,12 +1,10 @@
 ghost use Rattle.std.specs.Prelude.{◌≡◌, ◌++◌, IfOk, OnOk};
-ghost use Rattle.nm_base.specs.Order.{has_text};
 ghost use Rattle.nm_extract.specs.Ids.{digest_id, field_ids, links_among, named_ids, own_id};
 
-use nm_base::{Copies, Many, MessageId, NoMemory, Text};
+use nm_base::{Copies, Many, MessageId, NoMemory, Text, TextSet};
 use nm_header::{HeaderList, ids};
 use sha1::Sha1;
 use std::alloc::Global;
-use std::collections::BTreeSet;
 
 /// The first id of the Message-ID, or where there is none one that is made of the SHA-1 of the bytes.
 pub(crate) fn own_id(
@@ -82,20 +80,14 @@ fn links_among(
     ensures { IfOk result (λ links. links ≡ links_among own.now ids.now) }
 {
     let mut links = Many::new(alloc);
-    let mut seen = BTreeSet::new(alloc);
+    let mut seen = TextSet::new(alloc);
     seen.insert(own.copy()?)?;
     'ids: for id in ids {
-        if has_id(&seen, id) {
+        if seen.contains(id) {
             continue;
         }
         seen.insert(id.copy()?)?;
         links.push(id.copy()?)?;
     }
     Ok(links)
-}
-
-fn has_id(seen: &BTreeSet<MessageId>, id: &MessageId) -> bool
-    ensures { result ≡ has_text seen.now.keys id.now }
-{
-    seen.contains(id)
 }

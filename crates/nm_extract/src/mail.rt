@@ -1,5 +1,5 @@
 ghost use Rattle.std.specs.Prelude.{◌≡◌, Some, IfErr, IfOk};
-ghost use Rattle.nm_extract.specs.Date.{IsDate};
+ghost use Rattle.nm_base.specs.Limits.{IsDate};
 ghost use Rattle.nm_extract.specs.Mail.{IsExtractFault, facts_with, facts_of, is_mail, subject_of};
 ghost use Rattle.nm_extract.specs.PartText.{bodies_of};
 

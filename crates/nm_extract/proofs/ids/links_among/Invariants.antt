@@ -7,5 +7,5 @@ use Rattle.nm_extract.proofs.ids.links_among.Given as goal
 abbrev pub invariant-ids : goal.invariant-ids
 invariant-ids l = record {
   links : l.links ≡ fold (with_link l.own) [] (take l.id-index l.ids);
-  seen : (text : List ℕ) → has_text l.seen.keys text ≡ has_text (l.own ∷ l.links) text;
+  seen : (text : List ℕ) → has_text l.seen text ≡ has_text (l.own ∷ l.links) text;
 }
