@@ -4,7 +4,7 @@ use Rattle.jiff_core.specs.declared.error.Error.{Error}
 use Rattle.jiff_fmt.specs.Rfc2822.{timestamp}
 use Rattle.nm_base.specs.Limits.{is_date}
 use Rattle.nm_text.specs.WhiteSpace.{trimmed}
-use Rattle.nm_header.specs.Pieces.{plain_of}
+use Rattle.nm_header.specs.Comments.{plain_of}
 use Rattle.nm_header.specs.Texts.{texts_of}
 use Rattle.nm_header.specs.declared.header.HeaderField.{HeaderField}
 

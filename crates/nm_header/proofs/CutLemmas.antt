@@ -1,6 +1,6 @@
--- The first stretch of a list that is cut, and what is left behind it.
+-- The first id_text of a list that is cut, and what is left behind it.
 use Rattle.std.proofs.Common.{◌≡◌, ℕ, zero, suc, ◌-◌, ◌≤◌, List, [], ◌∷◌, length, take, drop, refl, ap, arith, length-drop}
-use Rattle.nm_header.specs.Cut.{cut, cut_upto}
+use Rattle.nm_text.specs.Cuts.{cut, cut_upto}
 
 -- the bound counts for nothing where it is large enough
 cut_upto-same : (n m : ℕ) (more : ℕ → List ℕ → ℕ) (xs : List ℕ) → length xs ≤ n → length xs ≤ m → cut_upto n more xs ≡ cut_upto m more xs

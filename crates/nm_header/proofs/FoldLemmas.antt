@@ -1,9 +1,10 @@
 -- A field that is written on two lines: how its lines are cut, and what is read of each.
 use Rattle.std.proofs.Common.{◌≡◌, ℕ, suc, ◌==◌, ◌+◌, ◌-◌, ◌<◌, Bool, true, false, cond, not, ◌&&◌, ◌||◌, List, [], ◌∷◌, ◌++◌, Some, None, length, take, drop, get_or, map, refl, sym, ap, ◌∙◌, arith, append_assoc}
+use Rattle.std.proofs.lemmas.Bool.{and_parts, or_parts}
 use Rattle.std.specs.Prelude.{is_some, nat_eq, position}
 use Rattle.std.specs.Char.{to_ascii_lowercase}
 use Rattle.std.specs.Cmp.Lexicographic.{pointwise}
-use Rattle.std.specs.List.{after_first, before_first, concat, list_all, list_any, position_or_len, prefix_len, suffix_len, take_while}
+use Rattle.std.specs.List.{after_first, before_first, concat, list_all, list_any, onto_first, position_or_len, prefix_len, suffix_len, take_while}
 use Rattle.std.specs.Str.Lines.{strip_carriage_return}
 use Rattle.std.proofs.lemmas.Bool.Decides.{Decides-ltb, nat_tests}
 use Rattle.std.proofs.lemmas.List.{append-nil, drop_at, get_or_at, length-append, take_all, take_at}
@@ -13,20 +14,10 @@ use Rattle.nm_base.specs.Bounds.{is_white_space}
 use Rattle.nm_header.specs.declared.header.HeaderField.{HeaderField}
 use Rattle.nm_header.specs.Fields.{begins_field, continues, field_of, fields_in, folded_of, header_of, is_colon, is_from_line, is_name, is_name_byte, joined_of, name_of, without_from_line}
 use Rattle.nm_header.specs.Laws.{folded, is_line_end}
-use Rattle.nm_header.specs.Lines.{content, header_lines, is_empty_line, is_line_feed, line_more, lines_of}
-use Rattle.nm_header.specs.Space.{trimmed, trimmed_end}
-use Rattle.nm_header.proofs.BodyLemmas.{or_first, or_second}
-use Rattle.nm_header.proofs.CutLemmas.{cut-nil}
+use Rattle.nm_header.specs.HeaderLines.{header_lines, is_empty_line}
+use Rattle.nm_text.specs.Lines.{content, is_line_feed, lines_of}
+use Rattle.nm_text.specs.WhiteSpace.{trimmed, trimmed_end}
 use Rattle.nm_header.proofs.HeaderLemmas.{continues_begins_none}
-use Rattle.nm_header.proofs.LineLemmas.{line_first}
-
-and_first : (a b : Bool) → (a && b) ≡ true → a ≡ true
-and_first true b e = refl
-and_first false b e = e
-
-and_second : (a b : Bool) → (a && b) ≡ true → b ≡ true
-and_second true b e = e
-and_second false b e = absurd (cc)
 
 and_false : (a : Bool) → (a && false) ≡ false
 and_false true = refl
@@ -36,20 +27,15 @@ and_false false = refl
 first_place : (p : ℕ → Bool) (front : List ℕ) (b : ℕ) (rest : List ℕ) → list_any p front ≡ false → p b ≡ true → position_or_len p (front ++ b ∷ rest) ≡ length front
 first_place p [] b rest e passes = ap (λ v. cond (not v) (1 + position_or_len p rest) 0) passes
 first_place p (x ∷ front) b rest e passes =
-    let next : position_or_len p (front ++ b ∷ rest) ≡ length front = first_place p front b rest (or_second (p x) (list_any p front) e) passes in
-    ap (λ v. cond (not v) (1 + position_or_len p (front ++ b ∷ rest)) 0) (or_first (p x) (list_any p front) e) ∙ (let more : 1 + position_or_len p (front ++ b ∷ rest) ≡ length (x ∷ front) = omega arith in more)
+    let next : position_or_len p (front ++ b ∷ rest) ≡ length front = first_place p front b rest (or_parts (p x) (list_any p front) e).1 passes in
+    ap (λ v. cond (not v) (1 + position_or_len p (front ++ b ∷ rest)) 0) (or_parts (p x) (list_any p front) e).0 ∙ (let more : 1 + position_or_len p (front ++ b ∷ rest) ≡ length (x ∷ front) = omega arith in more)
 
 -- a text without LF, and an LF behind it, are a line
 line_cut : (front rest : List ℕ) → list_any is_line_feed front ≡ false → lines_of (front ++ 10 ∷ rest) ≡ (front ++ 10 ∷ []) ∷ lines_of rest
-line_cut front rest e =
-    let all : List ℕ = front ++ 10 ∷ rest in
-    let line : List ℕ = front ++ 10 ∷ [] in
-    let long : length all ≡ length front + length (10 ∷ rest) = length-append front (10 ∷ rest) in
-    let size : length line ≡ length front + 1 = length-append front (10 ∷ []) in
-    let place : position_or_len is_line_feed all ≡ length front = first_place is_line_feed front 10 rest e refl in
-    let end : position_or_len is_line_feed all + 1 ≡ length line = omega arith in
-    let split : all ≡ line ++ rest = sym (append_assoc front (10 ∷ []) rest) in
-    line_first all (omega arith) ∙ ap (λ k. take k all ∷ lines_of (drop k all)) end ∙ ap (λ w. take (length line) w ∷ lines_of (drop (length line) w)) split ∙ ap (λ l. l ∷ lines_of (drop (length line) (line ++ rest))) (take_at line rest (length line) refl) ∙ ap (λ r. line ∷ lines_of r) (drop_at line rest (length line) refl)
+line_cut [] rest e = refl
+line_cut (b ∷ front) rest e =
+    let lines : List (List ℕ) = lines_of (front ++ 10 ∷ rest) in
+    ap (λ v. cond v ((b ∷ []) ∷ lines) (onto_first b lines)) (or_parts (is_line_feed b) (list_any is_line_feed front) e).0 ∙ ap (onto_first b) (line_cut front rest (or_parts (is_line_feed b) (list_any is_line_feed front) e).1)
 
 abbrev is_carriage_return : ℕ → Bool
 is_carriage_return b = b == 13
@@ -76,12 +62,12 @@ content_of text e =
 no_line_feed : (text : List ℕ) → list_any is_line_end text ≡ false → list_any is_line_feed text ≡ false
 no_line_feed [] e = refl
 no_line_feed (b ∷ text) e =
-    ap (λ v. v || list_any is_line_feed text) (or_second (b == 13) (b == 10) (or_first (is_line_end b) (list_any is_line_end text) e)) ∙ no_line_feed text (or_second (is_line_end b) (list_any is_line_end text) e)
+    ap (λ v. v || list_any is_line_feed text) (or_parts (b == 13) (b == 10) (or_parts (is_line_end b) (list_any is_line_end text) e).0).1 ∙ no_line_feed text (or_parts (is_line_end b) (list_any is_line_end text) e).1
 
 no_carriage_return : (text : List ℕ) → list_any is_line_end text ≡ false → list_any is_carriage_return text ≡ false
 no_carriage_return [] e = refl
 no_carriage_return (b ∷ text) e =
-    ap (λ v. v || list_any is_carriage_return text) (or_first (b == 13) (b == 10) (or_first (is_line_end b) (list_any is_line_end text) e)) ∙ no_carriage_return text (or_second (is_line_end b) (list_any is_line_end text) e)
+    ap (λ v. v || list_any is_carriage_return text) (or_parts (b == 13) (b == 10) (or_parts (is_line_end b) (list_any is_line_end text) e).0).0 ∙ no_carriage_return text (or_parts (is_line_end b) (list_any is_line_end text) e).1
 
 -- a name's byte is neither white space nor a line's end
 white_in_no_name : (b : ℕ) → is_white_space b ≡ true → is_name_byte b ≡ false
@@ -99,7 +85,7 @@ no_blank_byte b e = grind (arith, nat_tests)
 no_end_in_name : (name : List ℕ) → list_all is_name_byte name ≡ true → list_any is_line_end name ≡ false
 no_end_in_name [] e = refl
 no_end_in_name (b ∷ name) e =
-    ap (λ v. v || list_any is_line_end name) (no_end_byte b (and_first (is_name_byte b) (list_all is_name_byte name) e)) ∙ no_end_in_name name (and_second (is_name_byte b) (list_all is_name_byte name) e)
+    ap (λ v. v || list_any is_line_end name) (no_end_byte b (and_parts (is_name_byte b) (list_all is_name_byte name) e).0) ∙ no_end_in_name name (and_parts (is_name_byte b) (list_all is_name_byte name) e).1
 
 trimmed_name : (name : List ℕ) → list_all is_name_byte name ≡ true → trimmed_end name ≡ name
 trimmed_name name e =
@@ -115,17 +101,17 @@ trimmed_name name e =
 -- a line that begins with a name and a colon is not the first of an mbox
 not_from : (word name rest : List ℕ) → list_any is_colon word ≡ false → list_all is_name_byte name ≡ true → pointwise nat_eq (word ++ 32 ∷ []) (take (suc (length word)) (name ++ 58 ∷ rest)) ≡ false
 not_from [] [] rest w e = refl
-not_from [] (b ∷ name) rest w e = ap (λ v. v && true) (no_space_byte b (and_first (is_name_byte b) (list_all is_name_byte name) e))
-not_from (c ∷ word) [] rest w e = ap (λ v. v && pointwise nat_eq (word ++ 32 ∷ []) (take (suc (length word)) rest)) (or_first (is_colon c) (list_any is_colon word) w)
+not_from [] (b ∷ name) rest w e = ap (λ v. v && true) (no_space_byte b (and_parts (is_name_byte b) (list_all is_name_byte name) e).0)
+not_from (c ∷ word) [] rest w e = ap (λ v. v && pointwise nat_eq (word ++ 32 ∷ []) (take (suc (length word)) rest)) (or_parts (is_colon c) (list_any is_colon word) w).0
 not_from (c ∷ word) (b ∷ name) rest w e =
-    ap (λ v. nat_eq c b && v) (not_from word name rest (or_second (is_colon c) (list_any is_colon word) w) (and_second (is_name_byte b) (list_all is_name_byte name) e)) ∙ and_false (nat_eq c b)
+    ap (λ v. nat_eq c b && v) (not_from word name rest (or_parts (is_colon c) (list_any is_colon word) w).1 (and_parts (is_name_byte b) (list_all is_name_byte name) e).1) ∙ and_false (nat_eq c b)
 
 some_name : (name : List ℕ) → is_name name ≡ true → list_all is_name_byte name ≡ true
-some_name name e = and_second (not (length name == 0)) (list_all is_name_byte name) e
+some_name name e = (and_parts (not (length name == 0)) (list_all is_name_byte name) e).1
 
 no_continuing : (name rest : List ℕ) → is_name name ≡ true → continues (name ++ rest) ≡ false
 no_continuing [] rest e = absurd (cc)
-no_continuing (b ∷ name) rest e = no_blank_byte b (and_first (is_name_byte b) (list_all is_name_byte name) (some_name (b ∷ name) e))
+no_continuing (b ∷ name) rest e = no_blank_byte b (and_parts (is_name_byte b) (list_all is_name_byte name) (some_name (b ∷ name) e)).0
 
 still_continues : (back rest : List ℕ) → continues back ≡ true → continues (back ++ rest) ≡ true
 still_continues [] rest e = absurd (cc)
@@ -186,10 +172,10 @@ module _ (name front back : List ℕ) (e : is_name name ≡ true) (colon : list_
   second = back ++ 10 ∷ []
 
   no_end_in_front : list_any is_line_end front ≡ false
-  no_end_in_front = or_first (list_any is_line_end front) (list_any is_line_end back) (sym (list_any-append is_line_end front back) ∙ ends)
+  no_end_in_front = (or_parts (list_any is_line_end front) (list_any is_line_end back) (sym (list_any-append is_line_end front back) ∙ ends)).0
 
   no_end_in_back : list_any is_line_end back ≡ false
-  no_end_in_back = or_second (list_any is_line_end front) (list_any is_line_end back) (sym (list_any-append is_line_end front back) ∙ ends)
+  no_end_in_back = (or_parts (list_any is_line_end front) (list_any is_line_end back) (sym (list_any-append is_line_end front back) ∙ ends)).1
 
   no_end_in_text : list_any is_line_end text ≡ false
   no_end_in_text = list_any-append is_line_end name (58 ∷ 32 ∷ front) ∙ ap (λ v. v || list_any is_line_end front) (no_end_in_name name (some_name name e)) ∙ no_end_in_front
@@ -202,7 +188,7 @@ module _ (name front back : List ℕ) (e : is_name name ≡ true) (colon : list_
 
   three_lines : lines_of (folded name front back) ≡ first ∷ second ∷ (10 ∷ []) ∷ []
   three_lines =
-      line_cut text (back ++ 10 ∷ 10 ∷ []) (no_line_feed text no_end_in_text) ∙ ap (λ l. first ∷ l) (line_cut back (10 ∷ []) (no_line_feed back no_end_in_back) ∙ ap (λ l. second ∷ l) (line_cut [] [] refl ∙ ap (λ l. (10 ∷ []) ∷ l) (cut-nil line_more)))
+      line_cut text (back ++ 10 ∷ 10 ∷ []) (no_line_feed text no_end_in_text) ∙ ap (λ l. first ∷ l) (line_cut back (10 ∷ []) (no_line_feed back no_end_in_back) ∙ ap (λ l. second ∷ l) (line_cut [] [] refl))
 
   abbrev is_some_line : List ℕ → Bool
   is_some_line line = not (is_empty_line line)

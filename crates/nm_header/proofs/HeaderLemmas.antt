@@ -1,15 +1,14 @@
 -- The first line of a header, and what is left behind it.
 use Rattle.std.proofs.Common.{◌≡◌, ℕ, zero, suc, ◌==◌, ◌+◌, ◌-◌, ◌<◌, ◌≤◌, true, false, cond, not, ◌&&◌, List, [], ◌∷◌, ◌++◌, length, take, drop, refl, sym, ap, ◌∙◌, arith, map, length-drop, append_assoc}
-use Rattle.std.specs.List.{take_while, concat, position_or_len}
+use Rattle.std.specs.List.{concat, onto_first, take_while}
 use Rattle.std.proofs.lemmas.List.{length-take-le}
 use Rattle.std.proofs.lemmas.Bool.{eqb-true}
 use Rattle.std.proofs.lemmas.List.Sums.{take_while-cons}
-use Rattle.nm_header.specs.Cut.{length_through}
-use Rattle.nm_header.specs.Lines.{BeginsWithLine, LeavesOf, content, header_lines, is_empty_line, is_line_feed, lines_of, line_more, rest_of}
+use Rattle.nm_text.specs.Cuts.{length_through}
+use Rattle.nm_header.specs.HeaderLines.{BeginsWithLine, LeavesOf, header_lines, is_empty_line, rest_of}
+use Rattle.nm_text.specs.Lines.{content, is_line_feed, lines_of}
 use Rattle.std.specs.Prelude.{is_some, position}
 use Rattle.nm_header.specs.Fields.{begins_field, continues, field_of, fields_in, folded_of, is_colon, is_name, name_of}
-use Rattle.nm_header.proofs.CutLemmas.{cut-nil}
-use Rattle.nm_header.proofs.LineLemmas.{line_first}
 
 -- a first line that is not empty begins the header
 pub header_begins : (bs : List ℕ) (n : ℕ) → lines_of bs ≡ take n bs ∷ lines_of (drop n bs) → is_empty_line (take n bs) ≡ false → 0 < n → n ≤ length bs → BeginsWithLine bs n
@@ -29,14 +28,14 @@ header_ends bs n e empty =
 
 -- and without bytes there is none
 pub header-nil : header_lines [] ≡ []
-header-nil = ap (λ l. take_while (λ line. not (is_empty_line line)) l) (cut-nil line_more)
+header-nil = refl
 
 pub rest-nil : rest_of [] ≡ 0
-rest-nil = ap (λ l. length_through is_empty_line l) (cut-nil line_more)
+rest-nil = refl
 
 -- where the header has no line the first line is empty, and the body begins behind it
-pub rest_behind : (bs : List ℕ) (n : ℕ) → lines_of bs ≡ take n bs ∷ lines_of (drop n bs) → 0 < n → n ≤ length bs → header_lines bs ≡ [] → n ≡ rest_of bs
-rest_behind bs n e some within none =
+pub rest_after : (bs : List ℕ) (n : ℕ) → lines_of bs ≡ take n bs ∷ lines_of (drop n bs) → 0 < n → n ≤ length bs → header_lines bs ≡ [] → n ≡ rest_of bs
+rest_after bs n e some within none =
     let long : length (take n bs) ≡ n = length-take-le n bs within in
     elim (is_empty_line (take n bs)) as (λ v. is_empty_line (take n bs) ≡ v → n ≡ rest_of bs) [
       | true ↦ λ h. sym (ap (λ l. length_through is_empty_line l) e ∙ ap (λ v. cond v (length (take n bs)) (length (take n bs) + rest_of (drop n bs))) h ∙ long)
@@ -57,18 +56,28 @@ continues_front bs zero h = absurd (omega arith)
 continues_front [] (suc n) h = refl
 continues_front (b ∷ bs) (suc n) h = refl
 
--- where the first line does not, none does
+-- the first line begins with the first byte
+onto_front : (b : ℕ) (lines : List (List ℕ)) → (line : List ℕ) × (more : List (List ℕ)) × (onto_first b lines ≡ (b ∷ line) ∷ more)
+onto_front b [] = ([], [], refl)
+onto_front b (line ∷ lines) = (line, lines, refl)
+
+first_front : (b : ℕ) (bs : List ℕ) → (line : List ℕ) × (more : List (List ℕ)) × (lines_of (b ∷ bs) ≡ (b ∷ line) ∷ more)
+first_front b bs =
+    elim (is_line_feed b) as (λ v. (line : List ℕ) × (more : List (List ℕ)) × (cond v ((b ∷ []) ∷ lines_of bs) (onto_first b (lines_of bs)) ≡ (b ∷ line) ∷ more)) [
+      | true ↦ ([], lines_of bs, refl)
+      | false ↦ onto_front b (lines_of bs)
+    ]
+
+-- where the first line does not continue a field, none does
 pub folded_none : (bs : List ℕ) → continues bs ≡ false → take_while continues (header_lines bs) ≡ []
 folded_none [] e = ap (λ l. take_while continues l) header-nil
 folded_none (b ∷ bs) e =
-    let n : ℕ = position_or_len is_line_feed (b ∷ bs) + 1 in
-    let line : List ℕ = take n (b ∷ bs) in
-    let more : List (List ℕ) = lines_of (drop n (b ∷ bs)) in
-    let first : lines_of (b ∷ bs) ≡ line ∷ more = line_first (b ∷ bs) (omega arith) in
-    let no : continues line ≡ false = continues_front (b ∷ bs) n (omega arith) ∙ e in
-    ap (λ l. take_while continues (take_while (λ x. not (is_empty_line x)) l)) first ∙ ap (λ l. take_while continues l) (take_while-cons (λ x. not (is_empty_line x)) line more) ∙ elim (is_empty_line line) as (λ v. take_while continues (cond (not v) (line ∷ take_while (λ x. not (is_empty_line x)) more) []) ≡ []) [
+    let first = first_front b bs in
+    let line : List ℕ = b ∷ first.0 in
+    let more : List (List ℕ) = first.1 in
+    ap (λ l. take_while continues (take_while (λ x. not (is_empty_line x)) l)) first.2 ∙ ap (λ l. take_while continues l) (take_while-cons (λ x. not (is_empty_line x)) line more) ∙ elim (is_empty_line line) as (λ v. take_while continues (cond (not v) (line ∷ take_while (λ x. not (is_empty_line x)) more) []) ≡ []) [
       | true ↦ refl
-      | false ↦ take_while-cons continues line (take_while (λ x. not (is_empty_line x)) more) ∙ ap (λ v. cond v (line ∷ take_while continues (take_while (λ x. not (is_empty_line x)) more)) []) no
+      | false ↦ take_while-cons continues line (take_while (λ x. not (is_empty_line x)) more) ∙ ap (λ v. cond v (line ∷ take_while continues (take_while (λ x. not (is_empty_line x)) more)) []) e
     ]
 
 -- a line that continues a field adds to it, and begins none

@@ -1,5 +1,6 @@
--- The laws, by induction over the stretches, the lines and the ids.
+-- The laws, by induction over the id_texts, the lines and the ids.
 use Rattle.std.proofs.Common.{◌≡◌, ℕ, zero, suc, ◌+◌, ◌-◌, ◌≤◌, Bool, true, false, cond, not, ◌&&◌, ◌||◌, ◌==◌, List, [], ◌∷◌, ◌++◌, length, take, drop, refl, sym, ap, ◌∙◌, arith, append_assoc, length-drop}
+use Rattle.std.proofs.lemmas.Bool.{and_parts, or_parts}
 use Rattle.std.specs.List.{concat, list_all, list_any, onto_first, slice_split, take_while}
 use Rattle.std.proofs.lemmas.List.{append-nil, drop_at, drop-drop, take-append-drop}
 use Rattle.std.proofs.lemmas.List.Sums.{take_while-cons}
@@ -7,23 +8,12 @@ use Rattle.std.proofs.lemmas.List.Splits.{slice_split-cons_no}
 use Rattle.nm_header.proofs.IdLemmas.{closed-cons}
 use Rattle.nm_base.specs.MessageId.{is_id_byte, is_id_text, is_message_id}
 use Rattle.nm_base.specs.Bounds.{fits_length, is_white_space}
-use Rattle.nm_header.specs.Cut.{cut, cut_upto, length_through}
-use Rattle.nm_header.specs.Ids.{closed, ids_in, ids_of, is_close}
-use Rattle.nm_header.specs.Laws.{line_behind_header, put_together, written}
-use Rattle.nm_header.specs.Lines.{header_lines, is_empty_line, line_more, lines_of, rest_of}
-use Rattle.nm_header.specs.Space.{without_space}
-
-concat-cut_upto : (n : ℕ) (more : ℕ → List ℕ → ℕ) (xs : List ℕ) → length xs ≤ n → concat (cut_upto n more xs) ≡ xs
-concat-cut_upto zero more [] h = refl
-concat-cut_upto zero more (x ∷ xs) h = absurd (omega arith)
-concat-cut_upto (suc n) more [] h = refl
-concat-cut_upto (suc n) more (x ∷ xs) h =
-    let left : length (drop (more x xs) xs) ≡ length xs - more x xs = length-drop (more x xs) xs in
-    ap (λ rest. (x ∷ take (more x xs) xs) ++ rest) (concat-cut_upto n more (drop (more x xs) xs) (omega arith)) ∙ ap (λ l. x ∷ l) (take-append-drop (more x xs) xs)
-
-pub concat-cut : (more : ℕ → List ℕ → ℕ) (xs : List ℕ) → concat (cut more xs) ≡ xs
-unfolding cut
-concat-cut more xs = concat-cut_upto (length xs) more xs (omega arith)
+use Rattle.nm_text.specs.Cuts.{cut, cut_upto, length_through}
+use Rattle.nm_header.specs.Ids.{closed, ids_in, ids_of, is_greater_than}
+use Rattle.nm_header.specs.Laws.{line_after_header, put_together, written}
+use Rattle.nm_header.specs.HeaderLines.{header_lines, is_empty_line, rest_of}
+use Rattle.nm_text.specs.Lines.{lines_of}
+use Rattle.nm_text.specs.WhiteSpace.{without_white_space}
 
 -- lines up to the first that passes, that one, and what is left
 all_lines : (p : List ℕ → Bool) (lines : List (List ℕ)) → concat (take_while (λ l. not (p l)) lines) ++ (concat (take 1 (drop (length (take_while (λ l. not (p l)) lines)) lines)) ++ drop (length_through p lines) (concat lines)) ≡ concat lines
@@ -38,18 +28,9 @@ all_lines p (line ∷ lines) =
           ap (λ x. (line ++ concat front) ++ (concat (take 1 (drop (length front) lines)) ++ x)) rest ∙ append_assoc line (concat front) (concat (take 1 (drop (length front) lines)) ++ drop (length_through p lines) (concat lines)) ∙ ap (λ x. line ++ x) (all_lines p lines)
     ]
 
-pub together : (bytes : List ℕ) → put_together bytes ≡ bytes
-together bytes =
-    let all : concat (lines_of bytes) ≡ bytes = concat-cut line_more bytes in
-    ap (λ b. concat (header_lines bytes) ++ (line_behind_header bytes ++ drop (rest_of bytes) b)) (sym all) ∙ all_lines is_empty_line (lines_of bytes) ∙ all
-
-both_first : (a b : Bool) → (a && b) ≡ true → a ≡ true
-both_first true b e = refl
-both_first false b e = e
-
-both_second : (a b : Bool) → (a && b) ≡ true → b ≡ true
-both_second true b e = e
-both_second false b e = absurd (cc)
+pub together : (bytes : List ℕ) → concat (lines_of bytes) ≡ bytes → put_together bytes ≡ bytes
+together bytes all =
+    ap (λ b. concat (header_lines bytes) ++ (line_after_header bytes ++ drop (rest_of bytes) b)) (sym all) ∙ all_lines is_empty_line (lines_of bytes) ∙ all
 
 -- an id's byte is no white space and no `>`
 id_byte : (white less more : Bool) → not (white || less || more) ≡ true → (white ≡ false) × (more ≡ false)
@@ -58,37 +39,29 @@ id_byte false true more e = absurd (cc)
 id_byte false false true e = absurd (cc)
 id_byte false false false e = (refl, refl)
 
-no_close : (id : List ℕ) → list_all is_id_byte id ≡ true → list_any is_close id ≡ false
+no_close : (id : List ℕ) → list_all is_id_byte id ≡ true → list_any is_greater_than id ≡ false
 no_close [] e = refl
 no_close (b ∷ id) e =
-    let first = id_byte (is_white_space b) (b == 60) (b == 62) (both_first (is_id_byte b) (list_all is_id_byte id) e) in
-    ap (λ v. v || list_any is_close id) first.1 ∙ no_close id (both_second (is_id_byte b) (list_all is_id_byte id) e)
+    let first = id_byte (is_white_space b) (b == 60) (b == 62) (and_parts (is_id_byte b) (list_all is_id_byte id) e).0 in
+    ap (λ v. v || list_any is_greater_than id) first.1 ∙ no_close id (and_parts (is_id_byte b) (list_all is_id_byte id) e).1
 
-all_kept : (id : List ℕ) → list_all is_id_byte id ≡ true → without_space id ≡ id
+all_kept : (id : List ℕ) → list_all is_id_byte id ≡ true → without_white_space id ≡ id
 all_kept [] e = refl
 all_kept (b ∷ id) e =
-    let first = id_byte (is_white_space b) (b == 60) (b == 62) (both_first (is_id_byte b) (list_all is_id_byte id) e) in
-    ap (λ v. cond (not v) (b ∷ without_space id) (without_space id)) first.0 ∙ ap (λ l. b ∷ l) (all_kept id (both_second (is_id_byte b) (list_all is_id_byte id) e))
+    let first = id_byte (is_white_space b) (b == 60) (b == 62) (and_parts (is_id_byte b) (list_all is_id_byte id) e).0 in
+    ap (λ v. cond (not v) (b ∷ without_white_space id) (without_white_space id)) first.0 ∙ ap (λ l. b ∷ l) (all_kept id (and_parts (is_id_byte b) (list_all is_id_byte id) e).1)
 
-or_first : (a b : Bool) → (a || b) ≡ false → a ≡ false
-or_first true b e = absurd (cc)
-or_first false b e = refl
-
-or_second : (a b : Bool) → (a || b) ≡ false → b ≡ false
-or_second true b e = absurd (cc)
-or_second false b e = e
-
-split_close : (front rest : List ℕ) → list_any is_close front ≡ false → slice_split is_close (front ++ 62 ∷ rest) ≡ front ∷ slice_split is_close rest
+split_close : (front rest : List ℕ) → list_any is_greater_than front ≡ false → slice_split is_greater_than (front ++ 62 ∷ rest) ≡ front ∷ slice_split is_greater_than rest
 split_close [] rest e = refl
 split_close (b ∷ front) rest e =
-    slice_split-cons_no is_close b (front ++ 62 ∷ rest) (or_first (is_close b) (list_any is_close front) e) ∙ ap (onto_first b) (split_close front rest (or_second (is_close b) (list_any is_close front) e))
+    slice_split-cons_no is_greater_than b (front ++ 62 ∷ rest) (or_parts (is_greater_than b) (list_any is_greater_than front) e).0 ∙ ap (onto_first b) (split_close front rest (or_parts (is_greater_than b) (list_any is_greater_than front) e).1)
 
 pub ids-written : (ids : List (List ℕ)) → list_all is_message_id ids ≡ true → ids_of (written ids) ≡ ids
 ids-written [] e = refl
 ids-written (id ∷ ids) e =
-    let one : is_message_id id ≡ true = both_first (is_message_id id) (list_all is_message_id ids) e in
-    let bytes : list_all is_id_byte id ≡ true = both_second (fits_length 1000 id) (is_id_text id) one in
+    let one : is_message_id id ≡ true = (and_parts (is_message_id id) (list_all is_message_id ids) e).0 in
+    let bytes : list_all is_id_byte id ≡ true = (and_parts (fits_length 1000 id) (is_id_text id) one).1 in
     let rest : List ℕ = written ids in
     let text : written (id ∷ ids) ≡ (32 ∷ 60 ∷ id) ++ 62 ∷ rest = ap (λ l. 32 ∷ 60 ∷ l) (append_assoc id (62 ∷ []) rest) in
-    let split : slice_split is_close ((32 ∷ 60 ∷ id) ++ 62 ∷ rest) ≡ (32 ∷ 60 ∷ id) ∷ slice_split is_close rest = split_close (32 ∷ 60 ∷ id) rest (no_close id bytes) in
-    ap ids_of text ∙ ap (λ l. ids_in (closed l)) split ∙ ap ids_in (closed-cons (32 ∷ 60 ∷ id) rest) ∙ ap (λ x. cond (is_message_id x) (x ∷ ids_of rest) (ids_of rest)) (all_kept id bytes) ∙ ap (λ v. cond v (id ∷ ids_of rest) (ids_of rest)) one ∙ ap (λ l. id ∷ l) (ids-written ids (both_second (is_message_id id) (list_all is_message_id ids) e))
+    let split : slice_split is_greater_than ((32 ∷ 60 ∷ id) ++ 62 ∷ rest) ≡ (32 ∷ 60 ∷ id) ∷ slice_split is_greater_than rest = split_close (32 ∷ 60 ∷ id) rest (no_close id bytes) in
+    ap ids_of text ∙ ap (λ l. ids_in (closed l)) split ∙ ap ids_in (closed-cons (32 ∷ 60 ∷ id) rest) ∙ ap (λ x. cond (is_message_id x) (x ∷ ids_of rest) (ids_of rest)) (all_kept id bytes) ∙ ap (λ v. cond v (id ∷ ids_of rest) (ids_of rest)) one ∙ ap (λ l. id ∷ l) (ids-written ids (and_parts (is_message_id id) (list_all is_message_id ids) e).1)

@@ -1,4 +1,5 @@
 pub mod BodyLemmas
+pub mod CommentLemmas
 pub mod CutLemmas
 pub mod DepthLemmas
 pub mod FieldLemmas
@@ -6,12 +7,10 @@ pub mod FoldLemmas
 pub mod HeaderLemmas
 pub mod IdLemmas
 pub mod LawLemmas
-pub mod LineLemmas
+pub mod LexemeLemmas
 pub mod MailboxLemmas
 pub mod NameLemmas
-pub mod PieceLemmas
 pub mod PlainLemmas
 pub mod SplitLemmas
 pub mod TextLemmas
-pub mod TokenLemmas
 pub mod Utf8Lemmas

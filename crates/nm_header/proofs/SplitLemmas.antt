@@ -1,4 +1,4 @@
--- The first stretch of a text that is cut at certain characters, and what is left behind it.
+-- The first id_text of a text that is cut at certain characters, and what is left behind it.
 use Rattle.std.proofs.Common.{◌≡◌, ℕ, ◌+◌, ◌<◌, ◌≤◌, Bool, true, false, cond, not, List, [], ◌∷◌, Some, None, length, take, drop, ltb, refl, ap, arith}
 use Rattle.std.specs.Prelude.{position, IsUtf8}
 use Rattle.std.specs.Str.{IsCharBoundary}
@@ -25,7 +25,7 @@ place_of p xs i e =
 pub no_place_of : (p : ℕ → Bool) (xs : List ℕ) → position p xs ≡ None → length xs ≤ position_or_len p xs
 no_place_of p xs e = ltb-false _ _ (none_of _ _ e)
 
--- up to the first item that passes it is one stretch, and the rest is split likewise
+-- up to the first item that passes it is one id_text, and the rest is split likewise
 pub split_at : (p : ℕ → Bool) (xs : List ℕ) (i : ℕ) → position p xs ≡ Some i → slice_split p xs ≡ take i xs ∷ slice_split p (drop (i + 1) xs)
 split_at p xs i e =
     let f = place_of p xs i e in
@@ -40,7 +40,7 @@ split_none_if p (x ∷ xs) e =
       | false ↦ λ h. ap (onto_first x) (split_none_if p xs (omega arith))
     ] e
 
--- where no item passes there is one stretch
+-- where no item passes there is one id_text
 pub split_none : (p : ℕ → Bool) (xs : List ℕ) → position p xs ≡ None → slice_split p xs ≡ xs ∷ []
 split_none p xs e = split_none_if p xs (no_place_of p xs e)
 

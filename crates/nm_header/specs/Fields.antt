@@ -4,8 +4,9 @@ use Rattle.std.specs.Char.{to_ascii_lowercase}
 use Rattle.std.specs.List.{before_first, after_first, concat, list_all, starts_with, take_while}
 use Rattle.nm_header.specs.declared.header.HeaderField.{HeaderField}
 use Rattle.nm_header.specs.declared.header.HeaderList.{HeaderList}
-use Rattle.nm_header.specs.Lines.{content, header_lines, rest_of}
-use Rattle.nm_header.specs.Space.{trimmed, trimmed_end}
+use Rattle.nm_header.specs.HeaderLines.{header_lines, rest_of}
+use Rattle.nm_text.specs.Lines.{content}
+use Rattle.nm_text.specs.WhiteSpace.{trimmed, trimmed_end}
 
 -- it begins with space or tab
 abbrev pub continues : List ℕ → Bool
@@ -16,6 +17,7 @@ continues (b ∷ line) = b == 32 || b == 9
 abbrev pub is_from_line : List ℕ → Bool
 is_from_line line = starts_with nat_eq line (codes "From ")
 
+-- `:`
 abbrev pub is_colon : ℕ → Bool
 is_colon b = b == 58
 
@@ -27,6 +29,7 @@ is_name_byte b = nat_le 33 b && nat_le b 126
 abbrev pub name_of : List ℕ → List ℕ
 name_of line = trimmed_end (before_first is_colon (content line))
 
+-- such characters alone, and at least one
 abbrev pub is_name : List ℕ → Bool
 is_name name = not (length name == 0) && list_all is_name_byte name
 
@@ -38,7 +41,7 @@ begins_field line = not (continues line) && (is_some (position is_colon (content
 abbrev pub folded_of : List (List ℕ) → List ℕ
 folded_of lines = concat (map content (take_while continues lines))
 
--- what stands behind the colon, and in the lines that continue it, without the line ends
+-- what stands after the colon, and in the lines that continue it, without the line ends
 abbrev pub joined_of : List ℕ → List (List ℕ) → List ℕ
 joined_of line more = after_first is_colon (content line) ++ folded_of more
 

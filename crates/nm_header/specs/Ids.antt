@@ -2,23 +2,26 @@
 use Rattle.std.specs.Prelude.{ℕ, Bool, ◌==◌, List, [], ◌∷◌, filter, map}
 use Rattle.std.specs.List.{after_first, slice_split}
 use Rattle.nm_base.specs.MessageId.{is_message_id}
-use Rattle.nm_header.specs.Space.{without_space}
+use Rattle.nm_text.specs.WhiteSpace.{without_white_space}
 
-abbrev pub is_open : ℕ → Bool
-is_open b = b == 60
+-- `<`
+abbrev pub is_less_than : ℕ → Bool
+is_less_than b = b == 60
 
-abbrev pub is_close : ℕ → Bool
-is_close b = b == 62
+-- `>`
+abbrev pub is_greater_than : ℕ → Bool
+is_greater_than b = b == 62
 
--- the stretches that a `>` ends: all but the last
+-- the texts that a `>` ends: all but the last
 abbrev pub closed : List (List ℕ) → List (List ℕ)
 closed [] = []
 closed (last ∷ []) = []
-closed (stretch ∷ next ∷ more) = stretch ∷ closed (next ∷ more)
+closed (id_text ∷ next ∷ more) = id_text ∷ closed (next ∷ more)
 
--- what stands behind the first `<` of each stretch, without white space, where it is an id
+-- what stands after the first `<` of each, without white space, where it is an id
 abbrev pub ids_in : List (List ℕ) → List (List ℕ)
-ids_in stretches = filter is_message_id (map (λ stretch. without_space (after_first is_open stretch)) stretches)
+ids_in id_texts = filter is_message_id (map (λ id_text. without_white_space (after_first is_less_than id_text)) id_texts)
 
+-- the ids in a field's text
 abbrev pub ids_of : List ℕ → List (List ℕ)
-ids_of text = ids_in (closed (slice_split is_close text))
+ids_of text = ids_in (closed (slice_split is_greater_than text))

@@ -1,35 +1,29 @@
 -- Mailboxes in a field's text (RFC 5322, section 3.4): names and addresses, without comments.
 use Rattle.std.specs.Prelude.{◌≡◌, ℕ, ◌+◌, ◌<◌, ◌≤◌, Bool, false, true, ◌==◌, List, [], ◌∷◌, ◌++◌, length, filter, take, drop, if◌then◌else◌}
-use Rattle.std.specs.List.{before_first, concat, flat_map, join_with_byte, list_all, list_any, position_or_len, slice_split}
+use Rattle.std.specs.List.{before_first, concat, flat_map, join_with_byte, list_any, position_or_len, slice_split}
 use Rattle.nm_base.specs.Bounds.{is_white_space}
 use Rattle.nm_base.specs.declared.facts.Mailbox.{Mailbox}
-use Rattle.nm_header.specs.Cut.{cut}
-use Rattle.nm_header.specs.Ids.{is_close}
-use Rattle.nm_header.specs.Pieces.{plain_of, quoted_more, unit_more, units_of}
-use Rattle.nm_header.specs.Space.{without_space}
+use Rattle.nm_text.specs.Cuts.{cut}
+use Rattle.nm_header.specs.Ids.{is_greater_than}
+use Rattle.nm_header.specs.Comments.{plain_of}
+use Rattle.nm_text.specs.QuotedStrings.{pair_more, quoted_len, unquoted}
+use Rattle.nm_text.specs.WhiteSpace.{is_all_white_space, without_white_space}
 
--- quoted texts, what stands in `<..>`, pairs, and single bytes; each goes on to its closing sign, or to the end
-abbrev pub token_more : ℕ → List ℕ → ℕ
-token_more b text =
-    if b == 34 then quoted_more text else (if b == 60 then position_or_len is_close text + 1 else unit_more b text)
+-- quoted strings, what stands in `<..>`, pairs, and single bytes; each goes on to its closing special, or to the end
+abbrev pub mailbox_lexeme_more : ℕ → List ℕ → ℕ
+mailbox_lexeme_more b text =
+    if b == 34 then quoted_len text else (if b == 60 then position_or_len is_greater_than text + 1 else pair_more b text)
 
-abbrev pub tokens_of : List ℕ → List (List ℕ)
-tokens_of text = cut token_more text
+-- the lexemes of a text of mailboxes
+abbrev pub mailbox_lexemes_of : List ℕ → List (List ℕ)
+mailbox_lexemes_of text = cut mailbox_lexeme_more text
 
--- its first byte is one of these signs
+-- its first byte is one of these specials
 abbrev pub begins_with : List ℕ → List ℕ → Bool
-begins_with signs [] = false
-begins_with signs (b ∷ token) = list_any (λ sign. sign == b) signs
+begins_with specials [] = false
+begins_with specials (b ∷ lexeme) = list_any (λ special. special == b) specials
 
--- a unit without its `\`; a `"` that is no pair is nothing
-abbrev pub unquoted : List ℕ → List ℕ
-unquoted [] = []
-unquoted (b ∷ []) = if b == 34 then [] else b ∷ []
-unquoted (b ∷ c ∷ more) = c ∷ more
-
-abbrev pub unquoted_of : List ℕ → List ℕ
-unquoted_of text = flat_map unquoted (units_of text)
-
+-- a text with a byte
 abbrev pub is_some_text : List ℕ → Bool
 is_some_text [] = false
 is_some_text (b ∷ word) = true
@@ -40,61 +34,64 @@ spaced_of text = join_with_byte 32 (filter is_some_text (slice_split is_white_sp
 
 -- without `<` all is the address; else that is what stands in the `<..>`, and the name stands before it
 abbrev pub mailbox_from : List (List ℕ) → List (List ℕ) → Mailbox
-mailbox_from tokens [] = record { name = []; address = without_space (concat tokens) }
-mailbox_from tokens (angle ∷ more) = record { name = spaced_of (unquoted_of (concat tokens)); address = without_space (before_first is_close (drop 1 angle)) }
+mailbox_from lexemes [] = record { name = []; address = without_white_space (concat lexemes) }
+mailbox_from lexemes (angle ∷ more) = record { name = spaced_of (unquoted (concat lexemes)); address = without_white_space (before_first is_greater_than (drop 1 angle)) }
 
+-- it begins with `<`
 abbrev pub is_angle : List ℕ → Bool
-is_angle token = begins_with (60 ∷ []) token
+is_angle lexeme = begins_with (60 ∷ []) lexeme
 
+-- the mailbox of a part with these lexemes
 abbrev pub mailbox_of : List (List ℕ) → Mailbox
-mailbox_of tokens = mailbox_from (before_first is_angle tokens) (drop (position_or_len is_angle tokens) tokens)
+mailbox_of lexemes = mailbox_from (before_first is_angle lexemes) (drop (position_or_len is_angle lexemes) lexemes)
 
-abbrev pub is_blank : List (List ℕ) → Bool
-is_blank tokens = list_all is_white_space (concat tokens)
-
+-- it begins with `,` or `;`
 abbrev pub is_separator : List ℕ → Bool
-is_separator token = begins_with (44 ∷ 59 ∷ []) token
+is_separator lexeme = begins_with (44 ∷ 59 ∷ []) lexeme
 
+-- it begins with `:`
 abbrev pub is_colon : List ℕ → Bool
-is_colon token = begins_with (58 ∷ []) token
+is_colon lexeme = begins_with (58 ∷ []) lexeme
 
--- what stands behind the last `:`, or all where there is none
-abbrev pub behind_colon : List (List ℕ) → List (List ℕ)
-behind_colon [] = []
-behind_colon (token ∷ tokens) =
-    if list_any is_colon tokens then behind_colon tokens else (if is_colon token then tokens else token ∷ tokens)
+-- what stands after the last `:`, or all where there is none
+abbrev pub after_colon : List (List ℕ) → List (List ℕ)
+after_colon [] = []
+after_colon (lexeme ∷ lexemes) =
+    if list_any is_colon lexemes then after_colon lexemes else (if is_colon lexeme then lexemes else lexeme ∷ lexemes)
 
 -- the mailbox of a part, if it has more than white space
 abbrev pub mailbox_in : List (List ℕ) → List Mailbox
-mailbox_in part = if is_blank part then [] else mailbox_of part ∷ []
+mailbox_in part = if is_all_white_space (concat part) then [] else mailbox_of part ∷ []
 
 -- the parts between `,` and `;`, each without what stands up to a `:` in it
 abbrev pub mailboxes_in : List (List ℕ) → List Mailbox
-mailboxes_in tokens = flat_map (λ part. mailbox_in (behind_colon part)) (slice_split is_separator tokens)
+mailboxes_in lexemes = flat_map (λ part. mailbox_in (after_colon part)) (slice_split is_separator lexemes)
 
+-- the mailboxes in a field's text
 abbrev pub mailboxes_of : List ℕ → List Mailbox
-mailboxes_of text = mailboxes_in (tokens_of (plain_of text))
+mailboxes_of text = mailboxes_in (mailbox_lexemes_of (plain_of text))
 
--- the signs that end a part, and those that end the name in it
+-- the specials that end a part
 abbrev pub part_ends : List ℕ
 part_ends = 44 ∷ 59 ∷ 58 ∷ []
 
+-- the specials that end the name in a part
 abbrev pub name_ends : List ℕ
 name_ends = 44 ∷ 59 ∷ 58 ∷ 60 ∷ []
 
--- the tokens before the first that begins with one of these signs
-abbrev pub tokens_before : List ℕ → List ℕ → List (List ℕ)
-tokens_before signs text = before_first (begins_with signs) (tokens_of text)
+-- the lexemes before the first that begins with one of these specials
+abbrev pub lexemes_before : List ℕ → List ℕ → List (List ℕ)
+lexemes_before specials text = before_first (begins_with specials) (mailbox_lexemes_of text)
 
 -- n is how many bytes they have
-pub record StopsAt (signs text : List ℕ) (n : ℕ) : Type 0 where
-  pub bytes : concat (tokens_before signs text) ≡ take n text
-  pub tokens : tokens_of text ≡ tokens_before signs text ++ tokens_of (drop n text)
-  pub none : list_any (begins_with signs) (tokens_before signs text) ≡ false
+pub record StopsAt (specials text : List ℕ) (n : ℕ) : Type 0 where
+  pub bytes : concat (lexemes_before specials text) ≡ take n text
+  pub lexemes : mailbox_lexemes_of text ≡ lexemes_before specials text ++ mailbox_lexemes_of (drop n text)
+  pub none : list_any (begins_with specials) (lexemes_before specials text) ≡ false
   pub within : n ≤ length text
-  pub stop : n < length text → begins_with signs (drop n text) ≡ true
+  pub stop : n < length text → begins_with specials (drop n text) ≡ true
 
--- a word behind the words so far
+-- a word after the words so far
 abbrev pub added_word : List ℕ → List ℕ → List ℕ
 added_word words [] = words
 added_word [] (b ∷ word) = b ∷ word

@@ -6,6 +6,7 @@ use Rattle.std.specs.Str.Lossy.{utf8_lossy}
 use Rattle.std.specs.Str.{bytes_eq}
 use Rattle.nm_header.specs.declared.header.HeaderField.{HeaderField}
 
+-- the field has this name
 abbrev pub is_named : List ℕ → HeaderField → Bool
 is_named name field = bytes_eq field.name name
 

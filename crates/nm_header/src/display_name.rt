@@ -1,42 +1,18 @@
 ghost use Rattle.std.specs.Prelude.{◌≡◌, [], ◌∷◌, ◌++◌, IfOk, OnOk, position, string_bytes};
 ghost use Rattle.nm_base.specs.Bounds.{is_white_space};
-ghost use Rattle.nm_header.specs.Mailboxes.{added_word, spaced_of, unquoted, unquoted_of};
+ghost use Rattle.nm_header.specs.Mailboxes.{added_word, spaced_of};
+ghost use Rattle.nm_text.specs.QuotedStrings.{unquoted, unquoted_pair};
 
-use crate::pieces::unit_len;
-use crate::space::{is_white_space, text_of};
 use nm_base::{NoMemory, Text};
+use nm_text::{is_white_space, text_of, unquoted};
 use std::alloc::Global;
 
 /// The name of a mailbox as it is shown: no quotes, and one space for each run of white space.
 pub(crate) fn display_name(alloc: Global, text: &str) -> Result<Text, NoMemory>
-    ensures { IfOk result (λ name. name ≡ spaced_of (unquoted_of text.now)) }
+    ensures { IfOk result (λ name. name ≡ spaced_of (unquoted text.now)) }
 {
-    let plain = without_quotes(alloc, text)?;
-    spaced(alloc, plain.as_str())
-}
-
-fn without_quotes(alloc: Global, text: &str) -> Result<Text, NoMemory>
-    ensures { IfOk result (λ plain. plain ≡ unquoted_of text.now) }
-{
-    let mut plain = Vec::with_capacity(alloc, text.len())?;
-    let mut left = text.as_bytes();
-    'units: while !left.is_empty() {
-        let (unit, behind) = left.split_at(unit_len(left));
-        plain.extend_from_slice(unquoted(unit))?;
-        left = behind;
-    }
-    Ok(text_of(plain)?)
-}
-
-fn unquoted(unit: &[u8]) -> &[u8]
-    ensures { result.now ≡ unquoted unit.now }
-{
-    match unit {
-        [] => unit,
-        [b'"'] => &unit[1..],
-        [_] => unit,
-        [_, more @ ..] => more,
-    }
+    let said = text_of(unquoted(alloc, text.as_bytes())?)?;
+    spaced(alloc, said.as_str())
 }
 
 fn spaced(alloc: Global, text: &str) -> Result<Text, NoMemory>

@@ -2,12 +2,11 @@ ghost use Rattle.std.specs.Prelude.{◌≡◌, IfOk, map, position, true, Some};
 ghost use Rattle.std.specs.Char.{to_ascii_lowercase};
 ghost use Rattle.std.specs.List.{after_first, before_first, list_all};
 ghost use Rattle.nm_header.specs.Fields.{begins_field, continues, is_colon, is_from_line, is_name, is_name_byte, name_of};
-ghost use Rattle.nm_header.specs.Lines.{content};
-ghost use Rattle.nm_header.specs.Space.{trimmed_end};
+ghost use Rattle.nm_text.specs.Lines.{content};
+ghost use Rattle.nm_text.specs.WhiteSpace.{trimmed_end};
 
-use crate::lines::content;
-use crate::space::{text_of, trimmed_end};
 use nm_base::{NoMemory, Text};
+use nm_text::{content, lowercase, text_of, trimmed_end};
 use std::alloc::Global;
 
 /// Whether the line goes on with the field before it.
@@ -45,15 +44,9 @@ pub(crate) fn name_text(alloc: Global, line: &[u8]) -> Result<Text, NoMemory>
     requires { begins_field line.now ≡ true }
     ensures { IfOk result (λ name. name ≡ map to_ascii_lowercase (name_of line.now)) }
 {
-    let name = lowercase(alloc, name_in(line))?;
-    Ok(text_of(name)?)
-}
-
-fn lowercase(alloc: Global, name: &[u8]) -> Result<Vec<u8>, NoMemory>
-    ensures { IfOk result (λ lower. lower.items ≡ map to_ascii_lowercase name.now) }
-{
-    let lower: Vec<u8> = name.iter().map(|b| b.to_ascii_lowercase()).collect(alloc)?;
-    Ok(lower)
+    let lower = lowercase(alloc, name_in(line))?;
+    let name = text_of(lower)?;
+    Ok(name)
 }
 
 fn name_in(line: &[u8]) -> &[u8]
@@ -66,8 +59,8 @@ fn name_in(line: &[u8]) -> &[u8]
     }
 }
 
-/// What stands behind the colon, or nothing.
-pub(crate) fn behind_colon(line: &[u8]) -> &[u8]
+/// What stands after the colon, or nothing.
+pub(crate) fn after_colon(line: &[u8]) -> &[u8]
     ensures { result.now ≡ after_first is_colon (content line.now) }
 {
     let text = content(line);

@@ -1,14 +1,13 @@
 ghost use Rattle.std.specs.Prelude.{◌≡◌, ◌+◌, ◌<◌, ◌≤◌, ◌∷◌, ◌++◌, length, map, take, true, IfOk, OnOk};
 ghost use Rattle.std.specs.Char.{to_ascii_lowercase};
 ghost use Rattle.nm_header.specs.Fields.{begins_field, fields_in, folded_of, header_of, name_of, without_from_line};
-ghost use Rattle.nm_header.specs.Lines.{BeginsWithLine, LeavesOf, header_lines};
-ghost use Rattle.nm_header.specs.Space.{trimmed};
+ghost use Rattle.nm_header.specs.HeaderLines.{BeginsWithLine, LeavesOf, header_lines};
+ghost use Rattle.nm_text.specs.WhiteSpace.{trimmed};
 
-use crate::field_line::{begins_field, behind_colon, is_from_line, name_text};
+use crate::field_line::{after_colon, begins_field, is_from_line, name_text};
 use crate::header_lines::{empty_line_len, folded_line_len, header_line_len};
-use crate::lines::content;
-use crate::space::trimmed;
 use nm_base::{Many, NoMemory, Text};
+use nm_text::{content, trimmed};
 use std::alloc::Global;
 
 /// A field of a header.
@@ -33,7 +32,7 @@ pub fn fields(alloc: Global, bytes: &[u8]) -> Result<HeaderList, NoMemory>
     ensures { IfOk result (λ header. header ≡ header_of bytes.now) }
 {
     let mut list = Many::new(alloc);
-    let mut left = behind_from_line(bytes);
+    let mut left = after_from_line(bytes);
     'lines: while let Some(length) = header_line_len(left) {
         left = add_field(alloc, left, length, &mut list)?;
     }
@@ -41,15 +40,15 @@ pub fn fields(alloc: Global, bytes: &[u8]) -> Result<HeaderList, NoMemory>
     Ok(HeaderList { list, rest })
 }
 
-fn behind_from_line(bytes: &[u8]) -> &[u8]
+fn after_from_line(bytes: &[u8]) -> &[u8]
     ensures fields { fields_in (header_lines result.now) ≡ fields_in (without_from_line (header_lines bytes.now)) }
     ensures leaves { LeavesOf bytes.now result.now }
 {
     match header_line_len(bytes) {
         None => bytes,
         Some(length) => {
-            let (line, behind) = bytes.split_at(length);
-            if is_from_line(line) { behind } else { bytes }
+            let (line, after) = bytes.split_at(length);
+            if is_from_line(line) { after } else { bytes }
         }
     }
 }
@@ -66,12 +65,12 @@ fn add_field<'a>(
     ensures leaves { IfOk result (λ left. LeavesOf bytes.now left.now) }
     ensures less { IfOk result (λ left. length left.now < length bytes.now) }
 {
-    let (line, behind) = bytes.split_at(size);
+    let (line, after) = bytes.split_at(size);
     if !begins_field(line) {
-        return Ok(behind);
+        return Ok(after);
     }
-    let mut joined = Many::from_slice(alloc, behind_colon(line))?;
-    let left = join_folded(behind, &mut joined)?;
+    let mut joined = Many::from_slice(alloc, after_colon(line))?;
+    let left = join_folded(after, &mut joined)?;
     list.push(field_of(alloc, line, joined.as_slice())?)?;
     Ok(left)
 }
@@ -84,9 +83,9 @@ fn join_folded<'a>(bytes: &'a [u8], joined: &mut Many<u8>) -> Result<&'a [u8], N
 {
     let mut left = bytes;
     'folded: while let Some(length) = folded_line_len(left) {
-        let (line, behind) = left.split_at(length);
+        let (line, after) = left.split_at(length);
         joined.extend_from_slice(content(line))?;
-        left = behind;
+        left = after;
     }
     Ok(left)
 }

@@ -1,10 +1,10 @@
 ghost use Rattle.std.specs.Prelude.{◌≡◌, ◌≤◌, [], length, IfSome, MatchOption, take, true};
 ghost use Rattle.std.specs.List.{take_while};
 ghost use Rattle.nm_header.specs.Fields.{continues};
-ghost use Rattle.nm_header.specs.Lines.{BeginsWithLine, header_lines, rest_of};
+ghost use Rattle.nm_header.specs.HeaderLines.{BeginsWithLine, header_lines, is_empty_line, rest_of};
 
 use crate::field_line::continues;
-use crate::lines::{is_empty_line, line_len};
+use nm_text::{content, line_len};
 
 /// The length of the first line, where it is one of the header.
 pub(crate) fn header_line_len(bytes: &[u8]) -> Option<usize>
@@ -31,7 +31,7 @@ pub(crate) fn folded_line_len(bytes: &[u8]) -> Option<usize>
     header_line_len(bytes)
 }
 
-/// The length of the empty line behind a header that has no line left.
+/// The length of the empty line after a header that has no line left.
 pub(crate) fn empty_line_len(bytes: &[u8]) -> usize
     requires { header_lines bytes.now ≡ [] }
     ensures value { result ≡ rest_of bytes.now }
@@ -41,4 +41,10 @@ pub(crate) fn empty_line_len(bytes: &[u8]) -> usize
         return 0;
     }
     line_len(bytes)
+}
+
+fn is_empty_line(line: &[u8]) -> bool
+    ensures { result ≡ is_empty_line line.now }
+{
+    content(line).is_empty()
 }

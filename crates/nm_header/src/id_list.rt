@@ -1,8 +1,8 @@
 ghost use Rattle.std.specs.Prelude.{◌≡◌, [], ◌∷◌, ◌++◌, IfOk, OnOk, position};
-ghost use Rattle.nm_header.specs.Ids.{ids_in, ids_of, is_close, is_open};
+ghost use Rattle.nm_header.specs.Ids.{ids_in, ids_of, is_greater_than, is_less_than};
 
-use crate::space::without_space;
 use nm_base::{Many, MessageId, NoMemory};
+use nm_text::without_white_space;
 use std::alloc::Global;
 
 /// The ids in a field's text, in their order: what stands between `<` and the next `>`, white space
@@ -12,20 +12,20 @@ pub fn ids(alloc: Global, text: &str) -> Result<Many<MessageId>, NoMemory>
 {
     let mut found = Many::new(alloc);
     let mut left = text;
-    'stretches: while let Some(at) = close_at(left) {
+    'id_texts: while let Some(at) = close_at(left) {
         add_id(alloc, &left[..at], &mut found)?;
         left = &left[at + 1..];
     }
     Ok(found)
 }
 
-fn add_id(alloc: Global, stretch: &str, found: &mut Many<MessageId>) -> Result<(), NoMemory>
-    ensures { OnOk result (found.new ≡ found.old ++ ids_in (stretch.now ∷ [])) }
+fn add_id(alloc: Global, id_text: &str, found: &mut Many<MessageId>) -> Result<(), NoMemory>
+    ensures { OnOk result (found.new ≡ found.old ++ ids_in (id_text.now ∷ [])) }
 {
-    match open_at(stretch) {
+    match open_at(id_text) {
         None => Ok(()),
         Some(at) => {
-            let text = without_space(alloc, &stretch[at + 1..])?;
+            let text = without_white_space(alloc, &id_text[at + 1..])?;
             match MessageId::new(text) {
                 Ok(id) => found.push(id),
                 Err(_) => Ok(()),
@@ -35,13 +35,13 @@ fn add_id(alloc: Global, stretch: &str, found: &mut Many<MessageId>) -> Result<(
 }
 
 fn open_at(text: &str) -> Option<usize>
-    ensures { result ≡ position is_open text.now }
+    ensures { result ≡ position is_less_than text.now }
 {
     text.as_bytes().iter().position(|b| *b == b'<')
 }
 
 pub(crate) fn close_at(text: &str) -> Option<usize>
-    ensures { result ≡ position is_close text.now }
+    ensures { result ≡ position is_greater_than text.now }
 {
     text.as_bytes().iter().position(|b| *b == b'>')
 }

@@ -1,3 +1,4 @@
+//! What follows from the definitions. These functions do nothing: their clauses are the laws.
 ghost use Rattle.std.specs.Prelude.{◌≡◌, [], ◌∷◌, ◌++◌, List, ℕ, false, map, true};
 ghost use Rattle.std.specs.Char.{to_ascii_lowercase};
 ghost use Rattle.std.specs.List.{concat, list_all, list_any};
@@ -5,23 +6,26 @@ ghost use Rattle.nm_base.specs.MessageId.{is_message_id};
 ghost use Rattle.nm_header.specs.Fields.{continues, header_of, is_colon, is_name};
 ghost use Rattle.nm_header.specs.Ids.{ids_of};
 ghost use Rattle.nm_header.specs.Laws.{folded, is_line_end, put_together, stands_on_one_line, written};
-ghost use Rattle.nm_header.specs.Lines.{lines_of};
-ghost use Rattle.nm_header.specs.Mailboxes.{tokens_of};
-ghost use Rattle.nm_header.specs.Pieces.{pieces_of, units_of};
-ghost use Rattle.nm_header.specs.Space.{trimmed};
+ghost use Rattle.nm_header.specs.Mailboxes.{mailbox_lexemes_of};
+ghost use Rattle.nm_header.specs.Comments.{lexemes_of};
+ghost use Rattle.nm_text.specs.WhiteSpace.{trimmed};
 
-/// The lines, the units, the pieces and the tokens of a text are a cut of it: joined they are the text.
+use nm_text::nothing_is_cut_away;
+
+/// The lexemes of a text with comments, and those of a text of mailboxes, are a cut of it: joined they are the text.
 pub fn nothing_is_lost()
-    ensures lines { (bytes : List ℕ) → concat (lines_of bytes) ≡ bytes }
-    ensures units { (bytes : List ℕ) → concat (units_of bytes) ≡ bytes }
-    ensures pieces { (bytes : List ℕ) → concat (pieces_of bytes) ≡ bytes }
-    ensures tokens { (bytes : List ℕ) → concat (tokens_of bytes) ≡ bytes }
-{}
+    ensures lexemes { (bytes : List ℕ) → concat (lexemes_of bytes) ≡ bytes }
+    ensures mailbox_lexemes { (bytes : List ℕ) → concat (mailbox_lexemes_of bytes) ≡ bytes }
+{
+    nothing_is_cut_away();
+}
 
-/// The lines of a header, the empty line behind it and the body are all the bytes of a mail.
+/// The lines of a header, the empty line after it and the body are all the bytes of a mail.
 pub fn a_mail_is_its_header_and_its_body()
     ensures { (bytes : List ℕ) → put_together bytes ≡ bytes }
-{}
+{
+    nothing_is_cut_away();
+}
 
 /// Ids that are written in angles with blanks between are read again.
 pub fn written_ids_are_read()

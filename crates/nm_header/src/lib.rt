@@ -1,20 +1,18 @@
-//! The header of a mail: its fields, and the ids, mailboxes and plain text in a field (RFC 5322).
+//! Reading one mail: its header, and the ids, mailboxes and plain text in a field (RFC 5322).
 //! Any bytes and any text are read; what has no meaning is skipped.
 #![tactic(auto)]
 
+mod comments;
 mod display_name;
 mod field_line;
 mod header;
 mod header_lines;
 mod id_list;
 mod laws;
-mod lines;
+mod mailbox_lexemes;
 mod mailbox_list;
-mod pieces;
 mod plain_text;
-mod space;
 mod texts;
-mod tokens;
 
 pub use header::{HeaderField, HeaderList, fields};
 pub use id_list::ids;
@@ -22,7 +20,5 @@ pub use laws::{
     a_body_has_no_line_feed, a_folded_body_is_read_whole, a_mail_is_its_header_and_its_body,
     nothing_is_lost, written_ids_are_read,
 };
-pub use lines::{content, line_len};
 pub use mailbox_list::mailboxes;
 pub use plain_text::plain;
-pub use space::{is_white_space, text_of, trimmed, trimmed_start};

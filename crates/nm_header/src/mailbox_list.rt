@@ -2,15 +2,15 @@ ghost use Rattle.std.specs.Prelude.{◌≡◌, ◌++◌, ◌<◌, ◌≤◌, dro
 ghost use Rattle.std.specs.List.{before_first, list_all};
 ghost use Rattle.std.specs.Str.{IsCharBoundary};
 ghost use Rattle.nm_base.specs.Bounds.{is_white_space};
-ghost use Rattle.nm_header.specs.Ids.{is_close};
-ghost use Rattle.nm_header.specs.Mailboxes.{StopsAt, is_angle, mailbox_in, mailbox_of, mailboxes_in, mailboxes_of, part_ends, tokens_before, tokens_of};
+ghost use Rattle.nm_header.specs.Ids.{is_greater_than};
+ghost use Rattle.nm_header.specs.Mailboxes.{StopsAt, is_angle, lexemes_before, mailbox_in, mailbox_lexemes_of, mailbox_of, mailboxes_in, mailboxes_of, part_ends};
 
 use crate::display_name::display_name;
 use crate::id_list::close_at;
+use crate::mailbox_lexemes::{begins_with, stop_len};
 use crate::plain;
-use crate::space::{is_white_space, without_space};
-use crate::tokens::{begins_with, stop_len};
 use nm_base::{Mailbox, Many, NoMemory, Text};
+use nm_text::{is_all_white_space, without_white_space};
 use std::alloc::Global;
 
 /// The mailboxes in a field's text, in their order (RFC 5322, section 3.4). Comments are dropped, and so
@@ -28,10 +28,10 @@ pub fn mailboxes(alloc: Global, text: &str) -> Result<Many<Mailbox>, NoMemory>
     Ok(found)
 }
 
-/// Adds the mailbox of the first part. Answers how many bytes the part has, with the sign that ends it.
+/// Adds the mailbox of the first part. Answers how many bytes the part has, with the special that ends it.
 fn add_part(alloc: Global, text: &str, found: &mut Many<Mailbox>) -> Result<usize, NoMemory>
     requires { 0 < length text.now }
-    ensures found { IfOk result (λ size. found.new ++ mailboxes_in (tokens_of (drop size text.now)) ≡ found.old ++ mailboxes_in (tokens_of text.now)) }
+    ensures found { IfOk result (λ size. found.new ++ mailboxes_in (mailbox_lexemes_of (drop size text.now)) ≡ found.old ++ mailboxes_in (mailbox_lexemes_of text.now)) }
     ensures some { IfOk result (λ size. 0 < size) }
     ensures within { IfOk result (λ size. size ≤ length text.now) }
     ensures boundary { IfOk result (λ size. IsCharBoundary text.now size) }
@@ -55,10 +55,10 @@ fn add_mailbox(
     found: &mut Many<Mailbox>,
 ) -> Result<(), NoMemory>
     requires { StopsAt part_ends text.now size }
-    ensures { OnOk result (found.new ≡ found.old ++ mailbox_in (tokens_before part_ends text.now)) }
+    ensures { OnOk result (found.new ≡ found.old ++ mailbox_in (lexemes_before part_ends text.now)) }
 {
     let (part, _) = text.as_bytes().split_at(size);
-    if is_blank(part) {
+    if is_all_white_space(part) {
         return Ok(());
     }
     let mailbox = mailbox(alloc, text, size)?;
@@ -67,16 +67,16 @@ fn add_mailbox(
 
 fn mailbox(alloc: Global, text: &str, size: usize) -> Result<Mailbox, NoMemory>
     requires { StopsAt part_ends text.now size }
-    ensures { IfOk result (λ mailbox. mailbox ≡ mailbox_of (tokens_before part_ends text.now)) }
+    ensures { IfOk result (λ mailbox. mailbox ≡ mailbox_of (lexemes_before part_ends text.now)) }
 {
     let name_size = stop_len(text.as_bytes(), b",;:<");
     if !has_angle(text.as_bytes(), name_size) {
-        let address = without_space(alloc, &text[..size])?;
+        let address = without_white_space(alloc, &text[..size])?;
         let name = Text::new(alloc);
         return Ok(Mailbox { name, address });
     }
     let name = display_name(alloc, &text[..name_size])?;
-    let address = without_space(alloc, enclosed(&text[name_size + 1..]))?;
+    let address = without_white_space(alloc, enclosed(&text[name_size + 1..]))?;
     Ok(Mailbox { name, address })
 }
 
@@ -84,22 +84,16 @@ fn has_angle(text: &[u8], at: usize) -> bool
     requires { at ≤ length text.now }
     ensures { result ≡ is_angle (drop at text.now) }
 {
-    let (_, behind) = text.split_at(at);
-    begins_with(behind, b"<")
+    let (_, after) = text.split_at(at);
+    begins_with(after, b"<")
 }
 
 /// What stands before the next `>`, or all.
 fn enclosed(text: &str) -> &str
-    ensures { result.now ≡ before_first is_close text.now }
+    ensures { result.now ≡ before_first is_greater_than text.now }
 {
     match close_at(text) {
         Some(at) => &text[..at],
         None => text,
     }
-}
-
-fn is_blank(part: &[u8]) -> bool
-    ensures { result ≡ list_all is_white_space part.now }
-{
-    part.iter().all(|b| is_white_space(*b))
 }

@@ -1,9 +1,9 @@
 ghost use Rattle.std.specs.Prelude.{◌≡◌, ◌++◌, IfOk, OnOk};
-ghost use Rattle.nm_header.specs.Pieces.{is_comment, plain_of, shown};
+ghost use Rattle.nm_header.specs.Comments.{is_comment, plain_of, shown};
 
-use crate::pieces::piece_len;
-use crate::space::text_of;
+use crate::comments::lexeme_len;
 use nm_base::{NoMemory, Text};
+use nm_text::text_of;
 use std::alloc::Global;
 
 /// The text with each comment replaced by one space (RFC 5322, section 3.2.2). Comments nest, a `\`
@@ -14,29 +14,30 @@ pub fn plain(alloc: Global, text: &str) -> Result<Text, NoMemory>
 {
     let mut shown = Vec::with_capacity(alloc, text.len())?;
     let mut left = text.as_bytes();
-    'pieces: while !left.is_empty() {
-        let (piece, behind) = left.split_at(piece_len(left));
-        show(piece, &mut shown)?;
-        left = behind;
+    'lexemes: while !left.is_empty() {
+        let (lexeme, after) = left.split_at(lexeme_len(left));
+        show(lexeme, &mut shown)?;
+        left = after;
     }
-    Ok(text_of(shown)?)
+    let plain = text_of(shown)?;
+    Ok(plain)
 }
 
-fn show(piece: &[u8], text: &mut Vec<u8>) -> Result<(), NoMemory>
-    ensures { OnOk result (text.new.items ≡ text.old.items ++ shown piece.now) }
+fn show(lexeme: &[u8], text: &mut Vec<u8>) -> Result<(), NoMemory>
+    ensures { OnOk result (text.new.items ≡ text.old.items ++ shown lexeme.now) }
 {
-    if is_comment(piece) {
+    if is_comment(lexeme) {
         text.push(b' ')?;
     } else {
-        text.extend_from_slice(piece)?;
+        text.extend_from_slice(lexeme)?;
     }
     Ok(())
 }
 
-fn is_comment(piece: &[u8]) -> bool
-    ensures { result ≡ is_comment piece.now }
+fn is_comment(lexeme: &[u8]) -> bool
+    ensures { result ≡ is_comment lexeme.now }
 {
-    match piece {
+    match lexeme {
         [] => false,
         [first, ..] => *first == b'(',
     }

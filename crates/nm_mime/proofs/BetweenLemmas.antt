@@ -1,18 +1,18 @@
--- The parts of a content are the stretches between neighbouring delimiters.
+-- The parts of a content are the spans between neighbouring delimiters.
 use Rattle.std.proofs.Common.{◌≡◌, ℕ, suc, ◌+◌, ◌-◌, ◌<◌, Bool, true, false, cond, not, ◌||◌, ◌==◌, List, [], ◌∷◌, ◌++◌, length, map, take, drop, refl, sym, ap, ◌∙◌, arith, append_assoc, length-append}
+use Rattle.std.proofs.lemmas.Bool.{or_parts, or_right}
 use Rattle.std.specs.Prelude.{slice_index}
 use Rattle.std.specs.List.{before_first, concat, list_any, onto_first, position_or_len, slice_split}
 use Rattle.std.specs.Str.Lines.{strip_carriage_return}
 use Rattle.std.proofs.lemmas.List.{append-nil, drop_at, take_at, take-append-drop}
 use Rattle.std.proofs.lemmas.List.Splits.{length-slice_split, slice_split-cons_no, slice_split-cons_yes}
-use Rattle.nm_header.specs.Lines.{content, line_more, lines_of}
-use Rattle.nm_header.proofs.LawLemmas.{concat-cut}
-use Rattle.nm_header.proofs.TokenLemmas.{before_first-no, first_false, second_false}
-use Rattle.nm_mime.specs.Children.{ends_part, is_line_of, part_at, part_behind, part_size, stops, stretches_in, stretches_of}
+use Rattle.nm_text.specs.Lines.{content, lines_of}
+use Rattle.nm_mime.proofs.ChildLemmas.{concat-lines}
+use Rattle.nm_mime.specs.Children.{ends_part, is_line_of, part_after, part_at, part_len, spans_in, spans_of, stops}
 use Rattle.nm_mime.specs.Laws.{lines_between, parts_between, read_parts, texts_between, without_end}
 use Rattle.nm_mime.specs.Parts.{bytes_in}
-use Rattle.nm_mime.specs.declared.children.Marks.{Marks}
-use Rattle.nm_mime.specs.declared.children.Stretch.{Stretch}
+use Rattle.nm_mime.specs.declared.children.Delimiters.{Delimiters}
+use Rattle.nm_mime.specs.declared.children.Span.{Span}
 
 -- ---- the content of a line is the front of it
 front_take : (n : ℕ) (line : List ℕ) → take (length (take n line)) line ≡ take n line
@@ -43,26 +43,31 @@ content_take line more =
     let f = content_front line in
     ap (λ x. take (length (content line)) (x ++ more)) f.1 ∙ ap (take (length (content line))) (append_assoc (content line) f.0 more) ∙ take_at (content line) (f.0 ++ more) (length (content line)) refl
 
+before_first-no : (p : List ℕ → Bool) (x : List ℕ) (xs : List (List ℕ)) → p x ≡ false → before_first p (x ∷ xs) ≡ x ∷ before_first p xs
+before_first-no p x xs e =
+    let one : 1 + position_or_len p xs ≡ suc (position_or_len p xs) = omega arith in
+    ap (λ v. take (cond (not v) (1 + position_or_len p xs) 0) (x ∷ xs)) e ∙ ap (λ k. take k (x ∷ xs)) one
+
 -- ---- the lines between delimiters, line by line
 some_first : (l : List (List (List ℕ))) → 0 < length l → (g : List (List ℕ)) × (gs : List (List (List ℕ))) × (l ≡ g ∷ gs)
 some_first [] h = absurd (omega arith)
 some_first (g ∷ gs) h = (g, gs, refl)
 
-between_some : (marks : Marks) (lines : List (List ℕ)) → (g : List (List ℕ)) × (gs : List (List (List ℕ))) × (lines_between marks lines ≡ g ∷ gs)
-between_some marks lines =
-    let one = length-slice_split (is_line_of marks.delimiter) (before_first (is_line_of marks.closing) lines) in
-    some_first (lines_between marks lines) (omega arith)
+between_some : (delimiters : Delimiters) (lines : List (List ℕ)) → (g : List (List ℕ)) × (gs : List (List (List ℕ))) × (lines_between delimiters lines ≡ g ∷ gs)
+between_some delimiters lines =
+    let one = length-slice_split (is_line_of delimiters.delimiter) (before_first (is_line_of delimiters.closing) lines) in
+    some_first (lines_between delimiters lines) (omega arith)
 
-between_closing : (marks : Marks) (line : List ℕ) (more : List (List ℕ)) → is_line_of marks.closing line ≡ true → lines_between marks (line ∷ more) ≡ [] ∷ []
-between_closing marks line more e = ap (λ v. slice_split (is_line_of marks.delimiter) (take (cond (not v) (1 + position_or_len (is_line_of marks.closing) more) 0) (line ∷ more))) e
+between_closing : (delimiters : Delimiters) (line : List ℕ) (more : List (List ℕ)) → is_line_of delimiters.closing line ≡ true → lines_between delimiters (line ∷ more) ≡ [] ∷ []
+between_closing delimiters line more e = ap (λ v. slice_split (is_line_of delimiters.delimiter) (take (cond (not v) (1 + position_or_len (is_line_of delimiters.closing) more) 0) (line ∷ more))) e
 
-between_delimiter : (marks : Marks) (line : List ℕ) (more : List (List ℕ)) → is_line_of marks.closing line ≡ false → is_line_of marks.delimiter line ≡ true → lines_between marks (line ∷ more) ≡ [] ∷ lines_between marks more
-between_delimiter marks line more e f =
-    ap (slice_split (is_line_of marks.delimiter)) (before_first-no (is_line_of marks.closing) line more e) ∙ slice_split-cons_yes (is_line_of marks.delimiter) line (before_first (is_line_of marks.closing) more) f
+between_delimiter : (delimiters : Delimiters) (line : List ℕ) (more : List (List ℕ)) → is_line_of delimiters.closing line ≡ false → is_line_of delimiters.delimiter line ≡ true → lines_between delimiters (line ∷ more) ≡ [] ∷ lines_between delimiters more
+between_delimiter delimiters line more e f =
+    ap (slice_split (is_line_of delimiters.delimiter)) (before_first-no (is_line_of delimiters.closing) line more e) ∙ slice_split-cons_yes (is_line_of delimiters.delimiter) line (before_first (is_line_of delimiters.closing) more) f
 
-between_other : (marks : Marks) (line : List ℕ) (more : List (List ℕ)) → is_line_of marks.closing line ≡ false → is_line_of marks.delimiter line ≡ false → lines_between marks (line ∷ more) ≡ onto_first line (lines_between marks more)
-between_other marks line more e f =
-    ap (slice_split (is_line_of marks.delimiter)) (before_first-no (is_line_of marks.closing) line more e) ∙ slice_split-cons_no (is_line_of marks.delimiter) line (before_first (is_line_of marks.closing) more) f
+between_other : (delimiters : Delimiters) (line : List ℕ) (more : List (List ℕ)) → is_line_of delimiters.closing line ≡ false → is_line_of delimiters.delimiter line ≡ false → lines_between delimiters (line ∷ more) ≡ onto_first line (lines_between delimiters more)
+between_other delimiters line more e f =
+    ap (slice_split (is_line_of delimiters.delimiter)) (before_first-no (is_line_of delimiters.closing) line more e) ∙ slice_split-cons_no (is_line_of delimiters.delimiter) line (before_first (is_line_of delimiters.closing) more) f
 
 -- the text of the first part, where these follow
 abbrev first_text : Bool → List (List ℕ) → List (List (List ℕ)) → List ℕ
@@ -82,34 +87,34 @@ same_first : (g h : List (List ℕ)) (gs hs : List (List (List ℕ))) → g ∷ 
 same_first g h gs hs e = (cc, cc)
 
 -- a line before one that ends the part is the last of it
-stop_first : (marks : Marks) (line : List ℕ) (more g : List (List ℕ)) (gs : List (List (List ℕ))) → lines_between marks more ≡ g ∷ gs → stops marks more ≡ true → first_text (list_any (is_line_of marks.closing) more) (line ∷ g) gs ≡ content line
-stop_first marks line [] g gs e s = absurd (cc)
-stop_first marks line (m ∷ rest) g gs e s =
-    let closed : Bool = list_any (is_line_of marks.closing) (m ∷ rest) in
-    elim (is_line_of marks.closing m) as (λ v. is_line_of marks.closing m ≡ v → first_text closed (line ∷ g) gs ≡ content line) [
+stop_first : (delimiters : Delimiters) (line : List ℕ) (more g : List (List ℕ)) (gs : List (List (List ℕ))) → lines_between delimiters more ≡ g ∷ gs → stops delimiters more ≡ true → first_text (list_any (is_line_of delimiters.closing) more) (line ∷ g) gs ≡ content line
+stop_first delimiters line [] g gs e s = absurd (cc)
+stop_first delimiters line (m ∷ rest) g gs e s =
+    let closed : Bool = list_any (is_line_of delimiters.closing) (m ∷ rest) in
+    elim (is_line_of delimiters.closing m) as (λ v. is_line_of delimiters.closing m ≡ v → first_text closed (line ∷ g) gs ≡ content line) [
       | true ↦ λ c.
-          let same = same_first [] g [] gs (sym (between_closing marks m rest c) ∙ e) in
-          ap (λ x. first_text closed (line ∷ x) gs) (sym same.0) ∙ ap (λ y. first_text closed (line ∷ []) y) (sym same.1) ∙ ap (λ v. first_text (v || list_any (is_line_of marks.closing) rest) (line ∷ []) []) c
-      | false ↦ λ c. elim (is_line_of marks.delimiter m) as (λ v. is_line_of marks.delimiter m ≡ v → first_text closed (line ∷ g) gs ≡ content line) [
+          let same = same_first [] g [] gs (sym (between_closing delimiters m rest c) ∙ e) in
+          ap (λ x. first_text closed (line ∷ x) gs) (sym same.0) ∙ ap (λ y. first_text closed (line ∷ []) y) (sym same.1) ∙ ap (λ v. first_text (v || list_any (is_line_of delimiters.closing) rest) (line ∷ []) []) c
+      | false ↦ λ c. elim (is_line_of delimiters.delimiter m) as (λ v. is_line_of delimiters.delimiter m ≡ v → first_text closed (line ∷ g) gs ≡ content line) [
         | true ↦ λ d.
-            let same = same_first [] g (lines_between marks rest) gs (sym (between_delimiter marks m rest c d) ∙ e) in
-            let b = between_some marks rest in
+            let same = same_first [] g (lines_between delimiters rest) gs (sym (between_delimiter delimiters m rest c d) ∙ e) in
+            let b = between_some delimiters rest in
             ap (λ x. first_text closed (line ∷ x) gs) (sym same.0) ∙ ap (λ y. first_text closed (line ∷ []) y) (sym same.1 ∙ b.2)
-        | false ↦ λ d. absurd (let no : false ≡ true = sym (ap (λ v. v || is_line_of marks.closing m) d ∙ c) ∙ s in cc)
+        | false ↦ λ d. absurd (let no : false ≡ true = sym (ap (λ v. v || is_line_of delimiters.closing m) d ∙ c) ∙ s in cc)
       ] refl
     ] refl
 
 -- and before another it is not
-goes_first : (marks : Marks) (line : List ℕ) (more g : List (List ℕ)) (gs : List (List (List ℕ))) → lines_between marks more ≡ g ∷ gs → stops marks more ≡ false → first_text (list_any (is_line_of marks.closing) more) (line ∷ g) gs ≡ line ++ first_text (list_any (is_line_of marks.closing) more) g gs
-goes_first marks line [] g gs e s =
+goes_first : (delimiters : Delimiters) (line : List ℕ) (more g : List (List ℕ)) (gs : List (List (List ℕ))) → lines_between delimiters more ≡ g ∷ gs → stops delimiters more ≡ false → first_text (list_any (is_line_of delimiters.closing) more) (line ∷ g) gs ≡ line ++ first_text (list_any (is_line_of delimiters.closing) more) g gs
+goes_first delimiters line [] g gs e s =
     let same = same_first [] g [] gs e in
     ap (λ x. first_text false (line ∷ x) gs) (sym same.0) ∙ ap (λ y. first_text false (line ∷ []) y) (sym same.1) ∙ ap (λ x. line ++ first_text false x []) same.0 ∙ ap (λ y. line ++ first_text false g y) same.1
-goes_first marks line (m ∷ rest) g gs e s =
-    let closed : Bool = list_any (is_line_of marks.closing) (m ∷ rest) in
-    let d : is_line_of marks.delimiter m ≡ false = first_false (is_line_of marks.delimiter m) (is_line_of marks.closing m) s in
-    let c : is_line_of marks.closing m ≡ false = second_false (is_line_of marks.delimiter m) (is_line_of marks.closing m) s in
-    let b = between_some marks rest in
-    let same = same_first (m ∷ b.0) g b.1 gs (ap (onto_first m) (sym b.2) ∙ sym (between_other marks m rest c d) ∙ e) in
+goes_first delimiters line (m ∷ rest) g gs e s =
+    let closed : Bool = list_any (is_line_of delimiters.closing) (m ∷ rest) in
+    let d : is_line_of delimiters.delimiter m ≡ false = (or_parts (is_line_of delimiters.delimiter m) (is_line_of delimiters.closing m) s).0 in
+    let c : is_line_of delimiters.closing m ≡ false = (or_parts (is_line_of delimiters.delimiter m) (is_line_of delimiters.closing m) s).1 in
+    let b = between_some delimiters rest in
+    let same = same_first (m ∷ b.0) g b.1 gs (ap (onto_first m) (sym b.2) ∙ sym (between_other delimiters m rest c d) ∙ e) in
     ap (λ x. first_text closed (line ∷ x) gs) (sym same.0) ∙ text_more closed line m b.0 gs ∙ ap (λ x. line ++ first_text closed x gs) same.0
 
 -- ---- the texts
@@ -125,60 +130,56 @@ cut_first bytes front rest size b =
     let many : from + size - from ≡ size = omega arith in
     ap (λ n. take n (drop from bytes)) many ∙ ap (λ n. take size (drop n bytes)) at ∙ ap (λ x. take size (drop (length front) x)) b ∙ ap (take size) (drop_at front rest (length front) refl)
 
-or_second : (a b : Bool) → b ≡ true → (a || b) ≡ true
-or_second true b e = refl
-or_second false b e = e
+abbrev texts_in : List ℕ → List Span → List (List ℕ)
+texts_in bytes spans = map (λ span. bytes_in bytes span.from span.to) spans
 
-abbrev texts_in : List ℕ → List Stretch → List (List ℕ)
-texts_in bytes stretches = map (λ stretch. bytes_in bytes stretch.from stretch.to) stretches
-
-between_read : (marks : Marks) (bytes front : List ℕ) (lines g : List (List ℕ)) (gs : List (List (List ℕ))) → bytes ≡ front ++ concat lines → lines_between marks lines ≡ g ∷ gs → (take (part_size marks lines) (concat lines) ≡ first_text (list_any (is_line_of marks.closing) lines) g gs) × (texts_in bytes (stretches_in marks (length bytes) lines) ≡ texts_between (list_any (is_line_of marks.closing) lines) gs)
-between_read marks bytes front [] g gs b e =
+between_read : (delimiters : Delimiters) (bytes front : List ℕ) (lines g : List (List ℕ)) (gs : List (List (List ℕ))) → bytes ≡ front ++ concat lines → lines_between delimiters lines ≡ g ∷ gs → (take (part_len delimiters lines) (concat lines) ≡ first_text (list_any (is_line_of delimiters.closing) lines) g gs) × (texts_in bytes (spans_in delimiters (length bytes) lines) ≡ texts_between (list_any (is_line_of delimiters.closing) lines) gs)
+between_read delimiters bytes front [] g gs b e =
     let same = same_first [] g [] gs e in
     (ap (λ x. first_text false x []) same.0 ∙ ap (λ y. first_text false g y) same.1, ap (texts_between false) same.1)
-between_read marks bytes front (line ∷ more) g gs b e =
+between_read delimiters bytes front (line ∷ more) g gs b e =
     let end : ℕ = length bytes in
-    let any : Bool = list_any (is_line_of marks.closing) more in
-    let closed : Bool = list_any (is_line_of marks.closing) (line ∷ more) in
+    let any : Bool = list_any (is_line_of delimiters.closing) more in
+    let closed : Bool = list_any (is_line_of delimiters.closing) (line ∷ more) in
     let here : bytes ≡ (front ++ line) ++ concat more = b ∙ sym (append_assoc front line (concat more)) in
-    let s = between_some marks more in
-    let r = between_read marks bytes (front ++ line) more s.0 s.1 here s.2 in
-    let size : ℕ = cond (stops marks more) (length (content line)) (length line + part_size marks more) in
+    let s = between_some delimiters more in
+    let r = between_read delimiters bytes (front ++ line) more s.0 s.1 here s.2 in
+    let size : ℕ = cond (stops delimiters more) (length (content line)) (length line + part_len delimiters more) in
     let all : List ℕ = line ++ concat more in
-    elim (is_line_of marks.closing line) as (λ v. is_line_of marks.closing line ≡ v → (take (part_size marks (line ∷ more)) all ≡ first_text closed g gs) × (texts_in bytes (stretches_in marks end (line ∷ more)) ≡ texts_between closed gs)) [
+    elim (is_line_of delimiters.closing line) as (λ v. is_line_of delimiters.closing line ≡ v → (take (part_len delimiters (line ∷ more)) all ≡ first_text closed g gs) × (texts_in bytes (spans_in delimiters end (line ∷ more)) ≡ texts_between closed gs)) [
       | true ↦ λ c.
-          let same = same_first [] g [] gs (sym (between_closing marks line more c) ∙ e) in
+          let same = same_first [] g [] gs (sym (between_closing delimiters line more c) ∙ e) in
           let done : closed ≡ true = ap (λ v. v || any) c in (
-            ap (λ v. take (cond v 0 size) all) (or_second (is_line_of marks.delimiter line) (is_line_of marks.closing line) c) ∙ ap (λ x. first_text true x []) same.0 ∙ ap (λ y. first_text true g y) same.1 ∙ ap (λ v. first_text v g gs) (sym done),
-            ap (λ v. texts_in bytes (cond v [] (part_at marks end line more ++ stretches_in marks end more))) c ∙ ap (texts_between closed) same.1,
+            ap (λ v. take (cond v 0 size) all) (or_right (is_line_of delimiters.delimiter line) (is_line_of delimiters.closing line) c) ∙ ap (λ x. first_text true x []) same.0 ∙ ap (λ y. first_text true g y) same.1 ∙ ap (λ v. first_text v g gs) (sym done),
+            ap (λ v. texts_in bytes (cond v [] (part_at delimiters end line more ++ spans_in delimiters end more))) c ∙ ap (texts_between closed) same.1,
           )
       | false ↦ λ c.
           let goes : closed ≡ any = ap (λ v. v || any) c in
-          let further : stretches_in marks end (line ∷ more) ≡ part_at marks end line more ++ stretches_in marks end more = ap (λ v. cond v [] (part_at marks end line more ++ stretches_in marks end more)) c in
-          elim (is_line_of marks.delimiter line) as (λ v. is_line_of marks.delimiter line ≡ v → (take (part_size marks (line ∷ more)) all ≡ first_text closed g gs) × (texts_in bytes (stretches_in marks end (line ∷ more)) ≡ texts_between closed gs)) [
+          let further : spans_in delimiters end (line ∷ more) ≡ part_at delimiters end line more ++ spans_in delimiters end more = ap (λ v. cond v [] (part_at delimiters end line more ++ spans_in delimiters end more)) c in
+          elim (is_line_of delimiters.delimiter line) as (λ v. is_line_of delimiters.delimiter line ≡ v → (take (part_len delimiters (line ∷ more)) all ≡ first_text closed g gs) × (texts_in bytes (spans_in delimiters end (line ∷ more)) ≡ texts_between closed gs)) [
             | true ↦ λ d.
-                let same = same_first [] g (lines_between marks more) gs (sym (between_delimiter marks line more c d) ∙ e) in
+                let same = same_first [] g (lines_between delimiters more) gs (sym (between_delimiter delimiters line more c d) ∙ e) in
                 let next : s.0 ∷ s.1 ≡ gs = sym s.2 ∙ same.1 in (
-                  ap (λ v. take (cond (v || is_line_of marks.closing line) 0 size) all) d ∙ ap (λ x. first_text closed x (s.0 ∷ s.1)) same.0 ∙ ap (λ y. first_text closed g y) next,
-                  ap (texts_in bytes) (further ∙ ap (λ v. cond v (part_behind marks end more ∷ []) [] ++ stretches_in marks end more) d) ∙ ap (λ x. x ∷ texts_in bytes (stretches_in marks end more)) (cut_first bytes (front ++ line) (concat more) (part_size marks more) here ∙ r.0) ∙ ap (λ l. first_text any s.0 s.1 ∷ l) r.1 ∙ sym (texts_first any s.0 s.1) ∙ ap (λ v. texts_between v (s.0 ∷ s.1)) (sym goes) ∙ ap (texts_between closed) next,
+                  ap (λ v. take (cond (v || is_line_of delimiters.closing line) 0 size) all) d ∙ ap (λ x. first_text closed x (s.0 ∷ s.1)) same.0 ∙ ap (λ y. first_text closed g y) next,
+                  ap (texts_in bytes) (further ∙ ap (λ v. cond v (part_after delimiters end more ∷ []) [] ++ spans_in delimiters end more) d) ∙ ap (λ x. x ∷ texts_in bytes (spans_in delimiters end more)) (cut_first bytes (front ++ line) (concat more) (part_len delimiters more) here ∙ r.0) ∙ ap (λ l. first_text any s.0 s.1 ∷ l) r.1 ∙ sym (texts_first any s.0 s.1) ∙ ap (λ v. texts_between v (s.0 ∷ s.1)) (sym goes) ∙ ap (texts_between closed) next,
                 )
             | false ↦ λ d.
-                let same = same_first (line ∷ s.0) g s.1 gs (ap (onto_first line) (sym s.2) ∙ sym (between_other marks line more c d) ∙ e) in
+                let same = same_first (line ∷ s.0) g s.1 gs (ap (onto_first line) (sym s.2) ∙ sym (between_other delimiters line more c d) ∙ e) in
                 let kept : take size all ≡ first_text any (line ∷ s.0) s.1 =
-                elim (stops marks more) as (λ v. stops marks more ≡ v → take (cond v (length (content line)) (length line + part_size marks more)) all ≡ first_text any (line ∷ s.0) s.1) [
-                  | true ↦ λ t. content_take line (concat more) ∙ sym (stop_first marks line more s.0 s.1 s.2 t)
-                  | false ↦ λ t. take_more line (concat more) (part_size marks more) ∙ ap (λ x. line ++ x) r.0 ∙ sym (goes_first marks line more s.0 s.1 s.2 t)
+                elim (stops delimiters more) as (λ v. stops delimiters more ≡ v → take (cond v (length (content line)) (length line + part_len delimiters more)) all ≡ first_text any (line ∷ s.0) s.1) [
+                  | true ↦ λ t. content_take line (concat more) ∙ sym (stop_first delimiters line more s.0 s.1 s.2 t)
+                  | false ↦ λ t. take_more line (concat more) (part_len delimiters more) ∙ ap (λ x. line ++ x) r.0 ∙ sym (goes_first delimiters line more s.0 s.1 s.2 t)
                 ] refl in
-                let none : ends_part marks line ≡ false = ap (λ v. v || is_line_of marks.closing line) d ∙ c in (
+                let none : ends_part delimiters line ≡ false = ap (λ v. v || is_line_of delimiters.closing line) d ∙ c in (
                   ap (λ v. take (cond v 0 size) all) none ∙ kept ∙ ap (λ v. first_text v (line ∷ s.0) s.1) (sym goes) ∙ ap (λ x. first_text closed x s.1) same.0 ∙ ap (λ y. first_text closed g y) same.1,
-                  ap (texts_in bytes) (further ∙ ap (λ v. cond v (part_behind marks end more ∷ []) [] ++ stretches_in marks end more) d) ∙ r.1 ∙ ap (λ v. texts_between v s.1) (sym goes) ∙ ap (texts_between closed) same.1,
+                  ap (texts_in bytes) (further ∙ ap (λ v. cond v (part_after delimiters end more ∷ []) [] ++ spans_in delimiters end more) d) ∙ r.1 ∙ ap (λ v. texts_between v s.1) (sym goes) ∙ ap (texts_between closed) same.1,
                 )
           ] refl
     ] refl
 
-pub all_between : (marks : Marks) (bytes : List ℕ) → read_parts marks bytes ≡ parts_between marks (lines_of bytes)
-unfolding stretches_of
-all_between marks bytes =
-    let s = between_some marks (lines_of bytes) in
-    let r = between_read marks bytes [] (lines_of bytes) s.0 s.1 (sym (concat-cut line_more bytes)) s.2 in
-    r.1 ∙ ap (λ l. texts_between (list_any (is_line_of marks.closing) (lines_of bytes)) (drop 1 l)) (sym s.2)
+pub all_between : (delimiters : Delimiters) (bytes : List ℕ) → read_parts delimiters bytes ≡ parts_between delimiters (lines_of bytes)
+unfolding spans_of
+all_between delimiters bytes =
+    let s = between_some delimiters (lines_of bytes) in
+    let r = between_read delimiters bytes [] (lines_of bytes) s.0 s.1 (sym (concat-lines bytes)) s.2 in
+    r.1 ∙ ap (λ l. texts_between (list_any (is_line_of delimiters.closing) (lines_of bytes)) (drop 1 l)) (sym s.2)

@@ -2,13 +2,13 @@
 use Rattle.std.proofs.Common.{◌≡◌, ℕ, zero, suc, ◌+◌, ◌-◌, ◌≤◌, Bool, true, false, cond, ◌||◌, List, [], ◌∷◌, ◌++◌, length, refl, arith, length-append}
 use Rattle.std.specs.List.{All, concat, flat_map}
 use Rattle.std.proofs.lemmas.List.Elements.{All-append, All-cons, All-nil}
-use Rattle.nm_header.specs.Lines.{content, lines_of}
-use Rattle.nm_mime.specs.Children.{is_line_of, marks_of, part_size, stops, stretches_in, stretches_of}
+use Rattle.nm_text.specs.Lines.{content, lines_of}
+use Rattle.nm_mime.specs.Children.{delimiters_of, is_line_of, part_len, spans_in, spans_of, stops}
 use Rattle.nm_mime.specs.Laws.{AreApart, GoDown}
 use Rattle.nm_mime.specs.Parts.{IsInside, IsWithin, bytes_in, children_of, entities_from, entity_in, inside, is_opened, opening_of, parts_of, parts_upto, whole_of}
 use Rattle.nm_mime.specs.Roles.{is_multipart}
-use Rattle.nm_mime.specs.declared.children.Marks.{Marks}
-use Rattle.nm_mime.specs.declared.children.Stretch.{Stretch}
+use Rattle.nm_mime.specs.declared.children.Delimiters.{Delimiters}
+use Rattle.nm_mime.specs.declared.children.Span.{Span}
 use Rattle.nm_mime.specs.declared.entity.Entity.{Entity}
 use Rattle.nm_mime.specs.declared.entity.Opening.{Opening}
 use Rattle.nm_mime.specs.declared.entity.Part.{Part}
@@ -36,33 +36,33 @@ unfolding parts_of
 parts_inside mail = all_parts 33 mail (whole_of mail) (whole_within mail)
 
 -- ---- the parts in a part stand one behind the other
-apart_less : (low from to : ℕ) (stretches : List Stretch) → low ≤ from → AreApart from to stretches → AreApart low to stretches
+apart_less : (low from to : ℕ) (spans : List Span) → low ≤ from → AreApart from to spans → AreApart low to spans
 apart_less low from to [] h a = omega arith
-apart_less low from to (s ∷ stretches) h a = let first = a.0 in (omega arith, a.1, a.2)
+apart_less low from to (s ∷ spans) h a = let first = a.0 in (omega arith, a.1, a.2)
 
 -- a line before others: `size` bytes of it and of them belong to the part that begins with it
-turn_apart : (end len less size more : ℕ) (delimiter closing : Bool) (rest : List Stretch) → len ≤ end → less ≤ len → size ≤ len - less + more → more ≤ less → AreApart (end - less + more) end rest → AreApart (end - len + cond (delimiter || closing) 0 size) end (cond closing [] (cond delimiter (record { from = end - less; to = end - less + more } ∷ []) [] ++ rest))
+turn_apart : (end len less size more : ℕ) (delimiter closing : Bool) (rest : List Span) → len ≤ end → less ≤ len → size ≤ len - less + more → more ≤ less → AreApart (end - less + more) end rest → AreApart (end - len + cond (delimiter || closing) 0 size) end (cond closing [] (cond delimiter (record { from = end - less; to = end - less + more } ∷ []) [] ++ rest))
 turn_apart end len less size more true true rest h i j k a = omega arith
 turn_apart end len less size more false true rest h i j k a = omega arith
 turn_apart end len less size more true false rest h i j k a = (omega arith, omega arith, a)
 turn_apart end len less size more false false rest h i j k a = apart_less (end - len + size) (end - less + more) end rest (omega arith) a
 
 -- they stand behind the part that begins with the lines
-lines_apart : (marks : Marks) (end : ℕ) (lines : List (List ℕ)) → length (concat lines) ≤ end → AreApart (end - length (concat lines) + part_size marks lines) end (stretches_in marks end lines)
-lines_apart marks end [] h = omega arith
-lines_apart marks end (line ∷ more) h =
+lines_apart : (delimiters : Delimiters) (end : ℕ) (lines : List (List ℕ)) → length (concat lines) ≤ end → AreApart (end - length (concat lines) + part_len delimiters lines) end (spans_in delimiters end lines)
+lines_apart delimiters end [] h = omega arith
+lines_apart delimiters end (line ∷ more) h =
     let long : length (line ++ concat more) ≡ length line + length (concat more) = length-append line (concat more) in
     let short = content_short line in
-    let small = size_short marks more in
-    let size : cond (stops marks more) (length (content line)) (length line + part_size marks more) ≤ length (line ++ concat more) - length (concat more) + part_size marks more =
-    elim (stops marks more) as (λ v. cond v (length (content line)) (length line + part_size marks more) ≤ length (line ++ concat more) - length (concat more) + part_size marks more) [ true ↦ omega arith | false ↦ omega arith ] in
-    turn_apart end (length (line ++ concat more)) (length (concat more)) (cond (stops marks more) (length (content line)) (length line + part_size marks more)) (part_size marks more) (is_line_of marks.delimiter line) (is_line_of marks.closing line) (stretches_in marks end more) h (omega arith) size small (lines_apart marks end more (omega arith))
+    let small = size_short delimiters more in
+    let size : cond (stops delimiters more) (length (content line)) (length line + part_len delimiters more) ≤ length (line ++ concat more) - length (concat more) + part_len delimiters more =
+    elim (stops delimiters more) as (λ v. cond v (length (content line)) (length line + part_len delimiters more) ≤ length (line ++ concat more) - length (concat more) + part_len delimiters more) [ true ↦ omega arith | false ↦ omega arith ] in
+    turn_apart end (length (line ++ concat more)) (length (concat more)) (cond (stops delimiters more) (length (content line)) (length line + part_len delimiters more)) (part_len delimiters more) (is_line_of delimiters.delimiter line) (is_line_of delimiters.closing line) (spans_in delimiters end more) h (omega arith) size small (lines_apart delimiters end more (omega arith))
 
-stretches_apart : (marks : Marks) (end : ℕ) (bytes : List ℕ) → length bytes ≤ end → AreApart (end - length bytes) end (stretches_of marks end bytes)
-unfolding stretches_of
-stretches_apart marks end bytes h =
+spans_apart : (delimiters : Delimiters) (end : ℕ) (bytes : List ℕ) → length bytes ≤ end → AreApart (end - length bytes) end (spans_of delimiters end bytes)
+unfolding spans_of
+spans_apart delimiters end bytes h =
     let long = lines_long bytes in
-    apart_less (end - length bytes) (end - length (concat (lines_of bytes)) + part_size marks (lines_of bytes)) end (stretches_in marks end (lines_of bytes)) (omega arith) (lines_apart marks end (lines_of bytes) (omega arith))
+    apart_less (end - length bytes) (end - length (concat (lines_of bytes)) + part_len delimiters (lines_of bytes)) end (spans_in delimiters end (lines_of bytes)) (omega arith) (lines_apart delimiters end (lines_of bytes) (omega arith))
 
 pub inside_apart : (mail : List ℕ) (opening : Opening) → IsInside (length mail) opening.part → AreApart opening.part.from opening.part.to (inside mail opening)
 inside_apart mail opening i =
@@ -71,8 +71,8 @@ inside_apart mail opening i =
     let rises = i.rises in
     let bytes : List ℕ = bytes_in mail from to in
     let long : length bytes ≡ to - from = stretch_long mail from to i.rises i.ends in
-    elim (is_multipart opening.part.kind) as (λ v. AreApart from to (cond v (stretches_of (marks_of opening.boundary) to bytes) (record { from = from; to = to } ∷ []))) [
-      | true ↦ apart_less from (to - length bytes) to (stretches_of (marks_of opening.boundary) to bytes) (omega arith) (stretches_apart (marks_of opening.boundary) to bytes (omega arith))
+    elim (is_multipart opening.part.kind) as (λ v. AreApart from to (cond v (spans_of (delimiters_of opening.boundary) to bytes) (record { from = from; to = to } ∷ []))) [
+      | true ↦ apart_less from (to - length bytes) to (spans_of (delimiters_of opening.boundary) to bytes) (omega arith) (spans_apart (delimiters_of opening.boundary) to bytes (omega arith))
       | false ↦ (omega arith, omega arith, omega arith)
     ]
 
@@ -97,12 +97,12 @@ down-append : (least most : ℕ) (xs ys : List Part) → least ≤ most → Deep
 down-append least most [] ys h d g i = down_less least most ys h i
 down-append least most (part ∷ xs) ys h d g i = let first = d.0 in (g.0, down-append least (part.depth + 1) xs ys (omega arith) d.1 g.1 i)
 
-down_under : (f : Entity → List Part) → ((entity : Entity) → GoDown entity.depth (f entity) × Deep entity.depth (f entity)) → (part : Part) (n : ℕ) (stretches : List Stretch) → GoDown (part.depth + 1) (flat_map f (entities_from part n stretches)) × Deep (part.depth + 1) (flat_map f (entities_from part n stretches))
+down_under : (f : Entity → List Part) → ((entity : Entity) → GoDown entity.depth (f entity) × Deep entity.depth (f entity)) → (part : Part) (n : ℕ) (spans : List Span) → GoDown (part.depth + 1) (flat_map f (entities_from part n spans)) × Deep (part.depth + 1) (flat_map f (entities_from part n spans))
 down_under f h part n [] = (refl, tt)
-down_under f h part n (s ∷ stretches) =
+down_under f h part n (s ∷ spans) =
     let first = h (entity_in part n s) in
-    let rest = down_under f h part (n + 1) stretches in
-    let parts : List Part = flat_map f (entities_from part (n + 1) stretches) in
+    let rest = down_under f h part (n + 1) spans in
+    let parts : List Part = flat_map f (entities_from part (n + 1) spans) in
     (down-append (part.depth + 1) (part.depth + 1) (f (entity_in part n s)) parts (omega arith) first.1 first.0 rest.0, deep-append (part.depth + 1) (f (entity_in part n s)) parts first.1 rest.1)
 
 down_children : (f : Entity → List Part) → ((entity : Entity) → GoDown entity.depth (f entity) × Deep entity.depth (f entity)) → (mail : List ℕ) (opening : Opening) → GoDown (opening.part.depth + 1) (flat_map f (children_of mail opening)) × Deep (opening.part.depth + 1) (flat_map f (children_of mail opening))

@@ -8,3 +8,4 @@ pub mod RoundLemmas
 pub mod TreeLemmas
 pub mod TypeLemmas
 pub mod Utf8Lemmas
+pub mod WrittenLemmas

@@ -1,31 +1,39 @@
 -- Parameters: what was found with what is left to find is all.
-use Rattle.std.proofs.Common.{◌≡◌, ℕ, zero, suc, ◌+◌, ◌-◌, ◌<◌, ◌≤◌, Bool, true, false, cond, not, ◌==◌, List, [], ◌∷◌, ◌++◌, length, drop, get_or, refl, sym, ap, ◌∙◌, arith, append_assoc, length-drop, Some, None}
+use Rattle.std.proofs.Common.{◌≡◌, ℕ, zero, suc, ◌+◌, ◌-◌, ◌<◌, ◌≤◌, Bool, true, false, cond, not, ◌==◌, List, [], ◌∷◌, ◌++◌, length, drop, get_or, ltb, refl, sym, ap, ◌∙◌, arith, append_assoc, length-drop, Some, None}
 use Rattle.std.specs.Prelude.{position}
-use Rattle.nm_header.proofs.SplitLemmas.{no_place_of, place_of}
 use Rattle.std.proofs.lemmas.List.Sums.{prefix_len-le-length}
 use Rattle.std.specs.List.{after_first, position_or_len, prefix_len}
 use Rattle.std.proofs.lemmas.List.{append-nil}
-use Rattle.std.proofs.lemmas.Bool.{eqb-true}
+use Rattle.std.proofs.lemmas.Bool.{eqb-true, ltb-false}
 use Rattle.nm_mime.specs.declared.param_list.Param.{Param}
-use Rattle.nm_mime.specs.Params.{behind_name, behind_param, behind_quoted, behind_value, ends_name, goes_on, is_pair, is_semicolon, param_in, params_behind, params_of, params_upto, quoted_text, begins_with, kept_param, param_from, value_in}
+use Rattle.nm_mime.specs.Params.{after_name, after_param, after_quoted, after_value, begins_with, ends_name, goes_on, is_pair, is_semicolon, kept_param, param_from, param_in, params_in, params_of, params_upto, quoted_text, value_in}
 use Rattle.nm_base.specs.Bounds.{is_white_space}
-use Rattle.nm_header.specs.Space.{trimmed_start}
+use Rattle.nm_text.specs.WhiteSpace.{trimmed_start}
+
+-- ---- the place that `position` gives
+some_of : (b : Bool) (n i : ℕ) → cond b (Some n) None ≡ Some i → (b ≡ true) × (n ≡ i)
+some_of true n i e = (refl, cc)
+some_of false n i e = absurd (cc)
+
+none_of : (b : Bool) (n : ℕ) → cond b (Some n) None ≡ None → b ≡ false
+none_of true n e = absurd (cc)
+none_of false n e = refl
 
 -- ---- quoted strings
 not_sign : (b : Bool) → not b ≡ true → b ≡ false
 not_sign true e = absurd (cc)
 not_sign false e = refl
 
-pub pair_said : (text : List ℕ) → goes_on text ≡ true → is_pair text ≡ true → (quoted_text text ≡ get_or text 1 0 ∷ quoted_text (drop 2 text)) × (behind_quoted text ≡ behind_quoted (drop 2 text))
+pub pair_said : (text : List ℕ) → goes_on text ≡ true → is_pair text ≡ true → (quoted_text text ≡ get_or text 1 0 ∷ quoted_text (drop 2 text)) × (after_quoted text ≡ after_quoted (drop 2 text))
 pair_said [] g p = absurd (cc)
 pair_said (b ∷ []) g p = absurd (cc)
 pair_said (b ∷ c ∷ more) g p =
     let no : (b == 34) ≡ false = not_sign (b == 34) g in (
       ap (λ v. cond v [] (cond (b == 92) (c ∷ quoted_text more) (b ∷ quoted_text (c ∷ more)))) no ∙ ap (λ v. cond v (c ∷ quoted_text more) (b ∷ quoted_text (c ∷ more))) p,
-      ap (λ v. cond v (c ∷ more) (cond (b == 92) (behind_quoted more) (behind_quoted (c ∷ more)))) no ∙ ap (λ v. cond v (behind_quoted more) (behind_quoted (c ∷ more))) p,
+      ap (λ v. cond v (c ∷ more) (cond (b == 92) (after_quoted more) (after_quoted (c ∷ more)))) no ∙ ap (λ v. cond v (after_quoted more) (after_quoted (c ∷ more))) p,
     )
 
-pub byte_said : (text : List ℕ) → goes_on text ≡ true → is_pair text ≡ false → (quoted_text text ≡ get_or text 0 0 ∷ quoted_text (drop 1 text)) × (behind_quoted text ≡ behind_quoted (drop 1 text))
+pub byte_said : (text : List ℕ) → goes_on text ≡ true → is_pair text ≡ false → (quoted_text text ≡ get_or text 0 0 ∷ quoted_text (drop 1 text)) × (after_quoted text ≡ after_quoted (drop 1 text))
 byte_said [] g p = absurd (cc)
 byte_said (b ∷ []) g p =
     let no : (b == 34) ≡ false = not_sign (b == 34) g in
@@ -33,7 +41,7 @@ byte_said (b ∷ []) g p =
 byte_said (b ∷ c ∷ more) g p =
     let no : (b == 34) ≡ false = not_sign (b == 34) g in (
       ap (λ v. cond v [] (cond (b == 92) (c ∷ quoted_text more) (b ∷ quoted_text (c ∷ more)))) no ∙ ap (λ v. cond v (c ∷ quoted_text more) (b ∷ quoted_text (c ∷ more))) p,
-      ap (λ v. cond v (c ∷ more) (cond (b == 92) (behind_quoted more) (behind_quoted (c ∷ more)))) no ∙ ap (λ v. cond v (behind_quoted more) (behind_quoted (c ∷ more))) p,
+      ap (λ v. cond v (c ∷ more) (cond (b == 92) (after_quoted more) (after_quoted (c ∷ more)))) no ∙ ap (λ v. cond v (after_quoted more) (after_quoted (c ∷ more))) p,
     )
 
 pub pair_long : (text : List ℕ) → is_pair text ≡ true → 2 ≤ length text
@@ -51,10 +59,10 @@ said_end [] g = refl
 said_end (b ∷ []) g = elim (b == 34) as (λ v. not v ≡ false → cond v [] (b ∷ []) ≡ []) [ true ↦ λ h. refl | false ↦ λ h. absurd (cc) ] g
 said_end (b ∷ c ∷ more) g = elim (b == 34) as (λ v. not v ≡ false → cond v [] (cond (b == 92) (c ∷ quoted_text more) (b ∷ quoted_text (c ∷ more))) ≡ []) [ true ↦ λ h. refl | false ↦ λ h. absurd (cc) ] g
 
-pub behind_end : (text : List ℕ) → goes_on text ≡ false → behind_quoted text ≡ drop 1 text
-behind_end [] g = refl
-behind_end (b ∷ []) g = refl
-behind_end (b ∷ c ∷ more) g = elim (b == 34) as (λ v. not v ≡ false → cond v (c ∷ more) (cond (b == 92) (behind_quoted more) (behind_quoted (c ∷ more))) ≡ c ∷ more) [ true ↦ λ h. refl | false ↦ λ h. absurd (cc) ] g
+pub after_end : (text : List ℕ) → goes_on text ≡ false → after_quoted text ≡ drop 1 text
+after_end [] g = refl
+after_end (b ∷ []) g = refl
+after_end (b ∷ c ∷ more) g = elim (b == 34) as (λ v. not v ≡ false → cond v (c ∷ more) (cond (b == 92) (after_quoted more) (after_quoted (c ∷ more))) ≡ c ∷ more) [ true ↦ λ h. refl | false ↦ λ h. absurd (cc) ] g
 
 -- ---- all parameters
 pub after_less : (text : List ℕ) → length (after_first is_semicolon text) ≤ length text - 1
@@ -63,44 +71,44 @@ after_less text =
     omega arith
 
 pub place_some : (p : ℕ → Bool) (text : List ℕ) (at : ℕ) → position p text ≡ Some at → at ≡ position_or_len p text
-place_some p text at e = sym (place_of p text at e).1
+place_some p text at e = sym (some_of (ltb (position_or_len p text) (length text)) (position_or_len p text) at e).1
 
 pub place_none : (p : ℕ → Bool) (text : List ℕ) → position p text ≡ None → length text ≡ position_or_len p text
-place_none p text e = let long = no_place_of p text e in let most = prefix_len-le-length (λ x. not (p x)) text in omega arith
+place_none p text e = let long : length text ≤ position_or_len p text = ltb-false (position_or_len p text) (length text) (none_of (ltb (position_or_len p text) (length text)) (position_or_len p text) e) in let most = prefix_len-le-length (λ x. not (p x)) text in omega arith
 
 -- the parameters one by one: the number of them counts for nothing where it is large enough
-behind_short : (text : List ℕ) → length (behind_name text) ≤ length text → length (after_first is_semicolon (behind_name text)) ≤ length text - 1
-behind_short text h = let one = after_less (behind_name text) in omega arith
+behind_short : (text : List ℕ) → length (after_name text) ≤ length text → length (after_first is_semicolon (after_name text)) ≤ length text - 1
+behind_short text h = let one = after_less (after_name text) in omega arith
 
-quoted_short : (n : ℕ) (text : List ℕ) → length text ≤ n → length (behind_quoted text) ≤ length text
+quoted_short : (n : ℕ) (text : List ℕ) → length text ≤ n → length (after_quoted text) ≤ length text
 quoted_short n [] h = omega arith
 quoted_short n (b ∷ []) h = omega arith
 quoted_short zero (b ∷ c ∷ more) h = absurd (omega arith)
 quoted_short (suc n) (b ∷ c ∷ more) h =
     let one = quoted_short n more (omega arith) in
     let two = quoted_short n (c ∷ more) (omega arith) in
-    elim (b == 34) as (λ v. length (cond v (c ∷ more) (cond (b == 92) (behind_quoted more) (behind_quoted (c ∷ more)))) ≤ suc (suc (length more))) [
+    elim (b == 34) as (λ v. length (cond v (c ∷ more) (cond (b == 92) (after_quoted more) (after_quoted (c ∷ more)))) ≤ suc (suc (length more))) [
       | true ↦ omega arith
-      | false ↦ elim (b == 92) as (λ v. length (cond v (behind_quoted more) (behind_quoted (c ∷ more))) ≤ suc (suc (length more))) [ true ↦ omega arith | false ↦ omega arith ]
+      | false ↦ elim (b == 92) as (λ v. length (cond v (after_quoted more) (after_quoted (c ∷ more))) ≤ suc (suc (length more))) [ true ↦ omega arith | false ↦ omega arith ]
     ]
 
-value_short : (text : List ℕ) → length (behind_value text) ≤ length text
+value_short : (text : List ℕ) → length (after_value text) ≤ length text
 value_short [] = omega arith
 value_short (b ∷ more) = let one = quoted_short (length more) more (omega arith) in
-    elim (b == 34) as (λ v. length (cond v (behind_quoted more) (b ∷ more)) ≤ suc (length more)) [ true ↦ omega arith | false ↦ omega arith ]
+    elim (b == 34) as (λ v. length (cond v (after_quoted more) (b ∷ more)) ≤ suc (length more)) [ true ↦ omega arith | false ↦ omega arith ]
 
-name_short : (text : List ℕ) → length (behind_name text) ≤ length text
+name_short : (text : List ℕ) → length (after_name text) ≤ length text
 name_short [] = omega arith
 name_short (b ∷ more) =
     let one = value_short (trimmed_start more) in
     let two : length (trimmed_start more) ≡ length more - prefix_len is_white_space more = length-drop (prefix_len is_white_space more) more in
-    elim (b == 61) as (λ v. length (cond v (behind_value (trimmed_start more)) (b ∷ more)) ≤ suc (length more)) [ true ↦ omega arith | false ↦ omega arith ]
+    elim (b == 61) as (λ v. length (cond v (after_value (trimmed_start more)) (b ∷ more)) ≤ suc (length more)) [ true ↦ omega arith | false ↦ omega arith ]
 
-pub param_short : (text : List ℕ) → length (behind_param text) ≤ length text - 1
+pub param_short : (text : List ℕ) → length (after_param text) ≤ length text - 1
 param_short text =
     let n : ℕ = position_or_len ends_name text in
     let one = name_short (drop n text) in
-    let two = after_less (behind_name (drop n text)) in
+    let two = after_less (after_name (drop n text)) in
     let three : length (drop n text) ≡ length text - n = length-drop n text in
     omega arith
 
@@ -112,24 +120,24 @@ params_same (suc n) zero [] h k = params_same n zero [] (omega arith) k
 params_same (suc n) zero (b ∷ text) h k = absurd (omega arith)
 params_same (suc n) (suc m) text h k =
     let less = param_short text in
-    ap (λ x. param_in text ++ x) (params_same n m (behind_param text) (omega arith) (omega arith))
+    ap (λ x. param_in text ++ x) (params_same n m (after_param text) (omega arith) (omega arith))
 
-pub params-nil : params_behind [] ≡ []
-unfolding params_behind
+pub params-nil : params_in [] ≡ []
+unfolding params_in
 params-nil = refl
 
-pub params-cons : (text : List ℕ) → 0 < length text → params_behind text ≡ param_in text ++ params_behind (behind_param text)
-unfolding params_behind
+pub params-cons : (text : List ℕ) → 0 < length text → params_in text ≡ param_in text ++ params_in (after_param text)
+unfolding params_in
 params-cons [] h = absurd (omega arith)
 params-cons (b ∷ text) h =
     let less = param_short (b ∷ text) in
-    ap (λ x. param_in (b ∷ text) ++ x) (params_same (length text) (length (behind_param (b ∷ text))) (behind_param (b ∷ text)) (omega arith) (omega arith))
+    ap (λ x. param_in (b ∷ text) ++ x) (params_same (length text) (length (after_param (b ∷ text))) (after_param (b ∷ text)) (omega arith) (omega arith))
 
-pub params_turn : (before found : List Param) (left behind : List ℕ) → 0 < length left → found ≡ before ++ param_in left → behind ≡ behind_param left → found ++ params_behind behind ≡ before ++ params_behind left
+pub params_turn : (before found : List Param) (left behind : List ℕ) → 0 < length left → found ≡ before ++ param_in left → behind ≡ after_param left → found ++ params_in behind ≡ before ++ params_in left
 params_turn before found left behind h f b =
-    ap (λ x. x ++ params_behind behind) f ∙ append_assoc before (param_in left) (params_behind behind) ∙ ap (λ x. before ++ (param_in left ++ params_behind x)) b ∙ ap (λ x. before ++ x) (sym (params-cons left h))
+    ap (λ x. x ++ params_in behind) f ∙ append_assoc before (param_in left) (params_in behind) ∙ ap (λ x. before ++ (param_in left ++ params_in x)) b ∙ ap (λ x. before ++ x) (sym (params-cons left h))
 
-pub params_end : (found : List Param) (left : List ℕ) → (length left == 0) ≡ true → found ≡ found ++ params_behind left
+pub params_end : (found : List Param) (left : List ℕ) → (length left == 0) ≡ true → found ≡ found ++ params_in left
 params_end found [] e = sym (ap (λ x. found ++ x) params-nil ∙ append-nil found)
 params_end found (b ∷ left) e = absurd (let no : length (b ∷ left) ≡ 0 = eqb-true (length (b ∷ left)) 0 e in omega arith)
 
@@ -142,13 +150,13 @@ pub unnamed_from : (name text : List ℕ) → begins_with 61 text ≡ false → 
 unnamed_from name [] e = refl
 unnamed_from name (b ∷ more) e = ap (λ v. cond v (kept_param name (value_in (trimmed_start more))) []) e
 
-pub named_behind : (text : List ℕ) → begins_with 61 text ≡ true → behind_name text ≡ behind_value (trimmed_start (drop 1 text))
+pub named_behind : (text : List ℕ) → begins_with 61 text ≡ true → after_name text ≡ after_value (trimmed_start (drop 1 text))
 named_behind [] e = absurd (cc)
-named_behind (b ∷ more) e = ap (λ v. cond v (behind_value (trimmed_start more)) (b ∷ more)) e
+named_behind (b ∷ more) e = ap (λ v. cond v (after_value (trimmed_start more)) (b ∷ more)) e
 
-pub unnamed_behind : (text : List ℕ) → begins_with 61 text ≡ false → behind_name text ≡ text
+pub unnamed_behind : (text : List ℕ) → begins_with 61 text ≡ false → after_name text ≡ text
 unnamed_behind [] e = refl
-unnamed_behind (b ∷ more) e = ap (λ v. cond v (behind_value (trimmed_start more)) (b ∷ more)) e
+unnamed_behind (b ∷ more) e = ap (λ v. cond v (after_value (trimmed_start more)) (b ∷ more)) e
 
 pub drop_less : (n : ℕ) (text : List ℕ) → length (drop n text) ≤ length text
 drop_less n text = let long : length (drop n text) ≡ length text - n = length-drop n text in omega arith
@@ -157,5 +165,5 @@ pub some_left : (left : List ℕ) → (length left == 0) ≡ false → 0 < lengt
 some_left [] e = absurd (cc)
 some_left (b ∷ left) e = omega arith
 
-pub params_begin : (found : List Param) (left text : List ℕ) → found ≡ [] → left ≡ after_first is_semicolon text → found ++ params_behind left ≡ params_of text
-params_begin found left text f l = ap (λ x. x ++ params_behind left) f ∙ ap params_behind l
+pub params_begin : (found : List Param) (left text : List ℕ) → found ≡ [] → left ≡ after_first is_semicolon text → found ++ params_in left ≡ params_of text
+params_begin found left text f l = ap (λ x. x ++ params_in left) f ∙ ap params_in l

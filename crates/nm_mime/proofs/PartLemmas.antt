@@ -2,9 +2,10 @@
 use Rattle.std.proofs.Common.{◌≡◌, ℕ, ◌+◌, ◌-◌, ◌≤◌, Bool, true, false, cond, List, [], ◌∷◌, ◌++◌, Option, length, drop, refl, ap, subst, ◌∙◌, arith, length-drop, length-append, codes}
 use Rattle.std.specs.List.{concat}
 use Rattle.std.proofs.lemmas.List.{length-take-le}
-use Rattle.nm_header.specs.Cut.{length_through}
+use Rattle.nm_text.specs.Cuts.{length_through}
 use Rattle.nm_header.specs.Fields.{header_of}
-use Rattle.nm_header.specs.Lines.{is_empty_line, lines_of, rest_of}
+use Rattle.nm_header.specs.HeaderLines.{is_empty_line, rest_of}
+use Rattle.nm_text.specs.Lines.{lines_of}
 use Rattle.nm_header.specs.declared.header.HeaderList.{HeaderList}
 use Rattle.nm_mime.specs.Params.{value_of}
 use Rattle.nm_mime.specs.Parts.{IsInside, IsWithin, boundary_of, bytes_in, opening_from, opening_in, opening_of}
@@ -51,18 +52,18 @@ stretch_long mail from to h k =
 pub content_long : (mail bytes : List ℕ) (from to : ℕ) → from ≤ to → to ≤ length mail → bytes ≡ bytes_in mail from to → length bytes ≤ to
 content_long mail bytes from to h k e = let long : length bytes ≡ to - from = ap length e ∙ stretch_long mail from to h k in omega arith
 
-pub rest_inside : (mail : List ℕ) (entity : Entity) (stretch : List ℕ) (header : HeaderList) → IsWithin (length mail) entity → stretch ≡ bytes_in mail entity.from entity.to → header ≡ header_of stretch → entity.from + header.rest ≤ entity.to
-rest_inside mail entity stretch header w s h =
+pub rest_inside : (mail : List ℕ) (entity : Entity) (span : List ℕ) (header : HeaderList) → IsWithin (length mail) entity → span ≡ bytes_in mail entity.from entity.to → header ≡ header_of span → entity.from + header.rest ≤ entity.to
+rest_inside mail entity span header w s h =
     let rises = w.rises in
     let ends = w.ends in
-    let long : length stretch ≡ entity.to - entity.from = ap length s ∙ stretch_long mail entity.from entity.to w.rises w.ends in
-    let short = rest_short stretch in
-    let same : header.rest ≡ rest_of stretch = ap (λ x. x.rest) h in
+    let long : length span ≡ entity.to - entity.from = ap length s ∙ stretch_long mail entity.from entity.to w.rises w.ends in
+    let short = rest_short span in
+    let same : header.rest ≡ rest_of span = ap (λ x. x.rest) h in
     omega arith
 
-pub opening_is : (mail : List ℕ) (entity : Entity) (stretch : List ℕ) (header : HeaderList) → stretch ≡ bytes_in mail entity.from entity.to → header ≡ header_of stretch → opening_in entity header ≡ opening_of mail entity
+pub opening_is : (mail : List ℕ) (entity : Entity) (span : List ℕ) (header : HeaderList) → span ≡ bytes_in mail entity.from entity.to → header ≡ header_of span → opening_in entity header ≡ opening_of mail entity
 unfolding opening_of
-opening_is mail entity stretch header s h = ap (opening_in entity) (h ∙ ap header_of s)
+opening_is mail entity span header s h = ap (opening_in entity) (h ∙ ap header_of s)
 
 -- what is read stands inside the mail
 pub opening_inside : (mail : List ℕ) (entity : Entity) → IsWithin (length mail) entity → IsInside (length mail) (opening_of mail entity).part

@@ -3,11 +3,11 @@ use Rattle.std.proofs.Common.{◌≡◌, ℕ, suc, ◌+◌, ◌-◌, ◌<◌, �
 use Rattle.std.specs.List.{concat, flat_map}
 use Rattle.std.proofs.lemmas.List.{append-nil, reverse-append}
 use Rattle.std.proofs.lemmas.List.Concat.{flat_map-append}
-use Rattle.nm_header.specs.Lines.{content, lines_of}
+use Rattle.nm_text.specs.Lines.{content, lines_of}
 use Rattle.nm_header.specs.Texts.{field_text}
-use Rattle.nm_mime.specs.Children.{ends_part, is_line_of, marks_of, part_at, part_behind, part_size, stops, stretches_in, stretches_of}
+use Rattle.nm_mime.specs.Children.{delimiters_of, ends_part, is_line_of, part_after, part_at, part_len, spans_in, spans_of, stops}
 use Rattle.nm_mime.specs.PartReader.{AllWithin, parts_left}
-use Rattle.nm_mime.specs.Parts.{IsInside, IsWithin, bytes_in, children_of, boundary_of, entities_from, entity_in, inside, is_opened, opening_in, opening_of, parts_of, parts_upto, whole_of}
+use Rattle.nm_mime.specs.Parts.{IsInside, IsWithin, boundary_of, bytes_in, children_of, entities_from, entity_in, inside, is_opened, opening_in, opening_of, parts_of, parts_upto, whole_of}
 use Rattle.nm_mime.specs.Roles.{encoding_of, is_attachment, is_kind_of, is_message, is_multipart, is_plain, role_of}
 use Rattle.nm_mime.specs.Types.{type_of}
 use Rattle.nm_mime.specs.declared.types.ContentType.{ContentType}
@@ -15,8 +15,8 @@ use Rattle.nm_base.specs.Bounds.{fits_length}
 use Rattle.nm_header.specs.Fields.{header_of}
 use Rattle.nm_header.specs.declared.header.HeaderList.{HeaderList}
 use Rattle.std.specs.Str.{bytes_eq}
-use Rattle.nm_mime.specs.declared.children.Marks.{Marks}
-use Rattle.nm_mime.specs.declared.children.Stretch.{Stretch}
+use Rattle.nm_mime.specs.declared.children.Delimiters.{Delimiters}
+use Rattle.nm_mime.specs.declared.children.Span.{Span}
 use Rattle.nm_mime.specs.declared.entity.Entity.{Entity}
 use Rattle.nm_mime.specs.declared.entity.Opening.{Opening}
 use Rattle.nm_mime.specs.declared.entity.Part.{Part}
@@ -29,25 +29,25 @@ use Rattle.nm_mime.specs.declared.roles.Role.TheVariants.{Opened, Readable, Sign
 use Rattle.nm_mime.specs.declared.roles.Encoding.{Encoding}
 
 -- ---- the children are put on top, the last one lowest
-entities-append : (part : Part) (n : ℕ) (xs : List Stretch) (x : Stretch) → entities_from part n (xs ++ x ∷ []) ≡ entities_from part n xs ++ entity_in part (n + length xs) x ∷ []
+entities-append : (part : Part) (n : ℕ) (xs : List Span) (x : Span) → entities_from part n (xs ++ x ∷ []) ≡ entities_from part n xs ++ entity_in part (n + length xs) x ∷ []
 entities-append part n [] x = let none : n ≡ n + 0 = omega arith in ap (λ k. entity_in part k x ∷ []) none
 entities-append part n (y ∷ xs) x =
     let one : n + 1 + length xs ≡ n + suc (length xs) = omega arith in
     ap (λ l. entity_in part n y ∷ l) (entities-append part (n + 1) xs x) ∙ ap (λ k. entity_in part n y ∷ (entities_from part (n + 1) xs ++ entity_in part k x ∷ [])) one
 
-pub push_turn : (part : Part) (still rest : List Stretch) (stretch : Stretch) (left after : List Entity) (entity : Entity) → still ≡ rest ++ stretch ∷ [] → after ≡ left ++ entity ∷ [] → entity ≡ entity_in part (length rest) stretch → entities_from part 0 rest ++ reverse after ≡ entities_from part 0 still ++ reverse left
-push_turn part still rest stretch left after entity s a e =
+pub push_turn : (part : Part) (still rest : List Span) (span : Span) (left after : List Entity) (entity : Entity) → still ≡ rest ++ span ∷ [] → after ≡ left ++ entity ∷ [] → entity ≡ entity_in part (length rest) span → entities_from part 0 rest ++ reverse after ≡ entities_from part 0 still ++ reverse left
+push_turn part still rest span left after entity s a e =
     let back : reverse after ≡ entity ∷ reverse left = ap reverse a ∙ reverse-append left (entity ∷ []) in
     let none : 0 + length rest ≡ length rest = omega arith in
-    let front : entities_from part 0 still ≡ entities_from part 0 rest ++ entity ∷ [] = ap (entities_from part 0) s ∙ entities-append part 0 rest stretch ∙ ap (λ k. entities_from part 0 rest ++ entity_in part k stretch ∷ []) none ∙ ap (λ x. entities_from part 0 rest ++ x ∷ []) (sym e) in
+    let front : entities_from part 0 still ≡ entities_from part 0 rest ++ entity ∷ [] = ap (entities_from part 0) s ∙ entities-append part 0 rest span ∙ ap (λ k. entities_from part 0 rest ++ entity_in part k span ∷ []) none ∙ ap (λ x. entities_from part 0 rest ++ x ∷ []) (sym e) in
     ap (λ x. entities_from part 0 rest ++ x) back ∙ sym (append_assoc (entities_from part 0 rest) (entity ∷ []) (reverse left)) ∙ ap (λ x. x ++ reverse left) (sym front)
 
-pub push_end : (part : Part) (still stretches : List Stretch) (left before : List Entity) → still ≡ [] → entities_from part 0 still ++ reverse left ≡ entities_from part 0 stretches ++ reverse before → reverse left ≡ entities_from part 0 stretches ++ reverse before
-push_end part still stretches left before none all = sym (ap (λ x. entities_from part 0 x ++ reverse left) none) ∙ all
+pub push_end : (part : Part) (still spans : List Span) (left before : List Entity) → still ≡ [] → entities_from part 0 still ++ reverse left ≡ entities_from part 0 spans ++ reverse before → reverse left ≡ entities_from part 0 spans ++ reverse before
+push_end part still spans left before none all = sym (ap (λ x. entities_from part 0 x ++ reverse left) none) ∙ all
 
-pub children_opened : (mail : List ℕ) (opening : Opening) (stretches : List Stretch) (left after : List Entity) → is_opened opening.part.role ≡ true → stretches ≡ inside mail opening → reverse after ≡ entities_from opening.part 0 stretches ++ reverse left → reverse after ≡ children_of mail opening ++ reverse left
+pub children_opened : (mail : List ℕ) (opening : Opening) (spans : List Span) (left after : List Entity) → is_opened opening.part.role ≡ true → spans ≡ inside mail opening → reverse after ≡ entities_from opening.part 0 spans ++ reverse left → reverse after ≡ children_of mail opening ++ reverse left
 unfolding children_of
-children_opened mail opening stretches left after o s a =
+children_opened mail opening spans left after o s a =
     a ∙ ap (λ x. entities_from opening.part 0 x ++ reverse left) s ∙ ap (λ v. cond v (entities_from opening.part 0 (inside mail opening)) [] ++ reverse left) (sym o)
 
 pub children_closed : (mail : List ℕ) (opening : Opening) (left : List Entity) → is_opened opening.part.role ≡ false → reverse left ≡ children_of mail opening ++ reverse left
@@ -59,11 +59,11 @@ within-append : (size : ℕ) (xs ys : List Entity) → AllWithin size xs → All
 within-append size [] ys a b = b
 within-append size (x ∷ xs) ys a b = (a.0, within-append size xs ys a.1 b)
 
-abbrev AllRise : ℕ → List Stretch → Type 0
+abbrev AllRise : ℕ → List Span → Type 0
 AllRise end [] = Unit {0}
 AllRise end (s ∷ more) = ((s.from ≤ s.to) × (s.to ≤ end)) × AllRise end more
 
-rise-append : (end : ℕ) (xs ys : List Stretch) → AllRise end xs → AllRise end ys → AllRise end (xs ++ ys)
+rise-append : (end : ℕ) (xs ys : List Span) → AllRise end xs → AllRise end ys → AllRise end (xs ++ ys)
 rise-append end [] ys a b = b
 rise-append end (x ∷ xs) ys a b = (a.0, rise-append end xs ys a.1 b)
 
@@ -80,51 +80,51 @@ content_short line =
     let two = strip_short (take (length line - 1) line) in
     elim (slice_index line (length line - 1) == 10) as (λ v. length (cond v (strip_carriage_return (take (length line - 1) line)) line) ≤ length line) [ true ↦ omega arith | false ↦ omega arith ]
 
-pub size_short : (marks : Marks) (lines : List (List ℕ)) → part_size marks lines ≤ length (concat lines)
-size_short marks [] = omega arith
-size_short marks (line ∷ more) =
-    let rest = size_short marks more in
+pub size_short : (delimiters : Delimiters) (lines : List (List ℕ)) → part_len delimiters lines ≤ length (concat lines)
+size_short delimiters [] = omega arith
+size_short delimiters (line ∷ more) =
+    let rest = size_short delimiters more in
     let one = content_short line in
     let long : length (line ++ concat more) ≡ length line + length (concat more) = length-append line (concat more) in
-    elim (ends_part marks line) as (λ v. cond v 0 (cond (stops marks more) (length (content line)) (length line + part_size marks more)) ≤ length (line ++ concat more)) [
+    elim (ends_part delimiters line) as (λ v. cond v 0 (cond (stops delimiters more) (length (content line)) (length line + part_len delimiters more)) ≤ length (line ++ concat more)) [
       | true ↦ omega arith
-      | false ↦ elim (stops marks more) as (λ v. cond v (length (content line)) (length line + part_size marks more) ≤ length (line ++ concat more)) [ true ↦ omega arith | false ↦ omega arith ]
+      | false ↦ elim (stops delimiters more) as (λ v. cond v (length (content line)) (length line + part_len delimiters more) ≤ length (line ++ concat more)) [ true ↦ omega arith | false ↦ omega arith ]
     ]
 
-part_rises : (marks : Marks) (end : ℕ) (line : List ℕ) (more : List (List ℕ)) → length (concat more) ≤ end → AllRise end (part_at marks end line more)
-part_rises marks end line more h =
-    let size = size_short marks more in
-    elim (is_line_of marks.delimiter line) as (λ v. AllRise end (cond v (part_behind marks end more ∷ []) [])) [ true ↦ ((omega arith, omega arith), tt) | false ↦ tt ]
+part_rises : (delimiters : Delimiters) (end : ℕ) (line : List ℕ) (more : List (List ℕ)) → length (concat more) ≤ end → AllRise end (part_at delimiters end line more)
+part_rises delimiters end line more h =
+    let size = size_short delimiters more in
+    elim (is_line_of delimiters.delimiter line) as (λ v. AllRise end (cond v (part_after delimiters end more ∷ []) [])) [ true ↦ ((omega arith, omega arith), tt) | false ↦ tt ]
 
-lines_rise : (marks : Marks) (end : ℕ) (lines : List (List ℕ)) → length (concat lines) ≤ end → AllRise end (stretches_in marks end lines)
-lines_rise marks end [] h = tt
-lines_rise marks end (line ∷ more) h =
+lines_rise : (delimiters : Delimiters) (end : ℕ) (lines : List (List ℕ)) → length (concat lines) ≤ end → AllRise end (spans_in delimiters end lines)
+lines_rise delimiters end [] h = tt
+lines_rise delimiters end (line ∷ more) h =
     let long : length (line ++ concat more) ≡ length line + length (concat more) = length-append line (concat more) in
     let less : length (concat more) ≤ end = omega arith in
-    elim (is_line_of marks.closing line) as (λ v. AllRise end (cond v [] (part_at marks end line more ++ stretches_in marks end more))) [
+    elim (is_line_of delimiters.closing line) as (λ v. AllRise end (cond v [] (part_at delimiters end line more ++ spans_in delimiters end more))) [
       | true ↦ tt
-      | false ↦ rise-append end (part_at marks end line more) (stretches_in marks end more) (part_rises marks end line more less) (lines_rise marks end more less)
+      | false ↦ rise-append end (part_at delimiters end line more) (spans_in delimiters end more) (part_rises delimiters end line more less) (lines_rise delimiters end more less)
     ]
 
-stretches_rise : (marks : Marks) (end : ℕ) (bytes : List ℕ) → length bytes ≤ end → AllRise end (stretches_of marks end bytes)
-unfolding stretches_of
-stretches_rise marks end bytes h = lines_rise marks end (lines_of bytes) (let long = lines_long bytes in omega arith)
+spans_rise : (delimiters : Delimiters) (end : ℕ) (bytes : List ℕ) → length bytes ≤ end → AllRise end (spans_of delimiters end bytes)
+unfolding spans_of
+spans_rise delimiters end bytes h = lines_rise delimiters end (lines_of bytes) (let long = lines_long bytes in omega arith)
 
 inside_rises : (mail : List ℕ) (opening : Opening) → IsInside (length mail) opening.part → AllRise opening.part.to (inside mail opening)
 inside_rises mail opening i =
     let bytes : List ℕ = bytes_in mail opening.part.from opening.part.to in
     let short : length bytes ≤ opening.part.to = content_long mail bytes opening.part.from opening.part.to i.rises i.ends refl in
-    elim (is_multipart opening.part.kind) as (λ v. AllRise opening.part.to (cond v (stretches_of (marks_of opening.boundary) opening.part.to bytes) (record { from = opening.part.from; to = opening.part.to } ∷ []))) [
-      | true ↦ stretches_rise (marks_of opening.boundary) opening.part.to bytes short
+    elim (is_multipart opening.part.kind) as (λ v. AllRise opening.part.to (cond v (spans_of (delimiters_of opening.boundary) opening.part.to bytes) (record { from = opening.part.from; to = opening.part.to } ∷ []))) [
+      | true ↦ spans_rise (delimiters_of opening.boundary) opening.part.to bytes short
       | false ↦ ((i.rises, omega arith), tt)
     ]
 
-entities_within : (size end : ℕ) (part : Part) (n : ℕ) (stretches : List Stretch) → part.depth < 32 → end ≤ size → AllRise end stretches → AllWithin size (entities_from part n stretches)
+entities_within : (size end : ℕ) (part : Part) (n : ℕ) (spans : List Span) → part.depth < 32 → end ≤ size → AllRise end spans → AllWithin size (entities_from part n spans)
 entities_within size end part n [] low e a = tt
-entities_within size end part n (s ∷ stretches) low e a =
+entities_within size end part n (s ∷ spans) low e a =
     let rises = a.0.0 in
     let ends = a.0.1 in
-    (record { rises = rises; ends = omega arith; depth = omega arith }, entities_within size end part (n + 1) stretches low e a.1)
+    (record { rises = rises; ends = omega arith; depth = omega arith }, entities_within size end part (n + 1) spans low e a.1)
 
 low_of : (attached signature encrypted low multipart message fits plain text : Bool) → is_opened (cond attached Unread (cond signature Signature (cond encrypted Unread (cond (not low && (multipart || message)) Unread (cond (multipart && fits) Opened (cond (message && plain) Opened (cond text Readable Unread))))))) ≡ true → low ≡ true
 low_of a s e true m r f p t h = refl
@@ -161,11 +161,11 @@ children_within mail entity w =
     ] refl
 
 -- ---- the parts that are left
-same_level : (mail : List ℕ) (part : Part) (n d : ℕ) (stretches : List Stretch) → part.depth ≡ d → flat_map (parts_upto (32 - d) mail) (entities_from part n stretches) ≡ flat_map (λ entity. parts_upto (33 - entity.depth) mail entity) (entities_from part n stretches)
+same_level : (mail : List ℕ) (part : Part) (n d : ℕ) (spans : List Span) → part.depth ≡ d → flat_map (parts_upto (32 - d) mail) (entities_from part n spans) ≡ flat_map (λ entity. parts_upto (33 - entity.depth) mail entity) (entities_from part n spans)
 same_level mail part n d [] e = refl
-same_level mail part n d (s ∷ stretches) e =
+same_level mail part n d (s ∷ spans) e =
     let level : 32 - d ≡ 33 - (part.depth + 1) = omega arith in
-    ap (λ k. parts_upto k mail (entity_in part n s) ++ flat_map (parts_upto (32 - d) mail) (entities_from part (n + 1) stretches)) level ∙ ap (λ l. parts_upto (33 - (part.depth + 1)) mail (entity_in part n s) ++ l) (same_level mail part (n + 1) d stretches e)
+    ap (λ k. parts_upto k mail (entity_in part n s) ++ flat_map (parts_upto (32 - d) mail) (entities_from part (n + 1) spans)) level ∙ ap (λ l. parts_upto (33 - (part.depth + 1)) mail (entity_in part n s) ++ l) (same_level mail part (n + 1) d spans e)
 
 children_level : (mail : List ℕ) (opening : Opening) (d : ℕ) → opening.part.depth ≡ d → flat_map (parts_upto (32 - d) mail) (children_of mail opening) ≡ parts_left mail (children_of mail opening)
 unfolding children_of parts_left

@@ -7,7 +7,7 @@ use Rattle.std.specs.Str.{IsAscii}
 use Rattle.std.proofs.lemmas.Bool.{leb-true}
 use Rattle.std.proofs.lemmas.Str.{IsUtf8-from_ascii}
 use Rattle.std.proofs.lemmas.Str.Ascii.{IsAscii-cons, IsAscii-map, IsAscii-nil, lowercase_ascii}
-use Rattle.nm_header.specs.Space.{trimmed_start}
+use Rattle.nm_text.specs.WhiteSpace.{trimmed_start}
 use Rattle.nm_mime.specs.Types.{ends_type, run_of}
 
 small_of : (a b c : Bool) → (not (a && b) || c) ≡ false → b ≡ true

@@ -1,18 +1,32 @@
 -- The pieces of a text are text: it is cut at ASCII signs, and only ASCII signs are taken out or changed.
-use Rattle.std.proofs.Common.{◌≡◌, ℕ, zero, suc, ◌+◌, ◌-◌, ◌<◌, ◌≤◌, Bool, true, false, cond, not, ◌==◌, List, [], ◌∷◌, ◌++◌, length, map, take, drop, get_or, reverse, ltb, refl, sym, ap, subst, ◌∙◌, arith, append_assoc}
+use Rattle.std.proofs.Common.{◌≡◌, ℕ, zero, suc, ◌+◌, ◌-◌, ◌<◌, ◌≤◌, Bool, true, false, cond, not, ◌==◌, List, [], ◌∷◌, ◌++◌, length, map, take, drop, get_or, reverse, ltb, refl, sym, ap, subst, ◌∙◌, arith, append_assoc, length-append}
 use Rattle.std.specs.Prelude.{IsUtf8}
 use Rattle.std.specs.Char.{to_ascii_lowercase}
 use Rattle.std.specs.List.{after_first, before_first, position_or_len, prefix_len, suffix_len}
 use Rattle.std.proofs.lemmas.Bool.{eqb-true, ltb-false, ltb-true}
 use Rattle.std.proofs.lemmas.Bool.Decides.{nat_tests}
-use Rattle.std.proofs.lemmas.List.{append-nil, drop_all, get_or-reverse, length-reverse, take_all}
+use Rattle.std.proofs.lemmas.List.{append-nil, drop_all, drop_at, drop-drop, get_or-reverse, get_or_at, length-reverse, take_all, take_at}
 use Rattle.std.proofs.lemmas.List.Sums.{prefix_len_passes, prefix_len_stops, suffix_len-le-length}
 use Rattle.std.proofs.lemmas.Str.{IsCharBoundary-after_ascii, IsCharBoundary-before_ascii, IsUtf8-append, IsUtf8-drop, IsUtf8-from_ascii, IsUtf8-nil, IsUtf8-take}
 use Rattle.std.proofs.lemmas.Str.Ascii.{IsAscii-cons, IsAscii-nil, lowercase_ascii, lowercase_is}
 use Rattle.nm_base.specs.Bounds.{is_white_space}
-use Rattle.nm_header.specs.Space.{trimmed, trimmed_end, trimmed_start}
-use Rattle.nm_header.proofs.Utf8Lemmas.{drop_ascii, split_ascii}
-use Rattle.nm_mime.specs.Params.{begins_with, behind_name, behind_param, behind_quoted, behind_value, ends_name, ends_value, is_semicolon, quoted_text, value_in}
+use Rattle.nm_text.specs.WhiteSpace.{trimmed, trimmed_end, trimmed_start}
+use Rattle.nm_mime.specs.Params.{after_name, after_param, after_quoted, after_value, begins_with, ends_name, ends_value, is_semicolon, quoted_text, value_in}
+
+-- what stands before an ASCII character is text, and what stands behind it
+pub split_ascii : (xs ys : List ℕ) (b : ℕ) → b < 128 → IsUtf8 (xs ++ b ∷ ys) → IsUtf8 xs × IsUtf8 ys
+split_ascii xs ys b small u =
+    let at : get_or (xs ++ b ∷ ys) (length xs) 0 ≡ b = get_or_at xs b ys 0 (length xs) refl in
+    let low : get_or (xs ++ b ∷ ys) (length xs) 0 < 128 = omega arith in
+    let inside : length xs < length (xs ++ b ∷ ys) = simp length-append (omega arith) in
+    let front : IsUtf8 (take (length xs) (xs ++ b ∷ ys)) = IsUtf8-take (xs ++ b ∷ ys) (length xs) u (IsCharBoundary-before_ascii (xs ++ b ∷ ys) (length xs) inside low) in
+    let back : IsUtf8 (drop (length xs + 1) (xs ++ b ∷ ys)) = IsUtf8-drop (xs ++ b ∷ ys) (length xs + 1) u (IsCharBoundary-after_ascii (xs ++ b ∷ ys) (length xs) u inside low) in
+    let rest : drop (length xs + 1) (xs ++ b ∷ ys) ≡ ys = sym (drop-drop 1 (length xs) (xs ++ b ∷ ys)) ∙ ap (drop 1) (drop_at xs (b ∷ ys) (length xs) refl) in
+    (subst IsUtf8 (take_at xs (b ∷ ys) (length xs) refl) front, subst IsUtf8 rest back)
+
+-- an ASCII character taken out
+drop_ascii : (xs ys : List ℕ) (b : ℕ) → b < 128 → IsUtf8 (xs ++ b ∷ ys) → IsUtf8 (xs ++ ys)
+drop_ascii xs ys b small u = let parts = split_ascii xs ys b small u in IsUtf8-append xs ys parts.0 parts.1
 
 passes : (b : Bool) → not b ≡ false → b ≡ true
 passes true e = refl
@@ -101,28 +115,6 @@ end_utf8 text u =
 pub trimmed_utf8 : (text : List ℕ) → IsUtf8 text → IsUtf8 (trimmed text)
 trimmed_utf8 text u = end_utf8 (trimmed_start text) (space_utf8 text u)
 
--- ---- letters made small
-lower_behind : (front text : List ℕ) → IsUtf8 (front ++ text) → IsUtf8 (front ++ map to_ascii_lowercase text)
-lower_behind front [] u = u
-lower_behind front (b ∷ text) u =
-    let c : ℕ = to_ascii_lowercase b in
-    elim (ltb b 128) as (λ v. ltb b 128 ≡ v → IsUtf8 (front ++ c ∷ map to_ascii_lowercase text)) [
-      | true ↦ λ h.
-          let small = ltb-true b 128 h in
-          let parts = split_ascii front text b small u in
-          let one : IsUtf8 (c ∷ []) = IsUtf8-from_ascii (c ∷ []) (IsAscii-cons c [] (lowercase_ascii b small) IsAscii-nil) in
-          let changed : IsUtf8 ((front ++ c ∷ []) ++ text) = IsUtf8-append (front ++ c ∷ []) text (IsUtf8-append front (c ∷ []) parts.0 one) parts.1 in
-          subst IsUtf8 (append_assoc front (c ∷ []) (map to_ascii_lowercase text)) (lower_behind (front ++ c ∷ []) text changed)
-      | false ↦ λ h.
-          let large = ltb-false b 128 h in
-          let same : c ≡ b = (lowercase_is b).2 (omega arith) in
-          let kept : IsUtf8 ((front ++ c ∷ []) ++ text) = subst IsUtf8 (ap (λ x. front ++ x ∷ text) (sym same) ∙ sym (append_assoc front (c ∷ []) text)) u in
-          subst IsUtf8 (append_assoc front (c ∷ []) (map to_ascii_lowercase text)) (lower_behind (front ++ c ∷ []) text kept)
-    ] refl
-
-pub lower_utf8 : (text : List ℕ) → IsUtf8 text → IsUtf8 (map to_ascii_lowercase text)
-lower_utf8 text u = lower_behind [] text u
-
 -- ---- quoted strings
 said_behind : (n : ℕ) (front text : List ℕ) → length text ≤ n → IsUtf8 (front ++ text) → IsUtf8 (front ++ quoted_text text)
 said_behind n front [] h u = u
@@ -143,14 +135,14 @@ said_behind (suc n) front (b ∷ c ∷ more) h u =
       ] refl
     ] refl
 
-rest_behind : (n : ℕ) (front text : List ℕ) → length text ≤ n → IsUtf8 (front ++ text) → IsUtf8 (behind_quoted text)
+rest_behind : (n : ℕ) (front text : List ℕ) → length text ≤ n → IsUtf8 (front ++ text) → IsUtf8 (after_quoted text)
 rest_behind n front [] h u = IsUtf8-nil
 rest_behind n front (b ∷ []) h u = IsUtf8-nil
 rest_behind zero front (b ∷ c ∷ more) h u = absurd (omega arith)
 rest_behind (suc n) front (b ∷ c ∷ more) h u =
-    elim (b == 34) as (λ v. (b == 34) ≡ v → IsUtf8 (cond v (c ∷ more) (cond (b == 92) (behind_quoted more) (behind_quoted (c ∷ more))))) [
+    elim (b == 34) as (λ v. (b == 34) ≡ v → IsUtf8 (cond v (c ∷ more) (cond (b == 92) (after_quoted more) (after_quoted (c ∷ more))))) [
       | true ↦ λ e. let sign : b ≡ 34 = eqb-true b 34 e in (split_ascii front (c ∷ more) b (omega arith) u).1
-      | false ↦ λ e. elim (b == 92) as (λ v. IsUtf8 (cond v (behind_quoted more) (behind_quoted (c ∷ more)))) [
+      | false ↦ λ e. elim (b == 92) as (λ v. IsUtf8 (cond v (after_quoted more) (after_quoted (c ∷ more)))) [
         | true ↦ rest_behind n (front ++ b ∷ c ∷ []) more (omega arith) (subst IsUtf8 (sym (append_assoc front (b ∷ c ∷ []) more)) u)
         | false ↦ rest_behind n (front ++ b ∷ []) (c ∷ more) (omega arith) (subst IsUtf8 (sym (append_assoc front (b ∷ []) (c ∷ more))) u)
       ]
@@ -165,25 +157,25 @@ value_utf8 (b ∷ more) u =
       | false ↦ λ e. before_utf8 ends_value value_end_small (b ∷ more) u
     ] refl
 
-behind_value_utf8 : (text : List ℕ) → IsUtf8 text → IsUtf8 (behind_value text)
+behind_value_utf8 : (text : List ℕ) → IsUtf8 text → IsUtf8 (after_value text)
 behind_value_utf8 [] u = u
 behind_value_utf8 (b ∷ more) u =
-    elim (b == 34) as (λ v. (b == 34) ≡ v → IsUtf8 (cond v (behind_quoted more) (b ∷ more))) [
+    elim (b == 34) as (λ v. (b == 34) ≡ v → IsUtf8 (cond v (after_quoted more) (b ∷ more))) [
       | true ↦ λ e. let sign : b ≡ 34 = eqb-true b 34 e in rest_behind (length more) [] more (omega arith) (tail_utf8 b more (omega arith) u)
       | false ↦ λ e. u
     ] refl
 
-pub behind_name_utf8 : (text : List ℕ) → IsUtf8 text → IsUtf8 (behind_name text)
+pub behind_name_utf8 : (text : List ℕ) → IsUtf8 text → IsUtf8 (after_name text)
 behind_name_utf8 [] u = u
 behind_name_utf8 (b ∷ more) u =
-    elim (b == 61) as (λ v. (b == 61) ≡ v → IsUtf8 (cond v (behind_value (trimmed_start more)) (b ∷ more))) [
+    elim (b == 61) as (λ v. (b == 61) ≡ v → IsUtf8 (cond v (after_value (trimmed_start more)) (b ∷ more))) [
       | true ↦ λ e. let sign : b ≡ 61 = eqb-true b 61 e in behind_value_utf8 (trimmed_start more) (space_utf8 more (tail_utf8 b more (omega arith) u))
       | false ↦ λ e. u
     ] refl
 
 -- what stands behind a parameter of a text is text
-pub param_utf8 : (text : List ℕ) → IsUtf8 text → IsUtf8 (behind_param text)
-param_utf8 text u = semicolon_utf8 (behind_name (drop (position_or_len ends_name text) text)) (behind_name_utf8 (drop (position_or_len ends_name text) text) (rest_utf8 text u))
+pub param_utf8 : (text : List ℕ) → IsUtf8 text → IsUtf8 (after_param text)
+param_utf8 text u = semicolon_utf8 (after_name (drop (position_or_len ends_name text) text)) (behind_name_utf8 (drop (position_or_len ends_name text) text) (rest_utf8 text u))
 
 -- and so is what stands behind its sign and white space
 pub sign_utf8 : (text : List ℕ) → begins_with 61 text ≡ true → IsUtf8 text → IsUtf8 (trimmed_start (take (length text - 1) (drop 1 text)))

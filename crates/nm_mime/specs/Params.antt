@@ -5,12 +5,14 @@ use Rattle.std.specs.List.{after_first, before_first, list_any, position_or_len}
 use Rattle.std.specs.Option.{option_map}
 use Rattle.std.specs.Str.{bytes_eq}
 use Rattle.nm_base.specs.Bounds.{is_white_space}
-use Rattle.nm_header.specs.Space.{trimmed, trimmed_start}
+use Rattle.nm_text.specs.WhiteSpace.{trimmed, trimmed_start}
 use Rattle.nm_mime.specs.declared.param_list.Param.{Param}
 
+-- `;`
 abbrev pub is_semicolon : ℕ → Bool
 is_semicolon b = b == 59
 
+-- `*`
 abbrev pub is_star : ℕ → Bool
 is_star b = b == 42
 
@@ -22,17 +24,17 @@ ends_name b = b == 61 || b == 59
 abbrev pub ends_value : ℕ → Bool
 ends_value b = b == 59 || is_white_space b
 
--- what a quoted string says behind its `"`: up to the next `"`, or to the end; a `\` takes the next byte as it is
+-- what a quoted string says after its `"`: up to the next `"`, or to the end; a `\` takes the next byte as it is
 abbrev pub quoted_text : List ℕ → List ℕ
 quoted_text [] = []
 quoted_text (b ∷ []) = if b == 34 then [] else b ∷ []
 quoted_text (b ∷ c ∷ more) = if b == 34 then [] else (if b == 92 then c ∷ quoted_text more else b ∷ quoted_text (c ∷ more))
 
--- what stands behind it
-abbrev pub behind_quoted : List ℕ → List ℕ
-behind_quoted [] = []
-behind_quoted (b ∷ []) = []
-behind_quoted (b ∷ c ∷ more) = if b == 34 then c ∷ more else (if b == 92 then behind_quoted more else behind_quoted (c ∷ more))
+-- what stands after it
+abbrev pub after_quoted : List ℕ → List ℕ
+after_quoted [] = []
+after_quoted (b ∷ []) = []
+after_quoted (b ∷ c ∷ more) = if b == 34 then c ∷ more else (if b == 92 then after_quoted more else after_quoted (c ∷ more))
 
 -- a quoted string goes on: its `"` does not stand at the front
 abbrev pub goes_on : List ℕ → Bool
@@ -50,12 +52,12 @@ abbrev pub value_in : List ℕ → List ℕ
 value_in [] = []
 value_in (b ∷ more) = if b == 34 then quoted_text more else before_first ends_value (b ∷ more)
 
--- what stands behind its quoted string, if it is one
-abbrev pub behind_value : List ℕ → List ℕ
-behind_value [] = []
-behind_value (b ∷ more) = if b == 34 then behind_quoted more else b ∷ more
+-- what stands after its quoted string, if it is one
+abbrev pub after_value : List ℕ → List ℕ
+after_value [] = []
+after_value (b ∷ more) = if b == 34 then after_quoted more else b ∷ more
 
--- `=` or `"` at the front
+-- this sign at the front
 abbrev pub begins_with : ℕ → List ℕ → Bool
 begins_with sign [] = false
 begins_with sign (b ∷ more) = b == sign
@@ -65,37 +67,38 @@ abbrev pub kept_param : List ℕ → List ℕ → List Param
 kept_param name value =
     if list_any is_star name then [] else record { name = map to_ascii_lowercase (trimmed name); value = value } ∷ []
 
--- the parameter of a name behind which this stands: there is none where no `=` follows it
+-- the parameter of a name after which this stands: there is none where no `=` follows it
 abbrev pub param_from : List ℕ → List ℕ → List Param
 param_from name [] = []
 param_from name (sign ∷ more) = if sign == 61 then kept_param name (value_in (trimmed_start more)) else []
 
--- what stands behind the name's value, if it has one
-abbrev pub behind_name : List ℕ → List ℕ
-behind_name [] = []
-behind_name (sign ∷ more) = if sign == 61 then behind_value (trimmed_start more) else sign ∷ more
+-- what stands after the name's value, if it has one
+abbrev pub after_name : List ℕ → List ℕ
+after_name [] = []
+after_name (sign ∷ more) = if sign == 61 then after_value (trimmed_start more) else sign ∷ more
 
--- the parameter with which a text begins that stands behind a `;`
+-- the parameter with which a text begins that stands after a `;`
 abbrev pub param_in : List ℕ → List Param
 param_in text = param_from (before_first ends_name text) (drop (position_or_len ends_name text) text)
 
--- what stands behind the `;` that ends it
-abbrev pub behind_param : List ℕ → List ℕ
-behind_param text = after_first is_semicolon (behind_name (drop (position_or_len ends_name text) text))
+-- what stands after the `;` that ends it
+abbrev pub after_param : List ℕ → List ℕ
+after_param text = after_first is_semicolon (after_name (drop (position_or_len ends_name text) text))
 
 -- the first n parameters
 abbrev pub params_upto : ℕ → List ℕ → List Param
 params_upto zero text = []
-params_upto (suc n) text = param_in text ++ params_upto n (behind_param text)
+params_upto (suc n) text = param_in text ++ params_upto n (after_param text)
 
 -- all: there are no more than the text has bytes
-unfoldable pub params_behind : List ℕ → List Param
-params_behind text = params_upto (length text) text
+unfoldable pub params_in : List ℕ → List Param
+params_in text = params_upto (length text) text
 
--- the parameters in a field's text: behind its first `;`
+-- the parameters in a field's text: after its first `;`
 abbrev pub params_of : List ℕ → List Param
-params_of text = params_behind (after_first is_semicolon text)
+params_of text = params_in (after_first is_semicolon text)
 
+-- the parameter has this name
 abbrev pub is_param : List ℕ → Param → Bool
 is_param name param = bytes_eq param.name name
 

@@ -5,11 +5,11 @@ use Rattle.std.specs.Str.{bytes_eq}
 use Rattle.nm_header.specs.Fields.{header_of}
 use Rattle.nm_header.specs.Texts.{field_text}
 use Rattle.nm_header.specs.declared.header.HeaderList.{HeaderList}
-use Rattle.nm_mime.specs.Children.{marks_of, stretches_of}
+use Rattle.nm_mime.specs.Children.{delimiters_of, spans_of}
 use Rattle.nm_mime.specs.Params.{value_of}
 use Rattle.nm_mime.specs.Roles.{encoding_of, filename_of, is_attachment, is_multipart, role_of}
 use Rattle.nm_mime.specs.Types.{type_of}
-use Rattle.nm_mime.specs.declared.children.Stretch.{Stretch}
+use Rattle.nm_mime.specs.declared.children.Span.{Span}
 use Rattle.nm_mime.specs.declared.entity.Entity.{Entity}
 use Rattle.nm_mime.specs.declared.entity.Part.{Part}
 use Rattle.nm_mime.specs.declared.entity.Opening.{Opening}
@@ -34,10 +34,11 @@ pub record IsInside (size : ℕ) (part : Part) : Type 0 where
   pub ends : part.to ≤ size
   pub depth : part.depth ≤ 32
 
+-- the boundary that a type names, or nothing
 abbrev pub boundary_of : ContentType → List ℕ
 boundary_of type = value_of type.params (codes "boundary")
 
--- an entity whose content begins so many bytes behind its front, and what its fields say
+-- an entity whose content begins so many bytes after its front, and what its fields say
 abbrev pub part_from : Entity → ℕ → ContentType → List ℕ → Encoding → Part
 part_from entity rest type disposition encoding = record {
   depth = entity.depth;
@@ -51,6 +52,7 @@ part_from entity rest type disposition encoding = record {
   to = entity.to;
 }
 
+-- that part, with the boundary that its type names
 abbrev pub opening_from : Entity → ℕ → ContentType → List ℕ → Encoding → Opening
 opening_from entity rest type disposition encoding =
     record { part = part_from entity rest type disposition encoding; boundary = boundary_of type }
@@ -67,32 +69,35 @@ opening_of mail entity = opening_in entity (header_of (bytes_in mail entity.from
 abbrev pub is_signature : Part → ℕ → Bool
 is_signature part before = before == 1 && bytes_eq part.kind (codes "multipart/signed")
 
--- a stretch in a part as an entity; so many stand before it
-abbrev pub entity_in : Part → ℕ → Stretch → Entity
-entity_in part before stretch = record {
+-- a span in a part as an entity; so many stand before it
+abbrev pub entity_in : Part → ℕ → Span → Entity
+entity_in part before span = record {
   depth = part.depth + 1;
-  from = stretch.from;
-  to = stretch.to;
+  from = span.from;
+  to = span.to;
   digest = bytes_eq part.kind (codes "multipart/digest");
   signature = is_signature part before;
 }
 
-abbrev pub entities_from : Part → ℕ → List Stretch → List Entity
+-- the spans in a part as entities, the first of which has so many before it
+abbrev pub entities_from : Part → ℕ → List Span → List Entity
 entities_from part before [] = []
-entities_from part before (stretch ∷ more) = entity_in part before stretch ∷ entities_from part (before + 1) more
+entities_from part before (span ∷ more) = entity_in part before span ∷ entities_from part (before + 1) more
 
+-- its content is read as parts
 abbrev pub is_opened : Role → Bool
 is_opened Opened = true
 is_opened Readable = false
 is_opened Unread = false
 is_opened Signature = false
 
--- the stretches in a part that is opened: those of a multipart, or the mail that the content is
-abbrev pub inside : List ℕ → Opening → List Stretch
+-- the spans in a part that is opened: those of a multipart, or the mail that the content is
+abbrev pub inside : List ℕ → Opening → List Span
 inside mail opening =
-    if is_multipart opening.part.kind then stretches_of (marks_of opening.boundary) opening.part.to (bytes_in mail opening.part.from opening.part.to)
+    if is_multipart opening.part.kind then spans_of (delimiters_of opening.boundary) opening.part.to (bytes_in mail opening.part.from opening.part.to)
     else record { from = opening.part.from; to = opening.part.to } ∷ []
 
+-- the entities in a part, if it is opened
 unfoldable pub children_of : List ℕ → Opening → List Entity
 children_of mail opening = if is_opened opening.part.role then entities_from opening.part 0 (inside mail opening) else []
 

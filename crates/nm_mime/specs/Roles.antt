@@ -6,7 +6,7 @@ use Rattle.std.specs.Str.{bytes_eq}
 use Rattle.nm_base.specs.Bounds.{fits_length}
 use Rattle.nm_text.specs.Case.{same_ignoring_case}
 use Rattle.nm_decode.specs.EncodedWords.{words_decoded}
-use Rattle.nm_header.specs.Space.{trimmed}
+use Rattle.nm_text.specs.WhiteSpace.{trimmed}
 use Rattle.nm_mime.specs.declared.param_list.Param.{Param}
 use Rattle.nm_mime.specs.declared.roles.Encoding.{Encoding}
 use Rattle.nm_mime.specs.declared.roles.Encoding.TheVariants.{Plain, Quoted, Base64}
@@ -21,13 +21,13 @@ encoding_of text =
     else (if same_ignoring_case (trimmed text) (codes "base64") then Base64
     else Plain)
 
--- one of RFC 2045's signs: ( ) < > @ , ; : \ " / [ ] ? =
-abbrev pub is_special : ℕ → Bool
-is_special b = list_any (λ sign. sign == b) (codes "()<>@,;:\\\"/[]?=")
+-- one of RFC 2045's tspecials: ( ) < > @ , ; : \ " / [ ] ? =
+abbrev pub is_tspecial : ℕ → Bool
+is_tspecial b = list_any (λ sign. sign == b) (codes "()<>@,;:\\\"/[]?=")
 
 -- no character of a token (RFC 2045, section 5.1)
 abbrev pub ends_token : ℕ → Bool
-ends_token b = not (nat_le 33 b && nat_le b 126) || is_special b
+ends_token b = not (nat_le 33 b && nat_le b 126) || is_tspecial b
 
 -- a Content-Disposition begins with the token `attachment` (RFC 2183, section 2)
 abbrev pub is_attachment : List ℕ → Bool
@@ -45,16 +45,19 @@ filename_of disposition params =
     then option_map words_decoded (first_of (param_of (params_of disposition) (codes "filename")) (param_of params (codes "name")))
     else None
 
--- the part of a type before its `/`
+-- the type begins with these bytes
 abbrev pub is_kind_of : List ℕ → List ℕ → Bool
 is_kind_of front kind = starts_with nat_eq kind front
 
+-- a multipart of any subtype
 abbrev pub is_multipart : List ℕ → Bool
 is_multipart kind = is_kind_of (codes "multipart/") kind
 
+-- a mail as a part
 abbrev pub is_message : List ℕ → Bool
 is_message kind = bytes_eq kind (codes "message/rfc822")
 
+-- not encoded, or in a way that is not known
 abbrev pub is_plain : Encoding → Bool
 is_plain Plain = true
 is_plain Quoted = false

@@ -1,8 +1,9 @@
 -- Content types (RFC 2045, sections 5.1 and 5.2).
-use Rattle.std.specs.Prelude.{ℕ, ◌-◌, Bool, ◌&&◌, ◌||◌, ◌==◌, not, List, [], ◌∷◌, Option, None, Some, length, map, take, drop, nat_le, unwrap_or, codes, if◌then◌else◌}
+use Rattle.std.specs.Prelude.{ℕ, ◌+◌, Bool, ◌&&◌, ◌||◌, ◌==◌, not, List, [], ◌∷◌, Option, None, Some, length, map, nat_le, nat_lt, unwrap_or, codes, if◌then◌else◌}
 use Rattle.std.specs.Char.{to_ascii_lowercase}
-use Rattle.std.specs.List.{before_first, list_any}
-use Rattle.nm_header.specs.Space.{trimmed_start}
+use Rattle.std.specs.List.{before_first, position_or_len}
+use Rattle.nm_text.specs.Cuts.{is_byte}
+use Rattle.nm_text.specs.WhiteSpace.{trimmed_start}
 use Rattle.nm_mime.specs.declared.types.ContentType.{ContentType}
 use Rattle.nm_mime.specs.Params.{params_of}
 
@@ -10,21 +11,18 @@ use Rattle.nm_mime.specs.Params.{params_of}
 abbrev pub ends_type : ℕ → Bool
 ends_type b = not (nat_le 33 b && nat_le b 126) || b == 59
 
-abbrev pub is_slash : ℕ → Bool
-is_slash b = b == 47
-
--- the characters with which the text begins
+-- the characters with which the text begins after white space
 abbrev pub run_of : List ℕ → List ℕ
 run_of text = before_first ends_type (trimmed_start text)
 
--- a `/` that has something on both sides
-abbrev pub has_slash_inside : List ℕ → Bool
-has_slash_inside run = list_any is_slash (drop 1 (take (length run - 1) run))
+-- its first `/` has something before it and something after it
+abbrev pub is_type : List ℕ → Bool
+is_type run = nat_lt 0 (position_or_len (is_byte 47) run) && nat_lt (position_or_len (is_byte 47) run + 1) (length run)
 
 -- the type that is read in a field's text, if there is one
 abbrev pub read_type : List ℕ → Option ContentType
 read_type text =
-    if has_slash_inside (run_of text) then Some (record { kind = map to_ascii_lowercase (run_of text); params = params_of text }) else None
+    if is_type (run_of text) then Some (record { kind = map to_ascii_lowercase (run_of text); params = params_of text }) else None
 
 -- where none is read: text/plain in ASCII
 abbrev pub plain_type : ContentType
@@ -34,6 +32,7 @@ plain_type = record { kind = codes "text/plain"; params = record { name = codes 
 abbrev pub mail_type : ContentType
 mail_type = record { kind = codes "message/rfc822"; params = [] }
 
+-- the type that a field's text names
 abbrev pub content_type_of : List ℕ → ContentType
 content_type_of text = unwrap_or (read_type text) plain_type
 

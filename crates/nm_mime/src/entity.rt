@@ -15,7 +15,7 @@ pub struct Part {
     /// Of an attached part alone.
     pub filename: Option<Text>,
     pub role: Role,
-    /// Where its content begins in the mail, behind its header.
+    /// Where its content begins in the mail, after its header.
     pub from: usize,
     /// Where it ends.
     pub to: usize,

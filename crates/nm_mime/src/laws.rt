@@ -1,13 +1,15 @@
 ghost use Rattle.std.specs.Prelude.{◌≡◌, List, ℕ, ◌∷◌, length, suc, true};
 ghost use Rattle.std.specs.List.{flat_map, list_all};
-ghost use Rattle.nm_header.specs.Lines.{lines_of};
-ghost use Rattle.nm_mime.specs.Children.{marks_of};
-ghost use Rattle.nm_mime.specs.Laws.{AreApart, GoDown, is_kept, is_one_line, parts_between, read_parts, written_parts};
+ghost use Rattle.nm_text.specs.Lines.{lines_of};
+ghost use Rattle.nm_mime.specs.Children.{delimiters_of};
+ghost use Rattle.nm_mime.specs.Laws.{AreApart, GoDown, is_kept, is_one_line, is_writable, parts_between, read_parts, written_params, written_parts};
+ghost use Rattle.nm_mime.specs.Params.{params_of};
+ghost use Rattle.nm_mime.specs.declared.param_list.Param.{Param};
 ghost use Rattle.nm_mime.specs.Parts.{IsInside, children_of, inside, opening_of, parts_of, parts_upto};
 ghost use Rattle.nm_mime.specs.declared.entity.Entity.{Entity};
 ghost use Rattle.nm_mime.specs.declared.entity.Opening.{Opening};
 
-/// The parts in a part stand one behind the other, inside its content.
+/// The parts in a part stand one after the other, inside its content.
 pub fn parts_in_a_part_stand_apart()
     ensures { (mail : List ℕ) → (opening : Opening) → IsInside (length mail) opening.part → AreApart opening.part.from opening.part.to (inside mail opening) }
 {}
@@ -17,7 +19,7 @@ pub fn a_part_stands_before_those_in_it()
     ensures { (mail : List ℕ) → GoDown 0 (parts_of mail) }
 {}
 
-/// A part stands before those in it, and behind all that stand in its elder siblings.
+/// A part stands before those in it, and after all that stand in its elder siblings.
 pub fn elder_siblings_come_first()
     ensures { (n : ℕ) → (mail : List ℕ) → (entity : Entity) → parts_upto (suc n) mail entity ≡ (opening_of mail entity).part ∷ flat_map (parts_upto n mail) (children_of mail (opening_of mail entity)) }
 {}
@@ -25,10 +27,15 @@ pub fn elder_siblings_come_first()
 /// The parts in the content of a multipart are what stands between neighbouring delimiter lines, up to the
 /// first closing one; a delimiter takes the line end before it.
 pub fn parts_stand_between_delimiters()
-    ensures { (boundary : List ℕ) → (bytes : List ℕ) → read_parts (marks_of boundary) bytes ≡ parts_between (marks_of boundary) (lines_of bytes) }
+    ensures { (boundary : List ℕ) → (bytes : List ℕ) → read_parts (delimiters_of boundary) bytes ≡ parts_between (delimiters_of boundary) (lines_of bytes) }
 {}
 
 /// The parts that are written into a multipart are read again, if none of their lines ends a part.
 pub fn written_parts_are_read()
-    ensures { (boundary : List ℕ) → (parts : List (List ℕ)) → is_one_line boundary ≡ true → list_all (is_kept (marks_of boundary)) parts ≡ true → read_parts (marks_of boundary) (written_parts (marks_of boundary) parts) ≡ parts }
+    ensures { (boundary : List ℕ) → (parts : List (List ℕ)) → is_one_line boundary ≡ true → list_all (is_kept (delimiters_of boundary)) parts ≡ true → read_parts (delimiters_of boundary) (written_parts (delimiters_of boundary) parts) ≡ parts }
+{}
+
+/// Parameters that are written, each as `; name="value"`, are read again in their order.
+pub fn written_params_are_read()
+    ensures { (params : List Param) → list_all is_writable params ≡ true → params_of (written_params params) ≡ params }
 {}

@@ -1,5 +1,5 @@
-//! The parts of a mail (RFC 2045, RFC 2046): a tree of any form is read without recursion.
-//! Damage never stops it; want of memory is the only refusal.
+//! Reading one mail: its parts (RFC 2045, RFC 2046); a tree of any form is read without recursion.
+//! Damage never stops it; out of memory is the only refusal.
 #![tactic(auto)]
 
 mod children;
@@ -16,7 +16,7 @@ mod types;
 pub use entity::Part;
 pub use laws::{
     a_part_stands_before_those_in_it, elder_siblings_come_first, parts_in_a_part_stand_apart,
-    parts_stand_between_delimiters, written_parts_are_read,
+    parts_stand_between_delimiters, written_params_are_read, written_parts_are_read,
 };
 pub use param_list::Param;
 pub use part_reader::PartReader;

@@ -2,12 +2,12 @@ ghost use Rattle.std.specs.Prelude.{◌≡◌, ◌++◌, ◌<◌, ◌≤◌, IfO
 ghost use Rattle.std.specs.Char.{to_ascii_lowercase};
 ghost use Rattle.std.specs.List.{after_first, before_first, list_any, position_or_len};
 ghost use Rattle.std.specs.Option.{option_copied, option_map};
-ghost use Rattle.nm_header.specs.Space.{trimmed};
-ghost use Rattle.nm_mime.specs.Params.{begins_with, behind_name, behind_param, behind_value, ends_name, ends_value, is_param, is_semicolon, is_star, kept_param, param_from, param_in, param_of, params_behind, params_of, value_in, value_of};
+ghost use Rattle.nm_text.specs.WhiteSpace.{trimmed};
+ghost use Rattle.nm_mime.specs.Params.{after_name, after_param, after_value, begins_with, ends_name, ends_value, is_param, is_semicolon, is_star, kept_param, param_from, param_in, param_of, params_in, params_of, value_in, value_of};
 
-use crate::quoted::{behind_quoted, quoted_text};
+use crate::quoted::{after_quoted, quoted_text};
 use nm_base::{Copies, Many, NoMemory, Text};
-use nm_header::{is_white_space, text_of, trimmed, trimmed_start};
+use nm_text::{is_white_space, lowercase, text_of, trimmed, trimmed_start};
 use std::alloc::Global;
 
 /// A parameter of a header field.
@@ -25,14 +25,14 @@ pub(crate) fn params(alloc: Global, text: &[u8]) -> Result<Many<Param>, NoMemory
     ensures { IfOk result (λ params. params ≡ params_of text.now) }
 {
     let mut found = Many::new(alloc);
-    let mut left = behind_semicolon(text);
+    let mut left = after_semicolon(text);
     'params: while !left.is_empty() {
         left = add_param(alloc, left, &mut found)?;
     }
     Ok(found)
 }
 
-/// Adds the first parameter, if there is one, and answers what stands behind it.
+/// Adds the first parameter, if there is one, and answers what stands after it.
 #[tactic(auto, using(crate::proofs::ParamLemmas::after_less, crate::proofs::ParamLemmas::drop_less))]
 fn add_param<'a>(
     alloc: Global,
@@ -42,32 +42,32 @@ fn add_param<'a>(
     requires some { 0 < length text.now }
     requires utf8 { IsUtf8 text.now }
     ensures found { OnOk result (found.new ≡ found.old ++ param_in text.now) }
-    ensures left { IfOk result (λ left. left.now ≡ behind_param text.now) }
+    ensures left { IfOk result (λ left. left.now ≡ after_param text.now) }
     ensures less { IfOk result (λ left. length left.now < length text.now) }
 {
-    let (name, behind) = text.split_at(name_len(text));
-    add_named(alloc, name, behind, found)?;
-    Ok(behind_semicolon(behind_name(behind)))
+    let (name, after) = text.split_at(name_len(text));
+    add_named(alloc, name, after, found)?;
+    Ok(after_semicolon(after_name(after)))
 }
 
-/// Adds the parameter of the name behind which this stands.
+/// Adds the parameter of the name after which this stands.
 fn add_named(
     alloc: Global,
     name: &[u8],
-    behind: &[u8],
+    after: &[u8],
     found: &mut Many<Param>,
 ) -> Result<(), NoMemory>
     requires name { IsUtf8 name.now }
-    requires behind { IsUtf8 behind.now }
-    ensures { OnOk result (found.new ≡ found.old ++ param_from name.now behind.now) }
+    requires after { IsUtf8 after.now }
+    ensures { OnOk result (found.new ≡ found.old ++ param_from name.now after.now) }
 {
-    if !begins_with(b'=', behind) {
+    if !begins_with(b'=', after) {
         return Ok(());
     }
     if has_star(name) {
         return Ok(());
     }
-    let param = named_value(alloc, name, trimmed_start(&behind[1..]))?;
+    let param = named_value(alloc, name, trimmed_start(&after[1..]))?;
     found.push(param)
 }
 
@@ -109,17 +109,17 @@ fn value_end(text: &[u8]) -> Option<usize>
     text.iter().position(|b| *b == b';' || is_white_space(*b))
 }
 
-/// What stands behind the quoted value of a name, or all.
-fn behind_name(behind: &[u8]) -> &[u8]
-    ensures value { result.now ≡ behind_name behind.now }
-    ensures within { length result.now ≤ length behind.now }
+/// What stands after the quoted value of a name, or all.
+fn after_name(after: &[u8]) -> &[u8]
+    ensures value { result.now ≡ after_name after.now }
+    ensures within { length result.now ≤ length after.now }
 {
-    if !begins_with(b'=', behind) {
-        return behind;
+    if !begins_with(b'=', after) {
+        return after;
     }
-    let value = trimmed_start(&behind[1..]);
+    let value = trimmed_start(&after[1..]);
     if begins_with(b'"', value) {
-        return behind_quoted(&value[1..]);
+        return after_quoted(&value[1..]);
     }
     value
 }
@@ -157,8 +157,8 @@ fn name_end(text: &[u8]) -> Option<usize>
     text.iter().position(|b| *b == b'=' || *b == b';')
 }
 
-/// What stands behind the first `;`, or nothing.
-fn behind_semicolon(text: &[u8]) -> &[u8]
+/// What stands after the first `;`, or nothing.
+fn after_semicolon(text: &[u8]) -> &[u8]
     ensures { result.now ≡ after_first is_semicolon text.now }
 {
     match semicolon_at(text) {
@@ -171,13 +171,6 @@ fn semicolon_at(text: &[u8]) -> Option<usize>
     ensures { result ≡ position is_semicolon text.now }
 {
     text.iter().position(|b| *b == b';')
-}
-
-pub(crate) fn lowercase(alloc: Global, text: &[u8]) -> Result<Vec<u8>, NoMemory>
-    ensures { IfOk result (λ lower. lower.items ≡ map to_ascii_lowercase text.now) }
-{
-    let lower: Vec<u8> = text.iter().map(|b| b.to_ascii_lowercase()).collect(alloc)?;
-    Ok(lower)
 }
 
 /// The value of the first parameter with this name, which is in lower case.

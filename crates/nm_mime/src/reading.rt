@@ -14,8 +14,8 @@ pub(crate) fn read_opening(alloc: Global, bytes: &[u8], entity: Entity) -> Resul
     requires { IsWithin (length bytes.now) entity }
     ensures { IfOk result (λ opening. opening ≡ opening_of bytes.now entity) }
 {
-    let stretch = &bytes[entity.from..entity.to];
-    let header = fields(alloc, stretch)?;
+    let span = &bytes[entity.from..entity.to];
+    let header = fields(alloc, span)?;
     let opening = read_fields(alloc, entity, &header)?;
     Ok(opening)
 }
@@ -43,7 +43,7 @@ pub(crate) fn read_fields(
     )
 }
 
-/// The part whose content begins `rest` bytes behind the entity's front.
+/// The part whose content begins `rest` bytes after the entity's front.
 fn opening_from(
     alloc: Global,
     entity: Entity,

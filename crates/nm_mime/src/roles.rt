@@ -3,13 +3,12 @@ ghost use Rattle.std.specs.List.{before_first};
 ghost use Rattle.std.specs.Option.{option_map};
 ghost use Rattle.nm_base.specs.Bounds.{fits_length};
 ghost use Rattle.nm_decode.specs.EncodedWords.{words_decoded};
-ghost use Rattle.nm_mime.specs.Roles.{encoding_of, ends_token, filename_of, is_attachment, is_message, is_multipart, is_plain, is_special, is_too_deep, role_of};
+ghost use Rattle.nm_mime.specs.Roles.{encoding_of, ends_token, filename_of, is_attachment, is_message, is_multipart, is_plain, is_too_deep, is_tspecial, role_of};
 
 use crate::param_list::{Param, param_text, params};
 use nm_base::{NoMemory, Text};
 use nm_decode::encoded_words;
-use nm_header::trimmed;
-use nm_text::same_ignoring_case;
+use nm_text::{same_ignoring_case, trimmed};
 use std::alloc::Global;
 
 /// How the content of a part is encoded (RFC 2045, section 6).
@@ -78,11 +77,11 @@ fn ends_token(b: u8) -> bool
     if b > 126 {
         return true;
     }
-    is_special(b)
+    is_tspecial(b)
 }
 
-fn is_special(b: u8) -> bool
-    ensures { result ≡ is_special b }
+fn is_tspecial(b: u8) -> bool
+    ensures { result ≡ is_tspecial b }
 {
     b"()<>@,;:\\\"/[]?=".contains(&b)
 }

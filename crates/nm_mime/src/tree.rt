@@ -2,7 +2,7 @@ ghost use Rattle.std.specs.Prelude.{◌≡◌, ◌&&◌, ◌==◌, ◌++◌, ◌
 ghost use Rattle.std.specs.List.{All};
 ghost use Rattle.nm_mime.specs.Parts.{IsInside, IsWithin, children_of, entities_from, entity_in, inside, is_opened, is_signature, opening_of, parts_of, whole_of};
 
-use crate::children::{Stretch, line_marks, stretches};
+use crate::children::{Span, line_delimiters, spans};
 use crate::entity::{Entity, Opening, Part};
 use crate::reading::read_opening;
 use crate::roles::{Role, is_multipart};
@@ -68,47 +68,47 @@ pub(crate) fn push_children(
     if !is_opened(opening.part.role) {
         return Ok(());
     }
-    let stretches = inside(alloc, bytes, opening)?;
-    push_all(&opening.part, stretches, left)?;
+    let spans = inside(alloc, bytes, opening)?;
+    push_all(&opening.part, spans, left)?;
     Ok(())
 }
 
 /// Where the parts stand in a part that is opened.
-fn inside(alloc: Global, bytes: &[u8], opening: &Opening) -> Result<Many<Stretch>, NoMemory>
+fn inside(alloc: Global, bytes: &[u8], opening: &Opening) -> Result<Many<Span>, NoMemory>
     requires { IsInside (length bytes.now) opening.now.part }
     ensures { IfOk result (λ found. found ≡ inside bytes.now opening.now) }
 {
     let from = opening.part.from;
     let to = opening.part.to;
     if is_multipart(opening.part.kind.as_str()) {
-        let marks = line_marks(alloc, opening.boundary.as_bytes())?;
-        return stretches(alloc, &marks, &bytes[from..to], to);
+        let delimiters = line_delimiters(alloc, opening.boundary.as_bytes())?;
+        return spans(alloc, &delimiters, &bytes[from..to], to);
     }
     let mut mail = Many::new(alloc);
-    mail.push(Stretch { from, to })?;
+    mail.push(Span { from, to })?;
     Ok(mail)
 }
 
-fn push_all(part: &Part, stretches: Many<Stretch>, left: &mut Many<Entity>) -> Result<(), NoMemory>
+fn push_all(part: &Part, spans: Many<Span>, left: &mut Many<Entity>) -> Result<(), NoMemory>
     requires { part.now.depth ≤ 32 }
-    ensures { OnOk result (reverse left.new ≡ entities_from part.now 0 stretches ++ reverse left.old) }
+    ensures { OnOk result (reverse left.new ≡ entities_from part.now 0 spans ++ reverse left.old) }
 {
-    let mut still = stretches;
-    'stretches: while let Some(stretch) = still.pop() {
-        left.push(entity_in(part, still.len(), stretch))?;
+    let mut still = spans;
+    'spans: while let Some(span) = still.pop() {
+        left.push(entity_in(part, still.len(), span))?;
     }
     Ok(())
 }
 
-/// The entity of a stretch in a part; so many stand before it.
-fn entity_in(part: &Part, before: usize, stretch: Stretch) -> Entity
+/// The entity of a span in a part; so many stand before it.
+fn entity_in(part: &Part, before: usize, span: Span) -> Entity
     requires { part.now.depth ≤ 32 }
-    ensures { result ≡ entity_in part.now before stretch }
+    ensures { result ≡ entity_in part.now before span }
 {
     Entity {
         depth: part.depth + 1,
-        from: stretch.from,
-        to: stretch.to,
+        from: span.from,
+        to: span.to,
         digest: part.kind.as_str() == "multipart/digest",
         signature: is_signature(part, before),
     }

@@ -1,12 +1,12 @@
 ghost use Rattle.std.specs.Prelude.{◌≡◌, IfOk, IsUtf8, map, position, true};
 ghost use Rattle.std.specs.Char.{to_ascii_lowercase};
-ghost use Rattle.std.specs.List.{before_first, list_any};
+ghost use Rattle.std.specs.List.{before_first};
 ghost use Rattle.nm_mime.specs.Params.{params_of};
-ghost use Rattle.nm_mime.specs.Types.{content_type_of, ends_type, has_slash_inside, is_slash, mail_type, plain_type, read_type, run_of, type_of};
+ghost use Rattle.nm_mime.specs.Types.{content_type_of, ends_type, is_type, mail_type, plain_type, read_type, run_of, type_of};
 
-use crate::param_list::{Param, lowercase, params};
+use crate::param_list::{Param, params};
 use nm_base::{Many, NoMemory, Text};
-use nm_header::{text_of, trimmed_start};
+use nm_text::{first_place, lowercase, text_of, trimmed_start};
 use std::alloc::Global;
 
 /// A content type with its parameters.
@@ -31,7 +31,7 @@ pub(crate) fn part_type(alloc: Global, text: &str, digest: bool) -> Result<Conte
     ensures { IfOk result (λ content_type. content_type ≡ type_of digest text.now) }
 {
     let run = run(text.as_bytes());
-    if has_slash_inside(run) {
+    if is_type(run) {
         return read(alloc, run, text.as_bytes());
     }
     if digest {
@@ -44,7 +44,7 @@ pub(crate) fn part_type(alloc: Global, text: &str, digest: bool) -> Result<Conte
 fn read(alloc: Global, run: &[u8], text: &[u8]) -> Result<ContentType, NoMemory>
     requires utf8 { IsUtf8 text.now }
     requires run { run.now ≡ run_of text.now }
-    requires slash { has_slash_inside run.now ≡ true }
+    requires slash { is_type run.now ≡ true }
     ensures { IfOk result (λ read. read ≡ record { kind = map to_ascii_lowercase run.now; params = params_of text.now }) }
 {
     let kind = text_of(lowercase(alloc, run)?)?;
@@ -97,17 +97,10 @@ fn ends_type(b: u8) -> bool
     b > 126 || b == b';'
 }
 
-fn has_slash_inside(run: &[u8]) -> bool
-    ensures { result ≡ has_slash_inside run.now }
+/// Whether the first `/` has something before it and something after it.
+fn is_type(run: &[u8]) -> bool
+    ensures { result ≡ is_type run.now }
 {
-    if run.len() < 2 {
-        return false;
-    }
-    has_slash(&run[1..run.len() - 1])
-}
-
-fn has_slash(inside: &[u8]) -> bool
-    ensures { result ≡ list_any is_slash inside.now }
-{
-    inside.iter().any(|b| *b == b'/')
+    let at = first_place(run, b'/');
+    0 < at && at + 1 < run.len()
 }

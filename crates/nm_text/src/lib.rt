@@ -1,4 +1,4 @@
-//! The rules about bytes and texts that the readers share: white space, lines, cuts, quoted strings, case.
+//! Values: the rules about bytes and texts that the readers share: white space, lines, cuts, quoted strings, case.
 //! Each rule stands here once. A contract sees bytes and texts as lists of bytes.
 #![tactic(auto)]
 

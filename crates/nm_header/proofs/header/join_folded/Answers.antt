@@ -1,7 +1,7 @@
 -- A line that continues a field adds to it; what is left behind it holds the same fields.
 use Rattle.std.proofs.Common.{sym, ◌∙◌, ap, subst, ◌++◌}
 use Rattle.nm_header.specs.Fields.{fields_in}
-use Rattle.nm_header.specs.Lines.{LeavesOf, header_lines}
+use Rattle.nm_header.specs.HeaderLines.{LeavesOf, header_lines}
 use Rattle.nm_header.proofs.HeaderLemmas.{fields_folded, joined_turn, leaves_more}
 use Rattle.nm_header.proofs.header.join_folded.Goals as goal
 

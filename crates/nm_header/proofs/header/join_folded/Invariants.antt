@@ -1,6 +1,6 @@
 use Rattle.std.proofs.Common.{◌≡◌, ◌++◌, length}
 use Rattle.nm_header.specs.Fields.{fields_in, folded_of}
-use Rattle.nm_header.specs.Lines.{LeavesOf, header_lines}
+use Rattle.nm_header.specs.HeaderLines.{LeavesOf, header_lines}
 use Rattle.nm_header.proofs.header.join_folded.Given as goal
 
 -- so far, and what is left, is all

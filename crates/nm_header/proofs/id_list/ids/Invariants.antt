@@ -5,8 +5,8 @@ use Rattle.nm_header.specs.Ids.{ids_of}
 use Rattle.nm_header.proofs.id_list.ids.Given as goal
 
 -- so far, and what is left, is all
-abbrev pub invariant-stretches : goal.invariant-stretches
-invariant-stretches l = shadow (Utf8 l.left) × (l.found ++ ids_of l.left ≡ ids_of l.text)
+abbrev pub invariant-id_texts : goal.invariant-id_texts
+invariant-id_texts l = shadow (Utf8 l.left) × (l.found ++ ids_of l.left ≡ ids_of l.text)
 
-abbrev pub decreases-stretches : goal.decreases-stretches
-decreases-stretches l = length l.left
+abbrev pub decreases-id_texts : goal.decreases-id_texts
+decreases-id_texts l = length l.left

@@ -1,7 +1,7 @@
 -- The part ends at the end, at a `:`, or at a separator.
 use Rattle.std.proofs.Common.{refl, sym, ◌∙◌, ap, arith, get_or}
 use Rattle.nm_header.specs.Mailboxes.{part_ends}
-use Rattle.nm_header.proofs.MailboxLemmas.{part_colon, part_end, part_separator, stop_behind, stops_same}
+use Rattle.nm_header.proofs.MailboxLemmas.{part_colon, part_end, part_separator, stop_after, stops_same}
 use Rattle.nm_header.proofs.mailbox_list.add_part.Goals as goal
 
 pub returns-then-size-text-clause-found : goal.returns-then-size-text-clause-found
@@ -20,7 +20,7 @@ pub returns-then-as_bytes-size-eq58-clause-boundary :
 returns-then-as_bytes-size-eq58-clause-boundary c =
     let stops = stops_same part_ends c.as_bytes.result.now c.args.text.now c.stop_len-size.result c.as_bytes.ensures.value c.stop_len-size.ensures in
     let within = stops.within in
-    stop_behind part_ends c.args.text.now c.stop_len-size.result refl c.utf8.text stops (omega arith)
+    stop_after part_ends c.args.text.now c.stop_len-size.result refl c.utf8.text stops (omega arith)
 
 pub returns-clause-found : goal.returns-clause-found
 returns-clause-found c =
@@ -32,4 +32,4 @@ pub returns-clause-boundary : goal.returns-clause-boundary
 returns-clause-boundary c =
     let stops = stops_same part_ends c.as_bytes.result.now c.args.text.now c.stop_len-size.result c.as_bytes.ensures.value c.stop_len-size.ensures in
     let within = stops.within in
-    stop_behind part_ends c.args.text.now c.stop_len-size.result refl c.utf8.text stops (omega arith)
+    stop_after part_ends c.args.text.now c.stop_len-size.result refl c.utf8.text stops (omega arith)

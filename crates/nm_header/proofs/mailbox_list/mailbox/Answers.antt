@@ -1,7 +1,7 @@
 -- The name ends at a `<`, or there is none.
 use Rattle.std.proofs.Common.{refl, sym, ◌∙◌, ap, drop}
 use Rattle.nm_header.specs.Mailboxes.{is_angle, name_ends}
-use Rattle.nm_header.proofs.MailboxLemmas.{angle_inside, angle_made, plain_made, stop_behind, stops_same}
+use Rattle.nm_header.proofs.MailboxLemmas.{angle_inside, angle_made, plain_made, stop_after, stops_same}
 use Rattle.nm_header.proofs.mailbox_list.mailbox.Goals as goal
 
 pub returns-then-not-has_angle : goal.returns-then-not-has_angle
@@ -12,7 +12,7 @@ returns-then-not-has_angle c =
 pub range_from-requires : goal.range_from-requires
 range_from-requires c =
     let stops = stops_same name_ends c.as_bytes.result.now c.args.text.now c.stop_len-name_size.result c.as_bytes.ensures.value c.stop_len-name_size.ensures in
-    λ _. stop_behind name_ends c.args.text.now c.stop_len-name_size.result refl c.utf8.text stops (angle_inside c.args.text.now c.stop_len-name_size.result (ap (λ t. is_angle (drop c.stop_len-name_size.result t)) (sym c.as_bytes-2.ensures.value) ∙ (sym c.has_angle.ensures ∙ c.if-not-has_angle.false)))
+    λ _. stop_after name_ends c.args.text.now c.stop_len-name_size.result refl c.utf8.text stops (angle_inside c.args.text.now c.stop_len-name_size.result (ap (λ t. is_angle (drop c.stop_len-name_size.result t)) (sym c.as_bytes-2.ensures.value) ∙ (sym c.has_angle.ensures ∙ c.if-not-has_angle.false)))
 
 pub returns : goal.returns
 returns c =

@@ -6,8 +6,8 @@ use Rattle.nm_mime.proofs.param_list.params.Goals as goal
 
 pub params-init : goal.params-init
 params-init c = (
-  params_begin c.new-found.result c.behind_semicolon-left.result.now c.args.text.now c.new-found.ensures c.behind_semicolon-left.ensures,
-  subst IsUtf8 (sym c.behind_semicolon-left.ensures) (semicolon_utf8 c.args.text.now c.requires),
+  params_begin c.new-found.result c.after_semicolon-left.result.now c.args.text.now c.new-found.ensures c.after_semicolon-left.ensures,
+  subst IsUtf8 (sym c.after_semicolon-left.ensures) (semicolon_utf8 c.args.text.now c.requires),
 )
 
 pub params-preserved : goal.params-preserved

@@ -1,0 +1,64 @@
+ghost use Rattle.std.specs.Prelude.{◌≡◌, ◌+◌, ◌∷◌, ◌<◌, ◌≤◌, length, min, take, drop, position};
+ghost use Rattle.std.specs.List.{position_or_len};
+ghost use Rattle.nm_header.specs.Ids.{is_greater_than};
+ghost use Rattle.nm_header.specs.Mailboxes.{StopsAt, begins_with, mailbox_lexemes_of};
+
+use nm_text::{pair_len, quoted_len};
+
+/// How many bytes stand before the first lexeme that begins with one of these specials.
+pub(crate) fn stop_len(text: &[u8], specials: &[u8]) -> usize
+    ensures { StopsAt specials.now text.now result }
+{
+    let mut left = text;
+    'lexemes: while !left.is_empty() {
+        if begins_with(left, specials) {
+            return text.len() - left.len();
+        }
+        let (_, after) = left.split_at(mailbox_lexeme_len(left));
+        left = after;
+    }
+    text.len()
+}
+
+pub(crate) fn begins_with(text: &[u8], specials: &[u8]) -> bool
+    ensures { result ≡ begins_with specials.now text.now }
+{
+    match text {
+        [] => false,
+        [first, ..] => specials.contains(first),
+    }
+}
+
+/// How many bytes the first lexeme has: a quoted text, what stands in `<..>`, or a pair.
+fn mailbox_lexeme_len(text: &[u8]) -> usize
+    requires { 0 < length text.now }
+    ensures first { mailbox_lexemes_of text.now ≡ take result text.now ∷ mailbox_lexemes_of (drop result text.now) }
+    ensures some { 0 < result }
+    ensures within { result ≤ length text.now }
+{
+    let (_, after) = text.split_at(1);
+    if text[0] == b'"' {
+        return 1 + quoted_len(after);
+    }
+    if text[0] == b'<' {
+        return 1 + angle_len(after);
+    }
+    pair_len(text)
+}
+
+/// How many bytes stand up to the next `>`, and with it.
+fn angle_len(text: &[u8]) -> usize
+    ensures value { result ≡ min (position_or_len is_greater_than text.now + 1) (length text.now) }
+    ensures within { result ≤ length text.now }
+{
+    match close_at(text) {
+        Some(at) => at + 1,
+        None => text.len(),
+    }
+}
+
+fn close_at(text: &[u8]) -> Option<usize>
+    ensures { result ≡ position is_greater_than text.now }
+{
+    text.iter().position(|b| *b == b'>')
+}
