@@ -10,6 +10,7 @@ use Rattle.nm_base.specs.declared.facts.Facts.{Facts}
 use Rattle.nm_base.specs.declared.facts.Field.{Field}
 use Rattle.nm_base.specs.declared.facts.Field.TheVariants.{From, To, Subject, Body, Attachment}
 
+-- the words of this field are those of the subject
 abbrev pub is_subject : Field → Bool
 is_subject From = false
 is_subject To = false

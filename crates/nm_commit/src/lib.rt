@@ -1,4 +1,4 @@
-//! The changes of an index, and the commits that are made of them; the definitions say what an index is,
+//! The plain index: the changes of an index, and the commits that are made of them; the definitions say what an index is,
 //! which commits fit it, and which index they leave.
 #![tactic(auto)]
 

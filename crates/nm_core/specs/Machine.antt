@@ -7,6 +7,7 @@ use Rattle.nm_core.specs.Reply.{is_reply}
 use Rattle.nm_core.specs.declared.step.Step.{Step}
 use Rattle.nm_core.specs.declared.step.Step.TheVariants.{Begin, Append, Show, See, Meet, Reply}
 
+-- the state of the machine
 pub record Machine : Type 0 where
   pub opening : Index
   -- those acknowledged, in their order
@@ -18,6 +19,7 @@ pub record Machine : Type 0 where
   -- for each lane, how many of the commits it sees
   pub lanes : List ℕ
 
+-- the state at the start: nothing is committed, shown or seen
 abbrev pub start : Index → ℕ → Machine
 start opening lanes = record { opening = opening; commits = []; flight = None; shown = 0; lanes = replicate lanes 0 }
 

@@ -1,4 +1,4 @@
-//! The lawful orders of commits, publications, sights and replies, as a pure machine: a step is refused
+//! The plain index: the lawful orders of commits, publications, sights and replies, as a pure machine: a step is refused
 //! exactly where the machine does not allow it.
 #![tactic(auto)]
 

@@ -75,6 +75,7 @@ summary_line report =
     )
     ++ codes ".\n"
 
+-- what `new` says: the numbers of files and messages, and a line for each file that was passed over
 abbrev pub new_text : NewReport → List ℕ
 new_text report = if is_quiet report then codes "No new mail.\n" else summary_line report ++ flat_map skip_line report.skipped
 

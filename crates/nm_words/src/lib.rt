@@ -1,4 +1,4 @@
-//! The words of a text, as an index keeps them: those of UAX 29, cut at ASCII signs, without case.
+//! Reading one mail: the words of a text, as an index keeps them: those of UAX 29, cut at ASCII signs, without case.
 #![tactic(auto)]
 
 mod pieces;
