@@ -18,6 +18,10 @@ refused kind word = Usage word kind
 abbrev pub count_of : List ℕ → Asked
 count_of query = Request (requests.Count (record { output = outputs.Messages; exclude = true; batch = false; query = query }))
 
+-- a query that is read is counted
+abbrev pub query_asked : List ℕ → Asked
+query_asked query = if is_subject_query query then count_of query else refused kinds.Value query
+
 -- what stands behind `new`
 abbrev pub new_asked : List (List ℕ) → Asked
 new_asked [] = Request requests.New
@@ -26,7 +30,7 @@ new_asked (word ∷ more) = refused kinds.Extra word
 -- what stands behind `count`
 abbrev pub count_asked : List (List ℕ) → Asked
 count_asked [] = refused kinds.Missing []
-count_asked (word ∷ []) = if is_subject_query word then count_of word else refused kinds.Value word
+count_asked (word ∷ []) = query_asked word
 count_asked (word ∷ other ∷ more) = refused kinds.Value word
 
 -- what stands behind the lane

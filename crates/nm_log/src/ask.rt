@@ -1,5 +1,5 @@
 ghost use Rattle.std.specs.Prelude.{◌≡◌, [], ◌∷◌, IfOk};
-ghost use Rattle.nm_log.specs.Ask.{asked_of, command_asked, count_asked, new_asked, words_asked};
+ghost use Rattle.nm_log.specs.Ask.{asked_of, command_asked, count_asked, new_asked, query_asked, words_asked};
 ghost use Rattle.nm_log.specs.Words.{words_of};
 
 use crate::words::next_word;
@@ -80,16 +80,23 @@ fn read_count(alloc: Global, text: &str) -> Result<Asked, NoMemory>
             if next_word(words).is_some() {
                 return refuse(alloc, UsageKind::Value, word);
             }
-            if !is_subject_query(word.as_bytes()) {
-                return refuse(alloc, UsageKind::Value, word);
-            }
-            let query = Text::of(alloc, word)?;
-            Ok(Asked::Request(Request::Count(CountAsk {
-                output: Output::Messages,
-                exclude: true,
-                batch: false,
-                query,
-            })))
+            read_query(alloc, word)
         }
     }
+}
+
+/// A count of one query, where it is read.
+fn read_query(alloc: Global, word: &str) -> Result<Asked, NoMemory>
+    ensures { IfOk result (λ asked. asked ≡ query_asked word.now) }
+{
+    if !is_subject_query(word.as_bytes()) {
+        return refuse(alloc, UsageKind::Value, word);
+    }
+    let query = Text::of(alloc, word)?;
+    Ok(Asked::Request(Request::Count(CountAsk {
+        output: Output::Messages,
+        exclude: true,
+        batch: false,
+        query,
+    })))
 }
