@@ -1,3 +1,5 @@
+//! What each command was asked; a request has one of these.
+
 use crate::{Copies, DumpForm, Many, NoMemory, Output, ReadForm, TagOp, Text};
 
 /// What `search` was asked.

@@ -1,3 +1,5 @@
+//! A box that may hold its own type, for the trees of queries.
+
 ghost use Rattle.std.specs.Prelude.{◌≡◌, IfOk};
 
 use crate::{Copies, NoMemory};

@@ -1,3 +1,5 @@
+//! Copies that may find no memory; every value of a mail and of a commit has one.
+
 ghost use Rattle.std.specs.Prelude.{◌≡◌, IfOk, take};
 
 use crate::NoMemory;

@@ -1,3 +1,5 @@
+//! What the index knows of a mail; `nm_extract` makes it, commits and replies take it.
+
 use crate::{Copies, Many, MessageId, NoMemory, Text, Word};
 
 /// Where in a mail a word stands.

@@ -1,3 +1,5 @@
+//! How results are printed and dumps are written and read.
+
 use crate::{Copies, NoMemory};
 
 /// What is printed or counted of the messages that match.

@@ -1,3 +1,5 @@
+//! The bounds that a call may tell as passed.
+
 /// The bound that was passed.
 #[derive(Clone, Copy, Debug, PartialEq, Eq)]
 pub enum Limit {

@@ -1,3 +1,5 @@
+//! Where a mail lies below the mail folder; listings make these, reads and commits take them.
+
 ghost use Rattle.std.specs.Prelude.{◌≡◌, ◌==◌, IsTrue};
 ghost use Rattle.std.specs.List.{list_all, slice_split};
 ghost use Rattle.nm_base.specs.Bounds.{checked};

@@ -1,3 +1,5 @@
+//! The list of all crates, seen in contracts as its items.
+
 ghost use Rattle.std.specs.Prelude.{◌≡◌, ◌==◌, ◌<◌, Some, [], ◌∷◌, ◌++◌, length, slice_get, slice_set, IfOk, MatchOption, OnOk, OnErr};
 ghost use Rattle.std.specs.Cmp.Lexicographic.{lists_equiv, lists_per, pointwise};
 ghost use Rattle.std.specs.Option.{option_copied};

@@ -1,3 +1,5 @@
+//! The two errors that every crate passes on: a failed device, and no memory.
+
 use std::alloc::{AllocError, AllocFailed};
 use thiserror::Error;
 

@@ -1,3 +1,5 @@
+//! What names a message; `nm_header` and `nm_extract` make it.
+
 ghost use Rattle.std.specs.Prelude.{◌≡◌, IsTrue};
 ghost use Rattle.std.specs.List.{list_all};
 ghost use Rattle.nm_base.specs.Bounds.{checked};

@@ -1,3 +1,5 @@
+//! What may be wrong with a name, a tag, a word or a path, for their constructors.
+
 ghost use Rattle.std.specs.Prelude.{◌≡◌};
 ghost use Rattle.nm_base.specs.Bounds.{fits_length};
 

@@ -1,3 +1,5 @@
+//! The kinds of refusals: of the words of a command, and of a file by `new`.
+
 /// What is wrong with the words of a command.
 #[derive(Clone, Copy, Debug, PartialEq, Eq)]
 pub enum UsageKind {

@@ -1,3 +1,5 @@
+//! A list with reserved places, for the log: a push into one takes no memory.
+
 ghost use Rattle.std.specs.Prelude.{◌≡◌, ℕ, ◌+◌, ◌<◌, ◌≤◌, [], ◌∷◌, ◌++◌, OnOk, OnErr};
 
 use crate::{Many, NoMemory};

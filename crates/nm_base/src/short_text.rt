@@ -1,3 +1,5 @@
+//! A text of at most 22 bytes, which needs no block of its own, for `Text`.
+
 ghost use Rattle.std.specs.Prelude.{◌≡◌, ◌≤◌, [], IsUtf8, length, take};
 
 /// The bytes that a text may have without a block of its own.

@@ -1,3 +1,5 @@
+//! Counts of work done, for the statements of costs.
+
 ghost use Rattle.std.specs.Prelude.{◌≡◌, ◌+◌, ◌<◌};
 
 use std::marker::{Brand, Model};

@@ -1,3 +1,5 @@
+//! What a user may set on a message.
+
 ghost use Rattle.std.specs.Prelude.{◌≡◌, IsTrue};
 ghost use Rattle.nm_base.specs.Bounds.{checked};
 ghost use Rattle.nm_base.specs.Tag.{is_tag, is_tag_text};

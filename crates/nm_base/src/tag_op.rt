@@ -1,3 +1,5 @@
+//! One change of a message's tags, for `tag` and the lines of dumps.
+
 use crate::{Copies, NoMemory, Tag};
 
 /// One change of a message's tags.

@@ -1,3 +1,5 @@
+//! A set of tags.
+
 ghost use Rattle.std.specs.Prelude.{◌≡◌, [], IfOk, OnOk, OnErr};
 ghost use Rattle.nm_base.specs.Order.{IsSorted};
 ghost use Rattle.nm_base.specs.Tags.{has_tag, with_tag, without_tag};

@@ -1,3 +1,5 @@
+//! A word of a mail, as `nm_words` finds it and the index keeps it.
+
 ghost use Rattle.std.specs.Prelude.{◌≡◌, IsTrue};
 ghost use Rattle.nm_base.specs.Bounds.{checked};
 ghost use Rattle.nm_base.specs.Word.{is_word, is_word_text};
