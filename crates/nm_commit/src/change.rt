@@ -1,3 +1,5 @@
+//! Changes and commits, which `new` makes and the machine takes.
+
 use nm_base::{Copies, Facts, MailPath, Many, NoMemory};
 
 /// One change of an index.

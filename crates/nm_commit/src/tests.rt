@@ -1,3 +1,5 @@
+//! Tests of what no row says.
+
 use crate::{Change, Commit};
 use nm_base::{Copies, Facts, MailPath, Many, Marks, MessageId, NoMemory, Text};
 use std::alloc::Global;
