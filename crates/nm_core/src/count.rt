@@ -1,3 +1,5 @@
+//! The plain answer to a count; a reply to one is judged by it, and the top call answers with it.
+
 ghost use Rattle.std.specs.Prelude.{◌≡◌, ◌&&◌, ◌++◌, [], ◌∷◌, decimal, drop, length, IfOk, OnOk, if◌then◌else◌};
 ghost use Rattle.std.specs.BTreeSet.{insert_key};
 ghost use Rattle.std.specs.Cmp.Lexicographic.{slice_cmp};

@@ -1,3 +1,5 @@
+//! The files after a commit, and whether a commit fits; the machine begins no other.
+
 ghost use Rattle.std.specs.Prelude.{◌≡◌, ◌↔◌, [], ◌∷◌, ◌++◌, IfOk, IsTrue, fold};
 ghost use Rattle.std.specs.List.{list_any};
 ghost use Rattle.nm_base.specs.Order.{same_text};

@@ -1,3 +1,5 @@
+//! The machine's state and its steps; whoever steps it learns whether the step is lawful.
+
 ghost use Rattle.std.specs.Prelude.{◌≡◌, ◌↔◌, ◌<◌, ◌≤◌, ◌≤ℤ◌, length, pos, replicate, IfOk, IsTrue};
 ghost use Rattle.nm_commit.specs.Index.{empty_index};
 ghost use Rattle.nm_core.specs.Core.{Answers};

@@ -1,3 +1,5 @@
+//! Whether a reply may have its text; the machine asks it at each reply.
+
 ghost use Rattle.std.specs.Prelude.{◌≡◌, ◌&&◌, ◌||◌, IfOk};
 ghost use Rattle.nm_base.specs.Order.{same_text};
 ghost use Rattle.nm_commit.specs.Count.{count_text};

@@ -1,3 +1,5 @@
+//! What a command asks for; `nm_log` reads it from a line, the machine judges its reply.
+
 use nm_base::{Copies, CountAsk, NoMemory};
 
 /// What a command asks for.

@@ -1,3 +1,5 @@
+//! A step of the machine, as the log holds it.
+
 use crate::request::Request;
 use nm_base::{Copies, Many, NoMemory};
 use nm_commit::Commit;

@@ -1,3 +1,5 @@
+//! Tests of what no row says.
+
 use crate::{Core, CoreError, Request, Step, count_text};
 use nm_base::{
     Copies, CountAsk, Facts, Field, FieldWords, MailPath, Many, Marks, MessageId, Output, Text,
