@@ -1,3 +1,5 @@
+//! Bytes as text by their charset; bodies and encoded words end here.
+
 ghost use Rattle.std.specs.Prelude.{◌≡◌, take, length, IfOk, ◌<◌, ◌≤◌};
 ghost use Rattle.std.specs.Str.{IsAscii};
 ghost use Rattle.nm_decode.specs.Charsets.{charset_of, char_in, single_byte_text, text_in, text_of};

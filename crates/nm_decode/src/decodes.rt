@@ -1,3 +1,5 @@
+//! What the encoded text of an encoded word says, for `words`.
+
 ghost use Rattle.std.specs.Prelude.{◌≡◌, map, IfOk};
 ghost use Rattle.nm_decode.specs.EncodedWords.{b_bytes, is_field, is_q_text, q_bytes, spaced, word_bytes, word_text};
 

@@ -1,3 +1,5 @@
+//! The charset, the letter and the text of an encoded word, for `words`.
+
 ghost use Rattle.std.specs.Prelude.{◌≡◌, ◌∷◌, ◌++◌, [], None, Some, IfSome, MatchOption, IsTrue, ℕ, List};
 ghost use Rattle.nm_decode.specs.EncodedWords.{begins_with_equals, fields_of, pieces_of};
 ghost use Rattle.nm_decode.specs.WordSteps.{IsFramed};

@@ -1,3 +1,5 @@
+//! Base64 read leniently; `nm_extract` decodes bodies with it.
+
 ghost use Rattle.std.specs.Prelude.{◌≡◌, ◌+◌, ◌<◌, ◌++◌, IfOk, IfSome, OnOk};
 ghost use Rattle.std.specs.List.{before_first};
 ghost use Rattle.nm_text.specs.Cuts.{is_byte};

@@ -1,3 +1,5 @@
+//! Quoted-printable read leniently; `nm_extract` decodes bodies with it, and Q words take its escapes.
+
 ghost use Rattle.std.specs.Prelude.{◌≡◌, ◌≤◌, ◌<◌, ◌++◌, length, IfOk, IfSome, OnOk};
 ghost use Rattle.nm_decode.specs.Bytes.{escape_of, hex_of};
 ghost use Rattle.nm_decode.specs.QuotedPrintable.{ends_with, line_bytes, quoted_of, unescaped};

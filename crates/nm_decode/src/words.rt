@@ -1,3 +1,5 @@
+//! Encoded words in a header's text; subjects, names and filenames are decoded with it.
+
 ghost use Rattle.std.specs.Prelude.{◌≡◌, ◌+◌, ◌++◌, IfOk, IfSome, OnOk, string_bytes};
 ghost use Rattle.nm_decode.specs.WordSteps.{IsSpan, gap_text};
 ghost use Rattle.nm_decode.specs.EncodedWords.{first_word, words_decoded, word_of};
