@@ -1,3 +1,5 @@
+//! The text of a readable part, for the lists of words and for `bodies`.
+
 ghost use Rattle.std.specs.Prelude.{◌≡◌, IfOk, filter, length, map};
 ghost use Rattle.std.specs.List.{All};
 ghost use Rattle.nm_extract.specs.PartText.{is_html, is_readable, part_text, visible_text};

@@ -1,3 +1,5 @@
+//! The date of a mail, for its facts.
+
 ghost use Rattle.std.specs.Prelude.{◌≡◌, IfOk};
 ghost use Rattle.nm_base.specs.Limits.{IsDate};
 ghost use Rattle.nm_extract.specs.Date.{date_of, kept_second, second_of};

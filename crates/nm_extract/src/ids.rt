@@ -1,3 +1,5 @@
+//! The id of a mail and its links, for its facts.
+
 ghost use Rattle.std.specs.Prelude.{◌≡◌, ◌++◌, IfOk, OnOk};
 ghost use Rattle.nm_extract.specs.Ids.{digest_id, field_ids, links_among, named_ids, own_id};
 

@@ -1,3 +1,5 @@
+//! The facts of a mail; `new` calls it for each file that it reads.
+
 ghost use Rattle.std.specs.Prelude.{◌≡◌, Some, IfErr, IfOk};
 ghost use Rattle.nm_base.specs.Limits.{IsDate};
 ghost use Rattle.nm_extract.specs.Mail.{IsExtractFault, facts_with, facts_of, is_mail, subject_of};

@@ -1,3 +1,5 @@
+//! The people of a mail with their names decoded, for its facts and lists.
+
 ghost use Rattle.std.specs.Prelude.{◌≡◌, ◌++◌, IfOk, OnOk};
 ghost use Rattle.std.specs.List.{flat_map};
 ghost use Rattle.nm_extract.specs.Mailboxes.{field_mailboxes, mailbox_words, decoded_mailbox, decoded_mailboxes, to_of};

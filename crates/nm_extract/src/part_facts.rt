@@ -1,3 +1,5 @@
+//! What the parts of a mail say, taken one by one, for its facts.
+
 ghost use Rattle.std.specs.Prelude.{◌≡◌, ◌++◌, [], IfOk, OnOk, false, length};
 ghost use Rattle.nm_extract.specs.PartFacts.{facts_of_parts};
 ghost use Rattle.nm_extract.specs.PartSteps.{no_part_facts, with_marks, with_part};

@@ -1,3 +1,5 @@
+//! The lists of words of a mail, for its facts.
+
 ghost use Rattle.std.specs.Prelude.{◌≡◌, ◌++◌, ◌∷◌, [], IfOk};
 ghost use Rattle.nm_extract.specs.WordLists.{list_of, mailbox_list, word_lists};
 ghost use Rattle.nm_words.specs.Words.{words_of};
