@@ -1,3 +1,5 @@
+//! The listed calls at which an object in memory fails; sources, sinks and trees in memory have it.
+
 ghost use Rattle.std.specs.Prelude.{◌≡◌};
 ghost use Rattle.std.specs.Bool.{OnFalse, OnTrue};
 ghost use Rattle.nm_faults.specs.Calls.{CallCounts, counted, is_listed, is_next_listed};

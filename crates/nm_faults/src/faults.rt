@@ -1,3 +1,5 @@
+//! A count of faults; every object of the outside has one.
+
 ghost use Rattle.std.specs.Prelude.{◌≡◌};
 ghost use Rattle.nm_faults.specs.Faults.{HasRisen, one_more};
 
