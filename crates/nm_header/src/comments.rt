@@ -1,3 +1,5 @@
+//! How far a comment, a quoted text or a pair goes, for `plain`.
+
 ghost use Rattle.std.specs.Prelude.{◌≡◌, ◌∷◌, ◌<◌, ◌≤◌, IsUtf8, length, take, drop, true};
 ghost use Rattle.nm_header.specs.Comments.{comment_len, depth_after, is_comment, lexemes_of};
 

@@ -1,3 +1,5 @@
+//! The name of a mailbox, without quotes and spare white space, for `mailboxes`.
+
 ghost use Rattle.std.specs.Prelude.{◌≡◌, [], ◌∷◌, ◌++◌, IfOk, OnOk, position, string_bytes};
 ghost use Rattle.nm_base.specs.Bounds.{is_white_space};
 ghost use Rattle.nm_header.specs.Mailboxes.{added_word, spaced_of};

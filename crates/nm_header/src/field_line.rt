@@ -1,3 +1,5 @@
+//! The line that begins a field, and the name in it, for `fields`.
+
 ghost use Rattle.std.specs.Prelude.{◌≡◌, IfOk, map, position, true, Some};
 ghost use Rattle.std.specs.Char.{to_ascii_lowercase};
 ghost use Rattle.std.specs.List.{after_first, before_first, list_all};

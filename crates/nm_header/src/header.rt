@@ -1,3 +1,5 @@
+//! The fields of a header, and where the body begins; the mail and each of its parts are read with it.
+
 ghost use Rattle.std.specs.Prelude.{◌≡◌, ◌+◌, ◌<◌, ◌≤◌, ◌∷◌, ◌++◌, length, map, take, true, IfOk, OnOk};
 ghost use Rattle.std.specs.Char.{to_ascii_lowercase};
 ghost use Rattle.nm_header.specs.Fields.{begins_field, fields_in, folded_of, header_of, name_of, without_from_line};

@@ -1,3 +1,5 @@
+//! How far the next line of a header goes, for `fields`.
+
 ghost use Rattle.std.specs.Prelude.{◌≡◌, ◌≤◌, [], length, IfSome, MatchOption, take, true};
 ghost use Rattle.std.specs.List.{take_while};
 ghost use Rattle.nm_header.specs.Fields.{continues};

@@ -1,3 +1,5 @@
+//! The ids in a field's text; `nm_extract` reads Message-ID, References and In-Reply-To with it.
+
 ghost use Rattle.std.specs.Prelude.{◌≡◌, [], ◌∷◌, ◌++◌, IfOk, OnOk, position};
 ghost use Rattle.nm_header.specs.Ids.{ids_in, ids_of, is_greater_than, is_less_than};
 

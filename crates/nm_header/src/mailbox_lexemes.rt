@@ -1,3 +1,5 @@
+//! How far a name or an address goes in a field of mailboxes, for `mailboxes`.
+
 ghost use Rattle.std.specs.Prelude.{◌≡◌, ◌+◌, ◌∷◌, ◌<◌, ◌≤◌, length, min, take, drop, position};
 ghost use Rattle.std.specs.List.{position_or_len};
 ghost use Rattle.nm_header.specs.Ids.{is_greater_than};

@@ -1,3 +1,5 @@
+//! The mailboxes in a field's text; `nm_extract` reads From, To, Cc and Bcc with it.
+
 ghost use Rattle.std.specs.Prelude.{◌≡◌, ◌++◌, ◌<◌, ◌≤◌, drop, length, IfOk, OnOk, position};
 ghost use Rattle.std.specs.List.{before_first, list_all};
 ghost use Rattle.std.specs.Str.{IsCharBoundary};

@@ -1,3 +1,5 @@
+//! A text without its comments, for mailboxes and dates.
+
 ghost use Rattle.std.specs.Prelude.{◌≡◌, ◌++◌, IfOk, OnOk};
 ghost use Rattle.nm_header.specs.Comments.{is_comment, plain_of, shown};
 

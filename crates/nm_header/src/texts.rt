@@ -1,3 +1,5 @@
+//! The texts of the fields of one name; `nm_mime` and `nm_extract` ask a header so.
+
 ghost use Rattle.std.specs.Prelude.{◌≡◌, IfOk, map, filter, find};
 ghost use Rattle.std.specs.Option.{option_copied, option_map, option_to_list};
 ghost use Rattle.std.specs.Str.Lossy.{utf8_lossy};
