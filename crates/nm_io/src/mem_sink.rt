@@ -1,3 +1,5 @@
+//! A sink in memory, which tells what it took; rows and tests read it.
+
 ghost use Rattle.std.specs.Prelude.{◌≡◌, [], ◌&&◌, not, is_err, IsErr, IsTrue, OnErr, if◌then◌else◌};
 ghost use Rattle.nm_faults.specs.Calls.{counted, is_next_listed};
 ghost use Rattle.nm_faults.specs.Faults.{one_more};

@@ -1,3 +1,5 @@
+//! A source in memory, which tells what is left; rows and tests are read from it.
+
 ghost use Rattle.std.specs.Prelude.{◌≡◌, [], length, min, take, is_err, IfOk, IsOk};
 ghost use Rattle.nm_faults.specs.Calls.{counted, is_next_listed};
 ghost use Rattle.nm_io.specs.Memory.{observed_source};

@@ -1,3 +1,5 @@
+//! What every output is to the code above: bytes go in, failures are counted.
+
 ghost use Rattle.nm_io.specs.Observed.{ObservedStream, Puts};
 
 use nm_base::Failed;

@@ -1,3 +1,5 @@
+//! What every input is to the code above: bytes come out, failures are counted.
+
 ghost use Rattle.nm_io.specs.Observed.{ObservedStream, Takes};
 
 use nm_base::Failed;

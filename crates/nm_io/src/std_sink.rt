@@ -1,3 +1,5 @@
+//! A sink over a writer of std, as `main` makes it of standard output and standard error.
+
 ghost use Rattle.std.specs.Prelude.{◌≡◌, ◌<◌, ◌≤◌, length, IfOk};
 ghost use Rattle.std.specs.Io.KnownBytes.{Keeps, WriteAppends};
 ghost use Rattle.nm_io.specs.Observed.{PutAppends};

@@ -1,3 +1,5 @@
+//! Reading an input to its end; the top call reads its script so.
+
 ghost use Rattle.std.specs.Prelude.{◌≡◌, ℕ, ◌<◌, ◌≤◌, List, length, IfOk, OnOk, OnErr, IsErrOf, IfSome};
 ghost use Rattle.std.specs.Io.KnownBytes.{Consumes, IsAtEnd};
 ghost use Rattle.nm_io.specs.Taking.{HasTakeCause};
