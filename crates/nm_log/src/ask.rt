@@ -1,3 +1,5 @@
+//! What a line of a script asks for; the session reads each line with it.
+
 ghost use Rattle.std.specs.Prelude.{◌≡◌, [], ◌∷◌, IfOk};
 ghost use Rattle.nm_log.specs.Ask.{asked_of, command_asked, count_asked, new_asked, query_asked, words_asked};
 ghost use Rattle.nm_log.specs.Words.{words_of};

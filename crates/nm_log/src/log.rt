@@ -1,3 +1,5 @@
+//! The log of a session, which the top call hands back, and what a run is given.
+
 use crate::Outcome;
 use nm_base::Many;
 use nm_core::Step;

@@ -1,3 +1,5 @@
+//! How a line ends.
+
 use nm_base::{Text, UsageKind};
 
 /// How a line of a session, or a single command, ended.

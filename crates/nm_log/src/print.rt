@@ -1,3 +1,5 @@
+//! Printing the log, and a refusal of the call's words, without memory; the top call and `main` call it.
+
 ghost use Rattle.std.specs.Prelude.{◌++◌};
 ghost use Rattle.nm_faults.specs.Faults.{HasCause};
 ghost use Rattle.nm_io.specs.Observed.{PutAppends};

@@ -1,3 +1,5 @@
+//! Tests of what no row says.
+
 use crate::{
     Asked, LineLog, NewReport, Outcome, ScriptError, line_status, new_reply, print_lines,
     print_usage, read_ask, read_script, usage_text,

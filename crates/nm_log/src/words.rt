@@ -1,3 +1,5 @@
+//! The next word of a line, for `read_ask`.
+
 ghost use Rattle.std.specs.Prelude.{◌≡◌, ◌<◌, ◌≤◌, [], ◌∷◌, length, MatchOption, false};
 ghost use Rattle.std.specs.List.{position_or_len};
 ghost use Rattle.nm_log.specs.Words.{begins_blank, is_blank, words_of};
