@@ -1,3 +1,5 @@
+//! What a mail folder answers to a listing, a read and a rename.
+
 ghost use Rattle.std.specs.Prelude.{◌≡◌};
 ghost use Rattle.nm_maildir.specs.declared.answers.MailError.TheVariants as mail_error;
 

@@ -1,3 +1,5 @@
+//! Listing, reading and renaming in a folder of the system, for `FolderMail`.
+
 ghost use Rattle.std.specs.Prelude.{IfOk};
 ghost use Rattle.nm_maildir.specs.Order.{AreInOrder};
 

@@ -1,3 +1,5 @@
+//! A folder of the system as a `Maildir`, as `main` opens it.
+
 ghost use Rattle.std.specs.Prelude.{None};
 ghost use Rattle.nm_faults.specs.Faults.{Counts};
 ghost use Rattle.nm_maildir.specs.Observed.{is_mail_fault};

@@ -1,3 +1,5 @@
+//! What a mail folder answered, as the log notes it.
+
 use crate::Renamed;
 use nm_base::{Copies, MailPath, Many, NoMemory};
 

@@ -1,3 +1,5 @@
+//! What every mail folder is to the code above: it lists, reads, renames, and counts its failures.
+
 ghost use Rattle.std.specs.Prelude.{◌≡◌, IfOk, IfSome};
 ghost use Rattle.nm_maildir.specs.Observed.{KeepsMail, ObservedMail, after_read, after_rename};
 ghost use Rattle.nm_maildir.specs.Order.{AreInOrder};

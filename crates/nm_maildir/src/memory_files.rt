@@ -1,3 +1,5 @@
+//! Folders and files in memory, found by their paths, for `StillTree`.
+
 ghost use Rattle.std.specs.Bool.{OnFalse};
 ghost use Rattle.std.specs.Prelude.{◌≡◌, [], true, None, Some, is_some, IfOk, IfSome, IsTrue, OnOk, OnErr};
 ghost use Rattle.nm_maildir.specs.MemoryFiles.{IsIndex, Locates, place_of};

@@ -1,3 +1,5 @@
+//! The names in one folder, from the paths of a tree; listings in memory call it.
+
 ghost use Rattle.std.specs.Prelude.{◌≡◌, ◌==◌, ◌-◌, not, length, IfOk, OnOk};
 ghost use Rattle.std.specs.List.{suffix_len};
 ghost use Rattle.std.specs.Str.{IsCharBoundary};

@@ -1,3 +1,5 @@
+//! A tree of mail in memory, which tells what it holds; rows and tests run over it.
+
 ghost use Rattle.std.specs.Prelude.{◌≡◌, is_some, IfOk, IfSome, IsTrue};
 ghost use Rattle.nm_maildir.specs.Observed.{KeepsMail, after_read, after_rename};
 ghost use Rattle.nm_maildir.specs.Order.{AreInOrder};
