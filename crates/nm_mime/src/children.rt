@@ -1,3 +1,5 @@
+//! What stands between the delimiters of a multipart, for `parts`.
+
 ghost use Rattle.std.specs.Prelude.{◌≡◌, ◌++◌, ◌≤◌, IfOk, OnOk, length};
 ghost use Rattle.nm_text.specs.Lines.{lines_of};
 ghost use Rattle.nm_mime.specs.Children.{delimiters_of, ends_part, is_line_of, part_after, part_at, part_len, spans_of};

@@ -1,3 +1,5 @@
+//! A part, before its header is read and after; `parts` makes both.
+
 use crate::roles::{Encoding, Role};
 use nm_base::Text;
 

@@ -1,3 +1,5 @@
+//! What follows from the definitions of the tree. These functions run no code: their clauses are the laws.
+
 ghost use Rattle.std.specs.Prelude.{◌≡◌, List, ℕ, ◌∷◌, length, suc, true};
 ghost use Rattle.std.specs.List.{flat_map, list_all};
 ghost use Rattle.nm_text.specs.Lines.{lines_of};

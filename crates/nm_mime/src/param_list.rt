@@ -1,3 +1,5 @@
+//! The parameters of a header field, for content types and dispositions.
+
 ghost use Rattle.std.specs.Prelude.{◌≡◌, ◌++◌, ◌<◌, ◌≤◌, IfOk, IsUtf8, OnOk, drop, find, length, map, position, string_bytes};
 ghost use Rattle.std.specs.Char.{to_ascii_lowercase};
 ghost use Rattle.std.specs.List.{after_first, before_first, list_any, position_or_len};

@@ -1,3 +1,5 @@
+//! The parts of a mail one by one, for callers that need no list of them.
+
 ghost use Rattle.std.specs.Prelude.{◌≡◌, ◌∷◌, ◌++◌, [], IfOk, IfSome, MatchOption, OnOk, length, reverse};
 ghost use Rattle.nm_header.specs.Fields.{header_of};
 ghost use Rattle.nm_mime.specs.PartReader.{StandInside, mail_of, parts_to_come};

@@ -1,3 +1,5 @@
+//! A quoted string in a parameter, for `params`.
+
 ghost use Rattle.std.specs.Prelude.{◌≡◌, ◌∷◌, ◌<◌, ◌≤◌, IfOk, length, true};
 ghost use Rattle.nm_mime.specs.Params.{after_quoted, goes_on, is_pair, quoted_text};
 

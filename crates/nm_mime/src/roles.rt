@@ -1,3 +1,5 @@
+//! How a part is encoded, whether it is attached, and what becomes of it, for `reading`.
+
 ghost use Rattle.std.specs.Prelude.{◌≡◌, ◌&&◌, ◌||◌, IfOk, position};
 ghost use Rattle.std.specs.List.{before_first};
 ghost use Rattle.std.specs.Option.{option_map};

@@ -1,3 +1,5 @@
+//! The parts of a mail; `nm_extract` asks it once a mail.
+
 ghost use Rattle.std.specs.Prelude.{◌≡◌, ◌&&◌, ◌==◌, ◌++◌, ◌≤◌, IfOk, OnOk, length, reverse};
 ghost use Rattle.std.specs.List.{All};
 ghost use Rattle.nm_mime.specs.Parts.{IsInside, IsWithin, children_of, entities_from, entity_in, inside, is_opened, is_signature, opening_of, parts_of, whole_of};

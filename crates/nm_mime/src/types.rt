@@ -1,3 +1,5 @@
+//! Content types; each part is read with it, and callers may read one alone.
+
 ghost use Rattle.std.specs.Prelude.{◌≡◌, IfOk, IsUtf8, map, position, true};
 ghost use Rattle.std.specs.Char.{to_ascii_lowercase};
 ghost use Rattle.std.specs.List.{before_first};
