@@ -1,5 +1,5 @@
-//! Values: lists and ordered maps that snapshots share.
-//! A second handle costs far less than a copy, and a change of one never shows in the other.
+//! Values: ordered maps and big values that snapshots share.
+//! A second handle copies no pair, and a change of one never shows in the other.
 #![tactic(auto)]
 
 mod items;

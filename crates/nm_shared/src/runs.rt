@@ -1,3 +1,5 @@
+//! Blocks one after the other, cut where they are full, for maps.
+
 ghost use Rattle.std.specs.Prelude.{◌≡◌, ◌<◌, [], ◌∷◌, IfOk, OnOk, OnErr};
 ghost use Rattle.nm_shared.specs.Runs.{flat, HaveItems};
 

@@ -1,3 +1,5 @@
+//! A value that several handles hold; each block of items is one.
+
 ghost use Rattle.std.specs.Prelude.{◌≡◌, IfOk};
 
 use nm_base::{Copies, NoMemory};
