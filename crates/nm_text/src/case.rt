@@ -1,3 +1,5 @@
+//! ASCII case: names of fields, types and encodings are compared without it.
+
 ghost use Rattle.std.specs.Prelude.{◌≡◌, IfOk, IsUtf8, map};
 ghost use Rattle.std.specs.Char.{to_ascii_lowercase};
 ghost use Rattle.nm_text.specs.Case.{same_ignoring_case};

@@ -1,3 +1,5 @@
+//! The first place of a byte, and texts cut there; every reader cuts so.
+
 ghost use Rattle.std.specs.Prelude.{◌≡◌, [], ◌∷◌, ◌<◌, ◌≤◌, length, IfSome, MatchOption};
 ghost use Rattle.std.specs.List.{after_first, before_first, position_or_len, slice_split};
 ghost use Rattle.nm_text.specs.Cuts.{is_byte};

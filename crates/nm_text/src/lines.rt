@@ -1,3 +1,5 @@
+//! Lines, their ends and their content; headers, bodies and scripts are cut with it.
+
 ghost use Rattle.std.specs.Prelude.{◌≡◌, [], ◌∷◌, ◌++◌, ◌<◌, ◌≤◌, length, take, drop, IfSome, MatchOption};
 ghost use Rattle.std.specs.Str.Lines.{lines, strip_carriage_return};
 ghost use Rattle.nm_text.specs.Lines.{content, lines_of};

@@ -1,3 +1,5 @@
+//! Quoted pairs and quoted strings; mailboxes and parameters are read with them.
+
 ghost use Rattle.std.specs.Prelude.{◌≡◌, ◌∷◌, ◌<◌, ◌≤◌, IfOk, IsUtf8, length, take, drop};
 ghost use Rattle.nm_text.specs.QuotedStrings.{is_special, pairs_of, quoted_len, unquoted, unquoted_pair};
 

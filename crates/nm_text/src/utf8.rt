@@ -1,3 +1,5 @@
+//! Bytes as text, where they are UTF-8; every reader that makes texts ends here.
+
 ghost use Rattle.std.specs.Prelude.{◌≡◌, IfOk, IsUtf8};
 
 use nm_base::{NoMemory, Text};

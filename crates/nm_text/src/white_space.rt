@@ -1,3 +1,5 @@
+//! White space, and texts without it; fields, ids and parameters are trimmed with it.
+
 ghost use Rattle.std.specs.Prelude.{◌≡◌, ◌-◌, ◌≤◌, IfOk, length};
 ghost use Rattle.std.specs.List.{prefix_len, suffix_len};
 ghost use Rattle.nm_base.specs.Bounds.{is_white_space};
