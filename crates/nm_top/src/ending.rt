@@ -1,3 +1,5 @@
+//! How the call ends: what is printed and said, and the status.
+
 ghost use Rattle.std.specs.Prelude.{◌≡◌, [], Some};
 ghost use Rattle.nm_log.specs.Replies.{printed, usage_line};
 ghost use Rattle.nm_top.specs.Session.{Gains, Says, has_mail_fault, has_no_memory, is_mail_fault, is_no_memory, last_word, session_status};

@@ -1,3 +1,5 @@
+//! The index as it is held, and its paths and ids as sets, for `new`.
+
 ghost use Rattle.std.specs.Prelude.{◌≡◌, ◌+◌, ◌++◌, IfOk, length, map, filter, not};
 ghost use Rattle.nm_base.specs.Order.{has_text, in_order};
 ghost use Rattle.nm_commit.specs.Count.{ids_of};

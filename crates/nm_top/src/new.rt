@@ -1,3 +1,5 @@
+//! The command `new`: lists, reads, takes in; the session calls it.
+
 ghost use Rattle.std.specs.Prelude.{◌≡◌, ◌+◌, ◌<◌, ◌≤◌, ◌^◌, [], IfOk, OnErr, OnOk, ◌++◌, ◌∷◌, length};
 ghost use Rattle.nm_commit.specs.Index.{Index};
 ghost use Rattle.nm_maildir.specs.Observed.{HasMailCause};

@@ -1,3 +1,5 @@
+//! Reading the files that the index lacks, for `new`.
+
 ghost use Rattle.std.specs.Prelude.{◌≡◌, ℕ, List, ◌∷◌, [], ◌++◌, IfOk};
 ghost use Rattle.nm_base.specs.declared.facts.Facts.{Facts};
 ghost use Rattle.nm_maildir.specs.Observed.{HasMailCause};

@@ -1,3 +1,5 @@
+//! The lines of a script, one after the other; the top call runs them.
+
 ghost use Rattle.std.specs.Prelude.{◌≡◌, ◌+◌, ◌<◌, ◌≤◌, ◌^◌, ◌++◌, [], IfOk, IfSome, OnErr, MatchResult, codes, length};
 ghost use Rattle.nm_log.specs.Ask.{asked_of};
 ghost use Rattle.nm_log.specs.Replies.{usage_line};

@@ -1,3 +1,5 @@
+//! Tests on sets of paths and ids, for `new`.
+
 ghost use Rattle.std.specs.Prelude.{◌≡◌, ◌&&◌, IfOk, OnOk, filter, length, not};
 ghost use Rattle.nm_base.specs.Order.{has_text};
 ghost use Rattle.nm_top.specs.Reading.{IsRising};

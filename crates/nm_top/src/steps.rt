@@ -1,3 +1,5 @@
+//! The steps of the machine that a line takes, for the log.
+
 ghost use Rattle.std.specs.Prelude.{◌≡◌, ◌+◌, ◌≤◌, ◌++◌, ◌∷◌, [], IfOk, OnOk, length, map};
 ghost use Rattle.std.specs.List.{flat_map};
 ghost use Rattle.nm_top.specs.Line.{commit_steps, reply_steps};

@@ -1,3 +1,5 @@
+//! The commits of `new`, and what it says, from what was read.
+
 ghost use Rattle.std.specs.Prelude.{◌≡◌, ◌+◌, ◌<◌, ◌≤◌, ◌++◌, IfOk, OnOk, OnErr, ◌^◌, ◌∷◌, [], length, map};
 ghost use Rattle.std.specs.List.{flat_map};
 ghost use Rattle.nm_log.specs.Replies.{new_text};

@@ -1,3 +1,5 @@
+//! Tests of what no row says.
+
 use crate::notmuch;
 use nm_base::{MailPath, Many, NoMemory, Text};
 use nm_core::Step;

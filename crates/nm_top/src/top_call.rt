@@ -1,3 +1,5 @@
+//! The top call: the words, the script, the run, each ending; `main` makes it.
+
 ghost use Rattle.std.specs.Prelude.{◌≡◌, ℕ, List, ◌∷◌, [], ◌≤◌, None, Some, MatchOption, pos, ◌≤ℤ◌};
 ghost use Rattle.nm_top.specs.Complete.{IsComplete};
 ghost use Rattle.nm_top.specs.Session.{Ending, Ends, IsRun, outside, words_fault};
