@@ -1,3 +1,5 @@
+//! A word of UAX 29 cut at ASCII signs and folded, for `words`.
+
 ghost use Rattle.std.specs.Prelude.{◌≡◌, [], ◌∷◌, ◌++◌, IsAscii, OnOk, position, string_bytes};
 ghost use Rattle.std.specs.List.{slice_split};
 ghost use Rattle.nm_words.specs.Words.{folded, is_cut, words_in};

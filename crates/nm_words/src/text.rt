@@ -1,3 +1,5 @@
+//! The words of a text; `nm_extract` calls it for each text of a mail.
+
 ghost use Rattle.std.specs.Prelude.{◌≡◌, IfOk};
 ghost use Rattle.nm_words.specs.Words.{words_of};
 
