@@ -1,0 +1,4 @@
+pub mod Calendar
+pub mod Numbers
+pub mod Reading
+pub mod Seconds

@@ -1,0 +1,35 @@
+//! What one end of a date range is.
+
+use thiserror::Error;
+
+/// What `N days` and the like count in.
+#[derive(Clone, Copy, Debug, PartialEq, Eq)]
+pub enum DateUnit {
+    Hours,
+    Days,
+    Weeks,
+    Months,
+    Years,
+}
+
+/// One end of a date range. It stands for the seconds of its unit of time.
+#[derive(Clone, Copy, Debug, PartialEq, Eq)]
+pub enum End {
+    /// That second, counted from 1970-01-01 00:00:00 UTC.
+    Second(i64),
+    /// Year 1 to 9999.
+    Year(u16),
+    /// Year and month, 1 to 12.
+    Month(u16, u8),
+    /// Year, month and day.
+    Day(u16, u8, u8),
+    Today,
+    Yesterday,
+    /// So many units before the moment.
+    Ago(u32, DateUnit),
+}
+
+/// The text is no end of a date range.
+#[derive(Clone, Copy, Debug, PartialEq, Eq, Error)]
+#[error("no date")]
+pub struct BadDate;
