@@ -249,10 +249,11 @@ def named_files_are_there():
 
 
 def messages_are_clean():
-    """Since FROM no commit is a merge, and no message names a path of a machine."""
-    status, text, said = git("log", "--format=%h %p%n%B%x00", f"{FROM}..HEAD")
+    """Since FROM no commit is a merge, and no message names a path of a machine. A clone without FROM shows its last."""
+    is_there = not git("cat-file", "-e", f"{FROM}^{{commit}}")[0]
+    status, text, said = git("log", "--format=%h %p%n%B%x00", f"{FROM}..HEAD" if is_there else "-1")
     if status:
-        yield f"the commits since {FROM} cannot be listed: {said}"
+        yield f"the last commits cannot be listed: {said}"
     for it in text.split("\0"):
         head, _, message = it.strip().partition("\n")
         name = head.partition(" ")[0]
