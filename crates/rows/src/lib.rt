@@ -1,4 +1,4 @@
-//! Values: rows as data. The language of the tables that the programs `rows_mail` and `rows_session` run, and the report on each row.
+//! Values: rows as data. The language of the tables that programs as `rows_mail` run, and the report on each row.
 //! A table is a text that a person who knows mail reads at once; `docs/TESTING.md` has the language.
 #![tactic(auto)]
 
