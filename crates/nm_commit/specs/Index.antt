@@ -1,9 +1,9 @@
 -- An index as lists, the commits that fit it, and the index that they leave.
-use Rattle.std.specs.Prelude.{◌≡◌, ℕ, ◌+◌, Bool, true, false, not, List, [], ◌∷◌, ◌++◌, length, fold, map, filter, pos, negsuc, ◌≤ℤ◌, ℤ, ◌<◌}
+use Rattle.std.specs.Prelude.{◌≡◌, ℕ, ◌+◌, Bool, true, false, not, List, [], ◌∷◌, ◌++◌, length, fold, map, filter, pos, negsuc, ◌≤ℤ◌, ℤ, ◌<◌, if◌then◌else◌}
 use Rattle.nm_base.specs.Order.{has_text, same_text}
 use Rattle.nm_base.specs.declared.facts.Facts.{Facts}
 use Rattle.nm_commit.specs.declared.change.Change.{Change}
-use Rattle.nm_commit.specs.declared.change.Change.TheVariants.{Add, Drop}
+use Rattle.nm_commit.specs.declared.change.Change.TheVariants.{Add, Drop, Move, SetTags}
 use Rattle.nm_commit.specs.declared.change.Commit.{Commit}
 
 -- the files in order of arrival, each with its facts, and the number of commits so far
@@ -25,10 +25,24 @@ has_path files path = has_text (paths_of files) path
 abbrev pub without_path : List (List ℕ × Facts) → List ℕ → List (List ℕ × Facts)
 without_path files path = filter (λ file. not (same_text path file.0)) files
 
--- the files after a change
+-- one of the files is a mail of the message
+abbrev pub has_id : List (List ℕ × Facts) → List ℕ → Bool
+has_id files id = has_text (map (λ file. file.1.id) files) id
+
+-- the path of a file after a move
+abbrev pub moved_path : List ℕ → List ℕ → List ℕ → List ℕ
+moved_path from to path = (if same_text from path then to else path)
+
+-- the files with the one that lies at `from` at `to`, in its place
+abbrev pub with_moved : List (List ℕ × Facts) → List ℕ → List ℕ → List (List ℕ × Facts)
+with_moved files from to = map (λ file. (moved_path from to file.0, file.1)) files
+
+-- the files after a change; tags stand beside them
 abbrev pub changed : List (List ℕ × Facts) → Change → List (List ℕ × Facts)
 changed files (Add path facts) = files ++ (path, facts) ∷ []
 changed files (Drop path) = without_path files path
+changed files (Move from to) = with_moved files from to
+changed files (SetTags id tags) = files
 
 -- the index after a commit: its changes in order, and one revision more
 abbrev pub committed : Index → Commit → Index
@@ -42,10 +56,13 @@ folded index commits = fold committed index commits
 abbrev pub IsDate : ℤ → Type 0
 IsDate date = (negsuc 62135596799 ≤ℤ date) × (date ≤ℤ pos 253000000000)
 
--- a mail comes where none lies and has a date in the range; one goes from where it lies
+-- a mail comes where none lies and has a date in the range; one goes from where it lies, or moves from there to where none
+-- lies; tags are set of a message that has a file
 abbrev pub FitsChange : List (List ℕ × Facts) → Change → Type 0
 FitsChange files (Add path facts) = (has_path files path ≡ false) × IsDate facts.date
 FitsChange files (Drop path) = has_path files path ≡ true
+FitsChange files (Move from to) = (has_path files from ≡ true) × (has_path files to ≡ false)
+FitsChange files (SetTags id tags) = has_id files id ≡ true
 
 -- each change fits the files that the changes before it leave
 abbrev pub FitChanges : List (List ℕ × Facts) → List Change → Type 0

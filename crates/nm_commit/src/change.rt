@@ -1,6 +1,6 @@
 //! Changes and commits, which `new` makes and the machine takes.
 
-use nm_base::{Copies, Facts, MailPath, Many, NoMemory};
+use nm_base::{Copies, Facts, MailPath, Many, MessageId, NoMemory, Tags};
 
 /// One change of an index.
 #[derive(Debug, Drop, PartialEq, Eq)]
@@ -9,6 +9,10 @@ pub enum Change {
     Add { path: MailPath, facts: Facts },
     /// A mail is gone.
     Drop { path: MailPath },
+    /// A mail has another name.
+    Move { from: MailPath, to: MailPath },
+    /// A message has these tags and no others.
+    SetTags { id: MessageId, tags: Tags },
 }
 
 /// Changes that are made together or not at all.
@@ -28,6 +32,16 @@ impl Copies for Change {
             Change::Drop { path } => {
                 let path = path.copy()?;
                 Ok(Change::Drop { path })
+            }
+            Change::Move { from, to } => {
+                let from = from.copy()?;
+                let to = to.copy()?;
+                Ok(Change::Move { from, to })
+            }
+            Change::SetTags { id, tags } => {
+                let id = id.copy()?;
+                let tags = tags.copy()?;
+                Ok(Change::SetTags { id, tags })
             }
         }
     }

@@ -3,9 +3,9 @@
 ghost use Rattle.std.specs.Prelude.{◌≡◌, ◌↔◌, [], ◌∷◌, ◌++◌, IfOk, IsTrue, fold};
 ghost use Rattle.std.specs.List.{list_any};
 ghost use Rattle.nm_base.specs.Order.{same_text};
-ghost use Rattle.nm_commit.specs.Index.{FitChanges, FitsChange, IsDate, changed, empty_index, folded, has_path, without_path};
+ghost use Rattle.nm_commit.specs.Index.{FitChanges, FitsChange, IsDate, changed, empty_index, folded, has_id, has_path, moved_path, with_moved, without_path};
 
-use nm_base::{Copies, Facts, MailPath, Many, NoMemory};
+use nm_base::{Copies, Facts, MailPath, Many, MessageId, NoMemory};
 use nm_commit::{Change, Commit};
 use std::alloc::Global;
 
@@ -47,6 +47,8 @@ fn changed_by(
     match change {
         Change::Add { path, facts } => with_file(files, path, facts),
         Change::Drop { path } => without(alloc, files, path),
+        Change::Move { from, to } => with_moved(alloc, files, from, to),
+        Change::SetTags { .. } => Ok(files),
     }
 }
 
@@ -77,6 +79,31 @@ fn without(
     Ok(Many::from_vec(kept))
 }
 
+fn with_moved(
+    alloc: Global,
+    files: Many<(MailPath, Facts)>,
+    from: &MailPath,
+    to: &MailPath,
+) -> Result<Many<(MailPath, Facts)>, NoMemory>
+    ensures { IfOk result (λ after. after ≡ with_moved files from.now to.now) }
+{
+    let mut after = Many::new(alloc);
+    'files: for file in files.as_slice() {
+        let path = moved_path(from, to, &file.0)?;
+        after.push((path, file.1.copy()?))?;
+    }
+    Ok(after)
+}
+
+fn moved_path(from: &MailPath, to: &MailPath, path: &MailPath) -> Result<MailPath, NoMemory>
+    ensures { IfOk result (λ after. after ≡ moved_path from.now to.now path.now) }
+{
+    if *from == *path {
+        return to.copy();
+    }
+    path.copy()
+}
+
 /// Whether each change fits the files that the changes before it leave.
 pub(crate) fn fit_changes(
     alloc: Global,
@@ -101,7 +128,21 @@ fn fits_change(files: &[(MailPath, Facts)], change: &Change) -> bool
     match change {
         Change::Add { path, facts } => !is_there(files, path) && is_date(facts.date),
         Change::Drop { path } => is_there(files, path),
+        Change::Move { from, to } => is_there(files, from) && !is_there(files, to),
+        Change::SetTags { id, .. } => has_mail_of(files, id),
     }
+}
+
+fn has_mail_of(files: &[(MailPath, Facts)], id: &MessageId) -> bool
+    ensures { result ≡ has_id files.now id.now }
+{
+    any_is_of(files, id)
+}
+
+fn any_is_of(files: &[(MailPath, Facts)], id: &MessageId) -> bool
+    ensures { result ≡ list_any (λ file. same_text id.now file.1.id) files.now }
+{
+    files.iter().any(|file| *id == file.1.id)
 }
 
 fn is_there(files: &[(MailPath, Facts)], path: &MailPath) -> bool
