@@ -1,3 +1,4 @@
 pub mod EntryLemmas
 pub mod SpotLemmas
 pub mod MapLemmas
+pub mod BlockLemmas

@@ -9,19 +9,20 @@ use Rattle.std.specs.declared.cmp.Ordering.TheVariants.{Equal}
 use Rattle.std.specs.BTreeMap.{insert_entry, is_at}
 use Rattle.std.specs.BTreeMap.Range.{entries_from}
 use Rattle.std.specs.Cmp.{IsTotalOrder}
-use Rattle.std.specs.List.{insert, remove}
+use Rattle.std.specs.List.{insert, remove, slice_get}
 use Rattle.std.specs.List.Sorted.{IsStrictlySortedBy}
 use Rattle.std.specs.Map.{keys_of, lookup, remove_entry}
 use Rattle.std.proofs.lemmas.Bool.{cases_lt}
 use Rattle.std.proofs.lemmas.Grind.{common_steps}
-use Rattle.std.proofs.lemmas.List.{take-append-drop, drop_all, get_or_default, nil_from_length, length-take, length-take-le, take_all, take-set-le, drop-set}
+use Rattle.std.proofs.lemmas.Option.{slice_get_within, get_or_from_slice_get}
+use Rattle.std.proofs.lemmas.List.{take-append-drop, drop_all, get_or_default, nil_from_length, length-take, length-take-le, take_all, append-nil, take-set-le, drop-set}
 use Rattle.std.proofs.lemmas.List.Concat.{flat_map-append}
 use Rattle.nm_shared.specs.Map.{IsMap}
 use Rattle.nm_shared.specs.Runs.{flat, run_at, HaveItems}
 use Rattle.nm_shared.specs.Spot.{AllBelow, AllAbove, BeginsAt, Follows, IsSpotOf}
 use Rattle.nm_shared.specs.declared.search.Spot.{Spot}
 use Rattle.nm_shared.proofs.EntryLemmas.{insert_entry-below, insert_entry-above, insert_entry-equal, remove_entry-below, remove_entry-above, remove_entry-equal, lookup-below, lookup-above, lookup-equal, entries_from-below, entries_from-follows, sorted_insert, sorted_remove, sorted_none}
-use Rattle.nm_shared.proofs.SpotLemmas.{Cut, cut, flat_cut, flat_set}
+use Rattle.nm_shared.proofs.SpotLemmas.{Cut, cut, flat_cut, flat_drop, flat_set}
 
 module _ {X : Type 0} where
   -- four parts of a list, however they are grouped
@@ -349,3 +350,75 @@ module _ {X : Type 0} where
         ap (λ all. flat (set all at front)) new_is ∙ flat_cut_run runs at front back within both,
         λ filled. subst (λ all. HaveItems (set all at front)) (sym new_is) (HaveItems_cut_run runs at front back within both filled front_some back_some),
       )
+
+-- ---- two neighbours joined
+
+module _ {X : Type 0} (runs : List (List X)) (run : ℕ) (lt : run + 1 < length runs) where
+  joined_runs : set (remove runs (run + 1)) run (run_at runs run ++ run_at runs (run + 1)) ≡ take run runs ++ ((run_at runs run ++ run_at runs (run + 1)) ∷ drop (run + 1 + 1) runs)
+  joined_runs =
+      let here : run < length runs = omega arith in
+      let taken : take (run + 1) runs ≡ take run runs ++ (run_at runs run ∷ []) = ap (λ n. take n runs) (add-one run) ∙ take-suc runs run [] here in
+      ap (λ n. set (take (run + 1) runs ++ drop n runs) run (run_at runs run ++ run_at runs (run + 1))) (sym (add-one (run + 1)))
+      ∙ ap (λ all. set (all ++ drop (run + 1 + 1) runs) run (run_at runs run ++ run_at runs (run + 1))) taken
+      ∙ ap (λ all. set all run (run_at runs run ++ run_at runs (run + 1))) (append_assoc (take run runs) (run_at runs run ∷ []) (drop (run + 1 + 1) runs))
+      ∙ set_seam (take run runs) (run_at runs run) (run_at runs run ++ run_at runs (run + 1)) (drop (run + 1 + 1) runs) run (sym (length-take-le run runs (omega arith)))
+
+  flat_joined : flat (set (remove runs (run + 1)) run (run_at runs run ++ run_at runs (run + 1))) ≡ flat runs
+  flat_joined =
+      let here : run < length runs = omega arith in
+      ap flat joined_runs
+      ∙ flat_map-append (λ all. all) (take run runs) ((run_at runs run ++ run_at runs (run + 1)) ∷ drop (run + 1 + 1) runs)
+      ∙ ap (λ all. flat (take run runs) ++ all) (append_assoc (run_at runs run) (run_at runs (run + 1)) (flat (drop (run + 1 + 1) runs)))
+      ∙ ap (λ all. flat (take run runs) ++ (run_at runs run ++ all)) (sym (flat_drop runs (run + 1) lt))
+      ∙ sym (flat_cut runs run here)
+
+  HaveItems_joined : HaveItems runs → HaveItems (set (remove runs (run + 1)) run (run_at runs run ++ run_at runs (run + 1)))
+  HaveItems_joined filled =
+      HaveItems_set (remove runs (run + 1)) run (run_at runs run ++ run_at runs (run + 1)) (HaveItems_remove runs (run + 1) filled lt)
+      (omega (arith, filled run (omega arith), length-append (run_at runs run) (run_at runs (run + 1))))
+
+pub join_is : {X : Type 0} (runs slice new : List (List X)) (at next : ℕ) (front back first second joined : List X) → slice ≡ runs → front ≡ get_or slice at [] → next < length slice → back ≡ get_or slice next [] → next ≡ at + 1
+    → first ≡ front → second ≡ back → joined ≡ first ++ second → new ≡ remove runs (at + 1)
+    → (flat (set new at joined) ≡ flat runs) × (HaveItems runs → HaveItems (set new at joined))
+join_is runs slice new at next front back first second joined same front_is lt back_is next_is first_is second_is joined_is new_is =
+    let within : at + 1 < length runs = subst (λ n. n < length runs) next_is (subst (λ all. next < length all) same lt) in
+    let front_run : run_at runs at ≡ first = ap (λ all. get_or all at []) (sym same) ∙ sym front_is ∙ sym first_is in
+    let back_run : run_at runs (at + 1) ≡ second = ap (λ n. get_or runs n []) (sym next_is) ∙ ap (λ all. get_or all next []) (sym same) ∙ sym back_is ∙ sym second_is in
+    let is : set (remove runs (at + 1)) at (run_at runs at ++ run_at runs (at + 1)) ≡ set new at joined =
+    ap (λ all. set all at (run_at runs at ++ run_at runs (at + 1))) (sym new_is) ∙ ap (λ all. set new at (all ++ run_at runs (at + 1))) front_run ∙ ap (λ all. set new at (first ++ all)) back_run ∙ ap (λ all. set new at all) (sym joined_is) in (
+      ap flat (sym is) ∙ flat_joined runs at within,
+      λ filled. subst HaveItems is (HaveItems_joined runs at within filled),
+    )
+
+-- ---- the last item of all
+
+module _ {X : Type 0} where
+  pub slice_get_right : (xs ys : List X) (n k : ℕ) → n ≡ length xs + k → slice_get (xs ++ ys) n ≡ slice_get ys k
+  slice_get_right [] ys n k is = ap (slice_get ys) (omega (arith, is))
+  slice_get_right (x ∷ xs) ys zero k is = absurd (omega (arith, is))
+  slice_get_right (x ∷ xs) ys (suc n) k is = slice_get_right xs ys n k (omega (arith, is))
+
+  -- the last item of runs none of which is empty is that of the last run
+  pub last_is : (runs slice : List (List X)) (run items : List X) → slice ≡ runs → HaveItems runs → Some run ≡ slice_get slice (length slice - 1) → items ≡ run → slice_get items (length items - 1) ≡ slice_get (flat runs) (length (flat runs) - 1)
+  last_is runs slice run items same filled run_is items_is =
+      let place : ℕ = length slice - 1 in
+      let read : slice_get runs place ≡ Some run = ap (λ all. slice_get all place) (sym same) ∙ sym run_is in
+      let lt : place < length runs = slice_get_within runs place run read in
+      let ends : length runs ≤ place + 1 = subst (λ all. length all ≤ place + 1) same (omega arith) in
+      let is : run_at runs place ≡ items = get_or_from_slice_get runs place run [] read ∙ sym items_is in
+      let front : List X = flat (take place runs) in
+      let whole : flat runs ≡ front ++ items =
+      flat_cut runs place lt ∙ ap (λ all. front ++ (run_at runs place ++ flat all)) (drop_all (place + 1) runs ends) ∙ ap (λ all. front ++ all) (append-nil (run_at runs place)) ∙ ap (λ all. front ++ all) is in
+      let some : 0 < length items = subst (λ all. 0 < length all) is (filled place lt) in
+      sym (ap (λ all. slice_get all (length all - 1)) whole ∙ slice_get_right front items (length (front ++ items) - 1) (length items - 1) (omega (arith, some, length-append front items)))
+
+-- what stands from the spot on, read as two slices
+pub iter_from_is : {K V : Type 0} {cmp : K → K → Ordering} (key : K) (runs slice slices : List (List (K × V))) (spot : Spot) (run items : List (K × V)) → IsSpotOf cmp key runs spot → slice ≡ runs → slices ≡ runs
+    → run ≡ get_or slice spot.run run → spot.run < length slice → items ≡ run
+    → take (length items - spot.at) (drop spot.at items) ++ flat (take (length slices - (spot.run + 1)) (drop (spot.run + 1) slices)) ≡ entries_from (cmp key) (flat runs)
+iter_from_is key runs slice slices spot run items is same same_too run_is lt items_is =
+    ap (λ all. all ++ flat (take (length slices - (spot.run + 1)) (drop (spot.run + 1) slices))) (take_all (length items - spot.at) (drop spot.at items) (omega (arith, length-drop spot.at items)))
+    ∙ ap (λ all. drop spot.at items ++ flat all) (take_all (length slices - (spot.run + 1)) (drop (spot.run + 1) slices) (omega (arith, length-drop (spot.run + 1) slices)))
+    ∙ ap (λ all. drop spot.at items ++ flat (drop (spot.run + 1) all)) same_too
+    ∙ ap (λ all. drop spot.at all ++ flat (drop (spot.run + 1) runs)) items_is
+    ∙ iter_is key runs spot is run (subst (λ all. run ≡ get_or all spot.run run) same run_is) (subst (λ all. spot.run < length all) same lt)

@@ -2,3 +2,4 @@ pub mod Runs
 pub mod Search
 pub mod Spot
 pub mod Map
+pub mod Blocks

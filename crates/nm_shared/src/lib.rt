@@ -1,14 +1,18 @@
-//! Values: ordered maps and big values that snapshots share.
-//! A second handle copies no pair, and a change of one never shows in the other.
+//! Values: lists, ordered maps and big values that snapshots share.
+//! A second handle copies no item, and a change of one never shows in the other.
 #![tactic(auto)]
 
+mod across;
 mod items;
 mod run;
 mod runs;
 mod search;
 mod shared;
+mod shared_list;
 mod shared_map;
 
+pub use across::{list_may_cross, map_may_cross, value_may_cross};
 pub use items::Items;
 pub use shared::Shared;
+pub use shared_list::SharedList;
 pub use shared_map::SharedMap;

@@ -1,13 +1,17 @@
-//! Blocks one after the other, cut where they are full, for maps.
+//! Blocks one after the other, cut where they are full and joined where they are small, for maps.
 
-ghost use Rattle.std.specs.Prelude.{◌≡◌, ◌<◌, [], ◌∷◌, IfOk, OnOk, OnErr};
+ghost use Rattle.std.specs.Prelude.{◌≡◌, ◌<◌, [], ◌∷◌, ◌++◌, take, IfOk, OnOk, OnErr};
 ghost use Rattle.nm_shared.specs.Runs.{flat, HaveItems};
 
 use crate::run::{Run, copied};
 use nm_base::{Copies, NoMemory};
+use std::alloc::Global;
 
 /// A run with this many items is cut in two before another goes into it.
 const MAX_RUN: usize = 128;
+
+/// Two neighbours with this many items together become one, which has room for as many again.
+const MAX_JOINED: usize = MAX_RUN / 2;
 
 /// A second handle on each run.
 pub fn shared<T: Drop>(runs: &Vec<Run<T>>) -> Result<Vec<Run<T>>, NoMemory>
@@ -61,4 +65,35 @@ fn middle_of(has_next: bool) -> usize
     ensures high { result < MAX_RUN }
 {
     if has_next { MAX_RUN / 2 } else { MAX_RUN - 1 }
+}
+
+/// Joins the run at `at` and the next one, if both are there and small, so that many removals leave no tiny runs.
+pub fn join_run<T: Copies>(runs: &mut Vec<Run<T>>, at: usize) -> Result<(), NoMemory>
+    requires { HaveItems runs.old.items }
+    ensures items { flat runs.new.items ≡ flat runs.old.items }
+    ensures filled { HaveItems runs.new.items }
+{
+    let alloc = *runs.allocator();
+    let all = runs.as_slice();
+    let (Some(front), Some(back)) = (all.get(at), all.get(at.saturating_add(1))) else {
+        return Ok(());
+    };
+    let (front, back) = (front.as_slice(), back.as_slice());
+    if front.len().saturating_add(back.len()) > MAX_JOINED {
+        return Ok(());
+    }
+    let joined = Run::of(joined(alloc, front, back)?)?;
+    runs.remove(at + 1);
+    runs[at] = joined;
+    Ok(())
+}
+
+fn joined<T: Copies>(alloc: Global, front: &[T], back: &[T]) -> Result<Vec<T>, NoMemory>
+    ensures { IfOk result (λ vec. vec.items ≡ front.now ++ back.now) }
+{
+    let mut joined = copied(alloc, front)?;
+    'items: for item in back {
+        joined.push(item.copy()?)?;
+    }
+    Ok(joined)
 }

@@ -1,14 +1,15 @@
 //! An ordered map that snapshots share.
 
-ghost use Rattle.std.specs.Prelude.{◌≡◌, ◌==◌, [], length, slice_get, IfOk, OnOk, OnErr};
+ghost use Rattle.std.specs.Prelude.{◌≡◌, ◌==◌, ◌-◌, [], length, slice_get, IfOk, OnOk, OnErr};
 ghost use Rattle.std.specs.BTreeMap.{insert_entry, is_at};
+ghost use Rattle.std.specs.BTreeMap.Range.{entries_from};
 ghost use Rattle.std.specs.List.Sorted.{IsStrictlySortedBy};
 ghost use Rattle.std.specs.Map.{keys_of, lookup, remove_entry};
 ghost use Rattle.std.specs.Option.{option_copied};
 
 use crate::Items;
 use crate::run::Run;
-use crate::runs::{cut_run, put_first, shared};
+use crate::runs::{cut_run, join_run, put_first, shared};
 use crate::search::{run_of, spot_of};
 use nm_base::{Copies, NoMemory};
 use std::alloc::Global;
@@ -78,11 +79,32 @@ impl<K: Ord, V> SharedMap<K, V> {
         self.runs.first()?.as_slice().first()
     }
 
+    /// The pair with the greatest key.
+    pub fn last(&self) -> Option<&(K, V)>
+        ensures { option_copied result ≡ slice_get self.now (length self.now - 1) }
+    {
+        self.runs.last()?.as_slice().last()
+    }
+
     /// All pairs, in order.
     pub fn iter(&self) -> Items<'_, (K, V)>
         ensures { result ≡ self.now }
     {
         Items::of(&[], self.runs.as_slice())
+    }
+
+    /// The pairs whose keys are not below `key`, in order.
+    pub fn iter_from(&self, key: &K) -> Items<'_, (K, V)>
+        ensures { result ≡ entries_from (K.cmp key.now) self.now }
+    {
+        let spot = spot_of(self.runs.as_slice(), key);
+        let Some(run) = self.runs.get(spot.run) else {
+            return self.iter();
+        };
+        Items::of(
+            &run.as_slice()[spot.at..],
+            &self.runs.as_slice()[spot.run + 1..],
+        )
     }
 }
 
@@ -112,18 +134,8 @@ impl<K: Ord + Copies, V: Copies> SharedMap<K, V> {
         ensures ok { OnOk result (self.new ≡ remove_entry (is_at (K.cmp key.now)) self.old) }
         ensures err { OnErr result (self.new ≡ self.old) }
     {
-        let spot = spot_of(self.runs.as_slice(), key);
-        if !spot.found {
-            return Ok(());
-        }
-        let len = self.len.saturating_sub(1);
-        if self.runs[spot.run].len() == 1 {
-            self.runs.remove(spot.run);
-            self.len = len;
-            return Ok(());
-        }
-        self.runs[spot.run].remove(spot.at)?;
-        self.len = len;
+        self.take_out(key)?;
+        self.join_small(key);
         Ok(())
     }
 
@@ -155,5 +167,33 @@ impl<K: Ord + Copies, V: Copies> SharedMap<K, V> {
         self.runs[spot.run].insert(spot.at, (key, value))?;
         self.len += 1;
         Ok(())
+    }
+
+    fn take_out(&mut self, key: &K) -> Result<(), NoMemory>
+        ensures ok { OnOk result (self.new ≡ remove_entry (is_at (K.cmp key.now)) self.old) }
+        ensures err { OnErr result (self.new ≡ self.old) }
+    {
+        let spot = spot_of(self.runs.as_slice(), key);
+        if !spot.found {
+            return Ok(());
+        }
+        let len = self.len.saturating_sub(1);
+        if self.runs[spot.run].len() == 1 {
+            self.runs.remove(spot.run);
+            self.len = len;
+            return Ok(());
+        }
+        self.runs[spot.run].remove(spot.at)?;
+        self.len = len;
+        Ok(())
+    }
+
+    /// Joins small runs where `key` stood. Without memory for it they stay.
+    fn join_small(&mut self, key: &K)
+        ensures { self.new ≡ self.old }
+    {
+        let run = run_of(self.runs.as_slice(), key).saturating_sub(1);
+        let _ = join_run(&mut self.runs, run);
+        let _ = join_run(&mut self.runs, run.saturating_sub(1));
     }
 }

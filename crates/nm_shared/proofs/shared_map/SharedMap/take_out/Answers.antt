@@ -2,7 +2,7 @@ use Rattle.std.proofs.Common.{sym, ap, ◌∙◌}
 use Rattle.std.specs.BTreeMap.{is_at}
 use Rattle.std.specs.Map.{remove_entry}
 use Rattle.nm_shared.proofs.MapLemmas.{remove_missing_any, take_item, take_run, not_true, not_false}
-use Rattle.nm_shared.proofs.shared_map.SharedMap.remove.Goals as goal
+use Rattle.nm_shared.proofs.shared_map.SharedMap.take_out.Goals as goal
 
 pub returns-then-not-spot-clause-ok : goal.returns-then-not-spot-clause-ok
 returns-then-not-spot-clause-ok g c =

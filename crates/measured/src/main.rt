@@ -1,0 +1,20 @@
+//! The plain index: the program that `bench/structures` measures. Each line of the standard input asks for one work, as
+//! `shared scattered 1000`, and its line of the standard output tells how much there is at the end.
+#![tactic(auto)]
+
+mod maps;
+mod work;
+
+use nm_base::NoMemory;
+use std::io;
+
+fn main(rt: HostRuntime) -> io::Result<()> {
+    for line in rt.lines(rt.alloc()) {
+        let line = line?;
+        match work::done(rt.alloc(), line.as_str()) {
+            Ok(told) => println!(rt; "{line}: {told}")?,
+            Err(NoMemory) => println!(rt; "{line}: no memory")?,
+        }
+    }
+    Ok(())
+}

@@ -1,0 +1,26 @@
+//! Which work a line asks for; `main` calls it.
+
+use crate::maps::{self, Order};
+use nm_base::NoMemory;
+use std::alloc::Global;
+
+/// Does the work of a line, and tells how many items there are at the end; 0 where the line asks for none.
+pub fn done(alloc: Global, line: &str) -> Result<u64, NoMemory> {
+    let mut words = line.split(' ');
+    let (Some(kind), Some(order), Some(count)) = (words.next(), words.next(), words.next()) else {
+        return Ok(0);
+    };
+    let order = if order == "rising" {
+        Order::Rising
+    } else {
+        Order::Scattered
+    };
+    let Ok(count) = count.parse::<u64>() else {
+        return Ok(0);
+    };
+    match kind {
+        "shared" => maps::shared(alloc, order, count),
+        "cloned" => maps::cloned(alloc, order, count),
+        _ => Ok(0),
+    }
+}

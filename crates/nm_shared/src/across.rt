@@ -1,0 +1,20 @@
+//! Proofs that what is shared may go to other threads and be read by several at once. No code runs; snapshots rest on it.
+
+use crate::{Shared, SharedList, SharedMap};
+
+fn may_cross<T: Send + Sync>(_value: &T) {}
+
+/// A shared value may be shared among threads where its content may.
+pub fn value_may_cross<T: Send + Sync>(value: &Shared<T>) {
+    may_cross(value);
+}
+
+/// So may a list.
+pub fn list_may_cross<T: Send + Sync>(list: &SharedList<T>) {
+    may_cross(list);
+}
+
+/// So may a map.
+pub fn map_may_cross<K: Ord + Send + Sync, V: Send + Sync>(map: &SharedMap<K, V>) {
+    may_cross(map);
+}
