@@ -1,0 +1,45 @@
+-- Items read one after the other, as a loop does.
+use Rattle.std.proofs.Common.{◌≡◌, ℕ, suc, ◌-◌, ◌+◌, ◌≤◌, ◌<◌, List, [], ◌∷◌, ◌++◌, Ok, Err, refl, sym, ap, ◌∙◌, append_assoc, append-nil, arith}
+use Rattle.nm_codec.specs.declared.read_error.ReadError.{ReadError}
+use Rattle.nm_codec.specs.declared.read_error.ReadError.TheVariants as errors
+use Rattle.nm_codec.specs.Reading.{◌>>=◌, GivesUnlessWanted, Place, Reading, items_at}
+
+-- what was read before, and what is still read
+abbrev pub with_front : {A : Type 0} → List A → Reading (List A) → Reading (List A)
+with_front front read = read >>= λ x. Ok (front ++ x.0, x.1)
+
+regroup : {A : Type 0} (front : List A) (x : A) (read : Reading (List A)) → with_front front (read >>= λ y. Ok (x ∷ y.0, y.1)) ≡ with_front (front ++ x ∷ []) read
+regroup {A = A} front x (Ok y) = ap (λ (xs : List A). Ok (xs, y.1)) (simp append_assoc)
+regroup front x (Err left) = refl
+
+module _ {A : Type 0} (read : List ℕ → Reading A) (front : List A) (count i : ℕ) (bytes : List ℕ) (total : Reading (List A)) where
+  -- an item more
+  pub goes_on : (x : A) (after : List ℕ) → i < count → read bytes ≡ Ok (x, after) → with_front front (items_at read (count - i) bytes) ≡ total
+      → with_front (front ++ x ∷ []) (items_at read (count - (i + 1)) after) ≡ total
+  unfolding items_at
+  goes_on x after lt h so_far =
+      let k : count - i ≡ suc (count - (i + 1)) = omega arith in
+      let one : with_front front (items_at read (count - i) bytes) ≡ with_front (front ++ x ∷ []) (items_at read (count - (i + 1)) after) = rw (k, h) (regroup front x (items_at read (count - (i + 1)) after)) in
+      sym one ∙ so_far
+
+  -- no item more
+  pub is_done : count ≤ i → with_front front (items_at read (count - i) bytes) ≡ total → total ≡ Ok (front, bytes)
+  unfolding items_at
+  is_done le so_far =
+      let k : count - i ≡ 0 = omega arith in
+      let one : with_front front (items_at read (count - i) bytes) ≡ Ok (front, bytes) = rw k (ap (λ (xs : List A). Ok (xs, bytes)) (append-nil front)) in
+      sym so_far ∙ one
+
+  faulty : (left : ℕ) → i < count → read bytes ≡ Err left → with_front front (items_at read (count - i) bytes) ≡ total → total ≡ Err left
+  unfolding items_at
+  faulty left lt h so_far =
+      let k : count - i ≡ suc (count - (i + 1)) = omega arith in
+      let one : with_front front (items_at read (count - i) bytes) ≡ Err left = rw (k, h) refl in
+      sym so_far ∙ one
+
+-- an item that is not read
+pub stops : {A : Type 0} (read : List ℕ → Reading A) (front : List A) (count i : ℕ) (total : Reading (List A)) (old mid new last : Place) (e : ReadError) → mid.len ≡ old.len → i < count
+    → with_front front (items_at read (count - i) mid.rest) ≡ total → GivesUnlessWanted mid (Err e) new (read mid.rest) → GivesUnlessWanted old (Err e) last total
+stops read front count i total old mid new last errors.NoMemory same lt so_far gives = tt
+stops read front count i total old mid new last (errors.Bad at) same lt so_far gives =
+    (omega (arith, gives.0, same), faulty read front count i mid.rest total (mid.len - at) lt gives.1 so_far ∙ ap (λ n. Err (n - at)) same)

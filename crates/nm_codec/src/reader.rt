@@ -1,0 +1,137 @@
+//! Reading bytes from left to right; whoever reads the index from the disk does it so.
+
+ghost use Rattle.std.specs.Prelude.{◌≡◌, ◌<◌, ◌≤◌, ◌-◌, length, take, drop, MatchResult, OnErr, [], IsOk, ◌↔◌, IfErr};
+ghost use Rattle.std.specs.Int.{w8, w32, w64};
+ghost use Rattle.nm_codec.specs.Reading.{Gives, GivesUnlessWanted, number_at, signed_at, text_at};
+
+use crate::{Bad, ReadError};
+use nm_base::Text;
+use std::alloc::Global;
+use std::marker::Model;
+
+/// Reads bytes from left to right, seen as the bytes that are left and how many there are in all.
+#[derive(Debug, Drop)]
+pub struct Reader<'a> {
+    len: usize,
+    rest: &'a [u8],
+}
+
+impl<'a> Model for Reader<'a> {
+    ghost use Rattle.std.specs.Prelude.{◌≤◌, length};
+    ghost use Rattle.nm_codec.specs.Reading.{Place};
+
+    ghost Value = { Place };
+
+    ghost view = { λ r. record { len = r.len; rest = r.rest.now } };
+
+    ghost invariant = { λ r. length r.rest.now ≤ r.len };
+}
+
+impl<'a> Reader<'a> {
+    pub fn new(bytes: &'a [u8]) -> Reader<'a>
+        ensures { result ≡ record { len = length bytes.now; rest = bytes.now } }
+    {
+        Reader {
+            len: bytes.len(),
+            rest: bytes,
+        }
+    }
+
+    pub fn u8(&mut self) -> Result<u8, Bad>
+        ensures value { Gives self.old result self.new (number_at w8 self.old.rest) }
+        ensures err { OnErr result (self.new ≡ self.old) }
+    {
+        let front = self.front(1)?;
+        Ok(u8::from_be_bytes([front[0]]))
+    }
+
+    pub fn u32(&mut self) -> Result<u32, Bad>
+        ensures value { Gives self.old result self.new (number_at w32 self.old.rest) }
+        ensures err { OnErr result (self.new ≡ self.old) }
+    {
+        let front = self.front(4)?;
+        Ok(u32::from_be_bytes([front[0], front[1], front[2], front[3]]))
+    }
+
+    pub fn u64(&mut self) -> Result<u64, Bad>
+        ensures value { Gives self.old result self.new (number_at w64 self.old.rest) }
+        ensures err { OnErr result (self.new ≡ self.old) }
+    {
+        let front = self.front(8)?;
+        Ok(u64::from_be_bytes([
+            front[0], front[1], front[2], front[3], front[4], front[5], front[6], front[7],
+        ]))
+    }
+
+    /// A number in two's complement.
+    #[tactic(auto, unfolding(crate::specs::Reading::signed_at))]
+    pub fn i64(&mut self) -> Result<i64, Bad>
+        ensures value { Gives self.old result self.new (signed_at self.old.rest) }
+        ensures err { OnErr result (self.new ≡ self.old) }
+    {
+        let number = self.u64()?;
+        Ok(number.cast_signed())
+    }
+
+    /// A text, whose length stands before it.
+    pub fn text(&mut self, alloc: Global) -> Result<Text, ReadError>
+        ensures value { GivesUnlessWanted self.old result self.new (text_at self.old.rest) }
+        ensures err { OnErr result (self.new ≡ self.old) }
+    {
+        let begin = self.rest;
+        let answer = self.read_text(alloc);
+        if answer.is_err() {
+            self.rest = begin;
+        }
+        answer
+    }
+
+    #[tactic(auto, unfolding(crate::specs::Reading::text_at), using(crate::proofs::Utf8Lemmas::utf8))]
+    fn read_text(&mut self, alloc: Global) -> Result<Text, ReadError>
+        ensures value { GivesUnlessWanted self.old result self.new (text_at self.old.rest) }
+        ensures len { self.new.len ≡ self.old.len }
+    {
+        let at = (self.len - self.rest.len()) as u64;
+        let len = self.u32()?;
+        let front = self.front(len as usize)?;
+        match str::from_utf8(front) {
+            Ok(text) => Ok(Text::of(alloc, text)?),
+            Err(_) => Err(ReadError::Bad { at }),
+        }
+    }
+
+    // The next bytes, so many.
+    fn front(&mut self, count: usize) -> Result<&'a [u8], Bad>
+        ensures value { MatchResult result
+            (λ front. (front.now ≡ take count self.old.rest) × (self.new.rest ≡ drop count self.old.rest) × (self.new.len ≡ self.old.len) × (count ≤ length self.old.rest))
+            (λ bad. (length self.old.rest < count) × (bad.at ≡ self.old.len) × (self.new ≡ self.old)) }
+    {
+        if self.rest.len() < count {
+            return Err(self.too_short());
+        }
+        let (front, rest) = self.rest.split_at(count);
+        self.rest = rest;
+        Ok(front)
+    }
+
+    fn too_short(&self) -> Bad
+        ensures { result.at ≡ self.now.len }
+    {
+        Bad {
+            at: self.len as u64,
+        }
+    }
+
+    /// Whether nothing is left.
+    pub fn end(&self) -> Result<(), Bad>
+        ensures end { IsOk result ↔ (self.now.rest ≡ []) }
+        ensures bad { IfErr result (λ bad. bad.at ≡ self.now.len - length self.now.rest) }
+    {
+        if self.rest.is_empty() {
+            return Ok(());
+        }
+        Err(Bad {
+            at: (self.len - self.rest.len()) as u64,
+        })
+    }
+}

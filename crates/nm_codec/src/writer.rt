@@ -1,0 +1,83 @@
+//! Writing bytes from left to right; whoever makes bytes for the disk does it so.
+
+ghost use Rattle.std.specs.Prelude.{◌≡◌, ◌<◌, ◌^◌, ◌++◌, [], length, OnOk, OnErr};
+ghost use Rattle.nm_codec.specs.Spelling.{i64_bytes, text_bytes, u8_bytes, u32_bytes, u64_bytes};
+
+use nm_base::{Many, NoMemory, Text};
+use std::alloc::Global;
+use std::marker::Model;
+
+/// Bytes that are written from left to right, seen as those so far. Where memory runs out they stay as they were.
+#[derive(Debug, Drop)]
+pub struct Writer {
+    bytes: Vec<u8>,
+}
+
+impl Model for Writer {
+    ghost use Rattle.std.specs.Prelude.{ℕ, List};
+
+    ghost Value = { List ℕ };
+
+    ghost view = { λ w. w.bytes.items };
+}
+
+impl Writer {
+    pub fn new(alloc: Global) -> Writer
+        ensures { result ≡ [] }
+    {
+        Writer {
+            bytes: Vec::new(alloc),
+        }
+    }
+
+    pub fn put_u8(&mut self, v: u8) -> Result<(), NoMemory>
+        ensures ok { OnOk result (self.new ≡ self.old ++ u8_bytes v) }
+        ensures err { OnErr result (self.new ≡ self.old) }
+    {
+        Ok(self.bytes.extend_from_slice(&v.to_be_bytes())?)
+    }
+
+    pub fn put_u32(&mut self, v: u32) -> Result<(), NoMemory>
+        ensures ok { OnOk result (self.new ≡ self.old ++ u32_bytes v) }
+        ensures err { OnErr result (self.new ≡ self.old) }
+    {
+        Ok(self.bytes.extend_from_slice(&v.to_be_bytes())?)
+    }
+
+    pub fn put_u64(&mut self, v: u64) -> Result<(), NoMemory>
+        ensures ok { OnOk result (self.new ≡ self.old ++ u64_bytes v) }
+        ensures err { OnErr result (self.new ≡ self.old) }
+    {
+        Ok(self.bytes.extend_from_slice(&v.to_be_bytes())?)
+    }
+
+    /// As two's complement.
+    pub fn put_i64(&mut self, v: i64) -> Result<(), NoMemory>
+        ensures ok { OnOk result (self.new ≡ self.old ++ i64_bytes v) }
+        ensures err { OnErr result (self.new ≡ self.old) }
+    {
+        Ok(self.bytes.extend_from_slice(&v.to_be_bytes())?)
+    }
+
+    /// The length of the text, and its bytes.
+    pub fn put_text(&mut self, text: &Text) -> Result<(), NoMemory>
+        requires { length text.now < 2 ^ 32 }
+        ensures ok { OnOk result (self.new ≡ self.old ++ text_bytes text.now) }
+        ensures err { OnErr result (self.new ≡ self.old) }
+    {
+        let before = self.bytes.len();
+        let bytes = text.as_bytes();
+        self.put_u32(bytes.len() as u32)?;
+        if self.bytes.extend_from_slice(bytes).is_err() {
+            self.bytes.truncate(before);
+            return Err(NoMemory);
+        }
+        Ok(())
+    }
+
+    pub fn finish(self) -> Many<u8>
+        ensures { result ≡ self }
+    {
+        Many::from_vec(self.bytes)
+    }
+}
