@@ -1,4 +1,6 @@
+pub mod Grammar
 pub mod ListLaws
+pub mod MapLaws
 pub mod NumberLaws
 pub mod PairLaws
 pub mod Reading

@@ -39,6 +39,12 @@ tested_at test read bytes = do
   x ← read bytes
   if test x.0 then Ok x else Err (length bytes)
 
+-- a value that is made of what is read
+unfoldable pub mapped_at : {A B : Type 0} → (A → B) → (List ℕ → Reading A) → List ℕ → Reading B
+mapped_at make read bytes = do
+  x ← read bytes
+  Ok (make x.0, x.1)
+
 -- so many items
 unfoldable pub items_at : {A : Type 0} → (List ℕ → Reading A) → ℕ → List ℕ → Reading (List A)
 items_at read zero bytes = Ok ([], bytes)

@@ -2,7 +2,7 @@
 
 ghost use Rattle.std.specs.Prelude.{◌≡◌, ◌++◌, ◌<◌, ◌^◌, length, OnOk};
 ghost use Rattle.std.specs.List.{flat_map, list_all};
-ghost use Rattle.nm_codec.specs.ListLaws.{list_again, list_only, some_list};
+ghost use Rattle.nm_codec.specs.Grammar.{list_grammar};
 ghost use Rattle.nm_codec.specs.Reading.{GivesUnlessWanted, items_at, list_at};
 ghost use Rattle.nm_codec.specs.Spelling.{list_bytes};
 
@@ -19,11 +19,7 @@ pub struct ListOf<F> {
 impl<F: Format> Format for ListOf<F> {
     type Value = Many<F::Value>;
 
-    ghost reading = { list_at F.reading };
-
-    ghost spelling = { list_bytes F.spelling };
-
-    ghost is_value = { list_all F.is_value };
+    ghost grammar = { list_grammar F.grammar };
 
     #[tactic(auto, unfolding(crate::specs::Reading::list_at))]
     fn read(alloc: Global, reader: &mut Reader<'_>) -> Result<Many<F::Value>, ReadError> {
@@ -35,12 +31,6 @@ impl<F: Format> Format for ListOf<F> {
         writer.put_u32(value.len() as u32)?;
         write_items::<F>(value.as_slice(), writer)
     }
-
-    ghost some = { some_list F.reading F.spelling };
-
-    ghost again = { list_again F.reading F.spelling F.is_value F.some F.again };
-
-    ghost only = { list_only F.reading F.spelling F.is_value F.only };
 }
 
 /// So many items, one after the other.
@@ -49,7 +39,7 @@ fn read_items<F: Format>(
     count: u32,
     reader: &mut Reader<'_>,
 ) -> Result<Many<F::Value>, ReadError>
-    ensures { GivesUnlessWanted reader.old result reader.new (items_at F.reading count reader.old.rest) }
+    ensures { GivesUnlessWanted reader.old result reader.new (items_at (F.grammar).read count reader.old.rest) }
 {
     let mut items = Many::new(alloc);
     'items: for _ in 0..count {
@@ -60,8 +50,8 @@ fn read_items<F: Format>(
 }
 
 fn write_items<F: Format>(items: &[F::Value], writer: &mut Writer) -> Result<(), NoMemory>
-    requires { length (flat_map F.spelling items.now) < 2 ^ 32 }
-    ensures { OnOk result (writer.new ≡ writer.old ++ flat_map F.spelling items.now) }
+    requires { length (flat_map (F.grammar).bytes items.now) < 2 ^ 32 }
+    ensures { OnOk result (writer.new ≡ writer.old ++ flat_map (F.grammar).bytes items.now) }
 {
     'items: for item in items {
         F::write(item, writer)?;

@@ -1,6 +1,6 @@
 //! Reading bytes from left to right; whoever reads the index from the disk does it so.
 
-ghost use Rattle.std.specs.Prelude.{◌≡◌, ◌<◌, ◌≤◌, ◌-◌, length, take, drop, MatchResult, OnErr, [], IsOk, ◌↔◌, IfErr};
+ghost use Rattle.std.specs.Prelude.{◌≡◌, ◌<◌, ◌≤◌, ◌+◌, ◌-◌, length, take, drop, MatchResult, OnErr, [], IsOk, ◌↔◌, IfErr};
 ghost use Rattle.std.specs.Int.{w8, w32, w64};
 ghost use Rattle.nm_codec.specs.Reading.{Gives, GivesUnlessWanted, number_at, signed_at, text_at};
 
@@ -35,6 +35,13 @@ impl<'a> Reader<'a> {
             len: bytes.len(),
             rest: bytes,
         }
+    }
+
+    /// How many bytes have been read.
+    pub fn at(&self) -> u64
+        ensures { result + length self.now.rest ≡ self.now.len }
+    {
+        (self.len - self.rest.len()) as u64
     }
 
     pub fn u8(&mut self) -> Result<u8, Bad>
@@ -91,7 +98,7 @@ impl<'a> Reader<'a> {
         ensures value { GivesUnlessWanted self.old result self.new (text_at self.old.rest) }
         ensures len { self.new.len ≡ self.old.len }
     {
-        let at = (self.len - self.rest.len()) as u64;
+        let at = self.at();
         let len = self.u32()?;
         let front = self.front(len as usize)?;
         match str::from_utf8(front) {
@@ -130,8 +137,6 @@ impl<'a> Reader<'a> {
         if self.rest.is_empty() {
             return Ok(());
         }
-        Err(Bad {
-            at: (self.len - self.rest.len()) as u64,
-        })
+        Err(Bad { at: self.at() })
     }
 }
