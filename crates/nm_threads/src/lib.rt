@@ -1,0 +1,10 @@
+//! The plain index: which messages form a thread, and by which number it is named.
+//! Labels follow the rows of ids as mail comes and goes, and always are those of the plain definition.
+#![tactic(auto)]
+
+mod laws;
+
+pub use laws::{
+    a_row_joins_the_threads_of_its_ids, a_thread_has_one_name, same_is_an_equivalence,
+    same_is_what_is_computed, the_name_is_the_least_number, the_order_of_rows_is_nothing,
+};
