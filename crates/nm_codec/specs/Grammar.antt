@@ -1,13 +1,16 @@
 -- A grammar: how values of one kind stand in bytes, with the promise that what is written is read again and that what is
 -- read was written so. Grammars are put together from others, and the promise with them.
-use Rattle.std.specs.Prelude.{◌≡◌, ℕ, ◌<◌, ◌^◌, Bool, true, ◌&&◌, List, ◌++◌, length, Ok}
+use Rattle.std.specs.Prelude.{◌≡◌, ℕ, ℤ, ◌<◌, ◌^◌, Bool, true, ◌&&◌, List, ◌++◌, length, Option, None, Some, Ok, FitsSigned}
 use Rattle.std.specs.List.{list_all}
+use Rattle.std.specs.Int.{w64}
 use Rattle.std.specs.Str.{is_utf8}
-use Rattle.nm_codec.specs.Reading.{IsBytes, Reading, Takes, list_at, mapped_at, pair_at, tested_at, text_at}
-use Rattle.nm_codec.specs.Spelling.{list_bytes, text_bytes}
+use Rattle.nm_codec.specs.Reading.{IsBytes, Reading, Takes, coded_at, is_rising, list_at, mapped_at, pair_at, rising_at, signed_at, tested_at, text_at}
+use Rattle.nm_codec.specs.Spelling.{i64_bytes, list_bytes, text_bytes, u8_bytes}
 use Rattle.nm_codec.specs.TextLaws.{some_text, text_again, text_only}
 use Rattle.nm_codec.specs.PairLaws.{some_pair, pair_again, pair_only}
 use Rattle.nm_codec.specs.ListLaws.{some_list, list_again, list_only}
+use Rattle.nm_codec.specs.SignedLaws.{coded_again, coded_read, signed_tested_again, signed_tested_only, some_byte, some_signed}
+use Rattle.nm_codec.specs.RisingLaws.{rising_again, rising_only}
 use Rattle.nm_codec.specs.MapLaws.{mapped_again, mapped_only, tested_again, tested_only}
 
 pub record Grammar (A : Type 0) : Type 0 where
@@ -70,4 +73,38 @@ mapped_grammar make parts made had f = record {
   some = λ b. f.some (parts b);
   again = mapped_again make parts made f.read f.bytes f.is_value f.again;
   only = mapped_only make parts had f.read f.bytes f.is_value f.only;
+}
+
+-- numbers in two's complement that pass a test, which none passes that has more than eight bytes
+abbrev pub signed_grammar : (test : ℤ → Bool) → ((z : ℤ) → test z ≡ true → FitsSigned w64 z) → Grammar ℤ
+signed_grammar test fits = record {
+  read = tested_at test signed_at;
+  bytes = i64_bytes;
+  is_value = test;
+  some = some_signed;
+  again = signed_tested_again test fits;
+  only = signed_tested_only test;
+}
+
+-- values that one byte stands for
+abbrev pub code_grammar : {A : Type 0} (value_of : ℕ → Option A) (code_of : A → ℕ) → ((a : A) → value_of (code_of a) ≡ Some a) → ((a : A) → code_of a < 2 ^ 8)
+    → ((n : ℕ) (a : A) → value_of n ≡ Some a → code_of a ≡ n) → Grammar A
+code_grammar value_of code_of back small code = record {
+  read = coded_at value_of;
+  bytes = λ a. u8_bytes (code_of a);
+  is_value = λ a. true;
+  some = λ a. some_byte (code_of a);
+  again = λ a rest v short. coded_again value_of code_of back small a rest;
+  only = coded_read value_of code_of code;
+}
+
+-- items that rise, behind their count; the fault of one that does not is where it begins
+abbrev pub rising_grammar : {A : Type 0} → (A → A → Bool) → Grammar A → Grammar (List A)
+rising_grammar below f = record {
+  read = rising_at below f.read;
+  bytes = list_bytes f.bytes;
+  is_value = λ xs. list_all f.is_value xs && is_rising below None xs;
+  some = some_list f.read f.bytes;
+  again = rising_again below f.read f.bytes f.is_value f.some f.again;
+  only = rising_only below f.read f.bytes f.is_value f.only;
 }

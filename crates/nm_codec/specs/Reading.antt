@@ -1,7 +1,9 @@
 -- Reading from left to right: a value and the bytes after it, or the place of the first byte that is not of the grammar.
 -- A place is told by how many bytes are left from there on, so that it is the same for a part of the bytes and for all.
-use Rattle.std.specs.Prelude.{◌≡◌, ℕ, zero, suc, ◌-◌, ◌≤◌, ℤ, Bool, List, [], ◌∷◌, ◌++◌, ◌<◌, length, slice_index, take, drop, Result, Ok, Err, nat_lt, ◌==◌, if◌then◌else◌}
-use Rattle.std.specs.Int.{Width, w32, w64, byte_len, from_be_bytes, cast_signed}
+use Rattle.std.specs.Prelude.{◌≡◌, ℕ, zero, suc, ◌-◌, ◌≤◌, ℤ, Bool, true, ◌&&◌, Option, None, Some, List, [], ◌∷◌, ◌++◌, ◌<◌, length, slice_get, slice_index, take, drop, Result, Ok, Err, nat_lt, ◌==◌, if◌then◌else◌}
+use Rattle.std.specs.Int.{Width, w8, w32, w64, byte_len, from_be_bytes, cast_signed}
+use Rattle.std.specs.Ordering.{is_lt}
+use Rattle.std.specs.declared.cmp.Ordering.{Ordering}
 use Rattle.std.specs.Str.{is_utf8}
 use Rattle.nm_codec.specs.declared.read_error.Bad.{Bad}
 use Rattle.nm_codec.specs.declared.read_error.ReadError.{ReadError}
@@ -45,6 +47,44 @@ mapped_at make read bytes = do
   x ← read bytes
   Ok (make x.0, x.1)
 
+-- a value that a byte stands for; the fault of a byte that stands for none is its own place
+abbrev pub chosen : {A : Type 0} → Option A → List ℕ → ℕ → Reading A
+chosen (Some a) rest left = Ok (a, rest)
+chosen None rest left = Err left
+
+unfoldable pub coded_at : {A : Type 0} → (ℕ → Option A) → List ℕ → Reading A
+coded_at value_of bytes = do
+  n ← number_at w8 bytes
+  chosen (value_of n.0) n.1 (length bytes)
+
+-- the first value is below the second in an order
+abbrev pub is_below : {A : Type 0} → (A → A → Ordering) → A → A → Bool
+is_below cmp a b = is_lt (cmp a b)
+
+-- the value may stand behind the one before
+abbrev pub follows : {A : Type 0} → (A → A → Bool) → Option A → A → Bool
+follows below None x = true
+follows below (Some last) x = below last x
+
+-- each value may stand behind the one before
+abbrev pub is_rising : {A : Type 0} → (A → A → Bool) → Option A → List A → Bool
+is_rising below last [] = true
+is_rising below last (x ∷ xs) = follows below last x && is_rising below (Some x) xs
+
+-- so many items that rise; the fault of one that does not is where it begins
+unfoldable pub rising_items_at : {A : Type 0} → (A → A → Bool) → (List ℕ → Reading A) → Option A → ℕ → List ℕ → Reading (List A)
+rising_items_at below read last zero bytes = Ok ([], bytes)
+rising_items_at below read last (suc n) bytes = do
+  first ← tested_at (follows below last) read bytes
+  others ← rising_items_at below read (Some first.0) n first.1
+  Ok (first.0 ∷ others.0, others.1)
+
+-- a list that rises: its count, and its items
+unfoldable pub rising_at : {A : Type 0} → (A → A → Bool) → (List ℕ → Reading A) → List ℕ → Reading (List A)
+rising_at below read bytes = do
+  n ← number_at w32 bytes
+  rising_items_at below read None n.0 n.1
+
 -- so many items
 unfoldable pub items_at : {A : Type 0} → (List ℕ → Reading A) → ℕ → List ℕ → Reading (List A)
 items_at read zero bytes = Ok ([], bytes)
@@ -87,6 +127,16 @@ abbrev pub GivesUnlessWanted : {A : Type 0} → Place → Result A ReadError →
 GivesUnlessWanted old (Ok x) new read = (read ≡ Ok (x, new.rest)) × (new.len ≡ old.len)
 GivesUnlessWanted old (Err errors.NoMemory) new read = Unit {0}
 GivesUnlessWanted old (Err (errors.Bad at)) new read = (at ≤ old.len) × (read ≡ Err (old.len - at))
+
+-- what was answered for all of the bytes is what reading gives, unless memory ran out
+abbrev pub AnswersUnlessWanted : {A : Type 0} → List ℕ → Result A ReadError → Result A ℕ → Type 0
+AnswersUnlessWanted bytes (Ok x) read = read ≡ Ok x
+AnswersUnlessWanted bytes (Err errors.NoMemory) read = Unit {0}
+AnswersUnlessWanted bytes (Err (errors.Bad at)) read = (at ≤ length bytes) × (read ≡ Err (length bytes - at))
+
+-- the last of some items, if there is one
+abbrev pub last_of : {A : Type 0} → List A → Option A
+last_of xs = slice_get xs (length xs - 1)
 
 -- numbers that are bytes
 abbrev pub IsBytes : List ℕ → Type 0

@@ -7,6 +7,7 @@ mod list;
 mod pair;
 mod read_error;
 mod reader;
+mod rising;
 mod text;
 mod writer;
 
@@ -15,5 +16,6 @@ pub use list::ListOf;
 pub use pair::Pair;
 pub use read_error::{Bad, ReadError};
 pub use reader::Reader;
+pub use rising::RisingOf;
 pub use text::TextFormat;
 pub use writer::Writer;

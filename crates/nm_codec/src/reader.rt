@@ -132,7 +132,7 @@ impl<'a> Reader<'a> {
     /// Whether nothing is left.
     pub fn end(&self) -> Result<(), Bad>
         ensures end { IsOk result ↔ (self.now.rest ≡ []) }
-        ensures bad { IfErr result (λ bad. bad.at ≡ self.now.len - length self.now.rest) }
+        ensures bad { IfErr result (λ bad. bad.at + length self.now.rest ≡ self.now.len) }
     {
         if self.rest.is_empty() {
             return Ok(());

@@ -30,6 +30,11 @@ impl Writer {
         }
     }
 
+    /// The allocator that the bytes come from.
+    pub fn alloc(&self) -> Global {
+        *self.bytes.allocator()
+    }
+
     pub fn put_u8(&mut self, v: u8) -> Result<(), NoMemory>
         ensures ok { OnOk result (self.new ≡ self.old ++ u8_bytes v) }
         ensures err { OnErr result (self.new ≡ self.old) }

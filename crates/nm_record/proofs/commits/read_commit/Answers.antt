@@ -1,0 +1,13 @@
+use Rattle.std.proofs.Common.{ap, subst, ◌∙◌, arith}
+use Rattle.nm_codec.specs.AllLaws.{all_again}
+use Rattle.nm_codec.specs.Reading.{AnswersUnlessWanted, all_of}
+use Rattle.nm_record.specs.CommitGrammar.{commit_grammar}
+use Rattle.nm_record.proofs.FoundLemmas.{is_found}
+use Rattle.nm_record.proofs.commits.read_commit.Goals as goal
+
+pub returns-clause-found : goal.returns-clause-found
+returns-clause-found c = is_found c.args.bytes.now c.read_all.result (λ i. omega (arith, c.type_inv.bytes i)) c.read_all.ensures
+
+pub returns-clause-only : goal.returns-clause-only
+returns-clause-only c = λ commit v short e.
+    subst (λ r. AnswersUnlessWanted c.args.bytes.now c.read_all.result r) (ap (all_of commit_grammar.read) e ∙ all_again commit_grammar commit v short) c.read_all.ensures

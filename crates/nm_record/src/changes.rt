@@ -1,0 +1,112 @@
+//! Changes in bytes; a commit is a list of them.
+
+ghost use Rattle.std.specs.Prelude.{◌≡◌, ◌++◌, ◌<◌, ◌^◌, length, OnOk};
+ghost use Rattle.nm_commit.specs.declared.change.Change.{Change};
+ghost use Rattle.nm_codec.specs.Reading.{GivesUnlessWanted, mapped_at};
+ghost use Rattle.nm_record.specs.CommitGrammar.{change_grammar};
+ghost use Rattle.nm_record.specs.Commits.{arrival_grammar, change_at, change_bytes, kind_at, move_grammar, tagging_grammar};
+ghost use Rattle.nm_record.specs.Facts.{path_grammar};
+
+use crate::facts::FactsFormat;
+use crate::names::{IdFormat, PathFormat};
+use crate::tag_list::TagsFormat;
+use nm_base::{Facts, MailPath, NoMemory};
+use nm_codec::{Format, Pair, ReadError, Reader, Writer};
+use nm_commit::Change;
+use std::alloc::Global;
+
+pub(crate) struct ChangeFormat;
+
+const ADD: u8 = 1;
+
+const DROP: u8 = 2;
+
+const MOVE: u8 = 3;
+
+const SET_TAGS: u8 = 4;
+
+impl Format for ChangeFormat {
+    type Value = Change;
+
+    ghost grammar = { change_grammar };
+
+    #[tactic(auto, unfolding(crate::specs::Commits::change_at))]
+    fn read(alloc: Global, reader: &mut Reader<'_>) -> Result<Change, ReadError> {
+        let at = reader.at();
+        match reader.u8()? {
+            ADD => read_add(alloc, reader),
+            DROP => read_drop(alloc, reader),
+            MOVE => read_move(alloc, reader),
+            SET_TAGS => read_set_tags(alloc, reader),
+            _ => Err(ReadError::Bad { at }),
+        }
+    }
+
+    fn write(value: &Change, writer: &mut Writer) -> Result<(), NoMemory> {
+        match value {
+            Change::Add { path, facts } => {
+                writer.put_u8(ADD)?;
+                write_arrival(path, facts, writer)?;
+                Ok(())
+            }
+            Change::Drop { path } => {
+                writer.put_u8(DROP)?;
+                PathFormat::write(path, writer)?;
+                Ok(())
+            }
+            Change::Move { from, to } => {
+                writer.put_u8(MOVE)?;
+                PathFormat::write(from, writer)?;
+                PathFormat::write(to, writer)?;
+                Ok(())
+            }
+            Change::SetTags { id, tags } => {
+                writer.put_u8(SET_TAGS)?;
+                IdFormat::write(id, writer)?;
+                TagsFormat::write(tags, writer)?;
+                Ok(())
+            }
+        }
+    }
+}
+
+fn write_arrival(path: &MailPath, facts: &Facts, writer: &mut Writer) -> Result<(), NoMemory>
+    requires { length (arrival_grammar.bytes (path.now, facts.now)) < 2 ^ 32 }
+    ensures { OnOk result (writer.new ≡ writer.old ++ arrival_grammar.bytes (path.now, facts.now)) }
+{
+    PathFormat::write(path, writer)?;
+    FactsFormat::write(facts, writer)?;
+    Ok(())
+}
+
+#[tactic(auto, unfolding(nm_codec::specs::Reading::mapped_at))]
+fn read_add(alloc: Global, reader: &mut Reader<'_>) -> Result<Change, ReadError>
+    ensures { GivesUnlessWanted reader.old result reader.new (mapped_at (λ p. Change.Add p.0 p.1) arrival_grammar.read reader.old.rest) }
+{
+    let (path, facts) = <Pair<PathFormat, FactsFormat> as Format>::read(alloc, reader)?;
+    Ok(Change::Add { path, facts })
+}
+
+#[tactic(auto, unfolding(nm_codec::specs::Reading::mapped_at))]
+fn read_drop(alloc: Global, reader: &mut Reader<'_>) -> Result<Change, ReadError>
+    ensures { GivesUnlessWanted reader.old result reader.new (mapped_at Change.Drop path_grammar.read reader.old.rest) }
+{
+    let path = PathFormat::read(alloc, reader)?;
+    Ok(Change::Drop { path })
+}
+
+#[tactic(auto, unfolding(nm_codec::specs::Reading::mapped_at))]
+fn read_move(alloc: Global, reader: &mut Reader<'_>) -> Result<Change, ReadError>
+    ensures { GivesUnlessWanted reader.old result reader.new (mapped_at (λ p. Change.Move p.0 p.1) move_grammar.read reader.old.rest) }
+{
+    let (from, to) = <Pair<PathFormat, PathFormat> as Format>::read(alloc, reader)?;
+    Ok(Change::Move { from, to })
+}
+
+#[tactic(auto, unfolding(nm_codec::specs::Reading::mapped_at))]
+fn read_set_tags(alloc: Global, reader: &mut Reader<'_>) -> Result<Change, ReadError>
+    ensures { GivesUnlessWanted reader.old result reader.new (mapped_at (λ p. Change.SetTags p.0 p.1) tagging_grammar.read reader.old.rest) }
+{
+    let (id, tags) = <Pair<IdFormat, TagsFormat> as Format>::read(alloc, reader)?;
+    Ok(Change::SetTags { id, tags })
+}

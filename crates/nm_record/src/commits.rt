@@ -1,0 +1,70 @@
+//! Commits in bytes; the journal keeps them.
+
+ghost use Rattle.std.specs.Prelude.{◌≡◌, ◌<◌, ◌^◌, length, true, IfOk};
+ghost use Rattle.nm_commit.specs.declared.change.Commit.{Commit};
+ghost use Rattle.nm_codec.specs.Reading.{AnswersUnlessWanted, all_of};
+ghost use Rattle.nm_record.specs.CommitGrammar.{commit_grammar};
+
+use crate::changes::ChangeFormat;
+use nm_base::{Many, NoMemory};
+use nm_codec::{Format, ListOf, ReadError, Reader, Writer};
+use nm_commit::Commit;
+use std::alloc::Global;
+
+/// The one spelling of a commit, which has fewer than 2 ^ 32 bytes.
+pub fn commit_bytes(alloc: Global, commit: &Commit) -> Result<Many<u8>, NoMemory>
+    requires { length (commit_grammar.bytes commit.now) < 2 ^ 32 }
+    ensures { IfOk result (λ bytes. bytes ≡ commit_grammar.bytes commit.now) }
+{
+    let mut writer = Writer::new(alloc);
+    CommitFormat::write(commit, &mut writer)?;
+    Ok(writer.finish())
+}
+
+/// The commit that all the bytes spell, or the place of the first byte that no commit has there.
+pub fn read_commit(alloc: Global, bytes: &[u8]) -> Result<Commit, ReadError>
+    // What is read was written so, and has the values of a commit.
+    ensures found { IfOk result (λ commit. (bytes.now ≡ commit_grammar.bytes commit) × (commit_grammar.is_value commit ≡ true)) }
+
+    // What is written of a commit is read as it.
+    ensures only { (commit : Commit) → commit_grammar.is_value commit ≡ true → length (commit_grammar.bytes commit) < 2 ^ 32
+        → bytes.now ≡ commit_grammar.bytes commit → AnswersUnlessWanted bytes.now result (Ok commit) }
+
+    // Where the first byte stands that is not of a commit.
+    ensures exact { AnswersUnlessWanted bytes.now result (all_of commit_grammar.read bytes.now) }
+{
+    read_all(alloc, bytes)
+}
+
+#[tactic(auto, unfolding(nm_codec::specs::Reading::all_of))]
+fn read_all(alloc: Global, bytes: &[u8]) -> Result<Commit, ReadError>
+    ensures { AnswersUnlessWanted bytes.now result (all_of commit_grammar.read bytes.now) }
+{
+    let mut reader = Reader::new(bytes);
+    let commit = CommitFormat::read(alloc, &mut reader)?;
+    reader.end()?;
+    Ok(commit)
+}
+
+/// A list of changes, at least one.
+struct CommitFormat;
+
+impl Format for CommitFormat {
+    type Value = Commit;
+
+    ghost grammar = { commit_grammar };
+
+    #[tactic(auto, unfolding(nm_codec::specs::Reading::tested_at, nm_codec::specs::Reading::mapped_at))]
+    fn read(alloc: Global, reader: &mut Reader<'_>) -> Result<Commit, ReadError> {
+        let at = reader.at();
+        let changes = <ListOf<ChangeFormat> as Format>::read(alloc, reader)?;
+        if changes.len() > 0 {
+            return Ok(Commit { changes });
+        }
+        Err(ReadError::Bad { at })
+    }
+
+    fn write(value: &Commit, writer: &mut Writer) -> Result<(), NoMemory> {
+        <ListOf<ChangeFormat> as Format>::write(&value.changes, writer)
+    }
+}

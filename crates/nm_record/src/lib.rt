@@ -1,0 +1,11 @@
+//! Bytes on the disk: the one spelling of commits, and its reader. A commit is a list of changes, a change its kind in one
+//! byte and then its values, in the grammars of `nm_codec`.
+#![tactic(auto)]
+
+mod changes;
+mod commits;
+mod facts;
+mod names;
+mod tag_list;
+
+pub use commits::{commit_bytes, read_commit};
