@@ -1,0 +1,7 @@
+pub mod AppendLemmas
+pub mod MomentLemmas
+pub mod OpenLemmas
+pub mod RecordLemmas
+pub mod SyncLemmas
+pub mod UniqueLemmas
+pub mod WriteLemmas

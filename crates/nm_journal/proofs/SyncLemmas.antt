@@ -1,0 +1,56 @@
+-- The sync with which a journal is opened.
+use Rattle.std.proofs.Common.{◌≡◌, ℕ, ◌+◌, false, List, length, Option, None, Some, IfSome, sym, ap, subst, ◌∙◌}
+use Rattle.nm_disk.specs.declared.disk.FileNo.{FileNo}
+use Rattle.nm_disk.specs.Calls.{GoesOn, MayFail, synced}
+use Rattle.nm_disk.specs.ImageLaws.{when_synced}
+use Rattle.nm_disk.specs.Images.{MayLeave, bytes_of}
+use Rattle.nm_disk.specs.Observed.{Moments, bytes_now, later}
+use Rattle.nm_journal.proofs.AppendLemmas.{ReadsAnImage}
+use Rattle.nm_journal.proofs.MomentLemmas.{through_failed, through_one}
+use Rattle.nm_journal.proofs.WriteLemmas.{by_parts}
+use Rattle.nm_journal.specs.Journal.{StandsOn}
+use Rattle.nm_journal.specs.Moments.{GoesThrough}
+use Rattle.nm_journal.specs.Records.{HasRecords, records_of}
+
+-- only what might have been left before
+abbrev pub NothingNew : FileNo → Moments → Moments → Type 0
+NothingNew file old new = GoesThrough file (MayLeave old.present file) old new
+
+-- a sync that failed
+pub sync_failed : (file : FileNo) (x y : Option Moments) → GoesOn (λ old new. MayFail old new old.present.written) x y → GoesOn (NothingNew file) x y
+sync_failed file None None fails = tt
+sync_failed file None (Some new) fails = absurd fails
+sync_failed file (Some old) None fails = absurd fails
+sync_failed file (Some old) (Some new) fails =
+    through_failed file (MayLeave old.present file) old new old.present.written fails
+    (λ state e f bytes left. by_parts state file bytes old.present.synced old.present.written e f left)
+
+-- a sync that went well, and looks at the disk after it
+pub sync_goes : (file : FileNo) (x y z : Option Moments) → IfSome x ReadsAnImage → GoesOn (λ old new. new ≡ later old (synced old.present)) x y → z ≡ y → GoesOn (NothingNew file) x z
+sync_goes file None None z reads syncs e = subst (λ (o : Option Moments). GoesOn (NothingNew file) None o) (sym e) tt
+sync_goes file None (Some new) z reads syncs e = absurd syncs
+sync_goes file (Some old) None z reads syncs e = absurd syncs
+sync_goes file (Some old) (Some new) z reads syncs e =
+    let through : NothingNew file old new =
+    through_one file (MayLeave old.present file) old new (synced old.present) syncs
+    (λ bytes left. subst (MayLeave old.present file) (sym (when_synced old.present file bytes left)) (reads file)) in
+    subst (λ (o : Option Moments). GoesOn (NothingNew file) (Some old) o) (sym e) through
+
+-- the journal that is opened stands on the disk
+pub sync_stands : (file : FileNo) (x y z : Option Moments) (at gate count : ℕ) (bodies : List (List ℕ)) → GoesOn (λ old new. new ≡ later old (synced old.present)) x y → z ≡ y
+    → IfSome y (λ moments. HasRecords at bodies (bytes_now moments file)) → gate ≡ at + length (records_of bodies) → count ≡ length bodies
+    → GoesOn (λ old new. StandsOn new.present (record { file = file; start = at; gate = gate; count = count; failed = false }) bodies) x z
+sync_stands file None None z at gate count bodies syncs e has ends same =
+    subst (λ (o : Option Moments). GoesOn (λ old new. StandsOn new.present (record { file = file; start = at; gate = gate; count = count; failed = false }) bodies) None o) (sym e) tt
+sync_stands file None (Some new) z at gate count bodies syncs e has ends same = absurd syncs
+sync_stands file (Some old) None z at gate count bodies syncs e has ends same = absurd syncs
+sync_stands file (Some old) (Some new) z at gate count bodies syncs e has ends same =
+    let now_same : bytes_now new file ≡ bytes_of file old.present.now = ap (λ (m : Moments). bytes_now m file) syncs in
+    let stands : StandsOn new.present (record { file = file; start = at; gate = gate; count = count; failed = false }) bodies = record {
+      gate = ends;
+      count = same;
+      every = λ bytes left.
+          let left_synced : MayLeave (synced old.present) file bytes = subst (λ (m : Moments). MayLeave m.present file bytes) syncs left in
+          subst (HasRecords at bodies) (now_same ∙ sym (when_synced old.present file bytes left_synced)) has;
+    } in
+    subst (λ (o : Option Moments). GoesOn (λ old new. StandsOn new.present (record { file = file; start = at; gate = gate; count = count; failed = false }) bodies) (Some old) o) (sym e) stands

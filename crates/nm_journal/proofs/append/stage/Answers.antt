@@ -1,0 +1,24 @@
+use Rattle.nm_journal.proofs.AppendLemmas.{room_behind, stage_failed, stage_goes, stage_stands}
+use Rattle.nm_journal.proofs.append.stage.Goals as goal
+
+pub write_at-requires : goal.write_at-requires
+write_at-requires g c =
+    room_behind c.args.file c.args.gate c.args.frame.now c.bytes.result.now c.bytes.ensures.bytes
+    (g.D.Disk.observed c.args.disk.now).told (g.D.Disk.reads_an_image c.args.disk.now) c.requires.ends
+
+pub returns-in_err-write_at-clause-any_moment : goal.returns-in_err-write_at-clause-any_moment
+returns-in_err-write_at-clause-any_moment g c =
+    stage_failed c.args.file c.args.gate c.args.frame.now c.bytes.result.now c.bytes.ensures.bytes
+    (g.D.Disk.observed c.args.disk.now).told (g.D.Disk.observed c.write_at.new.self).told (g.D.Disk.reads_an_image c.args.disk.now) c.in_err-write_at.ensures.writes.told
+
+pub returns-clause-staged : goal.returns-clause-staged
+returns-clause-staged g c =
+    stage_stands c.args.file c.args.gate c.args.frame.now c.bytes.result.now c.bytes.ensures.bytes c.sync.result
+    (g.D.Disk.observed c.args.disk.now).told (g.D.Disk.observed c.write_at.new.self).told (g.D.Disk.observed c.sync.new.self).told
+    (g.D.Disk.reads_an_image c.args.disk.now) c.in_ok-write_at.ensures.writes.told c.sync.ensures.told
+
+pub returns-clause-any_moment : goal.returns-clause-any_moment
+returns-clause-any_moment g c =
+    stage_goes c.args.file c.args.gate c.args.frame.now c.bytes.result.now c.bytes.ensures.bytes c.sync.result
+    (g.D.Disk.observed c.args.disk.now).told (g.D.Disk.observed c.write_at.new.self).told (g.D.Disk.observed c.sync.new.self).told
+    (g.D.Disk.reads_an_image c.args.disk.now) c.in_ok-write_at.ensures.writes.told c.sync.ensures.told

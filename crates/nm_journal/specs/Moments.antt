@@ -1,0 +1,21 @@
+-- What a stop leaves of a file at the moments that a call goes through.
+use Rattle.std.specs.Prelude.{◌≡◌, ℕ, List, ◌∷◌, ◌++◌}
+use Rattle.std.specs.List.{AllByRecursion}
+use Rattle.nm_disk.specs.declared.disk.FileNo.{FileNo}
+use Rattle.nm_disk.specs.declared.state.DiskState.{DiskState}
+use Rattle.nm_disk.specs.Images.{MayLeave}
+use Rattle.nm_disk.specs.Observed.{Moments}
+
+-- the states at all moments so far, the present one first
+abbrev pub all_moments : Moments → List DiskState
+all_moments moments = moments.present ∷ moments.past
+
+-- a stop leaves only bytes of the file that are so
+abbrev pub LeavesOnly : FileNo → (List ℕ → Type 0) → DiskState → Type 0
+LeavesOnly file holds state = (bytes : List ℕ) → MayLeave state file bytes → holds bytes
+
+-- the disk went on from old to new through moments at each of which a stop leaves only what is so
+pub record GoesThrough (file : FileNo) (holds : List ℕ → Type 0) (old new : Moments) : Type 0 where
+  pub states : List DiskState
+  pub each : AllByRecursion (LeavesOnly file holds) states
+  pub are : all_moments new ≡ states ++ all_moments old

@@ -1,0 +1,65 @@
+//! The bytes of a record as they are written, made before the disk is touched.
+
+ghost use Rattle.std.specs.Prelude.{◌≡◌, ◌<◌, ◌^◌, ◌++◌, ◌∷◌, [], IfOk, length};
+ghost use Rattle.std.specs.Int.{w32, to_be_bytes};
+ghost use Rattle.nm_journal.specs.Frame.{framed};
+
+use nm_base::{Many, NoMemory};
+use std::alloc::Global;
+use std::marker::Model;
+
+/// The length of a body, the body, and the next closed gate.
+#[derive(Debug, Drop)]
+pub struct Frame {
+    bytes: Many<u8>,
+}
+
+impl Model for Frame {
+    ghost use Rattle.std.specs.Prelude.{◌≡◌, ◌<◌, ◌^◌, List, ℕ, length};
+    ghost use Rattle.nm_journal.specs.Frame.{body_of, framed};
+
+    ghost Value = { List ℕ };
+
+    ghost view = { λ f. body_of f.bytes };
+
+    ghost invariant = { λ f. (f.bytes ≡ framed (body_of f.bytes)) × (length (body_of f.bytes) < 2 ^ 32) };
+}
+
+impl Frame {
+    pub fn new(alloc: Global, body: &Many<u8>) -> Result<Frame, NoMemory>
+        requires { length body.now < 2 ^ 32 }
+        ensures { IfOk result (λ frame. frame ≡ body.now) }
+    {
+        let len = body.len();
+        let mut bytes = Vec::with_capacity(alloc, len + 5)?;
+        bytes.extend_from_slice(&(len as u32).to_be_bytes())?;
+        bytes.extend_from_slice(body.as_slice())?;
+        bytes.push(0)?;
+        Ok(Frame {
+            bytes: Many::from_vec(bytes),
+        })
+    }
+
+    /// The body, and the closed gate behind it.
+    pub fn tail(&self) -> &[u8]
+        ensures { result.now ≡ self.now ++ 0 ∷ [] }
+    {
+        &self.bytes.as_slice()[4..]
+    }
+
+    /// The length of the body.
+    pub(crate) fn len(&self) -> u64
+        ensures len { result ≡ length self.now }
+        ensures fits { length self.now < 2 ^ 32 }
+    {
+        self.bytes.len() as u64 - 5
+    }
+
+    /// The length, the body and the closed gate.
+    pub(crate) fn bytes(&self) -> &[u8]
+        ensures bytes { result.now ≡ framed self.now }
+        ensures length { length self.now < 2 ^ 32 }
+    {
+        self.bytes.as_slice()
+    }
+}

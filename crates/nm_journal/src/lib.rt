@@ -1,0 +1,14 @@
+//! Bytes on the disk: a journal of records, each on the disk whole or not at all, whatever the moment of a stop.
+#![tactic(auto)]
+
+mod append;
+mod frame;
+mod journal;
+mod laws;
+mod opening;
+mod receipt;
+
+pub use frame::Frame;
+pub use journal::{Journal, JournalError};
+pub use laws::{records_are_not_broken, records_are_read_in_one_way};
+pub use receipt::Receipt;
