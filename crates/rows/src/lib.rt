@@ -1,5 +1,5 @@
-//! Values: rows as data. The language of the tables that programs as `rows_mail` run, and the report on each row.
-//! A table is a text that a person who knows mail reads at once; `docs/TESTING.md` has the language.
+//! Values: rows as data. The language of the tables that programs as `rows_mail` run, the run of a table, and the
+//! report on each row. A table is a text that a person who knows mail reads at once; `docs/TESTING.md` has the language.
 #![tactic(auto)]
 
 mod escapes;
@@ -7,9 +7,11 @@ mod lines;
 mod report;
 mod row;
 mod row_error;
+mod table;
 
 pub use escapes::{escaped, unescaped};
 pub use lines::Lines;
 pub use report::Report;
-pub use row::{Paragraph, Row, RowLine, cut, number_of, paragraphs, read_row, text_of};
+pub use row::{Paragraph, Row, RowLine, cut, number_of, paragraphs, read_row, signed_of, text_of};
 pub use row_error::RowError;
+pub use table::{Program, run_table};

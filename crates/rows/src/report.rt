@@ -1,21 +1,39 @@
-//! What is said of the rows: a line each, and at the end how many there are.
+//! What is said of the rows: a line each, and at the end how many there are; the run of a table makes it.
+
+ghost use Rattle.std.specs.Prelude.{◌≡◌, ℕ, List, [], ◌++◌, IfErr, IfOk, OnOk, codes};
+ghost use Rattle.std.specs.Fmt.{decimal};
+ghost use Rattle.rows.specs.Report.{one_more, whole, with_broken, with_right, with_wrong};
 
 use crate::{RowError, escaped};
-use std::alloc::{AllocError, Global};
+use nm_base::{Many, NoMemory};
+use std::alloc::Global;
+use std::marker::Model;
 
 /// The lines of the report, and the counts for its last line.
 #[derive(Drop)]
 pub struct Report {
-    bytes: Vec<u8>,
+    alloc: Global,
+    lines: Many<u8>,
     ok: usize,
     wrong: usize,
     broken: usize,
 }
 
+impl Model for Report {
+    ghost use Rattle.rows.specs.Report.{Reported};
+
+    ghost Value = { Reported };
+
+    ghost view = { λ r. record { lines = r.lines; ok = r.ok; wrong = r.wrong; broken = r.broken } };
+}
+
 impl Report {
-    pub fn new(alloc: Global) -> Report {
+    pub fn new(alloc: Global) -> Report
+        ensures { result ≡ record { lines = []; ok = 0; wrong = 0; broken = 0 } }
+    {
         Report {
-            bytes: Vec::new(alloc),
+            alloc,
+            lines: Many::new(alloc),
             ok: 0,
             wrong: 0,
             broken: 0,
@@ -28,21 +46,46 @@ impl Report {
         name: &[u8],
         number: usize,
         wanted: &[u8],
-        got: Result<&[u8], RowError>,
-    ) -> Result<(), AllocError> {
+        got: &Result<Vec<u8>, RowError>,
+    ) -> Result<(), NoMemory>
+        ensures right { OnOk result (IfOk got.now (λ bytes. bytes.items ≡ wanted.now → self.new ≡ with_right self.old name.now)) }
+        ensures wrong { OnOk result (IfOk got.now (λ bytes. ¬ (bytes.items ≡ wanted.now) → (why : List ℕ) × (self.new ≡ with_wrong self.old name.now number why))) }
+
+        // A row that gives nothing did not go right.
+        ensures none { OnOk result (IfErr got.now (λ _. self.new.ok ≡ self.old.ok)) }
+    {
         match got {
-            Ok(got) if got == wanted => self.right(name),
-            Ok(got) => self.wrong(name, number, wanted, got),
-            Err(RowError::NoMemory) => self.wrong(name, number, wanted, b"no memory"),
+            Ok(bytes) => self.compare_bytes(name, number, wanted, bytes.as_slice()),
             Err(RowError::Broken(why)) => self.broken(number, why),
+            Err(RowError::NoMemory) => self.wrong(name, number, wanted, b"no memory"),
         }
     }
 
-    fn right(&mut self, name: &[u8]) -> Result<(), AllocError> {
-        self.ok = self.ok.saturating_add(1);
-        self.push(b"ok ")?;
-        self.push(name)?;
-        self.push(b"\n")
+    fn compare_bytes(
+        &mut self,
+        name: &[u8],
+        number: usize,
+        wanted: &[u8],
+        got: &[u8],
+    ) -> Result<(), NoMemory>
+        ensures right { OnOk result (got.now ≡ wanted.now → self.new ≡ with_right self.old name.now) }
+        ensures wrong { OnOk result (¬ (got.now ≡ wanted.now) → (why : List ℕ) × (self.new ≡ with_wrong self.old name.now number why)) }
+    {
+        if got == wanted {
+            self.right(name)
+        } else {
+            self.wrong(name, number, wanted, got)
+        }
+    }
+
+    fn right(&mut self, name: &[u8]) -> Result<(), NoMemory>
+        ensures { OnOk result (self.new ≡ with_right self.old name.now) }
+    {
+        self.ok = one_more(self.ok);
+        self.lines.extend_from_slice(b"ok ")?;
+        self.lines.extend_from_slice(name)?;
+        self.lines.extend_from_slice(b"\n")?;
+        Ok(())
     }
 
     fn wrong(
@@ -51,54 +94,87 @@ impl Report {
         number: usize,
         wanted: &[u8],
         got: &[u8],
-    ) -> Result<(), AllocError> {
-        self.wrong = self.wrong.saturating_add(1);
-        self.push(b"WRONG ")?;
-        self.push(name)?;
-        self.push(b" (line ")?;
-        self.push_number(number)?;
-        self.push(b"): wanted ")?;
-        self.push_escaped(wanted)?;
-        self.push(b", got ")?;
-        self.push_escaped(got)?;
-        self.push(b"\n")
+    ) -> Result<(), NoMemory>
+        ensures { OnOk result ((why : List ℕ) × (self.new ≡ with_wrong self.old name.now number why)) }
+    {
+        self.wrong = one_more(self.wrong);
+        let why = difference(self.alloc, wanted, got)?;
+        push_place(self.alloc, &mut self.lines, name, number)?;
+        self.lines.extend_from_slice(why.as_slice())?;
+        Ok(())
     }
 
     /// Says why a row can't be read.
-    pub fn broken(&mut self, number: usize, why: &str) -> Result<(), AllocError> {
-        self.broken = self.broken.saturating_add(1);
-        self.push(b"BROKEN ROW line ")?;
-        self.push_number(number)?;
-        self.push(b": ")?;
-        self.push(why.as_bytes())?;
-        self.push(b"\n")
+    pub fn broken(&mut self, number: usize, why: &str) -> Result<(), NoMemory>
+        ensures { OnOk result (self.new ≡ with_broken self.old number why.now) }
+    {
+        self.broken = one_more(self.broken);
+        self.lines.extend_from_slice(b"BROKEN ROW line ")?;
+        push_number(self.alloc, &mut self.lines, number)?;
+        self.lines.extend_from_slice(b": ")?;
+        self.lines.extend_from_slice(why.as_bytes())?;
+        self.lines.extend_from_slice(b"\n")?;
+        Ok(())
     }
 
     /// The whole report; its last line has the counts.
-    pub fn finish(self) -> Result<Vec<u8>, AllocError> {
-        let mut report = self;
-        let (ok, wrong, broken) = (report.ok, report.wrong, report.broken);
-        report.push_number(ok)?;
-        report.push(b" ok, ")?;
-        report.push_number(wrong)?;
-        report.push(b" wrong, ")?;
-        report.push_number(broken)?;
-        report.push(b" broken\n")?;
-        let Report { bytes, .. } = report;
-        Ok(bytes)
+    pub fn finish(self) -> Result<Many<u8>, NoMemory>
+        ensures { IfOk result (λ report. report ≡ whole self) }
+    {
+        let Report {
+            alloc,
+            mut lines,
+            ok,
+            wrong,
+            broken,
+        } = self;
+        push_number(alloc, &mut lines, ok)?;
+        lines.extend_from_slice(b" ok, ")?;
+        push_number(alloc, &mut lines, wrong)?;
+        lines.extend_from_slice(b" wrong, ")?;
+        push_number(alloc, &mut lines, broken)?;
+        lines.extend_from_slice(b" broken\n")?;
+        Ok(lines)
     }
+}
 
-    fn push(&mut self, bytes: &[u8]) -> Result<(), AllocError> {
-        self.bytes.extend_from_slice(bytes)
-    }
+fn one_more(count: usize) -> usize
+    ensures { result ≡ one_more count }
+{
+    count.saturating_add(1)
+}
 
-    fn push_number(&mut self, number: usize) -> Result<(), AllocError> {
-        let text = number.to_string(*self.bytes.allocator())?;
-        self.push(text.as_bytes())
-    }
+/// The name of a wrong row, and its line in the table.
+fn push_place(
+    alloc: Global,
+    lines: &mut Many<u8>,
+    name: &[u8],
+    number: usize,
+) -> Result<(), NoMemory>
+    ensures { OnOk result (lines.new ≡ lines.old ++ codes "WRONG " ++ name.now ++ codes " (line " ++ decimal number ++ codes ")") }
+{
+    lines.extend_from_slice(b"WRONG ")?;
+    lines.extend_from_slice(name)?;
+    lines.extend_from_slice(b" (line ")?;
+    push_number(alloc, lines, number)?;
+    lines.extend_from_slice(b")")?;
+    Ok(())
+}
 
-    fn push_escaped(&mut self, bytes: &[u8]) -> Result<(), AllocError> {
-        let text = escaped(*self.bytes.allocator(), bytes)?;
-        self.push(text.as_slice())
-    }
+fn push_number(alloc: Global, lines: &mut Many<u8>, number: usize) -> Result<(), NoMemory>
+    ensures { OnOk result (lines.new ≡ lines.old ++ decimal number) }
+{
+    let text = number.to_string(alloc)?;
+    lines.extend_from_slice(text.as_bytes())?;
+    Ok(())
+}
+
+/// What is said of a wrong row after its place.
+fn difference(alloc: Global, wanted: &[u8], got: &[u8]) -> Result<Many<u8>, NoMemory> {
+    let mut text = Many::from_slice(alloc, b": wanted ")?;
+    text.extend_from_slice(escaped(alloc, wanted)?.as_slice())?;
+    text.extend_from_slice(b", got ")?;
+    text.extend_from_slice(escaped(alloc, got)?.as_slice())?;
+    text.push(b'\n')?;
+    Ok(text)
 }

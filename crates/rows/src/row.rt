@@ -105,6 +105,42 @@ impl Row<'_> {
         }
         Ok(lines.into_bytes())
     }
+
+    /// Whether there is a line with this mark.
+    pub fn has(&self, mark: &[u8]) -> bool {
+        self.lines.as_slice().iter().any(|line| line.mark == mark)
+    }
+
+    /// Refuses a row that has a line with another mark than these.
+    pub fn has_only(&self, marks: &[&[u8]]) -> Result<(), RowError> {
+        'lines: for line in self.lines.as_slice() {
+            if !marks.iter().any(|mark| line.mark == *mark) {
+                return Err(RowError::Broken("a line with no such mark"));
+            }
+        }
+        Ok(())
+    }
+
+    /// The numbers of the lines with this mark.
+    pub fn numbers(&self, alloc: Global, mark: &[u8]) -> Result<Vec<u64>, RowError> {
+        let mut numbers = Vec::new(alloc);
+        'lines: for line in self.lines.as_slice() {
+            if line.mark == mark {
+                numbers.push(number_of(line.bytes.as_slice())?)?;
+            }
+        }
+        Ok(numbers)
+    }
+
+    /// The number of the first line with this mark, or else `default`.
+    pub fn number(&self, mark: &[u8], default: u64) -> Result<u64, RowError> {
+        'lines: for line in self.lines.as_slice() {
+            if line.mark == mark {
+                return number_of(line.bytes.as_slice());
+            }
+        }
+        Ok(default)
+    }
 }
 
 /// The bytes as a text, where the row has a text there.
@@ -118,6 +154,14 @@ pub fn text_of(bytes: &[u8]) -> Result<&str, RowError> {
 /// The bytes as a number, where the row has a number there.
 pub fn number_of(bytes: &[u8]) -> Result<u64, RowError> {
     match text_of(bytes)?.parse::<u64>() {
+        Ok(number) => Ok(number),
+        Err(_) => Err(RowError::Broken("no number where the row has one")),
+    }
+}
+
+/// The same, where the number may be negative.
+pub fn signed_of(bytes: &[u8]) -> Result<i64, RowError> {
+    match text_of(bytes)?.parse::<i64>() {
         Ok(number) => Ok(number),
         Err(_) => Err(RowError::Broken("no number where the row has one")),
     }

@@ -2,19 +2,23 @@
 //! standard output has a line for each row.
 #![tactic(auto)]
 
+mod answers;
 mod decode_rows;
 mod header_rows;
 mod mail_rows;
 mod part_rows;
-mod table;
 mod value_rows;
 mod word_lines;
 
-use std::io::{self, Read, Write};
+use answers::Reading;
+use rows::run_table;
+use std::io::{self, ErrorKind, Read, Write};
 
 fn main(rt: HostRuntime) -> io::Result<()> {
     let mut table = Vec::new(rt.alloc());
     rt.stdin().read_to_end(&mut table)?;
-    let report = table::run(rt.alloc(), table.as_slice())?;
+    let Ok(report) = run_table(rt.alloc(), &Reading, table.as_slice()) else {
+        return Err(io::Error::from(ErrorKind::OutOfMemory));
+    };
     rt.stdout().write_all(report.as_slice())
 }

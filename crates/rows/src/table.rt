@@ -1,0 +1,49 @@
+//! A table is run row by row; a program that runs rows says what comes of each.
+
+use crate::{Paragraph, Report, Row, RowError, paragraphs, read_row};
+use nm_base::{Many, NoMemory};
+use std::alloc::Global;
+
+/// A program that runs rows.
+pub trait Program {
+    /// What comes of the row.
+    fn answer(&self, alloc: Global, row: &Row<'_>) -> Result<Vec<u8>, RowError>;
+}
+
+/// Runs the rows of the table, and gives the report on them. The lines `=` of a row are what it wants.
+pub fn run_table<P: Program>(
+    alloc: Global,
+    program: &P,
+    table: &[u8],
+) -> Result<Many<u8>, NoMemory> {
+    let rows = paragraphs(alloc, table)?;
+    let mut report = Report::new(alloc);
+    'rows: for paragraph in rows.as_slice() {
+        run_paragraph(alloc, program, paragraph, &mut report)?;
+    }
+    report.finish()
+}
+
+fn run_paragraph<P: Program>(
+    alloc: Global,
+    program: &P,
+    paragraph: &Paragraph<'_>,
+    report: &mut Report,
+) -> Result<(), NoMemory> {
+    match read_row(alloc, paragraph) {
+        Ok(row) => run_row(alloc, program, &row, report),
+        Err(RowError::Broken(why)) => report.broken(paragraph.number, why),
+        Err(RowError::NoMemory) => Err(NoMemory),
+    }
+}
+
+fn run_row<P: Program>(
+    alloc: Global,
+    program: &P,
+    row: &Row<'_>,
+    report: &mut Report,
+) -> Result<(), NoMemory> {
+    let wanted = row.text(alloc, b"=")?;
+    let got = program.answer(alloc, row);
+    report.compare(row.name, row.number, wanted.as_slice(), &got)
+}
