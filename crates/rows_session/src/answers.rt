@@ -1,0 +1,29 @@
+//! What each kind of row asks stands in the modules beside this one.
+
+use crate::{line_rows, machine_rows, reply_rows, session_rows};
+use rows::{Program, Row, RowError};
+use std::alloc::Global;
+
+/// The program that runs the rows on sessions.
+pub struct Sessions;
+
+impl Program for Sessions {
+    fn answer(&self, alloc: Global, row: &Row<'_>) -> Result<Vec<u8>, RowError> {
+        if row.kind == b"session".as_slice() {
+            return session_rows::answer(alloc, row);
+        }
+        if row.kind == b"lines".as_slice() {
+            return line_rows::requests(alloc, row);
+        }
+        if row.kind == b"script".as_slice() {
+            return line_rows::script(alloc, row);
+        }
+        if row.kind == b"reply".as_slice() {
+            return reply_rows::answer(alloc, row);
+        }
+        if row.kind == b"machine".as_slice() {
+            return machine_rows::answer(alloc, row);
+        }
+        Err(RowError::Broken("no such kind of row"))
+    }
+}

@@ -1,0 +1,46 @@
+//! Rows on the machine of commits and replies: which steps it takes, and which it refuses.
+
+use crate::step_rows::step;
+use nm_base::Copies;
+use nm_core::{Core, CoreError};
+use rows::{Lines, Row, RowError};
+use std::alloc::Global;
+
+/// The moment of every step.
+const MOMENT: i64 = 1_700_000_000;
+
+/// What the machine says to each step `|`.
+pub fn answer(alloc: Global, row: &Row<'_>) -> Result<Vec<u8>, RowError> {
+    row.has_only(&[b"lanes", b"|", b"="])?;
+    let mut core = core(alloc, row)?;
+    let mut answers = Lines::new(alloc);
+    'lines: for line in row.lines.as_slice() {
+        if line.mark == b"|".as_slice() {
+            answers.line(run_step(alloc, &mut core, line.bytes.as_slice())?)?;
+        }
+    }
+    Ok(answers.into_bytes())
+}
+
+/// A machine with the lanes of the row, or with one.
+fn core(alloc: Global, row: &Row<'_>) -> Result<Core, RowError> {
+    let lanes = row.number(b"lanes", 1)?;
+    if lanes < 1 || lanes > 16 {
+        return Err(RowError::Broken("there are 1 to 16 lanes"));
+    }
+    Ok(Core::new(alloc, lanes as u32)?)
+}
+
+/// Takes a copy of the step, which has to equal it.
+fn run_step(alloc: Global, core: &mut Core, line: &[u8]) -> Result<&'static [u8], RowError> {
+    let step = step(alloc, line)?;
+    let copied = step.copy()?;
+    if copied != step {
+        return Ok(b"the copy differs");
+    }
+    match core.step(&copied, MOMENT) {
+        Ok(()) => Ok(b"ok"),
+        Err(CoreError::NotNow) => Ok(b"refused"),
+        Err(CoreError::NoMemory) => Err(RowError::NoMemory),
+    }
+}

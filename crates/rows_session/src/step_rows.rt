@@ -1,0 +1,164 @@
+//! Steps of the machine, as rows write them: `begin`, `append`, `show`, `see`, `meet`, and replies.
+
+use crate::values::{id, path, text};
+use nm_base::{
+    CountAsk, Facts, Field, FieldWords, MailPath, Many, Marks, MessageId, NoMemory, Output, Text,
+    Word,
+};
+use nm_commit::{Change, Commit};
+use nm_core::{Request, Step};
+use rows::{RowError, cut, number_of, signed_of};
+use std::alloc::Global;
+
+/// The step that a line has.
+pub fn step(alloc: Global, line: &[u8]) -> Result<Step, RowError> {
+    let (name, rest) = cut(line, b' ');
+    if name == b"begin".as_slice() {
+        return begin(alloc, rest);
+    }
+    if name == b"append".as_slice() {
+        return Ok(Step::Append);
+    }
+    if name == b"show".as_slice() {
+        return Ok(Step::Show);
+    }
+    if name == b"meet".as_slice() {
+        return Ok(Step::Meet);
+    }
+    if name == b"see".as_slice() {
+        return Ok(Step::See { lane: lane(rest)? });
+    }
+    reply(alloc, name, rest)
+}
+
+fn lane(bytes: &[u8]) -> Result<u32, RowError> {
+    match u32::try_from(number_of(bytes)?) {
+        Ok(lane) => Ok(lane),
+        Err(_) => Err(RowError::Broken("no lane where the row has one")),
+    }
+}
+
+/// `begin nothing`, or the changes of a commit, parted by `;`.
+fn begin(alloc: Global, line: &[u8]) -> Result<Step, RowError> {
+    let mut changes = Many::new(alloc);
+    if line != b"nothing".as_slice() {
+        'changes: for part in line.split(|b| *b == b';') {
+            changes.push(change(alloc, part)?)?;
+        }
+    }
+    Ok(Step::Begin {
+        commit: Commit { changes },
+    })
+}
+
+/// `add PATH ID DATE`, `drop PATH`, or `move FROM TO`.
+fn change(alloc: Global, part: &[u8]) -> Result<Change, RowError> {
+    let (name, rest) = cut(part, b' ');
+    if name == b"add".as_slice() {
+        return add(alloc, rest);
+    }
+    if name == b"drop".as_slice() {
+        return Ok(Change::Drop {
+            path: path(alloc, rest)?,
+        });
+    }
+    if name == b"move".as_slice() {
+        return moved(alloc, rest);
+    }
+    Err(RowError::Broken("no such change"))
+}
+
+fn moved(alloc: Global, line: &[u8]) -> Result<Change, RowError> {
+    let (from, to) = cut(line, b' ');
+    let from = path(alloc, from)?;
+    let to = path(alloc, to)?;
+    Ok(Change::Move { from, to })
+}
+
+/// A mail with the subject `red apples`.
+fn add(alloc: Global, line: &[u8]) -> Result<Change, RowError> {
+    let (at, rest) = cut(line, b' ');
+    let (name, date) = cut(rest, b' ');
+    let date = signed_of(date)?;
+    let path = path(alloc, at)?;
+    let id = id(alloc, name)?;
+    Ok(mail(alloc, path, id, date)?)
+}
+
+fn mail(alloc: Global, path: MailPath, id: MessageId, date: i64) -> Result<Change, NoMemory> {
+    let lists = red_apples(alloc)?;
+    let facts = Facts {
+        id,
+        links: Many::new(alloc),
+        date,
+        from: Many::new(alloc),
+        to: Many::new(alloc),
+        subject: Text::new(alloc),
+        lists,
+        types: Many::new(alloc),
+        marks: Marks {
+            attachment: false,
+            signed: false,
+            encrypted: false,
+        },
+    };
+    Ok(Change::Add { path, facts })
+}
+
+fn red_apples(alloc: Global) -> Result<Many<FieldWords>, NoMemory> {
+    let mut words = Many::new(alloc);
+    add_word(alloc, &mut words, "red")?;
+    add_word(alloc, &mut words, "apples")?;
+    let mut lists = Many::new(alloc);
+    lists.push(FieldWords {
+        field: Field::Subject,
+        words,
+    })?;
+    Ok(lists)
+}
+
+fn add_word(alloc: Global, words: &mut Many<Word>, word: &str) -> Result<(), NoMemory> {
+    match Word::new(Text::of(alloc, word)?) {
+        Ok(word) => words.push(word),
+        Err(_) => Ok(()),
+    }
+}
+
+/// `REQUEST LANE QUERY TEXT`: a reply of the lane. A query that is absent is written `-`.
+fn reply(alloc: Global, name: &[u8], line: &[u8]) -> Result<Step, RowError> {
+    let (number, rest) = cut(line, b' ');
+    let (query, reply) = cut(rest, b' ');
+    let lane = lane(number)?;
+    let request = request(alloc, name, query)?;
+    let text = Many::from_slice(alloc, reply)?;
+    Ok(Step::Reply {
+        lane,
+        request,
+        text,
+    })
+}
+
+fn request(alloc: Global, name: &[u8], query: &[u8]) -> Result<Request, RowError> {
+    if name == b"new".as_slice() {
+        return Ok(Request::New);
+    }
+    if name == b"count".as_slice() {
+        return count(alloc, Output::Messages, false, query);
+    }
+    if name == b"count-files".as_slice() {
+        return count(alloc, Output::Files, false, query);
+    }
+    if name == b"count-input".as_slice() {
+        return count(alloc, Output::Messages, true, b"");
+    }
+    Err(RowError::Broken("no such step"))
+}
+
+fn count(alloc: Global, output: Output, batch: bool, query: &[u8]) -> Result<Request, RowError> {
+    Ok(Request::Count(CountAsk {
+        output,
+        exclude: true,
+        batch,
+        query: text(alloc, query)?,
+    }))
+}
