@@ -5,6 +5,3 @@
 mod change;
 
 pub use change::{Change, Commit};
-
-#[cfg(test)]
-mod tests;

@@ -15,6 +15,3 @@ pub use laws::{nothing_falls, only_what_is_shown_is_seen, what_was_met_is_seen};
 pub use machine::{Core, CoreError};
 pub use request::Request;
 pub use step::Step;
-
-#[cfg(test)]
-mod tests;

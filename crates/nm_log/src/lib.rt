@@ -17,6 +17,3 @@ pub use outcome::Outcome;
 pub use print::{print_lines, print_usage};
 pub use replies::{NewReport, line_status, new_reply, usage_text};
 pub use script::{ScriptError, ScriptLine, read_script};
-
-#[cfg(test)]
-mod tests;

@@ -1,5 +1,5 @@
 -- The answer to a line, also where it finds no memory.
-use Rattle.std.proofs.Common.{◌≡◌, ℕ, List, [], Option, OnErr, MatchResult, codes, refl, sym, ap, ◌∙◌, subst}
+use Rattle.std.proofs.Common.{◌≡◌, ℕ, List, [], OnErr, MatchResult, codes, refl, sym, ap, ◌∙◌, subst}
 use Rattle.std.specs.Prelude.{IfOk, Result, Ok, Err}
 use Rattle.nm_base.specs.declared.memory.NoMemory.{NoMemory}
 use Rattle.nm_base.specs.declared.facts.Facts.{Facts}

@@ -12,8 +12,6 @@ mod session;
 mod sets;
 mod steps;
 mod take_in;
-#[cfg(test)]
-mod tests;
 mod top_call;
 
 pub use nm_core::{Request, Step};
