@@ -1,5 +1,5 @@
-//! Bytes on the disk: numbers, texts and lists as bytes, and how they are read again. Numbers are big-endian; a text is
-//! its length in four bytes and then its bytes, a list its count in four bytes and then its items.
+//! Values: numbers, texts and lists as bytes, and how they are read again. Numbers are big-endian; a text is its length in
+//! four bytes and then its bytes, a list its count in four bytes and then its items.
 #![tactic(auto)]
 
 mod format;

@@ -1,0 +1,34 @@
+//! What follows from the definitions. These functions run no code: their clauses are the laws.
+
+ghost use Rattle.std.specs.Prelude.{◌≡◌, ◌≤◌, ◌+◌, ℕ, List, false, length};
+ghost use Rattle.std.specs.BTreeMap.{is_at};
+ghost use Rattle.std.specs.Map.{lookup};
+ghost use Rattle.std.specs.Cmp.Lexicographic.{slice_cmp};
+ghost use Rattle.std.specs.Ordering.{nat_cmp};
+ghost use Rattle.nm_base.specs.Order.{same_text};
+ghost use Rattle.nm_commit.specs.Index.{changed};
+ghost use Rattle.nm_commit.specs.declared.change.Change.{Change};
+ghost use Rattle.nm_commit.specs.declared.change.Commit.{Commit};
+ghost use Rattle.nm_index.specs.Index.{applied, folded, with_tags};
+ghost use Rattle.nm_index.specs.declared.base.Base.{Base};
+
+/// The files after a change are those that the change makes of the files before, whatever threads and tags there are.
+pub fn files_follow_their_changes()
+    ensures { (index : Base) (change : Change) → (applied index change).files ≡ changed index.files change }
+{}
+
+/// The number of the next new id never falls.
+pub fn numbers_never_fall()
+    ensures { (index : Base) (change : Change) → index.next ≤ (applied index change).next }
+{}
+
+/// The revision counts the commits.
+pub fn the_revision_counts_the_commits()
+    ensures { (index : Base) (commits : List Commit) → (folded index commits).revision ≡ index.revision + length commits }
+{}
+
+/// Setting the tags of a message leaves those of every other message.
+pub fn tags_of_others_stay()
+    ensures { (index : Base) (id other : List ℕ) (tags : List (List ℕ)) → same_text other id ≡ false
+        → lookup (is_at (slice_cmp nat_cmp other)) (with_tags index id tags).tags ≡ lookup (is_at (slice_cmp nat_cmp other)) index.tags }
+{}

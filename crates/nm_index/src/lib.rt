@@ -1,0 +1,12 @@
+//! The plain index: the index as data, when that is valid, and what each commit makes of it. The definitions speak of lists
+//! alone; threads and names are worked out from them.
+#![tactic(auto)]
+
+mod base;
+mod laws;
+
+pub use base::Base;
+pub use laws::{
+    files_follow_their_changes, numbers_never_fall, tags_of_others_stay,
+    the_revision_counts_the_commits,
+};
