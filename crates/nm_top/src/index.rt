@@ -5,9 +5,8 @@ ghost use Rattle.nm_base.specs.Order.{has_text, in_order};
 ghost use Rattle.nm_commit.specs.Count.{ids_of};
 ghost use Rattle.nm_commit.specs.Index.{paths_of};
 
-use nm_base::{Copies, Facts, MailPath, Many, MessageId, NoMemory};
+use nm_base::{Copies, Facts, MailPath, Many, MessageId, NoMemory, TextSet};
 use std::alloc::Global;
-use std::collections::BTreeSet;
 
 /// A mail of the index: where it lies, and its facts.
 pub(crate) type Mail = (MailPath, Facts);
@@ -21,10 +20,10 @@ pub(crate) struct PlainIndex {
 }
 
 /// The paths of the files.
-pub(crate) fn path_set(alloc: Global, files: &[Mail]) -> Result<BTreeSet<MailPath>, NoMemory>
-    ensures { IfOk result (λ set. set.keys ≡ in_order (paths_of files.now)) }
+pub(crate) fn path_set(alloc: Global, files: &[Mail]) -> Result<TextSet<MailPath>, NoMemory>
+    ensures { IfOk result (λ set. set ≡ in_order (paths_of files.now)) }
 {
-    let mut paths = BTreeSet::new(alloc);
+    let mut paths = TextSet::new(alloc);
     'files: for file in files {
         paths.insert(file.0.copy()?)?;
     }
@@ -32,10 +31,10 @@ pub(crate) fn path_set(alloc: Global, files: &[Mail]) -> Result<BTreeSet<MailPat
 }
 
 /// The ids of the files.
-pub(crate) fn id_set(alloc: Global, files: &[Mail]) -> Result<BTreeSet<MessageId>, NoMemory>
-    ensures { IfOk result (λ set. set.keys ≡ ids_of files.now) }
+pub(crate) fn id_set(alloc: Global, files: &[Mail]) -> Result<TextSet<MessageId>, NoMemory>
+    ensures { IfOk result (λ set. set ≡ ids_of files.now) }
 {
-    let mut ids = BTreeSet::new(alloc);
+    let mut ids = TextSet::new(alloc);
     'files: for file in files {
         ids.insert(file.1.id.copy()?)?;
     }

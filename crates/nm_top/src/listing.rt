@@ -8,22 +8,21 @@ ghost use Rattle.nm_maildir.specs.Observed.{HasMailCause};
 ghost use Rattle.nm_maildir.specs.Tree.{listing_of};
 ghost use Rattle.nm_top.specs.Reading.{counts, listed_of, paths_in};
 
-use nm_base::{MailPath, NoMemory, Text};
+use nm_base::{MailPath, NoMemory, Text, TextSet};
 use nm_maildir::{MailError, Maildir};
 use std::alloc::Global;
-use std::collections::BTreeSet;
 
 /// The paths of the mail in the folders `new` and `cur`.
 pub(crate) fn list_paths<M: Maildir>(
     alloc: Global,
     mail: &mut M,
-) -> Result<BTreeSet<MailPath>, MailError>
-    ensures listed { IfOk result (λ paths. IfSome (M.observed mail.old).tree (λ t. paths.keys ≡ listed_of t)) }
+) -> Result<TextSet<MailPath>, MailError>
+    ensures listed { IfOk result (λ paths. IfSome (M.observed mail.old).tree (λ t. paths ≡ listed_of t)) }
     ensures tree { (M.observed mail.new).tree ≡ (M.observed mail.old).tree }
     ensures reads { (M.observed mail.new).reads ≡ (M.observed mail.old).reads }
     ensures cause { HasMailCause (M.observed mail.old).faults (M.observed mail.new).faults result }
 {
-    let mut paths = BTreeSet::new(alloc);
+    let mut paths = TextSet::new(alloc);
     add_folder(alloc, mail, "new", &mut paths)?;
     add_folder(alloc, mail, "cur", &mut paths)?;
     Ok(paths)
@@ -33,10 +32,10 @@ fn add_folder<M: Maildir>(
     alloc: Global,
     mail: &mut M,
     folder: &str,
-    paths: &mut BTreeSet<MailPath>,
+    paths: &mut TextSet<MailPath>,
 ) -> Result<(), MailError>
     ensures listed { OnOk result (IfSome (M.observed mail.old).tree (λ t.
-        paths.new.keys ≡ fold (insert_key (slice_cmp nat_cmp)) paths.old.keys (paths_in folder.now (listing_of t folder.now).files))) }
+        paths.new ≡ fold (insert_key (slice_cmp nat_cmp)) paths.old (paths_in folder.now (listing_of t folder.now).files))) }
     ensures tree { (M.observed mail.new).tree ≡ (M.observed mail.old).tree }
     ensures reads { (M.observed mail.new).reads ≡ (M.observed mail.old).reads }
     ensures cause { HasMailCause (M.observed mail.old).faults (M.observed mail.new).faults result }
@@ -51,9 +50,9 @@ fn add_names(
     alloc: Global,
     folder: &str,
     names: &[Text],
-    paths: &mut BTreeSet<MailPath>,
+    paths: &mut TextSet<MailPath>,
 ) -> Result<(), NoMemory>
-    ensures { OnOk result (paths.new.keys ≡ fold (insert_key (slice_cmp nat_cmp)) paths.old.keys (paths_in folder.now names.now)) }
+    ensures { OnOk result (paths.new ≡ fold (insert_key (slice_cmp nat_cmp)) paths.old (paths_in folder.now names.now)) }
 {
     'names: for name in names {
         add_name(alloc, folder, name, paths)?;
@@ -65,9 +64,9 @@ fn add_name(
     alloc: Global,
     folder: &str,
     name: &Text,
-    paths: &mut BTreeSet<MailPath>,
+    paths: &mut TextSet<MailPath>,
 ) -> Result<(), NoMemory>
-    ensures { OnOk result (paths.new.keys ≡ fold (insert_key (slice_cmp nat_cmp)) paths.old.keys (paths_in folder.now (name.now ∷ []))) }
+    ensures { OnOk result (paths.new ≡ fold (insert_key (slice_cmp nat_cmp)) paths.old (paths_in folder.now (name.now ∷ []))) }
 {
     if !is_counted(name.as_bytes()) {
         return Ok(());

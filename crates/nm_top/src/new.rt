@@ -12,14 +12,13 @@ ghost use Rattle.nm_top.specs.Steps.{Gathers, IsNewAnswer, Leaves, most_steps};
 use crate::index::{Mail, PlainIndex, path_set};
 use crate::listing::list_paths;
 use crate::reading::read_all;
-use crate::sets::{all_paths, paths_not_in, rises};
+use crate::sets::paths_not_in;
 use crate::steps::Answered;
 use crate::take_in::{Gathered, take_in};
-use nm_base::{Copies, MailPath, Many, NoMemory};
+use nm_base::{MailPath, Many, NoMemory, TextSet};
 use nm_log::Outcome;
 use nm_maildir::{Given, MailError, Maildir};
 use std::alloc::Global;
-use std::collections::BTreeSet;
 
 /// Takes in what has come and lets go what is gone, and gives the answer.
 pub(crate) fn run_new<M: Maildir>(
@@ -63,7 +62,7 @@ fn gather<M: Maildir>(
 ) -> Result<Gathered, MailError>
     requires { noted.old ≡ [] }
     ensures ok { IfOk result (λ gathered. Gathers (M.observed mail.old) (M.observed mail.new)
-        files.now noted.new gathered.known.keys gathered.listed.keys gathered.arrivals) }
+        files.now noted.new gathered.known gathered.listed gathered.arrivals) }
     ensures asked { AsksNew (M.observed mail.old) (M.observed mail.new) files.now noted.new }
     ensures tree { (M.observed mail.new).tree ≡ (M.observed mail.old).tree }
     ensures cause { HasMailCause (M.observed mail.old).faults (M.observed mail.new).faults result }
@@ -71,7 +70,7 @@ fn gather<M: Maildir>(
     let listed = list_paths(alloc, mail)?;
     note_listed(alloc, &listed, noted)?;
     let known = path_set(alloc, files)?;
-    rises(&known);
+    let _ = known.len();
     let paths = paths_not_in(alloc, &listed, &known)?;
     let arrivals = read_all(alloc, mail, paths, noted)?;
     Ok(Gathered {
@@ -83,14 +82,14 @@ fn gather<M: Maildir>(
 
 fn note_listed(
     alloc: Global,
-    listed: &BTreeSet<MailPath>,
+    listed: &TextSet<MailPath>,
     noted: &mut Many<Given>,
 ) -> Result<(), NoMemory>
-    ensures ok { OnOk result (noted.new ≡ noted.old ++ Given.Listed listed.now.keys ∷ []) }
-    ensures rising { OnOk result (IsRising listed.now.keys) }
+    ensures ok { OnOk result (noted.new ≡ noted.old ++ Given.Listed listed.now ∷ []) }
+    ensures rising { OnOk result (IsRising listed.now) }
     ensures err { OnErr result (noted.new ≡ noted.old) }
 {
-    let paths = all_paths(alloc, listed)?;
+    let paths = listed.to_list(alloc)?;
     noted.push(Given::Listed(paths))?;
     Ok(())
 }

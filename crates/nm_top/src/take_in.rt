@@ -10,20 +10,19 @@ ghost use Rattle.nm_top.specs.Steps.{TakesIn, commits_for, gone_of, is_gone, kep
 
 use crate::index::{Mail, PlainIndex, id_set};
 use crate::lean::lean_mails;
-use crate::sets::{has_path, ids_not_in, paths_missing, paths_not_in};
+use crate::sets::{ids_not_in, paths_missing, paths_not_in};
 use crate::steps::{Answered, new_steps, reply_step};
-use nm_base::{Copies, MailPath, Many, NoMemory, Skip};
+use nm_base::{Copies, MailPath, Many, NoMemory, Skip, TextSet};
 use nm_core::Request;
 use nm_log::{NewReport, Outcome, new_reply};
 use nm_maildir::{Given, ReadAnswer};
 use std::alloc::Global;
-use std::collections::BTreeSet;
 
 /// What `new` has gathered: what is listed, what the index knows, and what has come.
 #[derive(Drop)]
 pub(crate) struct Gathered {
-    pub listed: BTreeSet<MailPath>,
-    pub known: BTreeSet<MailPath>,
+    pub listed: TextSet<MailPath>,
+    pub known: TextSet<MailPath>,
     pub arrivals: Many<Mail>,
 }
 
@@ -35,7 +34,7 @@ pub(crate) fn take_in(
     noted: &[Given],
 ) -> Result<Answered, NoMemory>
     requires { index.old.revision + 2 < 2 ^ 64 }
-    ensures ok { IfOk result (TakesIn gathered.known.keys gathered.listed.keys gathered.arrivals noted.now index.old index.new) }
+    ensures ok { IfOk result (TakesIn gathered.known gathered.listed gathered.arrivals noted.now index.old index.new) }
     ensures few { IfOk result (λ done. length done.steps ≤ most_steps) }
     ensures grows { index.new.revision ≤ index.old.revision + 2 }
     ensures err { OnErr result (index.new ≡ index.old) }
@@ -81,8 +80,8 @@ fn change(
     noted: &[Given],
 ) -> Result<Answered, NoMemory>
     requires room { index.old.revision + 2 < 2 ^ 64 }
-    requires gone { gone ≡ gone_of gathered.known.keys gathered.listed.keys }
-    ensures ok { IfOk result (TakesIn gathered.known.keys gathered.listed.keys gathered.arrivals noted.now index.old index.new) }
+    requires gone { gone ≡ gone_of gathered.known gathered.listed }
+    ensures ok { IfOk result (TakesIn gathered.known gathered.listed gathered.arrivals noted.now index.old index.new) }
     ensures few { IfOk result (λ done. length done.steps ≤ most_steps) }
     ensures grows { index.new.revision ≤ index.old.revision + 2 }
     ensures err { OnErr result (index.new ≡ index.old) }
@@ -116,7 +115,7 @@ fn commit_count(changes: usize) -> u64
 }
 
 fn files_after(alloc: Global, files: &[Mail], gathered: &Gathered) -> Result<Many<Mail>, NoMemory>
-    ensures { IfOk result (λ after. after ≡ kept gathered.now.known.keys gathered.now.listed.keys (files.now ++ map lean gathered.now.arrivals)) }
+    ensures { IfOk result (λ after. after ≡ kept gathered.now.known gathered.now.listed (files.now ++ map lean gathered.now.arrivals)) }
 {
     let mut after = Many::new(alloc);
     add_kept(&mut after, files, &gathered.known, &gathered.listed)?;
@@ -133,10 +132,10 @@ fn files_after(alloc: Global, files: &[Mail], gathered: &Gathered) -> Result<Man
 fn add_kept(
     after: &mut Many<Mail>,
     files: &[Mail],
-    known: &BTreeSet<MailPath>,
-    listed: &BTreeSet<MailPath>,
+    known: &TextSet<MailPath>,
+    listed: &TextSet<MailPath>,
 ) -> Result<(), NoMemory>
-    ensures { OnOk result (after.new ≡ after.old ++ kept known.now.keys listed.now.keys files.now) }
+    ensures { OnOk result (after.new ≡ after.old ++ kept known.now listed.now files.now) }
 {
     'files: for file in files {
         add_if_kept(after, file, known, listed)?;
@@ -147,10 +146,10 @@ fn add_kept(
 fn add_if_kept(
     after: &mut Many<Mail>,
     file: &Mail,
-    known: &BTreeSet<MailPath>,
-    listed: &BTreeSet<MailPath>,
+    known: &TextSet<MailPath>,
+    listed: &TextSet<MailPath>,
 ) -> Result<(), NoMemory>
-    ensures { OnOk result (after.new ≡ after.old ++ kept known.now.keys listed.now.keys (file.now ∷ [])) }
+    ensures { OnOk result (after.new ≡ after.old ++ kept known.now listed.now (file.now ∷ [])) }
 {
     if !went(&file.0, known, listed) {
         let copied = file.copy()?;
@@ -159,10 +158,10 @@ fn add_if_kept(
     Ok(())
 }
 
-fn went(path: &MailPath, known: &BTreeSet<MailPath>, listed: &BTreeSet<MailPath>) -> bool
-    ensures { result ≡ is_gone known.now.keys listed.now.keys path.now }
+fn went(path: &MailPath, known: &TextSet<MailPath>, listed: &TextSet<MailPath>) -> bool
+    ensures { result ≡ is_gone known.now listed.now path.now }
 {
-    has_path(known, path) && !has_path(listed, path)
+    known.contains(path) && !listed.contains(path)
 }
 
 fn make_report(
@@ -172,7 +171,7 @@ fn make_report(
     gathered: &Gathered,
     noted: &[Given],
 ) -> Result<NewReport, NoMemory>
-    ensures { IfOk result (λ report. report ≡ report_with gathered.now.known.keys gathered.now.listed.keys before.now after.now gathered.now.arrivals noted.now) }
+    ensures { IfOk result (λ report. report ≡ report_with gathered.now.known gathered.now.listed before.now after.now gathered.now.arrivals noted.now) }
 {
     let old_ids = id_set(alloc, before)?;
     let new_ids = id_set(alloc, after)?;

@@ -3,4 +3,4 @@ use Rattle.nm_commit.specs.Count.{ids_of}
 use Rattle.nm_top.proofs.index.id_set.Given as goal
 
 abbrev pub invariant-files : goal.invariant-files
-invariant-files l = l.ids.keys ≡ ids_of (take l.file-index l.files)
+invariant-files l = l.ids ≡ ids_of (take l.file-index l.files)

@@ -4,4 +4,4 @@ use Rattle.nm_commit.specs.Index.{paths_of}
 use Rattle.nm_top.proofs.index.path_set.Given as goal
 
 abbrev pub invariant-files : goal.invariant-files
-invariant-files l = l.paths.keys ≡ in_order (paths_of (take l.file-index l.files))
+invariant-files l = l.paths ≡ in_order (paths_of (take l.file-index l.files))

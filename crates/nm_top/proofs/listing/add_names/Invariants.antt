@@ -6,4 +6,4 @@ use Rattle.nm_top.specs.Reading.{paths_in}
 use Rattle.nm_top.proofs.listing.add_names.Given as goal
 
 abbrev pub invariant-names : goal.invariant-names
-invariant-names l = l.paths.keys ≡ fold (insert_key (slice_cmp nat_cmp)) l.initial.paths.keys (paths_in l.folder (take l.name-index l.names))
+invariant-names l = l.paths ≡ fold (insert_key (slice_cmp nat_cmp)) l.initial.paths (paths_in l.folder (take l.name-index l.names))

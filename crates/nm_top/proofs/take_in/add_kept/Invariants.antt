@@ -3,4 +3,4 @@ use Rattle.nm_top.specs.Steps.{kept}
 use Rattle.nm_top.proofs.take_in.add_kept.Given as goal
 
 abbrev pub invariant-files : goal.invariant-files
-invariant-files l = l.after ≡ l.initial.after ++ kept l.known.keys l.listed.keys (take l.file-index l.files)
+invariant-files l = l.after ≡ l.initial.after ++ kept l.known l.listed (take l.file-index l.files)

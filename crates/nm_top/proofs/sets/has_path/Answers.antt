@@ -1,6 +1,0 @@
-use Rattle.std.proofs.Common.{◌∙◌}
-use Rattle.nm_top.proofs.SetLemmas.{contains-has_text}
-use Rattle.nm_top.proofs.sets.has_path.Goals as goal
-
-pub returns : goal.returns
-returns c = c.contains.ensures ∙ contains-has_text c.args.set.now.keys c.args.path.now
