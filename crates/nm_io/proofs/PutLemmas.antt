@@ -1,8 +1,8 @@
 -- What a writer holds after the pieces of a text, one after the other.
 use Rattle.std.proofs.Common.{◌≡◌, ℕ, ◌+◌, ◌-◌, List, Option, length, take, drop, sym, ap, subst, arith, length-drop, take_all}
-use Rattle.std.proofs.KnownBytes.{Appends-trans, Appends-kept}
+use Rattle.std.proofs.KnownBytes.{Appends-trans}
 use Rattle.std.proofs.Math.Seq.{take-add}
-use Rattle.std.specs.Io.KnownBytes.{Appends, Keeps}
+use Rattle.std.specs.Io.KnownBytes.{Appends}
 
 -- a slice from `at` on is the list without its first `at`
 rest_is : (xs : List ℕ) (at : ℕ) → take (length xs - at) (drop at xs) ≡ drop at xs
@@ -14,7 +14,3 @@ pub puts_more : (a b c : Option (List ℕ)) (xs : List ℕ) (at n : ℕ) → App
 puts_more a b c xs at n p q =
     let piece : take n (take (length xs - at) (drop at xs)) ≡ take n (drop at xs) = ap (take n) (rest_is xs at) in
     subst (Appends a c) (sym (take-add at n xs)) (Appends-trans a b c (take at xs) (take n (drop at xs)) p (subst (Appends b c) piece q))
-
--- all bytes are there, and a flush that failed left them
-pub puts_all : (a b c : Option (List ℕ)) (xs : List ℕ) → Appends a b xs → Keeps b c → (n : ℕ) × Appends a c (take n xs)
-puts_all a b c xs p q = (length xs, subst (Appends a c) (sym (take_all _ _ (omega arith))) (Appends-kept a b c xs p q))

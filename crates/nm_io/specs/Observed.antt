@@ -1,7 +1,7 @@
 -- What is observed of a source or a sink at a moment, and what a call makes of it.
 use Rattle.std.specs.Prelude.{ℕ, List, Option, Result, MatchResult, take}
 use Rattle.std.specs.Io.{ReadsAtMost}
-use Rattle.std.specs.Io.KnownBytes.{Appends, ReadConsumes}
+use Rattle.std.specs.Io.KnownBytes.{Appends, Keeps, ReadConsumes}
 use Rattle.nm_base.specs.declared.memory.Failed.{Failed}
 use Rattle.nm_faults.specs.Faults.{HasCause}
 
@@ -24,4 +24,9 @@ PutAppends old new result bytes =
 -- A sink took the bytes, or failed.
 pub record Puts {T : Type 0} (old new : ObservedStream) (result : Result T Failed) (piece : List ℕ) : Type 0 where
   pub bytes : PutAppends old.bytes new.bytes result piece
+  pub cause : HasCause old.faults new.faults result
+
+-- A sink handed on what it kept back, or failed; in both cases it has the bytes that it had.
+pub record Flushes {T : Type 0} (old new : ObservedStream) (result : Result T Failed) : Type 0 where
+  pub bytes : Keeps old.bytes new.bytes
   pub cause : HasCause old.faults new.faults result

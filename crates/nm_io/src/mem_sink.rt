@@ -1,10 +1,10 @@
 //! A sink in memory, which tells what it took; rows and tests read it.
 
-ghost use Rattle.std.specs.Prelude.{◌≡◌, [], ◌&&◌, not, is_err, IsErr, IsTrue, OnErr, if◌then◌else◌};
+ghost use Rattle.std.specs.Prelude.{◌≡◌, [], ◌&&◌, not, is_err, IsErr, IsOk, IsTrue, OnErr, if◌then◌else◌};
 ghost use Rattle.nm_faults.specs.Calls.{counted, is_next_listed};
 ghost use Rattle.nm_faults.specs.Faults.{one_more};
 ghost use Rattle.nm_io.specs.Memory.{observed_sink};
-ghost use Rattle.nm_io.specs.Observed.{Puts};
+ghost use Rattle.nm_io.specs.Observed.{Flushes, Puts};
 
 use crate::Sink;
 use nm_base::{Failed, Many};
@@ -75,6 +75,15 @@ impl Sink for MemSink {
             self.wanted.add();
             return Err(Failed);
         }
+        Ok(())
+    }
+
+    /// It keeps nothing back, so this is no call that is counted, and never fails.
+    fn flush(&mut self) -> Result<(), Failed>
+        ensures flush { Flushes (observed_sink self.old) (observed_sink self.new) result }
+        ensures ok { IsOk result }
+        ensures same { self.new ≡ self.old }
+    {
         Ok(())
     }
 }

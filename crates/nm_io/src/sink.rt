@@ -1,6 +1,6 @@
 //! What every output is to the code above: bytes go in, failures are counted.
 
-ghost use Rattle.nm_io.specs.Observed.{ObservedStream, Puts};
+ghost use Rattle.nm_io.specs.Observed.{Flushes, ObservedStream, Puts};
 
 use nm_base::Failed;
 
@@ -12,4 +12,8 @@ pub trait Sink {
     /// Appends the bytes. After `Failed` it has appended the first of them, perhaps none.
     fn put(&mut self, bytes: &[u8]) -> Result<(), Failed>
         ensures { Puts (observed self.old) (observed self.new) result bytes.now };
+
+    /// Hands on what was put, where the sink kept some of it back.
+    fn flush(&mut self) -> Result<(), Failed>
+        ensures { Flushes (observed self.old) (observed self.new) result };
 }

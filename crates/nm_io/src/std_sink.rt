@@ -10,7 +10,7 @@ use nm_faults::Faults;
 use std::io::{ErrorKind, Write};
 use std::marker::Model;
 
-/// A sink over a writer of std, flushed after each put: it tells the bytes that the writer tells.
+/// A sink over a writer of std: it tells the bytes that the writer tells.
 /// A write that takes no byte of a piece that has some is a fault.
 #[derive(Drop)]
 pub struct StdSink<W: Write> {
@@ -52,7 +52,7 @@ impl<W: Write> Sink for StdSink<W> {
     ghost observed = { λ s. record { bytes = W.contents s.0; faults = s.1 } };
 
     fn put(&mut self, bytes: &[u8]) -> Result<(), Failed> {
-        match write_flushed(&mut self.writer, bytes) {
+        match write_whole(&mut self.writer, bytes) {
             Ok(()) => Ok(()),
             Err(Failed) => {
                 self.faults.add();
@@ -60,16 +60,16 @@ impl<W: Write> Sink for StdSink<W> {
             }
         }
     }
-}
 
-fn write_flushed<W: Write>(writer: &mut W, bytes: &[u8]) -> Result<(), Failed>
-    ensures { PutAppends (W.contents writer.old) (W.contents writer.new) result bytes.now }
-{
-    write_whole(writer, bytes)?;
-    if writer.flush().is_err() {
-        return Err(Failed);
+    fn flush(&mut self) -> Result<(), Failed> {
+        match self.writer.flush() {
+            Ok(()) => Ok(()),
+            Err(_) => {
+                self.faults.add();
+                Err(Failed)
+            }
+        }
     }
-    Ok(())
 }
 
 fn write_whole<W: Write>(writer: &mut W, bytes: &[u8]) -> Result<(), Failed>

@@ -76,7 +76,8 @@ fn an_interrupted_write_is_made_again_and_another_error_is_a_fault(rt: HostRunti
         flushed: false,
     });
     assert_eq!(rt; sink.put(b"ab"), Ok(()));
-    assert_eq!(rt; sink.put(b""), Err(Failed), "the flush fails");
+    assert_eq!(rt; sink.flush(), Ok(()));
+    assert_eq!(rt; sink.flush(), Err(Failed), "the second flush");
     assert_eq!(rt; sink.put(b"cd"), Err(Failed), "the fourth byte");
     assert_eq!(rt; sink.into_inner().held, [0, b'a', b'b', b'c']);
 }

@@ -3,8 +3,8 @@ use Rattle.std.proofs.Common.{◌≡◌, ℕ, ◌+◌, List, ◌++◌, Option, R
 use Rattle.std.proofs.Math.Seq.{take-append-add}
 use Rattle.std.proofs.lemmas.List.{take-append-le, take_all}
 use Rattle.std.proofs.lemmas.Bool.{cases_lt, false≢true}
-use Rattle.std.specs.Io.KnownBytes.{Appends}
-use Rattle.std.proofs.KnownBytes.{Appends-trans}
+use Rattle.std.specs.Io.KnownBytes.{Appends, Keeps}
+use Rattle.std.proofs.KnownBytes.{Appends-kept, Appends-trans}
 use Rattle.nm_io.specs.Observed.{PutAppends}
 
 -- taking more than there is takes all
@@ -25,4 +25,9 @@ pub PutAppends-then : {T E : Type 0} (a b c : Option (List ℕ)) (r : Result T E
 PutAppends-then a b c (Ok x) xs ys h k = Appends-trans a b c xs ys h k
 PutAppends-then a b c (Err e) xs ys h k = (length xs + k.0, subst (Appends a c) (sym (take-append-add xs ys k.0)) (Appends-trans a b c xs (take k.0 ys) h k.1))
 
-pub ruleset puts = (PutAppends-first, PutAppends-then)
+-- what was put is there after a flush, however that ends
+pub PutAppends-flushed : {T E : Type 0} (a b c : Option (List ℕ)) (r : Result T E) (xs : List ℕ) → Appends a b xs → Keeps b c → PutAppends a c r xs
+PutAppends-flushed a b c (Ok x) xs h k = Appends-kept a b c xs h k
+PutAppends-flushed a b c (Err e) xs h k = (length xs, subst (Appends a c) (sym (take_all (length xs) xs (omega arith))) (Appends-kept a b c xs h k))
+
+pub ruleset puts = (PutAppends-first, PutAppends-then, PutAppends-flushed)

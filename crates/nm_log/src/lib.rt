@@ -14,6 +14,6 @@ mod words;
 pub use ask::{Asked, read_ask};
 pub use log::{Done, LineLog, SessionLog, Setting};
 pub use outcome::Outcome;
-pub use print::{print_lines, print_usage};
+pub use print::{print_lines, print_text, print_usage};
 pub use replies::{NewReport, line_status, new_reply, usage_text};
 pub use script::{ScriptError, ScriptLine, read_script};

@@ -11,8 +11,17 @@ use crate::replies::printed_kind;
 use nm_base::{Failed, UsageKind};
 use nm_io::Sink;
 
-/// Prints the replies of all lines. It takes no memory.
+/// Prints the replies of all lines, and flushes once. It takes no memory.
+#[tactic(auto, using(crate::proofs::Puts::puts))]
 pub fn print_lines<O: Sink>(out: &mut O, lines: &[LineLog]) -> Result<(), Failed>
+    ensures bytes { PutAppends (O.observed out.old).bytes (O.observed out.new).bytes result (printed lines.now) }
+    ensures cause { HasCause (O.observed out.old).faults (O.observed out.new).faults result }
+{
+    put_lines(out, lines)?;
+    out.flush()
+}
+
+fn put_lines<O: Sink>(out: &mut O, lines: &[LineLog]) -> Result<(), Failed>
     ensures bytes { PutAppends (O.observed out.old).bytes (O.observed out.new).bytes result (printed lines.now) }
     ensures cause { HasCause (O.observed out.old).faults (O.observed out.new).faults result }
 {
@@ -31,8 +40,27 @@ fn print_line<O: Sink>(out: &mut O, log: &LineLog) -> Result<(), Failed>
     put_two(out, header.as_str().as_bytes(), log.text.as_slice())
 }
 
-/// Prints the line that refuses words. It takes no memory.
+/// Prints a text, and flushes. It takes no memory.
+#[tactic(auto, using(crate::proofs::Puts::puts))]
+pub fn print_text<E: Sink>(err: &mut E, text: &[u8]) -> Result<(), Failed>
+    ensures bytes { PutAppends (E.observed err.old).bytes (E.observed err.new).bytes result text.now }
+    ensures cause { HasCause (E.observed err.old).faults (E.observed err.new).faults result }
+{
+    err.put(text)?;
+    err.flush()
+}
+
+/// Prints the line that refuses words, and flushes. It takes no memory.
+#[tactic(auto, using(crate::proofs::Puts::puts))]
 pub fn print_usage<E: Sink>(err: &mut E, kind: UsageKind, word: &str) -> Result<(), Failed>
+    ensures bytes { PutAppends (E.observed err.old).bytes (E.observed err.new).bytes result (usage_line kind word.now) }
+    ensures cause { HasCause (E.observed err.old).faults (E.observed err.new).faults result }
+{
+    put_usage(err, kind, word)?;
+    err.flush()
+}
+
+fn put_usage<E: Sink>(err: &mut E, kind: UsageKind, word: &str) -> Result<(), Failed>
     ensures bytes { PutAppends (E.observed err.old).bytes (E.observed err.new).bytes result (usage_line kind word.now) }
     ensures cause { HasCause (E.observed err.old).faults (E.observed err.new).faults result }
 {

@@ -6,7 +6,7 @@ ghost use Rattle.nm_top.specs.Session.{Gains, Says, has_mail_fault, has_no_memor
 
 use nm_base::{Many, UsageKind};
 use nm_io::Sink;
-use nm_log::{Done, LineLog, Outcome, SessionLog, print_lines, print_usage};
+use nm_log::{Done, LineLog, Outcome, SessionLog, print_lines, print_text, print_usage};
 use std::alloc::Global;
 
 /// Prints the replies, and says whether that failed.
@@ -20,7 +20,7 @@ pub(crate) fn print_all<O: Sink>(out: &mut O, logs: &[LineLog]) -> bool
 fn say<E: Sink>(err: &mut E, line: &[u8])
     ensures { Says (Some line.now) (E.observed err.old) (E.observed err.new) }
 {
-    let _ = err.put(line);
+    let _ = print_text(err, line);
 }
 
 /// What a session says in the end besides its replies.

@@ -5,15 +5,16 @@ ghost use Rattle.std.specs.Prelude.{pos, ◌≤ℤ◌};
 
 use nm_base::{Many, NoMemory, Text, UsageKind};
 use nm_io::{Sink, StdSink, StdSource};
-use nm_log::print_usage;
+use nm_log::{print_text, print_usage};
 use nm_maildir::FolderMail;
 use nm_top::{Setting, notmuch};
 use std::alloc::Global;
+use std::io::{self, BufWriter};
 use std::process::ExitCode;
 use std::random::RandomSource;
 use std::rt::{Clock, Env};
 use std::time::SystemTime;
-use std::{env, io, mem};
+use std::{env, mem};
 
 /// How many threads read mail.
 const WORKERS: u32 = 4;
@@ -51,7 +52,10 @@ fn main(rt: HostRuntime) -> ExitCode {
         workers: WORKERS,
     };
     let mut input = StdSource::new(rt.stdin());
-    let mut out = StdSink::new(rt.stdout());
+    let Ok(writer) = BufWriter::new(alloc, rt.stdout()) else {
+        return refuse(&mut err, &WordsFault::NoMemory);
+    };
+    let mut out = StdSink::new(writer);
     let mut mail = FolderMail::new(rt, root);
     let done = notmuch(
         alloc,
@@ -76,7 +80,7 @@ fn refuse<E: Sink>(err: &mut E, fault: &WordsFault) -> ExitCode {
             ExitCode::from(2)
         }
         WordsFault::NoMemory => {
-            let _ = err.put(b"notmuch: no memory\n");
+            let _ = print_text(err, b"notmuch: no memory\n");
             ExitCode::from(7)
         }
     }

@@ -1,6 +1,6 @@
 use Rattle.std.proofs.Common.{codes, ◌++◌, List, ℕ, subst, ◌∙◌}
 use Rattle.nm_io.specs.Observed.{PutAppends}
-use Rattle.nm_log.proofs.print.print_usage.Goals as goal
+use Rattle.nm_log.proofs.print.put_usage.Goals as goal
 
 pub returns-clause-bytes : goal.returns-clause-bytes
 returns-clause-bytes g c =

@@ -1,5 +1,5 @@
 use Rattle.nm_log.proofs.Printed.{line_fails}
-use Rattle.nm_log.proofs.print.print_lines.Goals as goal
+use Rattle.nm_log.proofs.print.put_lines.Goals as goal
 
 pub returns-in_err-print_line-clause-bytes : goal.returns-in_err-print_line-clause-bytes
 returns-in_err-print_line-clause-bytes g c =

@@ -1,7 +1,7 @@
 use Rattle.std.proofs.Common.{◌≡◌, take}
 use Rattle.std.specs.Io.KnownBytes.{Appends}
 use Rattle.nm_log.specs.Replies.{printed}
-use Rattle.nm_log.proofs.print.print_lines.Given as goal
+use Rattle.nm_log.proofs.print.put_lines.Given as goal
 
 -- the lines so far are printed, and nothing failed
 abbrev pub invariant-lines : goal.invariant-lines
