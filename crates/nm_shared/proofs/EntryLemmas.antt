@@ -1,10 +1,10 @@
 -- What an insertion, a removal and a look-up do to pairs in order, cut at the place of their key.
-use Rattle.std.proofs.Common.{◌≡◌, ◌≢◌, refl, ap, ◌∙◌, Bool, true, false, List, [], ◌∷◌, ◌++◌}
-use Rattle.std.specs.Prelude.{Some, None}
+use Rattle.std.proofs.Common.{◌≡◌, ◌≢◌, refl, sym, ap, ◌∙◌, cond, true≢false, Bool, true, false, List, [], ◌∷◌, ◌++◌}
+use Rattle.std.specs.Prelude.{Option, Some, None}
 use Rattle.std.specs.declared.cmp.Ordering.{Ordering}
 use Rattle.std.specs.declared.cmp.Ordering.TheVariants.{Less, Equal, Greater}
-use Rattle.std.specs.Ordering.{ordering_reverse}
-use Rattle.std.specs.Cmp.{IsTotalOrder}
+use Rattle.std.specs.Ordering.{ordering_reverse, is_eq}
+use Rattle.std.specs.Cmp.{IsTotalOrder, Equal-is}
 use Rattle.std.specs.List.{AllByRecursion}
 use Rattle.std.specs.List.Sorted.{IsStrictlySortedBy}
 use Rattle.std.specs.Map.{keys_of, lookup, remove_entry}
@@ -168,3 +168,65 @@ module _ {K V : Type 0} {cmp : K → K → Ordering} (order : IsTotalOrder cmp) 
 pub sorted_none : {K : Type 0} (V : Type 0) (cmp : K → K → Ordering) → IsStrictlySortedBy cmp (keys_of {K = K} {X = V} [])
 unfolding IsStrictlySortedBy
 sorted_none V cmp = tt
+
+-- ---- what is found after a change
+
+equal_from : (answer : Ordering) → is_eq answer ≡ true → answer ≡ Equal
+equal_from answer is = (Equal-is answer).0 is
+
+none_either : {V : Type 0} (test : Bool) → ◌≡◌ {A = Option V} None (cond test None None)
+none_either true = refl
+none_either false = refl
+
+module _ {K : Type 0} {cmp : K → K → Ordering} (order : IsTotalOrder cmp) (key other : K) where
+  -- keys that compare alike compare alike to others
+  alike_left : (e : K) → cmp key e ≡ Equal → cmp other key ≡ cmp other e
+  alike_left e is = order.antisymm other key ∙ ap ordering_reverse (order.congr key e other is) ∙ sym (order.antisymm other e)
+
+  -- what stands at an entry below the key is not the key
+  apart_by : (e : K) (answer : Ordering) → cmp other e ≡ Equal → cmp key e ≡ Greater → cmp other key ≡ answer → is_eq answer ≡ false
+  apart_by e Less at greater is = refl
+  apart_by e Equal at greater is = absurd (cc (order.congr other key e is))
+  apart_by e Greater at greater is = refl
+
+  -- what stands at an entry that is not the key, is not the key
+  not_by : (e : K) → cmp other e ≡ Equal → is_eq (cmp key e) ≡ false → (answer : Bool) → is_eq (cmp other key) ≡ answer → answer ≡ false
+  not_by e at not true is = absurd (true≢false (sym ((Equal-is (cmp key e)).1 (sym (order.congr other key e (equal_from (cmp other key) is)) ∙ at)) ∙ not))
+  not_by e at not false is = refl
+
+module _ {K V : Type 0} {cmp : K → K → Ordering} (order : IsTotalOrder cmp) (key other : K) where
+  insert_by : (e : K × V) (es : List (K × V)) (value : V) (answer : Ordering) → cmp key e.0 ≡ answer → (at_e : Bool) → is_eq (cmp other e.0) ≡ at_e → (at_key : Bool) → is_eq (cmp other key) ≡ at_key
+      → lookup (is_at (cmp other)) (insert_entry cmp es key value) ≡ cond at_key (Some value) (lookup (is_at (cmp other)) es)
+      → lookup (is_at (cmp other)) (insert_entry cmp (e ∷ es) key value) ≡ cond at_key (Some value) (cond at_e (Some e.1) (lookup (is_at (cmp other)) es))
+  insert_by e es value Less is at_e e_is at_key key_is more = rw (is, key_is, e_is) refl
+  insert_by e es value Equal is true e_is at_key key_is more =
+      let same : at_key ≡ true = sym key_is ∙ ap is_eq (alike_left order key other e.0 is) ∙ e_is in rw (is, e_is, same) refl
+  insert_by e es value Equal is false e_is at_key key_is more =
+      let same : at_key ≡ false = sym key_is ∙ ap is_eq (alike_left order key other e.0 is) ∙ e_is in rw (is, e_is, same) refl
+  insert_by e es value Greater is true e_is at_key key_is more =
+      let apart : at_key ≡ false = sym key_is ∙ apart_by order key other e.0 (cmp other key) (equal_from (cmp other e.0) e_is) is refl in rw (is, e_is, apart) refl
+  insert_by e es value Greater is false e_is at_key key_is more = rw (is, e_is) more
+
+  -- after an insertion the key has the value, and others have what they had
+  pub lookup_inserted : (es : List (K × V)) (value : V) → lookup (is_at (cmp other)) (insert_entry cmp es key value) ≡ cond (is_eq (cmp other key)) (Some value) (lookup (is_at (cmp other)) es)
+  lookup_inserted [] value = refl
+  lookup_inserted (e ∷ es) value = insert_by e es value (cmp key e.0) refl (is_eq (cmp other e.0)) refl (is_eq (cmp other key)) refl (lookup_inserted es value)
+
+  remove_by : (e : K × V) (es : List (K × V)) → AllByRecursion (λ y. cmp e.0 y ≡ Less) (keys_of es) → (found : Bool) → is_eq (cmp key e.0) ≡ found → (at_e : Bool) → is_eq (cmp other e.0) ≡ at_e → (at_key : Bool) → is_eq (cmp other key) ≡ at_key
+      → lookup (is_at (cmp other)) (remove_entry (is_at (cmp key)) es) ≡ cond at_key None (lookup (is_at (cmp other)) es)
+      → lookup (is_at (cmp other)) (cond found es (e ∷ remove_entry (is_at (cmp key)) es)) ≡ cond at_key None (cond at_e (Some e.1) (lookup (is_at (cmp other)) es))
+  remove_by e es all true is true e_is at_key key_is more =
+      let same : at_key ≡ true = sym key_is ∙ ap is_eq (alike_left order key other e.0 (equal_from (cmp key e.0) is)) ∙ e_is in
+      lookup-above cmp other es (equal_all order other e.0 es all (equal_from (cmp other e.0) e_is)) ∙ ap (λ test. cond test None (Some e.1)) (sym same)
+  remove_by e es all true is false e_is at_key key_is more =
+      let same : at_key ≡ false = sym key_is ∙ ap is_eq (alike_left order key other e.0 (equal_from (cmp key e.0) is)) ∙ e_is in ap (λ test. cond test None (lookup (is_at (cmp other)) es)) (sym same)
+  remove_by e es all false is true e_is at_key key_is more =
+      let apart : at_key ≡ false = not_by order key other e.0 (equal_from (cmp other e.0) e_is) is at_key key_is in
+      ap (λ test. cond test (Some e.1) (lookup (is_at (cmp other)) (remove_entry (is_at (cmp key)) es))) e_is ∙ ap (λ test. cond test None (Some e.1)) (sym apart)
+  remove_by e es all false is false e_is at_key key_is more = ap (λ test. cond test (Some e.1) (lookup (is_at (cmp other)) (remove_entry (is_at (cmp key)) es))) e_is ∙ more
+
+  -- after a removal the key has nothing, and others have what they had
+  pub lookup_removed : (es : List (K × V)) → IsStrictlySortedBy cmp (keys_of es) → lookup (is_at (cmp other)) (remove_entry (is_at (cmp key)) es) ≡ cond (is_eq (cmp other key)) None (lookup (is_at (cmp other)) es)
+  unfolding IsStrictlySortedBy
+  lookup_removed [] sorted = none_either (is_eq (cmp other key))
+  lookup_removed (e ∷ es) sorted = remove_by e es sorted.0 (is_eq (cmp key e.0)) refl (is_eq (cmp other e.0)) refl (is_eq (cmp other key)) refl (lookup_removed es sorted.1)

@@ -1,11 +1,12 @@
 //! An ordered map that snapshots share.
 
-ghost use Rattle.std.specs.Prelude.{◌≡◌, ◌==◌, ◌-◌, [], length, slice_get, IfOk, OnOk, OnErr};
+ghost use Rattle.std.specs.Prelude.{◌≡◌, ◌==◌, ◌-◌, [], length, slice_get, IfOk, OnOk, OnErr, Some, None, if◌then◌else◌};
 ghost use Rattle.std.specs.BTreeMap.{insert_entry, is_at};
 ghost use Rattle.std.specs.BTreeMap.Range.{entries_from};
 ghost use Rattle.std.specs.List.Sorted.{IsStrictlySortedBy};
 ghost use Rattle.std.specs.Map.{keys_of, lookup, remove_entry};
 ghost use Rattle.std.specs.Option.{option_copied};
+ghost use Rattle.std.specs.Ordering.{is_eq};
 
 use crate::Items;
 use crate::run::Run;
@@ -95,7 +96,8 @@ impl<K: Ord, V> SharedMap<K, V> {
 
     /// The pairs whose keys are not below `key`, in order.
     pub fn iter_from(&self, key: &K) -> Items<'_, (K, V)>
-        ensures { result ≡ entries_from (K.cmp key.now) self.now }
+        ensures rest { result ≡ entries_from (K.cmp key.now) self.now }
+        ensures sorted { IsStrictlySortedBy K.cmp (keys_of self.now) }
     {
         let spot = spot_of(self.runs.as_slice(), key);
         let Some(run) = self.runs.get(spot.run) else {
@@ -124,18 +126,22 @@ impl<K: Ord + Copies, V: Copies> SharedMap<K, V> {
     /// Puts `value` beside `key`. A key that is there already stays, and takes the value.
     pub fn insert(&mut self, key: K, value: V) -> Result<(), NoMemory>
         ensures ok { OnOk result (self.new ≡ insert_entry K.cmp self.old key value) }
+        ensures found { OnOk result ((other : K) → lookup (is_at (K.cmp other)) self.new ≡ (if is_eq (K.cmp other key) then Some value else lookup (is_at (K.cmp other)) self.old)) }
         ensures err { OnErr result (self.new ≡ self.old) }
     {
         self.make_room(&key);
-        self.put(key, value)
+        self.put(key, value)?;
+        Ok(())
     }
 
     pub fn remove(&mut self, key: &K) -> Result<(), NoMemory>
         ensures ok { OnOk result (self.new ≡ remove_entry (is_at (K.cmp key.now)) self.old) }
+        ensures found { OnOk result ((other : K) → lookup (is_at (K.cmp other)) self.new ≡ (if is_eq (K.cmp other key.now) then None else lookup (is_at (K.cmp other)) self.old)) }
         ensures err { OnErr result (self.new ≡ self.old) }
     {
+        let run = run_of(self.runs.as_slice(), key).saturating_sub(1);
         self.take_out(key)?;
-        self.join_small(key);
+        self.join_beside(run);
         Ok(())
     }
 
@@ -188,11 +194,10 @@ impl<K: Ord + Copies, V: Copies> SharedMap<K, V> {
         Ok(())
     }
 
-    /// Joins small runs where `key` stood. Without memory for it they stay.
-    fn join_small(&mut self, key: &K)
+    /// Joins small runs beside this one. Without memory for it they stay.
+    fn join_beside(&mut self, run: usize)
         ensures { self.new ≡ self.old }
     {
-        let run = run_of(self.runs.as_slice(), key).saturating_sub(1);
         let _ = join_run(&mut self.runs, run);
         let _ = join_run(&mut self.runs, run.saturating_sub(1));
     }
