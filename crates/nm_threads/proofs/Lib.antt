@@ -1,3 +1,11 @@
 pub mod ListLemmas
 pub mod SameLemmas
 pub mod NameLemmas
+pub mod LabelLemmas
+pub mod JoinLemmas
+pub mod MapLemmas
+pub mod NumberLemmas
+pub mod MemberLemmas
+pub mod MergeLemmas
+pub mod RowLemmas
+pub mod PlaceLemmas

@@ -1,5 +1,5 @@
 -- Texts among texts, and items among items.
-use Rattle.std.proofs.Common.{◌≡◌, refl, sym, ap, subst, ◌∙◌, ℕ, zero, suc, Bool, true, List, [], ◌∷◌, arith, inl, inr, ◌⊎◌, true≢false}
+use Rattle.std.proofs.Common.{◌≡◌, refl, sym, ap, subst, ◌∙◌, ℕ, zero, suc, Bool, true, List, map, [], ◌∷◌, arith, inl, inr, ◌⊎◌, true≢false}
 use Rattle.std.specs.Prelude.{Contains}
 use Rattle.std.specs.List.{list_any}
 use Rattle.std.proofs.lemmas.Bool.{or_cases, or_left, or_right}
@@ -46,3 +46,17 @@ Contains_cases x xs y (suc k, lt, is) = inr (k, (omega (arith, lt)), is)
 
 pub Contains_none : {X : Type 0} (y : X) → Contains [] y → ⊥
 Contains_none y (k, lt, is) = omega (arith, lt)
+
+pub Contains_map : {X Y : Type 0} (f : X → Y) (xs : List X) (x : X) → Contains xs x → Contains (map f xs) (f x)
+Contains_map f [] x among = absurd (Contains_none x among)
+Contains_map f (y ∷ xs) x among = elim (Contains_cases y xs x among) [
+  | inl here ↦ subst (λ z. Contains (f y ∷ map f xs) (f z)) here (Contains_first (f y) (map f xs))
+  | inr there ↦ Contains_there (f y) (map f xs) (f x) (Contains_map f xs x there)
+]
+
+pub Contains_from_map : {X Y : Type 0} (f : X → Y) (xs : List X) (y : Y) → Contains (map f xs) y → (x : X) × Contains xs x × (f x ≡ y)
+Contains_from_map f [] y among = absurd (Contains_none y among)
+Contains_from_map f (x ∷ xs) y among = elim (Contains_cases (f x) (map f xs) y among) [
+  | inl here ↦ (x, Contains_first x xs, here)
+  | inr there ↦ let one = Contains_from_map f xs y there in (one.0, Contains_there x xs one.0 one.1, one.2)
+]

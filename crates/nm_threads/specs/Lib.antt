@@ -1,2 +1,5 @@
 pub mod Same
 pub mod Name
+pub mod Labels
+pub mod Maps
+pub mod Fits

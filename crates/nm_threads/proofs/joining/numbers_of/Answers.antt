@@ -1,0 +1,10 @@
+use Rattle.std.proofs.Common.{ap}
+use Rattle.nm_threads.proofs.MemberLemmas.{front, numbers_all, no_front}
+use Rattle.nm_threads.proofs.joining.numbers_of.Goals as goal
+
+pub returns-then-of-group : goal.returns-then-of-group
+returns-then-of-group c =
+    numbers_all c.args.group c.members.numbers c.members.rest c.args.members.now c.members.invariant (no_front c.args.group c.members.rest c.next.new.self c.in-Some.entry.now c.in-Some.ensures.steps c.if-of-group.true) c.iter_from-rest.ensures.sorted
+
+pub returns : goal.returns
+returns c = numbers_all c.args.group c.members.numbers c.members.rest c.args.members.now c.members.invariant (ap (front c.args.group) c.in_default.ensures.steps.0) c.iter_from-rest.ensures.sorted

@@ -1,0 +1,13 @@
+use Rattle.std.proofs.Common.{◌≡◌, ℕ, List, ◌∷◌, take}
+use Rattle.nm_base.specs.declared.facts.LinkRow.{LinkRow}
+use Rattle.nm_threads.specs.Fits.{Fits}
+use Rattle.nm_threads.specs.Labels.{AreLabelsOf, entries_of, numbered}
+use Rattle.nm_threads.specs.Maps.{AreMaps, labelling_of}
+use Rattle.nm_threads.proofs.rows.add.Given as goal
+
+abbrev pub invariant-links : goal.invariant-links
+invariant-links g l = record {
+  maps : AreMaps l.maps;
+  numbers : ◌≡◌ {A = List (List ℕ × ℕ) × ℕ} (entries_of (labelling_of l.maps).labels, l.maps.next) (numbered (entries_of (labelling_of l.fn.maps).labels) l.fn.maps.next (l.fn.row.id ∷ take l.link-index l.link-items));
+  labels : (rows : List LinkRow) → AreLabelsOf rows (labelling_of l.fn.maps).labels → Fits ((record { id = l.fn.row.id; links = take l.link-index l.link-items }) ∷ rows) (labelling_of l.maps).labels;
+}

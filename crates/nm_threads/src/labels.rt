@@ -1,0 +1,99 @@
+//! The labels of a mail store's ids: each id's number and the name of its thread. Snapshots hold them.
+
+ghost use Rattle.std.specs.Prelude.{◌≡◌, ◌≤◌, ◌^◌, ◌∷◌, [], ℕ, List, false, IfOk, OnOk, OnErr, MatchOption, Contains};
+ghost use Rattle.nm_base.specs.declared.facts.LinkRow.{LinkRow};
+ghost use Rattle.nm_threads.specs.Labels.{AreLabelsOf, IsLabelling, entries_of, has_entry, numbered};
+ghost use Rattle.nm_threads.specs.Maps.{AreMaps, labelling_of};
+ghost use Rattle.nm_threads.specs.Name.{thread_name};
+ghost use Rattle.nm_threads.specs.Same.{ids_of};
+
+use crate::joining::place_of;
+use crate::maps::Maps;
+use crate::rows::add;
+use nm_base::{Copies, LinkRow, MessageId, NoMemory, Steps};
+use std::alloc::Global;
+use std::marker::Model;
+use std::sync::ledger::Ledger;
+
+/// Labels of ids. A contract sees each id with its number and the name of its thread, and the number that comes next.
+#[derive(Drop)]
+pub struct Labels {
+    alloc: Global,
+    maps: Maps,
+}
+
+impl Model for Labels {
+    ghost use Rattle.nm_threads.specs.Labels.{Labelling};
+    ghost use Rattle.nm_threads.specs.Maps.{AreMaps, labelling_of};
+
+    ghost Value = { Labelling };
+
+    ghost view = { λ l. labelling_of l.maps };
+
+    ghost invariant = { λ l. AreMaps l.maps };
+}
+
+impl Labels {
+    /// No labels; the first number is 1. It takes no memory.
+    pub fn new(alloc: Global) -> Labels
+        ensures labels { result.labels ≡ [] }
+        ensures next { result.next ≡ 1 }
+    {
+        Labels {
+            alloc,
+            maps: Maps::new(alloc),
+        }
+    }
+
+    /// The number that the next id gets.
+    pub fn next(&self) -> u64
+        ensures next { result ≡ self.now.next }
+        ensures most { result ≤ 2 ^ 63 }
+        ensures labelling { IsLabelling self.now }
+    {
+        self.maps.next
+    }
+
+    /// The number of an id, if it has one.
+    pub fn number_of(&self, id: &MessageId) -> Option<u64>
+        ensures { MatchOption result (has_entry (entries_of self.now.labels) id.now ≡ false) (λ number. Contains (entries_of self.now.labels) (id.now, number)) }
+    {
+        Some(*self.maps.numbers.get(id)?)
+    }
+
+    /// The name of the thread of an id that has a number: the least number of the thread's ids.
+    pub fn name_of(&self, id: &MessageId) -> Option<u64>
+        ensures label { MatchOption result (has_entry (entries_of self.now.labels) id.now ≡ false) (λ name. (number : ℕ) × Contains self.now.labels (record { id = id.now; number = number; name = name })) }
+        ensures thread { (rows : List LinkRow) → AreLabelsOf rows self.now.labels → result ≡ thread_name rows (entries_of self.now.labels) id.now }
+    {
+        let place = place_of(&self.maps, id)?;
+        Some(place.thread.name)
+    }
+
+    /// Adds the row of a mail: ids without a number get the next ones, the mail's own first, and all are of one thread.
+    pub fn add_row<L: Ledger>(
+        &mut self,
+        row: &LinkRow,
+        steps: &mut Steps<L>,
+    ) -> Result<(), NoMemory>
+        requires { (numbered (entries_of self.old.labels) self.old.next (ids_of row.now)).1 ≤ 2 ^ 63 }
+        ensures numbers { OnOk result ((entries_of self.new.labels, self.new.next) ≡ numbered (entries_of self.old.labels) self.old.next (ids_of row.now)) }
+        ensures labels { OnOk result ((rows : List LinkRow) → AreLabelsOf rows self.old.labels → AreLabelsOf (row.now ∷ rows) self.new.labels) }
+        ensures err { OnErr result (self.new ≡ self.old) }
+    {
+        let mut maps = self.maps.share()?;
+        add(self.alloc, &mut maps, row, steps)?;
+        self.maps = maps;
+        Ok(())
+    }
+}
+
+/// The copy is a second handle.
+impl Copies for Labels {
+    fn copy(&self) -> Result<Labels, NoMemory> {
+        Ok(Labels {
+            alloc: self.alloc,
+            maps: self.maps.share()?,
+        })
+    }
+}

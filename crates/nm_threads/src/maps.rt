@@ -1,0 +1,78 @@
+//! The maps that labels are kept in; each step of the work changes some of them.
+
+ghost use Rattle.std.specs.Prelude.{◌≡◌, [], IfOk};
+
+use nm_base::{Copies, MessageId, NoMemory};
+use nm_shared::SharedMap;
+use std::alloc::Global;
+
+/// The name of a thread, and how many ids it has, which says on which side less is to be relabelled.
+#[derive(Clone, Copy, Debug, PartialEq, Eq)]
+pub struct Thread {
+    pub name: u64,
+    pub len: u64,
+}
+
+impl Copies for Thread {
+    fn copy(&self) -> Result<Thread, NoMemory> {
+        Ok(*self)
+    }
+}
+
+/// What stands beside a group and a number: the number is of the group.
+#[derive(Clone, Copy, Debug, PartialEq, Eq)]
+pub struct Member;
+
+impl Copies for Member {
+    fn copy(&self) -> Result<Member, NoMemory> {
+        Ok(*self)
+    }
+}
+
+/// Ids by number, numbers by id, and the threads: groups of numbers.
+#[derive(Drop)]
+pub struct Maps {
+    pub ids: SharedMap<u64, MessageId>,
+    pub numbers: SharedMap<MessageId, u64>,
+    /// The group of each number.
+    pub groups: SharedMap<u64, u64>,
+    /// The thread of each group.
+    pub threads: SharedMap<u64, Thread>,
+    /// The groups with their numbers.
+    pub members: SharedMap<(u64, u64), Member>,
+    pub next: u64,
+}
+
+impl Maps {
+    pub fn new(alloc: Global) -> Maps
+        ensures ids { result.ids ≡ [] }
+        ensures numbers { result.numbers ≡ [] }
+        ensures groups { result.groups ≡ [] }
+        ensures threads { result.threads ≡ [] }
+        ensures members { result.members ≡ [] }
+        ensures next { result.next ≡ 1 }
+    {
+        Maps {
+            ids: SharedMap::new(alloc),
+            numbers: SharedMap::new(alloc),
+            groups: SharedMap::new(alloc),
+            threads: SharedMap::new(alloc),
+            members: SharedMap::new(alloc),
+            next: 1,
+        }
+    }
+
+    /// Second handles on all maps.
+    pub fn share(&self) -> Result<Maps, NoMemory>
+        ensures { IfOk result (λ maps. maps ≡ self.now) }
+    {
+        Ok(Maps {
+            ids: self.ids.share()?,
+            numbers: self.numbers.share()?,
+            groups: self.groups.share()?,
+            threads: self.threads.share()?,
+            members: self.members.share()?,
+            next: self.next,
+        })
+    }
+}

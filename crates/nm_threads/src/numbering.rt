@@ -1,0 +1,32 @@
+//! Numbers for ids; the rows that come have their ids numbered here.
+
+ghost use Rattle.std.specs.Prelude.{◌≡◌, ◌<◌, ◌^◌, false, OnOk};
+ghost use Rattle.nm_threads.specs.Labels.{entries_of, has_entry};
+ghost use Rattle.nm_threads.specs.Maps.{AreMaps, given, labelling_of};
+
+use crate::maps::{Maps, Member, Thread};
+use nm_base::{Copies, MessageId, NoMemory};
+
+/// Gives an id without a number the next one; it is a thread of its own.
+pub fn give_number(maps: &mut Maps, id: &MessageId) -> Result<(), NoMemory>
+    requires maps { AreMaps maps.old }
+    requires room { has_entry (entries_of (labelling_of maps.old).labels) id.now ≡ false → maps.old.next < 2 ^ 63 }
+    ensures maps { OnOk result (AreMaps maps.new) }
+    ensures given { OnOk result (labelling_of maps.new ≡ given (labelling_of maps.old) id.now) }
+{
+    if maps.numbers.get(id).is_some() {
+        return Ok(());
+    }
+    let number = maps.next;
+    let thread = Thread {
+        name: number,
+        len: 1,
+    };
+    maps.ids.insert(number, id.copy()?)?;
+    maps.numbers.insert(id.copy()?, number)?;
+    maps.groups.insert(number, number)?;
+    maps.threads.insert(number, thread)?;
+    maps.members.insert((number, number), Member)?;
+    maps.next = number + 1;
+    Ok(())
+}
