@@ -1,0 +1,10 @@
+pub mod CutLemmas
+pub mod DotLemmas
+pub mod GrammarLemmas
+pub mod HexLemmas
+pub mod ParenLemmas
+pub mod PartLemmas
+pub mod PrefixLemmas
+pub mod QuoteLemmas
+pub mod RunLemmas
+pub mod TokenLemmas

@@ -1,0 +1,27 @@
+-- What a text is as a query: a tree, or the one refusal.
+use Rattle.std.specs.Prelude.{ℕ, List, length, nat_lt, Some, None, Result, Ok, Err, if◌then◌else◌}
+use Rattle.nm_base.specs.declared.limit.Limit.TheVariants.{QueryBytes, QueryDepth}
+use Rattle.nm_query.specs.Faults.{structure_fault}
+use Rattle.nm_query.specs.Levels.{tree_of}
+use Rattle.nm_query.specs.Nesting.{is_too_deep}
+use Rattle.nm_query.specs.Tokens.{tokens_of}
+use Rattle.nm_query.specs.declared.query.Query.{Query}
+use Rattle.nm_query.specs.declared.query_error.QueryError.{QueryError}
+use Rattle.nm_query.specs.declared.query_error.QueryError.TheVariants.{Limit}
+use Rattle.nm_query.specs.declared.token.Placed.{Placed}
+
+-- the tree of tokens, or their first fault of structure
+abbrev pub structured : List Placed → Result Query QueryError
+structured tokens = elim (structure_fault tokens) [ None ↦ Ok (tree_of tokens) | Some fault ↦ Err fault ]
+
+-- depth is told before structure
+abbrev pub nested : List Placed → Result Query QueryError
+nested tokens = if is_too_deep tokens then Err (Limit QueryDepth) else structured tokens
+
+-- and a faulty token before depth
+abbrev pub tokened : Result (List Placed) QueryError → Result Query QueryError
+tokened tokens = elim tokens [ Ok tokens ↦ nested tokens | Err refusal ↦ Err refusal ]
+
+-- what a text is as a query
+abbrev pub answer_of : List ℕ → Result Query QueryError
+answer_of text = if nat_lt 65536 (length text) then Err (Limit QueryBytes) else tokened (tokens_of text)

@@ -1,0 +1,12 @@
+pub mod Answers
+pub mod Faults
+pub mod Grammar
+pub mod Groups
+pub mod Levels
+pub mod Lexemes
+pub mod Nesting
+pub mod Parting
+pub mod Prefixes
+pub mod Terms
+pub mod Tokens
+pub mod Values
