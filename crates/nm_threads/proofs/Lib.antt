@@ -9,3 +9,4 @@ pub mod MemberLemmas
 pub mod MergeLemmas
 pub mod RowLemmas
 pub mod PlaceLemmas
+pub mod OrderLemmas

@@ -79,7 +79,7 @@ numbers_of test (entry ∷ entries) id m among passes = elim (Contains_cases ent
   | inr there ↦ of_by test entry entries id m (test entry) refl passes (inr (numbers_of test entries id m there passes))
 ]
 
-alike : (x y : Bool) → (x ≡ true → y ≡ true) → (y ≡ true → x ≡ true) → x ≡ y
+pub alike : (x y : Bool) → (x ≡ true → y ≡ true) → (y ≡ true → x ≡ true) → x ≡ y
 alike true y there back = sym (there refl)
 alike false true there back = back refl
 alike false false there back = refl

@@ -1,8 +1,13 @@
 -- What the labels say once a row has one link more, and once the whole row has come.
-use Rattle.std.proofs.Common.{◌≡◌, refl, sym, ap, subst, ◌∙◌, ℕ, ◌+◌, ◌<◌, ◌≤◌, Bool, true, false, cond, List, [], ◌∷◌, ◌++◌, map, take, drop, length, get_or, arith, true≢false}
+use Rattle.std.proofs.Common.{◌≡◌, refl, sym, ap, subst, ◌∙◌, ℕ, ◌+◌, ◌<◌, ◌≤◌, Bool, true, false, cond, List, [], ◌∷◌, ◌++◌, map, take, drop, length, get_or, arith, inl, inr, true≢false}
 use Rattle.std.specs.Prelude.{Contains, Some}
-use Rattle.std.proofs.lemmas.List.{map_push, take-append-drop, drop_more, take_more, take_all}
-use Rattle.std.proofs.lemmas.List.Elements.{Contains-push}
+use Rattle.std.proofs.lemmas.List.{map_push, take-append-drop, drop_more, take_more, take_all, append-nil}
+use Rattle.std.proofs.lemmas.List.Concat.{flat_map-append}
+use Rattle.std.specs.List.{flat_map}
+use Rattle.nm_threads.specs.Same.{ids_of}
+use Rattle.nm_threads.proofs.OrderLemmas.{labels_among}
+use Rattle.nm_threads.proofs.ListLemmas.{Contains_cases, Contains_first, Contains_there}
+use Rattle.std.proofs.lemmas.List.Elements.{Contains-push, Contains-append_left, Contains-append_right, Contains-append_cases, Contains-push_cases}
 use Rattle.std.proofs.lemmas.Option.{same_Some}
 use Rattle.nm_base.specs.declared.facts.LinkRow.{LinkRow}
 use Rattle.nm_threads.specs.Fits.{Fits, Links}
@@ -183,3 +188,62 @@ module _ (old now : Maps) (id : List ℕ) (items : List (List ℕ)) where
 
 pub row_ends : (rows : List LinkRow) (row : LinkRow) (labels : List Label) (items : List (List ℕ)) (i : ℕ) → items ≡ row.links → length items ≤ i → Fits ((record { id = row.id; links = take i items }) ∷ rows) labels → AreLabelsOf (row ∷ rows) labels
 row_ends rows row labels items i items_are past fits = fits_names (row ∷ rows) labels (subst (λ links. Fits ((record { id = row.id; links = links }) ∷ rows) labels) (take_all i items past ∙ items_are) fits)
+
+-- ---- rows one after the other
+
+-- labels of the rows so far, beside others
+abbrev pub LabelsSoFar : Maps → Maps → List LinkRow → Type 0
+LabelsSoFar old now rows = (others : List LinkRow) → AreLabelsOf others (labelling_of old).labels → AreLabelsOf (rows ++ others) (labelling_of now).labels
+
+module _ (old now next : Maps) (rows : List LinkRow) (i : ℕ) (lt : i < length rows) (row : LinkRow) (row_is : get_or rows i row ≡ row) where
+  ids_whole : flat_map ids_of rows ≡ flat_map ids_of (take i rows) ++ (ids_of row ++ flat_map ids_of (drop (i + 1) rows))
+  ids_whole =
+      ap (flat_map ids_of) (sym (take-append-drop i rows) ∙ ap (λ back. take i rows ++ back) (drop_more rows i row lt ∙ ap (λ x. x ∷ drop (i + 1) rows) row_is))
+      ∙ flat_map-append ids_of (take i rows) (row ∷ drop (i + 1) rows)
+
+  rows_more : take (i + 1) rows ≡ take i rows ++ row ∷ []
+  rows_more = take_more rows i row lt ∙ ap (λ x. take i rows ++ x ∷ []) row_is
+
+  ids_more : flat_map ids_of (take (i + 1) rows) ≡ flat_map ids_of (take i rows) ++ ids_of row
+  ids_more = ap (flat_map ids_of) rows_more ∙ flat_map-append ids_of (take i rows) (row ∷ []) ∙ ap (λ back. flat_map ids_of (take i rows) ++ back) (append-nil (ids_of row))
+
+  pub rows_room : (most : ℕ) → (numbered (entries_of (labelling_of old).labels) old.next (flat_map ids_of rows)).1 ≤ most → Numbers old now (flat_map ids_of (take i rows)) → (numbered (entries_of (labelling_of now).labels) now.next (ids_of row)).1 ≤ most
+  rows_room most le so_far =
+      let e : Entries = entries_of (labelling_of old).labels in
+      let d : Entries = entries_of (labelling_of now).labels in
+      let rest : List (List ℕ) = flat_map ids_of (drop (i + 1) rows) in
+      let all : numbered e old.next (flat_map ids_of rows) ≡ numbered (numbered d now.next (ids_of row)).0 (numbered d now.next (ids_of row)).1 rest =
+      ap (numbered e old.next) ids_whole ∙ numbered_append (flat_map ids_of (take i rows)) (ids_of row ++ rest) e old.next ∙ ap (λ part. numbered part.0 part.1 (ids_of row ++ rest)) (sym so_far) ∙ numbered_append (ids_of row) rest d now.next in
+      omega (arith, le, ap (λ part. part.1) all, numbered_le rest (numbered d now.next (ids_of row)).0 (numbered d now.next (ids_of row)).1)
+
+  pub rows_numbers : Numbers old now (flat_map ids_of (take i rows)) → Numbers now next (ids_of row) → Numbers old next (flat_map ids_of (take (i + 1) rows))
+  rows_numbers so_far step =
+      step
+      ∙ ap (λ part. numbered part.0 part.1 (ids_of row)) so_far
+      ∙ sym (numbered_append (flat_map ids_of (take i rows)) (ids_of row) (entries_of (labelling_of old).labels) old.next)
+      ∙ ap (numbered (entries_of (labelling_of old).labels) old.next) (sym ids_more)
+
+  moved_there : (others : List LinkRow) (x : LinkRow) → Contains (row ∷ (take i rows ++ others)) x → Contains ((take i rows ++ row ∷ []) ++ others) x
+  moved_there others x among = elim (Contains_cases row (take i rows ++ others) x among) [
+    | inl here ↦ Contains-append_left (take i rows ++ row ∷ []) others x (subst (Contains (take i rows ++ row ∷ [])) here (Contains-push (take i rows) row))
+    | inr there ↦
+        elim (Contains-append_cases (take i rows) others x there) [
+          | inl before ↦ Contains-append_left (take i rows ++ row ∷ []) others x (Contains-append_left (take i rows) (row ∷ []) x before)
+          | inr other ↦ Contains-append_right (take i rows ++ row ∷ []) others x other
+        ]
+  ]
+
+  moved_back : (others : List LinkRow) (x : LinkRow) → Contains ((take i rows ++ row ∷ []) ++ others) x → Contains (row ∷ (take i rows ++ others)) x
+  moved_back others x among = elim (Contains-append_cases (take i rows ++ row ∷ []) others x among) [
+    | inl front ↦
+        elim (Contains-push_cases (take i rows) row x front) [
+          | inl before ↦ Contains_there row (take i rows ++ others) x (Contains-append_left (take i rows) others x before)
+          | inr here ↦ subst (Contains (row ∷ (take i rows ++ others))) here (Contains_first row (take i rows ++ others))
+        ]
+    | inr other ↦ Contains_there row (take i rows ++ others) x (Contains-append_right (take i rows) others x other)
+  ]
+
+  pub rows_labels : LabelsSoFar old now (take i rows) → ((all : List LinkRow) → AreLabelsOf all (labelling_of now).labels → AreLabelsOf (row ∷ all) (labelling_of next).labels) → LabelsSoFar old next (take (i + 1) rows)
+  rows_labels so_far step = λ others are.
+      subst (λ front. AreLabelsOf (front ++ others) (labelling_of next).labels) (sym rows_more)
+      (labels_among (row ∷ (take i rows ++ others)) ((take i rows ++ row ∷ []) ++ others) (moved_there others) (moved_back others) (labelling_of next).labels (step (take i rows ++ others) (so_far others are)))

@@ -1,6 +1,7 @@
 //! The labels of a mail store's ids: each id's number and the name of its thread. Snapshots hold them.
 
-ghost use Rattle.std.specs.Prelude.{◌≡◌, ◌≤◌, ◌^◌, ◌∷◌, [], ℕ, List, false, IfOk, OnOk, OnErr, MatchOption, Contains};
+ghost use Rattle.std.specs.Prelude.{◌≡◌, ◌≤◌, ◌^◌, ◌∷◌, ◌++◌, [], ℕ, List, false, IfOk, OnOk, OnErr, MatchOption, Contains};
+ghost use Rattle.std.specs.List.{flat_map};
 ghost use Rattle.nm_base.specs.declared.facts.LinkRow.{LinkRow};
 ghost use Rattle.nm_threads.specs.Labels.{AreLabelsOf, IsLabelling, entries_of, has_entry, numbered};
 ghost use Rattle.nm_threads.specs.Maps.{AreMaps, labelling_of};
@@ -9,7 +10,7 @@ ghost use Rattle.nm_threads.specs.Same.{ids_of};
 
 use crate::joining::place_of;
 use crate::maps::Maps;
-use crate::rows::add;
+use crate::rows::{add, add_all};
 use nm_base::{Copies, LinkRow, MessageId, NoMemory, Steps};
 use std::alloc::Global;
 use std::marker::Model;
@@ -83,6 +84,23 @@ impl Labels {
     {
         let mut maps = self.maps.share()?;
         add(self.alloc, &mut maps, row, steps)?;
+        self.maps = maps;
+        Ok(())
+    }
+
+    /// Adds the rows of mails, in order, all or none; for many rows this costs far less than one by one.
+    pub fn add_rows<L: Ledger>(
+        &mut self,
+        rows: &[LinkRow],
+        steps: &mut Steps<L>,
+    ) -> Result<(), NoMemory>
+        requires { (numbered (entries_of self.old.labels) self.old.next (flat_map ids_of rows.now)).1 ≤ 2 ^ 63 }
+        ensures numbers { OnOk result ((entries_of self.new.labels, self.new.next) ≡ numbered (entries_of self.old.labels) self.old.next (flat_map ids_of rows.now)) }
+        ensures labels { OnOk result ((others : List LinkRow) → AreLabelsOf others self.old.labels → AreLabelsOf (rows.now ++ others) self.new.labels) }
+        ensures err { OnErr result (self.new ≡ self.old) }
+    {
+        let mut maps = self.maps.share()?;
+        add_all(self.alloc, &mut maps, rows, steps)?;
         self.maps = maps;
         Ok(())
     }

@@ -2,6 +2,7 @@
 
 ghost use Rattle.std.specs.Prelude.{◌≡◌, ◌≤◌, ◌↔◌, ◌⊎◌, ◌∷◌, ℕ, List, Some, IsTrue, IsSome, Contains};
 ghost use Rattle.nm_base.specs.declared.facts.LinkRow.{LinkRow};
+ghost use Rattle.nm_threads.specs.Labels.{AreLabelsOf, Label};
 ghost use Rattle.nm_threads.specs.Same.{Same, Touches, is_same, stand_together};
 ghost use Rattle.nm_threads.specs.Name.{AreDistinct, thread_name};
 
@@ -38,4 +39,9 @@ pub fn the_name_is_the_least_number()
 /// Ids with numbers have one name exactly where they are of one thread.
 pub fn a_thread_has_one_name()
     ensures { (rows : List LinkRow) (entries : List (List ℕ × ℕ)) (a b : List ℕ) (m n : ℕ) → AreDistinct entries → Contains entries (a, m) → Contains entries (b, n) → (thread_name rows entries a ≡ thread_name rows entries b) ↔ Same rows a b }
+{}
+
+/// Labels of some rows are labels of the same rows in any order.
+pub fn labels_know_no_order_of_rows()
+    ensures { (rows others : List LinkRow) (labels : List Label) → ((row : LinkRow) → Contains rows row → Contains others row) → ((row : LinkRow) → Contains others row → Contains rows row) → AreLabelsOf rows labels → AreLabelsOf others labels }
 {}

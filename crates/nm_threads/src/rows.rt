@@ -1,6 +1,7 @@
 //! A row that comes: its ids get numbers, and their threads become one. `Labels` calls it.
 
-ghost use Rattle.std.specs.Prelude.{◌≡◌, ◌<◌, ◌≤◌, ◌^◌, ◌∷◌, [], List, false, OnOk};
+ghost use Rattle.std.specs.Prelude.{◌≡◌, ◌<◌, ◌≤◌, ◌^◌, ◌∷◌, ◌++◌, [], List, false, OnOk};
+ghost use Rattle.std.specs.List.{flat_map};
 ghost use Rattle.nm_base.specs.declared.facts.LinkRow.{LinkRow};
 ghost use Rattle.nm_threads.specs.Fits.{Fits, Links};
 ghost use Rattle.nm_threads.specs.Labels.{AreLabelsOf, entries_of, has_entry, numbered};
@@ -54,6 +55,25 @@ pub fn add<L: Ledger>(
     give_number(maps, &row.id)?;
     'links: for link in row.links.as_slice() {
         add_link(alloc, maps, &row.id, link, steps)?;
+    }
+    Ok(())
+}
+
+/// Adds rows, one after the other.
+pub fn add_all<L: Ledger>(
+    alloc: Global,
+    maps: &mut Maps,
+    rows: &[LinkRow],
+    steps: &mut Steps<L>,
+) -> Result<(), NoMemory>
+    requires maps { AreMaps maps.old }
+    requires room { (numbered (entries_of (labelling_of maps.old).labels) maps.old.next (flat_map ids_of rows.now)).1 ≤ 2 ^ 63 }
+    ensures maps { OnOk result (AreMaps maps.new) }
+    ensures numbers { OnOk result ((entries_of (labelling_of maps.new).labels, maps.new.next) ≡ numbered (entries_of (labelling_of maps.old).labels) maps.old.next (flat_map ids_of rows.now)) }
+    ensures labels { OnOk result ((others : List LinkRow) → AreLabelsOf others (labelling_of maps.old).labels → AreLabelsOf (rows.now ++ others) (labelling_of maps.new).labels) }
+{
+    'rows: for row in rows {
+        add(alloc, maps, row, steps)?;
     }
     Ok(())
 }
