@@ -1,12 +1,12 @@
 -- The lines of a multipart, one by one.
-use Rattle.std.proofs.Common.{◌≡◌, ℕ, ◌+◌, ◌-◌, Bool, true, false, cond, ◌||◌, ◌==◌, List, [], ◌∷◌, ◌++◌, length, take, drop, refl, sym, ap, ◌∙◌, arith, append_assoc}
+use Rattle.std.proofs.Common.{◌≡◌, ℕ, ◌+◌, ◌-◌, ◌<◌, ◌≤◌, Bool, true, false, cond, ◌||◌, ◌==◌, List, [], ◌∷◌, ◌++◌, length, take, drop, refl, sym, ap, ◌∙◌, arith, length-drop}
 use Rattle.std.specs.List.{concat, onto_first}
-use Rattle.std.proofs.lemmas.List.{append-nil}
+use Rattle.std.proofs.lemmas.List.{drop-drop, length-take-le}
 use Rattle.std.proofs.lemmas.Bool.{eqb-true}
 use Rattle.nm_text.specs.Lines.{content, is_line_feed, lines_of}
 use Rattle.nm_mime.specs.declared.children.Delimiters.{Delimiters}
 use Rattle.nm_mime.specs.declared.children.Span.{Span}
-use Rattle.nm_mime.specs.Children.{ends_part, is_line_of, part_at, part_len, spans_in, spans_of, stops}
+use Rattle.nm_mime.specs.Children.{ends_part, is_line_of, part_after, part_at, part_len, spans_in, spans_of, stops}
 
 -- the lines joined are the bytes
 concat-onto : (b : ℕ) (lines : List (List ℕ)) → concat (onto_first b lines) ≡ b ∷ concat lines
@@ -58,31 +58,89 @@ pub size_end : (delimiters : Delimiters) (done kept : ℕ) (left : List ℕ) →
 size_end delimiters done kept left e = let all : done ≡ done + 0 = omega arith in all ∙ sym (ap (size_so_far delimiters done kept) (lines-nil left e))
 
 -- ---- the parts
-pub spans_turn : (delimiters : Delimiters) (end : ℕ) (before found : List Span) (left line behind : List ℕ) (n : ℕ) → lines_of left ≡ take n left ∷ lines_of (drop n left) → line ≡ take n left → behind ≡ drop n left → is_line_of delimiters.closing line ≡ false → found ≡ before ++ part_at delimiters end line (lines_of behind) → found ++ spans_of delimiters end behind ≡ before ++ spans_of delimiters end left
-unfolding spans_of
-spans_turn delimiters end before found left line behind n e l b goes f =
-    let more : List (List ℕ) = lines_of behind in
-    let lines : lines_of left ≡ line ∷ more = e ∙ ap (λ x. x ∷ lines_of (drop n left)) (sym l) ∙ ap (λ x. line ∷ lines_of x) (sym b) in
-    let all : spans_in delimiters end (lines_of left) ≡ part_at delimiters end line more ++ spans_in delimiters end more = ap (spans_in delimiters end) lines ∙ ap (λ v. cond v [] (part_at delimiters end line more ++ spans_in delimiters end more)) goes in
-    ap (λ x. x ++ spans_in delimiters end more) f ∙ append_assoc before (part_at delimiters end line more) (spans_in delimiters end more) ∙ ap (λ x. before ++ x) (sym all)
+no_end : (delimiter closing : Bool) (xs ys : List Span) → (delimiter || closing) ≡ false → cond closing [] (cond delimiter xs [] ++ ys) ≡ ys
+no_end true closing xs ys e = absurd (cc)
+no_end false true xs ys e = absurd (cc)
+no_end false false xs ys e = refl
 
-pub spans_stop : (delimiters : Delimiters) (end : ℕ) (found : List Span) (left line : List ℕ) (n : ℕ) → lines_of left ≡ take n left ∷ lines_of (drop n left) → line ≡ take n left → is_line_of delimiters.closing line ≡ true → found ≡ found ++ spans_of delimiters end left
-unfolding spans_of
-spans_stop delimiters end found left line n e l ends =
-    let more : List (List ℕ) = lines_of (drop n left) in
-    let lines : lines_of left ≡ line ∷ more = e ∙ ap (λ x. x ∷ more) (sym l) in
-    let none : spans_in delimiters end (lines_of left) ≡ [] = ap (spans_in delimiters end) lines ∙ ap (λ v. cond v [] (part_at delimiters end line more ++ spans_in delimiters end more)) ends in
-    sym (ap (λ x. found ++ x) none ∙ append-nil found)
+begins_part : (delimiter closing : Bool) (xs ys : List Span) → (delimiter || closing) ≡ true → closing ≡ false → cond closing [] (cond delimiter xs [] ++ ys) ≡ xs ++ ys
+begins_part delimiter true xs ys e c = absurd (cc)
+begins_part true false xs ys e c = refl
+begins_part false false xs ys e c = absurd (cc)
 
-pub spans_end : (delimiters : Delimiters) (end : ℕ) (found : List Span) (left : List ℕ) → (length left == 0) ≡ true → found ≡ found ++ spans_of delimiters end left
+-- a line that ends no part is passed over
+pub spans_skip : (delimiters : Delimiters) (end : ℕ) (rest line : List ℕ) (n : ℕ) → lines_of rest ≡ take n rest ∷ lines_of (drop n rest) → line ≡ take n rest → ends_part delimiters line ≡ false → spans_of delimiters end (drop n rest) ≡ spans_of delimiters end rest
 unfolding spans_of
-spans_end delimiters end found left e = sym (ap (λ x. found ++ spans_in delimiters end x) (lines-nil left e) ∙ append-nil found)
+spans_skip delimiters end rest line n e l goes =
+    let more : List (List ℕ) = lines_of (drop n rest) in
+    let lines : lines_of rest ≡ line ∷ more = e ∙ ap (λ x. x ∷ more) (sym l) in
+    sym (ap (spans_in delimiters end) lines ∙ no_end (is_line_of delimiters.delimiter line) (is_line_of delimiters.closing line) (part_after delimiters end more ∷ []) (spans_in delimiters end more) goes)
+
+pub spans_none : (delimiters : Delimiters) (end : ℕ) (bytes rest : List ℕ) → (length rest == 0) ≡ true → spans_of delimiters end rest ≡ spans_of delimiters end bytes → spans_of delimiters end bytes ≡ []
+unfolding spans_of
+spans_none delimiters end bytes rest none same = sym same ∙ ap (spans_in delimiters end) (lines-nil rest none)
+
+pub spans_closed : (delimiters : Delimiters) (end : ℕ) (bytes rest line : List ℕ) (n : ℕ) → lines_of rest ≡ take n rest ∷ lines_of (drop n rest) → line ≡ take n rest → is_line_of delimiters.closing line ≡ true → spans_of delimiters end rest ≡ spans_of delimiters end bytes → spans_of delimiters end bytes ≡ []
+unfolding spans_of
+spans_closed delimiters end bytes rest line n e l closed same =
+    let more : List (List ℕ) = lines_of (drop n rest) in
+    let lines : lines_of rest ≡ line ∷ more = e ∙ ap (λ x. x ∷ more) (sym l) in
+    sym same ∙ ap (spans_in delimiters end) lines ∙ ap (λ v. cond v [] (part_at delimiters end line more ++ spans_in delimiters end more)) closed
+
+-- what is dropped after a front, a line and a part
+pub dropped : (bytes rest after : List ℕ) (first n next : ℕ) → first ≤ length bytes → n ≤ length rest → rest ≡ drop first bytes → after ≡ drop n rest → drop (length bytes - length after + next) bytes ≡ drop next after
+dropped bytes rest after first n next h k r a =
+    let long_rest : length rest ≡ length bytes - first = ap length r ∙ length-drop first bytes in
+    let long_after : length after ≡ length rest - n = ap length a ∙ length-drop n rest in
+    let place : length bytes - length after + next ≡ (first + n) + next = omega arith in
+    ap (λ k. drop k bytes) place ∙ sym (ap (drop next) (a ∙ ap (drop n) r ∙ drop-drop n first bytes) ∙ drop-drop next (first + n) bytes)
+
+-- a part begins after the line that ends the one before, if that does not close the multipart
+pub spans_next : (delimiters : Delimiters) (end : ℕ) (bytes rest line after : List ℕ) (n from len place next : ℕ) → lines_of rest ≡ take n rest ∷ lines_of (drop n rest) → line ≡ take n rest → after ≡ drop n rest
+    → stops delimiters (lines_of rest) ≡ true → is_line_of delimiters.closing line ≡ false → spans_of delimiters end rest ≡ spans_of delimiters end bytes → from ≡ end - length after → len ≡ part_len delimiters (lines_of after)
+    → spans_of delimiters end (drop next after) ≡ spans_of delimiters end after → drop place bytes ≡ drop next after
+    → let span : Span = record { from = from; to = from + len } in spans_of delimiters end bytes ≡ span ∷ spans_of delimiters end (drop place bytes)
+unfolding spans_of
+spans_next delimiters end bytes rest line after n from len place next e l a stops_there goes same f s goes_on d =
+    let more : List (List ℕ) = lines_of after in
+    let lines : lines_of rest ≡ line ∷ more = e ∙ ap (λ x. x ∷ lines_of (drop n rest)) (sym l) ∙ ap (λ x. line ∷ lines_of x) (sym a) in
+    let ends : ends_part delimiters line ≡ true = ap (stops delimiters) (sym lines) ∙ stops_there in
+    let all : spans_in delimiters end (lines_of rest) ≡ part_after delimiters end more ∷ spans_in delimiters end more =
+    ap (spans_in delimiters end) lines ∙ begins_part (is_line_of delimiters.delimiter line) (is_line_of delimiters.closing line) (part_after delimiters end more ∷ []) (spans_in delimiters end more) ends goes in
+    let span_at : ℕ → ℕ → Span = λ b k. record { from = b; to = b + k } in
+    let begins : end - length (concat more) ≡ from = ap (λ k. end - k) (lines_long after) ∙ sym f in
+    let span : part_after delimiters end more ≡ span_at from len = ap (λ b. span_at b (part_len delimiters more)) begins ∙ ap (span_at from) (sym s) in
+    sym same ∙ all ∙ ap (λ x. x ∷ spans_in delimiters end more) span ∙ ap (λ x. span_at from len ∷ x) (sym goes_on ∙ ap (λ x. spans_in delimiters end (lines_of x)) (sym d))
+
+-- ---- how far a part goes: what follows a line
+pub behind_is : (bytes rest line : List ℕ) (n next : ℕ) → rest ≡ drop next bytes → n ≤ length rest → line ≡ take n rest → drop n rest ≡ drop (next + length line) bytes
+behind_is bytes rest line n next r h l =
+    let long : length line ≡ n = ap length l ∙ length-take-le n rest h in
+    ap (drop n) r ∙ drop-drop n next bytes ∙ ap (λ k. drop (next + k) bytes) (sym long)
+
+pub end_size : (delimiters : Delimiters) (bytes rest line : List ℕ) (n next len more size : ℕ) → rest ≡ drop next bytes → n ≤ length rest → lines_of rest ≡ take n rest ∷ lines_of (drop n rest) → line ≡ take n rest → ends_part delimiters line ≡ false → more ≡ length (content line)
+    → size_so_far delimiters next len (lines_of (drop next bytes)) ≡ size → size_so_far delimiters (next + length line) (next + more) (lines_of (drop (next + length line) bytes)) ≡ size
+end_size delimiters bytes rest line n next len more size r h e l goes m i =
+    let behind : List ℕ = drop (next + length line) bytes in
+    ap (λ k. size_so_far delimiters (next + length line) (next + k) (lines_of behind)) m
+    ∙ size_turn delimiters next len rest line behind n e l (sym (behind_is bytes rest line n next r h l)) goes
+    ∙ ap (λ x. size_so_far delimiters next len (lines_of x)) r ∙ i
+
+pub end_same : (delimiters : Delimiters) (end : ℕ) (bytes rest line : List ℕ) (n next : ℕ) → rest ≡ drop next bytes → n ≤ length rest → lines_of rest ≡ take n rest ∷ lines_of (drop n rest) → line ≡ take n rest → ends_part delimiters line ≡ false
+    → spans_of delimiters end (drop next bytes) ≡ spans_of delimiters end bytes → spans_of delimiters end (drop (next + length line) bytes) ≡ spans_of delimiters end bytes
+end_same delimiters end bytes rest line n next r h e l goes i =
+    ap (spans_of delimiters end) (sym (behind_is bytes rest line n next r h l)) ∙ spans_skip delimiters end rest line n e l goes ∙ ap (spans_of delimiters end) r ∙ i
+
+pub end_within : (bytes rest line : List ℕ) (n next : ℕ) → next ≤ length bytes → rest ≡ drop next bytes → n ≤ length rest → line ≡ take n rest → next + length line ≤ length bytes
+end_within bytes rest line n next h r k l =
+    let long : length line ≡ n = ap length l ∙ length-take-le n rest k in
+    let left : length rest ≡ length bytes - next = ap length r ∙ length-drop next bytes in
+    omega arith
+
+pub first_within : (bytes rest : List ℕ) (first n : ℕ) → rest ≡ drop first bytes → 0 < n → n ≤ length rest → first < length bytes
+first_within bytes rest first n r some k =
+    let left : length rest ≡ length bytes - first = ap length r ∙ length-drop first bytes in
+    omega arith
 
 pub none_left : (left : List ℕ) → (length left == 0) ≡ true → length left ≡ 0
 none_left left e = eqb-true (length left) 0 e
-
-pub size_all : (delimiters : Delimiters) (bytes left : List ℕ) (kept : ℕ) → (length left == 0) ≡ true → length bytes ≡ size_so_far delimiters (length bytes - length left) kept (lines_of left)
-size_all delimiters bytes left kept e =
-    let none : length left ≡ 0 = none_left left e in
-    let all : length bytes ≡ length bytes - length left = omega arith in
-    all ∙ size_end delimiters (length bytes - length left) kept left e

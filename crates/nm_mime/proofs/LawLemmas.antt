@@ -14,8 +14,7 @@ use Rattle.nm_mime.specs.declared.entity.Opening.{Opening}
 use Rattle.nm_mime.specs.declared.entity.Part.{Part}
 use Rattle.nm_mime.proofs.ChildLemmas.{lines_long}
 use Rattle.nm_mime.proofs.PartLemmas.{opening_inside, stretch_long}
-use Rattle.nm_mime.specs.PartReader.{AllWithin}
-use Rattle.nm_mime.proofs.TreeLemmas.{children_within, content_short, same_depth, size_short}
+use Rattle.nm_mime.proofs.TreeLemmas.{AllWithin, children_within, content_short, same_depth, size_short}
 
 -- ---- all parts stand inside the mail
 all_under : (size : ℕ) (f : Entity → List Part) → ((entity : Entity) → IsWithin size entity → All (IsInside size) (f entity)) → (entities : List Entity) → AllWithin size entities → All (IsInside size) (flat_map f entities)

@@ -1,15 +1,17 @@
 -- The mail itself as a part, and the parts that come after it.
-use Rattle.std.proofs.Common.{◌≡◌, ℕ, ◌+◌, ◌-◌, ◌≤◌, List, [], ◌∷◌, ◌++◌, length, take, reverse, refl, sym, ap, subst, ◌∙◌, arith}
+use Rattle.std.proofs.Common.{◌≡◌, ℕ, ◌+◌, ◌-◌, ◌≤◌, List, [], ◌∷◌, ◌++◌, length, take, reverse, sym, ap, subst, ◌∙◌, arith}
 use Rattle.std.proofs.lemmas.List.{append-nil, take_all}
 use Rattle.nm_header.specs.Fields.{header_of}
 use Rattle.nm_header.specs.declared.header.HeaderList.{HeaderList}
-use Rattle.nm_mime.specs.PartReader.{AllWithin, parts_left}
-use Rattle.nm_mime.specs.Parts.{IsInside, IsWithin, bytes_in, children_of, opening_in, opening_of, parts_of, parts_upto, whole_of}
+use Rattle.nm_mime.specs.PartReader.{parts_left}
+use Rattle.nm_mime.specs.Pending.{AllInside, entities_to_come, pending_in}
+use Rattle.nm_mime.specs.declared.pending.Pending.{Pending}
+use Rattle.nm_mime.specs.Parts.{IsInside, IsWithin, bytes_in, opening_in, opening_of, parts_of, parts_upto, whole_of}
 use Rattle.nm_mime.specs.declared.entity.Entity.{Entity}
 use Rattle.nm_mime.specs.declared.entity.Opening.{Opening}
 use Rattle.nm_mime.specs.declared.entity.Part.{Part}
 use Rattle.nm_mime.proofs.PartLemmas.{opening_inside, opening_is, rest_inside}
-use Rattle.nm_mime.proofs.TreeLemmas.{top_within, turn_all, turn_within}
+use Rattle.nm_mime.proofs.TreeLemmas.{opened_inside, part_then_rest}
 
 whole_within : (mail : List ℕ) → IsWithin (length mail) (whole_of mail)
 whole_within mail = record { rises = omega arith; ends = omega arith; depth = omega arith }
@@ -32,35 +34,26 @@ whole_inside mail opening e = subst (λ (o : Opening). IsInside (length mail) o.
 pub part_inside : (mail : List ℕ) (part : Part) → part ≡ (opening_of mail (whole_of mail)).part → IsInside (length mail) part
 part_inside mail part e = subst (IsInside (length mail)) (sym e) (opening_inside mail (whole_of mail) (whole_within mail))
 
-only_whole : (mail : List ℕ) → AllWithin (length mail) (reverse (whole_of mail ∷ []))
-only_whole mail = (whole_within mail, tt)
-
-whole_left : (mail : List ℕ) → parts_of mail ≡ parts_left mail (reverse (whole_of mail ∷ []))
+whole_left : (mail : List ℕ) → parts_of mail ≡ parts_left mail (whole_of mail ∷ [])
 unfolding parts_left parts_of
 whole_left mail = sym (append-nil (parts_upto 33 mail (whole_of mail)))
 
-pub parts_opened : (mail : List ℕ) (part : Part) (none rest : List Entity) → none ≡ [] → part ≡ (opening_of mail (whole_of mail)).part
-    → reverse rest ≡ children_of mail (opening_of mail (whole_of mail)) ++ reverse none → parts_of mail ≡ part ∷ parts_left mail (reverse rest)
+pub parts_opened : (mail : List ℕ) (part : Part) (none rest : List Pending) → none ≡ [] → part ≡ (opening_of mail (whole_of mail)).part
+    → reverse rest ≡ pending_in (opening_of mail (whole_of mail)) ++ reverse none → parts_of mail ≡ part ∷ parts_left mail (entities_to_come mail (reverse rest))
 parts_opened mail part none rest n p r =
-    whole_left mail
-    ∙ turn_all mail (whole_of mail) (whole_of mail ∷ []) [] rest (only_whole mail) refl (r ∙ ap (λ xs. children_of mail (opening_of mail (whole_of mail)) ++ reverse xs) n)
-    ∙ ap (λ x. x ∷ parts_left mail (reverse rest)) (sym p)
+    whole_left mail ∙ part_then_rest mail (whole_of mail ∷ []) (whole_of mail) (reverse none) (reverse rest) part (whole_within mail) (sym (ap (λ x. whole_of mail ∷ entities_to_come mail (reverse x)) n)) p r
 
-pub opened_within : (mail : List ℕ) (none rest : List Entity) → none ≡ []
-    → reverse rest ≡ children_of mail (opening_of mail (whole_of mail)) ++ reverse none → AllWithin (length mail) (reverse rest)
-opened_within mail none rest n r =
-    turn_within mail (whole_of mail) (whole_of mail ∷ []) [] rest (only_whole mail) refl (r ∙ ap (λ xs. children_of mail (opening_of mail (whole_of mail)) ++ reverse xs) n)
+pub opened_stand : (mail : List ℕ) (none rest : List Pending) → none ≡ []
+    → reverse rest ≡ pending_in (opening_of mail (whole_of mail)) ++ reverse none → AllInside (length mail) (reverse rest)
+opened_stand mail none rest n r =
+    subst (AllInside (length mail)) (sym r) (opened_inside mail (whole_of mail) (reverse none) (whole_within mail) (subst (λ x. AllInside (length mail) (reverse x)) (sym n) tt))
 
-pub next_part : (mail : List ℕ) (entity : Entity) (left rest after : List Entity) (part : Part) → AllWithin (length mail) (reverse left) → left ≡ rest ++ entity ∷ []
-    → part ≡ (opening_of mail entity).part → reverse after ≡ children_of mail (opening_of mail entity) ++ reverse rest → parts_left mail (reverse left) ≡ part ∷ parts_left mail (reverse after)
-next_part mail entity left rest after part w l p a =
-    turn_all mail entity left rest after w l a ∙ ap (λ x. x ∷ parts_left mail (reverse after)) (sym p)
+pub next_inside : (mail : List ℕ) (entity : Entity) (part : Part) → IsWithin (length mail) entity → part ≡ (opening_of mail entity).part → IsInside (length mail) part
+next_inside mail entity part w p = subst (IsInside (length mail)) (sym p) (opening_inside mail entity w)
 
-pub next_inside : (mail : List ℕ) (entity : Entity) (left rest : List Entity) (part : Part) → AllWithin (length mail) (reverse left) → left ≡ rest ++ entity ∷ []
-    → part ≡ (opening_of mail entity).part → IsInside (length mail) part
-next_inside mail entity left rest part w l p =
-    subst (IsInside (length mail)) (sym p) (opening_inside mail entity (top_within (length mail) entity left rest w l))
-
-pub none_left : (mail : List ℕ) (left : List Entity) → left ≡ [] → parts_left mail (reverse left) ≡ []
+pub none_left : (mail : List ℕ) (entities : List Entity) → entities ≡ [] → parts_left mail entities ≡ []
 unfolding parts_left
-none_left mail left e = ap (λ xs. parts_left mail (reverse xs)) e
+none_left mail entities e = ap (parts_left mail) e
+
+pub next_stand : (mail : List ℕ) (entity : Entity) (between after : List Pending) → IsWithin (length mail) entity → AllInside (length mail) between → after ≡ pending_in (opening_of mail entity) ++ between → AllInside (length mail) after
+next_stand mail entity between after w all a = subst (AllInside (length mail)) (sym a) (opened_inside mail entity between w all)

@@ -1,13 +1,17 @@
--- The tree of parts: those found, and those that are left, are all.
-use Rattle.std.proofs.Common.{◌≡◌, ℕ, suc, ◌+◌, ◌-◌, ◌<◌, ◌≤◌, Bool, true, false, cond, not, ◌&&◌, ◌||◌, ◌==◌, List, [], ◌∷◌, ◌++◌, length, take, reverse, ltb, refl, sym, ap, subst, ◌∙◌, arith, append_assoc, length-append, length-take, min, codes}
+-- The tree of parts: a part, and those that are still to be read after it, are all.
+use Rattle.std.proofs.Common.{◌≡◌, ℕ, suc, ◌+◌, ◌-◌, ◌<◌, ◌≤◌, Bool, true, false, cond, not, ◌&&◌, ◌||◌, ◌==◌, List, [], ◌∷◌, ◌++◌, length, take, drop, reverse, ltb, refl, sym, ap, subst, ◌∙◌, arith, length-append, length-take, min, codes}
 use Rattle.std.specs.List.{concat, flat_map}
-use Rattle.std.proofs.lemmas.List.{append-nil, reverse-append}
+use Rattle.std.proofs.lemmas.List.{drop-drop, drop-take, reverse-append}
 use Rattle.std.proofs.lemmas.List.Concat.{flat_map-append}
 use Rattle.nm_text.specs.Lines.{content, lines_of}
 use Rattle.nm_header.specs.Texts.{field_text}
 use Rattle.nm_mime.specs.Children.{delimiters_of, ends_part, is_line_of, part_after, part_at, part_len, spans_in, spans_of, stops}
-use Rattle.nm_mime.specs.PartReader.{AllWithin, parts_left}
-use Rattle.nm_mime.specs.Parts.{IsInside, IsWithin, boundary_of, bytes_in, children_of, entities_from, entity_in, inside, is_opened, opening_in, opening_of, parts_of, parts_upto, whole_of}
+use Rattle.nm_mime.specs.PartReader.{parts_left}
+use Rattle.nm_mime.specs.Pending.{AllInside, IsOpenInside, IsPendingInside, entities_in, entities_to_come, open_entities, pending_in, pending_of}
+use Rattle.nm_mime.specs.declared.pending.OpenMultipart.{OpenMultipart}
+use Rattle.nm_mime.specs.declared.pending.Pending.{Pending}
+use Rattle.nm_mime.specs.declared.pending.Pending.TheVariants.{Mail, Multipart}
+use Rattle.nm_mime.specs.Parts.{IsInside, IsWithin, boundary_of, bytes_in, children_of, entities_from, entity_in, inside, is_opened, opening_in, opening_of, parts_upto}
 use Rattle.nm_mime.specs.Roles.{encoding_of, is_attachment, is_kind_of, is_message, is_multipart, is_plain, role_of}
 use Rattle.nm_mime.specs.Types.{type_of}
 use Rattle.nm_mime.specs.declared.types.ContentType.{ContentType}
@@ -21,43 +25,17 @@ use Rattle.nm_mime.specs.declared.entity.Entity.{Entity}
 use Rattle.nm_mime.specs.declared.entity.Opening.{Opening}
 use Rattle.nm_mime.specs.declared.entity.Part.{Part}
 use Rattle.nm_mime.proofs.ChildLemmas.{lines_long}
-use Rattle.nm_mime.proofs.PartLemmas.{content_long, opening_inside}
+use Rattle.nm_mime.proofs.PartLemmas.{content_long, opening_inside, stretch_long}
 use Rattle.std.proofs.lemmas.Bool.{ltb-true}
 use Rattle.std.specs.Str.Lines.{strip_carriage_return}
 use Rattle.std.specs.Prelude.{slice_index}
 use Rattle.nm_mime.specs.declared.roles.Role.TheVariants.{Opened, Readable, Signature, Unread}
 use Rattle.nm_mime.specs.declared.roles.Encoding.{Encoding}
 
--- ---- the children are put on top, the last one lowest
-entities-append : (part : Part) (n : ℕ) (xs : List Span) (x : Span) → entities_from part n (xs ++ x ∷ []) ≡ entities_from part n xs ++ entity_in part (n + length xs) x ∷ []
-entities-append part n [] x = let none : n ≡ n + 0 = omega arith in ap (λ k. entity_in part k x ∷ []) none
-entities-append part n (y ∷ xs) x =
-    let one : n + 1 + length xs ≡ n + suc (length xs) = omega arith in
-    ap (λ l. entity_in part n y ∷ l) (entities-append part (n + 1) xs x) ∙ ap (λ k. entity_in part n y ∷ (entities_from part (n + 1) xs ++ entity_in part k x ∷ [])) one
-
-pub push_turn : (part : Part) (still rest : List Span) (span : Span) (left after : List Entity) (entity : Entity) → still ≡ rest ++ span ∷ [] → after ≡ left ++ entity ∷ [] → entity ≡ entity_in part (length rest) span → entities_from part 0 rest ++ reverse after ≡ entities_from part 0 still ++ reverse left
-push_turn part still rest span left after entity s a e =
-    let back : reverse after ≡ entity ∷ reverse left = ap reverse a ∙ reverse-append left (entity ∷ []) in
-    let none : 0 + length rest ≡ length rest = omega arith in
-    let front : entities_from part 0 still ≡ entities_from part 0 rest ++ entity ∷ [] = ap (entities_from part 0) s ∙ entities-append part 0 rest span ∙ ap (λ k. entities_from part 0 rest ++ entity_in part k span ∷ []) none ∙ ap (λ x. entities_from part 0 rest ++ x ∷ []) (sym e) in
-    ap (λ x. entities_from part 0 rest ++ x) back ∙ sym (append_assoc (entities_from part 0 rest) (entity ∷ []) (reverse left)) ∙ ap (λ x. x ++ reverse left) (sym front)
-
-pub push_end : (part : Part) (still spans : List Span) (left before : List Entity) → still ≡ [] → entities_from part 0 still ++ reverse left ≡ entities_from part 0 spans ++ reverse before → reverse left ≡ entities_from part 0 spans ++ reverse before
-push_end part still spans left before none all = sym (ap (λ x. entities_from part 0 x ++ reverse left) none) ∙ all
-
-pub children_opened : (mail : List ℕ) (opening : Opening) (spans : List Span) (left after : List Entity) → is_opened opening.part.role ≡ true → spans ≡ inside mail opening → reverse after ≡ entities_from opening.part 0 spans ++ reverse left → reverse after ≡ children_of mail opening ++ reverse left
-unfolding children_of
-children_opened mail opening spans left after o s a =
-    a ∙ ap (λ x. entities_from opening.part 0 x ++ reverse left) s ∙ ap (λ v. cond v (entities_from opening.part 0 (inside mail opening)) [] ++ reverse left) (sym o)
-
-pub children_closed : (mail : List ℕ) (opening : Opening) (left : List Entity) → is_opened opening.part.role ≡ false → reverse left ≡ children_of mail opening ++ reverse left
-unfolding children_of
-children_closed mail opening left o = ap (λ v. cond v (entities_from opening.part 0 (inside mail opening)) [] ++ reverse left) (sym o)
-
--- ---- what is left stands inside the mail
-within-append : (size : ℕ) (xs ys : List Entity) → AllWithin size xs → AllWithin size ys → AllWithin size (xs ++ ys)
-within-append size [] ys a b = b
-within-append size (x ∷ xs) ys a b = (a.0, within-append size xs ys a.1 b)
+-- ---- the entities in a part stand inside the mail
+abbrev pub AllWithin : ℕ → List Entity → Type 0
+AllWithin size [] = Unit {0}
+AllWithin size (entity ∷ more) = IsWithin size entity × AllWithin size more
 
 abbrev AllRise : ℕ → List Span → Type 0
 AllRise end [] = Unit {0}
@@ -194,41 +172,82 @@ left-nil : (mail : List ℕ) → parts_left mail [] ≡ []
 unfolding parts_left
 left-nil mail = refl
 
-on_top : (left rest : List Entity) (entity : Entity) → left ≡ rest ++ entity ∷ [] → reverse left ≡ entity ∷ reverse rest
-on_top left rest entity e = ap reverse e ∙ reverse-append rest (entity ∷ [])
+-- ---- what is still to be read in a part that was just opened are the entities in it
+pending_entities : (mail : List ℕ) (opening : Opening) → entities_in mail (pending_of opening) ≡ entities_from opening.part 0 (inside mail opening)
+pending_entities mail opening =
+    let part : Part = opening.part in
+    let span : Span = record { from = part.from; to = part.to } in
+    let multipart : OpenMultipart = record { part = part; delimiters = delimiters_of opening.boundary; before = 0; at = part.from } in
+    elim (is_multipart part.kind) as (λ v. entities_in mail (cond v (Multipart multipart) (Mail (entity_in part 0 span))) ≡ entities_from part 0 (cond v (spans_of (delimiters_of opening.boundary) part.to (bytes_in mail part.from part.to)) (span ∷ []))) [ true ↦ refl | false ↦ refl ]
 
--- all that is left before a turn is its part and all that is left behind it
-pub turn_all : (mail : List ℕ) (entity : Entity) (left rest after : List Entity) → AllWithin (length mail) (reverse left) → left ≡ rest ++ entity ∷ [] → reverse after ≡ children_of mail (opening_of mail entity) ++ reverse rest → parts_left mail (reverse left) ≡ (opening_of mail entity).part ∷ parts_left mail (reverse after)
-turn_all mail entity left rest after w l a =
-    let top : reverse left ≡ entity ∷ reverse rest = on_top left rest entity l in
-    let inside : IsWithin (length mail) entity = (subst (AllWithin (length mail)) top w).0 in
-    ap (parts_left mail) top ∙ left_step mail entity (reverse rest) inside.depth ∙ ap (λ x. (opening_of mail entity).part ∷ x) (sym (ap (parts_left mail) a ∙ left-append mail (children_of mail (opening_of mail entity)) (reverse rest)))
+opened_entities : (mail : List ℕ) (opening : Opening) (rest : List Pending) → entities_to_come mail (pending_in opening ++ rest) ≡ children_of mail opening ++ entities_to_come mail rest
+unfolding children_of
+opened_entities mail opening rest =
+    elim (is_opened opening.part.role) as (λ v. entities_to_come mail (cond v (pending_of opening ∷ []) [] ++ rest) ≡ cond v (entities_from opening.part 0 (inside mail opening)) [] ++ entities_to_come mail rest) [
+      | true ↦ ap (λ x. x ++ entities_to_come mail rest) (pending_entities mail opening)
+      | false ↦ refl
+    ]
 
-pub top_within : (size : ℕ) (entity : Entity) (left rest : List Entity) → AllWithin size (reverse left) → left ≡ rest ++ entity ∷ [] → IsWithin size entity
-top_within size entity left rest w l = (subst (AllWithin size) (on_top left rest entity l) w).0
+one_inside : (size : ℕ) (opening : Opening) → IsInside size opening.part → opening.part.depth < 32 → IsPendingInside size (pending_of opening)
+one_inside size opening i low =
+    let part : Part = opening.part in
+    let span : Span = record { from = part.from; to = part.to } in
+    let multipart : OpenMultipart = record { part = part; delimiters = delimiters_of opening.boundary; before = 0; at = part.from } in
+    elim (is_multipart part.kind) as (λ v. IsPendingInside size (cond v (Multipart multipart) (Mail (entity_in part 0 span)))) [
+      | true ↦ record { few = omega arith; rises = i.rises; ends = i.ends; depth = low }
+      | false ↦ record { rises = i.rises; ends = i.ends; depth = omega arith }
+    ]
 
-pub parts_turn : (mail : List ℕ) (entity : Entity) (left rest after : List Entity) (before found : List Part) (part : Part) → AllWithin (length mail) (reverse left) → left ≡ rest ++ entity ∷ [] → reverse after ≡ children_of mail (opening_of mail entity) ++ reverse rest → part ≡ (opening_of mail entity).part → found ≡ before ++ part ∷ [] → found ++ parts_left mail (reverse after) ≡ before ++ parts_left mail (reverse left)
-parts_turn mail entity left rest after before found part w l a p f =
-    ap (λ x. x ++ parts_left mail (reverse after)) f ∙ append_assoc before (part ∷ []) (parts_left mail (reverse after)) ∙ ap (λ x. before ++ x ∷ parts_left mail (reverse after)) p ∙ ap (λ x. before ++ x) (sym (turn_all mail entity left rest after w l a))
+pub opened_inside : (mail : List ℕ) (entity : Entity) (rest : List Pending) → IsWithin (length mail) entity → AllInside (length mail) rest → AllInside (length mail) (pending_in (opening_of mail entity) ++ rest)
+opened_inside mail entity rest w all =
+    let opening : Opening = opening_of mail entity in
+    elim (is_opened opening.part.role) as (λ v. is_opened opening.part.role ≡ v → AllInside (length mail) (cond v (pending_of opening ∷ []) [] ++ rest)) [
+      | true ↦ λ o. (one_inside (length mail) opening (opening_inside mail entity w) (part_low mail entity o), all)
+      | false ↦ λ o. all
+    ] refl
 
-pub turn_within : (mail : List ℕ) (entity : Entity) (left rest after : List Entity) → AllWithin (length mail) (reverse left) → left ≡ rest ++ entity ∷ [] → reverse after ≡ children_of mail (opening_of mail entity) ++ reverse rest → AllWithin (length mail) (reverse after)
-turn_within mail entity left rest after w l a =
-    let both = subst (AllWithin (length mail)) (on_top left rest entity l) w in
-    subst (AllWithin (length mail)) (sym a) (within-append (length mail) (children_of mail (opening_of mail entity)) (reverse rest) (children_within mail entity both.0) both.1)
+-- ---- a part, and all that is still to come after it
+pub part_then_rest : (mail : List ℕ) (entities : List Entity) (entity : Entity) (between after : List Pending) (part : Part) → IsWithin (length mail) entity → entities ≡ entity ∷ entities_to_come mail between → part ≡ (opening_of mail entity).part → after ≡ pending_in (opening_of mail entity) ++ between → parts_left mail entities ≡ part ∷ parts_left mail (entities_to_come mail after)
+part_then_rest mail entities entity between after part w e p a =
+    let opening : Opening = opening_of mail entity in
+    let rest : parts_left mail (entities_to_come mail after) ≡ parts_left mail (children_of mail opening) ++ parts_left mail (entities_to_come mail between) =
+    ap (λ x. parts_left mail (entities_to_come mail x)) a ∙ ap (parts_left mail) (opened_entities mail opening between) ∙ left-append mail (children_of mail opening) (entities_to_come mail between) in
+    ap (parts_left mail) e ∙ left_step mail entity (entities_to_come mail between) w.depth ∙ ap (λ x. opening.part ∷ x) (sym rest) ∙ ap (λ x. x ∷ parts_left mail (entities_to_come mail after)) (sym p)
 
-pub turn_less : (mail : List ℕ) (entity : Entity) (left rest after : List Entity) → AllWithin (length mail) (reverse left) → left ≡ rest ++ entity ∷ [] → reverse after ≡ children_of mail (opening_of mail entity) ++ reverse rest → length (parts_left mail (reverse after)) < length (parts_left mail (reverse left))
-turn_less mail entity left rest after w l a =
-    let long : length (parts_left mail (reverse left)) ≡ suc (length (parts_left mail (reverse after))) = ap length (turn_all mail entity left rest after w l a) in
-    omega arith
+-- ---- what is read next is on top
+pub on_top : (before after : List Pending) (pending : Pending) → before ≡ after ++ pending ∷ [] → reverse before ≡ pending ∷ reverse after
+on_top before after pending e = ap reverse e ∙ reverse-append after (pending ∷ [])
 
-pub parts_begin : (mail : List ℕ) (found : List Part) (left : List Entity) (entity : Entity) → found ≡ [] → left ≡ [] ++ entity ∷ [] → entity ≡ whole_of mail → (found ++ parts_left mail (reverse left) ≡ parts_of mail) × AllWithin (length mail) (reverse left)
-unfolding parts_left parts_of
-parts_begin mail found left entity f l e =
-    let whole : left ≡ whole_of mail ∷ [] = l ∙ ap (λ x. x ∷ []) e in (
-      ap (λ x. x ++ parts_left mail (reverse left)) f ∙ ap (λ x. parts_left mail (reverse x)) whole ∙ append-nil (parts_upto 33 mail (whole_of mail)),
-      subst (λ x. AllWithin (length mail) (reverse x)) (sym whole) (record { rises = omega arith; ends = omega arith; depth = omega arith }, tt),
-    )
+pub top_inside : (size : ℕ) (before after : List Pending) (pending : Pending) → before ≡ after ++ pending ∷ [] → AllInside size (reverse before) → IsPendingInside size pending × AllInside size (reverse after)
+top_inside size before after pending e all = subst (AllInside size) (on_top before after pending e) all
 
-pub parts_end : (mail : List ℕ) (found : List Part) (left : List Entity) → left ≡ [] → found ++ parts_left mail (reverse left) ≡ parts_of mail → found ≡ parts_of mail
-parts_end mail found left none all =
-    sym (append-nil found) ∙ ap (λ x. found ++ x) (sym (ap (λ x. parts_left mail (reverse x)) none ∙ left-nil mail)) ∙ all
+pub none_there : (mail : List ℕ) (before after new : List Pending) (pending : Pending) → before ≡ after ++ pending ∷ [] → entities_in mail pending ≡ [] → new ≡ after → entities_to_come mail (reverse new) ≡ entities_to_come mail (reverse before)
+none_there mail before after new pending e none same =
+    ap (λ x. entities_to_come mail (reverse x)) same ∙ sym (ap (entities_to_come mail) (on_top before after pending e) ∙ ap (λ x. x ++ entities_to_come mail (reverse after)) none)
+
+pub first_there : (mail : List ℕ) (before after new : List Pending) (pending : Pending) (entity : Entity) → before ≡ after ++ pending ∷ [] → entities_in mail pending ++ entities_to_come mail (reverse after) ≡ entity ∷ entities_to_come mail (reverse new) → entities_to_come mail (reverse before) ≡ entity ∷ entities_to_come mail (reverse new)
+first_there mail before after new pending entity e first = ap (entities_to_come mail) (on_top before after pending e) ∙ first
+
+-- the entity, and the multipart put back without it
+pub put_back : (mail : List ℕ) (multipart again : OpenMultipart) (before new : List Pending) (entity : Entity) → open_entities mail multipart ≡ entity ∷ open_entities mail again → new ≡ before ++ Multipart again ∷ [] → open_entities mail multipart ++ entities_to_come mail (reverse before) ≡ entity ∷ entities_to_come mail (reverse new)
+put_back mail multipart again before new entity e n =
+    ap (λ x. x ++ entities_to_come mail (reverse before)) e ∙ ap (λ x. entity ∷ x) (sym (ap (entities_to_come mail) (on_top new before (Multipart again) n)))
+
+pub back_inside : (size : ℕ) (again : OpenMultipart) (before new : List Pending) → IsOpenInside size again → new ≡ before ++ Multipart again ∷ [] → AllInside size (reverse before) → AllInside size (reverse new)
+back_inside size again before new i n all = subst (AllInside size) (sym (on_top new before (Multipart again) n)) (i, all)
+
+-- ---- the next span in a multipart
+drop_in : (mail : List ℕ) (at next to : ℕ) → next ≤ to - at → drop next (bytes_in mail at to) ≡ bytes_in mail (at + next) to
+drop_in mail at next to h =
+    let size : to - at ≡ next + (to - (at + next)) = omega arith in
+    ap (λ k. drop next (take k (drop at mail))) size ∙ drop-take next (to - (at + next)) (drop at mail) ∙ ap (take (to - (at + next))) (drop-drop next at mail)
+
+pub open_next : (mail bytes : List ℕ) (multipart : OpenMultipart) (span : Span) (next : ℕ) (entity : Entity) → multipart.at ≤ multipart.part.to → multipart.part.to ≤ length mail → next ≤ length bytes → bytes ≡ bytes_in mail multipart.at multipart.part.to
+    → spans_of multipart.delimiters multipart.part.to bytes ≡ span ∷ spans_of multipart.delimiters multipart.part.to (drop next bytes) → entity ≡ entity_in multipart.part multipart.before span
+    → open_entities mail multipart ≡ entity ∷ entities_from multipart.part (multipart.before + 1) (spans_of multipart.delimiters multipart.part.to (bytes_in mail (multipart.at + next) multipart.part.to))
+open_next mail bytes multipart span next entity rises ends short b s e =
+    let part : Part = multipart.part in
+    let spans : List ℕ → List Span = spans_of multipart.delimiters part.to in
+    let long : length bytes ≡ part.to - multipart.at = ap length b ∙ stretch_long mail multipart.at part.to rises ends in
+    let rest : drop next bytes ≡ bytes_in mail (multipart.at + next) part.to = ap (drop next) b ∙ drop_in mail multipart.at next part.to (omega arith) in
+    ap (λ x. entities_from part multipart.before (spans x)) (sym b) ∙ ap (entities_from part multipart.before) s ∙ ap (λ x. x ∷ entities_from part (multipart.before + 1) (spans (drop next bytes))) (sym e) ∙ ap (λ x. entity ∷ entities_from part (multipart.before + 1) (spans x)) rest

@@ -1,7 +1,9 @@
+pub mod ChildSteps
 pub mod Children
 pub mod Laws
 pub mod Params
 pub mod PartReader
 pub mod Parts
+pub mod Pending
 pub mod Roles
 pub mod Types

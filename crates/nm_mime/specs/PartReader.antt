@@ -1,15 +1,11 @@
 -- Reading the parts of a mail one by one: which are still to come.
-use Rattle.std.specs.Prelude.{ℕ, ◌-◌, List, [], ◌∷◌, length, reverse}
+use Rattle.std.specs.Prelude.{ℕ, ◌-◌, List, length, reverse}
 use Rattle.std.specs.List.{flat_map}
-use Rattle.nm_mime.specs.Parts.{IsWithin, parts_upto}
+use Rattle.nm_mime.specs.Parts.{parts_upto}
+use Rattle.nm_mime.specs.Pending.{AllInside, entities_to_come}
 use Rattle.nm_mime.specs.declared.entity.Entity.{Entity}
 use Rattle.nm_mime.specs.declared.entity.Part.{Part}
 use Rattle.nm_mime.specs.declared.part_reader.PartReader.{PartReader}
-
--- each of these entities stands inside a mail of this size
-abbrev pub AllWithin : ℕ → List Entity → Type 0
-AllWithin size [] = Unit {0}
-AllWithin size (entity ∷ more) = IsWithin size entity × AllWithin size more
 
 -- the parts of these entities, each before those in it
 unfoldable pub parts_left : List ℕ → List Entity → List Part
@@ -21,8 +17,8 @@ mail_of reader = reader.mail.now
 
 -- the parts that are still to come
 abbrev pub parts_to_come : PartReader → List Part
-parts_to_come reader = parts_left reader.mail.now (reverse reader.rest)
+parts_to_come reader = parts_left reader.mail.now (entities_to_come reader.mail.now (reverse reader.rest))
 
--- they stand inside the mail
+-- what is still to be read stands inside the mail
 abbrev pub StandInside : PartReader → Type 0
-StandInside reader = AllWithin (length reader.mail.now) (reverse reader.rest)
+StandInside reader = AllInside (length reader.mail.now) (reverse reader.rest)

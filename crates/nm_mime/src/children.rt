@@ -1,8 +1,9 @@
-//! What stands between the delimiters of a multipart, for `parts`.
+//! What stands between the delimiters of a multipart; the reader of parts asks for one part after the other.
 
-ghost use Rattle.std.specs.Prelude.{◌≡◌, ◌++◌, ◌≤◌, IfOk, OnOk, length};
+ghost use Rattle.std.specs.Prelude.{◌≡◌, ◌∷◌, ◌<◌, ◌≤◌, [], ℕ, IfOk, IfSome, MatchOption, drop, length, true};
 ghost use Rattle.nm_text.specs.Lines.{lines_of};
-ghost use Rattle.nm_mime.specs.Children.{delimiters_of, ends_part, is_line_of, part_after, part_at, part_len, spans_of};
+ghost use Rattle.nm_mime.specs.Children.{delimiters_of, ends_part, is_line_of, part_len, spans_of, stops};
+ghost use Rattle.nm_mime.specs.ChildSteps.{IsNextInside};
 
 use nm_base::{Many, NoMemory};
 use nm_text::{content, is_all_white_space, line_len};
@@ -32,72 +33,68 @@ pub(crate) fn line_delimiters(alloc: Global, boundary: &[u8]) -> Result<Delimite
     Ok(Delimiters { delimiter, closing })
 }
 
-/// The parts in the content of a multipart, which ends at `end`.
-pub(crate) fn spans(
-    alloc: Global,
-    delimiters: &Delimiters,
-    bytes: &[u8],
-    end: usize,
-) -> Result<Many<Span>, NoMemory>
+/// A part, and where the bytes after it begin.
+#[derive(Clone, Copy, Debug)]
+pub struct NextSpan {
+    pub span: Span,
+    pub next: usize,
+}
+
+/// The first part in these bytes, which end at `end`.
+pub(crate) fn next_span(delimiters: &Delimiters, bytes: &[u8], end: usize) -> Option<NextSpan>
     requires { length bytes.now ≤ end }
-    ensures { IfOk result (λ found. found ≡ spans_of delimiters.now end bytes.now) }
+    ensures next { MatchOption result (spans_of delimiters.now end bytes.now ≡ []) (λ found. spans_of delimiters.now end bytes.now ≡ found.span ∷ spans_of delimiters.now end (drop found.next bytes.now)) }
+    ensures inside { IfSome result (IsNextInside (length bytes.now) end) }
 {
-    let mut found = Many::new(alloc);
-    let mut left = bytes;
-    'lines: while !left.is_empty() {
-        let (line, after) = left.split_at(line_len(left));
-        if is_line_of(delimiters.closing.as_slice(), line) {
-            return Ok(found);
-        }
-        add_after(delimiters, line, after, end, &mut found)?;
-        left = after;
+    let first = part_end(delimiters, bytes).next;
+    let rest = &bytes[first..];
+    if rest.is_empty() {
+        return None;
     }
-    Ok(found)
-}
-
-/// Adds the part after a line, where that is a delimiter.
-fn add_after(
-    delimiters: &Delimiters,
-    line: &[u8],
-    after: &[u8],
-    end: usize,
-    found: &mut Many<Span>,
-) -> Result<(), NoMemory>
-    requires { length after.now ≤ end }
-    ensures { OnOk result (found.new ≡ found.old ++ part_at delimiters.now end line.now (lines_of after.now)) }
-{
-    if !is_line_of(delimiters.delimiter.as_slice(), line) {
-        return Ok(());
+    let (line, after) = rest.split_at(line_len(rest));
+    if is_line_of(delimiters.closing.as_slice(), line) {
+        return None;
     }
-    found.push(part_after(delimiters, after, end))
-}
-
-#[tactic(auto, using(crate::proofs::ChildLemmas::lines_long))]
-fn part_after(delimiters: &Delimiters, after: &[u8], end: usize) -> Span
-    requires { length after.now ≤ end }
-    ensures { result ≡ part_after delimiters.now end (lines_of after.now) }
-{
     let from = end - after.len();
-    let to = from + part_len(delimiters, after);
-    Span { from, to }
+    let part = part_end(delimiters, after);
+    Some(NextSpan {
+        span: Span {
+            from,
+            to: from + part.len,
+        },
+        next: bytes.len() - after.len() + part.next,
+    })
 }
 
-/// How many bytes the part has that begins here.
-fn part_len(delimiters: &Delimiters, bytes: &[u8]) -> usize
-    ensures value { result ≡ part_len delimiters.now (lines_of bytes.now) }
-    ensures within { result ≤ length bytes.now }
+/// How far a part goes.
+#[derive(Clone, Copy, Debug)]
+pub struct PartEnd {
+    /// How many bytes it has.
+    pub len: usize,
+    /// Where the line stands that ends it, or else the end of the bytes.
+    pub next: usize,
+}
+
+/// How far the part goes that begins here: no part begins before `next`.
+fn part_end(delimiters: &Delimiters, bytes: &[u8]) -> PartEnd
+    ensures len { result.len ≡ part_len delimiters.now (lines_of bytes.now) }
+    ensures same { (end : ℕ) → spans_of delimiters.now end (drop result.next bytes.now) ≡ spans_of delimiters.now end bytes.now }
+    ensures stops { result.next < length bytes.now → stops delimiters.now (lines_of (drop result.next bytes.now)) ≡ true }
+    ensures short { result.len ≤ result.next }
+    ensures within { result.next ≤ length bytes.now }
 {
-    let mut left = bytes;
-    let mut kept = 0;
-    'lines: while !left.is_empty() {
-        let (line, after) = left.split_at(line_len(left));
+    let mut next = 0;
+    let mut len = 0;
+    'lines: while next < bytes.len() {
+        let rest = &bytes[next..];
+        let line = &rest[..line_len(rest)];
         if ends_part(delimiters, line) {
-            return kept;
+            return PartEnd { len, next };
         }
-        kept = bytes.len() - left.len() + content(line).len();
-        left = after;
+        len = next + content(line).len();
+        next += line.len();
     }
-    bytes.len()
+    PartEnd { len: next, next }
 }
 
 fn ends_part(delimiters: &Delimiters, line: &[u8]) -> bool

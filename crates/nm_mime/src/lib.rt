@@ -7,6 +7,7 @@ mod entity;
 mod laws;
 mod param_list;
 mod part_reader;
+mod pending;
 mod quoted;
 mod reading;
 mod roles;

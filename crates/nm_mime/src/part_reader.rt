@@ -3,21 +3,23 @@
 ghost use Rattle.std.specs.Prelude.{◌≡◌, ◌∷◌, ◌++◌, [], IfOk, IfSome, MatchOption, OnOk, length, reverse};
 ghost use Rattle.nm_header.specs.Fields.{header_of};
 ghost use Rattle.nm_mime.specs.PartReader.{StandInside, mail_of, parts_to_come};
-ghost use Rattle.nm_mime.specs.Parts.{IsInside, children_of, opening_of, parts_of, whole_of};
+ghost use Rattle.nm_mime.specs.Parts.{IsInside, IsWithin, opening_of, parts_of, whole_of};
+ghost use Rattle.nm_mime.specs.Pending.{pending_in};
 
 use crate::entity::{Entity, Opening, Part};
-use crate::reading::read_fields;
-use crate::tree::{open_part, push_children, whole};
+use crate::pending::{Pending, next_entity, push_pending};
+use crate::reading::{read_fields, read_opening};
 use nm_base::{Many, NoMemory};
 use nm_header::HeaderList;
 use std::alloc::Global;
 
-/// Reads the parts of a mail one by one, each before those in it. After want of memory it tells nothing.
+/// Reads the parts of a mail one by one, each before those in it. Its memory follows how deep the parts stand, not
+/// how many there are. After want of memory it tells nothing.
 #[derive(Debug, Drop)]
 pub struct PartReader<'a> {
     mail: &'a [u8],
     /// The last one is read next.
-    rest: Many<Entity>,
+    rest: Many<Pending>,
 }
 
 impl<'a> PartReader<'a> {
@@ -46,7 +48,7 @@ impl<'a> PartReader<'a> {
         ensures mail { mail_of self.new ≡ mail_of self.old }
         ensures stand { OnOk result (StandInside self.new) }
     {
-        let Some(entity) = self.rest.pop() else {
+        let Some(entity) = next_entity(self.mail, &mut self.rest)? else {
             return Ok(None);
         };
         let part = open_part(alloc, self.mail, entity, &mut self.rest)?;
@@ -54,19 +56,19 @@ impl<'a> PartReader<'a> {
     }
 }
 
-/// The mail itself as a part; the entities in it go on top of those that are left, the last one lowest.
+/// The mail itself as a part; what is to be read in it goes on top.
 fn open_whole(
     alloc: Global,
     mail: &[u8],
     header: &HeaderList,
-    rest: &mut Many<Entity>,
+    rest: &mut Many<Pending>,
 ) -> Result<Part, NoMemory>
     requires { header.now ≡ header_of mail.now }
     ensures part { IfOk result (λ part. part ≡ (opening_of mail.now (whole_of mail.now)).part) }
-    ensures rest { OnOk result (reverse rest.new ≡ children_of mail.now (opening_of mail.now (whole_of mail.now)) ++ reverse rest.old) }
+    ensures rest { OnOk result (reverse rest.new ≡ pending_in (opening_of mail.now (whole_of mail.now)) ++ reverse rest.old) }
 {
     let opening = read_whole(alloc, mail, header)?;
-    push_children(alloc, mail, &opening, rest)?;
+    push_pending(alloc, &opening, rest)?;
     let Opening { part, boundary: _ } = opening;
     Ok(part)
 }
@@ -77,4 +79,33 @@ fn read_whole(alloc: Global, mail: &[u8], header: &HeaderList) -> Result<Opening
 {
     let opening = read_fields(alloc, whole(mail), header)?;
     Ok(opening)
+}
+
+fn whole(bytes: &[u8]) -> Entity
+    ensures { result ≡ whole_of bytes.now }
+{
+    Entity {
+        depth: 0,
+        from: 0,
+        to: bytes.len(),
+        digest: false,
+        signature: false,
+    }
+}
+
+/// The part of an entity; what is to be read in it goes on top.
+fn open_part(
+    alloc: Global,
+    mail: &[u8],
+    entity: Entity,
+    rest: &mut Many<Pending>,
+) -> Result<Part, NoMemory>
+    requires { IsWithin (length mail.now) entity }
+    ensures part { IfOk result (λ part. part ≡ (opening_of mail.now entity).part) }
+    ensures rest { OnOk result (reverse rest.new ≡ pending_in (opening_of mail.now entity) ++ reverse rest.old) }
+{
+    let opening = read_opening(alloc, mail, entity)?;
+    push_pending(alloc, &opening, rest)?;
+    let Opening { part, boundary: _ } = opening;
+    Ok(part)
 }

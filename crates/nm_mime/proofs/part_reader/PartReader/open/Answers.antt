@@ -1,4 +1,4 @@
-use Rattle.nm_mime.proofs.PartReaderLemmas.{opened_within, part_inside, parts_opened}
+use Rattle.nm_mime.proofs.PartReaderLemmas.{opened_stand, part_inside, parts_opened}
 use Rattle.nm_mime.proofs.part_reader.PartReader.open.Goals as goal
 
 pub returns-clause-parts : goal.returns-clause-parts
@@ -8,4 +8,4 @@ pub returns-clause-inside : goal.returns-clause-inside
 returns-clause-inside c = part_inside c.args.mail.now c.in_ok-part.part c.in_ok-part.ensures.part
 
 pub returns-clause-stand : goal.returns-clause-stand
-returns-clause-stand c = opened_within c.args.mail.now c.new-rest.result c.open_whole.new.rest c.new-rest.ensures c.in_ok-part.ensures.rest
+returns-clause-stand c = opened_stand c.args.mail.now c.new-rest.result c.open_whole.new.rest c.new-rest.ensures c.in_ok-part.ensures.rest
