@@ -1,17 +1,17 @@
--- Where a text is cut: the first place of a byte, the first line, the first word.
-use Rattle.std.proofs.Common.{◌≡◌, ℕ, ◌+◌, ◌-◌, ◌<◌, ◌≤◌, ◌==◌, Bool, true, false, not, List, [], ◌∷◌, length, filter, get_or, take, drop, sym, ap, ◌∙◌, refl, arith, subst, inl, inr, cond, add-one, suc}
-use Rattle.std.specs.List.{position_or_len, slice_split, after_first, onto_first}
-use Rattle.std.specs.Str.Lines.{lines, lines_of_parts, strip_carriage_return}
-use Rattle.std.proofs.lemmas.List.{take_all, drop_all, length-drop, length-take}
+-- Where a text is cut: the first place that passes a test, the first word.
+use Rattle.std.proofs.Common.{◌≡◌, ℕ, ◌+◌, ◌<◌, ◌≤◌, ◌==◌, Bool, true, false, not, List, [], ◌∷◌, length, filter, get_or, take, drop, sym, ap, ◌∙◌, arith, subst, inl, inr, cond, add-one, suc}
+use Rattle.std.specs.List.{position_or_len, slice_split, after_first}
+use Rattle.std.proofs.lemmas.List.{take_all, drop_all, length-take}
 use Rattle.std.proofs.lemmas.List.Elements.{All-from_get_or}
 use Rattle.std.proofs.lemmas.List.Sums.{position_or_len_is, fails_before_first, passes_at_first}
-use Rattle.std.proofs.lemmas.List.Splits.{slice_split_first, slice_split_none, slice_split-cons_yes, slice_split-cons_no}
+use Rattle.std.proofs.lemmas.List.Splits.{slice_split_first, slice_split_none, slice_split-cons_yes}
 use Rattle.std.proofs.lemmas.Bool.{cases_lt}
 use Rattle.std.proofs.lemmas.Bool.Decides.{nat_tests}
 use Rattle.std.proofs.Math.Seq.{drop-cons}
 use Rattle.std.specs.Str.{IsUtf8, IsCharBoundary}
 use Rattle.std.proofs.lemmas.Str.{IsCharBoundary-after_ascii, IsCharBoundary-before_ascii, IsCharBoundary-end}
-use Rattle.nm_log.specs.Words.{begins_blank, is_blank, words_of}
+use Rattle.nm_log.specs.Words.{begins_blank, words_of}
+use Rattle.nm_text.specs.WhiteSpace.{is_blank}
 
 -- the place at which a loop stops is the first
 pub first_place : (p : ℕ → Bool) (xs : List ℕ) (i : ℕ) → i < length xs → ((k : ℕ) → k < i → p (get_or xs k 0) ≡ false) → p (get_or xs i 0) ≡ true → i ≡ position_or_len p xs
@@ -25,60 +25,9 @@ no_place p xs i all below = sym (position_or_len_is p xs i 0 (omega arith) below
 one_part : (p : ℕ → Bool) (xs : List ℕ) → length xs ≡ position_or_len p xs → slice_split p xs ≡ xs ∷ []
 one_part p xs all = slice_split_none p xs (All-from_get_or (λ x. p x ≡ false) xs 0 (λ i within. fails_before_first p xs i 0 (omega arith)))
 
--- a cut gives a part at least
-onto_cons : (x : ℕ) (parts : List (List ℕ)) (y : List ℕ) (more : List (List ℕ)) → parts ≡ y ∷ more → onto_first x parts ≡ (x ∷ y) ∷ more
-onto_cons x parts y more e = ap (onto_first x) e
-
-record HasPart (parts : List (List ℕ)) : Type 0 where
-  first : List ℕ
-  more : List (List ℕ)
-  is : parts ≡ first ∷ more
-
-split_by : (p : ℕ → Bool) (x : ℕ) (xs : List ℕ) (b : Bool) → p x ≡ b → HasPart (slice_split p xs) → HasPart (slice_split p (x ∷ xs))
-split_by p x xs true e h = record { first = []; more = slice_split p xs; is = slice_split-cons_yes p x xs e }
-split_by p x xs false e h = record { first = x ∷ h.first; more = h.more; is = slice_split-cons_no p x xs e ∙ onto_cons x _ h.first h.more h.is }
-
-has_part : (p : ℕ → Bool) (xs : List ℕ) → HasPart (slice_split p xs)
-has_part p [] = record { first = []; more = []; is = refl }
-has_part p (x ∷ xs) = split_by p x xs (p x) refl (has_part p xs)
-
--- a part with one behind it is a line
-part_then : (x : List ℕ) (parts : List (List ℕ)) → HasPart parts → lines_of_parts (x ∷ parts) ≡ strip_carriage_return x ∷ lines_of_parts parts
-part_then x parts h = subst (λ (ps : List (List ℕ)). lines_of_parts (x ∷ ps) ≡ strip_carriage_return x ∷ lines_of_parts ps) (sym h.is) refl
-
 -- a length that is not 0
 pub not_empty : (n : ℕ) → 0 < n → (n == 0) ≡ false
 not_empty n some = grind (arith, nat_tests)
-
--- what is taken of the rest is all of it
-pub all_rest : (n : ℕ) (xs : List ℕ) → take (length xs - n) (drop n xs) ≡ drop n xs
-all_rest n xs = take_all _ _ (omega (arith, length-drop n xs))
-
--- a single part is a line where it is not empty
-one_line : (xs : List ℕ) → 0 < length xs → lines_of_parts (xs ∷ []) ≡ xs ∷ []
-one_line xs some = ap (λ (b : Bool). cond b [] (xs ∷ [])) (not_empty (length xs) some)
-
--- the last line has no LF behind it
-pub last_line : (bytes : List ℕ) (end : ℕ) → 0 < length bytes → end ≡ position_or_len (λ b. b == 10) bytes → end ≡ length bytes
-    → (lines bytes ≡ bytes ∷ lines (take (length bytes - end) (drop end bytes))) × (length (take (length bytes - end) (drop end bytes)) < length bytes)
-last_line bytes end some at all =
-    let none : take (length bytes - end) (drop end bytes) ≡ [] = all_rest end bytes ∙ drop_all end bytes (omega arith) in (
-      ap lines_of_parts (one_part (λ b. b == 10) bytes (sym all ∙ at)) ∙ (one_line bytes some ∙ ap (λ l. bytes ∷ lines l) (sym none)),
-      subst (λ (l : List ℕ). length l < length bytes) (sym none) some,
-    )
-
--- a line ends at the first LF
-pub first_line : (bytes line : List ℕ) (end : ℕ) → end ≡ position_or_len (λ b. b == 10) bytes → end < length bytes → line ≡ strip_carriage_return (take end bytes)
-    → (lines bytes ≡ line ∷ lines (take (length bytes - (end + 1)) (drop (end + 1) bytes))) × (length (take (length bytes - (end + 1)) (drop (end + 1) bytes)) < length bytes)
-first_line bytes line end at within is =
-    let p : ℕ → Bool = λ b. b == 10 in
-    let rest = all_rest (end + 1) bytes in
-    let cut : lines bytes ≡ strip_carriage_return (take end bytes) ∷ lines (drop (end + 1) bytes) =
-    subst (λ (n : ℕ). lines bytes ≡ strip_carriage_return (take n bytes) ∷ lines (drop (n + 1) bytes)) (sym at)
-    (ap lines_of_parts (slice_split_first p bytes 0 (omega arith)) ∙ part_then _ _ (has_part p (after_first p bytes))) in (
-      cut ∙ (ap (λ l. l ∷ lines (drop (end + 1) bytes)) (sym is) ∙ ap (λ l. line ∷ lines l) (sym rest)),
-      subst (λ (l : List ℕ). length l < length bytes) (sym rest) (omega (arith, length-drop (end + 1) bytes)),
-    )
 
 -- a blank in front is no part of a word
 pub words_of-blank : (text : List ℕ) → begins_blank text ≡ true → words_of (drop 1 text) ≡ words_of text

@@ -1,9 +1,7 @@
 -- The words of a line: what stands between spaces and tabs.
-use Rattle.std.specs.Prelude.{ℕ, Bool, ◌||◌, ◌==◌, not, List, [], ◌∷◌, length, filter, false}
+use Rattle.std.specs.Prelude.{ℕ, Bool, ◌==◌, not, List, [], ◌∷◌, length, filter, false}
 use Rattle.std.specs.List.{slice_split}
-
-abbrev pub is_blank : ℕ → Bool
-is_blank b = b == 32 || b == 9
+use Rattle.nm_text.specs.WhiteSpace.{is_blank}
 
 abbrev pub begins_blank : List ℕ → Bool
 begins_blank [] = false

@@ -1,11 +1,11 @@
 //! The lines of a script, with their numbers; the top call cuts its input with it.
 
-ghost use Rattle.std.specs.Prelude.{◌≡◌, ◌==◌, ◌<◌, ◌≤◌, [], ◌∷◌, length, IfErr, IfOk, MatchOption};
-ghost use Rattle.std.specs.List.{position_or_len};
-ghost use Rattle.std.specs.Str.Lines.{lines, strip_carriage_return};
+ghost use Rattle.std.specs.Prelude.{◌≡◌, ◌<◌, ◌≤◌, [], ◌∷◌, length, IfErr, IfOk, MatchOption};
+ghost use Rattle.std.specs.Str.Lines.{lines};
 ghost use Rattle.nm_log.specs.Script.{IsScriptFault, script_lines};
 
 use nm_base::{Limit, Many, NoMemory};
+use nm_text::{content, next_line};
 use std::alloc::Global;
 use thiserror::Error;
 
@@ -48,7 +48,7 @@ pub fn read_script(alloc: Global, bytes: &[u8]) -> Result<Many<ScriptLine>, Scri
     let mut script = Many::new(alloc);
     let mut number = 0;
     let mut rest = bytes;
-    'lines: while let Some((line, more)) = next_line(rest) {
+    'lines: while let Some((line, more)) = next_content(rest) {
         if number == MOST_LINES {
             return Err(ScriptError::Limit(Limit::Lines));
         }
@@ -62,39 +62,12 @@ pub fn read_script(alloc: Global, bytes: &[u8]) -> Result<Many<ScriptLine>, Scri
     Ok(script)
 }
 
-/// The first line of a text, and the text behind it.
-fn next_line(bytes: &[u8]) -> Option<(&[u8], &[u8])>
-    ensures { MatchOption result (lines bytes.now ≡ []) (λ split. (lines bytes.now ≡ split.0.now ∷ lines split.1.now) × (length split.1.now < length bytes.now)) }
+/// The first line without its end, and the text after it.
+fn next_content(bytes: &[u8]) -> Option<(&[u8], &[u8])>
+    ensures { MatchOption result (lines bytes.now ≡ []) (λ cut. (lines bytes.now ≡ cut.0.now ∷ lines cut.1.now) × (length cut.1.now < length bytes.now)) }
 {
-    if bytes.is_empty() {
-        return None;
-    }
-    let end = line_len(bytes);
-    if end == bytes.len() {
-        return Some((bytes, &bytes[end..]));
-    }
-    Some((without_return(&bytes[..end]), &bytes[end + 1..]))
-}
-
-/// The place of the first LF, or the length.
-fn line_len(bytes: &[u8]) -> usize
-    ensures place { result ≡ position_or_len (λ b. b == 10) bytes.now }
-    ensures within { result ≤ length bytes.now }
-{
-    for (at, b) in bytes.iter().enumerate() {
-        if *b == b'\n' {
-            return at;
-        }
-    }
-    bytes.len()
-}
-
-/// The line without a CR at its end.
-fn without_return(line: &[u8]) -> &[u8]
-    ensures { result.now ≡ strip_carriage_return line.now }
-{
-    match line {
-        [front @ .., b'\r'] => front,
-        _ => line,
+    match next_line(bytes) {
+        Some((line, rest)) => Some((content(line), rest)),
+        None => None,
     }
 }

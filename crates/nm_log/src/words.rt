@@ -1,8 +1,11 @@
-//! The next word of a line, for `read_ask`.
+//! The next word of a line, for the reading of a line.
 
 ghost use Rattle.std.specs.Prelude.{◌≡◌, ◌<◌, ◌≤◌, [], ◌∷◌, length, MatchOption, false};
 ghost use Rattle.std.specs.List.{position_or_len};
-ghost use Rattle.nm_log.specs.Words.{begins_blank, is_blank, words_of};
+ghost use Rattle.nm_log.specs.Words.{begins_blank, words_of};
+ghost use Rattle.nm_text.specs.WhiteSpace.{is_blank};
+
+use nm_text::is_blank;
 
 /// The first word of a text, and the text behind it.
 pub(crate) fn next_word(text: &str) -> Option<(&str, &str)>
@@ -33,7 +36,7 @@ fn begins_with_blank(text: &str) -> bool
 {
     match text.as_bytes() {
         [] => false,
-        [first, ..] => may_part_words(*first),
+        [first, ..] => is_blank(*first),
     }
 }
 
@@ -43,16 +46,9 @@ fn word_len(text: &[u8]) -> usize
     ensures within { result ≤ length text.now }
 {
     for (at, b) in text.iter().enumerate() {
-        if may_part_words(*b) {
+        if is_blank(*b) {
             return at;
         }
     }
     text.len()
-}
-
-/// A space or a tab.
-fn may_part_words(b: u8) -> bool
-    ensures { result ≡ is_blank b }
-{
-    b == b' ' || b == b'\t'
 }

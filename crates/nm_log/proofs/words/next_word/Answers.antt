@@ -1,7 +1,7 @@
 use Rattle.std.proofs.Common.{◌<◌, length, sym, ◌∙◌, ap, arith}
 use Rattle.std.specs.List.{position_or_len}
 use Rattle.std.proofs.lemmas.Bool.Decides.{nat_tests}
-use Rattle.nm_log.specs.Words.{is_blank}
+use Rattle.nm_text.specs.WhiteSpace.{is_blank}
 use Rattle.nm_log.proofs.Cuts.{cut_before_blank, first_word}
 use Rattle.nm_log.proofs.words.next_word.Goals as goal
 

@@ -1,10 +1,10 @@
 use Rattle.std.proofs.Common.{sym, ◌∙◌, arith}
-use Rattle.nm_log.specs.Words.{is_blank}
+use Rattle.nm_text.specs.WhiteSpace.{is_blank}
 use Rattle.nm_log.proofs.Cuts.{first_place, no_place}
 use Rattle.nm_log.proofs.words.word_len.Goals as goal
 
-pub returns-then-may_part_words-clause-place : goal.returns-then-may_part_words-clause-place
-returns-then-may_part_words-clause-place c = first_place is_blank c.args.text.now c.loop-at.at c.loop-at-test.true c.loop-at.invariant (sym c.may_part_words.ensures ∙ c.if-may_part_words.true)
+pub returns-then-is_blank-clause-place : goal.returns-then-is_blank-clause-place
+returns-then-is_blank-clause-place c = first_place is_blank c.args.text.now c.loop-at.at c.loop-at-test.true c.loop-at.invariant (sym c.is_blank.ensures ∙ c.if-is_blank.true)
 
 pub returns-clause-place : goal.returns-clause-place
 returns-clause-place c = no_place is_blank c.args.text.now c.loop-at.at (omega arith) c.loop-at.invariant

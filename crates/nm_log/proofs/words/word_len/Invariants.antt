@@ -1,5 +1,5 @@
 use Rattle.std.proofs.Common.{◌≡◌, ℕ, ◌<◌, false, get_or}
-use Rattle.nm_log.specs.Words.{is_blank}
+use Rattle.nm_text.specs.WhiteSpace.{is_blank}
 use Rattle.nm_log.proofs.words.word_len.Given as goal
 
 abbrev pub invariant-loop-at : goal.invariant-loop-at
