@@ -1,4 +1,4 @@
-pub mod Ask
+pub mod ParsedLine
 pub mod Replies
 pub mod Script
 pub mod Words

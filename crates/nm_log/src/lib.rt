@@ -2,8 +2,8 @@
 //! was done, the text of each reply, and how the log is printed.
 #![tactic(auto)]
 
-mod ask;
 mod header;
+mod line_parser;
 mod log;
 mod outcome;
 mod print;
@@ -11,7 +11,7 @@ mod replies;
 mod script;
 mod words;
 
-pub use ask::{Asked, read_ask};
+pub use line_parser::{ParsedLine, parse_line};
 pub use log::{Done, LineLog, SessionLog, Setting};
 pub use outcome::Outcome;
 pub use print::{print_lines, print_text, print_usage};

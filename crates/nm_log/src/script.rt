@@ -10,7 +10,7 @@ use std::alloc::Global;
 use thiserror::Error;
 
 /// The most lines of a script.
-const MOST_LINES: u32 = 4096;
+const MAX_LINES: u32 = 4096;
 
 /// One line of a script that is not empty.
 #[derive(Clone, Debug, Drop, PartialEq, Eq)]
@@ -49,7 +49,7 @@ pub fn read_script(alloc: Global, bytes: &[u8]) -> Result<Many<ScriptLine>, Scri
     let mut number = 0;
     let mut rest = bytes;
     'lines: while let Some((line, more)) = next_content(rest) {
-        if number == MOST_LINES {
+        if number == MAX_LINES {
             return Err(ScriptError::Limit(Limit::Lines));
         }
         number += 1;

@@ -15,7 +15,7 @@ use Rattle.nm_maildir.specs.Observed.{ObservedMail}
 use Rattle.nm_io.specs.Observed.{ObservedStream}
 use Rattle.nm_top.specs.Complete.{IsComplete, IsFinished, NoFault}
 use Rattle.nm_top.specs.Line.{IsAnswer, Runs}
-use Rattle.nm_top.specs.Session.{Ending, Ends, Gains, IsRun, InputTooLong, MemoryWanted, Outside, Ran, ReadFailed, TooManyLines, WordsRefused, has_mail_fault, has_no_memory, is_mail_fault, most_input}
+use Rattle.nm_top.specs.Session.{Ending, Ends, StreamAppends, IsRun, InputTooLong, MemoryWanted, Devices, Ran, ReadFailed, TooManyLines, ArgsRefused, has_mail_fault, has_no_memory, is_mail_fault, max_input}
 use Rattle.nm_top.specs.State.{State}
 use Rattle.nm_top.proofs.StandLemmas.{none_of}
 
@@ -58,7 +58,7 @@ read_is (Some bytes) (Some rest) script read told h end =
     sym (append-nil read) ∙ (ap (λ l. read ++ l) (sym end) ∙ (sym h ∙ same))
 
 -- an output that did not fail
-quiet_out : (failed : Bool) (old new : ObservedStream) (bytes : List ℕ) → new.faults ≡ old.faults → old.faults < 18446744073709551615 → Gains failed old new bytes → failed ≡ false
+quiet_out : (failed : Bool) (old new : ObservedStream) (bytes : List ℕ) → new.faults ≡ old.faults → old.faults < 18446744073709551615 → StreamAppends failed old new bytes → failed ≡ false
 quiet_out false old new bytes stands room h = refl
 quiet_out true old new bytes stands room h = let rose = h.1.1 room in absurd (omega arith)
 
@@ -73,7 +73,7 @@ left_status true false true memory e d = absurd (false≢true (sym d))
 left_status true false false true e d = inr refl
 left_status true false false false e d = inl (refl, refl)
 
-ran_complete : (script : List ℕ) (old new : Outside) (done : Done) → NoFault old new → IsRun (script_lines script) old.mail new.mail old.out new.out old.err new.err done → IsFinished script done ⊎ (done.status ≡ 7)
+ran_complete : (script : List ℕ) (old new : Devices) (done : Done) → NoFault old new → IsRun (script_lines script) old.mail new.mail old.out new.out old.err new.err done → IsFinished script done ⊎ (done.status ≡ 7)
 ran_complete script old new done quiet h =
     let last_faults : new.mail.faults ≡ h.last.mail.faults = ap (λ (m : ObservedMail). m.faults) h.mail in
     let no_mail : has_mail_fault done.log.lines ≡ false = quiet_run _ h.last h.ran done.log.lines done.log.steps (omega (arith, quiet.mail)) quiet.mail_room h.run in
@@ -86,11 +86,11 @@ ran_complete script old new done quiet h =
       | inr w ↦ inr (h.status ∙ w)
     ]
 
-pub complete : (ending : Ending) (read : List ℕ) (words : List (List ℕ)) (old new : Outside) (done : Done) → Ends ending read words old new done → IsComplete words old new done
-complete WordsRefused read words old new done h script sound quiet within = absurd (cc)
+pub complete : (ending : Ending) (read : List ℕ) (words : List (List ℕ)) (old new : Devices) (done : Done) → Ends ending read words old new done → IsComplete words old new done
+complete ArgsRefused read words old new done h script sound quiet within = absurd (cc)
 complete ReadFailed read words old new done h script sound quiet within = let rose = h.1.1 quiet.input_room in let same = quiet.input in absurd (omega arith)
 complete InputTooLong read words old new done h script sound quiet within =
-    let long : most_input < length script = subst (λ (o : Option (List ℕ)). IfSome o (λ bytes. most_input < length bytes)) within.told h.2 in
+    let long : max_input < length script = subst (λ (o : Option (List ℕ)). IfSome o (λ bytes. max_input < length bytes)) within.told h.2 in
     let short = within.bytes in
     absurd (omega arith)
 complete TooManyLines read words old new done h script sound quiet within =

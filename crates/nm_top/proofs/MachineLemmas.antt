@@ -19,10 +19,10 @@ use Rattle.nm_core.specs.Reply.{is_plain_count, is_reply}
 use Rattle.nm_core.specs.declared.step.Step.{Step}
 use Rattle.nm_core.specs.declared.step.Step.TheVariants as steps
 use Rattle.nm_maildir.specs.declared.given.Given.{Given}
-use Rattle.nm_log.specs.Ask.{asked_of, command_asked, count_asked, count_of, new_asked, refused, words_asked}
+use Rattle.nm_log.specs.ParsedLine.{parse_line, parse_command, parse_count, count_of, parse_new, refused, parse_words}
 use Rattle.nm_log.specs.Words.{words_of}
-use Rattle.nm_log.specs.declared.ask.Asked.{Asked}
-use Rattle.nm_log.specs.declared.ask.Asked.TheVariants as asked
+use Rattle.nm_log.specs.declared.line_parser.ParsedLine.{ParsedLine}
+use Rattle.nm_log.specs.declared.line_parser.ParsedLine.TheVariants as asked
 use Rattle.nm_log.specs.declared.log.LineLog.{LineLog}
 use Rattle.nm_log.specs.declared.outcome.Outcome.{Outcome}
 use Rattle.nm_log.specs.declared.outcome.Outcome.TheVariants as outcomes
@@ -107,12 +107,12 @@ reply-goes index m request text at right =
     }
 
 -- a count that is asked for is a plain one
-abbrev IsPlainAsked : Asked → Type 0
+abbrev IsPlainAsked : ParsedLine → Type 0
 IsPlainAsked (asked.Usage word kind) = Unit {0}
 IsPlainAsked (asked.Request requests.New) = Unit {0}
 IsPlainAsked (asked.Request (requests.Count ask)) = is_plain_count ask ≡ true
 
-plain-either : (b : Bool) (first second : Asked) → IsPlainAsked first → IsPlainAsked second → IsPlainAsked (cond b first second)
+plain-either : (b : Bool) (first second : ParsedLine) → IsPlainAsked first → IsPlainAsked second → IsPlainAsked (cond b first second)
 plain-either true first second h k = h
 plain-either false first second h k = k
 
@@ -120,24 +120,24 @@ plain-query : (b : Bool) (word : List ℕ) → is_subject_query word ≡ b → I
 plain-query true word e = e
 plain-query false word e = tt
 
-plain-new : (words : List (List ℕ)) → IsPlainAsked (new_asked words)
+plain-new : (words : List (List ℕ)) → IsPlainAsked (parse_new words)
 plain-new [] = tt
 plain-new (word ∷ more) = tt
 
-plain-count : (words : List (List ℕ)) → IsPlainAsked (count_asked words)
+plain-count : (words : List (List ℕ)) → IsPlainAsked (parse_count words)
 plain-count [] = tt
 plain-count (word ∷ []) = plain-query (is_subject_query word) word refl
 plain-count (word ∷ other ∷ more) = tt
 
-plain-command : (words : List (List ℕ)) → IsPlainAsked (command_asked words)
+plain-command : (words : List (List ℕ)) → IsPlainAsked (parse_command words)
 plain-command [] = tt
 plain-command (name ∷ words) = plain-either (same_text name (codes "new")) _ _ (plain-new words) (plain-either (same_text name (codes "count")) _ _ (plain-count words) tt)
 
-plain-words : (words : List (List ℕ)) → IsPlainAsked (words_asked words)
+plain-words : (words : List (List ℕ)) → IsPlainAsked (parse_words words)
 plain-words [] = tt
 plain-words (lane ∷ words) = plain-either (same_text lane (codes "0")) _ _ (plain-command words) tt
 
-plain-asked : (line : List ℕ) → IsPlainAsked (asked_of line)
+plain-asked : (line : List ℕ) → IsPlainAsked (parse_line line)
 plain-asked line = plain-either (is_utf8 line) _ _ (plain-words (words_of line)) tt
 
 -- its plain answer is a reply to it
@@ -147,7 +147,7 @@ plain-reply ask files text plain is =
     ∙ (ap (λ (b : Bool). ask.batch || b) (ap (λ (t : List ℕ). same_text t (count_text ask.query files)) is ∙ nat_list_eq_equiv.refl (count_text ask.query files)) ∙ or_true ask.batch)
 
 -- the steps of a reply
-request-goes : (request : Request) (old : State) (line : List ℕ) (noted : List Given) (text : List ℕ) (commits : List Commit) (new : State) (m : Machine) → IsAt old.index m → asked_of line ≡ asked.Request request
+request-goes : (request : Request) (old : State) (line : List ℕ) (noted : List Given) (text : List ℕ) (commits : List Commit) (new : State) (m : Machine) → IsAt old.index m → parse_line line ≡ asked.Request request
     → IsReply request old noted text commits new → Goes m (reply_steps commits request text) new.index
 request-goes requests.New old line noted text commits new m at ask h =
     let made = commits-go old.index m commits at h.fit in

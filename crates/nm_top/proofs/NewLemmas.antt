@@ -14,19 +14,19 @@ use Rattle.nm_maildir.specs.declared.given.ReadAnswer.{ReadAnswer}
 use Rattle.nm_base.specs.declared.refusals.Skip.{Skip}
 use Rattle.nm_core.specs.declared.request.Request.TheVariants as requests
 use Rattle.nm_log.specs.Replies.{new_text}
-use Rattle.nm_log.specs.declared.ask.Asked.{Asked}
-use Rattle.nm_log.specs.declared.ask.Asked.TheVariants as asked
+use Rattle.nm_log.specs.declared.line_parser.ParsedLine.{ParsedLine}
+use Rattle.nm_log.specs.declared.line_parser.ParsedLine.TheVariants as asked
 use Rattle.nm_log.specs.declared.replies.NewReport.{NewReport}
 use Rattle.nm_log.specs.declared.outcome.Outcome.{Outcome}
 use Rattle.nm_maildir.specs.Observed.{ObservedMail}
-use Rattle.nm_top.specs.Lean.{StandsFor, lean}
+use Rattle.nm_top.specs.Lean.{Represents, lean}
 use Rattle.nm_top.specs.Line.{AsksMail, AsksNew}
 use Rattle.nm_top.specs.NewLine.{FitInTurn, IsNew, gone, new_commits, only_in}
 use Rattle.nm_top.specs.Reading.{IsRising, NotesReads, Reads, ReadsFirst, listed_of, read_of, skip_in, to_read}
 use Rattle.nm_top.specs.State.{after_reads, read_with, state_with}
-use Rattle.nm_top.specs.Steps.{Gathers, HasRead, HasReadAll, IsNewAnswer, IsNewOutcome, Leaves, TakesIn, commits_for, commits_with, gone_of, kept, skip_given}
+use Rattle.nm_top.specs.Steps.{Scans, HasRead, HasReadAll, IsNewAnswer, IsNewOutcome, Leaves, AppliesScan, commits_for, commits_with, gone_of, kept, skip_given}
 use Rattle.nm_top.specs.declared.index.PlainIndex.{PlainIndex}
-use Rattle.nm_top.specs.declared.steps.Answered.{Answered}
+use Rattle.nm_top.specs.declared.steps.LineResult.{LineResult}
 use Rattle.nm_top.proofs.FitLemmas.{fit-new}
 use Rattle.std.proofs.lemmas.List.{map-append}
 use Rattle.nm_top.proofs.LeanLemmas.{kept-lean, only_in-lean, paths-lean, to_read-lean}
@@ -66,12 +66,12 @@ asked_listing old mid files before noted listed same_tree same none is rising to
     let known : List (List ℕ) = in_order (paths_of files) in
     asked_reading old mid mid files before noted noted known listed (filter (λ path. not (has_text known path)) listed) same_tree same none is rising told refl refl (read_none mid noted (filter (λ path. not (has_text known path)) listed))
 
--- all was gathered
-pub gathered_all : (old mid new : ObservedMail) (files : List (List ℕ × Facts)) (before noted0 noted : List Given) (known listed paths : List (List ℕ)) (arrivals : List (List ℕ × Facts)) → mid.tree ≡ old.tree → mid.reads ≡ old.reads → mid.faults ≡ old.faults
+-- all was scanned
+pub scanned_all : (old mid new : ObservedMail) (files : List (List ℕ × Facts)) (before noted0 noted : List Given) (known listed paths : List (List ℕ)) (arrivals : List (List ℕ × Facts)) → mid.tree ≡ old.tree → mid.reads ≡ old.reads → mid.faults ≡ old.faults
     → before ≡ [] → noted0 ≡ before ++ given.Listed listed ∷ []
     → IsRising listed → IfSome old.tree (λ t. listed ≡ listed_of t) → known ≡ in_order (paths_of files) → IsRising known → paths ≡ filter (λ path. not (has_text known path)) listed → HasReadAll mid new noted0 noted paths arrivals
-    → Gathers old new files noted known listed arrivals
-gathered_all old mid new files before noted0 noted known listed paths arrivals same_tree same_reads same_faults none is rising told known_is known_rising paths_are h' =
+    → Scans old new files noted known listed arrivals
+scanned_all old mid new files before noted0 noted known listed paths arrivals same_tree same_reads same_faults none is rising told known_is known_rising paths_are h' =
     let h : HasReadAll old new noted0 noted (to_read files listed) arrivals =
     subst (λ (m : ObservedMail). HasReadAll m new noted0 noted (to_read files listed) arrivals) (same_mail mid old same_tree same_reads same_faults)
     (subst (λ (l : List (List ℕ)). HasReadAll mid new noted0 noted l arrivals) (paths_are ∙ to_read-is files known listed known_is) h') in
@@ -91,8 +91,8 @@ skips-are [] = refl
 skips-are (read ∷ reads) = ap (λ l. skip_in read ++ l) (skips-are reads)
 
 -- what is held after what has come and what is gone stands for the index after their commits
-new-stands : (known listed : List (List ℕ)) (arrivals : List (List ℕ × Facts)) (noted : List Given) (held new_held : PlainIndex) (old : Index) (done : Answered)
-    → StandsFor held old → known ≡ in_order (paths_of old.files) → TakesIn known listed arrivals noted held new_held done → StandsFor new_held (folded old (commits_with known listed arrivals))
+new-stands : (known listed : List (List ℕ)) (arrivals : List (List ℕ × Facts)) (noted : List Given) (held new_held : PlainIndex) (old : Index) (done : LineResult)
+    → Represents held old → known ≡ in_order (paths_of old.files) → AppliesScan known listed arrivals noted held new_held done → Represents new_held (folded old (commits_with known listed arrivals))
 new-stands known listed arrivals noted held new_held old done s known_is t =
     let are : commits_with known listed arrivals ≡ new_commits old.files listed arrivals = commits-are old known listed arrivals known_is in
     let files : (folded old (commits_with known listed arrivals)).files ≡ kept known listed (old.files ++ arrivals) =
@@ -105,9 +105,9 @@ new-stands known listed arrivals noted held new_held old done s known_is t =
       revision = t.revision ∙ (ap (λ n. n + (commits_for (length arrivals) + commits_for (length (gone_of known listed)))) s.revision ∙ sym revision);
     }
 
--- what was gathered and taken in is a whole `new`
-is_new : (mail new_mail : ObservedMail) (noted : List Given) (known listed : List (List ℕ)) (arrivals : List (List ℕ × Facts)) (held new_held : PlainIndex) (old : Index) (done : Answered)
-    → StandsFor held old → known ≡ in_order (paths_of old.files) → Gathers mail new_mail held.files noted known listed arrivals → TakesIn known listed arrivals noted held new_held done
+-- what was scanned and taken in is a whole `new`
+is_new : (mail new_mail : ObservedMail) (noted : List Given) (known listed : List (List ℕ)) (arrivals : List (List ℕ × Facts)) (held new_held : PlainIndex) (old : Index) (done : LineResult)
+    → Represents held old → known ≡ in_order (paths_of old.files) → Scans mail new_mail held.files noted known listed arrivals → AppliesScan known listed arrivals noted held new_held done
     → IsNew (state_with mail old) noted done.text (commits_with known listed arrivals) (state_with new_mail (folded old (commits_with known listed arrivals)))
 is_new mail new_mail noted known listed arrivals held new_held old done s known_is h t =
     let after : Index = folded old (commits_with known listed arrivals) in
@@ -147,12 +147,12 @@ is_new mail new_mail noted known listed arrivals held new_held old done s known_
     }
 
 -- and so the answer of a `new`, where the files and what is noted were lent as slices
-new_answer : (mail new_mail : ObservedMail) (noted seen : List Given) (known listed : List (List ℕ)) (arrivals files : List (List ℕ × Facts)) (held new_held : PlainIndex) (old : Index) (done : Answered)
-    → StandsFor held old → files ≡ held.files → seen ≡ noted → Gathers mail new_mail files noted known listed arrivals → TakesIn known listed arrivals seen held new_held done
+new_answer : (mail new_mail : ObservedMail) (noted seen : List Given) (known listed : List (List ℕ)) (arrivals files : List (List ℕ × Facts)) (held new_held : PlainIndex) (old : Index) (done : LineResult)
+    → Represents held old → files ≡ held.files → seen ≡ noted → Scans mail new_mail files noted known listed arrivals → AppliesScan known listed arrivals seen held new_held done
     → Leaves new_held (λ new. IsNewAnswer (state_with mail old) noted done (state_with new_mail new))
 new_answer mail new_mail noted seen known listed arrivals files held new_held old done s same same_noted h' t' =
-    let h : Gathers mail new_mail held.files noted known listed arrivals = subst (λ (l : List (List ℕ × Facts)). Gathers mail new_mail l noted known listed arrivals) same h' in
-    let t : TakesIn known listed arrivals noted held new_held done = subst (λ (l : List Given). TakesIn known listed arrivals l held new_held done) same_noted t' in
+    let h : Scans mail new_mail held.files noted known listed arrivals = subst (λ (l : List (List ℕ × Facts)). Scans mail new_mail l noted known listed arrivals) same h' in
+    let t : AppliesScan known listed arrivals noted held new_held done = subst (λ (l : List Given). AppliesScan known listed arrivals l held new_held done) same_noted t' in
     let known_is : known ≡ in_order (paths_of old.files) = h.known_is ∙ ap in_order (ap paths_of s.files ∙ paths-lean old.files) in
     let after : Index = folded old (commits_with known listed arrivals) in
     record {
@@ -163,15 +163,15 @@ new_answer mail new_mail noted seen known listed arrivals files held new_held ol
     }
 
 -- and of what is answered
-pub new_result : (mail new_mail : ObservedMail) (noted seen : List Given) (known listed : List (List ℕ)) (arrivals files : List (List ℕ × Facts)) (held new_held : PlainIndex) (old : Index) (result : Result Answered NoMemory)
-    → StandsFor held old → files ≡ held.files → seen ≡ noted → Gathers mail new_mail files noted known listed arrivals → IfOk result (TakesIn known listed arrivals seen held new_held)
+pub new_result : (mail new_mail : ObservedMail) (noted seen : List Given) (known listed : List (List ℕ)) (arrivals files : List (List ℕ × Facts)) (held new_held : PlainIndex) (old : Index) (result : Result LineResult NoMemory)
+    → Represents held old → files ≡ held.files → seen ≡ noted → Scans mail new_mail files noted known listed arrivals → IfOk result (AppliesScan known listed arrivals seen held new_held)
     → IfOk result (λ done. Leaves new_held (λ new. IsNewAnswer (state_with mail old) noted done (state_with new_mail new)))
 new_result mail new_mail noted seen known listed arrivals files held new_held old (Ok done) s same same_noted h t =
     new_answer mail new_mail noted seen known listed arrivals files held new_held old done s same same_noted h t
 new_result mail new_mail noted seen known listed arrivals files held new_held old (Err error) s same same_noted h t = tt
 
 -- What was asked by what is held was asked by the index.
-new-asked-lean : (mail new_mail : ObservedMail) (held : PlainIndex) (old : Index) (noted : List Given) → StandsFor held old → AsksNew mail new_mail held.files noted → AsksNew mail new_mail old.files noted
+new-asked-lean : (mail new_mail : ObservedMail) (held : PlainIndex) (old : Index) (noted : List Given) → Represents held old → AsksNew mail new_mail held.files noted → AsksNew mail new_mail old.files noted
 new-asked-lean mail new_mail held old noted s (inl none) = inl none
 new-asked-lean mail new_mail held old noted s (inr h) = inr (record {
   listed = h.listed;
@@ -181,17 +181,17 @@ new-asked-lean mail new_mail held old noted s (inr h) = inr (record {
   reading = subst (ReadsFirst mail new_mail h.answers) (ap (λ (l : List (List ℕ × Facts)). to_read l h.listed) s.files ∙ to_read-lean old.files h.listed) h.reading;
 })
 
-pub asked_lean : (a : Asked) (mail new_mail : ObservedMail) (held : PlainIndex) (old : Index) (noted : List Given) → StandsFor held old → AsksMail a mail new_mail held.files noted → AsksMail a mail new_mail old.files noted
+pub asked_lean : (a : ParsedLine) (mail new_mail : ObservedMail) (held : PlainIndex) (old : Index) (noted : List Given) → Represents held old → AsksMail a mail new_mail held.files noted → AsksMail a mail new_mail old.files noted
 asked_lean (asked.Request requests.New) mail new_mail held old noted s h = new-asked-lean mail new_mail held old noted s h
 asked_lean (asked.Request (requests.Count ask)) mail new_mail held old noted s h = h
 asked_lean (asked.Usage word kind) mail new_mail held old noted s h = h
 
 -- a line that asks nothing
-pub asks_nothing : (a : Asked) (mail : ObservedMail) (files : List (List ℕ × Facts)) (noted : List Given) → noted ≡ [] → AsksMail a mail mail files noted
+pub asks_nothing : (a : ParsedLine) (mail : ObservedMail) (files : List (List ℕ × Facts)) (noted : List Given) → noted ≡ [] → AsksMail a mail mail files noted
 asks_nothing (asked.Request requests.New) mail files noted none = inl (none, refl)
 asks_nothing (asked.Request (requests.Count ask)) mail files noted none = (none, refl)
 asks_nothing (asked.Usage word kind) mail files noted none = (none, refl)
 
 -- a line that is a `new`
-pub asks_new : (a : Asked) (mail new_mail : ObservedMail) (files : List (List ℕ × Facts)) (noted : List Given) → a ≡ asked.Request requests.New → AsksNew mail new_mail files noted → AsksMail a mail new_mail files noted
-asks_new a mail new_mail files noted is h = subst (λ (x : Asked). AsksMail x mail new_mail files noted) (sym is) h
+pub asks_new : (a : ParsedLine) (mail new_mail : ObservedMail) (files : List (List ℕ × Facts)) (noted : List Given) → a ≡ asked.Request requests.New → AsksNew mail new_mail files noted → AsksMail a mail new_mail files noted
+asks_new a mail new_mail files noted is h = subst (λ (x : ParsedLine). AsksMail x mail new_mail files noted) (sym is) h

@@ -4,12 +4,12 @@ use Rattle.std.proofs.lemmas.List.{take_all, take_more}
 use Rattle.nm_core.specs.declared.step.Step.{Step}
 use Rattle.nm_log.specs.declared.log.LineLog.{LineLog}
 use Rattle.nm_log.specs.declared.script.ScriptLine.{ScriptLine}
-use Rattle.nm_top.specs.Line.{Answers, Runs}
+use Rattle.nm_top.specs.Line.{IsLineResult, Runs}
 use Rattle.nm_top.specs.State.{State}
 
-Runs-turn : (old mid new : State) (lines : List ScriptLine) (logs : List LineLog) (taken more : List Step) (line : ScriptLine) (log : LineLog) → Runs old lines logs taken mid → Answers mid line log more new → Runs old (lines ++ line ∷ []) (logs ++ log ∷ []) (taken ++ more) new
+Runs-turn : (old mid new : State) (lines : List ScriptLine) (logs : List LineLog) (taken more : List Step) (line : ScriptLine) (log : LineLog) → Runs old lines logs taken mid → IsLineResult mid line log more new → Runs old (lines ++ line ∷ []) (logs ++ log ∷ []) (taken ++ more) new
 Runs-turn old mid new [] [] taken more line log h answers =
-    (new, more, [], ap (λ (l : List Step). l ++ more) h.0 ∙ sym (append-nil more), subst (λ (s : State). Answers s line log more new) h.1 answers, (refl, refl))
+    (new, more, [], ap (λ (l : List Step). l ++ more) h.0 ∙ sym (append-nil more), subst (λ (s : State). IsLineResult s line log more new) h.1 answers, (refl, refl))
 Runs-turn old mid new [] (other ∷ logs) taken more line log h answers = absurd h
 Runs-turn old mid new (other ∷ lines) [] taken more line log h answers = absurd h
 Runs-turn old mid new (first ∷ lines) (other ∷ logs) taken more line log h answers =
@@ -17,7 +17,7 @@ Runs-turn old mid new (first ∷ lines) (other ∷ logs) taken more line log h a
 
 -- the next line of a script
 pub run_next : (old mid new : State) (lines : List ScriptLine) (i : ℕ) (line : ScriptLine) (logs room all : List LineLog) (log : LineLog) (taken before after more : List Step) → i < length lines → line ≡ get_or lines i line → room ≡ logs → all ≡ room ++ log ∷ []
-    → before ≡ taken → after ≡ before ++ more → Runs old (take i lines) logs taken mid → Answers mid line log more new → Runs old (take (i + 1) lines) all after new
+    → before ≡ taken → after ≡ before ++ more → Runs old (take i lines) logs taken mid → IsLineResult mid line log more new → Runs old (take (i + 1) lines) all after new
 run_next old mid new lines i line logs room all log taken before after more within is same pushed same_steps added h answers =
     let front : take i lines ++ line ∷ [] ≡ take (i + 1) lines = ap (λ (l : ScriptLine). take i lines ++ l ∷ []) is ∙ sym (take_more lines i line within) in
     subst (λ (l : List Step). Runs old (take (i + 1) lines) all l new) (sym (added ∙ ap (λ (l : List Step). l ++ more) same_steps))

@@ -11,9 +11,9 @@ use Rattle.nm_maildir.specs.declared.given.Given.{Given}
 use Rattle.nm_top.specs.Lean.{lean}
 use Rattle.nm_top.specs.Line.{reply_steps}
 use Rattle.nm_top.specs.NewLine.{commit_of, drop_of, only_in}
-use Rattle.nm_top.specs.Steps.{TakesIn, commits_for, commits_with, gone_of, is_gone, kept, report_with, skip_given, standing_report}
+use Rattle.nm_top.specs.Steps.{AppliesScan, commits_for, commits_with, gone_of, is_gone, kept, report_with, skip_given, unchanged_report}
 use Rattle.nm_top.specs.declared.index.PlainIndex.{PlainIndex}
-use Rattle.nm_top.specs.declared.steps.Answered.{Answered}
+use Rattle.nm_top.specs.declared.steps.LineResult.{LineResult}
 use Rattle.nm_top.proofs.FitLemmas.{every-in, every-map}
 use Rattle.nm_top.proofs.FoldLemmas.{filter-all, filter-same, some_is}
 use Rattle.nm_top.proofs.SetLemmas.{has_text-filter}
@@ -41,14 +41,14 @@ only_in-same files = none-passes (λ id. not (has_text (ids_of files) id)) (ids_
 stays : (made revision : ℕ) → made ≡ 0 → revision ≡ revision + made
 stays made revision e = omega arith
 
-pub stands : (known listed : List (List ℕ)) (arrivals : List (List ℕ × Facts)) (noted : List Given) (index : PlainIndex) (done : Answered) → arrivals ≡ [] → gone_of known listed ≡ []
-    → done.outcome ≡ outcomes.Ok → done.text ≡ new_text (standing_report noted) → done.steps ≡ reply_steps [] requests.New done.text → TakesIn known listed arrivals noted index index done
+pub stands : (known listed : List (List ℕ)) (arrivals : List (List ℕ × Facts)) (noted : List Given) (index : PlainIndex) (done : LineResult) → arrivals ≡ [] → gone_of known listed ≡ []
+    → done.outcome ≡ outcomes.Ok → done.text ≡ new_text (unchanged_report noted) → done.steps ≡ reply_steps [] requests.New done.text → AppliesScan known listed arrivals noted index index done
 stands known listed arrivals noted index done none gone outcome says steps =
     let same : commits_with known listed arrivals ≡ [] =
     ap (λ (l : List (List ℕ × Facts)). commits_with known listed l) none ∙ ap (λ (l : List (List ℕ)). commit_of (map drop_of l)) gone in
     let made : ℕ → ℕ → ℕ → NewReport = λ removed born died. record { added = 0; removed = removed; born = born; died = died; skipped = flat_map skip_given noted } in
     let same_ids : length (only_in index.files index.files) ≡ 0 = ap length (only_in-same index.files) in
-    let report : report_with known listed index.files index.files arrivals noted ≡ standing_report noted =
+    let report : report_with known listed index.files index.files arrivals noted ≡ unchanged_report noted =
     ap (λ (l : List (List ℕ × Facts)). report_with known listed index.files index.files l noted) none
     ∙ (ap (λ (n : ℕ). made n (length (only_in index.files index.files)) (length (only_in index.files index.files))) (ap length gone)
     ∙ ap (λ (n : ℕ). made 0 n n) same_ids) in
@@ -61,9 +61,9 @@ stands known listed arrivals noted index done none gone outcome says steps =
     }
 
 -- the same of what is answered
-pub answer-stands : (known listed : List (List ℕ)) (arrivals : List (List ℕ × Facts)) (noted : List Given) (index : PlainIndex) (result : Result Answered NoMemory) → arrivals ≡ [] → gone_of known listed ≡ []
-    → IfOk result (λ done. done.outcome ≡ outcomes.Ok) → IfOk result (λ done. done.text ≡ new_text (standing_report noted)) → IfOk result (λ done. done.steps ≡ reply_steps [] requests.New done.text)
-    → IfOk result (TakesIn known listed arrivals noted index index)
+pub answer-stands : (known listed : List (List ℕ)) (arrivals : List (List ℕ × Facts)) (noted : List Given) (index : PlainIndex) (result : Result LineResult NoMemory) → arrivals ≡ [] → gone_of known listed ≡ []
+    → IfOk result (λ done. done.outcome ≡ outcomes.Ok) → IfOk result (λ done. done.text ≡ new_text (unchanged_report noted)) → IfOk result (λ done. done.steps ≡ reply_steps [] requests.New done.text)
+    → IfOk result (AppliesScan known listed arrivals noted index index)
 answer-stands known listed arrivals noted index (Ok done) none gone outcome says steps = stands known listed arrivals noted index done none gone outcome says steps
 answer-stands known listed arrivals noted index (Err error) none gone outcome says steps = tt
 

@@ -3,10 +3,10 @@ use Rattle.std.specs.Prelude.{◌≡◌, ℕ, ◌<◌, ◌≤◌, ◌⊎◌, Lis
 use Rattle.std.specs.Str.Lines.{lines}
 use Rattle.nm_log.specs.Script.{script_lines}
 use Rattle.nm_log.specs.declared.log.Done.{Done}
-use Rattle.nm_top.specs.Session.{Outside, most_input, words_fault}
+use Rattle.nm_top.specs.Session.{Devices, max_input, args_fault}
 
 -- no count of faults rose in the call, and none stands at its type's end
-pub record NoFault (old new : Outside) : Type 0 where
+pub record NoFault (old new : Devices) : Type 0 where
   pub mail : new.mail.faults ≡ old.mail.faults
   pub mail_room : old.mail.faults < 18446744073709551615
   pub input : new.input.faults ≡ old.input.faults
@@ -15,9 +15,9 @@ pub record NoFault (old new : Outside) : Type 0 where
   pub out_room : old.out.faults < 18446744073709551615
 
 -- the input tells these bytes, and they are within the limits
-pub record IsWithin (script : List ℕ) (old : Outside) : Type 0 where
+pub record IsWithin (script : List ℕ) (old : Devices) : Type 0 where
   pub told : old.input.bytes ≡ Some script
-  pub bytes : length script ≤ most_input
+  pub bytes : length script ≤ max_input
   pub few : length (lines script) ≤ 4096
 
 -- every line of the script has its log
@@ -27,6 +27,6 @@ pub record IsFinished (script : List ℕ) (done : Done) : Type 0 where
 
 -- Where the words are right, no device failed and the input is within the limits, the script is answered to its end,
 -- or memory was wanting.
-abbrev pub IsComplete : List (List ℕ) → Outside → Outside → Done → Type 0
+abbrev pub IsComplete : List (List ℕ) → Devices → Devices → Done → Type 0
 IsComplete words old new done =
-    (script : List ℕ) → words_fault words ≡ None → NoFault old new → IsWithin script old → IsFinished script done ⊎ (done.status ≡ 7)
+    (script : List ℕ) → args_fault words ≡ None → NoFault old new → IsWithin script old → IsFinished script done ⊎ (done.status ≡ 7)

@@ -27,6 +27,6 @@ abbrev pub lean : List ℕ × Facts → List ℕ × Facts
 lean file = (file.0, lean_facts file.1)
 
 -- what is held stands for this index
-pub record StandsFor (held : PlainIndex) (index : Index) : Type 0 where
+pub record Represents (held : PlainIndex) (index : Index) : Type 0 where
   pub files : held.files ≡ map lean index.files
   pub revision : held.revision ≡ index.revision

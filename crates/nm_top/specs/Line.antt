@@ -11,10 +11,10 @@ use Rattle.nm_core.specs.declared.step.Step.{Step}
 use Rattle.nm_core.specs.declared.step.Step.TheVariants as steps
 use Rattle.nm_maildir.specs.declared.given.Given.{Given}
 use Rattle.nm_maildir.specs.declared.given.Given.TheVariants as given
-use Rattle.nm_log.specs.Ask.{asked_of}
+use Rattle.nm_log.specs.ParsedLine.{parse_line}
 use Rattle.nm_log.specs.Replies.{refusal_line, status_of}
-use Rattle.nm_log.specs.declared.ask.Asked.{Asked}
-use Rattle.nm_log.specs.declared.ask.Asked.TheVariants as asked
+use Rattle.nm_log.specs.declared.line_parser.ParsedLine.{ParsedLine}
+use Rattle.nm_log.specs.declared.line_parser.ParsedLine.TheVariants as asked
 use Rattle.nm_log.specs.declared.log.LineLog.{LineLog}
 use Rattle.nm_log.specs.declared.outcome.Outcome.{Outcome}
 use Rattle.nm_log.specs.declared.outcome.Outcome.TheVariants as outcomes
@@ -41,11 +41,11 @@ reply_steps commits request text = flat_map commit_steps commits ++ steps.Reply 
 -- How a line may end, and the steps that it takes. A refused line has its cause, takes no step, and leaves the index as it was.
 abbrev pub IsAnswer : Outcome → State → List ℕ → List Given → List ℕ → List Step → State → Type 0
 IsAnswer outcomes.Ok old line noted text taken new =
-    (request : Request) × (commits : List Commit) × (asked_of line ≡ asked.Request request) × IsReply request old noted text commits new × (taken ≡ reply_steps commits request text)
+    (request : Request) × (commits : List Commit) × (parse_line line ≡ asked.Request request) × IsReply request old noted text commits new × (taken ≡ reply_steps commits request text)
 IsAnswer (outcomes.Usage word kind) old line noted text taken new =
-    (asked_of line ≡ asked.Usage word kind) × (noted ≡ []) × (taken ≡ []) × (new ≡ old) × (text ≡ refusal_line (outcomes.Usage word kind))
+    (parse_line line ≡ asked.Usage word kind) × (noted ≡ []) × (taken ≡ []) × (new ≡ old) × (text ≡ refusal_line (outcomes.Usage word kind))
 IsAnswer outcomes.MailFault old line noted text taken new =
-    (asked_of line ≡ asked.Request requests.New) × HasRisen old.mail.faults new.mail.faults × (taken ≡ []) × (new.index ≡ old.index) × (text ≡ refusal_line outcomes.MailFault)
+    (parse_line line ≡ asked.Request requests.New) × HasRisen old.mail.faults new.mail.faults × (taken ≡ []) × (new.index ≡ old.index) × (text ≡ refusal_line outcomes.MailFault)
 IsAnswer outcomes.NoMemory old line noted text taken new = (taken ≡ []) × (new.index ≡ old.index) × (text ≡ refusal_line outcomes.NoMemory)
 
 -- The mail was listed, and of the listed paths that the index lacks the first were read, each once, in their order.
@@ -61,20 +61,20 @@ abbrev pub AsksNew : ObservedMail → ObservedMail → List (List ℕ × Facts) 
 AsksNew old new files noted = ((noted ≡ []) × (new.reads ≡ old.reads)) ⊎ ListsAndReads old new files noted
 
 -- What a line asks the mail folder and notes of its answers, however it ends: but for a `new` nothing.
-abbrev pub AsksMail : Asked → ObservedMail → ObservedMail → List (List ℕ × Facts) → List Given → Type 0
+abbrev pub AsksMail : ParsedLine → ObservedMail → ObservedMail → List (List ℕ × Facts) → List Given → Type 0
 AsksMail (asked.Request requests.New) old new files noted = AsksNew old new files noted
 AsksMail (asked.Request (requests.Count ask)) old new files noted = (noted ≡ []) × (new ≡ old)
 AsksMail (asked.Usage word kind) old new files noted = (noted ≡ []) × (new ≡ old)
 
 -- A line of the script, what its log says, the steps that it takes, and what it leaves.
-pub record Answers (old : State) (line : ScriptLine) (log : LineLog) (taken : List Step) (new : State) : Type 0 where
+pub record IsLineResult (old : State) (line : ScriptLine) (log : LineLog) (taken : List Step) (new : State) : Type 0 where
   pub phase : log.phase ≡ 0
   pub lane : log.lane ≡ 0
   pub number : log.line ≡ line.number
   pub revision : log.revision ≡ new.index.revision
   pub status : log.status ≡ status_of log.outcome
   pub answer : IsAnswer log.outcome old line.text log.given log.text taken new
-  pub asks : AsksMail (asked_of line.text) old.mail new.mail old.index.files log.given
+  pub asks : AsksMail (parse_line line.text) old.mail new.mail old.index.files log.given
   pub tree : new.mail.tree ≡ old.mail.tree
   pub faults : log.mail_faults ≡ new.mail.faults
   pub never_falls : old.mail.faults ≤ new.mail.faults
@@ -83,6 +83,6 @@ pub record Answers (old : State) (line : ScriptLine) (log : LineLog) (taken : Li
 abbrev pub Runs : State → List ScriptLine → List LineLog → List Step → State → Type 0
 Runs old [] [] taken new = (taken ≡ []) × (new ≡ old)
 Runs old (line ∷ lines) (log ∷ logs) taken new =
-    (mid : State) × (first more : List Step) × (taken ≡ first ++ more) × Answers old line log first mid × Runs mid lines logs more new
+    (mid : State) × (first more : List Step) × (taken ≡ first ++ more) × IsLineResult old line log first mid × Runs mid lines logs more new
 Runs old [] (log ∷ logs) taken new = ⊥
 Runs old (line ∷ lines) [] taken new = ⊥

@@ -22,8 +22,8 @@ use Rattle.nm_maildir.specs.Observed.{ObservedMail}
 use Rattle.nm_top.specs.State.{read_with}
 
 -- the most bytes of a mail
-abbrev pub most_bytes : ℕ
-most_bytes = 67108864
+abbrev pub max_bytes : ℕ
+max_bytes = 67108864
 
 -- a file counts where its name does not begin with a dot
 abbrev pub counts : List ℕ → Bool
@@ -70,10 +70,10 @@ arrival_of path got.Missing = []
 arrival_of path got.TooLong = []
 
 abbrev pub answer_at : Tree → List ℕ → ReadAnswer
-answer_at tree path = answer_of (got_of tree path most_bytes)
+answer_at tree path = answer_of (got_of tree path max_bytes)
 
 abbrev pub arrival_at : Tree → List ℕ → List (List ℕ × Facts)
-arrival_at tree path = arrival_of path (got_of tree path most_bytes)
+arrival_at tree path = arrival_of path (got_of tree path max_bytes)
 
 -- what the tree answers to reads of these paths
 abbrev pub answers_at : Tree → List (List ℕ) → List (List ℕ × ReadAnswer)

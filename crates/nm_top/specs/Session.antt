@@ -24,38 +24,38 @@ use Rattle.nm_top.specs.Line.{Runs}
 use Rattle.nm_top.specs.State.{State, state_with}
 
 -- the most bytes of an input
-abbrev pub most_input : ℕ
-most_input = 67108864
+abbrev pub max_input : ℕ
+max_input = 67108864
 
 -- What is observed of all devices at one moment.
-pub record Outside : Type 0 where
+pub record Devices : Type 0 where
   pub mail : ObservedMail
   pub input : ObservedStream
   pub out : ObservedStream
   pub err : ObservedStream
 
-abbrev pub outside : ObservedMail → ObservedStream → ObservedStream → ObservedStream → Outside
-outside folder source sink errors = record { mail = folder; input = source; out = sink; err = errors }
+abbrev pub devices : ObservedMail → ObservedStream → ObservedStream → ObservedStream → Devices
+devices folder source sink errors = record { mail = folder; input = source; out = sink; err = errors }
 
 -- what the first line begins with
 abbrev pub opening_state : ObservedMail → State
 opening_state folder = state_with folder empty_index
 
 -- the fault of the words: they must be the one word `session`
-abbrev pub words_fault : List (List ℕ) → Option (UsageKind × List ℕ)
-words_fault [] = Some (kinds.Command, [])
-words_fault (word ∷ []) = if same_text word (codes "session") then None else Some (kinds.Command, word)
-words_fault (word ∷ other ∷ more) = if same_text word (codes "session") then Some (kinds.Extra, other) else Some (kinds.Command, word)
+abbrev pub args_fault : List (List ℕ) → Option (UsageKind × List ℕ)
+args_fault [] = Some (kinds.Command, [])
+args_fault (word ∷ []) = if same_text word (codes "session") then None else Some (kinds.Command, word)
+args_fault (word ∷ other ∷ more) = if same_text word (codes "session") then Some (kinds.Extra, other) else Some (kinds.Command, word)
 
 -- An output gained the bytes, or where it failed the first of them.
-abbrev pub Gains : Bool → ObservedStream → ObservedStream → List ℕ → Type 0
-Gains false old new bytes = Appends old.bytes new.bytes bytes × (new.faults ≡ old.faults)
-Gains true old new bytes = ((n : ℕ) × Appends old.bytes new.bytes (take n bytes)) × HasRisen old.faults new.faults
+abbrev pub StreamAppends : Bool → ObservedStream → ObservedStream → List ℕ → Type 0
+StreamAppends false old new bytes = Appends old.bytes new.bytes bytes × (new.faults ≡ old.faults)
+StreamAppends true old new bytes = ((n : ℕ) × Appends old.bytes new.bytes (take n bytes)) × HasRisen old.faults new.faults
 
 -- one line was said, or none
-abbrev pub Says : Option (List ℕ) → ObservedStream → ObservedStream → Type 0
-Says None old new = new ≡ old
-Says (Some line) old new = (failed : Bool) × Gains failed old new line
+abbrev pub Prints : Option (List ℕ) → ObservedStream → ObservedStream → Type 0
+Prints None old new = new ≡ old
+Prints (Some line) old new = (failed : Bool) × StreamAppends failed old new line
 
 -- the line ended for a fault of the mail folder
 abbrev pub is_mail_fault : Outcome → Bool
@@ -83,8 +83,8 @@ session_status whole logs out_failed =
     if not whole then 7 else (if has_mail_fault logs then 3 else (if out_failed then 6 else (if has_no_memory logs then 7 else 0)))
 
 -- what a session says besides its replies
-abbrev pub last_word : Bool → Bool → Option (List ℕ)
-last_word whole out_failed =
+abbrev pub final_message : Bool → Bool → Option (List ℕ)
+final_message whole out_failed =
     if out_failed then Some (codes "notmuch: write fault\n") else (if whole then None else Some (codes "notmuch: no memory\n"))
 
 -- lanes 0 to 15
@@ -108,29 +108,29 @@ pub record IsRun (script : List ScriptLine) (old_mail new_mail : ObservedMail) (
   pub run : Runs (opening_state old_mail) ran done.log.lines done.log.steps last
   pub machine : IsMachineRun done.log.steps last.index
   pub mail : new_mail ≡ last.mail
-  pub out : Gains out_failed old_out new_out (printed done.log.lines)
+  pub out : StreamAppends out_failed old_out new_out (printed done.log.lines)
   pub status : done.status ≡ session_status whole done.log.lines out_failed
-  pub says : Says (last_word whole out_failed) old_err new_err
+  pub says : Prints (final_message whole out_failed) old_err new_err
 
 -- The mail folder and the output are as they were, and nothing is in the log.
-pub record IsRefused (old new : Outside) (done : Done) (code : ℕ) (line : List ℕ) : Type 0 where
+pub record IsRefused (old new : Devices) (done : Done) (code : ℕ) (line : List ℕ) : Type 0 where
   pub status : done.status ≡ code
   pub log : done.log.lines ≡ []
   pub steps : done.log.steps ≡ []
   pub mail : new.mail ≡ old.mail
   pub out : new.out ≡ old.out
-  pub says : Says (Some line) old.err new.err
+  pub says : Prints (Some line) old.err new.err
 
 -- The input was read to its end, and these are its bytes.
 pub record IsRead (script : List ℕ) (old new : ObservedStream) : Type 0 where
   pub bytes : Consumes old.bytes new.bytes script
   pub end : IsAtEnd new.bytes
-  pub within : length script ≤ most_input
+  pub within : length script ≤ max_input
   pub sound : new.faults ≡ old.faults
 
 -- how the call may end
 pub data Ending : Type 0 where
-  WordsRefused : Ending
+  ArgsRefused : Ending
   ReadFailed : Ending
   InputTooLong : Ending
   TooManyLines : Ending
@@ -138,18 +138,18 @@ pub data Ending : Type 0 where
   Ran : Ending
 
 -- What each ending means. Every ending but a run has its cause; want of memory alone is free.
-abbrev pub Ends : Ending → List ℕ → List (List ℕ) → Outside → Outside → Done → Type 0
-Ends WordsRefused script words old new done =
-    (fault : UsageKind × List ℕ) × (words_fault words ≡ Some fault) × (new.input ≡ old.input) × IsRefused old new done 2 (usage_line fault.0 fault.1)
+abbrev pub Ends : Ending → List ℕ → List (List ℕ) → Devices → Devices → Done → Type 0
+Ends ArgsRefused script words old new done =
+    (fault : UsageKind × List ℕ) × (args_fault words ≡ Some fault) × (new.input ≡ old.input) × IsRefused old new done 2 (usage_line fault.0 fault.1)
 Ends ReadFailed script words old new done =
-    (words_fault words ≡ None) × HasRisen old.input.faults new.input.faults × IsRefused old new done 5 (codes "notmuch: read fault\n")
+    (args_fault words ≡ None) × HasRisen old.input.faults new.input.faults × IsRefused old new done 5 (codes "notmuch: read fault\n")
 Ends InputTooLong script words old new done =
-    (words_fault words ≡ None) × (new.input.faults ≡ old.input.faults) × IfSome old.input.bytes (λ bytes. most_input < length bytes)
+    (args_fault words ≡ None) × (new.input.faults ≡ old.input.faults) × IfSome old.input.bytes (λ bytes. max_input < length bytes)
     × IsRefused old new done 9 (codes "notmuch: limit: inputbytes\n")
 Ends TooManyLines script words old new done =
-    (words_fault words ≡ None) × IsRead script old.input new.input × (4096 < length (lines script)) × IsRefused old new done 9 (codes "notmuch: limit: lines\n")
+    (args_fault words ≡ None) × IsRead script old.input new.input × (4096 < length (lines script)) × IsRefused old new done 9 (codes "notmuch: limit: lines\n")
 Ends MemoryWanted script words old new done =
-    (words_fault words ≡ None) × (new.input.faults ≡ old.input.faults) × IsRefused old new done 7 (codes "notmuch: no memory\n")
+    (args_fault words ≡ None) × (new.input.faults ≡ old.input.faults) × IsRefused old new done 7 (codes "notmuch: no memory\n")
 Ends Ran script words old new done =
-    (words_fault words ≡ None) × IsRead script old.input new.input × (length (lines script) ≤ 4096)
+    (args_fault words ≡ None) × IsRead script old.input new.input × (length (lines script) ≤ 4096)
     × IsRun (script_lines script) old.mail new.mail old.out new.out old.err new.err done

@@ -20,13 +20,13 @@ use Rattle.nm_maildir.specs.declared.given.Given.TheVariants as given
 use Rattle.nm_maildir.specs.declared.given.ReadAnswer.{ReadAnswer}
 use Rattle.nm_extract.specs.Mail.{facts_of}
 use Rattle.nm_maildir.specs.Observed.{ObservedMail}
-use Rattle.nm_top.specs.Lean.{StandsFor, lean}
+use Rattle.nm_top.specs.Lean.{Represents, lean}
 use Rattle.nm_top.specs.Line.{IsAnswer, reply_steps}
 use Rattle.nm_top.specs.NewLine.{IsNew, add_of, commit_of, drop_of, only_in}
 use Rattle.nm_top.specs.State.{State, after_reads}
 use Rattle.nm_top.specs.Reading.{IsListing, IsRising, Reads, ReadsFirst, answer_of, skip_at, to_read}
 use Rattle.nm_top.specs.declared.index.PlainIndex.{PlainIndex}
-use Rattle.nm_top.specs.declared.steps.Answered.{Answered}
+use Rattle.nm_top.specs.declared.steps.LineResult.{LineResult}
 
 -- the facts that a read found
 abbrev pub found_in : Got → Option Facts
@@ -35,10 +35,10 @@ found_in got.Missing = None
 found_in got.TooLong = None
 
 -- what is made of a read
-pub record Judges (got : Got) (judged : ReadAnswer × Option Facts) : Type 0 where
-  pub answer : judged.0 ≡ answer_of got
-  pub facts : judged.1 ≡ found_in got
-  pub dated : IfSome judged.1 (λ facts. IsDate facts.date)
+pub record Classifies (got : Got) (classified : ReadAnswer × Option Facts) : Type 0 where
+  pub answer : classified.0 ≡ answer_of got
+  pub facts : classified.1 ≡ found_in got
+  pub dated : IfSome classified.1 (λ facts. IsDate facts.date)
 
 -- Of the paths the first were read, and that is noted behind what was noted before.
 pub record HasRead (old new : ObservedMail) (old_noted new_noted : List Given) (paths : List (List ℕ)) : Type 0 where
@@ -86,23 +86,23 @@ report_with known listed before after arrivals noted = record {
 }
 
 -- what is said where nothing has come and nothing is gone
-abbrev pub standing_report : List Given → NewReport
-standing_report noted = record { added = 0; removed = 0; born = 0; died = 0; skipped = flat_map skip_given noted }
+abbrev pub unchanged_report : List Given → NewReport
+unchanged_report noted = record { added = 0; removed = 0; born = 0; died = 0; skipped = flat_map skip_given noted }
 
 -- the commits of what has come and what is gone
 abbrev pub commits_with : List (List ℕ) → List (List ℕ) → List (List ℕ × Facts) → List Commit
 commits_with known listed arrivals = commit_of (map add_of arrivals) ++ commit_of (map drop_of (gone_of known listed))
 
 -- the index after what has come and what is gone, what is said of it, and the steps of that
-pub record TakesIn (known listed : List (List ℕ)) (arrivals : List (List ℕ × Facts)) (noted : List Given) (old new : PlainIndex) (done : Answered) : Type 0 where
+pub record AppliesScan (known listed : List (List ℕ)) (arrivals : List (List ℕ × Facts)) (noted : List Given) (old new : PlainIndex) (done : LineResult) : Type 0 where
   pub files : new.files ≡ kept known listed (old.files ++ map lean arrivals)
   pub revision : new.revision ≡ old.revision + (commits_for (length arrivals) + commits_for (length (gone_of known listed)))
   pub outcome : done.outcome ≡ outcomes.Ok
   pub says : done.text ≡ new_text (report_with known listed old.files new.files arrivals noted)
   pub steps : done.steps ≡ reply_steps (commits_with known listed arrivals) requests.New done.text
 
--- what was gathered: the listed paths, those of the index, and what has come
-pub record Gathers (old new : ObservedMail) (files : List (List ℕ × Facts)) (noted : List Given) (known listed : List (List ℕ)) (arrivals : List (List ℕ × Facts)) : Type 0 where
+-- what was scanned: the listed paths, those of the index, and what has come
+pub record Scans (old new : ObservedMail) (files : List (List ℕ × Facts)) (noted : List Given) (known listed : List (List ℕ)) (arrivals : List (List ℕ × Facts)) : Type 0 where
   pub listing : IsListing old.tree listed
   pub known_is : known ≡ in_order (paths_of files)
   pub known_rising : IsRising known
@@ -120,19 +120,19 @@ IsNewOutcome outcomes.MailFault old noted text taken new =
     HasRisen old.mail.faults new.mail.faults × (taken ≡ []) × (new.index ≡ old.index) × (text ≡ refusal_line outcomes.MailFault)
 IsNewOutcome outcomes.NoMemory old noted text taken new = ⊥
 
-abbrev pub IsNewAnswer : State → List Given → Answered → State → Type 0
+abbrev pub IsNewAnswer : State → List Given → LineResult → State → Type 0
 IsNewAnswer old noted done new = IsNewOutcome done.outcome old noted done.text done.steps new
 
 -- the answer to a line
-abbrev pub IsLineAnswer : State → List ℕ → List Given → Answered → State → Type 0
+abbrev pub IsLineAnswer : State → List ℕ → List Given → LineResult → State → Type 0
 IsLineAnswer old line noted done new = IsAnswer done.outcome old line noted done.text done.steps new
 
 -- the index that is held afterwards stands for one with which this holds
 pub record Leaves (held : PlainIndex) (P : Index → Type 0) : Type 0 where
   pub index : Index
-  pub stands : StandsFor held index
+  pub stands : Represents held index
   pub holds : P index
 
 -- no step more than two commits and a reply take
-abbrev pub most_steps : ℕ
-most_steps = 7
+abbrev pub max_steps : ℕ
+max_steps = 7

@@ -2,7 +2,7 @@
 
 ghost use Rattle.std.specs.Prelude.{◌≡◌, [], Some};
 ghost use Rattle.nm_log.specs.Replies.{printed, usage_line};
-ghost use Rattle.nm_top.specs.Session.{Gains, Says, has_mail_fault, has_no_memory, is_mail_fault, is_no_memory, last_word, session_status};
+ghost use Rattle.nm_top.specs.Session.{StreamAppends, Prints, has_mail_fault, has_no_memory, is_mail_fault, is_no_memory, final_message, session_status};
 
 use nm_base::{Many, UsageKind};
 use nm_io::Sink;
@@ -11,21 +11,21 @@ use std::alloc::Global;
 
 /// Prints the replies, and says whether that failed.
 pub(crate) fn print_all<O: Sink>(out: &mut O, logs: &[LineLog]) -> bool
-    ensures { Gains result (O.observed out.old) (O.observed out.new) (printed logs.now) }
+    ensures { StreamAppends result (O.observed out.old) (O.observed out.new) (printed logs.now) }
 {
     print_lines(out, logs).is_err()
 }
 
-/// Says one line to the user, where that is possible.
+/// Prints one line to the user, where that is possible.
 fn say<E: Sink>(err: &mut E, line: &[u8])
-    ensures { Says (Some line.now) (E.observed err.old) (E.observed err.new) }
+    ensures { Prints (Some line.now) (E.observed err.old) (E.observed err.new) }
 {
     let _ = print_text(err, line);
 }
 
 /// What a session says in the end besides its replies.
 pub(crate) fn say_last<E: Sink>(err: &mut E, whole: bool, out_failed: bool)
-    ensures { Says (last_word whole out_failed) (E.observed err.old) (E.observed err.new) }
+    ensures { Prints (final_message whole out_failed) (E.observed err.old) (E.observed err.new) }
 {
     if out_failed {
         say(err, b"notmuch: write fault\n");
@@ -41,18 +41,18 @@ pub(crate) fn refuse<E: Sink>(alloc: Global, err: &mut E, status: u8, line: &[u8
     ensures status { result.status ≡ status }
     ensures log { result.log.lines ≡ [] }
     ensures steps { result.log.steps ≡ [] }
-    ensures says { Says (Some line.now) (E.observed err.old) (E.observed err.new) }
+    ensures says { Prints (Some line.now) (E.observed err.old) (E.observed err.new) }
 {
     say(err, line);
     ended(alloc, status)
 }
 
 /// Ends a call whose words are refused.
-pub(crate) fn refuse_words<E: Sink>(alloc: Global, err: &mut E, kind: UsageKind, word: &str) -> Done
+pub(crate) fn refuse_args<E: Sink>(alloc: Global, err: &mut E, kind: UsageKind, word: &str) -> Done
     ensures status { result.status ≡ 2 }
     ensures log { result.log.lines ≡ [] }
     ensures steps { result.log.steps ≡ [] }
-    ensures says { Says (Some (usage_line kind word.now)) (E.observed err.old) (E.observed err.new) }
+    ensures says { Prints (Some (usage_line kind word.now)) (E.observed err.old) (E.observed err.new) }
 {
     let _ = print_usage(err, kind, word);
     ended(alloc, 2)

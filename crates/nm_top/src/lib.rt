@@ -2,6 +2,7 @@
 //! tells what it did. The types of its log stand here too.
 #![tactic(auto)]
 
+mod apply_scan;
 mod ending;
 mod index;
 mod lean;
@@ -11,7 +12,6 @@ mod reading;
 mod session;
 mod sets;
 mod steps;
-mod take_in;
 mod top_call;
 
 pub use nm_core::{Request, Step};

@@ -3,18 +3,18 @@
 ghost use Rattle.std.specs.Prelude.{◌≡◌, ◌+◌, ◌<◌, ◌≤◌, ◌^◌, [], IfOk, OnErr, OnOk, ◌++◌, ◌∷◌, length};
 ghost use Rattle.nm_commit.specs.Index.{Index};
 ghost use Rattle.nm_maildir.specs.Observed.{HasMailCause};
-ghost use Rattle.nm_top.specs.Lean.{StandsFor};
+ghost use Rattle.nm_top.specs.Lean.{Represents};
 ghost use Rattle.nm_top.specs.Line.{AsksNew};
 ghost use Rattle.nm_top.specs.Reading.{IsRising};
 ghost use Rattle.nm_top.specs.State.{state_with};
-ghost use Rattle.nm_top.specs.Steps.{Gathers, IsNewAnswer, Leaves, most_steps};
+ghost use Rattle.nm_top.specs.Steps.{Scans, IsNewAnswer, Leaves, max_steps};
 
+use crate::apply_scan::{Scanned, apply_scan};
 use crate::index::{Mail, PlainIndex, path_set};
 use crate::listing::list_paths;
 use crate::reading::read_all;
 use crate::sets::paths_not_in;
-use crate::steps::Answered;
-use crate::take_in::{Gathered, take_in};
+use crate::steps::LineResult;
 use nm_base::{MailPath, Many, NoMemory, TextSet};
 use nm_log::Outcome;
 use nm_maildir::{Given, MailError, Maildir};
@@ -26,24 +26,24 @@ pub(crate) fn run_new<M: Maildir>(
     index: &mut PlainIndex,
     mail: &mut M,
     noted: &mut Many<Given>,
-) -> Result<Answered, NoMemory>
+) -> Result<LineResult, NoMemory>
     requires room { index.old.revision + 2 < 2 ^ 64 }
     requires fresh { noted.old ≡ [] }
-    ensures ok { (old : Index) → StandsFor index.old old → IfOk result (λ done. Leaves index.new (λ new. IsNewAnswer
+    ensures ok { (old : Index) → Represents index.old old → IfOk result (λ done. Leaves index.new (λ new. IsNewAnswer
         (state_with (M.observed mail.old) old) noted.new done
         (state_with (M.observed mail.new) new))) }
-    ensures few { IfOk result (λ done. length done.steps ≤ most_steps) }
+    ensures few { IfOk result (λ done. length done.steps ≤ max_steps) }
     ensures err { OnErr result (index.new ≡ index.old) }
     ensures grows { index.new.revision ≤ index.old.revision + 2 }
     ensures asked { AsksNew (M.observed mail.old) (M.observed mail.new) index.old.files noted.new }
     ensures tree { (M.observed mail.new).tree ≡ (M.observed mail.old).tree }
     ensures never_falls { (M.observed mail.old).faults ≤ (M.observed mail.new).faults }
 {
-    match gather(alloc, index.files.as_slice(), mail, noted) {
-        Ok(gathered) => take_in(alloc, index, gathered, noted.as_slice()),
+    match scan(alloc, index.files.as_slice(), mail, noted) {
+        Ok(scanned) => apply_scan(alloc, index, scanned, noted.as_slice()),
         Err(MailError::Failed) => {
             let text = Many::from_slice(alloc, b"notmuch: mail fault\n")?;
-            Ok(Answered {
+            Ok(LineResult {
                 outcome: Outcome::MailFault,
                 text,
                 steps: Many::new(alloc),
@@ -54,15 +54,15 @@ pub(crate) fn run_new<M: Maildir>(
 }
 
 /// Lists the mail, and reads what the index lacks.
-fn gather<M: Maildir>(
+fn scan<M: Maildir>(
     alloc: Global,
     files: &[Mail],
     mail: &mut M,
     noted: &mut Many<Given>,
-) -> Result<Gathered, MailError>
+) -> Result<Scanned, MailError>
     requires { noted.old ≡ [] }
-    ensures ok { IfOk result (λ gathered. Gathers (M.observed mail.old) (M.observed mail.new)
-        files.now noted.new gathered.known gathered.listed gathered.arrivals) }
+    ensures ok { IfOk result (λ scanned. Scans (M.observed mail.old) (M.observed mail.new)
+        files.now noted.new scanned.known scanned.listed scanned.arrivals) }
     ensures asked { AsksNew (M.observed mail.old) (M.observed mail.new) files.now noted.new }
     ensures tree { (M.observed mail.new).tree ≡ (M.observed mail.old).tree }
     ensures cause { HasMailCause (M.observed mail.old).faults (M.observed mail.new).faults result }
@@ -73,7 +73,7 @@ fn gather<M: Maildir>(
     let _ = known.len();
     let paths = paths_not_in(alloc, &listed, &known)?;
     let arrivals = read_all(alloc, mail, paths, noted)?;
-    Ok(Gathered {
+    Ok(Scanned {
         listed,
         known,
         arrivals,

@@ -4,7 +4,7 @@ ghost use Rattle.std.specs.Prelude.{◌≡◌, ℕ, List, ◌∷◌, [], ◌++�
 ghost use Rattle.nm_base.specs.declared.facts.Facts.{Facts};
 ghost use Rattle.nm_maildir.specs.Observed.{HasMailCause};
 ghost use Rattle.nm_top.specs.Reading.{arrival};
-ghost use Rattle.nm_top.specs.Steps.{HasRead, HasReadAll, Judges};
+ghost use Rattle.nm_top.specs.Steps.{HasRead, HasReadAll, Classifies};
 
 use crate::index::Mail;
 use nm_base::{Copies, Facts, MailPath, Many, NoMemory};
@@ -13,7 +13,7 @@ use nm_maildir::{Given, Got, MailError, Maildir, ReadAnswer};
 use std::alloc::Global;
 
 /// The most bytes of a mail file.
-const MOST_BYTES: u64 = 67_108_864;
+const MAX_BYTES: u64 = 67_108_864;
 
 /// Reads the files, notes what is answered of each, and gives those that are mail.
 pub(crate) fn read_all<M: Maildir>(
@@ -64,26 +64,26 @@ fn read_one<M: Maildir>(
     ensures so_far { HasRead (M.observed mail.old) (M.observed mail.new) noted.old noted.new (path.now ∷ []) }
     ensures cause { HasMailCause (M.observed mail.old).faults (M.observed mail.new).faults result }
 {
-    let got = mail.read(path, MOST_BYTES)?;
-    let (answer, found) = judge(alloc, got)?;
+    let got = mail.read(path, MAX_BYTES)?;
+    let (answer, found) = classify(alloc, got)?;
     let path = path.copy()?;
     noted.push(Given::Read { path, answer })?;
     Ok(found)
 }
 
 /// What a read tells, and the facts where it found mail.
-fn judge(alloc: Global, got: Got) -> Result<(ReadAnswer, Option<Facts>), NoMemory>
-    ensures { IfOk result (Judges got) }
+fn classify(alloc: Global, got: Got) -> Result<(ReadAnswer, Option<Facts>), NoMemory>
+    ensures { IfOk result (Classifies got) }
 {
     match got {
         Got::Missing => Ok((ReadAnswer::Missing, None)),
         Got::TooLong => Ok((ReadAnswer::TooLong, None)),
-        Got::Found(bytes) => judge_bytes(alloc, bytes.as_slice()),
+        Got::Found(bytes) => classify_bytes(alloc, bytes.as_slice()),
     }
 }
 
-fn judge_bytes(alloc: Global, bytes: &[u8]) -> Result<(ReadAnswer, Option<Facts>), NoMemory>
-    ensures { IfOk result (Judges (Got.Found bytes.now)) }
+fn classify_bytes(alloc: Global, bytes: &[u8]) -> Result<(ReadAnswer, Option<Facts>), NoMemory>
+    ensures { IfOk result (Classifies (Got.Found bytes.now)) }
 {
     match extract(alloc, bytes) {
         Ok(facts) => Ok((ReadAnswer::Mail, Some(facts))),

@@ -4,7 +4,7 @@ ghost use Rattle.std.specs.Prelude.{◌≡◌, ◌+◌, ◌≤◌, ◌++◌, ◌
 ghost use Rattle.std.specs.List.{flat_map};
 ghost use Rattle.nm_top.specs.Line.{commit_steps, reply_steps};
 ghost use Rattle.nm_top.specs.NewLine.{add_of, commit_of, drop_of};
-ghost use Rattle.nm_top.specs.Steps.{most_steps};
+ghost use Rattle.nm_top.specs.Steps.{max_steps};
 
 use crate::index::Mail;
 use nm_base::{Copies, MailPath, Many, NoMemory};
@@ -15,7 +15,7 @@ use std::alloc::Global;
 
 /// What came of a line: how it ended, what it says, and the steps that it took.
 #[derive(Drop)]
-pub(crate) struct Answered {
+pub(crate) struct LineResult {
     pub outcome: Outcome,
     pub text: Many<u8>,
     pub steps: Many<Step>,
@@ -29,7 +29,7 @@ pub(crate) fn new_steps(
     text: &Many<u8>,
 ) -> Result<Many<Step>, NoMemory>
     ensures value { IfOk result (λ steps. steps ≡ reply_steps (commit_of (map add_of arrivals) ++ commit_of (map drop_of gone)) Request.New text.now) }
-    ensures few { IfOk result (λ steps. length steps ≤ most_steps) }
+    ensures few { IfOk result (λ steps. length steps ≤ max_steps) }
 {
     let adds = adds(alloc, arrivals)?;
     let drops = drops(alloc, gone)?;
@@ -93,7 +93,7 @@ pub(crate) fn reply_step(
     text: &Many<u8>,
 ) -> Result<Many<Step>, NoMemory>
     ensures value { IfOk result (λ steps. steps ≡ reply_steps [] request text.now) }
-    ensures few { IfOk result (λ steps. length steps ≤ most_steps) }
+    ensures few { IfOk result (λ steps. length steps ≤ max_steps) }
 {
     let mut steps = Many::new(alloc);
     add_reply(&mut steps, request, text)?;

@@ -2,9 +2,9 @@
 
 ghost use Rattle.std.specs.Prelude.{◌≡◌, ℕ, List, ◌∷◌, [], ◌≤◌, None, Some, MatchOption, pos, ◌≤ℤ◌};
 ghost use Rattle.nm_top.specs.Complete.{IsComplete};
-ghost use Rattle.nm_top.specs.Session.{Ending, Ends, IsRun, outside, words_fault};
+ghost use Rattle.nm_top.specs.Session.{Ending, Ends, IsRun, devices, args_fault};
 
-use crate::ending::{print_all, refuse, refuse_words, say_last, status_of_run};
+use crate::ending::{print_all, refuse, refuse_args, say_last, status_of_run};
 use crate::session::run_lines;
 use nm_base::{Text, UsageKind};
 use nm_io::{Sink, Source, TakeError, take_all};
@@ -13,7 +13,7 @@ use nm_maildir::Maildir;
 use std::alloc::Global;
 
 /// The most bytes of an input.
-const MOST_INPUT: u64 = 67_108_864;
+const MAX_INPUT: u64 = 67_108_864;
 
 /// Runs the command that the words name: for now `session`, which reads a script from `input`, runs its lines over
 /// the mail folder, and prints their replies to `out`. `err` gains at most one line. It takes what memory it needs
@@ -32,27 +32,27 @@ pub fn notmuch<M: Maildir, I: Source, O: Sink, E: Sink>(
     requires from_1970 { pos 0 ≤ℤ setting.now.moment }
     requires moment { setting.now.moment ≤ℤ pos 253000000000 }
     ensures history { (ending : Ending) × (script : List ℕ) × Ends ending script words.now
-        (outside (M.observed mail.old) (I.observed input.old)
+        (devices (M.observed mail.old) (I.observed input.old)
         (O.observed out.old) (E.observed err.old))
-        (outside (M.observed mail.new) (I.observed input.new)
+        (devices (M.observed mail.new) (I.observed input.new)
         (O.observed out.new) (E.observed err.new)) result }
 
     // Where nothing is in its way, the script is answered to its end.
     ensures complete { IsComplete words.now
-        (outside (M.observed mail.old) (I.observed input.old)
+        (devices (M.observed mail.old) (I.observed input.old)
         (O.observed out.old) (E.observed err.old))
-        (outside (M.observed mail.new) (I.observed input.new)
+        (devices (M.observed mail.new) (I.observed input.new)
         (O.observed out.new) (E.observed err.new)) result }
 {
     match fault_of(words) {
-        Some((kind, word)) => refuse_words(alloc, err, kind, word),
+        Some((kind, word)) => refuse_args(alloc, err, kind, word),
         None => read_and_run(alloc, mail, input, out, err),
     }
 }
 
 /// What is wrong with the words of the call.
 fn fault_of(words: &[Text]) -> Option<(UsageKind, &str)>
-    ensures { MatchOption result (words_fault words.now ≡ None) (λ fault. words_fault words.now ≡ Some (fault.0, fault.1.now)) }
+    ensures { MatchOption result (args_fault words.now ≡ None) (λ fault. args_fault words.now ≡ Some (fault.0, fault.1.now)) }
 {
     match words {
         [] => Some((UsageKind::Command, "")),
@@ -62,7 +62,7 @@ fn fault_of(words: &[Text]) -> Option<(UsageKind, &str)>
 }
 
 fn command_fault(word: &str) -> Option<(UsageKind, &str)>
-    ensures { MatchOption result (words_fault (word.now ∷ []) ≡ None) (λ fault. words_fault (word.now ∷ []) ≡ Some (fault.0, fault.1.now)) }
+    ensures { MatchOption result (args_fault (word.now ∷ []) ≡ None) (λ fault. args_fault (word.now ∷ []) ≡ Some (fault.0, fault.1.now)) }
 {
     if word == "session" {
         return None;
@@ -71,7 +71,7 @@ fn command_fault(word: &str) -> Option<(UsageKind, &str)>
 }
 
 fn extra_fault<'a>(word: &'a str, other: &'a str) -> Option<(UsageKind, &'a str)>
-    ensures { (more : List (List ℕ)) → MatchOption result (words_fault (word.now ∷ other.now ∷ more) ≡ None) (λ fault. words_fault (word.now ∷ other.now ∷ more) ≡ Some (fault.0, fault.1.now)) }
+    ensures { (more : List (List ℕ)) → MatchOption result (args_fault (word.now ∷ other.now ∷ more) ≡ None) (λ fault. args_fault (word.now ∷ other.now ∷ more) ≡ Some (fault.0, fault.1.now)) }
 {
     if word == "session" {
         return Some((UsageKind::Extra, other));
@@ -86,13 +86,13 @@ fn read_and_run<M: Maildir, I: Source, O: Sink, E: Sink>(
     out: &mut O,
     err: &mut E,
 ) -> Done
-    ensures { (words : List (List ℕ)) → words_fault words ≡ None → (ending : Ending) × (script : List ℕ) × Ends ending script words
-        (outside (M.observed mail.old) (I.observed input.old)
+    ensures { (words : List (List ℕ)) → args_fault words ≡ None → (ending : Ending) × (script : List ℕ) × Ends ending script words
+        (devices (M.observed mail.old) (I.observed input.old)
         (O.observed out.old) (E.observed err.old))
-        (outside (M.observed mail.new) (I.observed input.new)
+        (devices (M.observed mail.new) (I.observed input.new)
         (O.observed out.new) (E.observed err.new)) result }
 {
-    match take_all(alloc, input, MOST_INPUT) {
+    match take_all(alloc, input, MAX_INPUT) {
         Ok(bytes) => match read_script(alloc, bytes.as_slice()) {
             Ok(script) => run_script(alloc, script.as_slice(), mail, out, err),
             Err(ScriptError::Limit(_)) => refuse(alloc, err, 9, b"notmuch: limit: lines\n"),

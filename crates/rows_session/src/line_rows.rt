@@ -3,7 +3,9 @@
 use nm_base::{CountAsk, Many, NoMemory, Output, Text, UsageKind};
 use nm_core::Request;
 use nm_io::MemSink;
-use nm_log::{Asked, ScriptError, ScriptLine, print_usage, read_ask, read_script, usage_text};
+use nm_log::{
+    ParsedLine, ScriptError, ScriptLine, parse_line, print_usage, read_script, usage_text,
+};
 use rows::{Lines, Row, RowError, cut};
 use std::alloc::{AllocError, Global};
 
@@ -20,10 +22,10 @@ pub fn requests(alloc: Global, row: &Row<'_>) -> Result<Vec<u8>, RowError> {
 }
 
 fn add_request(alloc: Global, answers: &mut Lines, line: &[u8]) -> Result<(), RowError> {
-    match read_ask(alloc, line)? {
-        Asked::Request(Request::New) => answers.line(b"new")?,
-        Asked::Request(Request::Count(ask)) => add_count(answers, &ask)?,
-        Asked::Usage { word, kind } => add_refusal(alloc, answers, kind, &word)?,
+    match parse_line(alloc, line)? {
+        ParsedLine::Request(Request::New) => answers.line(b"new")?,
+        ParsedLine::Request(Request::Count(ask)) => add_count(answers, &ask)?,
+        ParsedLine::Usage { word, kind } => add_refusal(alloc, answers, kind, &word)?,
     }
     Ok(())
 }

@@ -1,5 +1,5 @@
 use Rattle.std.proofs.Common.{ℕ, List, refl, subst}
-use Rattle.nm_log.specs.Ask.{asked_of}
+use Rattle.nm_log.specs.ParsedLine.{parse_line}
 use Rattle.nm_top.specs.Line.{AsksMail}
 use Rattle.nm_top.proofs.LineLemmas.{line_answer}
 use Rattle.nm_top.proofs.NewLemmas.{asked_lean}
@@ -11,7 +11,7 @@ returns-clause-answers g c = λ old stands.
     let done = c.answer-answered in
     let leaves = line_answer (mail.observed c.args.mail.now) (mail.observed done.new.mail) c.args.index.now done.new.index
     old c.args.line.now.text c.as_slice.result.now done.new.given c.args.spare done.result c.answered_or-outcome.result stands c.as_slice.ensures c.answered_or-outcome.ensures c.requires.spare done.ensures.err (done.ensures.ok old stands) in
-    let asked = asked_lean (asked_of c.as_slice.result.now) (mail.observed c.args.mail.now) (mail.observed done.new.mail) c.args.index.now old done.new.given stands done.ensures.asked in
+    let asked = asked_lean (parse_line c.as_slice.result.now) (mail.observed c.args.mail.now) (mail.observed done.new.mail) c.args.index.now old done.new.given stands done.ensures.asked in
     record {
       index = leaves.index;
       stands = leaves.stands;
@@ -22,7 +22,7 @@ returns-clause-answers g c = λ old stands.
         revision = leaves.stands.revision;
         status = c.line_status.ensures;
         answer = leaves.holds;
-        asks = subst (λ (line : List ℕ). AsksMail (asked_of line) (mail.observed c.args.mail.now) (mail.observed done.new.mail) old.files done.new.given) c.as_slice.ensures asked;
+        asks = subst (λ (line : List ℕ). AsksMail (parse_line line) (mail.observed c.args.mail.now) (mail.observed done.new.mail) old.files done.new.given) c.as_slice.ensures asked;
         tree = done.ensures.tree;
         faults = c.faults.ensures;
         never_falls = done.ensures.never_falls;

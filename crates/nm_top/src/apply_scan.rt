@@ -6,54 +6,54 @@ ghost use Rattle.nm_log.specs.Replies.{new_text};
 ghost use Rattle.nm_top.specs.Lean.{lean};
 ghost use Rattle.nm_top.specs.Line.{reply_steps};
 ghost use Rattle.nm_top.specs.Reading.{skip_at};
-ghost use Rattle.nm_top.specs.Steps.{TakesIn, commits_for, gone_of, is_gone, kept, most_steps, report_with, skip_given, standing_report};
+ghost use Rattle.nm_top.specs.Steps.{AppliesScan, commits_for, gone_of, is_gone, kept, max_steps, report_with, skip_given, unchanged_report};
 
 use crate::index::{Mail, PlainIndex, id_set};
 use crate::lean::lean_mails;
 use crate::sets::{ids_not_in, paths_missing, paths_not_in};
-use crate::steps::{Answered, new_steps, reply_step};
+use crate::steps::{LineResult, new_steps, reply_step};
 use nm_base::{Copies, MailPath, Many, NoMemory, Skip, TextSet};
 use nm_core::Request;
 use nm_log::{NewReport, Outcome, new_reply};
 use nm_maildir::{Given, ReadAnswer};
 use std::alloc::Global;
 
-/// What `new` has gathered: what is listed, what the index knows, and what has come.
+/// What `new` has scanned: what is listed, what the index knows, and what has come.
 #[derive(Drop)]
-pub(crate) struct Gathered {
+pub(crate) struct Scanned {
     pub listed: TextSet<MailPath>,
     pub known: TextSet<MailPath>,
     pub arrivals: Many<Mail>,
 }
 
 /// Takes in what has come, lets go what is gone, and gives the reply with the steps of that.
-pub(crate) fn take_in(
+pub(crate) fn apply_scan(
     alloc: Global,
     index: &mut PlainIndex,
-    gathered: Gathered,
+    scanned: Scanned,
     noted: &[Given],
-) -> Result<Answered, NoMemory>
+) -> Result<LineResult, NoMemory>
     requires { index.old.revision + 2 < 2 ^ 64 }
-    ensures ok { IfOk result (TakesIn gathered.known gathered.listed gathered.arrivals noted.now index.old index.new) }
-    ensures few { IfOk result (λ done. length done.steps ≤ most_steps) }
+    ensures ok { IfOk result (AppliesScan scanned.known scanned.listed scanned.arrivals noted.now index.old index.new) }
+    ensures few { IfOk result (λ done. length done.steps ≤ max_steps) }
     ensures grows { index.new.revision ≤ index.old.revision + 2 }
     ensures err { OnErr result (index.new ≡ index.old) }
 {
-    let gone = paths_not_in(alloc, &gathered.known, &gathered.listed)?;
-    if gathered.arrivals.is_empty() {
+    let gone = paths_not_in(alloc, &scanned.known, &scanned.listed)?;
+    if scanned.arrivals.is_empty() {
         if gone.is_empty() {
-            return stand(alloc, noted);
+            return unchanged_reply(alloc, noted);
         }
     }
-    change(alloc, index, gathered, gone, noted)
+    change(alloc, index, scanned, gone, noted)
 }
 
 /// The answer where nothing has come and nothing is gone: the index is not touched.
-fn stand(alloc: Global, noted: &[Given]) -> Result<Answered, NoMemory>
+fn unchanged_reply(alloc: Global, noted: &[Given]) -> Result<LineResult, NoMemory>
     ensures outcome { IfOk result (λ done. done.outcome ≡ Outcome.Ok) }
-    ensures says { IfOk result (λ done. done.text ≡ new_text (standing_report noted.now)) }
+    ensures says { IfOk result (λ done. done.text ≡ new_text (unchanged_report noted.now)) }
     ensures steps { IfOk result (λ done. done.steps ≡ reply_steps [] Request.New done.text) }
-    ensures few { IfOk result (λ done. length done.steps ≤ most_steps) }
+    ensures few { IfOk result (λ done. length done.steps ≤ max_steps) }
 {
     let report = NewReport {
         added: 0,
@@ -64,7 +64,7 @@ fn stand(alloc: Global, noted: &[Given]) -> Result<Answered, NoMemory>
     };
     let text = new_reply(alloc, &report)?;
     let steps = reply_step(alloc, Request::New, &text)?;
-    Ok(Answered {
+    Ok(LineResult {
         outcome: Outcome::Ok,
         text,
         steps,
@@ -75,32 +75,32 @@ fn stand(alloc: Global, noted: &[Given]) -> Result<Answered, NoMemory>
 fn change(
     alloc: Global,
     index: &mut PlainIndex,
-    gathered: Gathered,
+    scanned: Scanned,
     gone: Many<MailPath>,
     noted: &[Given],
-) -> Result<Answered, NoMemory>
+) -> Result<LineResult, NoMemory>
     requires room { index.old.revision + 2 < 2 ^ 64 }
-    requires gone { gone ≡ gone_of gathered.known gathered.listed }
-    ensures ok { IfOk result (TakesIn gathered.known gathered.listed gathered.arrivals noted.now index.old index.new) }
-    ensures few { IfOk result (λ done. length done.steps ≤ most_steps) }
+    requires gone { gone ≡ gone_of scanned.known scanned.listed }
+    ensures ok { IfOk result (AppliesScan scanned.known scanned.listed scanned.arrivals noted.now index.old index.new) }
+    ensures few { IfOk result (λ done. length done.steps ≤ max_steps) }
     ensures grows { index.new.revision ≤ index.old.revision + 2 }
     ensures err { OnErr result (index.new ≡ index.old) }
 {
-    let files = files_after(alloc, index.files.as_slice(), &gathered)?;
+    let files = files_after(alloc, index.files.as_slice(), &scanned)?;
     let report = make_report(
         alloc,
         index.files.as_slice(),
         files.as_slice(),
-        &gathered,
+        &scanned,
         noted,
     )?;
     let text = new_reply(alloc, &report)?;
-    let came = commit_count(gathered.arrivals.len());
+    let came = commit_count(scanned.arrivals.len());
     let went = commit_count(gone.len());
-    let steps = new_steps(alloc, gathered.arrivals, gone, &text)?;
+    let steps = new_steps(alloc, scanned.arrivals, gone, &text)?;
     index.revision += came + went;
     index.files = files;
-    Ok(Answered {
+    Ok(LineResult {
         outcome: Outcome::Ok,
         text,
         steps,
@@ -114,17 +114,17 @@ fn commit_count(changes: usize) -> u64
     if changes == 0 { 0 } else { 1 }
 }
 
-fn files_after(alloc: Global, files: &[Mail], gathered: &Gathered) -> Result<Many<Mail>, NoMemory>
-    ensures { IfOk result (λ after. after ≡ kept gathered.now.known gathered.now.listed (files.now ++ map lean gathered.now.arrivals)) }
+fn files_after(alloc: Global, files: &[Mail], scanned: &Scanned) -> Result<Many<Mail>, NoMemory>
+    ensures { IfOk result (λ after. after ≡ kept scanned.now.known scanned.now.listed (files.now ++ map lean scanned.now.arrivals)) }
 {
     let mut after = Many::new(alloc);
-    add_kept(&mut after, files, &gathered.known, &gathered.listed)?;
-    let arrivals = lean_mails(alloc, gathered.arrivals.as_slice())?;
+    add_kept(&mut after, files, &scanned.known, &scanned.listed)?;
+    let arrivals = lean_mails(alloc, scanned.arrivals.as_slice())?;
     add_kept(
         &mut after,
         arrivals.as_slice(),
-        &gathered.known,
-        &gathered.listed,
+        &scanned.known,
+        &scanned.listed,
     )?;
     Ok(after)
 }
@@ -168,17 +168,17 @@ fn make_report(
     alloc: Global,
     before: &[Mail],
     after: &[Mail],
-    gathered: &Gathered,
+    scanned: &Scanned,
     noted: &[Given],
 ) -> Result<NewReport, NoMemory>
-    ensures { IfOk result (λ report. report ≡ report_with gathered.now.known gathered.now.listed before.now after.now gathered.now.arrivals noted.now) }
+    ensures { IfOk result (λ report. report ≡ report_with scanned.now.known scanned.now.listed before.now after.now scanned.now.arrivals noted.now) }
 {
     let old_ids = id_set(alloc, before)?;
     let new_ids = id_set(alloc, after)?;
     let skipped = skips(alloc, noted)?;
     Ok(NewReport {
-        added: gathered.arrivals.len() as u64,
-        removed: paths_missing(&gathered.known, &gathered.listed) as u64,
+        added: scanned.arrivals.len() as u64,
+        removed: paths_missing(&scanned.known, &scanned.listed) as u64,
         born: ids_not_in(&new_ids, &old_ids) as u64,
         died: ids_not_in(&old_ids, &new_ids) as u64,
         skipped,

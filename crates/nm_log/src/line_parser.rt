@@ -1,7 +1,7 @@
 //! What a line of a script asks for; the session reads each line with it.
 
 ghost use Rattle.std.specs.Prelude.{◌≡◌, [], ◌∷◌, IfOk};
-ghost use Rattle.nm_log.specs.Ask.{asked_of, command_asked, count_asked, new_asked, query_asked, words_asked};
+ghost use Rattle.nm_log.specs.ParsedLine.{parse_line, parse_command, parse_count, parse_new, parse_query, parse_words};
 ghost use Rattle.nm_log.specs.Words.{words_of};
 
 use crate::words::next_word;
@@ -11,14 +11,14 @@ use std::alloc::Global;
 
 /// What a line asks for, or what is wrong with it.
 #[derive(Debug, Drop, PartialEq, Eq)]
-pub enum Asked {
+pub enum ParsedLine {
     Request(Request),
     Usage { word: Text, kind: UsageKind },
 }
 
 /// Reads what a line of a script asks for.
-pub fn read_ask(alloc: Global, line: &[u8]) -> Result<Asked, NoMemory>
-    ensures { IfOk result (λ asked. asked ≡ asked_of line.now) }
+pub fn parse_line(alloc: Global, line: &[u8]) -> Result<ParsedLine, NoMemory>
+    ensures { IfOk result (λ asked. asked ≡ parse_line line.now) }
 {
     match str::from_utf8(line) {
         Ok(text) => read_lane(alloc, text),
@@ -26,15 +26,15 @@ pub fn read_ask(alloc: Global, line: &[u8]) -> Result<Asked, NoMemory>
     }
 }
 
-fn refuse(alloc: Global, kind: UsageKind, word: &str) -> Result<Asked, NoMemory>
-    ensures { IfOk result (λ asked. asked ≡ Asked.Usage word.now kind) }
+fn refuse(alloc: Global, kind: UsageKind, word: &str) -> Result<ParsedLine, NoMemory>
+    ensures { IfOk result (λ asked. asked ≡ ParsedLine.Usage word.now kind) }
 {
     let word = Text::of(alloc, word)?;
-    Ok(Asked::Usage { word, kind })
+    Ok(ParsedLine::Usage { word, kind })
 }
 
-fn read_lane(alloc: Global, text: &str) -> Result<Asked, NoMemory>
-    ensures { IfOk result (λ asked. asked ≡ words_asked (words_of text.now)) }
+fn read_lane(alloc: Global, text: &str) -> Result<ParsedLine, NoMemory>
+    ensures { IfOk result (λ asked. asked ≡ parse_words (words_of text.now)) }
 {
     match next_word(text) {
         None => refuse(alloc, UsageKind::Command, ""),
@@ -47,8 +47,8 @@ fn read_lane(alloc: Global, text: &str) -> Result<Asked, NoMemory>
     }
 }
 
-fn read_command(alloc: Global, text: &str) -> Result<Asked, NoMemory>
-    ensures { IfOk result (λ asked. asked ≡ command_asked (words_of text.now)) }
+fn read_command(alloc: Global, text: &str) -> Result<ParsedLine, NoMemory>
+    ensures { IfOk result (λ asked. asked ≡ parse_command (words_of text.now)) }
 {
     match next_word(text) {
         None => refuse(alloc, UsageKind::Command, ""),
@@ -64,17 +64,17 @@ fn read_command(alloc: Global, text: &str) -> Result<Asked, NoMemory>
     }
 }
 
-fn read_new(alloc: Global, text: &str) -> Result<Asked, NoMemory>
-    ensures { IfOk result (λ asked. asked ≡ new_asked (words_of text.now)) }
+fn read_new(alloc: Global, text: &str) -> Result<ParsedLine, NoMemory>
+    ensures { IfOk result (λ asked. asked ≡ parse_new (words_of text.now)) }
 {
     match next_word(text) {
-        None => Ok(Asked::Request(Request::New)),
+        None => Ok(ParsedLine::Request(Request::New)),
         Some((word, _)) => refuse(alloc, UsageKind::Extra, word),
     }
 }
 
-fn read_count(alloc: Global, text: &str) -> Result<Asked, NoMemory>
-    ensures { IfOk result (λ asked. asked ≡ count_asked (words_of text.now)) }
+fn read_count(alloc: Global, text: &str) -> Result<ParsedLine, NoMemory>
+    ensures { IfOk result (λ asked. asked ≡ parse_count (words_of text.now)) }
 {
     match next_word(text) {
         None => refuse(alloc, UsageKind::Missing, ""),
@@ -88,14 +88,14 @@ fn read_count(alloc: Global, text: &str) -> Result<Asked, NoMemory>
 }
 
 /// A count of one query, where it is read.
-fn read_query(alloc: Global, word: &str) -> Result<Asked, NoMemory>
-    ensures { IfOk result (λ asked. asked ≡ query_asked word.now) }
+fn read_query(alloc: Global, word: &str) -> Result<ParsedLine, NoMemory>
+    ensures { IfOk result (λ asked. asked ≡ parse_query word.now) }
 {
     if !is_subject_query(word.as_bytes()) {
         return refuse(alloc, UsageKind::Value, word);
     }
     let query = Text::of(alloc, word)?;
-    Ok(Asked::Request(Request::Count(CountAsk {
+    Ok(ParsedLine::Request(Request::Count(CountAsk {
         output: Output::Messages,
         exclude: true,
         batch: false,
