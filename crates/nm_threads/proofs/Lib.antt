@@ -10,3 +10,4 @@ pub mod MergeLemmas
 pub mod RowLemmas
 pub mod PlaceLemmas
 pub mod OrderLemmas
+pub mod OpenLemmas

@@ -9,7 +9,7 @@ use Rattle.std.proofs.lemmas.Bool.{cases_eq}
 use Rattle.std.proofs.lemmas.List.{map_push}
 use Rattle.std.proofs.lemmas.List.Elements.{Contains-push, Contains-append_left, Contains-push_cases}
 use Rattle.std.proofs.lemmas.Option.{same_Some, none-some}
-use Rattle.nm_threads.specs.Labels.{Label, entries_of, has_entry}
+use Rattle.nm_threads.specs.Labels.{Label, Labelling, entries_of, has_entry}
 use Rattle.nm_threads.specs.Maps.{at, at_id, at_pair, pair_cmp, name_at, name_in, labelling_of, is_number, AreMaps, given}
 use Rattle.nm_threads.specs.declared.maps.Maps.{Maps}
 use Rattle.nm_threads.specs.declared.maps.Thread.{Thread}
@@ -174,3 +174,26 @@ module _ (m : Maps) (are : AreMaps m) (id : List ℕ) (absent : at_id id m.numbe
       ap (map (label_at new)) ids_grown ∙ map_push (label_at new) m.ids (m.next, id) ∙ ap (λ front. front ++ label_at new (m.next, id) ∷ []) (map_among (label_at new) (label_at m) m.ids label_old) ∙ ap (λ label. (labelling_of m).labels ++ label ∷ []) last in
       ap (λ labels. record { labels = labels; next = m.next + 1 }) all
       ∙ sym (ap (λ test. cond test (labelling_of m) (record { labels = (labelling_of m).labels ++ (record { id = id; number = m.next; name = m.next }) ∷ []; next = m.next + 1 })) (sym (has_is m are id) ∙ ap is_some absent))
+
+-- ---- a later next number
+
+module _ (m : Maps) (are : AreMaps m) (number : ℕ) (le : m.next ≤ number) (most : number ≤ 2 ^ 63) where
+  abbrev pub later : Maps
+  later = record { ids = m.ids; numbers = m.numbers; groups = m.groups; threads = m.threads; members = m.members; next = number }
+
+  pub maps_later : AreMaps later
+  maps_later = record {
+    below = λ n u among. let b = are.below n u among in (b.0, omega (arith, b.1, le));
+    once = are.once;
+    found = are.found;
+    kept = are.kept;
+    grouped = are.grouped;
+    fresh = λ n g is. omega (arith, are.fresh n g is, le);
+    early = λ g t is. let e = are.early g t is in (omega (arith, e.0, le), omega (arith, e.1, le));
+    apart = are.apart;
+    members = are.members;
+    small = (omega (arith, are.small.0, le), most);
+  }
+
+pub given_absent : (l : Labelling) (id : List ℕ) → has_entry (entries_of l.labels) id ≡ false → given l id ≡ record { labels = l.labels ++ (record { id = id; number = l.next; name = l.next }) ∷ []; next = l.next + 1 }
+given_absent l id absent = ap (λ test. cond test l (record { labels = l.labels ++ (record { id = id; number = l.next; name = l.next }) ∷ []; next = l.next + 1 })) absent

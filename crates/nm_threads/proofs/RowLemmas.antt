@@ -22,7 +22,7 @@ use Rattle.nm_threads.proofs.NumberLemmas.{label_at, label_of, label_from}
 
 -- ---- numbers
 
-abbrev Entries : Type 0
+abbrev pub Entries : Type 0
 Entries = List (List ℕ × ℕ)
 
 module _ (entries : Entries) (next : ℕ) (id : List ℕ) (more : List (List ℕ)) where

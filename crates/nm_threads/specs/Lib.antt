@@ -3,3 +3,4 @@ pub mod Name
 pub mod Labels
 pub mod Maps
 pub mod Fits
+pub mod Entries

@@ -3,6 +3,7 @@
 ghost use Rattle.std.specs.Prelude.{◌≡◌, ◌≤◌, ◌^◌, ◌∷◌, ◌++◌, [], ℕ, List, false, IfOk, OnOk, OnErr, MatchOption, Contains};
 ghost use Rattle.std.specs.List.{flat_map};
 ghost use Rattle.nm_base.specs.declared.facts.LinkRow.{LinkRow};
+ghost use Rattle.nm_threads.specs.Entries.{AreEntriesOf};
 ghost use Rattle.nm_threads.specs.Labels.{AreLabelsOf, IsLabelling, entries_of, has_entry, numbered};
 ghost use Rattle.nm_threads.specs.Maps.{AreMaps, labelling_of};
 ghost use Rattle.nm_threads.specs.Name.{thread_name};
@@ -10,11 +11,12 @@ ghost use Rattle.nm_threads.specs.Same.{ids_of};
 
 use crate::joining::place_of;
 use crate::maps::Maps;
+use crate::opening::{add_uncounted, give_numbers};
 use crate::rows::{add, add_all};
-use nm_base::{Copies, LinkRow, MessageId, NoMemory, Steps};
+use nm_base::{Copies, LinkRow, Many, MessageId, NoMemory, Steps};
 use std::alloc::Global;
-use std::marker::Model;
-use std::sync::ledger::Ledger;
+use std::marker::{Brand, Model};
+use std::sync::ledger::{Blank, Ledger};
 
 /// Labels of ids. A contract sees each id with its number and the name of its thread, and the number that comes next.
 #[derive(Drop)]
@@ -44,6 +46,24 @@ impl Labels {
             alloc,
             maps: Maps::new(alloc),
         }
+    }
+
+    /// The labels of these rows, where ids have these numbers.
+    pub fn of(
+        alloc: Global,
+        rows: &Many<LinkRow>,
+        entries: &Many<(MessageId, u64)>,
+        next: u64,
+    ) -> Result<Labels, NoMemory>
+        requires { AreEntriesOf rows.now entries.now next }
+        ensures entries { IfOk result (λ labels. entries_of labels.labels ≡ entries.now) }
+        ensures next { IfOk result (λ labels. labels.next ≡ next) }
+        ensures labels { IfOk result (λ labels. AreLabelsOf rows.now labels.labels) }
+    {
+        let mut maps = Maps::new(alloc);
+        give_numbers(&mut maps, entries.as_slice(), next)?;
+        add_uncounted::<Brand>(alloc, &mut maps, rows.as_slice(), Blank::new(1))?;
+        Ok(Labels { alloc, maps })
     }
 
     /// The number that the next id gets.

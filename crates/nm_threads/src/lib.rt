@@ -7,6 +7,7 @@ mod labels;
 mod laws;
 mod maps;
 mod numbering;
+mod opening;
 mod rows;
 
 pub use labels::Labels;

@@ -1,6 +1,6 @@
 //! Numbers for ids; the rows that come have their ids numbered here.
 
-ghost use Rattle.std.specs.Prelude.{◌≡◌, ◌<◌, ◌^◌, false, OnOk};
+ghost use Rattle.std.specs.Prelude.{◌≡◌, ◌+◌, ◌<◌, ◌≤◌, ◌^◌, ◌++◌, ◌∷◌, [], false, OnOk};
 ghost use Rattle.nm_threads.specs.Labels.{entries_of, has_entry};
 ghost use Rattle.nm_threads.specs.Maps.{AreMaps, given, labelling_of};
 
@@ -28,5 +28,19 @@ pub fn give_number(maps: &mut Maps, id: &MessageId) -> Result<(), NoMemory>
     maps.threads.insert(number, thread)?;
     maps.members.insert((number, number), Member)?;
     maps.next = number + 1;
+    Ok(())
+}
+
+/// Gives an id this number; it is a thread of its own. The next number comes after it.
+pub fn give_this_number(maps: &mut Maps, id: &MessageId, number: u64) -> Result<(), NoMemory>
+    requires maps { AreMaps maps.old }
+    requires number { (maps.old.next ≤ number) × (number < 2 ^ 63) }
+    requires absent { has_entry (entries_of (labelling_of maps.old).labels) id.now ≡ false }
+    ensures maps { OnOk result (AreMaps maps.new) }
+    ensures next { OnOk result (maps.new.next ≡ number + 1) }
+    ensures labels { OnOk result ((labelling_of maps.new).labels ≡ (labelling_of maps.old).labels ++ (record { id = id.now; number = number; name = number }) ∷ []) }
+{
+    maps.next = number;
+    give_number(maps, id)?;
     Ok(())
 }
