@@ -1,4 +1,6 @@
+pub mod AnswerLemmas
 pub mod CutLemmas
+pub mod DescentLemmas
 pub mod DotLemmas
 pub mod GrammarLemmas
 pub mod HexLemmas
@@ -7,4 +9,5 @@ pub mod PartLemmas
 pub mod PrefixLemmas
 pub mod QuoteLemmas
 pub mod RunLemmas
+pub mod StructureLemmas
 pub mod TokenLemmas

@@ -20,7 +20,7 @@ mod token;
 mod tokens;
 mod values;
 
-pub use laws::the_tree_is_that_of_the_grammar;
+pub use laws::{a_text_is_read_as_the_grammar_reads_it, tokens_without_a_fault_are_a_query};
 pub use parsing::parse;
 pub use query::Query;
 pub use query_error::{QueryError, QueryKind};
