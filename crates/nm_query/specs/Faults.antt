@@ -67,6 +67,7 @@ ends_operand Negation = false
 ends_operand (Binary operator) = false
 ends_operand (Term item) = true
 
+-- an operand begins here
 abbrev pub begin_operand : List Placed → Bool
 begin_operand [] = false
 begin_operand (placed ∷ more) = begins_operand placed.token

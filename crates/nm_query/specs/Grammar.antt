@@ -12,6 +12,7 @@ use Rattle.nm_query.specs.declared.token.TermKind.TheVariants as joins
 use Rattle.nm_query.specs.declared.token.Token.{Token}
 use Rattle.nm_query.specs.declared.token.Token.TheVariants.{Binary, Close, Negation, Open, Term}
 
+-- a query that is joined with no others by Or
 abbrev pub alone : Query → Item
 alone query = record { kind = joins.Other; query = query }
 

@@ -8,6 +8,7 @@ use Rattle.nm_query.specs.declared.token.Operator.TheVariants.{Conjunction, Disj
 use Rattle.nm_query.specs.declared.token.TermKind.{TermKind}
 use Rattle.nm_query.specs.declared.token.TermKind.TheVariants as joins
 
+-- the list that an operator makes
 abbrev pub list_of : Operator → List Query → Query
 list_of Conjunction queries = tree.And queries
 list_of Exclusion queries = tree.Xor queries
@@ -28,12 +29,15 @@ kind_number joins.Folder = 3
 kind_number joins.Path = 4
 kind_number joins.Other = 5
 
+-- a term of this kind
 abbrev pub is_of : TermKind → Item → Bool
 is_of kind item = kind_number item.kind == kind_number kind
 
+-- what the terms of the kind ask
 abbrev pub queries_of : TermKind → List Item → List Query
 queries_of kind items = map (λ item. item.query) (filter (is_of kind) items)
 
+-- what is of another kind
 abbrev pub others : TermKind → List Item → List Item
 others kind items = filter (λ item. not (is_of kind item)) items
 
@@ -49,6 +53,7 @@ with_joined kind (item ∷ more) =
 abbrev pub grouped : List Item → List Item
 grouped items = with_joined joins.Path (with_joined joins.Folder (with_joined joins.Thread (with_joined joins.Id (with_joined joins.Tag items))))
 
+-- what an item asks
 abbrev pub query_of : Item → Query
 query_of item = item.query
 

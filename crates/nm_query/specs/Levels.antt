@@ -26,6 +26,7 @@ negated (suc n) query = negated n (tree.Not query)
 abbrev pub operand : ℕ → Item → Item
 operand negations item = if negations == 0 then item else record { kind = joins.Other; query = negated negations item.query }
 
+-- an operand has ended
 abbrev pub with_item : Item → Level → Level
 with_item item level = record level { items = level.items ++ operand level.negations item ∷ []; negations = 0 }
 
@@ -58,6 +59,7 @@ abbrev pub closed : Level → List Level → Reading
 closed inner [] = record { inner = inner; outer = [] }
 closed inner (level ∷ outer) = record { inner = with_item (record { kind = joins.Other; query = level_query inner }) level; outer = outer }
 
+-- what was read, after one token more
 abbrev pub after : Token → Reading → Reading
 after Open reading = record { inner = blank; outer = reading.inner ∷ reading.outer }
 after Close reading = closed reading.inner reading.outer
@@ -65,9 +67,11 @@ after Negation reading = let inner = reading.inner in record reading { inner = r
 after (Binary operator) reading = record reading { inner = after_operator operator reading.inner }
 after (Term item) reading = record reading { inner = with_item item reading.inner }
 
+-- and after these tokens
 abbrev pub read_after : Reading → List Placed → Reading
 read_after reading tokens = fold (λ reading placed. after placed.token reading) reading tokens
 
+-- before the first token
 abbrev pub nothing_read : Reading
 nothing_read = record { inner = blank; outer = [] }
 

@@ -26,6 +26,7 @@ use Rattle.nm_query.specs.declared.values.Value.{Value}
 abbrev pub passed : ℕ → Lexeme
 passed len = record { token = None; len = len }
 
+-- a token of so many bytes
 abbrev pub token_of : Token → ℕ → Lexeme
 token_of token len = record { token = Some token; len = len }
 
@@ -46,6 +47,7 @@ field_term at prefix text =
     if begins_with 40 text then Err (BadQuery at kind.NotHere)
     else field_value_term at prefix (value_at ends_run (at + prefix.len) text)
 
+-- a term of a name whose prefix has so many bytes
 abbrev pub name_value_term : ℕ → NamePrefix → Result Value QueryError → Result Lexeme QueryError
 name_value_term at prefix value = elim value [
   | Ok value ↦ term_of (term_kind prefix.name) (prefix.len + value.len) (name_query at (at + prefix.len) prefix.name value)
@@ -73,6 +75,7 @@ run_token run =
     else (if bytes_eq run (codes "*") then Term (other_item tree.All)
     else Term (other_item (run_query None run))))))
 
+-- a run by itself
 abbrev pub run_lexeme : List ℕ → Lexeme
 run_lexeme run = token_of (run_token run) (length run)
 

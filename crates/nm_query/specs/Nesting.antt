@@ -5,16 +5,20 @@ use Rattle.nm_query.specs.declared.token.Placed.{Placed}
 use Rattle.nm_query.specs.declared.token.Token.{Token}
 use Rattle.nm_query.specs.declared.token.Token.TheVariants.{Binary, Close, Negation, Open, Term}
 
--- the negations that have not ended, outside of all parentheses and inside each that is open, the innermost first
+-- The lists are of the negations that have not ended: inside each parenthesis that is open, the innermost first, and outside of all.
+
+-- a `)` ends the negations inside its parenthesis and before it
 abbrev pub after_close : List ℕ → List ℕ
 after_close [] = []
 after_close (inner ∷ []) = inner ∷ []
 after_close (inner ∷ outer ∷ more) = 0 ∷ more
 
+-- a term ends the innermost
 abbrev pub after_term : List ℕ → List ℕ
 after_term [] = []
 after_term (inner ∷ more) = 0 ∷ more
 
+-- one negation more waits
 abbrev pub after_negation : List ℕ → List ℕ
 after_negation [] = []
 after_negation (inner ∷ more) = (inner + 1) ∷ more
@@ -41,5 +45,6 @@ passes_depth negations [] = false
 passes_depth negations (placed ∷ more) =
     nat_lt 64 (depth_of (negations_after negations placed.token)) || passes_depth (negations_after negations placed.token) more
 
+-- a query that nests deeper than 64
 abbrev pub is_too_deep : List Placed → Bool
 is_too_deep tokens = passes_depth (0 ∷ []) tokens

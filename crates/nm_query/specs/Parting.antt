@@ -8,9 +8,11 @@ use Rattle.nm_query.specs.declared.token.Operator.TheVariants.{Disjunction}
 use Rattle.nm_query.specs.declared.token.TermKind.{TermKind}
 use Rattle.nm_query.specs.declared.token.TermKind.TheVariants as joins
 
+-- before the first item
 abbrev pub unparted : Parted
 unparted = record { before = []; found = []; after = [] }
 
+-- after one item more: a term of the kind is found, another stands before the first of them or after it
 abbrev pub part : TermKind → Parted → Item → Parted
 part kind parted item =
     if is_of kind item then record parted { found = parted.found ++ item.query ∷ [] }

@@ -47,6 +47,7 @@ takes_pattern field.Subject = true
 takes_pattern field.Body = false
 takes_pattern field.Attachment = false
 
+-- a `*` inside quotes asks nothing
 abbrev pub said_query : Option Field → Value → Query
 said_query field value = if value.quoted then words_query field value.said else run_query field value.said
 
@@ -61,6 +62,7 @@ field_query at from field value =
 abbrev pub is_hex_digit : ℕ → Bool
 is_hex_digit b = (nat_le 48 b && nat_le b 57) || (nat_le 97 b && nat_le b 102)
 
+-- the value of such a digit
 abbrev pub hex_value : ℕ → ℕ
 hex_value b = if nat_le b 57 then b - 48 else b - 87
 
@@ -83,6 +85,7 @@ path_query text =
     else (if nat_le 3 (length text) && bytes_eq (drop (length text - 3) text) (codes "/**") then tree.Path (take (length text - 3) text) true
     else tree.Path text false)
 
+-- `..` stands at the front
 abbrev pub begins_with_dots : List ℕ → Bool
 begins_with_dots [] = false
 begins_with_dots (b ∷ []) = false
@@ -93,6 +96,7 @@ abbrev pub before_dots : List ℕ → ℕ
 before_dots [] = 0
 before_dots (b ∷ more) = if begins_with_dots (b ∷ more) then 0 else 1 + before_dots more
 
+-- the range between two ends
 abbrev pub dates_of : Option End → Option End → Query
 dates_of from to = tree.Dates from to
 
@@ -108,6 +112,7 @@ optional_end at text = if length text == 0 then Ok None else elim (end_at at tex
 abbrev pub one_date : ℕ → List ℕ → Result Query QueryError
 one_date at text = elim (end_at at text) [ Ok end ↦ Ok (dates_of (Some end) (Some end)) | Err refusal ↦ Err refusal ]
 
+-- a range whose second end is read after the first
 abbrev pub with_from : Option End → Result (Option End) QueryError → Result Query QueryError
 with_from from to = elim to [ Ok end ↦ Ok (dates_of from end) | Err refusal ↦ Err refusal ]
 
@@ -123,6 +128,7 @@ second_place from quoted dots = if quoted then from else from + dots + 2
 abbrev pub is_same_end : List ℕ → List ℕ → Bool
 is_same_end from to = nat_lt 0 (length from) && bytes_eq to (codes "!")
 
+-- a range of two ends with their places
 abbrev pub range_query : ℕ → ℕ → List ℕ → List ℕ → Result Query QueryError
 range_query at at_to from to = if is_same_end from to then one_date at from else two_dates at from at_to to
 
@@ -132,12 +138,15 @@ date_query from value =
     if before_dots value.said == length value.said then one_date from value.said
     else range_query from (second_place from value.quoted (before_dots value.said)) (take (before_dots value.said) value.said) (drop (before_dots value.said + 2) value.said)
 
+-- a tag, but no pattern
 abbrev pub tag_query : ℕ → List ℕ → Result Query QueryError
 tag_query at text = if is_pattern text then Err (BadQuery at kind.NotHere) else Ok (tree.Tag text)
 
+-- a thread, but none of a query
 abbrev pub thread_query : ℕ → List ℕ → Result Query QueryError
 thread_query at text = if slice_index text 0 == 123 then Err (BadQuery at kind.NotHere) else Ok (tree.Thread (thread_number text))
 
+-- a folder, but no pattern
 abbrev pub folder_path_query : ℕ → List ℕ → Result Query QueryError
 folder_path_query at text = if is_pattern text then Err (BadQuery at kind.NotHere) else Ok (path_query text)
 
@@ -182,5 +191,6 @@ term_kind name.Path = joins.Path
 term_kind name.Mime = joins.Other
 term_kind name.Date = joins.Other
 
+-- a query that is joined with no others by Or
 abbrev pub other_item : Query → Item
 other_item query = record { kind = joins.Other; query = query }

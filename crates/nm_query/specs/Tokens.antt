@@ -6,6 +6,7 @@ use Rattle.nm_query.specs.declared.token.Lexeme.{Lexeme}
 use Rattle.nm_query.specs.declared.token.Placed.{Placed}
 use Rattle.nm_query.specs.declared.token.Token.{Token}
 
+-- a token at this place, if there is one, before others
 abbrev pub after_token : ℕ → Option Token → List Placed → List Placed
 after_token at None tokens = tokens
 after_token at (Some token) tokens = record { at = at; token = token } ∷ tokens

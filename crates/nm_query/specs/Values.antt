@@ -17,6 +17,7 @@ ends_run b = is_white_space b || b == 40 || b == 41 || b == 34
 abbrev pub ends_value : ℕ → Bool
 ends_value b = is_white_space b || b == 41
 
+-- what ends a value of this sort
 abbrev pub ends_of : Ends → ℕ → Bool
 ends_of Run = ends_run
 ends_of Name = ends_value
