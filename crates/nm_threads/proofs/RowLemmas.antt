@@ -43,6 +43,15 @@ pub numbered_le : (ids : List (List ℕ)) (entries : Entries) (next : ℕ) → n
 numbered_le [] entries next = omega arith
 numbered_le (id ∷ more) entries next = subst (λ all. next ≤ all.1) (sym (numbered_first entries next id more (has_entry entries id) refl)) (after_le entries next id more (numbered_le more) (has_entry entries id))
 
+after_most : (entries : Entries) (next : ℕ) (id : List ℕ) (more : List (List ℕ)) → ((e : Entries) (n : ℕ) → (numbered e n more).1 ≤ n + length more) → (test : Bool) → (after entries next id more test).1 ≤ next + length (id ∷ more)
+after_most entries next id more le true = omega (arith, le entries next)
+after_most entries next id more le false = omega (arith, le (entries ++ (id, next) ∷ []) (next + 1))
+
+pub numbered_most : (ids : List (List ℕ)) (entries : Entries) (next : ℕ) → (numbered entries next ids).1 ≤ next + length ids
+numbered_most [] entries next = omega arith
+numbered_most (id ∷ more) entries next =
+    subst (λ all. all.1 ≤ next + length (id ∷ more)) (sym (numbered_first entries next id more (has_entry entries id) refl)) (after_most entries next id more (numbered_most more) (has_entry entries id))
+
 -- an id without a number finds one, where there is room for all
 pub room_first : (entries : Entries) (next : ℕ) (id : List ℕ) (more : List (List ℕ)) (most : ℕ) → (numbered entries next (id ∷ more)).1 ≤ most → has_entry entries id ≡ false → next < most
 room_first entries next id more most le none = omega (arith, le, ap (λ all. all.1) (numbered_first entries next id more false none), numbered_le more (entries ++ (id, next) ∷ []) (next + 1))

@@ -1,8 +1,8 @@
 //! What follows from the definitions. These functions run no code: their clauses are the laws.
 
-ghost use Rattle.std.specs.Prelude.{◌≡◌, ◌≤◌, ◌↔◌, ◌⊎◌, ◌∷◌, ℕ, List, Some, IsTrue, IsSome, Contains};
+ghost use Rattle.std.specs.Prelude.{◌≡◌, ◌+◌, ◌≤◌, ◌↔◌, ◌⊎◌, ◌∷◌, ℕ, List, length, Some, IsTrue, IsSome, Contains};
 ghost use Rattle.nm_base.specs.declared.facts.LinkRow.{LinkRow};
-ghost use Rattle.nm_threads.specs.Labels.{AreLabelsOf, Label};
+ghost use Rattle.nm_threads.specs.Labels.{AreLabelsOf, Label, numbered};
 ghost use Rattle.nm_threads.specs.Same.{Same, Touches, is_same, stand_together};
 ghost use Rattle.nm_threads.specs.Name.{AreDistinct, thread_name};
 
@@ -44,4 +44,10 @@ pub fn a_thread_has_one_name()
 /// Labels of some rows are labels of the same rows in any order.
 pub fn labels_know_no_order_of_rows()
     ensures { (rows others : List LinkRow) (labels : List Label) → ((row : LinkRow) → Contains rows row → Contains others row) → ((row : LinkRow) → Contains others row → Contains rows row) → AreLabelsOf rows labels → AreLabelsOf others labels }
+{}
+
+/// The next number never falls, and rises by one for each id at most.
+pub fn numbers_rise_by_at_most_one_an_id()
+    ensures low { (entries : List (List ℕ × ℕ)) (next : ℕ) (ids : List (List ℕ)) → next ≤ (numbered entries next ids).1 }
+    ensures high { (entries : List (List ℕ × ℕ)) (next : ℕ) (ids : List (List ℕ)) → (numbered entries next ids).1 ≤ next + length ids }
 {}

@@ -13,6 +13,6 @@ mod rows;
 pub use labels::Labels;
 pub use laws::{
     a_row_joins_the_threads_of_its_ids, a_thread_has_one_name, labels_know_no_order_of_rows,
-    same_is_an_equivalence, same_is_what_is_computed, the_name_is_the_least_number,
-    the_order_of_rows_is_nothing,
+    numbers_rise_by_at_most_one_an_id, same_is_an_equivalence, same_is_what_is_computed,
+    the_name_is_the_least_number, the_order_of_rows_is_nothing,
 };
