@@ -1,5 +1,6 @@
 -- An index as lists, the commits that fit it, and the index that they leave.
-use Rattle.std.specs.Prelude.{◌≡◌, ℕ, ◌+◌, Bool, true, false, not, List, [], ◌∷◌, ◌++◌, length, fold, map, filter, pos, negsuc, ◌≤ℤ◌, ℤ, ◌<◌, if◌then◌else◌}
+use Rattle.std.specs.Prelude.{◌≡◌, ℕ, ◌+◌, Bool, true, false, not, List, [], ◌∷◌, ◌++◌, length, fold, map, filter, ◌<◌, if◌then◌else◌}
+use Rattle.nm_base.specs.Limits.{IsDate}
 use Rattle.nm_base.specs.Order.{has_text, same_text}
 use Rattle.nm_base.specs.declared.facts.Facts.{Facts}
 use Rattle.nm_commit.specs.declared.change.Change.{Change}
@@ -51,10 +52,6 @@ committed index commit = record { files = fold changed index.files commit.change
 -- the index after commits, the first of them first
 abbrev pub folded : Index → List Commit → Index
 folded index commits = fold committed index commits
-
--- seconds from year 1 up to the last moment that is taken
-abbrev pub IsDate : ℤ → Type 0
-IsDate date = (negsuc 62135596799 ≤ℤ date) × (date ≤ℤ pos 253000000000)
 
 -- a mail comes where none lies and has a date in the range; one goes from where it lies, or moves from there to where none
 -- lies; tags are set of a message that has a file

@@ -2,8 +2,9 @@
 
 ghost use Rattle.std.specs.Prelude.{◌≡◌, ◌↔◌, [], ◌∷◌, ◌++◌, IfOk, IsTrue, fold};
 ghost use Rattle.std.specs.List.{list_any};
+ghost use Rattle.nm_base.specs.Limits.{IsDate};
 ghost use Rattle.nm_base.specs.Order.{same_text};
-ghost use Rattle.nm_commit.specs.Index.{FitChanges, FitsChange, IsDate, changed, empty_index, folded, has_id, has_path, moved_path, with_moved, without_path};
+ghost use Rattle.nm_commit.specs.Index.{FitChanges, FitsChange, changed, empty_index, folded, has_id, has_path, moved_path, with_moved, without_path};
 
 use nm_base::{Copies, Facts, MailPath, Many, MessageId, NoMemory};
 use nm_commit::{Change, Commit};

@@ -1,4 +1,5 @@
 -- Scripts: the lines of an input that are not empty, each with its number.
+use Rattle.nm_base.specs.Limits.{max_lines}
 use Rattle.std.specs.Prelude.{◌≡◌, ℕ, ◌+◌, ◌<◌, ◌==◌, List, [], ◌∷◌, length, if◌then◌else◌}
 use Rattle.std.specs.Str.Lines.{lines}
 use Rattle.nm_base.specs.declared.limit.Limit.TheVariants.{Lines}
@@ -19,5 +20,5 @@ script_lines bytes = numbered 1 (lines bytes)
 
 -- why a script may be refused: it has more than 4,096 lines, or memory was wanting
 abbrev pub IsScriptFault : List ℕ → ScriptError → Type 0
-IsScriptFault bytes (faults.Limit limit) = (limit ≡ Lines) × (4096 < length (lines bytes))
+IsScriptFault bytes (faults.Limit limit) = (limit ≡ Lines) × (max_lines < length (lines bytes))
 IsScriptFault bytes faults.NoMemory = Unit {0}

@@ -1,5 +1,6 @@
 //! The lines of a script, with their numbers; the top call cuts its input with it.
 
+ghost use Rattle.nm_base.specs.Limits.{max_lines};
 ghost use Rattle.std.specs.Prelude.{◌≡◌, ◌<◌, ◌≤◌, [], ◌∷◌, length, IfErr, IfOk, MatchOption};
 ghost use Rattle.std.specs.Str.Lines.{lines};
 ghost use Rattle.nm_log.specs.Script.{IsScriptFault, script_lines};
@@ -42,7 +43,7 @@ impl From<NoMemory> for ScriptError {
 /// Reads the lines of a script, each ended by LF or CR LF. Empty lines are passed over.
 pub fn read_script(alloc: Global, bytes: &[u8]) -> Result<Many<ScriptLine>, ScriptError>
     ensures ok { IfOk result (λ script. script ≡ script_lines bytes.now) }
-    ensures few { IfOk result (λ script. length (lines bytes.now) ≤ 4096) }
+    ensures few { IfOk result (λ script. length (lines bytes.now) ≤ max_lines) }
     ensures limit { IfErr result (IsScriptFault bytes.now) }
 {
     let mut script = Many::new(alloc);

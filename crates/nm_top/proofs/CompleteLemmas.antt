@@ -1,4 +1,5 @@
 -- A session in which nothing fails ends with status 0, or 7 for want of memory.
+use Rattle.nm_base.specs.Limits.{max_count, max_input_bytes}
 use Rattle.std.proofs.Common.{◌≡◌, ℕ, ◌<◌, ◌≤◌, ◌⊎◌, inl, inr, Bool, true, false, ◌||◌, not, cond, List, [], ◌∷◌, ◌++◌, Option, None, Some, IfSome, length, refl, sym, ap, ◌∙◌, subst, append-nil, arith, suc}
 use Rattle.std.proofs.lemmas.Bool.{false≢true}
 use Rattle.std.specs.Io.KnownBytes.{Consumes, IsAtEnd}
@@ -15,7 +16,7 @@ use Rattle.nm_maildir.specs.Observed.{ObservedMail}
 use Rattle.nm_io.specs.Observed.{ObservedStream}
 use Rattle.nm_top.specs.Complete.{IsComplete, IsFinished, NoFault}
 use Rattle.nm_top.specs.Line.{IsAnswer, Runs}
-use Rattle.nm_top.specs.Session.{Ending, Ends, StreamAppends, IsRun, InputTooLong, MemoryWanted, Devices, Ran, ReadFailed, TooManyLines, ArgsRefused, has_mail_fault, has_no_memory, is_mail_fault, max_input}
+use Rattle.nm_top.specs.Session.{Ending, Ends, StreamAppends, IsRun, InputTooLong, MemoryWanted, Devices, Ran, ReadFailed, TooManyLines, ArgsRefused, has_mail_fault, has_no_memory, is_mail_fault}
 use Rattle.nm_top.specs.State.{State}
 use Rattle.nm_top.proofs.StandLemmas.{none_of}
 
@@ -34,13 +35,13 @@ Runs-grows old new (line ∷ ls) [] taken h = absurd h
 Runs-grows old new (line ∷ ls) (log ∷ logs) taken h = let first = h.4.never_falls in let rest = Runs-grows h.0 new ls logs h.2 h.5 in omega arith
 
 -- a line in which the count stands is no mail fault
-quiet_line : (outcome : Outcome) (old : State) (line : List ℕ) (noted : List Given) (text : List ℕ) (taken : List Step) (new : State) → new.mail.faults ≤ old.mail.faults → old.mail.faults < 18446744073709551615 → IsAnswer outcome old line noted text taken new → is_mail_fault outcome ≡ false
+quiet_line : (outcome : Outcome) (old : State) (line : List ℕ) (noted : List Given) (text : List ℕ) (taken : List Step) (new : State) → new.mail.faults ≤ old.mail.faults → old.mail.faults < max_count → IsAnswer outcome old line noted text taken new → is_mail_fault outcome ≡ false
 quiet_line outcomes.Ok old line noted text taken new stands room h = refl
 quiet_line (outcomes.Usage word kind) old line noted text taken new stands room h = refl
 quiet_line outcomes.MailFault old line noted text taken new stands room h = let rose = h.1.1 room in absurd (omega arith)
 quiet_line outcomes.NoMemory old line noted text taken new stands room h = refl
 
-quiet_run : (old new : State) (ls : List ScriptLine) (logs : List LineLog) (taken : List Step) → new.mail.faults ≤ old.mail.faults → old.mail.faults < 18446744073709551615 → Runs old ls logs taken new → has_mail_fault logs ≡ false
+quiet_run : (old new : State) (ls : List ScriptLine) (logs : List LineLog) (taken : List Step) → new.mail.faults ≤ old.mail.faults → old.mail.faults < max_count → Runs old ls logs taken new → has_mail_fault logs ≡ false
 quiet_run old new [] [] taken stands room h = refl
 quiet_run old new [] (log ∷ logs) taken stands room h = absurd h
 quiet_run old new (line ∷ ls) [] taken stands room h = absurd h
@@ -58,7 +59,7 @@ read_is (Some bytes) (Some rest) script read told h end =
     sym (append-nil read) ∙ (ap (λ l. read ++ l) (sym end) ∙ (sym h ∙ same))
 
 -- an output that did not fail
-quiet_out : (failed : Bool) (old new : ObservedStream) (bytes : List ℕ) → new.faults ≡ old.faults → old.faults < 18446744073709551615 → StreamAppends failed old new bytes → failed ≡ false
+quiet_out : (failed : Bool) (old new : ObservedStream) (bytes : List ℕ) → new.faults ≡ old.faults → old.faults < max_count → StreamAppends failed old new bytes → failed ≡ false
 quiet_out false old new bytes stands room h = refl
 quiet_out true old new bytes stands room h = let rose = h.1.1 room in absurd (omega arith)
 
@@ -90,7 +91,7 @@ pub complete : (ending : Ending) (read : List ℕ) (words : List (List ℕ)) (ol
 complete ArgsRefused read words old new done h script sound quiet within = absurd (cc)
 complete ReadFailed read words old new done h script sound quiet within = let rose = h.1.1 quiet.input_room in let same = quiet.input in absurd (omega arith)
 complete InputTooLong read words old new done h script sound quiet within =
-    let long : max_input < length script = subst (λ (o : Option (List ℕ)). IfSome o (λ bytes. max_input < length bytes)) within.told h.2 in
+    let long : max_input_bytes < length script = subst (λ (o : Option (List ℕ)). IfSome o (λ bytes. max_input_bytes < length bytes)) within.told h.2 in
     let short = within.bytes in
     absurd (omega arith)
 complete TooManyLines read words old new done h script sound quiet within =

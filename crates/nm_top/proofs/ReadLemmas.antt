@@ -5,7 +5,8 @@ use Rattle.std.specs.Option.{option_map}
 use Rattle.std.proofs.lemmas.Grind.{flat_map-append}
 use Rattle.std.proofs.lemmas.List.{length-append, map-append, take_all, take_more}
 use Rattle.nm_base.specs.declared.facts.Facts.{Facts}
-use Rattle.nm_commit.specs.Index.{IsDate, paths_of}
+use Rattle.nm_base.specs.Limits.{IsDate, max_mail_bytes}
+use Rattle.nm_commit.specs.Index.{paths_of}
 use Rattle.nm_maildir.specs.Observed.{reads_after}
 use Rattle.nm_maildir.specs.Tree.{Tree, got_of}
 use Rattle.nm_maildir.specs.declared.answers.Got.{Got}
@@ -18,7 +19,7 @@ use Rattle.nm_maildir.specs.declared.given.ReadAnswer.{ReadAnswer}
 use Rattle.nm_maildir.specs.declared.given.ReadAnswer.TheVariants as answers
 use Rattle.nm_extract.specs.Mail.{facts_of}
 use Rattle.nm_maildir.specs.Observed.{ObservedMail}
-use Rattle.nm_top.specs.Reading.{NotesReads, Reads, answer_at, answers_at, answer_of, arrival, arrival_at, arrival_of, mail_at, mail_in, max_bytes, read_of}
+use Rattle.nm_top.specs.Reading.{NotesReads, Reads, answer_at, answers_at, answer_of, arrival, arrival_at, arrival_of, mail_at, mail_in, read_of}
 use Rattle.nm_top.specs.State.{after_reads, read_with}
 use Rattle.nm_top.specs.Steps.{HasRead, HasReadAll, Classifies, found_in}
 
@@ -96,16 +97,16 @@ dated_one path (Some facts) h = (h, tt)
 abbrev single : List ℕ → ReadAnswer → List (List ℕ × ReadAnswer)
 single path answer = (path, answer) ∷ []
 
-told_answer : (tree : Option Tree) (path : List ℕ) (g : Got) (answer : ReadAnswer) → answer ≡ answer_of g → IfSome tree (λ t. g ≡ got_of t path max_bytes) → IfSome tree (λ t. single path answer ≡ answers_at t (path ∷ []))
+told_answer : (tree : Option Tree) (path : List ℕ) (g : Got) (answer : ReadAnswer) → answer ≡ answer_of g → IfSome tree (λ t. g ≡ got_of t path max_mail_bytes) → IfSome tree (λ t. single path answer ≡ answers_at t (path ∷ []))
 told_answer None path g answer is h = tt
 told_answer (Some t) path g answer is h = ap (single path) (is ∙ ap answer_of h)
 
-told_arrival : (tree : Option Tree) (path : List ℕ) (g : Got) (found : Option Facts) → found ≡ found_in g → IfSome tree (λ t. g ≡ got_of t path max_bytes) → IfSome tree (λ t. arrival path found ≡ flat_map (arrival_at t) (path ∷ []))
+told_arrival : (tree : Option Tree) (path : List ℕ) (g : Got) (found : Option Facts) → found ≡ found_in g → IfSome tree (λ t. g ≡ got_of t path max_mail_bytes) → IfSome tree (λ t. arrival path found ≡ flat_map (arrival_at t) (path ∷ []))
 told_arrival None path g found is h = tt
 told_arrival (Some t) path g found is h = ap (arrival path) is ∙ (arrival_is path g ∙ (ap (arrival_of path) h ∙ sym (append-nil (arrival_at t path))))
 
 -- one file was read
-one_read : (tree : Option Tree) (path : List ℕ) (g : Got) (classified : ReadAnswer × Option Facts) → Classifies g classified → IfSome tree (λ t. g ≡ got_of t path max_bytes)
+one_read : (tree : Option Tree) (path : List ℕ) (g : Got) (classified : ReadAnswer × Option Facts) → Classifies g classified → IfSome tree (λ t. g ≡ got_of t path max_mail_bytes)
     → Reads tree (given.Read path classified.0 ∷ []) (path ∷ []) (arrival path classified.1)
 one_read tree path g classified h told = record {
   notes = record { reads = (path, classified.0) ∷ []; noted_is = refl; each = refl; told = told_answer tree path g classified.0 h.answer told };
@@ -114,7 +115,7 @@ one_read tree path g classified h told = record {
   told = told_arrival tree path g classified.1 h.facts told;
 }
 
-pub one_read_all : (old new : ObservedMail) (noted new_noted : List Given) (path : List ℕ) (g : Got) (classified : ReadAnswer × Option Facts) → Classifies g classified → IfSome old.tree (λ t. g ≡ got_of t path max_bytes)
+pub one_read_all : (old new : ObservedMail) (noted new_noted : List Given) (path : List ℕ) (g : Got) (classified : ReadAnswer × Option Facts) → Classifies g classified → IfSome old.tree (λ t. g ≡ got_of t path max_mail_bytes)
     → new_noted ≡ noted ++ given.Read path classified.0 ∷ [] → new.tree ≡ old.tree → new.reads ≡ read_with old.reads (path ∷ []) → new.faults ≡ old.faults → HasReadAll old new noted new_noted (path ∷ []) (arrival path classified.1)
 one_read_all old new noted new_noted path g classified h told is tree read faults = record {
   noted = given.Read path classified.0 ∷ [];

@@ -9,7 +9,8 @@ use Rattle.nm_base.specs.Order.{in_order}
 use Rattle.nm_base.specs.declared.facts.Facts.{Facts}
 use Rattle.nm_base.specs.declared.refusals.Skip.{Skip}
 use Rattle.nm_base.specs.declared.refusals.Skip.TheVariants as skips
-use Rattle.nm_commit.specs.Index.{IsDate, has_path, paths_of}
+use Rattle.nm_base.specs.Limits.{IsDate, max_mail_bytes}
+use Rattle.nm_commit.specs.Index.{has_path, paths_of}
 use Rattle.nm_extract.specs.Mail.{facts_of}
 use Rattle.nm_maildir.specs.Tree.{Tree, listing_of, got_of}
 use Rattle.nm_maildir.specs.declared.answers.Got.{Got}
@@ -20,10 +21,6 @@ use Rattle.nm_maildir.specs.declared.given.ReadAnswer.{ReadAnswer}
 use Rattle.nm_maildir.specs.declared.given.ReadAnswer.TheVariants as answers
 use Rattle.nm_maildir.specs.Observed.{ObservedMail}
 use Rattle.nm_top.specs.State.{read_with}
-
--- the most bytes of a mail
-abbrev pub max_bytes : ℕ
-max_bytes = 67108864
 
 -- a file counts where its name does not begin with a dot
 abbrev pub counts : List ℕ → Bool
@@ -70,10 +67,10 @@ arrival_of path got.Missing = []
 arrival_of path got.TooLong = []
 
 abbrev pub answer_at : Tree → List ℕ → ReadAnswer
-answer_at tree path = answer_of (got_of tree path max_bytes)
+answer_at tree path = answer_of (got_of tree path max_mail_bytes)
 
 abbrev pub arrival_at : Tree → List ℕ → List (List ℕ × Facts)
-arrival_at tree path = arrival_of path (got_of tree path max_bytes)
+arrival_at tree path = arrival_of path (got_of tree path max_mail_bytes)
 
 -- what the tree answers to reads of these paths
 abbrev pub answers_at : Tree → List (List ℕ) → List (List ℕ × ReadAnswer)

@@ -1,4 +1,5 @@
 -- What the top call does: how it may end, and what each ending leaves and says.
+use Rattle.nm_base.specs.Limits.{max_input_bytes, max_lines}
 use Rattle.std.specs.Prelude.{◌≡◌, ℕ, ◌<◌, ◌≤◌, ◌==◌, Bool, true, false, not, List, [], ◌∷◌, ◌++◌, length, take, codes, Option, None, Some, IfSome, if◌then◌else◌}
 use Rattle.std.specs.List.{list_any}
 use Rattle.std.specs.Io.KnownBytes.{Appends, Consumes, IsAtEnd}
@@ -22,10 +23,6 @@ use Rattle.nm_maildir.specs.Observed.{ObservedMail}
 use Rattle.nm_io.specs.Observed.{ObservedStream}
 use Rattle.nm_top.specs.Line.{Runs}
 use Rattle.nm_top.specs.State.{State, state_with}
-
--- the most bytes of an input
-abbrev pub max_input : ℕ
-max_input = 67108864
 
 -- What is observed of all devices at one moment.
 pub record Devices : Type 0 where
@@ -125,7 +122,7 @@ pub record IsRefused (old new : Devices) (done : Done) (code : ℕ) (line : List
 pub record IsRead (script : List ℕ) (old new : ObservedStream) : Type 0 where
   pub bytes : Consumes old.bytes new.bytes script
   pub end : IsAtEnd new.bytes
-  pub within : length script ≤ max_input
+  pub within : length script ≤ max_input_bytes
   pub sound : new.faults ≡ old.faults
 
 -- how the call may end
@@ -144,12 +141,12 @@ Ends ArgsRefused script words old new done =
 Ends ReadFailed script words old new done =
     (args_fault words ≡ None) × HasRisen old.input.faults new.input.faults × IsRefused old new done 5 (codes "notmuch: read fault\n")
 Ends InputTooLong script words old new done =
-    (args_fault words ≡ None) × (new.input.faults ≡ old.input.faults) × IfSome old.input.bytes (λ bytes. max_input < length bytes)
+    (args_fault words ≡ None) × (new.input.faults ≡ old.input.faults) × IfSome old.input.bytes (λ bytes. max_input_bytes < length bytes)
     × IsRefused old new done 9 (codes "notmuch: limit: inputbytes\n")
 Ends TooManyLines script words old new done =
-    (args_fault words ≡ None) × IsRead script old.input new.input × (4096 < length (lines script)) × IsRefused old new done 9 (codes "notmuch: limit: lines\n")
+    (args_fault words ≡ None) × IsRead script old.input new.input × (max_lines < length (lines script)) × IsRefused old new done 9 (codes "notmuch: limit: lines\n")
 Ends MemoryWanted script words old new done =
     (args_fault words ≡ None) × (new.input.faults ≡ old.input.faults) × IsRefused old new done 7 (codes "notmuch: no memory\n")
 Ends Ran script words old new done =
-    (args_fault words ≡ None) × IsRead script old.input new.input × (length (lines script) ≤ 4096)
+    (args_fault words ≡ None) × IsRead script old.input new.input × (length (lines script) ≤ max_lines)
     × IsRun (script_lines script) old.mail new.mail old.out new.out old.err new.err done
