@@ -198,7 +198,8 @@ def tour_is_true():
 def rows_of_documents_are_right():
     """The example rows of docs/TESTING.md are right, by the programs that run rows."""
     text = read(f"{ROOT}/docs/TESTING.md")
-    for title, crate in ("### Rows on reading one mail", "rows_mail"), ("### Rows on sessions", "rows_session"):
+    programs = {"reading one mail": "rows_mail", "sessions": "rows_session", "the index": "rows_index"}
+    for title, crate in ((f"### Rows on {it}", program) for it, program in programs.items()):
         if f"\n{title}\n" not in text:
             continue
         part = text.partition(title)[2].partition("\n### ")[0]

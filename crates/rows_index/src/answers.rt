@@ -1,0 +1,20 @@
+//! What each kind of row asks stands in the modules beside this one.
+
+use crate::{journal_rows, stop_rows};
+use rows::{Program, Row, RowError};
+use std::alloc::Global;
+
+/// The program that runs the rows on journals and on stops of the disk.
+pub struct Index;
+
+impl Program for Index {
+    fn answer(&self, alloc: Global, row: &Row<'_>) -> Result<Vec<u8>, RowError> {
+        match row.kind {
+            b"journal" => journal_rows::written(alloc, row),
+            b"opened" => journal_rows::opened(alloc, row),
+            b"stops" => stop_rows::stops(alloc, row),
+            b"faults" => stop_rows::faults(alloc, row),
+            _ => Err(RowError::Broken("no such kind of row")),
+        }
+    }
+}

@@ -1,0 +1,21 @@
+//! Bytes on the disk: the program that runs the rows on journals and on stops of the disk. The table stands on the standard
+//! input, and the standard output has a line for each row.
+#![tactic(auto)]
+
+mod answers;
+mod disks;
+mod journal_rows;
+mod stop_rows;
+
+use answers::Index;
+use rows::run_table;
+use std::io::{self, ErrorKind, Read, Write};
+
+fn main(rt: HostRuntime) -> io::Result<()> {
+    let mut table = Vec::new(rt.alloc());
+    rt.stdin().read_to_end(&mut table)?;
+    let Ok(report) = run_table(rt.alloc(), &Index, table.as_slice()) else {
+        return Err(io::Error::from(ErrorKind::OutOfMemory));
+    };
+    rt.stdout().write_all(report.as_slice())
+}
