@@ -198,7 +198,8 @@ def tour_is_true():
 def rows_of_documents_are_right():
     """The example rows of docs/TESTING.md are right, by the programs that run rows."""
     text = read(f"{ROOT}/docs/TESTING.md")
-    programs = {"reading one mail": "rows_mail", "sessions": "rows_session", "the index": "rows_index"}
+    programs = {"reading one mail": "rows_mail", "queries and dates": "rows_query"}
+    programs |= {"sessions": "rows_session", "the index": "rows_index"}
     for title, crate in ((f"### Rows on {it}", program) for it, program in programs.items()):
         if f"\n{title}\n" not in text:
             continue
@@ -211,7 +212,8 @@ def rows_of_documents_are_right():
         how = {"input": table.encode(), "capture_output": True, "timeout": SECONDS, "check": False}
         lines = subprocess.run([program], **how).stdout.decode(errors="replace").splitlines()
         yield from (f"docs/TESTING.md: {it}" for it in lines if it.startswith(("WRONG", "BROKEN")))
-        if sum(it.startswith("ok ") for it in lines) != len(re.findall(r"^\w[^\n]*: ", table, re.M)):
+        rows = [it for it in re.split(r"\n\n+", table.strip("\n")) if not it.startswith("#")]
+        if sum(it.startswith("ok ") for it in lines) != len(rows):
             yield f"docs/TESTING.md: not all of its rows are run by {crate}"
 
 
