@@ -1,4 +1,1 @@
 pub mod Core
-pub mod Laws
-pub mod Machine
-pub mod Reply

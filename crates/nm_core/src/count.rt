@@ -6,7 +6,7 @@ ghost use Rattle.std.specs.Cmp.Lexicographic.{slice_cmp};
 ghost use Rattle.std.specs.Ordering.{nat_cmp};
 ghost use Rattle.std.specs.Str.{str_to_ascii_lowercase};
 ghost use Rattle.nm_base.specs.Order.{has_text};
-ghost use Rattle.nm_commit.specs.Count.{count_text, has_subject_word, ids_of, is_plain_word, is_subject, is_subject_query, is_word_byte, with_subject_word};
+ghost use Rattle.nm_answer.specs.Count.{count_text, has_subject_word, ids_of, is_plain_word, is_subject, is_subject_query, is_word_byte, with_subject_word};
 ghost use Rattle.std.specs.List.{list_all, list_any};
 ghost use Rattle.std.specs.Char.{is_ascii_alphanumeric};
 

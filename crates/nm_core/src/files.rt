@@ -4,20 +4,21 @@ ghost use Rattle.std.specs.Prelude.{◌≡◌, ◌↔◌, [], ◌∷◌, ◌++�
 ghost use Rattle.std.specs.List.{list_any};
 ghost use Rattle.nm_base.specs.Limits.{IsDate};
 ghost use Rattle.nm_base.specs.Order.{same_text};
-ghost use Rattle.nm_commit.specs.Index.{FitChanges, FitsChange, changed, empty_index, folded, has_id, has_path, moved_path, with_moved, without_path};
+ghost use Rattle.nm_commit.specs.Files.{FitChanges, FitsChange, changed, files_after, has_id, has_path, moved_path, with_moved, without_path};
 
 use nm_base::{Copies, Facts, MailPath, Many, MessageId, NoMemory};
 use nm_commit::{Change, Commit};
 use std::alloc::Global;
 
-/// The files of the empty index after the commits.
+/// These files after the commits.
 pub(crate) fn files_after(
     alloc: Global,
+    opening: &Many<(MailPath, Facts)>,
     commits: &[Commit],
 ) -> Result<Many<(MailPath, Facts)>, NoMemory>
-    ensures { IfOk result (λ files. files ≡ (folded empty_index commits.now).files) }
+    ensures { IfOk result (λ files. files ≡ files_after opening.now commits.now) }
 {
-    let mut files = Many::new(alloc);
+    let mut files = opening.copy()?;
     'commits: for commit in commits {
         files = all_changed(alloc, files, commit.changes.as_slice())?;
     }

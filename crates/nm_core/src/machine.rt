@@ -1,17 +1,17 @@
 //! The machine's state and its steps; whoever steps it learns whether the step is lawful.
 
-ghost use Rattle.std.specs.Prelude.{◌≡◌, ◌↔◌, ◌<◌, ◌≤◌, ◌≤ℤ◌, length, pos, replicate, IfOk, IsTrue};
-ghost use Rattle.nm_commit.specs.Index.{empty_index};
+ghost use Rattle.std.specs.Prelude.{◌≡◌, ◌↔◌, ◌<◌, ◌≤◌, ◌≤ℤ◌, ℤ, length, pos, replicate, true, IfOk, IsTrue};
 ghost use Rattle.nm_core.specs.Core.{Answers};
-ghost use Rattle.nm_core.specs.Laws.{InOrder};
-ghost use Rattle.nm_core.specs.Machine.{IsAllowed, start};
+ghost use Rattle.nm_machine.specs.Laws.{InOrder};
+ghost use Rattle.nm_machine.specs.Machine.{IsAllowed, start};
 
-use crate::Step;
 use crate::files::{files_after, fit_changes};
 use crate::reply::may_reply;
-use crate::request::Request;
+use nm_answer::Request;
 use nm_base::{Copies, Many, NoMemory};
 use nm_commit::Commit;
+use nm_index::{Base, files_follow_their_commits};
+use nm_machine::Step;
 use std::alloc::Global;
 use std::marker::Model;
 use std::mem;
@@ -37,46 +37,48 @@ impl From<NoMemory> for CoreError {
     }
 }
 
-/// The machine of commits and replies, from the empty index.
+/// The machine of commits and replies, from an index on.
 #[derive(Drop)]
 pub struct Core {
     alloc: Global,
+    opening: Base,
     commits: Many<Commit>,
     flight: Option<Commit>,
     shown: usize,
     /// For each lane, how many commits it sees.
     lanes: Many<usize>,
-    /// How many commits there were at the last meeting.
+    up: bool,
+    /// How many commits there were at the last meeting or opening.
     met: usize,
 }
 
 impl Model for Core {
     ghost use Rattle.std.specs.Prelude.{◌<◌, length};
-    ghost use Rattle.nm_commit.specs.Index.{empty_index};
-    ghost use Rattle.nm_core.specs.Core.{Kept};
-    ghost use Rattle.nm_core.specs.Laws.{InOrder};
-    ghost use Rattle.nm_core.specs.Machine.{from_empty};
+    ghost use Rattle.nm_core.specs.Core.{Kept, machine_of};
+    ghost use Rattle.nm_machine.specs.Laws.{InOrder};
 
     ghost Value = { Kept };
 
-    ghost view = { λ c. record { machine = from_empty c.commits c.flight c.shown c.lanes; met = c.met } };
+    ghost view = { λ c. record { machine = machine_of c.opening c.commits c.flight c.shown c.lanes c.up; met = c.met } };
 
-    ghost invariant = { λ c. InOrder c.met (from_empty c.commits c.flight c.shown c.lanes) × (0 < length c.lanes) };
+    ghost invariant = { λ c. InOrder c.met (machine_of c.opening c.commits c.flight c.shown c.lanes c.up) × (0 < length c.lanes) };
 }
 
 impl Core {
     /// Nothing has happened yet. Lanes number 1 to 16.
-    pub fn new(alloc: Global, lanes: u32) -> Result<Core, NoMemory>
+    pub fn new(alloc: Global, base: Base, lanes: u32) -> Result<Core, NoMemory>
         requires some { 1 ≤ lanes }
         requires most { lanes ≤ 16 }
-        ensures { IfOk result (λ core. core ≡ record { machine = start empty_index lanes; met = 0 }) }
+        ensures { IfOk result (λ core. core ≡ record { machine = start base lanes; met = 0 }) }
     {
         Ok(Core {
             alloc,
+            opening: base,
             commits: Many::new(alloc),
             flight: None,
             shown: 0,
             lanes: none_seeing(alloc, lanes as usize)?,
+            up: true,
             met: 0,
         })
     }
@@ -86,38 +88,48 @@ impl Core {
     pub fn step(&mut self, step: &Step, moment: i64) -> Result<(), CoreError>
         requires from_1970 { pos 0 ≤ℤ moment }
         requires moment { moment ≤ℤ pos 253000000000 }
-        ensures answer { Answers self.old step.now result self.new }
+        ensures answer { Answers moment self.old step.now result self.new }
         ensures order { InOrder self.new.met self.new.machine }
     {
         let _ = &self.met;
-        let _ = moment;
+        if let Step::Reopen = step {
+            return self.reopen(moment);
+        }
+        if !self.up {
+            return Err(CoreError::NotNow);
+        }
         match step {
-            Step::Begin { commit } => self.begin(commit),
-            Step::Append => self.append(),
-            Step::Show => self.show(),
-            Step::See { lane } => self.see(*lane),
-            Step::Meet => self.meet(),
+            Step::Begin { commit } => self.begin(commit, moment),
+            Step::Append => self.append(moment),
+            Step::Show => self.show(moment),
+            Step::See { lane } => self.see(*lane, moment),
+            Step::Meet => self.meet(moment),
             Step::Reply {
                 lane,
                 request,
                 text,
-            } => self.reply(*lane, request, text.as_slice()),
+            } => self.reply(*lane, request, text.as_slice(), moment),
+            Step::Crash { kept } => self.crash(*kept, moment),
+            Step::Reopen => Err(CoreError::NotNow),
         }
     }
 
-    fn begin(&mut self, commit: &Commit) -> Result<(), CoreError>
-        ensures answer { Answers self.old (Step.Begin commit.now) result self.new }
+    fn begin(&mut self, commit: &Commit, moment: i64) -> Result<(), CoreError>
+        requires up { self.old.machine.up ≡ true }
+        ensures answer { Answers moment self.old (Step.Begin commit.now) result self.new }
     {
-        if !self.may_begin(commit)? {
+        if !self.may_begin(commit, moment)? {
             return Err(CoreError::NotNow);
         }
         self.flight = Some(commit.copy()?);
         Ok(())
     }
 
-    fn may_begin(&self, commit: &Commit) -> Result<bool, NoMemory>
-        ensures { IfOk result (λ may. IsTrue may ↔ IsAllowed self.now.machine (Step.Begin commit.now)) }
+    fn may_begin(&self, commit: &Commit, moment: i64) -> Result<bool, NoMemory>
+        requires up { self.now.machine.up ≡ true }
+        ensures { IfOk result (λ may. IsTrue may ↔ IsAllowed moment self.now.machine (Step.Begin commit.now)) }
     {
+        let _ = moment;
         if self.commits.len() != self.shown {
             return Ok(false);
         }
@@ -127,13 +139,16 @@ impl Core {
         if commit.changes.is_empty() {
             return Ok(false);
         }
-        let files = files_after(self.alloc, self.commits.as_slice())?;
+        files_follow_their_commits();
+        let files = files_after(self.alloc, &self.opening.files, self.commits.as_slice())?;
         fit_changes(self.alloc, files, commit.changes.as_slice())
     }
 
-    fn append(&mut self) -> Result<(), CoreError>
-        ensures answer { Answers self.old Step.Append result self.new }
+    fn append(&mut self, moment: i64) -> Result<(), CoreError>
+        requires up { self.old.machine.up ≡ true }
+        ensures answer { Answers moment self.old Step.Append result self.new }
     {
+        let _ = moment;
         let Some(commit) = &self.flight else {
             return Err(CoreError::NotNow);
         };
@@ -143,9 +158,11 @@ impl Core {
         Ok(())
     }
 
-    fn show(&mut self) -> Result<(), CoreError>
-        ensures answer { Answers self.old Step.Show result self.new }
+    fn show(&mut self, moment: i64) -> Result<(), CoreError>
+        requires up { self.old.machine.up ≡ true }
+        ensures answer { Answers moment self.old Step.Show result self.new }
     {
+        let _ = moment;
         let known = self.commits.len();
         if known - self.shown != 1 {
             return Err(CoreError::NotNow);
@@ -155,9 +172,11 @@ impl Core {
         Ok(())
     }
 
-    fn see(&mut self, lane: u32) -> Result<(), CoreError>
-        ensures answer { Answers self.old (Step.See lane) result self.new }
+    fn see(&mut self, lane: u32, moment: i64) -> Result<(), CoreError>
+        requires up { self.old.machine.up ≡ true }
+        ensures answer { Answers moment self.old (Step.See lane) result self.new }
     {
+        let _ = moment;
         let lane = lane as usize;
         if lane == 0 || lane >= self.lanes.len() {
             return Err(CoreError::NotNow);
@@ -166,9 +185,11 @@ impl Core {
         Ok(())
     }
 
-    fn meet(&mut self) -> Result<(), CoreError>
-        ensures answer { Answers self.old Step.Meet result self.new }
+    fn meet(&mut self, moment: i64) -> Result<(), CoreError>
+        requires up { self.old.machine.up ≡ true }
+        ensures answer { Answers moment self.old Step.Meet result self.new }
     {
+        let _ = moment;
         if self.commits.len() != self.shown {
             return Err(CoreError::NotNow);
         }
@@ -178,18 +199,58 @@ impl Core {
         Ok(())
     }
 
-    fn reply(&self, lane: u32, request: &Request, text: &[u8]) -> Result<(), CoreError>
-        ensures answer { Answers self.now (Step.Reply lane request.now text.now) result self.now }
+    fn reply(&self, lane: u32, request: &Request, text: &[u8], moment: i64) -> Result<(), CoreError>
+        requires up { self.now.machine.up ≡ true }
+        ensures answer { Answers moment self.now (Step.Reply lane request.now text.now) result self.now }
     {
+        let _ = moment;
         let lane = lane as usize;
         if lane >= self.lanes.len() {
             return Err(CoreError::NotNow);
         }
         let seen = self.lanes.as_slice()[lane];
-        let files = files_after(self.alloc, &self.commits.as_slice()[..seen])?;
+        files_follow_their_commits();
+        let files = files_after(
+            self.alloc,
+            &self.opening.files,
+            &self.commits.as_slice()[..seen],
+        )?;
         if !may_reply(self.alloc, files.as_slice(), request, text)? {
             return Err(CoreError::NotNow);
         }
+        Ok(())
+    }
+
+    fn crash(&mut self, kept: bool, moment: i64) -> Result<(), CoreError>
+        requires up { self.old.machine.up ≡ true }
+        ensures answer { Answers moment self.old (Step.Crash kept) result self.new }
+    {
+        let _ = moment;
+        if kept {
+            let Some(commit) = &self.flight else {
+                return Err(CoreError::NotNow);
+            };
+            let copied = commit.copy()?;
+            self.commits.push(copied)?;
+        }
+        self.flight = None;
+        self.up = false;
+        Ok(())
+    }
+
+    fn reopen(&mut self, moment: i64) -> Result<(), CoreError>
+        ensures answer { Answers moment self.old Step.Reopen result self.new }
+    {
+        let _ = moment;
+        if self.up {
+            return Err(CoreError::NotNow);
+        }
+        let known = self.commits.len();
+        self.shown = known;
+        let lanes = mem::replace(&mut self.lanes, Many::new(self.alloc));
+        self.lanes = all_seeing(lanes, known);
+        self.up = true;
+        self.met = known;
         Ok(())
     }
 }

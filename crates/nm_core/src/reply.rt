@@ -1,23 +1,24 @@
 //! Whether a reply may have its text; the machine asks it at each reply.
 
-ghost use Rattle.std.specs.Prelude.{◌≡◌, ◌&&◌, ◌||◌, IfOk};
+ghost use Rattle.std.specs.Prelude.{◌≡◌, ◌&&◌, ◌||◌, ℤ, IfOk, not};
 ghost use Rattle.nm_base.specs.Order.{same_text};
-ghost use Rattle.nm_commit.specs.Count.{count_text};
-ghost use Rattle.nm_core.specs.Reply.{is_messages, is_plain_count, is_reply};
+ghost use Rattle.nm_answer.specs.Answer.{is_messages, is_plain_count, is_reply};
+ghost use Rattle.nm_answer.specs.Count.{count_text};
+ghost use Rattle.nm_index.specs.declared.base.Base.{Base};
 
 use crate::count::{count_text, is_subject_query};
-use crate::request::Request;
+use nm_answer::Request;
 use nm_base::{CountAsk, Facts, MailPath, NoMemory, Output};
 use std::alloc::Global;
 
-/// Whether the request may be answered so, over these files.
+/// Whether the request may be answered so, over an index that has these files.
 pub(crate) fn may_reply(
     alloc: Global,
     files: &[(MailPath, Facts)],
     request: &Request,
     text: &[u8],
 ) -> Result<bool, NoMemory>
-    ensures { IfOk result (λ may. may ≡ is_reply files.now request.now text.now) }
+    ensures { IfOk result (λ may. (index : Base) (moment : ℤ) → index.files ≡ files.now → may ≡ is_reply index moment request.now text.now) }
 {
     match request {
         Request::New => Ok(true),
@@ -31,7 +32,7 @@ fn may_count(
     ask: &CountAsk,
     text: &[u8],
 ) -> Result<bool, NoMemory>
-    ensures { IfOk result (λ may. may ≡ (ask.now.batch || (is_plain_count ask.now && same_text text.now (count_text ask.now.query files.now)))) }
+    ensures { IfOk result (λ may. may ≡ (not (not ask.now.batch) || (is_plain_count ask.now && same_text text.now (count_text ask.now.query files.now)))) }
 {
     if ask.batch {
         return Ok(true);

@@ -10,7 +10,7 @@ use Rattle.std.specs.declared.cmp.Ordering.TheVariants.{Less, Equal, Greater}
 use Rattle.std.proofs.lemmas.Cmp.{alike_right}
 use Rattle.nm_base.specs.Order.{same_text}
 use Rattle.nm_base.specs.declared.facts.Facts.{Facts}
-use Rattle.nm_commit.specs.Index.{changed, has_id, without_path}
+use Rattle.nm_commit.specs.Files.{changed, files_after, has_id, without_path}
 use Rattle.nm_commit.specs.declared.change.Change.{Change}
 use Rattle.nm_commit.specs.declared.change.Change.TheVariants.{Add, Drop, Move, SetTags}
 use Rattle.nm_commit.specs.declared.change.Commit.{Commit}
@@ -47,12 +47,20 @@ gone_files : (index : Base) (path : List ℕ) (there : List (List ℕ × Facts))
 gone_files index path [] e = sym (none_there (λ file. same_text path file.0) index.files e)
 gone_files index path (file ∷ more) e = dead_tags_files _ file.1.id
 
-pub files_after : (index : Base) (change : Change) → (applied index change).files ≡ changed index.files change
-files_after index (Add path facts) =
+pub change_files : (index : Base) (change : Change) → (applied index change).files ≡ changed index.files change
+change_files index (Add path facts) =
     ap (λ (files : List (List ℕ × Facts)). files ++ (path, facts) ∷ []) (first_tags_files (fold with_entry index (facts.id ∷ facts.links)) facts ∙ entries_files index (facts.id ∷ facts.links))
-files_after index (Drop path) = gone_files index path (files_at index path) refl
-files_after index (Move from to) = refl
-files_after index (SetTags id tags) = refl
+change_files index (Drop path) = gone_files index path (files_at index path) refl
+change_files index (Move from to) = refl
+change_files index (SetTags id tags) = refl
+
+changes_files : (index : Base) (changes : List Change) → (fold applied index changes).files ≡ fold changed index.files changes
+changes_files index [] = refl
+changes_files index (change ∷ changes) = changes_files (applied index change) changes ∙ ap (λ files. fold changed files changes) (change_files index change)
+
+pub commits_files : (index : Base) (commits : List Commit) → (folded index commits).files ≡ files_after index.files commits
+commits_files index [] = refl
+commits_files index (commit ∷ commits) = commits_files (committed index commit) commits ∙ ap (λ files. files_after files commits) (changes_files index commit.changes)
 
 next_chosen : (n : ℕ) (test : Bool) (a b : Base) → n ≤ a.next → n ≤ b.next → n ≤ (if test then a else b).next
 next_chosen n true a b g h = g

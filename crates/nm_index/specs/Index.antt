@@ -13,7 +13,7 @@ use Rattle.nm_base.specs.declared.facts.Facts.{Facts}
 use Rattle.nm_base.specs.declared.facts.LinkRow.{LinkRow}
 use Rattle.nm_base.specs.declared.facts.Marks.{Marks}
 use Rattle.nm_codec.specs.Spelling.{list_bytes, text_bytes}
-use Rattle.nm_commit.specs.Index.{has_id, with_moved, without_path}
+use Rattle.nm_commit.specs.Files.{has_id, with_moved, without_path}
 use Rattle.nm_commit.specs.declared.change.Change.{Change}
 use Rattle.nm_commit.specs.declared.change.Change.TheVariants.{Add, Drop, Move, SetTags}
 use Rattle.nm_commit.specs.declared.change.Commit.{Commit}

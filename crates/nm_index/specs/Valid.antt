@@ -4,7 +4,7 @@ use Rattle.std.specs.List.{AllByRecursion, IsDistinct}
 use Rattle.std.specs.List.Sorted.{IsStrictlySortedBy}
 use Rattle.std.specs.Ordering.{nat_cmp}
 use Rattle.nm_base.specs.Order.{IsSorted, has_text, same_text}
-use Rattle.nm_commit.specs.Index.{has_id, paths_of}
+use Rattle.nm_commit.specs.Files.{has_id, paths_of}
 use Rattle.nm_threads.specs.Same.{ids_of}
 use Rattle.nm_index.specs.Index.{has_entry, is_held, row_cmp, rows_of}
 use Rattle.nm_index.specs.declared.base.Base.{Base}

@@ -6,7 +6,7 @@ ghost use Rattle.std.specs.Map.{lookup};
 ghost use Rattle.std.specs.Cmp.Lexicographic.{slice_cmp};
 ghost use Rattle.std.specs.Ordering.{nat_cmp};
 ghost use Rattle.nm_base.specs.Order.{same_text};
-ghost use Rattle.nm_commit.specs.Index.{changed};
+ghost use Rattle.nm_commit.specs.Files.{changed, files_after};
 ghost use Rattle.nm_commit.specs.declared.change.Change.{Change};
 ghost use Rattle.nm_commit.specs.declared.change.Commit.{Commit};
 ghost use Rattle.nm_index.specs.Index.{applied, folded, with_tags};
@@ -15,6 +15,11 @@ ghost use Rattle.nm_index.specs.declared.base.Base.{Base};
 /// The files after a change are those that the change makes of the files before, whatever threads and tags there are.
 pub fn files_follow_their_changes()
     ensures { (index : Base) (change : Change) → (applied index change).files ≡ changed index.files change }
+{}
+
+/// So are the files after commits.
+pub fn files_follow_their_commits()
+    ensures { (index : Base) (commits : List Commit) → (folded index commits).files ≡ files_after index.files commits }
 {}
 
 /// The number of the next new id never falls.

@@ -7,7 +7,7 @@ use Rattle.std.proofs.lemmas.Map.Keys.{IsDistinct-from_sorted, IsDistinct-head, 
 use Rattle.nm_base.specs.Order.{has_text, in_order, same_text}
 use Rattle.nm_base.specs.declared.facts.Facts.{Facts}
 use Rattle.nm_base.specs.Limits.{IsDate}
-use Rattle.nm_commit.specs.Index.{FitChanges, Index, committed, folded, has_path, paths_of, without_path}
+use Rattle.nm_commit.specs.Files.{FitChanges, Index, committed, folded, has_path, paths_of, without_path}
 use Rattle.nm_commit.specs.declared.change.Change.{Change}
 use Rattle.nm_commit.specs.declared.change.Commit.{Commit}
 use Rattle.nm_maildir.specs.declared.given.ReadAnswer.{ReadAnswer}

@@ -3,7 +3,7 @@ use Rattle.std.proofs.Common.{◌≡◌, ℕ, ◌+◌, ◌<◌, ◌==◌, Bool, 
 use Rattle.std.specs.Cmp.Lexicographic.{nat_list_eq_equiv}
 use Rattle.nm_base.specs.Order.{has_text, in_order, same_text}
 use Rattle.nm_base.specs.declared.facts.Facts.{Facts}
-use Rattle.nm_commit.specs.Index.{Index, changed, committed, folded, paths_of, without_path}
+use Rattle.nm_commit.specs.Files.{Index, changed, committed, folded, paths_of, without_path}
 use Rattle.nm_commit.specs.declared.change.Change.{Change}
 use Rattle.nm_commit.specs.declared.change.Commit.{Commit}
 use Rattle.nm_top.specs.NewLine.{add_of, commit_of, drop_of, gone, new_commits}

@@ -5,8 +5,8 @@ use Rattle.std.specs.List.{list_any}
 use Rattle.nm_base.specs.Order.{has_text, in_order}
 use Rattle.nm_base.specs.declared.facts.Facts.{Facts}
 use Rattle.nm_base.specs.declared.facts.FieldWords.{FieldWords}
-use Rattle.nm_commit.specs.Count.{count_text, has_subject_word, ids_of, is_subject, wanted_word, with_subject_word}
-use Rattle.nm_commit.specs.Index.{paths_of}
+use Rattle.nm_answer.specs.Count.{count_text, has_subject_word, ids_of, is_subject, wanted_word, with_subject_word}
+use Rattle.nm_commit.specs.Files.{paths_of}
 use Rattle.nm_top.specs.Lean.{is_subject_list, lean, lean_facts}
 use Rattle.nm_top.specs.NewLine.{only_in}
 use Rattle.nm_top.specs.Reading.{to_read}

@@ -6,8 +6,8 @@ use Rattle.nm_base.specs.declared.facts.Facts.{Facts}
 use Rattle.nm_base.specs.declared.refusals.UsageKind.{UsageKind}
 use Rattle.nm_base.specs.declared.asks.CountAsk.{CountAsk}
 use Rattle.nm_core.specs.declared.request.Request.TheVariants as requests
-use Rattle.nm_commit.specs.Count.{count_text}
-use Rattle.nm_commit.specs.Index.{Index}
+use Rattle.nm_answer.specs.Count.{count_text}
+use Rattle.nm_commit.specs.Files.{Index}
 use Rattle.nm_core.specs.declared.step.Step.{Step}
 use Rattle.nm_log.specs.ParsedLine.{parse_line}
 use Rattle.nm_log.specs.Replies.{usage_line}

@@ -10,8 +10,8 @@ use Rattle.nm_base.specs.declared.refusals.UsageKind.TheVariants as kinds
 use Rattle.nm_base.specs.declared.asks.CountAsk.{CountAsk}
 use Rattle.nm_core.specs.declared.request.Request.{Request}
 use Rattle.nm_core.specs.declared.request.Request.TheVariants as requests
-use Rattle.nm_commit.specs.Count.{count_text, is_subject_query}
-use Rattle.nm_commit.specs.Index.{Fits, Index, committed, empty_index, folded}
+use Rattle.nm_answer.specs.Count.{count_text, is_subject_query}
+use Rattle.nm_commit.specs.Files.{Fits, Index, committed, empty_index, folded}
 use Rattle.nm_commit.specs.declared.change.Commit.{Commit}
 use Rattle.nm_core.specs.Machine as machine
 use Rattle.nm_core.specs.Machine.{Machine, index_after}

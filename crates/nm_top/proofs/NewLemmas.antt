@@ -5,7 +5,7 @@ use Rattle.std.specs.Prelude.{IfOk, Result, Ok, Err}
 use Rattle.nm_base.specs.declared.memory.NoMemory.{NoMemory}
 use Rattle.nm_base.specs.Order.{has_text, in_order}
 use Rattle.nm_base.specs.declared.facts.Facts.{Facts}
-use Rattle.nm_commit.specs.Index.{Index, folded, paths_of}
+use Rattle.nm_commit.specs.Files.{Index, folded, paths_of}
 use Rattle.nm_commit.specs.declared.change.Commit.{Commit}
 use Rattle.nm_maildir.specs.Tree.{Tree}
 use Rattle.nm_maildir.specs.declared.given.Given.{Given}

@@ -6,7 +6,7 @@ use Rattle.std.proofs.lemmas.Grind.{flat_map-append}
 use Rattle.std.proofs.lemmas.List.{length-append, map-append, take_all, take_more}
 use Rattle.nm_base.specs.declared.facts.Facts.{Facts}
 use Rattle.nm_base.specs.Limits.{IsDate, max_mail_bytes}
-use Rattle.nm_commit.specs.Index.{paths_of}
+use Rattle.nm_commit.specs.Files.{paths_of}
 use Rattle.nm_maildir.specs.Observed.{reads_after}
 use Rattle.nm_maildir.specs.Tree.{Tree, got_of}
 use Rattle.nm_maildir.specs.declared.answers.Got.{Got}

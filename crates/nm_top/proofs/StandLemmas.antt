@@ -3,7 +3,7 @@ use Rattle.std.proofs.Common.{◌≡◌, ℕ, ◌+◌, Bool, true, false, not, c
 use Rattle.nm_base.specs.Order.{has_text}
 use Rattle.nm_base.specs.declared.facts.Facts.{Facts}
 use Rattle.nm_core.specs.declared.request.Request.TheVariants as requests
-use Rattle.nm_commit.specs.Count.{ids_of}
+use Rattle.nm_answer.specs.Count.{ids_of}
 use Rattle.nm_log.specs.Replies.{new_text}
 use Rattle.nm_log.specs.declared.outcome.Outcome.TheVariants as outcomes
 use Rattle.nm_log.specs.declared.replies.NewReport.{NewReport}

@@ -2,8 +2,8 @@
 use Rattle.std.specs.Prelude.{◌≡◌, ℕ, Bool, List, [], filter, map}
 use Rattle.nm_base.specs.declared.facts.Facts.{Facts}
 use Rattle.nm_base.specs.declared.facts.FieldWords.{FieldWords}
-use Rattle.nm_commit.specs.Count.{is_subject}
-use Rattle.nm_commit.specs.Index.{Index}
+use Rattle.nm_answer.specs.Count.{is_subject}
+use Rattle.nm_commit.specs.Files.{Index}
 use Rattle.nm_top.specs.declared.index.PlainIndex.{PlainIndex}
 
 abbrev pub is_subject_list : FieldWords → Bool

@@ -5,7 +5,7 @@ use Rattle.nm_faults.specs.Faults.{HasRisen}
 use Rattle.nm_base.specs.declared.facts.Facts.{Facts}
 use Rattle.nm_core.specs.declared.request.Request.{Request}
 use Rattle.nm_core.specs.declared.request.Request.TheVariants as requests
-use Rattle.nm_commit.specs.Count.{count_text}
+use Rattle.nm_answer.specs.Count.{count_text}
 use Rattle.nm_commit.specs.declared.change.Commit.{Commit}
 use Rattle.nm_core.specs.declared.step.Step.{Step}
 use Rattle.nm_core.specs.declared.step.Step.TheVariants as steps

@@ -3,8 +3,8 @@ use Rattle.std.specs.Prelude.{◌≡◌, ℕ, not, List, [], ◌∷◌, ◌++◌
 use Rattle.std.specs.List.{flat_map}
 use Rattle.nm_base.specs.Order.{has_text, in_order}
 use Rattle.nm_base.specs.declared.facts.Facts.{Facts}
-use Rattle.nm_commit.specs.Count.{ids_of}
-use Rattle.nm_commit.specs.Index.{Fits, Index, committed, folded, paths_of}
+use Rattle.nm_answer.specs.Count.{ids_of}
+use Rattle.nm_commit.specs.Files.{Fits, Index, committed, folded, paths_of}
 use Rattle.nm_commit.specs.declared.change.Change.{Change}
 use Rattle.nm_commit.specs.declared.change.Change.TheVariants.{Add, Drop}
 use Rattle.nm_commit.specs.declared.change.Commit.{Commit}

@@ -10,7 +10,7 @@ use Rattle.nm_base.specs.declared.facts.Facts.{Facts}
 use Rattle.nm_base.specs.declared.refusals.Skip.{Skip}
 use Rattle.nm_base.specs.declared.refusals.Skip.TheVariants as skips
 use Rattle.nm_base.specs.Limits.{IsDate, max_mail_bytes}
-use Rattle.nm_commit.specs.Index.{has_path, paths_of}
+use Rattle.nm_commit.specs.Files.{has_path, paths_of}
 use Rattle.nm_extract.specs.Mail.{facts_of}
 use Rattle.nm_maildir.specs.Tree.{Tree, listing_of, got_of}
 use Rattle.nm_maildir.specs.declared.answers.Got.{Got}

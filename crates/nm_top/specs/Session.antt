@@ -8,7 +8,7 @@ use Rattle.nm_faults.specs.Faults.{HasRisen}
 use Rattle.nm_base.specs.Order.{same_text}
 use Rattle.nm_base.specs.declared.refusals.UsageKind.{UsageKind}
 use Rattle.nm_base.specs.declared.refusals.UsageKind.TheVariants as kinds
-use Rattle.nm_commit.specs.Index.{Index, empty_index, folded}
+use Rattle.nm_commit.specs.Files.{Index, empty_index, folded}
 use Rattle.nm_core.specs.Machine as machine
 use Rattle.nm_core.specs.Machine.{Machine}
 use Rattle.nm_core.specs.declared.step.Step.{Step}

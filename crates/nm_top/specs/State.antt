@@ -1,7 +1,7 @@
 -- What a line of a session begins with and leaves.
 use Rattle.std.specs.Prelude.{ℕ, List, ◌++◌, Option}
 use Rattle.std.specs.Option.{option_map}
-use Rattle.nm_commit.specs.Index.{Index}
+use Rattle.nm_commit.specs.Files.{Index}
 use Rattle.nm_maildir.specs.Observed.{ObservedMail}
 
 -- the paths read so far, and these

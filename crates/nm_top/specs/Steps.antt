@@ -6,7 +6,7 @@ use Rattle.nm_base.specs.declared.refusals.Skip.{Skip}
 use Rattle.nm_base.specs.Order.{has_text, in_order}
 use Rattle.nm_core.specs.declared.request.Request.TheVariants as requests
 use Rattle.nm_base.specs.Limits.{IsDate}
-use Rattle.nm_commit.specs.Index.{Index, paths_of}
+use Rattle.nm_commit.specs.Files.{Index, paths_of}
 use Rattle.nm_commit.specs.declared.change.Commit.{Commit}
 use Rattle.nm_core.specs.declared.step.Step.{Step}
 use Rattle.nm_faults.specs.Faults.{HasRisen}

@@ -2,8 +2,8 @@
 
 ghost use Rattle.std.specs.Prelude.{◌≡◌, ◌+◌, ◌++◌, IfOk, length, map, filter, not};
 ghost use Rattle.nm_base.specs.Order.{has_text, in_order};
-ghost use Rattle.nm_commit.specs.Count.{ids_of};
-ghost use Rattle.nm_commit.specs.Index.{paths_of};
+ghost use Rattle.nm_answer.specs.Count.{ids_of};
+ghost use Rattle.nm_commit.specs.Files.{paths_of};
 
 use nm_base::{Copies, Facts, MailPath, Many, MessageId, NoMemory, TextSet};
 use std::alloc::Global;

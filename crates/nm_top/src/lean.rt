@@ -1,7 +1,7 @@
 //! What the index keeps of a mail, for `new`.
 
 ghost use Rattle.std.specs.Prelude.{◌≡◌, ◌∷◌, [], ◌++◌, IfOk, OnOk, filter, map};
-ghost use Rattle.nm_commit.specs.Count.{is_subject};
+ghost use Rattle.nm_answer.specs.Count.{is_subject};
 ghost use Rattle.nm_top.specs.Lean.{is_subject_list, lean, lean_facts};
 
 use crate::index::Mail;

@@ -1,7 +1,7 @@
 //! The command `new`: lists, reads, takes in; the session calls it.
 
 ghost use Rattle.std.specs.Prelude.{◌≡◌, ◌+◌, ◌<◌, ◌≤◌, ◌^◌, [], IfOk, OnErr, OnOk, ◌++◌, ◌∷◌, length};
-ghost use Rattle.nm_commit.specs.Index.{Index};
+ghost use Rattle.nm_commit.specs.Files.{Index};
 ghost use Rattle.nm_maildir.specs.Observed.{HasMailCause};
 ghost use Rattle.nm_top.specs.Lean.{Represents};
 ghost use Rattle.nm_top.specs.Line.{AsksNew};

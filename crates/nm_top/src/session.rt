@@ -3,8 +3,8 @@
 ghost use Rattle.std.specs.Prelude.{◌≡◌, ◌+◌, ◌<◌, ◌≤◌, ◌^◌, ◌++◌, [], IfOk, IfSome, OnErr, MatchResult, codes, length};
 ghost use Rattle.nm_log.specs.ParsedLine.{parse_line};
 ghost use Rattle.nm_log.specs.Replies.{usage_line};
-ghost use Rattle.nm_commit.specs.Count.{count_text};
-ghost use Rattle.nm_commit.specs.Index.{Index};
+ghost use Rattle.nm_answer.specs.Count.{count_text};
+ghost use Rattle.nm_commit.specs.Files.{Index};
 ghost use Rattle.nm_top.specs.Lean.{Represents};
 ghost use Rattle.nm_top.specs.Line.{IsLineResult, AsksMail, reply_steps};
 ghost use Rattle.nm_top.specs.RunLog.{HasRunLines};

@@ -1,5 +1,5 @@
 use Rattle.std.proofs.Common.{◌≡◌, take}
-use Rattle.nm_commit.specs.Count.{ids_of, with_subject_word}
+use Rattle.nm_answer.specs.Count.{ids_of, with_subject_word}
 use Rattle.nm_core.proofs.count.count.Given as goal
 
 abbrev pub invariant-files : goal.invariant-files

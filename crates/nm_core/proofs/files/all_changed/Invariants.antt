@@ -1,6 +1,6 @@
 use Rattle.std.proofs.Common.{◌≡◌, take}
 use Rattle.std.specs.List.{fold}
-use Rattle.nm_commit.specs.Index.{changed}
+use Rattle.nm_commit.specs.Files.{changed}
 use Rattle.nm_core.proofs.files.all_changed.Given as goal
 
 abbrev pub invariant-changes : goal.invariant-changes

@@ -1,5 +1,5 @@
 use Rattle.std.proofs.Common.{◌≡◌, take}
-use Rattle.nm_commit.specs.Index.{with_moved}
+use Rattle.nm_commit.specs.Files.{with_moved}
 use Rattle.nm_core.proofs.files.with_moved.Given as goal
 
 abbrev pub invariant-files : goal.invariant-files

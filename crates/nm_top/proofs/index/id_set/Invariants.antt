@@ -1,5 +1,5 @@
 use Rattle.std.proofs.Common.{◌≡◌, take}
-use Rattle.nm_commit.specs.Count.{ids_of}
+use Rattle.nm_answer.specs.Count.{ids_of}
 use Rattle.nm_top.proofs.index.id_set.Given as goal
 
 abbrev pub invariant-files : goal.invariant-files

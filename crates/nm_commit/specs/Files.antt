@@ -1,4 +1,4 @@
--- An index as lists, the commits that fit it, and the index that they leave.
+-- The files of an index in order of arrival, each with the facts of its mail: what a change makes of them, and which commits fit them.
 use Rattle.std.specs.Prelude.{◌≡◌, ℕ, ◌+◌, Bool, true, false, not, List, [], ◌∷◌, ◌++◌, length, fold, map, filter, ◌<◌, if◌then◌else◌}
 use Rattle.nm_base.specs.Limits.{IsDate}
 use Rattle.nm_base.specs.Order.{has_text, same_text}
@@ -6,14 +6,6 @@ use Rattle.nm_base.specs.declared.facts.Facts.{Facts}
 use Rattle.nm_commit.specs.declared.change.Change.{Change}
 use Rattle.nm_commit.specs.declared.change.Change.TheVariants.{Add, Drop, Move, SetTags}
 use Rattle.nm_commit.specs.declared.change.Commit.{Commit}
-
--- the files in order of arrival, each with its facts, and the number of commits so far
-pub record Index : Type 0 where
-  pub files : List (List ℕ × Facts)
-  pub revision : ℕ
-
-abbrev pub empty_index : Index
-empty_index = record { files = []; revision = 0 }
 
 abbrev pub paths_of : List (List ℕ × Facts) → List (List ℕ)
 paths_of files = map (λ file. file.0) files
@@ -45,14 +37,6 @@ changed files (Drop path) = without_path files path
 changed files (Move from to) = with_moved files from to
 changed files (SetTags id tags) = files
 
--- the index after a commit: its changes in order, and one revision more
-abbrev pub committed : Index → Commit → Index
-committed index commit = record { files = fold changed index.files commit.changes; revision = index.revision + 1 }
-
--- the index after commits, the first of them first
-abbrev pub folded : Index → List Commit → Index
-folded index commits = fold committed index commits
-
 -- a mail comes where none lies and has a date in the range; one goes from where it lies, or moves from there to where none
 -- lies; tags are set of a message that has a file
 abbrev pub FitsChange : List (List ℕ × Facts) → Change → Type 0
@@ -67,6 +51,14 @@ FitChanges files [] = Unit {0}
 FitChanges files (change ∷ changes) = FitsChange files change × FitChanges (changed files change) changes
 
 -- the commit has a change, and its changes fit
-pub record Fits (index : Index) (commit : Commit) : Type 0 where
+pub record Fits (files : List (List ℕ × Facts)) (commit : Commit) : Type 0 where
   pub some : 0 < length commit.changes
-  pub each : FitChanges index.files commit.changes
+  pub each : FitChanges files commit.changes
+
+-- the files after a commit: its changes in order
+abbrev pub files_with : List (List ℕ × Facts) → Commit → List (List ℕ × Facts)
+files_with files commit = fold changed files commit.changes
+
+-- the files after commits, the first of them first
+abbrev pub files_after : List (List ℕ × Facts) → List Commit → List (List ℕ × Facts)
+files_after files commits = fold files_with files commits

@@ -1,9 +1,11 @@
 -- What holds at each state of the machine, and along its runs.
 use Rattle.std.specs.Prelude.{◌≡◌, ℕ, ◌<◌, ◌≤◌, List, ◌++◌, length, slice_index}
 use Rattle.nm_commit.specs.declared.change.Commit.{Commit}
-use Rattle.nm_core.specs.Machine.{Machine}
+use Rattle.nm_machine.specs.Machine.{Machine}
+use Rattle.nm_machine.specs.declared.step.Step.{Step}
+use Rattle.nm_machine.specs.declared.step.Step.TheVariants.{Begin, Append, Show, See, Meet, Reply, Crash, Reopen}
 
--- Each lane sees what stood at the last meeting, at least, and nothing that is not shown;
+-- Each lane sees what stood at the last meeting or opening, at least, and nothing that is not shown;
 -- nothing is shown that is not acknowledged.
 pub record InOrder (met : ℕ) (machine : Machine) : Type 0 where
   pub seen : (lane : ℕ) → lane < length machine.lanes → met ≤ slice_index machine.lanes lane
@@ -17,3 +19,14 @@ pub record NothingFalls (early late : Machine) : Type 0 where
   pub shown : early.shown ≤ late.shown
   pub lanes : length late.lanes ≡ length early.lanes
   pub seen : (lane : ℕ) → lane < length early.lanes → slice_index early.lanes lane ≤ slice_index late.lanes lane
+
+-- how many commits were acknowledged at the last meeting or opening after a step
+abbrev pub met_after : ℕ → Machine → Step → ℕ
+met_after met old (Begin commit) = met
+met_after met old Append = met
+met_after met old Show = met
+met_after met old (See lane) = met
+met_after met old Meet = length old.commits
+met_after met old (Reply lane request text) = met
+met_after met old (Crash kept) = met
+met_after met old Reopen = length old.commits

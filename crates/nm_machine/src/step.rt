@@ -1,6 +1,6 @@
 //! A step of the machine, as the log holds it.
 
-use crate::request::Request;
+use nm_answer::Request;
 use nm_base::{Copies, Many, NoMemory};
 use nm_commit::Commit;
 
@@ -27,6 +27,12 @@ pub enum Step {
         request: Request,
         text: Many<u8>,
     },
+    /// The program stops; where `kept` holds, the commit on its way has reached the disk.
+    Crash {
+        kept: bool,
+    },
+    /// It is there again, with all commits that the disk has.
+    Reopen,
 }
 
 impl Copies for Step {
@@ -40,6 +46,8 @@ impl Copies for Step {
             Step::Show => Ok(Step::Show),
             Step::See { lane } => Ok(Step::See { lane: *lane }),
             Step::Meet => Ok(Step::Meet),
+            Step::Crash { kept } => Ok(Step::Crash { kept: *kept }),
+            Step::Reopen => Ok(Step::Reopen),
             Step::Reply {
                 lane,
                 request,

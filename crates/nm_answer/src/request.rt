@@ -1,4 +1,4 @@
-//! What a command asks for; `nm_log` reads it from a line, the machine judges its reply.
+//! What a command asks for; a line of a script is read as one, and the machine judges its reply.
 
 use nm_base::{Copies, CountAsk, NoMemory};
 
