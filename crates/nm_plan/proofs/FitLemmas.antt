@@ -1,0 +1,201 @@
+-- The commits of a `new` fit: what has come lies where none lay, and what is gone lay there.
+use Rattle.std.proofs.Common.{◌≡◌, ℕ, Bool, true, false, ◌||◌, ◌&&◌, not, cond, List, [], ◌∷◌, ◌++◌, map, filter, refl, sym, ap, ◌∙◌, subst, arith, IsTrue}
+use Rattle.std.specs.List.{AllByRecursion, IsDistinct}
+use Rattle.std.specs.Cmp.Lexicographic.{slice_cmp, texts_ties, nat_list_eq_equiv}
+use Rattle.std.specs.Ordering.{eq_by_cmp, nat_cmp}
+use Rattle.std.proofs.lemmas.Map.Keys.{IsDistinct-from_sorted, IsDistinct-head, IsDistinct-tail}
+use Rattle.nm_base.specs.Order.{has_text, in_order, same_text}
+use Rattle.nm_base.specs.declared.facts.Facts.{Facts}
+use Rattle.nm_base.specs.Limits.{IsDate}
+use Rattle.nm_commit.specs.Files.{FitChanges, files_after, has_path, paths_of, without_path}
+use Rattle.nm_commit.specs.declared.change.Change.{Change}
+use Rattle.nm_commit.specs.declared.change.Commit.{Commit}
+use Rattle.nm_index.specs.Index.{committed, folded}
+use Rattle.nm_index.specs.declared.base.Base.{Base}
+use Rattle.nm_answer.specs.NewText.{gone}
+use Rattle.nm_plan.specs.Plan.{AreArrivals, FitInTurn, add_of, commit_of, drop_of, new_commits}
+use Rattle.std.specs.List.Sorted.{IsStrictlySortedBy}
+use Rattle.nm_plan.proofs.FoldLemmas.{commit_of-files, fold-adds, new-files}
+use Rattle.nm_plan.proofs.OrderLemmas.{in_order-sorted}
+use Rattle.nm_plan.proofs.SetLemmas.{bytes_same, has_text-filter, has_text-in_order}
+
+-- no text stands twice
+abbrev pub IsApart : List (List ℕ) → Type 0
+IsApart [] = Unit {0}
+IsApart (text ∷ texts) = AllByRecursion (λ other. same_text text other ≡ false) texts × IsApart texts
+
+-- each text passes the test, or none does
+abbrev pub Every : (List ℕ → Bool) → Bool → List (List ℕ) → Type 0
+Every test value texts = AllByRecursion (λ text. test text ≡ value) texts
+
+unequal : (text : List ℕ) (texts : List (List ℕ)) → AllByRecursion (λ other. eq_by_cmp (slice_cmp nat_cmp) text other ≡ false) texts → AllByRecursion (λ other. same_text text other ≡ false) texts
+unequal text [] h = tt
+unequal text (other ∷ texts) h = (texts_ties text other ∙ h.0, unequal text texts h.1)
+
+apart-distinct : (texts : List (List ℕ)) → IsDistinct (eq_by_cmp (slice_cmp nat_cmp)) texts → IsApart texts
+apart-distinct [] h = tt
+apart-distinct (text ∷ texts) h = (unequal text texts (IsDistinct-head _ text texts h), apart-distinct texts (IsDistinct-tail _ text texts h))
+
+-- distinct texts stand once each
+apart-once : (texts : List (List ℕ)) → IsDistinct same_text texts → IsApart texts
+apart-once [] h = tt
+apart-once (text ∷ texts) h = (IsDistinct-head _ text texts h, apart-once texts (IsDistinct-tail _ text texts h))
+
+-- rising texts stand once each
+apart-rising : (texts : List (List ℕ)) → IsStrictlySortedBy (slice_cmp nat_cmp) texts → IsApart texts
+apart-rising texts h = apart-distinct texts (IsDistinct-from_sorted (slice_cmp nat_cmp) texts h)
+
+-- a filter keeps what holds of every text
+every-cond : (P : List ℕ → Type 0) (b : Bool) (text : List ℕ) (texts : List (List ℕ)) → P text → AllByRecursion P texts → AllByRecursion P (cond b (text ∷ texts) texts)
+every-cond P true text texts first rest = (first, rest)
+every-cond P false text texts first rest = rest
+
+every-filter : (P : List ℕ → Type 0) (keep : List ℕ → Bool) (texts : List (List ℕ)) → AllByRecursion P texts → AllByRecursion P (filter keep texts)
+every-filter P keep [] h = tt
+every-filter P keep (text ∷ texts) h = every-cond P (keep text) text (filter keep texts) h.0 (every-filter P keep texts h.1)
+
+apart-cond : (b : Bool) (text : List ℕ) (texts : List (List ℕ)) → AllByRecursion (λ other. same_text text other ≡ false) texts → IsApart texts → IsApart (cond b (text ∷ texts) texts)
+apart-cond true text texts first rest = (first, rest)
+apart-cond false text texts first rest = rest
+
+apart-filter : (keep : List ℕ → Bool) (texts : List (List ℕ)) → IsApart texts → IsApart (filter keep texts)
+apart-filter keep [] h = tt
+apart-filter keep (text ∷ texts) h = apart-cond (keep text) text (filter keep texts) (every-filter _ keep texts h.0) (apart-filter keep texts h.1)
+
+pub every-map : (P Q : List ℕ → Type 0) (texts : List (List ℕ)) → ((text : List ℕ) → P text → Q text) → AllByRecursion P texts → AllByRecursion Q texts
+every-map P Q [] f h = tt
+every-map P Q (text ∷ texts) f h = (f text h.0, every-map P Q texts f h.1)
+
+every-both : (P Q R : List ℕ → Type 0) (texts : List (List ℕ)) → ((text : List ℕ) → P text → Q text → R text) → AllByRecursion P texts → AllByRecursion Q texts → AllByRecursion R texts
+every-both P Q R [] f h k = tt
+every-both P Q R (text ∷ texts) f h k = (f text h.0 k.0, every-both P Q R texts f h.1 k.1)
+
+-- of a list and one text more
+or-step : (a : Bool) (b c d : Bool) → b ≡ (c || d) → (a || b) ≡ ((a || c) || d)
+or-step true b c d h = refl
+or-step false b c d h = h
+
+has_text-append : (texts others : List (List ℕ)) (text : List ℕ) → has_text (texts ++ others) text ≡ (has_text texts text || has_text others text)
+has_text-append [] others text = refl
+has_text-append (first ∷ texts) others text = or-step (same_text text first) _ (has_text texts text) (has_text others text) (has_text-append texts others text)
+
+paths-append : (files more : List (List ℕ × Facts)) → paths_of (files ++ more) ≡ paths_of files ++ paths_of more
+paths-append [] more = refl
+paths-append (file ∷ files) more = ap (λ (l : List (List ℕ)). file.0 ∷ l) (paths-append files more)
+
+-- none of the others lies where one more lies
+not_there : (files : List (List ℕ × Facts)) (file : List ℕ × Facts) (path : List ℕ) → has_path files path ≡ false → same_text file.0 path ≡ false → has_path (files ++ file ∷ []) path ≡ false
+not_there files file path none other =
+    ap (λ (l : List (List ℕ)). has_text l path) (paths-append files (file ∷ []))
+    ∙ (has_text-append (paths_of files) (file.0 ∷ []) path
+    ∙ (ap (λ b. b || (same_text path file.0 || false)) none ∙ ap (λ b. b || false) (nat_list_eq_equiv.symm path file.0 ∙ other)))
+
+-- what has come lies where none lay
+fit-adds : (files arrivals : List (List ℕ × Facts)) → IsApart (paths_of arrivals) → AllByRecursion (λ path. has_path files path ≡ false) (paths_of arrivals) → AllByRecursion (λ arrival. IsDate arrival.1.date) arrivals → FitChanges files (map add_of arrivals)
+fit-adds files [] apart none dated = tt
+fit-adds files (arrival ∷ arrivals) apart none dated = (
+  (none.0, dated.0),
+  fit-adds (files ++ (arrival.0, arrival.1) ∷ []) arrivals apart.1
+      (every-both (λ path. has_path files path ≡ false) (λ path. same_text arrival.0 path ≡ false) (λ path. has_path (files ++ arrival ∷ []) path ≡ false) (paths_of arrivals) (λ path. not_there files arrival path) none.1 apart.0) dated.1,
+)
+
+paths-cond : (b : Bool) (file : List ℕ × Facts) (files : List (List ℕ × Facts)) → paths_of (cond b (file ∷ files) files) ≡ cond b (file.0 ∷ paths_of files) (paths_of files)
+paths-cond true file files = refl
+paths-cond false file files = refl
+
+paths-filter : (keep : List ℕ → Bool) (files : List (List ℕ × Facts)) → paths_of (filter (λ file. keep file.0) files) ≡ filter keep (paths_of files)
+paths-filter keep [] = refl
+paths-filter keep (file ∷ files) = paths-cond (keep file.0) file (filter (λ other. keep other.0) files) ∙ ap (λ (l : List (List ℕ)). cond (keep file.0) (file.0 ∷ l) l) (paths-filter keep files)
+
+-- one that is another still lies there
+still_there : (files : List (List ℕ × Facts)) (path other : List ℕ) → has_path files other ≡ true → same_text path other ≡ false → has_path (without_path files path) other ≡ true
+still_there files path other there apart =
+    ap (λ (l : List (List ℕ)). has_text l other) (paths-filter (λ p. not (same_text path p)) files)
+    ∙ (has_text-filter (λ p. not (same_text path p)) (paths_of files) other ∙ (ap (λ b. b && not (same_text path other)) there ∙ ap not apart))
+
+-- what goes lay there
+fit-drops : (files : List (List ℕ × Facts)) (paths : List (List ℕ)) → IsApart paths → AllByRecursion (λ path. has_path files path ≡ true) paths → FitChanges files (map drop_of paths)
+fit-drops files [] apart there = tt
+fit-drops files (path ∷ paths) apart there = (
+  there.0,
+  fit-drops (without_path files path) paths apart.1
+      (every-both (λ other. has_path files other ≡ true) (λ other. same_text path other ≡ false) (λ other. has_path (without_path files path) other ≡ true) paths (λ other. still_there files path other) there.1 apart.0),
+)
+
+-- every text of a list stands in it
+same_as_itself : (text : List ℕ) → same_text text text ≡ true
+same_as_itself text = nat_list_eq_equiv.refl text
+
+pub or_true : (b : Bool) → (b || true) ≡ true
+or_true true = refl
+or_true false = refl
+
+pub every-in : (texts : List (List ℕ)) → AllByRecursion (λ text. has_text texts text ≡ true) texts
+every-in [] = tt
+every-in (text ∷ texts) = (
+  ap (λ b. b || has_text texts text) (same_as_itself text),
+  every-map (λ other. has_text texts other ≡ true) (λ other. has_text (text ∷ texts) other ≡ true) texts (λ other h. ap (λ b. same_text other text || b) h ∙ or_true (same_text other text)) (every-in texts),
+)
+
+not-true : (b : Bool) → not b ≡ true → b ≡ false
+not-true true h = sym h
+not-true false h = refl
+
+-- one commit of changes that fit, if there are any
+fit-commit : (index : Base) (changes : List Change) → FitChanges index.files changes → FitInTurn index (commit_of changes)
+fit-commit index [] h = tt
+fit-commit index (change ∷ changes) h = (record { some = omega arith; each = h }, tt)
+
+fit-append : (index : Base) (commits more : List Commit) → FitInTurn index commits → FitInTurn (folded index commits) more → FitInTurn index (commits ++ more)
+fit-append index [] more h k = k
+fit-append index (commit ∷ commits) more h k = (h.0, fit-append (committed index commit) commits more h.1 k)
+
+-- the commits of a `new` fit, one after the other
+pub fit-new : (follow : (index : Base) (commits : List Commit) → (folded index commits).files ≡ files_after index.files commits) (index : Base) (listed : List (List ℕ)) (arrivals : List (List ℕ × Facts))
+    → AreArrivals index.files arrivals → FitInTurn index (new_commits index.files listed arrivals)
+fit-new follow index listed arrivals are =
+    let adds : List Change = map add_of arrivals in
+    let paths : List (List ℕ) = in_order (paths_of index.files) in
+    let adds_fit : FitChanges index.files adds = fit-adds index.files arrivals (apart-once (paths_of arrivals) are.once) are.fresh are.dated in
+    let there : (path : List ℕ) → has_text paths path ≡ true → has_path (index.files ++ arrivals) path ≡ true =
+    λ path h. ap (λ (l : List (List ℕ)). has_text l path) (paths-append index.files arrivals) ∙ (has_text-append (paths_of index.files) (paths_of arrivals) path
+    ∙ ap (λ b. b || has_text (paths_of arrivals) path) (sym (has_text-in_order (paths_of index.files) path) ∙ h)) in
+    let drops_fit : FitChanges (index.files ++ arrivals) (map drop_of (gone index.files listed)) = fit-drops (index.files ++ arrivals) (gone index.files listed)
+    (apart-filter (λ path. not (has_text listed path)) paths (apart-rising paths (in_order-sorted (paths_of index.files))))
+    (every-filter _ (λ path. not (has_text listed path)) paths (every-map (λ path. has_text paths path ≡ true) (λ path. has_path (index.files ++ arrivals) path ≡ true) paths there (every-in paths))) in
+    fit-append index (commit_of adds) (commit_of (map drop_of (gone index.files listed))) (fit-commit index adds adds_fit)
+    (fit-commit (folded index (commit_of adds)) (map drop_of (gone index.files listed))
+    (subst (λ (files : List (List ℕ × Facts)). FitChanges files (map drop_of (gone index.files listed))) (sym (follow index (commit_of adds) ∙ (commit_of-files index.files adds ∙ fold-adds index.files arrivals))) drops_fit))
+
+-- one of the texts that are all listed is listed
+listed-case : (listed : List (List ℕ)) (arrived : List ℕ) (paths : List (List ℕ)) (path : List ℕ) (b : Bool) → same_text path arrived ≡ b → AllByRecursion (λ other. IsTrue (has_text listed other)) (arrived ∷ paths)
+    → (b || has_text paths path) ≡ true → (AllByRecursion (λ other. IsTrue (has_text listed other)) paths → has_text paths path ≡ true → has_text listed path ≡ true) → has_text listed path ≡ true
+listed-case listed arrived paths path true is all there more = ap (has_text listed) (bytes_same path arrived (sym is)) ∙ all.0
+listed-case listed arrived paths path false is all there more = more all.1 there
+
+listed-arrival : (listed : List (List ℕ)) (paths : List (List ℕ)) (path : List ℕ) → AllByRecursion (λ arrived. IsTrue (has_text listed arrived)) paths → has_text paths path ≡ true → has_text listed path ≡ true
+listed-arrival listed [] path all there = absurd cc
+listed-arrival listed (arrived ∷ paths) path all there = listed-case listed arrived paths path (same_text path arrived) refl all there (listed-arrival listed paths path)
+
+truth-table : (l f a : Bool) → (a ≡ true → l ≡ true) → ((f || a) && not (f && not l)) ≡ (l && (f || a))
+truth-table true true a h = refl
+truth-table true false true h = refl
+truth-table true false false h = refl
+truth-table false true true h = absurd (cc (h refl))
+truth-table false true false h = refl
+truth-table false false true h = absurd (cc (h refl))
+truth-table false false false h = refl
+
+-- after a `new` a file is there where it was listed, and was there before or has come
+pub left-listed : (follow : (index : Base) (commits : List Commit) → (folded index commits).files ≡ files_after index.files commits) (index : Base) (listed : List (List ℕ)) (arrivals : List (List ℕ × Facts)) (path : List ℕ)
+    → AllByRecursion (λ arrived. IsTrue (has_text listed arrived)) (paths_of arrivals)
+    → has_path (folded index (new_commits index.files listed arrivals)).files path ≡ (has_text listed path && (has_path index.files path || has_path arrivals path))
+left-listed follow index listed arrivals path all =
+    let gone_paths : List (List ℕ) = gone index.files listed in
+    ap (λ (files : List (List ℕ × Facts)). has_path files path) (follow index (new_commits index.files listed arrivals) ∙ new-files index.files listed arrivals)
+    ∙ (ap (λ (l : List (List ℕ)). has_text l path) (paths-filter (λ p. not (has_text gone_paths p)) (index.files ++ arrivals))
+    ∙ (has_text-filter (λ p. not (has_text gone_paths p)) (paths_of (index.files ++ arrivals)) path
+    ∙ (ap (λ b. b && not (has_text gone_paths path)) (ap (λ (l : List (List ℕ)). has_text l path) (paths-append index.files arrivals) ∙ has_text-append (paths_of index.files) (paths_of arrivals) path)
+    ∙ (ap (λ b. (has_path index.files path || has_path arrivals path) && not b)
+    (has_text-filter (λ p. not (has_text listed p)) (in_order (paths_of index.files)) path ∙ ap (λ b. b && not (has_text listed path)) (has_text-in_order (paths_of index.files) path))
+    ∙ truth-table (has_text listed path) (has_path index.files path) (has_path arrivals path) (listed-arrival listed (paths_of arrivals) path all)))))

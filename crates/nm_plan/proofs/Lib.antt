@@ -1,0 +1,4 @@
+pub mod FitLemmas
+pub mod FoldLemmas
+pub mod OrderLemmas
+pub mod SetLemmas

@@ -1,0 +1,6 @@
+//! The plain index: which commits a command makes, as definitions on the index as data and on what the mail folder gave.
+#![tactic(auto)]
+
+mod laws;
+
+pub use laws::{new_commits_fit, new_leaves_what_is_listed, the_files_after_new};
