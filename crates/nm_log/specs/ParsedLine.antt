@@ -5,7 +5,7 @@ use Rattle.nm_base.specs.Order.{same_text}
 use Rattle.nm_base.specs.declared.refusals.UsageKind.{UsageKind}
 use Rattle.nm_base.specs.declared.refusals.UsageKind.TheVariants as kinds
 use Rattle.nm_base.specs.declared.forms.Output.TheVariants as outputs
-use Rattle.nm_core.specs.declared.request.Request.TheVariants as requests
+use Rattle.nm_answer.specs.declared.request.Request.TheVariants as requests
 use Rattle.nm_answer.specs.Count.{is_subject_query}
 use Rattle.nm_log.specs.declared.line_parser.ParsedLine.{ParsedLine}
 use Rattle.nm_log.specs.declared.line_parser.ParsedLine.TheVariants.{Request, Usage}

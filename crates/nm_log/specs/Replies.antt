@@ -1,15 +1,12 @@
 -- The texts of replies and refusals, and how a log is printed.
-use Rattle.std.specs.Prelude.{ℕ, ◌+◌, Bool, ◌==◌, List, [], ◌∷◌, ◌++◌, length, codes, if◌then◌else◌}
+use Rattle.std.specs.Prelude.{ℕ, List, [], ◌++◌, length, codes}
 use Rattle.std.specs.List.{flat_map}
-use Rattle.std.specs.Fmt.{decimal}
 use Rattle.nm_base.specs.declared.refusals.UsageKind.{UsageKind}
 use Rattle.nm_base.specs.declared.refusals.UsageKind.TheVariants as kinds
-use Rattle.nm_base.specs.declared.refusals.Skip.{Skip}
-use Rattle.nm_base.specs.declared.refusals.Skip.TheVariants as skips
+use Rattle.nm_answer.specs.NewText.{number_after}
 use Rattle.nm_log.specs.declared.outcome.Outcome.{Outcome}
 use Rattle.nm_log.specs.declared.outcome.Outcome.TheVariants as outcomes
 use Rattle.nm_log.specs.declared.log.LineLog.{LineLog}
-use Rattle.nm_log.specs.declared.replies.NewReport.{NewReport}
 
 -- the kind of a usage fault, in lower case
 abbrev pub kind_name : UsageKind → List ℕ
@@ -41,43 +38,6 @@ status_of outcomes.Ok = 0
 status_of (outcomes.Usage word kind) = 2
 status_of outcomes.MailFault = 3
 status_of outcomes.NoMemory = 7
-
--- why a file was passed over
-abbrev pub skip_name : Skip → List ℕ
-skip_name skips.NotMail = codes "not mail"
-skip_name skips.Missing = codes "missing"
-skip_name skips.TooLong = codes "too long"
-
-abbrev pub skip_line : List ℕ × Skip → List ℕ
-skip_line skipped = codes "skipped: " ++ skip_name skipped.1 ++ codes " " ++ skipped.0 ++ codes "\n"
-
--- nothing came, went or was passed over
-abbrev pub is_quiet : NewReport → Bool
-is_quiet report = (report.added + report.removed + length report.skipped) == 0
-
--- a number behind what says of what
-abbrev pub number_after : List ℕ → ℕ → List ℕ
-number_after before n = before ++ decimal n
-
-abbrev pub labelled : List ℕ × ℕ → List ℕ
-labelled number = number_after number.0 number.1
-
--- what `new` says
-abbrev pub summary_line : NewReport → List ℕ
-summary_line report =
-    flat_map labelled (
-    (codes "Files: +", report.added)
-    ∷ (codes " -", report.removed)
-    ∷ (codes ", skipped ", length report.skipped)
-    ∷ (codes ". Messages: +", report.born)
-    ∷ (codes " -", report.died)
-    ∷ []
-    )
-    ++ codes ".\n"
-
--- what `new` says: the numbers of files and messages, and a line for each file that was passed over
-abbrev pub new_text : NewReport → List ℕ
-new_text report = if is_quiet report then codes "No new mail.\n" else summary_line report ++ flat_map skip_line report.skipped
 
 -- the lane and the number of the line, the revision, the status, and the length of the reply
 abbrev pub header_of : LineLog → List ℕ

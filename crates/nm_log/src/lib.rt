@@ -15,5 +15,5 @@ pub use line_parser::{ParsedLine, parse_line};
 pub use log::{Done, LineLog, SessionLog, Setting};
 pub use outcome::Outcome;
 pub use print::{print_lines, print_text, print_usage};
-pub use replies::{NewReport, line_status, new_reply, usage_text};
+pub use replies::{line_status, new_reply, usage_text};
 pub use script::{ScriptError, ScriptLine, read_script};

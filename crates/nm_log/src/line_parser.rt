@@ -6,7 +6,8 @@ ghost use Rattle.nm_log.specs.Words.{words_of};
 
 use crate::words::next_word;
 use nm_base::{CountAsk, NoMemory, Output, Text, UsageKind};
-use nm_core::{Request, is_subject_query};
+use nm_answer::Request;
+use nm_core::is_subject_query;
 use std::alloc::Global;
 
 /// What a line asks for, or what is wrong with it.

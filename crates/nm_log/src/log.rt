@@ -2,7 +2,7 @@
 
 use crate::Outcome;
 use nm_base::Many;
-use nm_core::Step;
+use nm_machine::Step;
 use nm_maildir::Given;
 
 /// What a run of the program is given beside its words and devices.

@@ -3,26 +3,14 @@
 ghost use Rattle.std.specs.Prelude.{◌≡◌, ◌++◌, IfOk, OnOk};
 ghost use Rattle.std.specs.Fmt.{decimal};
 ghost use Rattle.std.specs.List.{flat_map};
-ghost use Rattle.nm_log.specs.Replies.{is_quiet, kind_name, new_text, number_after, skip_line, skip_name, status_of, summary_line, usage_line};
+ghost use Rattle.nm_answer.specs.NewText.{is_quiet, new_text, number_after, skip_line, skip_name, summary_line};
+ghost use Rattle.nm_log.specs.Replies.{kind_name, status_of, usage_line};
 
 use crate::Outcome;
 use itoa::Buffer;
+use nm_answer::NewReport;
 use nm_base::{MailPath, Many, NoMemory, Skip, Text, UsageKind};
 use std::alloc::Global;
-
-/// What `new` did.
-#[derive(Debug, Drop)]
-pub struct NewReport {
-    /// Files.
-    pub added: u64,
-    pub removed: u64,
-    /// Messages that are live now and were not before.
-    pub born: u64,
-    /// Messages that were live before and are not now.
-    pub died: u64,
-    /// The files passed over, in the order of their paths.
-    pub skipped: Many<(MailPath, Skip)>,
-}
 
 /// The status of a line that ended so.
 pub fn line_status(outcome: &Outcome) -> u8
