@@ -1,10 +1,10 @@
 -- A session in which nothing fails ends with status 0, or 7 for want of memory.
 use Rattle.nm_base.specs.Limits.{max_count, max_input_bytes}
-use Rattle.std.proofs.Common.{◌≡◌, ℕ, ◌<◌, ◌≤◌, ◌⊎◌, inl, inr, Bool, true, false, ◌||◌, not, cond, List, [], ◌∷◌, ◌++◌, Option, None, Some, IfSome, length, refl, sym, ap, ◌∙◌, subst, append-nil, arith, suc}
+use Rattle.std.proofs.Common.{◌≡◌, ℕ, ℤ, ◌<◌, ◌≤◌, ◌⊎◌, inl, inr, Bool, true, false, ◌||◌, not, cond, List, [], ◌∷◌, ◌++◌, Option, None, Some, IfSome, length, refl, sym, ap, ◌∙◌, subst, append-nil, arith, suc}
 use Rattle.std.proofs.lemmas.Bool.{false≢true}
 use Rattle.std.specs.Io.KnownBytes.{Consumes, IsAtEnd}
 use Rattle.std.specs.Str.Lines.{lines}
-use Rattle.nm_core.specs.declared.step.Step.{Step}
+use Rattle.nm_machine.specs.declared.step.Step.{Step}
 use Rattle.nm_log.specs.Script.{script_lines}
 use Rattle.nm_log.specs.declared.log.Done.{Done}
 use Rattle.nm_log.specs.declared.log.LineLog.{LineLog}
@@ -74,8 +74,8 @@ left_status true false true memory e d = absurd (false≢true (sym d))
 left_status true false false true e d = inr refl
 left_status true false false false e d = inl (refl, refl)
 
-ran_complete : (script : List ℕ) (old new : Devices) (done : Done) → NoFault old new → IsRun (script_lines script) old.mail new.mail old.out new.out old.err new.err done → IsFinished script done ⊎ (done.status ≡ 7)
-ran_complete script old new done quiet h =
+ran_complete : (moment : ℤ) (script : List ℕ) (old new : Devices) (done : Done) → NoFault old new → IsRun moment (script_lines script) old.mail new.mail old.out new.out old.err new.err done → IsFinished script done ⊎ (done.status ≡ 7)
+ran_complete moment script old new done quiet h =
     let last_faults : new.mail.faults ≡ h.last.mail.faults = ap (λ (m : ObservedMail). m.faults) h.mail in
     let no_mail : has_mail_fault done.log.lines ≡ false = quiet_run _ h.last h.ran done.log.lines done.log.steps (omega (arith, quiet.mail)) quiet.mail_room h.run in
     let no_out : h.out_failed ≡ false = quiet_out h.out_failed old.out new.out _ quiet.out quiet.out_room h.out in
@@ -87,19 +87,19 @@ ran_complete script old new done quiet h =
       | inr w ↦ inr (h.status ∙ w)
     ]
 
-pub complete : (ending : Ending) (read : List ℕ) (words : List (List ℕ)) (old new : Devices) (done : Done) → Ends ending read words old new done → IsComplete words old new done
-complete ArgsRefused read words old new done h script sound quiet within = absurd (cc)
-complete ReadFailed read words old new done h script sound quiet within = let rose = h.1.1 quiet.input_room in let same = quiet.input in absurd (omega arith)
-complete InputTooLong read words old new done h script sound quiet within =
+pub complete : (moment : ℤ) (ending : Ending) (read : List ℕ) (words : List (List ℕ)) (old new : Devices) (done : Done) → Ends moment ending read words old new done → IsComplete words old new done
+complete moment ArgsRefused read words old new done h script sound quiet within = absurd (cc)
+complete moment ReadFailed read words old new done h script sound quiet within = let rose = h.1.1 quiet.input_room in let same = quiet.input in absurd (omega arith)
+complete moment InputTooLong read words old new done h script sound quiet within =
     let long : max_input_bytes < length script = subst (λ (o : Option (List ℕ)). IfSome o (λ bytes. max_input_bytes < length bytes)) within.told h.2 in
     let short = within.bytes in
     absurd (omega arith)
-complete TooManyLines read words old new done h script sound quiet within =
+complete moment TooManyLines read words old new done h script sound quiet within =
     let same = read_is old.input.bytes new.input.bytes script read within.told h.1.bytes h.1.end in
     let many : 4096 < length (lines script) = subst (λ (l : List ℕ). 4096 < length (lines l)) same h.2 in
     let few = within.few in
     absurd (omega arith)
-complete MemoryWanted read words old new done h script sound quiet within = inr h.2.status
-complete Ran read words old new done h script sound quiet within =
+complete moment MemoryWanted read words old new done h script sound quiet within = inr h.2.status
+complete moment Ran read words old new done h script sound quiet within =
     let same = read_is old.input.bytes new.input.bytes script read within.told h.1.bytes h.1.end in
-    ran_complete script old new done quiet (subst (λ (l : List ℕ). IsRun (script_lines l) old.mail new.mail old.out new.out old.err new.err done) same h.3)
+    ran_complete moment script old new done quiet (subst (λ (l : List ℕ). IsRun moment (script_lines l) old.mail new.mail old.out new.out old.err new.err done) same h.3)

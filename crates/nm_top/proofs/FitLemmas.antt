@@ -1,26 +1,19 @@
--- The commits of a `new` fit: what has come lies where none lay, and what is gone lay there.
+-- The mails that a `new` has read come to an index that lacks them, each path once.
 use Rattle.std.proofs.Common.{◌≡◌, ℕ, Bool, true, false, ◌||◌, ◌&&◌, not, cond, List, [], ◌∷◌, ◌++◌, map, filter, refl, sym, ap, ◌∙◌, subst, arith}
 use Rattle.std.specs.List.{AllByRecursion, flat_map, IsDistinct}
 use Rattle.std.specs.Cmp.Lexicographic.{slice_cmp, texts_ties, nat_list_eq_equiv}
 use Rattle.std.specs.Ordering.{eq_by_cmp, nat_cmp}
-use Rattle.std.proofs.lemmas.Map.Keys.{IsDistinct-from_sorted, IsDistinct-head, IsDistinct-tail}
+use Rattle.std.proofs.lemmas.Map.Keys.{IsDistinct-cons, IsDistinct-from_sorted}
 use Rattle.nm_base.specs.Order.{has_text, in_order, same_text}
 use Rattle.nm_base.specs.declared.facts.Facts.{Facts}
 use Rattle.nm_base.specs.Limits.{IsDate}
-use Rattle.nm_commit.specs.Files.{FitChanges, Index, committed, folded, has_path, paths_of, without_path}
+use Rattle.nm_commit.specs.Files.{has_path, paths_of}
 use Rattle.nm_commit.specs.declared.change.Change.{Change}
 use Rattle.nm_commit.specs.declared.change.Commit.{Commit}
 use Rattle.nm_maildir.specs.declared.given.ReadAnswer.{ReadAnswer}
 use Rattle.nm_maildir.specs.declared.given.ReadAnswer.TheVariants as answers
-use Rattle.nm_top.specs.NewLine.{FitInTurn, add_of, commit_of, drop_of, gone, new_commits}
-use Rattle.nm_top.specs.Reading.{IsRising, mail_in, to_read}
-use Rattle.nm_top.proofs.FoldLemmas.{commit_of-files, fold-adds}
-use Rattle.nm_top.proofs.SetLemmas.{has_text-filter, has_text-in_order}
-
--- no text stands twice
-abbrev pub IsApart : List (List ℕ) → Type 0
-IsApart [] = Unit {0}
-IsApart (text ∷ texts) = AllByRecursion (λ other. same_text text other ≡ false) texts × IsApart texts
+use Rattle.nm_plan.specs.Plan.{AreArrivals, to_read}
+use Rattle.nm_top.specs.Reading.{IsRising, mail_in}
 
 -- each text passes the test, or none does
 abbrev pub Every : (List ℕ → Bool) → Bool → List (List ℕ) → Type 0
@@ -30,13 +23,14 @@ unequal : (text : List ℕ) (texts : List (List ℕ)) → AllByRecursion (λ oth
 unequal text [] h = tt
 unequal text (other ∷ texts) h = (texts_ties text other ∙ h.0, unequal text texts h.1)
 
-apart-distinct : (texts : List (List ℕ)) → IsDistinct (eq_by_cmp (slice_cmp nat_cmp)) texts → IsApart texts
-apart-distinct [] h = tt
-apart-distinct (text ∷ texts) h = (unequal text texts (IsDistinct-head _ text texts h), apart-distinct texts (IsDistinct-tail _ text texts h))
+distinct-same : (texts : List (List ℕ)) → IsDistinct (eq_by_cmp (slice_cmp nat_cmp)) texts → IsDistinct same_text texts
+unfolding IsDistinct
+distinct-same [] h = tt
+distinct-same (text ∷ texts) h = (unequal text texts h.0, distinct-same texts h.1)
 
 -- rising texts stand once each
-apart-rising : (texts : List (List ℕ)) → IsRising texts → IsApart texts
-apart-rising texts h = apart-distinct texts (IsDistinct-from_sorted (slice_cmp nat_cmp) texts h)
+distinct-rising : (texts : List (List ℕ)) → IsRising texts → IsDistinct same_text texts
+distinct-rising texts h = distinct-same texts (IsDistinct-from_sorted (slice_cmp nat_cmp) texts h)
 
 -- a filter keeps what holds of every text
 every-cond : (P : List ℕ → Type 0) (b : Bool) (text : List ℕ) (texts : List (List ℕ)) → P text → AllByRecursion P texts → AllByRecursion P (cond b (text ∷ texts) texts)
@@ -47,13 +41,14 @@ every-filter : (P : List ℕ → Type 0) (keep : List ℕ → Bool) (texts : Lis
 every-filter P keep [] h = tt
 every-filter P keep (text ∷ texts) h = every-cond P (keep text) text (filter keep texts) h.0 (every-filter P keep texts h.1)
 
-apart-cond : (b : Bool) (text : List ℕ) (texts : List (List ℕ)) → AllByRecursion (λ other. same_text text other ≡ false) texts → IsApart texts → IsApart (cond b (text ∷ texts) texts)
-apart-cond true text texts first rest = (first, rest)
-apart-cond false text texts first rest = rest
+distinct-cond : (b : Bool) (text : List ℕ) (texts : List (List ℕ)) → AllByRecursion (λ other. same_text text other ≡ false) texts → IsDistinct same_text texts → IsDistinct same_text (cond b (text ∷ texts) texts)
+distinct-cond true text texts first rest = IsDistinct-cons same_text text texts first rest
+distinct-cond false text texts first rest = rest
 
-apart-filter : (keep : List ℕ → Bool) (texts : List (List ℕ)) → IsApart texts → IsApart (filter keep texts)
-apart-filter keep [] h = tt
-apart-filter keep (text ∷ texts) h = apart-cond (keep text) text (filter keep texts) (every-filter _ keep texts h.0) (apart-filter keep texts h.1)
+distinct-filter : (keep : List ℕ → Bool) (texts : List (List ℕ)) → IsDistinct same_text texts → IsDistinct same_text (filter keep texts)
+unfolding IsDistinct
+distinct-filter keep [] h = tt
+distinct-filter keep (text ∷ texts) h = distinct-cond (keep text) text (filter keep texts) (every-filter _ keep texts h.0) (distinct-filter keep texts h.1)
 
 -- what a filter keeps passes its test
 kept-cond : (keep : List ℕ → Bool) (b : Bool) (text : List ℕ) (texts : List (List ℕ)) → keep text ≡ b → Every keep true texts → Every keep true (cond b (text ∷ texts) texts)
@@ -68,10 +63,6 @@ pub every-map : (P Q : List ℕ → Type 0) (texts : List (List ℕ)) → ((text
 every-map P Q [] f h = tt
 every-map P Q (text ∷ texts) f h = (f text h.0, every-map P Q texts f h.1)
 
-every-both : (P Q R : List ℕ → Type 0) (texts : List (List ℕ)) → ((text : List ℕ) → P text → Q text → R text) → AllByRecursion P texts → AllByRecursion Q texts → AllByRecursion R texts
-every-both P Q R [] f h k = tt
-every-both P Q R (text ∷ texts) f h k = (f text h.0 k.0, every-both P Q R texts f h.1 k.1)
-
 -- the reads that found mail are some of the reads
 every-mail : (P : List ℕ → Type 0) (reads : List (List ℕ × ReadAnswer)) → AllByRecursion P (map (λ read. read.0) reads) → AllByRecursion P (flat_map mail_in reads)
 every-mail P [] h = tt
@@ -81,65 +72,14 @@ every-mail P ((path, answers.Missing) ∷ reads) h = every-mail P reads h.1
 every-mail P ((path, answers.TooLong) ∷ reads) h = every-mail P reads h.1
 every-mail P ((path, answers.Body bytes) ∷ reads) h = every-mail P reads h.1
 
-apart-mail : (reads : List (List ℕ × ReadAnswer)) → IsApart (map (λ read. read.0) reads) → IsApart (flat_map mail_in reads)
-apart-mail [] h = tt
-apart-mail ((path, answers.Mail) ∷ reads) h = (every-mail _ reads h.0, apart-mail reads h.1)
-apart-mail ((path, answers.NotMail) ∷ reads) h = apart-mail reads h.1
-apart-mail ((path, answers.Missing) ∷ reads) h = apart-mail reads h.1
-apart-mail ((path, answers.TooLong) ∷ reads) h = apart-mail reads h.1
-apart-mail ((path, answers.Body bytes) ∷ reads) h = apart-mail reads h.1
-
--- of a list and one text more
-or-step : (a : Bool) (b c d : Bool) → b ≡ (c || d) → (a || b) ≡ ((a || c) || d)
-or-step true b c d h = refl
-or-step false b c d h = h
-
-has_text-append : (texts others : List (List ℕ)) (text : List ℕ) → has_text (texts ++ others) text ≡ (has_text texts text || has_text others text)
-has_text-append [] others text = refl
-has_text-append (first ∷ texts) others text = or-step (same_text text first) _ (has_text texts text) (has_text others text) (has_text-append texts others text)
-
-paths-append : (files more : List (List ℕ × Facts)) → paths_of (files ++ more) ≡ paths_of files ++ paths_of more
-paths-append [] more = refl
-paths-append (file ∷ files) more = ap (λ (l : List (List ℕ)). file.0 ∷ l) (paths-append files more)
-
--- none of the others lies where one more lies
-not_there : (files : List (List ℕ × Facts)) (file : List ℕ × Facts) (path : List ℕ) → has_path files path ≡ false → same_text file.0 path ≡ false → has_path (files ++ file ∷ []) path ≡ false
-not_there files file path none other =
-    ap (λ (l : List (List ℕ)). has_text l path) (paths-append files (file ∷ []))
-    ∙ (has_text-append (paths_of files) (file.0 ∷ []) path
-    ∙ (ap (λ b. b || (same_text path file.0 || false)) none ∙ ap (λ b. b || false) (nat_list_eq_equiv.symm path file.0 ∙ other)))
-
--- what has come lies where none lay
-fit-adds : (files arrivals : List (List ℕ × Facts)) → IsApart (paths_of arrivals) → AllByRecursion (λ path. has_path files path ≡ false) (paths_of arrivals) → AllByRecursion (λ arrival. IsDate arrival.1.date) arrivals → FitChanges files (map add_of arrivals)
-fit-adds files [] apart none dated = tt
-fit-adds files (arrival ∷ arrivals) apart none dated = (
-  (none.0, dated.0),
-  fit-adds (files ++ (arrival.0, arrival.1) ∷ []) arrivals apart.1
-      (every-both (λ path. has_path files path ≡ false) (λ path. same_text arrival.0 path ≡ false) (λ path. has_path (files ++ arrival ∷ []) path ≡ false) (paths_of arrivals) (λ path. not_there files arrival path) none.1 apart.0) dated.1,
-)
-
-paths-cond : (b : Bool) (file : List ℕ × Facts) (files : List (List ℕ × Facts)) → paths_of (cond b (file ∷ files) files) ≡ cond b (file.0 ∷ paths_of files) (paths_of files)
-paths-cond true file files = refl
-paths-cond false file files = refl
-
-paths-filter : (keep : List ℕ → Bool) (files : List (List ℕ × Facts)) → paths_of (filter (λ file. keep file.0) files) ≡ filter keep (paths_of files)
-paths-filter keep [] = refl
-paths-filter keep (file ∷ files) = paths-cond (keep file.0) file (filter (λ other. keep other.0) files) ∙ ap (λ (l : List (List ℕ)). cond (keep file.0) (file.0 ∷ l) l) (paths-filter keep files)
-
--- one that is another still lies there
-still_there : (files : List (List ℕ × Facts)) (path other : List ℕ) → has_path files other ≡ true → same_text path other ≡ false → has_path (without_path files path) other ≡ true
-still_there files path other there apart =
-    ap (λ (l : List (List ℕ)). has_text l other) (paths-filter (λ p. not (same_text path p)) files)
-    ∙ (has_text-filter (λ p. not (same_text path p)) (paths_of files) other ∙ (ap (λ b. b && not (same_text path other)) there ∙ ap not apart))
-
--- what goes lay there
-fit-drops : (files : List (List ℕ × Facts)) (paths : List (List ℕ)) → IsApart paths → AllByRecursion (λ path. has_path files path ≡ true) paths → FitChanges files (map drop_of paths)
-fit-drops files [] apart there = tt
-fit-drops files (path ∷ paths) apart there = (
-  there.0,
-  fit-drops (without_path files path) paths apart.1
-      (every-both (λ other. has_path files other ≡ true) (λ other. same_text path other ≡ false) (λ other. has_path (without_path files path) other ≡ true) paths (λ other. still_there files path other) there.1 apart.0),
-)
+distinct-mail : (reads : List (List ℕ × ReadAnswer)) → IsDistinct same_text (map (λ read. read.0) reads) → IsDistinct same_text (flat_map mail_in reads)
+unfolding IsDistinct
+distinct-mail [] h = tt
+distinct-mail ((path, answers.Mail) ∷ reads) h = (every-mail _ reads h.0, distinct-mail reads h.1)
+distinct-mail ((path, answers.NotMail) ∷ reads) h = distinct-mail reads h.1
+distinct-mail ((path, answers.Missing) ∷ reads) h = distinct-mail reads h.1
+distinct-mail ((path, answers.TooLong) ∷ reads) h = distinct-mail reads h.1
+distinct-mail ((path, answers.Body bytes) ∷ reads) h = distinct-mail reads h.1
 
 -- every text of a list stands in it
 same_as_itself : (text : List ℕ) → same_text text text ≡ true
@@ -160,35 +100,16 @@ not-true : (b : Bool) → not b ≡ true → b ≡ false
 not-true true h = sym h
 not-true false h = refl
 
--- one commit of changes that fit, if there are any
-fit-commit : (index : Index) (changes : List Change) → FitChanges index.files changes → FitInTurn index (commit_of changes)
-fit-commit index [] h = tt
-fit-commit index (change ∷ changes) h = (record { some = omega arith; each = h }, tt)
-
-fit-append : (index : Index) (commits more : List Commit) → FitInTurn index commits → FitInTurn (folded index commits) more → FitInTurn index (commits ++ more)
-fit-append index [] more h k = k
-fit-append index (commit ∷ commits) more h k = (h.0, fit-append (committed index commit) commits more h.1 k)
-
--- the commits of a `new` fit, one after the other
-pub fit-new : (index : Index) (listed : List (List ℕ)) (arrivals : List (List ℕ × Facts)) (reads : List (List ℕ × ReadAnswer))
-    → IsRising listed → IsRising (in_order (paths_of index.files)) → map (λ read. read.0) reads ≡ to_read index.files listed → paths_of arrivals ≡ flat_map mail_in reads
-    → AllByRecursion (λ arrival. IsDate arrival.1.date) arrivals → FitInTurn index (new_commits index.files listed arrivals)
-fit-new index listed arrivals reads rising known_rising each mails dated =
-    let adds : List Change = map add_of arrivals in
-    let paths : List (List ℕ) = in_order (paths_of index.files) in
-    let apart_read : IsApart (map (λ read. read.0) reads) = subst IsApart (sym each) (apart-filter (λ path. not (has_path index.files path)) listed (apart-rising listed rising)) in
-    let new_read : AllByRecursion (λ path. has_path index.files path ≡ false) (map (λ read. read.0) reads) =
-    subst (AllByRecursion (λ path. has_path index.files path ≡ false)) (sym each)
-    (every-map (λ path. not (has_path index.files path) ≡ true) (λ path. has_path index.files path ≡ false) (to_read index.files listed) (λ path h. not-true (has_path index.files path) h) (every-kept (λ path. not (has_path index.files path)) listed)) in
-    let adds_fit : FitChanges index.files adds = fit-adds index.files arrivals
-    (subst IsApart (sym mails) (apart-mail reads apart_read))
-    (subst (AllByRecursion (λ path. has_path index.files path ≡ false)) (sym mails) (every-mail _ reads new_read)) dated in
-    let there : (path : List ℕ) → has_text paths path ≡ true → has_path (index.files ++ arrivals) path ≡ true =
-    λ path h. ap (λ (l : List (List ℕ)). has_text l path) (paths-append index.files arrivals) ∙ (has_text-append (paths_of index.files) (paths_of arrivals) path
-    ∙ ap (λ b. b || has_text (paths_of arrivals) path) (sym (has_text-in_order (paths_of index.files) path) ∙ h)) in
-    let drops_fit : FitChanges (index.files ++ arrivals) (map drop_of (gone index.files listed)) = fit-drops (index.files ++ arrivals) (gone index.files listed)
-    (apart-filter (λ path. not (has_text listed path)) paths (apart-rising paths known_rising))
-    (every-filter _ (λ path. not (has_text listed path)) paths (every-map (λ path. has_text paths path ≡ true) (λ path. has_path (index.files ++ arrivals) path ≡ true) paths there (every-in paths))) in
-    fit-append index (commit_of adds) (commit_of (map drop_of (gone index.files listed))) (fit-commit index adds adds_fit)
-    (fit-commit (folded index (commit_of adds)) (map drop_of (gone index.files listed))
-    (subst (λ (files : List (List ℕ × Facts)). FitChanges files (map drop_of (gone index.files listed))) (sym (commit_of-files index adds ∙ fold-adds index.files arrivals)) drops_fit))
+-- the mails that were read are arrivals
+pub are-arrivals : (files : List (List ℕ × Facts)) (listed : List (List ℕ)) (arrivals : List (List ℕ × Facts)) (reads : List (List ℕ × ReadAnswer))
+    → IsRising listed → map (λ read. read.0) reads ≡ to_read files listed → paths_of arrivals ≡ flat_map mail_in reads → AllByRecursion (λ arrival. IsDate arrival.1.date) arrivals → AreArrivals files arrivals
+are-arrivals files listed arrivals reads rising each mails dated =
+    let once : IsDistinct same_text (map (λ read. read.0) reads) = subst (IsDistinct same_text) (sym each) (distinct-filter (λ path. not (has_path files path)) listed (distinct-rising listed rising)) in
+    let fresh : AllByRecursion (λ path. has_path files path ≡ false) (map (λ read. read.0) reads) =
+    subst (AllByRecursion (λ path. has_path files path ≡ false)) (sym each)
+    (every-map (λ path. not (has_path files path) ≡ true) (λ path. has_path files path ≡ false) (to_read files listed) (λ path h. not-true (has_path files path) h) (every-kept (λ path. not (has_path files path)) listed)) in
+    record {
+      once = subst (IsDistinct same_text) (sym mails) (distinct-mail reads once);
+      fresh = subst (AllByRecursion (λ path. has_path files path ≡ false)) (sym mails) (every-mail _ reads fresh);
+      dated = dated;
+    }

@@ -8,8 +8,8 @@ use Rattle.nm_base.specs.declared.facts.FieldWords.{FieldWords}
 use Rattle.nm_answer.specs.Count.{count_text, has_subject_word, ids_of, is_subject, wanted_word, with_subject_word}
 use Rattle.nm_commit.specs.Files.{paths_of}
 use Rattle.nm_top.specs.Lean.{is_subject_list, lean, lean_facts}
-use Rattle.nm_top.specs.NewLine.{only_in}
-use Rattle.nm_top.specs.Reading.{to_read}
+use Rattle.nm_answer.specs.NewText.{only_in}
+use Rattle.nm_plan.specs.Plan.{to_read}
 use Rattle.nm_top.specs.Steps.{is_gone, kept}
 
 pub paths-lean : (files : List (List ℕ × Facts)) → paths_of (map lean files) ≡ paths_of files

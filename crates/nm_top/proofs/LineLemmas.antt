@@ -5,10 +5,10 @@ use Rattle.nm_base.specs.declared.memory.NoMemory.{NoMemory}
 use Rattle.nm_base.specs.declared.facts.Facts.{Facts}
 use Rattle.nm_base.specs.declared.refusals.UsageKind.{UsageKind}
 use Rattle.nm_base.specs.declared.asks.CountAsk.{CountAsk}
-use Rattle.nm_core.specs.declared.request.Request.TheVariants as requests
+use Rattle.nm_answer.specs.declared.request.Request.TheVariants as requests
 use Rattle.nm_answer.specs.Count.{count_text}
-use Rattle.nm_commit.specs.Files.{Index}
-use Rattle.nm_core.specs.declared.step.Step.{Step}
+use Rattle.nm_index.specs.declared.base.Base.{Base}
+use Rattle.nm_machine.specs.declared.step.Step.{Step}
 use Rattle.nm_log.specs.ParsedLine.{parse_line}
 use Rattle.nm_log.specs.Replies.{usage_line}
 use Rattle.nm_log.specs.declared.line_parser.ParsedLine.TheVariants as asked
@@ -28,7 +28,7 @@ use Rattle.nm_top.proofs.LeanLemmas.{count-lean}
 abbrev pub without_memory : List ℕ → LineResult
 without_memory spare = record { outcome = outcomes.NoMemory; text = spare; steps = [] }
 
-pub line_answer : (mail new_mail : ObservedMail) (held new_held : PlainIndex) (old : Index) (line seen : List ℕ) (noted : List Given) (spare : List ℕ) (result : Result LineResult NoMemory) (done : LineResult)
+pub line_answer : (mail new_mail : ObservedMail) (held new_held : PlainIndex) (old : Base) (line seen : List ℕ) (noted : List Given) (spare : List ℕ) (result : Result LineResult NoMemory) (done : LineResult)
     → Represents held old → seen ≡ line → MatchResult result (λ got. done ≡ got) (λ error. done ≡ without_memory spare) → spare ≡ codes "notmuch: no memory\n" → OnErr result (new_held ≡ held)
     → IfOk result (λ got. Leaves new_held (λ new. IsLineAnswer (state_with mail old) seen noted got (state_with new_mail new)))
     → Leaves new_held (λ new. IsLineAnswer (state_with mail old) line noted done (state_with new_mail new))
@@ -51,7 +51,7 @@ new_outcome (outcomes.Usage word kind) old new line noted text taken is h = absu
 new_outcome outcomes.MailFault old new line noted text taken is h = (is, h.0, h.1, h.2, h.3)
 new_outcome outcomes.NoMemory old new line noted text taken is h = absurd h
 
-pub new_line : (mail new_mail : ObservedMail) (new_held : PlainIndex) (old : Index) (line : List ℕ) (noted : List Given) (result : Result LineResult NoMemory) → parse_line line ≡ asked.Request requests.New
+pub new_line : (mail new_mail : ObservedMail) (new_held : PlainIndex) (old : Base) (line : List ℕ) (noted : List Given) (result : Result LineResult NoMemory) → parse_line line ≡ asked.Request requests.New
     → IfOk result (λ done. Leaves new_held (λ new. IsNewAnswer (state_with mail old) noted done (state_with new_mail new)))
     → IfOk result (λ done. Leaves new_held (λ new. IsLineAnswer (state_with mail old) line noted done (state_with new_mail new)))
 new_line mail new_mail new_held old line noted (Ok done) is h = record {
@@ -62,7 +62,7 @@ new_line mail new_mail new_held old line noted (Ok done) is h = record {
 new_line mail new_mail new_held old line noted (Err error) is h = tt
 
 -- a count over what is held is the answer to its line
-pub count_line : (mail : ObservedMail) (held : PlainIndex) (old : Index) (line : List ℕ) (noted : List Given) (files : List (List ℕ × Facts)) (ask : CountAsk) (result : Result LineResult NoMemory) → Represents held old → files ≡ held.files → noted ≡ [] → parse_line line ≡ asked.Request (requests.Count ask)
+pub count_line : (mail : ObservedMail) (held : PlainIndex) (old : Base) (line : List ℕ) (noted : List Given) (files : List (List ℕ × Facts)) (ask : CountAsk) (result : Result LineResult NoMemory) → Represents held old → files ≡ held.files → noted ≡ [] → parse_line line ≡ asked.Request (requests.Count ask)
     → IfOk result (λ done. done.outcome ≡ outcomes.Ok) → IfOk result (λ done. done.text ≡ count_text ask.query files) → IfOk result (λ done. done.steps ≡ reply_steps [] (requests.Count ask) done.text)
     → IfOk result (λ done. Leaves held (λ new. IsLineAnswer (state_with mail old) line noted done (state_with mail new)))
 count_line mail held old line noted files ask (Ok done) s same none is outcome text steps = record {
@@ -74,7 +74,7 @@ count_line mail held old line noted files ask (Ok done) s same none is outcome t
 count_line mail held old line noted files ask (Err error) s same none is outcome text steps = tt
 
 -- a refused line leaves the index as it was
-pub refused_line : (mail : ObservedMail) (held : PlainIndex) (old : Index) (line : List ℕ) (noted : List Given) (word : List ℕ) (kind : UsageKind) (result : Result LineResult NoMemory) → Represents held old → noted ≡ [] → parse_line line ≡ asked.Usage word kind
+pub refused_line : (mail : ObservedMail) (held : PlainIndex) (old : Base) (line : List ℕ) (noted : List Given) (word : List ℕ) (kind : UsageKind) (result : Result LineResult NoMemory) → Represents held old → noted ≡ [] → parse_line line ≡ asked.Usage word kind
     → IfOk result (λ done. done ≡ record { outcome = outcomes.Usage word kind; text = usage_line kind word; steps = [] })
     → IfOk result (λ done. Leaves held (λ new. IsLineAnswer (state_with mail old) line noted done (state_with mail new)))
 refused_line mail held old line noted word kind (Ok done) s none is h = record {

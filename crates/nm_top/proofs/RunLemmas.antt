@@ -1,7 +1,7 @@
 -- A run goes on by one line.
 use Rattle.std.proofs.Common.{◌≡◌, ℕ, ◌+◌, ◌<◌, ◌≤◌, List, [], ◌∷◌, ◌++◌, length, take, get_or, refl, sym, ap, ◌∙◌, subst, append-nil, append_assoc}
 use Rattle.std.proofs.lemmas.List.{take_all, take_more}
-use Rattle.nm_core.specs.declared.step.Step.{Step}
+use Rattle.nm_machine.specs.declared.step.Step.{Step}
 use Rattle.nm_log.specs.declared.log.LineLog.{LineLog}
 use Rattle.nm_log.specs.declared.script.ScriptLine.{ScriptLine}
 use Rattle.nm_top.specs.Line.{IsLineResult, Runs}

@@ -2,16 +2,16 @@
 use Rattle.std.proofs.Common.{◌≡◌, ℕ, ◌+◌, Bool, true, false, not, cond, List, [], ◌∷◌, ◌++◌, length, map, filter, refl, sym, ap, ◌∙◌, ◌==◌, append-nil, suc, arith}
 use Rattle.nm_base.specs.Order.{has_text}
 use Rattle.nm_base.specs.declared.facts.Facts.{Facts}
-use Rattle.nm_core.specs.declared.request.Request.TheVariants as requests
+use Rattle.nm_answer.specs.declared.request.Request.TheVariants as requests
 use Rattle.nm_answer.specs.Count.{ids_of}
-use Rattle.nm_log.specs.Replies.{new_text}
+use Rattle.nm_answer.specs.NewText.{new_text, only_in, skip_given}
 use Rattle.nm_log.specs.declared.outcome.Outcome.TheVariants as outcomes
-use Rattle.nm_log.specs.declared.replies.NewReport.{NewReport}
+use Rattle.nm_answer.specs.declared.report.NewReport.{NewReport}
 use Rattle.nm_maildir.specs.declared.given.Given.{Given}
 use Rattle.nm_top.specs.Lean.{lean}
 use Rattle.nm_top.specs.Line.{reply_steps}
-use Rattle.nm_top.specs.NewLine.{commit_of, drop_of, only_in}
-use Rattle.nm_top.specs.Steps.{AppliesScan, commits_for, commits_with, gone_of, is_gone, kept, report_with, skip_given, unchanged_report}
+use Rattle.nm_plan.specs.Plan.{commit_of, drop_of}
+use Rattle.nm_top.specs.Steps.{AppliesScan, commits_for, commits_with, gone_of, is_gone, kept, report_with, unchanged_report}
 use Rattle.nm_top.specs.declared.index.PlainIndex.{PlainIndex}
 use Rattle.nm_top.specs.declared.steps.LineResult.{LineResult}
 use Rattle.nm_top.proofs.FitLemmas.{every-in, every-map}

@@ -3,7 +3,7 @@ use Rattle.std.specs.Prelude.{◌≡◌, ℕ, Bool, List, [], filter, map}
 use Rattle.nm_base.specs.declared.facts.Facts.{Facts}
 use Rattle.nm_base.specs.declared.facts.FieldWords.{FieldWords}
 use Rattle.nm_answer.specs.Count.{is_subject}
-use Rattle.nm_commit.specs.Files.{Index}
+use Rattle.nm_index.specs.declared.base.Base.{Base}
 use Rattle.nm_top.specs.declared.index.PlainIndex.{PlainIndex}
 
 abbrev pub is_subject_list : FieldWords → Bool
@@ -27,6 +27,6 @@ abbrev pub lean : List ℕ × Facts → List ℕ × Facts
 lean file = (file.0, lean_facts file.1)
 
 -- what is held stands for this index
-pub record Represents (held : PlainIndex) (index : Index) : Type 0 where
+pub record Represents (held : PlainIndex) (index : Base) : Type 0 where
   pub files : held.files ≡ map lean index.files
   pub revision : held.revision ≡ index.revision

@@ -3,12 +3,12 @@ use Rattle.std.specs.Prelude.{◌≡◌, ◌⊎◌, ℕ, ◌≤◌, List, [], �
 use Rattle.std.specs.List.{flat_map}
 use Rattle.nm_faults.specs.Faults.{HasRisen}
 use Rattle.nm_base.specs.declared.facts.Facts.{Facts}
-use Rattle.nm_core.specs.declared.request.Request.{Request}
-use Rattle.nm_core.specs.declared.request.Request.TheVariants as requests
+use Rattle.nm_answer.specs.declared.request.Request.{Request}
+use Rattle.nm_answer.specs.declared.request.Request.TheVariants as requests
 use Rattle.nm_answer.specs.Count.{count_text}
 use Rattle.nm_commit.specs.declared.change.Commit.{Commit}
-use Rattle.nm_core.specs.declared.step.Step.{Step}
-use Rattle.nm_core.specs.declared.step.Step.TheVariants as steps
+use Rattle.nm_machine.specs.declared.step.Step.{Step}
+use Rattle.nm_machine.specs.declared.step.Step.TheVariants as steps
 use Rattle.nm_maildir.specs.declared.given.Given.{Given}
 use Rattle.nm_maildir.specs.declared.given.Given.TheVariants as given
 use Rattle.nm_log.specs.ParsedLine.{parse_line}
@@ -21,7 +21,8 @@ use Rattle.nm_log.specs.declared.outcome.Outcome.TheVariants as outcomes
 use Rattle.nm_log.specs.declared.script.ScriptLine.{ScriptLine}
 use Rattle.nm_maildir.specs.Observed.{ObservedMail}
 use Rattle.nm_top.specs.NewLine.{IsNew}
-use Rattle.nm_top.specs.Reading.{IsListing, ReadsFirst, to_read}
+use Rattle.nm_plan.specs.Plan.{to_read}
+use Rattle.nm_top.specs.Reading.{IsListing, ReadsFirst}
 use Rattle.nm_top.specs.State.{State}
 
 -- The reply to a request, and the commits that it makes: a count answers on the index as it is and asks the mail folder nothing.

@@ -8,9 +8,9 @@ use Rattle.nm_base.specs.MailPath.{is_mail_path}
 use Rattle.nm_base.specs.Order.{in_order}
 use Rattle.nm_base.specs.declared.facts.Facts.{Facts}
 use Rattle.nm_base.specs.declared.refusals.Skip.{Skip}
-use Rattle.nm_base.specs.declared.refusals.Skip.TheVariants as skips
 use Rattle.nm_base.specs.Limits.{IsDate, max_mail_bytes}
-use Rattle.nm_commit.specs.Files.{has_path, paths_of}
+use Rattle.nm_answer.specs.NewText.{mail_at, skip_at}
+use Rattle.nm_commit.specs.Files.{paths_of}
 use Rattle.nm_extract.specs.Mail.{facts_of}
 use Rattle.nm_maildir.specs.Tree.{Tree, listing_of, got_of}
 use Rattle.nm_maildir.specs.declared.answers.Got.{Got}
@@ -45,10 +45,6 @@ pub record IsListing (tree : Option Tree) (listed : List (List ℕ)) : Type 0 wh
   pub rising : IsRising listed
   pub told : IfSome tree (λ t. listed ≡ listed_of t)
 
--- the listed paths that the index lacks
-abbrev pub to_read : List (List ℕ × Facts) → List (List ℕ) → List (List ℕ)
-to_read files listed = filter (λ path. not (has_path files path)) listed
-
 -- what a read tells of a file
 abbrev pub answer_of : Got → ReadAnswer
 answer_of (got.Found bytes) = if is_some (facts_of bytes) then answers.Mail else answers.NotMail
@@ -80,26 +76,11 @@ answers_at tree paths = map (λ path. (path, answer_at tree path)) paths
 abbrev pub read_of : List ℕ × ReadAnswer → Given
 read_of read = given.Read read.0 read.1
 
--- the path, where the answer is that mail lies there
-abbrev pub mail_at : List ℕ → ReadAnswer → List (List ℕ)
-mail_at path answers.Mail = path ∷ []
-mail_at path answers.NotMail = []
-mail_at path answers.Missing = []
-mail_at path answers.TooLong = []
-mail_at path (answers.Body bytes) = []
-
 -- the path of a read that found mail
 abbrev pub mail_in : List ℕ × ReadAnswer → List (List ℕ)
 mail_in read = mail_at read.0 read.1
 
 -- why a file that was read is passed over
-abbrev pub skip_at : List ℕ → ReadAnswer → List (List ℕ × Skip)
-skip_at path answers.Mail = []
-skip_at path answers.NotMail = (path, skips.NotMail) ∷ []
-skip_at path answers.Missing = (path, skips.Missing) ∷ []
-skip_at path answers.TooLong = (path, skips.TooLong) ∷ []
-skip_at path (answers.Body bytes) = []
-
 abbrev pub skip_in : List ℕ × ReadAnswer → List (List ℕ × Skip)
 skip_in read = skip_at read.0 read.1
 

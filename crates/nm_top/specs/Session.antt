@@ -1,6 +1,6 @@
 -- What the top call does: how it may end, and what each ending leaves and says.
 use Rattle.nm_base.specs.Limits.{max_input_bytes, max_lines}
-use Rattle.std.specs.Prelude.{◌≡◌, ℕ, ◌<◌, ◌≤◌, ◌==◌, Bool, true, false, not, List, [], ◌∷◌, ◌++◌, length, take, codes, Option, None, Some, IfSome, if◌then◌else◌}
+use Rattle.std.specs.Prelude.{◌≡◌, ℕ, ℤ, ◌<◌, ◌≤◌, ◌==◌, Bool, true, false, not, List, [], ◌∷◌, ◌++◌, length, take, codes, Option, None, Some, IfSome, if◌then◌else◌}
 use Rattle.std.specs.List.{list_any}
 use Rattle.std.specs.Io.KnownBytes.{Appends, Consumes, IsAtEnd}
 use Rattle.std.specs.Str.Lines.{lines}
@@ -8,10 +8,11 @@ use Rattle.nm_faults.specs.Faults.{HasRisen}
 use Rattle.nm_base.specs.Order.{same_text}
 use Rattle.nm_base.specs.declared.refusals.UsageKind.{UsageKind}
 use Rattle.nm_base.specs.declared.refusals.UsageKind.TheVariants as kinds
-use Rattle.nm_commit.specs.Files.{Index, empty_index, folded}
-use Rattle.nm_core.specs.Machine as machine
-use Rattle.nm_core.specs.Machine.{Machine}
-use Rattle.nm_core.specs.declared.step.Step.{Step}
+use Rattle.nm_index.specs.Index.{empty_index, folded}
+use Rattle.nm_index.specs.declared.base.Base.{Base}
+use Rattle.nm_machine.specs.Machine as machine
+use Rattle.nm_machine.specs.Machine.{Machine}
+use Rattle.nm_machine.specs.declared.step.Step.{Step}
 use Rattle.nm_log.specs.Replies.{printed, usage_line}
 use Rattle.nm_log.specs.Script.{script_lines}
 use Rattle.nm_log.specs.declared.log.Done.{Done}
@@ -88,13 +89,13 @@ final_message whole out_failed =
 abbrev pub lane_count : ℕ
 lane_count = 16
 
--- The steps are a run of the machine of commits and replies, from the empty index to this one.
-abbrev pub IsMachineRun : List Step → Index → Type 0
-IsMachineRun steps index =
-    (last : Machine) × machine.Runs (machine.start empty_index lane_count) steps last × (folded empty_index last.commits ≡ index)
+-- The steps are a run of the machine of commits and replies at this moment, from the empty index to this one.
+abbrev pub IsMachineRun : ℤ → List Step → Base → Type 0
+IsMachineRun moment steps index =
+    (last : Machine) × machine.Runs moment (machine.start empty_index lane_count) steps last × (folded empty_index last.commits ≡ index)
 
 -- The lines were run in their order, all of them or, for want of memory, the first, but not the last; then their replies were printed.
-pub record IsRun (script : List ScriptLine) (old_mail new_mail : ObservedMail) (old_out new_out old_err new_err : ObservedStream) (done : Done) : Type 0 where
+pub record IsRun (moment : ℤ) (script : List ScriptLine) (old_mail new_mail : ObservedMail) (old_out new_out old_err new_err : ObservedStream) (done : Done) : Type 0 where
   pub ran : List ScriptLine
   pub unrun : List ScriptLine
   pub whole : Bool
@@ -103,7 +104,7 @@ pub record IsRun (script : List ScriptLine) (old_mail new_mail : ObservedMail) (
   pub lines : script ≡ ran ++ unrun
   pub all : whole ≡ (length unrun == 0)
   pub run : Runs (opening_state old_mail) ran done.log.lines done.log.steps last
-  pub machine : IsMachineRun done.log.steps last.index
+  pub machine : IsMachineRun moment done.log.steps last.index
   pub mail : new_mail ≡ last.mail
   pub out : StreamAppends out_failed old_out new_out (printed done.log.lines)
   pub status : done.status ≡ session_status whole done.log.lines out_failed
@@ -135,18 +136,18 @@ pub data Ending : Type 0 where
   Ran : Ending
 
 -- What each ending means. Every ending but a run has its cause; want of memory alone is free.
-abbrev pub Ends : Ending → List ℕ → List (List ℕ) → Devices → Devices → Done → Type 0
-Ends ArgsRefused script words old new done =
+abbrev pub Ends : ℤ → Ending → List ℕ → List (List ℕ) → Devices → Devices → Done → Type 0
+Ends moment ArgsRefused script words old new done =
     (fault : UsageKind × List ℕ) × (args_fault words ≡ Some fault) × (new.input ≡ old.input) × IsRefused old new done 2 (usage_line fault.0 fault.1)
-Ends ReadFailed script words old new done =
+Ends moment ReadFailed script words old new done =
     (args_fault words ≡ None) × HasRisen old.input.faults new.input.faults × IsRefused old new done 5 (codes "notmuch: read fault\n")
-Ends InputTooLong script words old new done =
+Ends moment InputTooLong script words old new done =
     (args_fault words ≡ None) × (new.input.faults ≡ old.input.faults) × IfSome old.input.bytes (λ bytes. max_input_bytes < length bytes)
     × IsRefused old new done 9 (codes "notmuch: limit: inputbytes\n")
-Ends TooManyLines script words old new done =
+Ends moment TooManyLines script words old new done =
     (args_fault words ≡ None) × IsRead script old.input new.input × (max_lines < length (lines script)) × IsRefused old new done 9 (codes "notmuch: limit: lines\n")
-Ends MemoryWanted script words old new done =
+Ends moment MemoryWanted script words old new done =
     (args_fault words ≡ None) × (new.input.faults ≡ old.input.faults) × IsRefused old new done 7 (codes "notmuch: no memory\n")
-Ends Ran script words old new done =
+Ends moment Ran script words old new done =
     (args_fault words ≡ None) × IsRead script old.input new.input × (length (lines script) ≤ max_lines)
-    × IsRun (script_lines script) old.mail new.mail old.out new.out old.err new.err done
+    × IsRun moment (script_lines script) old.mail new.mail old.out new.out old.err new.err done

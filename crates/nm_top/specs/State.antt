@@ -1,7 +1,7 @@
 -- What a line of a session begins with and leaves.
 use Rattle.std.specs.Prelude.{ℕ, List, ◌++◌, Option}
 use Rattle.std.specs.Option.{option_map}
-use Rattle.nm_commit.specs.Files.{Index}
+use Rattle.nm_index.specs.declared.base.Base.{Base}
 use Rattle.nm_maildir.specs.Observed.{ObservedMail}
 
 -- the paths read so far, and these
@@ -14,8 +14,8 @@ after_reads mail paths = record { tree = mail.tree; reads = read_with mail.reads
 
 -- the index, and what is observed of the mail folder
 pub record State : Type 0 where
-  pub index : Index
+  pub index : Base
   pub mail : ObservedMail
 
-abbrev pub state_with : ObservedMail → Index → State
+abbrev pub state_with : ObservedMail → Base → State
 state_with folder known = record { index = known; mail = folder }

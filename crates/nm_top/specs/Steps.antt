@@ -2,18 +2,20 @@
 use Rattle.std.specs.Prelude.{◌≡◌, ℕ, ◌+◌, Bool, ◌&&◌, ◌==◌, not, List, [], ◌∷◌, ◌++◌, length, map, filter, Option, None, IfSome, if◌then◌else◌}
 use Rattle.std.specs.List.{flat_map}
 use Rattle.nm_base.specs.declared.facts.Facts.{Facts}
-use Rattle.nm_base.specs.declared.refusals.Skip.{Skip}
 use Rattle.nm_base.specs.Order.{has_text, in_order}
-use Rattle.nm_core.specs.declared.request.Request.TheVariants as requests
+use Rattle.nm_answer.specs.declared.request.Request.TheVariants as requests
 use Rattle.nm_base.specs.Limits.{IsDate}
-use Rattle.nm_commit.specs.Files.{Index, paths_of}
+use Rattle.nm_answer.specs.NewText.{new_text, only_in, skip_given}
+use Rattle.nm_commit.specs.Files.{paths_of}
+use Rattle.nm_index.specs.declared.base.Base.{Base}
+use Rattle.nm_plan.specs.Plan.{add_of, commit_of, drop_of, to_read}
 use Rattle.nm_commit.specs.declared.change.Commit.{Commit}
-use Rattle.nm_core.specs.declared.step.Step.{Step}
+use Rattle.nm_machine.specs.declared.step.Step.{Step}
 use Rattle.nm_faults.specs.Faults.{HasRisen}
-use Rattle.nm_log.specs.Replies.{new_text, refusal_line}
+use Rattle.nm_log.specs.Replies.{refusal_line}
 use Rattle.nm_log.specs.declared.outcome.Outcome.{Outcome}
 use Rattle.nm_log.specs.declared.outcome.Outcome.TheVariants as outcomes
-use Rattle.nm_log.specs.declared.replies.NewReport.{NewReport}
+use Rattle.nm_answer.specs.declared.report.NewReport.{NewReport}
 use Rattle.nm_maildir.specs.declared.answers.Got.{Got}
 use Rattle.nm_maildir.specs.declared.answers.Got.TheVariants as got
 use Rattle.nm_maildir.specs.declared.given.Given.{Given}
@@ -23,9 +25,9 @@ use Rattle.nm_extract.specs.Mail.{facts_of}
 use Rattle.nm_maildir.specs.Observed.{ObservedMail}
 use Rattle.nm_top.specs.Lean.{Represents, lean}
 use Rattle.nm_top.specs.Line.{IsAnswer, reply_steps}
-use Rattle.nm_top.specs.NewLine.{IsNew, add_of, commit_of, drop_of, only_in}
+use Rattle.nm_top.specs.NewLine.{IsNew}
 use Rattle.nm_top.specs.State.{State, after_reads}
-use Rattle.nm_top.specs.Reading.{IsListing, IsRising, Reads, ReadsFirst, answer_of, skip_at, to_read}
+use Rattle.nm_top.specs.Reading.{IsListing, IsRising, Reads, ReadsFirst, answer_of}
 use Rattle.nm_top.specs.declared.index.PlainIndex.{PlainIndex}
 use Rattle.nm_top.specs.declared.steps.LineResult.{LineResult}
 
@@ -70,12 +72,6 @@ gone_of known listed = filter (λ path. not (has_text listed path)) known
 -- a commit where there is something to commit
 abbrev pub commits_for : ℕ → ℕ
 commits_for changes = if changes == 0 then 0 else 1
-
--- why what is noted was passed over
-abbrev pub skip_given : Given → List (List ℕ × Skip)
-skip_given (given.Listed paths) = []
-skip_given (given.Read path answer) = skip_at path answer
-skip_given (given.Renamed from to answer) = []
 
 abbrev pub report_with : List (List ℕ) → List (List ℕ) → List (List ℕ × Facts) → List (List ℕ × Facts) → List (List ℕ × Facts) → List Given → NewReport
 report_with known listed before after arrivals noted = record {
@@ -129,8 +125,8 @@ abbrev pub IsLineAnswer : State → List ℕ → List Given → LineResult → S
 IsLineAnswer old line noted done new = IsAnswer done.outcome old line noted done.text done.steps new
 
 -- the index that is held afterwards stands for one with which this holds
-pub record Leaves (held : PlainIndex) (P : Index → Type 0) : Type 0 where
-  pub index : Index
+pub record Leaves (held : PlainIndex) (P : Base → Type 0) : Type 0 where
+  pub index : Base
   pub stands : Represents held index
   pub holds : P index
 

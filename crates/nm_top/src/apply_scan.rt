@@ -2,19 +2,18 @@
 
 ghost use Rattle.std.specs.Prelude.{◌≡◌, ◌+◌, ◌<◌, ◌≤◌, ◌++◌, IfOk, OnOk, OnErr, ◌^◌, ◌∷◌, [], length, map};
 ghost use Rattle.std.specs.List.{flat_map};
-ghost use Rattle.nm_log.specs.Replies.{new_text};
+ghost use Rattle.nm_answer.specs.NewText.{new_text, skip_at, skip_given};
 ghost use Rattle.nm_top.specs.Lean.{lean};
 ghost use Rattle.nm_top.specs.Line.{reply_steps};
-ghost use Rattle.nm_top.specs.Reading.{skip_at};
-ghost use Rattle.nm_top.specs.Steps.{AppliesScan, commits_for, gone_of, is_gone, kept, max_steps, report_with, skip_given, unchanged_report};
+ghost use Rattle.nm_top.specs.Steps.{AppliesScan, commits_for, gone_of, is_gone, kept, max_steps, report_with, unchanged_report};
 
 use crate::index::{Mail, PlainIndex, id_set};
 use crate::lean::lean_mails;
 use crate::sets::{ids_not_in, paths_missing, paths_not_in};
 use crate::steps::{LineResult, new_steps, reply_step};
 use nm_base::{Copies, MailPath, Many, NoMemory, Skip, TextSet};
-use nm_core::Request;
-use nm_log::{NewReport, Outcome, new_reply};
+use nm_answer::{NewReport, Request};
+use nm_log::{Outcome, new_reply};
 use nm_maildir::{Given, ReadAnswer};
 use std::alloc::Global;
 

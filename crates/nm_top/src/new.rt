@@ -1,7 +1,7 @@
 //! The command `new`: lists, reads, takes in; the session calls it.
 
 ghost use Rattle.std.specs.Prelude.{◌≡◌, ◌+◌, ◌<◌, ◌≤◌, ◌^◌, [], IfOk, OnErr, OnOk, ◌++◌, ◌∷◌, length};
-ghost use Rattle.nm_commit.specs.Files.{Index};
+ghost use Rattle.nm_index.specs.declared.base.Base.{Base};
 ghost use Rattle.nm_maildir.specs.Observed.{HasMailCause};
 ghost use Rattle.nm_top.specs.Lean.{Represents};
 ghost use Rattle.nm_top.specs.Line.{AsksNew};
@@ -17,7 +17,9 @@ use crate::sets::paths_not_in;
 use crate::steps::LineResult;
 use nm_base::{MailPath, Many, NoMemory, TextSet};
 use nm_log::Outcome;
+use nm_index::the_revision_counts_the_commits;
 use nm_maildir::{Given, MailError, Maildir};
+use nm_plan::{new_commits_fit, the_files_after_new};
 use std::alloc::Global;
 
 /// Takes in what has come and lets go what is gone, and gives the answer.
@@ -29,7 +31,7 @@ pub(crate) fn run_new<M: Maildir>(
 ) -> Result<LineResult, NoMemory>
     requires room { index.old.revision + 2 < 2 ^ 64 }
     requires fresh { noted.old ≡ [] }
-    ensures ok { (old : Index) → Represents index.old old → IfOk result (λ done. Leaves index.new (λ new. IsNewAnswer
+    ensures ok { (old : Base) → Represents index.old old → IfOk result (λ done. Leaves index.new (λ new. IsNewAnswer
         (state_with (M.observed mail.old) old) noted.new done
         (state_with (M.observed mail.new) new))) }
     ensures few { IfOk result (λ done. length done.steps ≤ max_steps) }
@@ -40,7 +42,12 @@ pub(crate) fn run_new<M: Maildir>(
     ensures never_falls { (M.observed mail.old).faults ≤ (M.observed mail.new).faults }
 {
     match scan(alloc, index.files.as_slice(), mail, noted) {
-        Ok(scanned) => apply_scan(alloc, index, scanned, noted.as_slice()),
+        Ok(scanned) => {
+            new_commits_fit();
+            the_files_after_new();
+            the_revision_counts_the_commits();
+            apply_scan(alloc, index, scanned, noted.as_slice())
+        }
         Err(MailError::Failed) => {
             let text = Many::from_slice(alloc, b"notmuch: mail fault\n")?;
             Ok(LineResult {

@@ -4,7 +4,7 @@ ghost use Rattle.std.specs.Prelude.{◌≡◌, ◌+◌, ◌<◌, ◌≤◌, ◌^
 ghost use Rattle.nm_log.specs.ParsedLine.{parse_line};
 ghost use Rattle.nm_log.specs.Replies.{usage_line};
 ghost use Rattle.nm_answer.specs.Count.{count_text};
-ghost use Rattle.nm_commit.specs.Files.{Index};
+ghost use Rattle.nm_index.specs.declared.base.Base.{Base};
 ghost use Rattle.nm_top.specs.Lean.{Represents};
 ghost use Rattle.nm_top.specs.Line.{IsLineResult, AsksMail, reply_steps};
 ghost use Rattle.nm_top.specs.RunLog.{HasRunLines};
@@ -15,7 +15,9 @@ use crate::index::{Mail, PlainIndex};
 use crate::new::run_new;
 use crate::steps::{LineResult, reply_step};
 use nm_base::{CountAsk, Many, NoMemory, Room, Text, UsageKind};
-use nm_core::{Request, Step, count_text};
+use nm_answer::Request;
+use nm_core::count_text;
+use nm_machine::Step;
 use nm_log::{LineLog, Outcome, ParsedLine, ScriptLine, line_status, parse_line, usage_text};
 use nm_maildir::{Given, Maildir};
 use std::alloc::Global;
@@ -99,7 +101,7 @@ fn run_line<M: Maildir>(
 ) -> (LineLog, Many<Step>)
     requires room { index.old.revision + 2 < 2 ^ 64 }
     requires spare { spare ≡ codes "notmuch: no memory\n" }
-    ensures answers { (old : Index) → Represents index.old old → Leaves index.new (λ new.
+    ensures answers { (old : Base) → Represents index.old old → Leaves index.new (λ new.
         IsLineResult (state_with (M.observed mail.old) old) line.now result.0 result.1
         (state_with (M.observed mail.new) new)) }
     ensures few { length result.1 ≤ max_steps }
@@ -150,7 +152,7 @@ fn answer<M: Maildir>(
 ) -> Result<LineResult, NoMemory>
     requires room { index.old.revision + 2 < 2 ^ 64 }
     requires fresh { given.old ≡ [] }
-    ensures ok { (old : Index) → Represents index.old old → IfOk result (λ done. Leaves index.new (λ new. IsLineAnswer
+    ensures ok { (old : Base) → Represents index.old old → IfOk result (λ done. Leaves index.new (λ new. IsLineAnswer
         (state_with (M.observed mail.old) old) line.now given.new done
         (state_with (M.observed mail.new) new))) }
     ensures few { IfOk result (λ done. length done.steps ≤ max_steps) }

@@ -3,13 +3,14 @@
 ghost use Rattle.std.specs.Prelude.{◌≡◌, ◌+◌, ◌≤◌, ◌++◌, ◌∷◌, [], IfOk, OnOk, length, map};
 ghost use Rattle.std.specs.List.{flat_map};
 ghost use Rattle.nm_top.specs.Line.{commit_steps, reply_steps};
-ghost use Rattle.nm_top.specs.NewLine.{add_of, commit_of, drop_of};
+ghost use Rattle.nm_plan.specs.Plan.{add_of, commit_of, drop_of};
 ghost use Rattle.nm_top.specs.Steps.{max_steps};
 
 use crate::index::Mail;
 use nm_base::{Copies, MailPath, Many, NoMemory};
 use nm_commit::{Change, Commit};
-use nm_core::{Request, Step};
+use nm_answer::Request;
+use nm_machine::Step;
 use nm_log::Outcome;
 use std::alloc::Global;
 

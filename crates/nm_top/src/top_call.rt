@@ -31,7 +31,7 @@ pub fn notmuch<M: Maildir, I: Source, O: Sink, E: Sink>(
     requires few_workers { setting.now.workers ≤ 16 }
     requires from_1970 { pos 0 ≤ℤ setting.now.moment }
     requires moment { setting.now.moment ≤ℤ pos 253000000000 }
-    ensures history { (ending : Ending) × (script : List ℕ) × Ends ending script words.now
+    ensures history { (ending : Ending) × (script : List ℕ) × Ends setting.now.moment ending script words.now
         (devices (M.observed mail.old) (I.observed input.old)
         (O.observed out.old) (E.observed err.old))
         (devices (M.observed mail.new) (I.observed input.new)
@@ -46,7 +46,7 @@ pub fn notmuch<M: Maildir, I: Source, O: Sink, E: Sink>(
 {
     match fault_of(words) {
         Some((kind, word)) => refuse_args(alloc, err, kind, word),
-        None => read_and_run(alloc, mail, input, out, err),
+        None => read_and_run(alloc, setting, mail, input, out, err),
     }
 }
 
@@ -81,12 +81,13 @@ fn extra_fault<'a>(word: &'a str, other: &'a str) -> Option<(UsageKind, &'a str)
 
 fn read_and_run<M: Maildir, I: Source, O: Sink, E: Sink>(
     alloc: Global,
+    setting: &Setting,
     mail: &mut M,
     input: &mut I,
     out: &mut O,
     err: &mut E,
 ) -> Done
-    ensures { (words : List (List ℕ)) → args_fault words ≡ None → (ending : Ending) × (script : List ℕ) × Ends ending script words
+    ensures { (words : List (List ℕ)) → args_fault words ≡ None → (ending : Ending) × (script : List ℕ) × Ends setting.now.moment ending script words
         (devices (M.observed mail.old) (I.observed input.old)
         (O.observed out.old) (E.observed err.old))
         (devices (M.observed mail.new) (I.observed input.new)
@@ -94,7 +95,7 @@ fn read_and_run<M: Maildir, I: Source, O: Sink, E: Sink>(
 {
     match take_all(alloc, input, MAX_INPUT) {
         Ok(bytes) => match read_script(alloc, bytes.as_slice()) {
-            Ok(script) => run_script(alloc, script.as_slice(), mail, out, err),
+            Ok(script) => run_script(alloc, setting, script.as_slice(), mail, out, err),
             Err(ScriptError::Limit(_)) => refuse(alloc, err, 9, b"notmuch: limit: lines\n"),
             Err(ScriptError::NoMemory) => refuse(alloc, err, 7, b"notmuch: no memory\n"),
         },
@@ -107,16 +108,18 @@ fn read_and_run<M: Maildir, I: Source, O: Sink, E: Sink>(
 /// Runs the lines, prints their replies, and says how it ended.
 fn run_script<M: Maildir, O: Sink, E: Sink>(
     alloc: Global,
+    setting: &Setting,
     script: &[ScriptLine],
     mail: &mut M,
     out: &mut O,
     err: &mut E,
 ) -> Done
-    ensures { IsRun script.now
+    ensures { IsRun setting.now.moment script.now
         (M.observed mail.old) (M.observed mail.new)
         (O.observed out.old) (O.observed out.new)
         (E.observed err.old) (E.observed err.new) result }
 {
+    let _ = setting;
     let run = run_lines(alloc, script, mail);
     let out_failed = print_all(out, run.logs.as_slice());
     say_last(err, run.whole, out_failed);

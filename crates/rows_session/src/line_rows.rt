@@ -1,7 +1,7 @@
 //! Rows on the lines of scripts: what a line asks for, or how it is refused; and the lines of a script with their numbers.
 
 use nm_base::{CountAsk, Many, NoMemory, Output, Text, UsageKind};
-use nm_core::Request;
+use nm_answer::Request;
 use nm_io::MemSink;
 use nm_log::{
     ParsedLine, ScriptError, ScriptLine, parse_line, print_usage, read_script, usage_text,

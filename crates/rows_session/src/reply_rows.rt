@@ -2,7 +2,8 @@
 
 use crate::values::path;
 use nm_base::{MailPath, Many, Skip};
-use nm_log::{NewReport, new_reply};
+use nm_answer::NewReport;
+use nm_log::new_reply;
 use rows::{Row, RowError};
 use std::alloc::Global;
 

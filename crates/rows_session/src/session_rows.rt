@@ -120,5 +120,7 @@ fn letter_of(step: &Step) -> u8 {
         Step::See { .. } => b'L',
         Step::Meet => b'M',
         Step::Reply { .. } => b'R',
+        Step::Crash { .. } => b'C',
+        Step::Reopen => b'O',
     }
 }

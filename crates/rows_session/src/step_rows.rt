@@ -1,4 +1,4 @@
-//! Steps of the machine, as rows write them: `begin`, `append`, `show`, `see`, `meet`, and replies.
+//! Steps of the machine, as rows write them: `begin`, `append`, `show`, `see`, `meet`, `crash`, `reopen`, and replies.
 
 use crate::values::{id, path, text};
 use nm_base::{
@@ -6,7 +6,8 @@ use nm_base::{
     Word,
 };
 use nm_commit::{Change, Commit};
-use nm_core::{Request, Step};
+use nm_answer::Request;
+use nm_machine::Step;
 use rows::{RowError, cut, number_of, signed_of};
 use std::alloc::Global;
 
@@ -25,10 +26,27 @@ pub fn step(alloc: Global, line: &[u8]) -> Result<Step, RowError> {
     if name == b"meet".as_slice() {
         return Ok(Step::Meet);
     }
+    if name == b"crash".as_slice() {
+        return crash(rest);
+    }
+    if name == b"reopen".as_slice() {
+        return Ok(Step::Reopen);
+    }
     if name == b"see".as_slice() {
         return Ok(Step::See { lane: lane(rest)? });
     }
     reply(alloc, name, rest)
+}
+
+/// `crash kept` or `crash lost`: whether the commit on its way has reached the disk.
+fn crash(word: &[u8]) -> Result<Step, RowError> {
+    if word == b"kept".as_slice() {
+        return Ok(Step::Crash { kept: true });
+    }
+    if word == b"lost".as_slice() {
+        return Ok(Step::Crash { kept: false });
+    }
+    Err(RowError::Broken("a commit is kept or lost"))
 }
 
 fn lane(bytes: &[u8]) -> Result<u32, RowError> {

@@ -1,6 +1,6 @@
 use Rattle.std.proofs.Common.{◌≡◌, take}
 use Rattle.std.specs.List.{flat_map}
-use Rattle.nm_top.specs.Steps.{skip_given}
+use Rattle.nm_answer.specs.NewText.{skip_given}
 use Rattle.nm_top.proofs.apply_scan.skips.Given as goal
 
 abbrev pub invariant-noted : goal.invariant-noted

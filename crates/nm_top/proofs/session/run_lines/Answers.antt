@@ -1,6 +1,6 @@
 use Rattle.std.proofs.Common.{[], length, take, drop, refl, sym, ap, ◌∙◌, append-nil, take-append-drop, arith}
 use Rattle.std.proofs.lemmas.List.{length-drop}
-use Rattle.nm_commit.specs.Files.{empty_index}
+use Rattle.nm_index.specs.Index.{empty_index}
 use Rattle.nm_top.specs.Session.{opening_state}
 use Rattle.nm_top.specs.State.{state_with}
 use Rattle.nm_top.proofs.FoldLemmas.{some_is}
