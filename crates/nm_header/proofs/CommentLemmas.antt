@@ -1,9 +1,8 @@
 -- The first pair and the first lexeme of a text, and what is left behind them.
-use Rattle.std.proofs.Common.{◌≡◌, ℕ, suc, ◌+◌, ◌-◌, ◌<◌, ◌≤◌, Bool, true, false, cond, ◌==◌, List, [], ◌∷◌, ◌++◌, length, take, drop, get_or, refl, sym, ap, subst, ◌∙◌, arith, min, lit<, length-drop, length-take, length-append, append_assoc}
-use Rattle.std.proofs.lemmas.Bool.{eqb-true, eqb-false}
+use Rattle.std.proofs.Common.{◌≡◌, ℕ, suc, ◌+◌, ◌-◌, ◌<◌, ◌≤◌, true, false, cond, ◌==◌, List, [], ◌∷◌, ◌++◌, length, take, drop, get_or, refl, sym, ap, subst, ◌∙◌, arith, min, lit<, length-drop, length-take, length-append, append_assoc}
+use Rattle.std.proofs.lemmas.Bool.{eqb-true}
 use Rattle.std.specs.Prelude.{IsUtf8}
 use Rattle.std.proofs.lemmas.List.{drop_at, drop_min, length-take-le, take-append-drop}
-use Rattle.nm_text.specs.Cuts.{length_through}
 use Rattle.nm_header.specs.Comments.{comment_len, depth_after, lexeme_more, lexemes_of}
 use Rattle.nm_text.specs.QuotedStrings.{is_special, pair_more, pairs_of, quoted_len}
 use Rattle.nm_header.proofs.DepthLemmas.{comment_is, depth_through, neq, neq-eqb, sign_is}

@@ -1,5 +1,5 @@
 -- A field's name is ASCII, and so text.
-use Rattle.std.proofs.Common.{◌≡◌, ℕ, ◌≤◌, Bool, true, false, ◌&&◌, not, List, [], ◌∷◌, length, map, refl, leb, arith, ◌==◌}
+use Rattle.std.proofs.Common.{◌≡◌, ℕ, ◌≤◌, true, ◌&&◌, not, List, [], ◌∷◌, length, map, leb, arith, ◌==◌}
 use Rattle.std.specs.Prelude.{IsUtf8, is_some, position}
 use Rattle.std.specs.Char.{to_ascii_lowercase}
 use Rattle.std.specs.List.{list_all}

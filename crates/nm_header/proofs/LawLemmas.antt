@@ -1,14 +1,14 @@
 -- The laws, by induction over the id_texts, the lines and the ids.
-use Rattle.std.proofs.Common.{◌≡◌, ℕ, zero, suc, ◌+◌, ◌-◌, ◌≤◌, Bool, true, false, cond, not, ◌&&◌, ◌||◌, ◌==◌, List, [], ◌∷◌, ◌++◌, length, take, drop, refl, sym, ap, ◌∙◌, arith, append_assoc, length-drop}
+use Rattle.std.proofs.Common.{◌≡◌, ℕ, ◌+◌, Bool, true, false, cond, not, ◌||◌, ◌==◌, List, [], ◌∷◌, ◌++◌, length, take, drop, refl, sym, ap, ◌∙◌, append_assoc}
 use Rattle.std.proofs.lemmas.Bool.{and_parts, or_parts}
 use Rattle.std.specs.List.{concat, list_all, list_any, onto_first, slice_split, take_while}
-use Rattle.std.proofs.lemmas.List.{append-nil, drop_at, drop-drop, take-append-drop}
+use Rattle.std.proofs.lemmas.List.{append-nil, drop_at, drop-drop}
 use Rattle.std.proofs.lemmas.List.Sums.{take_while-cons}
 use Rattle.std.proofs.lemmas.List.Splits.{slice_split-cons_no}
 use Rattle.nm_header.proofs.IdLemmas.{closed-cons}
 use Rattle.nm_base.specs.MessageId.{is_id_byte, is_id_text, is_message_id}
 use Rattle.nm_base.specs.Bounds.{fits_length, is_white_space}
-use Rattle.nm_text.specs.Cuts.{cut, cut_upto, length_through}
+use Rattle.nm_text.specs.Cuts.{length_through}
 use Rattle.nm_header.specs.Ids.{closed, ids_in, ids_of, is_greater_than}
 use Rattle.nm_header.specs.Laws.{line_after_header, put_together, written}
 use Rattle.nm_header.specs.HeaderLines.{header_lines, is_empty_line, rest_of}

@@ -14,3 +14,4 @@ pub mod PlainLemmas
 pub mod SplitLemmas
 pub mod TextLemmas
 pub mod Utf8Lemmas
+pub mod WrittenMailboxLemmas

@@ -1,5 +1,5 @@
 -- The first mailbox of a text, and those that are left behind it.
-use Rattle.std.proofs.Common.{◌≡◌, ℕ, suc, ◌+◌, ◌-◌, ◌<◌, ◌≤◌, Bool, true, false, cond, not, ◌||◌, ◌&&◌, ◌==◌, List, [], ◌∷◌, ◌++◌, length, take, drop, get_or, refl, sym, ap, subst, ◌∙◌, arith, ltb, append_assoc, length-drop}
+use Rattle.std.proofs.Common.{◌≡◌, ℕ, suc, ◌+◌, ◌-◌, ◌<◌, ◌≤◌, Bool, true, false, cond, not, ◌||◌, ◌==◌, List, [], ◌∷◌, ◌++◌, length, take, drop, get_or, refl, sym, ap, subst, ◌∙◌, arith, ltb, append_assoc, length-drop}
 use Rattle.std.specs.Prelude.{IsUtf8}
 use Rattle.std.specs.Str.{IsCharBoundary}
 use Rattle.std.specs.List.{before_first, concat, flat_map, list_all, list_any, onto_first, position_or_len, slice_split}
@@ -50,7 +50,7 @@ or_three false false true w e f = refl
 or_three false false false w e f = sym f ∙ e
 
 -- a test that another implies passes none where that one passes none
-none_of : (p q : List ℕ → Bool) → ((t : List ℕ) → q t ≡ false → p t ≡ false) → (lexemes : List (List ℕ)) → list_any q lexemes ≡ false → list_any p lexemes ≡ false
+pub none_of : (p q : List ℕ → Bool) → ((t : List ℕ) → q t ≡ false → p t ≡ false) → (lexemes : List (List ℕ)) → list_any q lexemes ≡ false → list_any p lexemes ≡ false
 none_of p q weak [] e = refl
 none_of p q weak (t ∷ lexemes) e =
     ap (λ v. v || list_any p lexemes) (weak t (or_parts (q t) (list_any q lexemes) e).0) ∙ none_of p q weak lexemes (or_parts (q t) (list_any q lexemes) e).1
@@ -85,11 +85,11 @@ no_colon : (t : List ℕ) → begins_with part_ends t ≡ false → is_colon t �
 no_colon [] e = refl
 no_colon (b ∷ t) e = third_of (44 == b) (59 == b) (58 == b) e
 
-no_part_end : (t : List ℕ) → begins_with name_ends t ≡ false → begins_with part_ends t ≡ false
+pub no_part_end : (t : List ℕ) → begins_with name_ends t ≡ false → begins_with part_ends t ≡ false
 no_part_end [] e = refl
 no_part_end (b ∷ t) e = first_three (44 == b) (59 == b) (58 == b) (60 == b) e
 
-no_angle : (t : List ℕ) → begins_with name_ends t ≡ false → is_angle t ≡ false
+pub no_angle : (t : List ℕ) → begins_with name_ends t ≡ false → is_angle t ≡ false
 no_angle [] e = refl
 no_angle (b ∷ t) e = fourth_of (44 == b) (59 == b) (58 == b) (60 == b) e
 
@@ -99,7 +99,7 @@ before_behind p [] rest none = refl
 before_behind p (x ∷ before) rest none =
     before_first-no p x (before ++ rest) (or_parts (p x) (list_any p before) none).0 ∙ ap (λ l. x ∷ l) (before_behind p before rest (or_parts (p x) (list_any p before) none).1)
 
-drop_before : (p : List ℕ → Bool) (before rest : List (List ℕ)) → list_any p before ≡ false → position_or_len p rest ≡ 0 → drop (position_or_len p (before ++ rest)) (before ++ rest) ≡ rest
+pub drop_before : (p : List ℕ → Bool) (before rest : List (List ℕ)) → list_any p before ≡ false → position_or_len p rest ≡ 0 → drop (position_or_len p (before ++ rest)) (before ++ rest) ≡ rest
 drop_before p [] rest none stop = ap (λ k. drop k rest) stop
 drop_before p (x ∷ before) rest none stop =
     let one : 1 + position_or_len p (before ++ rest) ≡ suc (position_or_len p (before ++ rest)) = omega arith in
@@ -153,11 +153,11 @@ colon_behind (x ∷ before) c part e =
     ap (λ v. cond v (after_colon (before ++ c ∷ part)) (cond (is_colon x) (before ++ c ∷ part) (x ∷ (before ++ c ∷ part)))) (has_colon before c part e) ∙ colon_behind before c part e
 
 -- ---- the mailboxes of a text, part by part
-in_end : (lexemes : List (List ℕ)) → list_any (begins_with part_ends) lexemes ≡ false → mailboxes_in lexemes ≡ mailbox_in lexemes
+pub in_end : (lexemes : List (List ℕ)) → list_any (begins_with part_ends) lexemes ≡ false → mailboxes_in lexemes ≡ mailbox_in lexemes
 in_end lexemes none =
     ap (flat_map (λ part. mailbox_in (after_colon part))) (split_whole is_separator lexemes (none_of is_separator (begins_with part_ends) no_separator lexemes none)) ∙ append-nil (mailbox_in (after_colon lexemes)) ∙ ap mailbox_in (colon_none lexemes (none_of is_colon (begins_with part_ends) no_colon lexemes none))
 
-in_separator : (lexemes : List (List ℕ)) (t : List ℕ) (rest : List (List ℕ)) → list_any (begins_with part_ends) lexemes ≡ false → is_separator t ≡ true → mailboxes_in (lexemes ++ t ∷ rest) ≡ mailbox_in lexemes ++ mailboxes_in rest
+pub in_separator : (lexemes : List (List ℕ)) (t : List ℕ) (rest : List (List ℕ)) → list_any (begins_with part_ends) lexemes ≡ false → is_separator t ≡ true → mailboxes_in (lexemes ++ t ∷ rest) ≡ mailbox_in lexemes ++ mailboxes_in rest
 in_separator lexemes t rest none e =
     ap (flat_map (λ part. mailbox_in (after_colon part))) (split_behind is_separator lexemes t rest (none_of is_separator (begins_with part_ends) no_separator lexemes none) e) ∙ ap (λ x. mailbox_in x ++ mailboxes_in rest) (colon_none lexemes (none_of is_colon (begins_with part_ends) no_colon lexemes none))
 
@@ -190,7 +190,7 @@ sign_tokens text n s h =
     let rest : List ℕ = drop (n + 1) text in
     ap mailbox_lexemes_of (drop_more text n 0 h) ∙ cut-cons mailbox_lexeme_more b rest ∙ ap (λ k. (b ∷ take k rest) ∷ mailbox_lexemes_of (drop k rest)) (sign_token b rest (stop_sign part_ends text n s h))
 
-in_nil : mailboxes_in (mailbox_lexemes_of []) ≡ []
+pub in_nil : mailboxes_in (mailbox_lexemes_of []) ≡ []
 in_nil = ap mailboxes_in (cut-nil mailbox_lexeme_more)
 
 pub part_end : (text : List ℕ) (n : ℕ) (before after : List Mailbox) → StopsAt part_ends text n → n ≡ length text → after ≡ before ++ mailbox_in (lexemes_before part_ends text) → after ++ mailboxes_in (mailbox_lexemes_of (drop n text)) ≡ before ++ mailboxes_in (mailbox_lexemes_of text)

@@ -1,10 +1,8 @@
 -- The turns of the two loops that make a name.
-use Rattle.std.proofs.Common.{◌≡◌, ℕ, ◌+◌, ◌-◌, ◌<◌, true, false, cond, ◌==◌, List, [], ◌∷◌, ◌++◌, Some, None, length, take, drop, filter, refl, sym, ap, subst, ◌∙◌, arith, append_assoc}
-use Rattle.std.specs.Prelude.{IsUtf8, position}
-use Rattle.std.specs.List.{flat_map, join_with_byte, slice_split}
-use Rattle.std.proofs.lemmas.Bool.{eqb-true}
+use Rattle.std.proofs.Common.{◌≡◌, ℕ, ◌+◌, ◌-◌, ◌<◌, true, List, [], ◌∷◌, ◌++◌, Some, None, take, drop, filter, refl, sym, ap, ◌∙◌, arith, append_assoc}
+use Rattle.std.specs.Prelude.{position}
+use Rattle.std.specs.List.{join_with_byte, slice_split}
 use Rattle.std.proofs.lemmas.Bool.Decides.{nat_tests}
-use Rattle.std.proofs.lemmas.List.{append-nil, take-append-drop}
 use Rattle.nm_base.specs.Bounds.{is_white_space}
 use Rattle.nm_header.specs.Mailboxes.{added_word, is_some_text}
 use Rattle.nm_header.proofs.SplitLemmas.{split_at, split_none}

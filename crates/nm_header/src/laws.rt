@@ -6,7 +6,8 @@ ghost use Rattle.nm_base.specs.MessageId.{is_message_id};
 ghost use Rattle.nm_header.specs.Fields.{continues, header_of, is_colon, is_name};
 ghost use Rattle.nm_header.specs.Ids.{ids_of};
 ghost use Rattle.nm_header.specs.Laws.{folded, is_line_end, put_together, stands_on_one_line, written};
-ghost use Rattle.nm_header.specs.Mailboxes.{mailbox_lexemes_of};
+ghost use Rattle.nm_header.specs.Mailboxes.{mailbox_lexemes_of, mailboxes_of};
+ghost use Rattle.nm_header.specs.WrittenMailboxes.{WrittenMailbox, is_writable, written_mailboxes};
 ghost use Rattle.nm_header.specs.Comments.{lexemes_of};
 ghost use Rattle.nm_text.specs.WhiteSpace.{trimmed};
 
@@ -30,6 +31,11 @@ pub fn a_mail_is_its_header_and_its_body()
 /// Ids that are written in angles with blanks between are read again.
 pub fn written_ids_are_read()
     ensures { (ids : List (List ℕ)) → list_all is_message_id ids ≡ true → ids_of (written ids) ≡ ids }
+{}
+
+/// Mailboxes that are written `name <address>`, with `, ` between, are read again in their order, the names in quotes or as they stand.
+pub fn written_mailboxes_are_read()
+    ensures { (written : List WrittenMailbox) → list_all is_writable written ≡ true → mailboxes_of (written_mailboxes written) ≡ map (λ one. one.mailbox) written }
 {}
 
 /// No body of a field has an LF, however many lines the field had.
