@@ -1,9 +1,11 @@
 pub mod BetweenLemmas
 pub mod ChildLemmas
+pub mod CutLemmas
 pub mod LawLemmas
 pub mod ParamLemmas
 pub mod PartLemmas
 pub mod PartReaderLemmas
+pub mod QuotedLemmas
 pub mod RoundLemmas
 pub mod TreeLemmas
 pub mod TypeLemmas

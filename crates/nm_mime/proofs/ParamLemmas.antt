@@ -1,13 +1,14 @@
 -- Parameters: what was found with what is left to find is all.
-use Rattle.std.proofs.Common.{◌≡◌, ℕ, zero, suc, ◌+◌, ◌-◌, ◌<◌, ◌≤◌, Bool, true, false, cond, not, ◌==◌, List, [], ◌∷◌, ◌++◌, length, drop, get_or, ltb, refl, sym, ap, ◌∙◌, arith, append_assoc, length-drop, Some, None}
+use Rattle.std.proofs.Common.{◌≡◌, ℕ, zero, suc, ◌+◌, ◌-◌, ◌<◌, ◌≤◌, Bool, true, false, cond, not, ◌==◌, List, [], ◌∷◌, ◌++◌, length, drop, ltb, refl, sym, ap, ◌∙◌, arith, append_assoc, length-drop, Some, None}
 use Rattle.std.specs.Prelude.{position}
 use Rattle.std.proofs.lemmas.List.Sums.{prefix_len-le-length}
 use Rattle.std.specs.List.{after_first, position_or_len, prefix_len}
 use Rattle.std.proofs.lemmas.List.{append-nil}
 use Rattle.std.proofs.lemmas.Bool.{eqb-true, ltb-false}
 use Rattle.nm_mime.specs.declared.param_list.Param.{Param}
-use Rattle.nm_mime.specs.Params.{after_name, after_param, after_quoted, after_value, begins_with, ends_name, goes_on, is_pair, is_semicolon, kept_param, param_from, param_in, params_in, params_of, params_upto, quoted_text, value_in}
+use Rattle.nm_mime.specs.Params.{after_name, after_param, after_quoted, after_value, begins_with, ends_name, is_semicolon, kept_param, param_from, param_in, params_in, params_of, params_upto, value_in}
 use Rattle.nm_base.specs.Bounds.{is_white_space}
+use Rattle.nm_text.specs.QuotedStrings.{quoted_len}
 use Rattle.nm_text.specs.WhiteSpace.{trimmed_start}
 
 -- ---- the place that `position` gives
@@ -18,51 +19,6 @@ some_of false n i e = absurd (cc)
 none_of : (b : Bool) (n : ℕ) → cond b (Some n) None ≡ None → b ≡ false
 none_of true n e = absurd (cc)
 none_of false n e = refl
-
--- ---- quoted strings
-not_sign : (b : Bool) → not b ≡ true → b ≡ false
-not_sign true e = absurd (cc)
-not_sign false e = refl
-
-pub pair_said : (text : List ℕ) → goes_on text ≡ true → is_pair text ≡ true → (quoted_text text ≡ get_or text 1 0 ∷ quoted_text (drop 2 text)) × (after_quoted text ≡ after_quoted (drop 2 text))
-pair_said [] g p = absurd (cc)
-pair_said (b ∷ []) g p = absurd (cc)
-pair_said (b ∷ c ∷ more) g p =
-    let no : (b == 34) ≡ false = not_sign (b == 34) g in (
-      ap (λ v. cond v [] (cond (b == 92) (c ∷ quoted_text more) (b ∷ quoted_text (c ∷ more)))) no ∙ ap (λ v. cond v (c ∷ quoted_text more) (b ∷ quoted_text (c ∷ more))) p,
-      ap (λ v. cond v (c ∷ more) (cond (b == 92) (after_quoted more) (after_quoted (c ∷ more)))) no ∙ ap (λ v. cond v (after_quoted more) (after_quoted (c ∷ more))) p,
-    )
-
-pub byte_said : (text : List ℕ) → goes_on text ≡ true → is_pair text ≡ false → (quoted_text text ≡ get_or text 0 0 ∷ quoted_text (drop 1 text)) × (after_quoted text ≡ after_quoted (drop 1 text))
-byte_said [] g p = absurd (cc)
-byte_said (b ∷ []) g p =
-    let no : (b == 34) ≡ false = not_sign (b == 34) g in
-    (ap (λ v. cond v [] (b ∷ [])) no, refl)
-byte_said (b ∷ c ∷ more) g p =
-    let no : (b == 34) ≡ false = not_sign (b == 34) g in (
-      ap (λ v. cond v [] (cond (b == 92) (c ∷ quoted_text more) (b ∷ quoted_text (c ∷ more)))) no ∙ ap (λ v. cond v (c ∷ quoted_text more) (b ∷ quoted_text (c ∷ more))) p,
-      ap (λ v. cond v (c ∷ more) (cond (b == 92) (after_quoted more) (after_quoted (c ∷ more)))) no ∙ ap (λ v. cond v (after_quoted more) (after_quoted (c ∷ more))) p,
-    )
-
-pub pair_long : (text : List ℕ) → is_pair text ≡ true → 2 ≤ length text
-pair_long [] p = absurd (cc)
-pair_long (b ∷ []) p = absurd (cc)
-pair_long (b ∷ c ∷ more) p = omega arith
-
-pub goes_long : (text : List ℕ) → goes_on text ≡ true → 0 < length text
-goes_long [] g = absurd (cc)
-goes_long (b ∷ more) g = omega arith
-
--- where it does not go on nothing more is said
-pub said_end : (text : List ℕ) → goes_on text ≡ false → quoted_text text ≡ []
-said_end [] g = refl
-said_end (b ∷ []) g = elim (b == 34) as (λ v. not v ≡ false → cond v [] (b ∷ []) ≡ []) [ true ↦ λ h. refl | false ↦ λ h. absurd (cc) ] g
-said_end (b ∷ c ∷ more) g = elim (b == 34) as (λ v. not v ≡ false → cond v [] (cond (b == 92) (c ∷ quoted_text more) (b ∷ quoted_text (c ∷ more))) ≡ []) [ true ↦ λ h. refl | false ↦ λ h. absurd (cc) ] g
-
-pub after_end : (text : List ℕ) → goes_on text ≡ false → after_quoted text ≡ drop 1 text
-after_end [] g = refl
-after_end (b ∷ []) g = refl
-after_end (b ∷ c ∷ more) g = elim (b == 34) as (λ v. not v ≡ false → cond v (c ∷ more) (cond (b == 92) (after_quoted more) (after_quoted (c ∷ more))) ≡ c ∷ more) [ true ↦ λ h. refl | false ↦ λ h. absurd (cc) ] g
 
 -- ---- all parameters
 pub after_less : (text : List ℕ) → length (after_first is_semicolon text) ≤ length text - 1
@@ -80,21 +36,9 @@ place_none p text e = let long : length text ≤ position_or_len p text = ltb-fa
 behind_short : (text : List ℕ) → length (after_name text) ≤ length text → length (after_first is_semicolon (after_name text)) ≤ length text - 1
 behind_short text h = let one = after_less (after_name text) in omega arith
 
-quoted_short : (n : ℕ) (text : List ℕ) → length text ≤ n → length (after_quoted text) ≤ length text
-quoted_short n [] h = omega arith
-quoted_short n (b ∷ []) h = omega arith
-quoted_short zero (b ∷ c ∷ more) h = absurd (omega arith)
-quoted_short (suc n) (b ∷ c ∷ more) h =
-    let one = quoted_short n more (omega arith) in
-    let two = quoted_short n (c ∷ more) (omega arith) in
-    elim (b == 34) as (λ v. length (cond v (c ∷ more) (cond (b == 92) (after_quoted more) (after_quoted (c ∷ more)))) ≤ suc (suc (length more))) [
-      | true ↦ omega arith
-      | false ↦ elim (b == 92) as (λ v. length (cond v (after_quoted more) (after_quoted (c ∷ more))) ≤ suc (suc (length more))) [ true ↦ omega arith | false ↦ omega arith ]
-    ]
-
 value_short : (text : List ℕ) → length (after_value text) ≤ length text
 value_short [] = omega arith
-value_short (b ∷ more) = let one = quoted_short (length more) more (omega arith) in
+value_short (b ∷ more) = let one : length (after_quoted more) ≡ length more - quoted_len more = length-drop (quoted_len more) more in
     elim (b == 34) as (λ v. length (cond v (after_quoted more) (b ∷ more)) ≤ suc (length more)) [ true ↦ omega arith | false ↦ omega arith ]
 
 name_short : (text : List ℕ) → length (after_name text) ≤ length text

@@ -4,12 +4,15 @@ use Rattle.std.specs.Prelude.{IsUtf8}
 use Rattle.std.specs.List.{after_first, before_first, position_or_len, prefix_len, suffix_len}
 use Rattle.std.proofs.lemmas.Bool.{eqb-true, ltb-false, ltb-true}
 use Rattle.std.proofs.lemmas.Bool.Decides.{nat_tests}
-use Rattle.std.proofs.lemmas.List.{append-nil, drop_all, drop_at, drop-drop, get_or-reverse, get_or_at, length-reverse, take_all, take_at}
+use Rattle.std.proofs.lemmas.List.{drop_all, drop_at, drop-drop, get_or-reverse, get_or_at, length-reverse, take_all, take_at}
 use Rattle.std.proofs.lemmas.List.Sums.{prefix_len_passes, prefix_len_stops, suffix_len-le-length}
-use Rattle.std.proofs.lemmas.Str.{IsCharBoundary-after_ascii, IsCharBoundary-before_ascii, IsUtf8-append, IsUtf8-drop, IsUtf8-nil, IsUtf8-take}
+use Rattle.std.proofs.lemmas.Str.{IsCharBoundary-after_ascii, IsCharBoundary-before_ascii, IsUtf8-append, IsUtf8-drop, IsUtf8-from_ascii, IsUtf8-nil, IsUtf8-take}
+use Rattle.std.proofs.lemmas.Str.Ascii.{IsAscii-cons, IsAscii-nil}
 use Rattle.nm_base.specs.Bounds.{is_white_space}
+use Rattle.nm_text.specs.QuotedStrings.{quoted_len}
 use Rattle.nm_text.specs.WhiteSpace.{trimmed, trimmed_end, trimmed_start}
-use Rattle.nm_mime.specs.Params.{after_name, after_param, after_quoted, after_value, begins_with, ends_name, ends_value, is_semicolon, quoted_text, value_in}
+use Rattle.nm_mime.specs.Params.{after_name, after_param, after_quoted, after_value, begins_with, ends_name, ends_value, is_semicolon}
+use Rattle.nm_mime.proofs.QuotedLemmas.{quoted-byte, quoted-close, quoted-last, quoted-nil, quoted-pair}
 
 -- what stands before an ASCII character is text, and what stands behind it
 pub split_ascii : (xs ys : List ℕ) (b : ℕ) → b < 128 → IsUtf8 (xs ++ b ∷ ys) → IsUtf8 xs × IsUtf8 ys
@@ -114,52 +117,62 @@ pub trimmed_utf8 : (text : List ℕ) → IsUtf8 text → IsUtf8 (trimmed text)
 trimmed_utf8 text u = end_utf8 (trimmed_start text) (space_utf8 text u)
 
 -- ---- quoted strings
-said_behind : (n : ℕ) (front text : List ℕ) → length text ≤ n → IsUtf8 (front ++ text) → IsUtf8 (front ++ quoted_text text)
-said_behind n front [] h u = u
-said_behind n front (b ∷ []) h u =
-    elim (b == 34) as (λ v. (b == 34) ≡ v → IsUtf8 (front ++ cond v [] (b ∷ []))) [
-      | true ↦ λ e. let sign : b ≡ 34 = eqb-true b 34 e in drop_ascii front [] b (omega arith) u
-      | false ↦ λ e. u
-    ] refl
-said_behind zero front (b ∷ c ∷ more) h u = absurd (omega arith)
-said_behind (suc n) front (b ∷ c ∷ more) h u =
-    elim (b == 34) as (λ v. (b == 34) ≡ v → IsUtf8 (front ++ cond v [] (cond (b == 92) (c ∷ quoted_text more) (b ∷ quoted_text (c ∷ more))))) [
-      | true ↦ λ e. let sign : b ≡ 34 = eqb-true b 34 e in subst IsUtf8 (sym (append-nil front)) (split_ascii front (c ∷ more) b (omega arith) u).0
-      | false ↦ λ e. elim (b == 92) as (λ v. (b == 92) ≡ v → IsUtf8 (front ++ cond v (c ∷ quoted_text more) (b ∷ quoted_text (c ∷ more)))) [
-        | true ↦ λ f.
-            let sign : b ≡ 92 = eqb-true b 92 f in
-            subst IsUtf8 (append_assoc front (c ∷ []) (quoted_text more)) (said_behind n (front ++ c ∷ []) more (omega arith) (subst IsUtf8 (sym (append_assoc front (c ∷ []) more)) (drop_ascii front (c ∷ more) b (omega arith) u)))
-        | false ↦ λ f. subst IsUtf8 (append_assoc front (b ∷ []) (quoted_text (c ∷ more))) (said_behind n (front ++ b ∷ []) (c ∷ more) (omega arith) (subst IsUtf8 (sym (append_assoc front (b ∷ []) (c ∷ more))) u))
+one_utf8 : (b : ℕ) → b < 128 → IsUtf8 (b ∷ [])
+one_utf8 b small = IsUtf8-from_ascii (b ∷ []) (IsAscii-cons b [] small IsAscii-nil)
+
+abbrev IsCutText : ℕ → Type 0
+IsCutText n = (front text : List ℕ) → length text ≤ n → IsUtf8 (front ++ text) → IsUtf8 (front ++ take (quoted_len text) text) × IsUtf8 (drop (quoted_len text) text)
+
+pair_cut : (n : ℕ) → IsCutText n → (front more : List ℕ) (b : ℕ) → length (b ∷ more) ≤ suc n → b ≡ 92 → IsUtf8 (front ++ b ∷ more) → IsUtf8 (front ++ take (quoted_len (b ∷ more)) (b ∷ more)) × IsUtf8 (drop (quoted_len (b ∷ more)) (b ∷ more))
+pair_cut n shorter front [] b h sign u =
+    let k : quoted_len (b ∷ []) ≡ 1 = ap (λ x. quoted_len (x ∷ [])) sign ∙ quoted-last in
+    subst (λ j. IsUtf8 (front ++ take j (b ∷ [])) × IsUtf8 (drop j (b ∷ []))) (sym k) (u, IsUtf8-nil)
+pair_cut n shorter front (c ∷ more) b h sign u =
+    let two : 2 + quoted_len more ≡ suc (suc (quoted_len more)) = omega arith in
+    let k : quoted_len (b ∷ c ∷ more) ≡ suc (suc (quoted_len more)) = ap (λ x. quoted_len (x ∷ c ∷ more)) sign ∙ quoted-pair c more ∙ two in
+    let rest = shorter (front ++ b ∷ c ∷ []) more (omega arith) (subst IsUtf8 (sym (append_assoc front (b ∷ c ∷ []) more)) u) in
+    subst (λ j. IsUtf8 (front ++ take j (b ∷ c ∷ more)) × IsUtf8 (drop j (b ∷ c ∷ more))) (sym k) (subst IsUtf8 (append_assoc front (b ∷ c ∷ []) (take (quoted_len more) more)) rest.0, rest.1)
+
+quoted_cut : (n : ℕ) (front text : List ℕ) → length text ≤ n → IsUtf8 (front ++ text) → IsUtf8 (front ++ take (quoted_len text) text) × IsUtf8 (drop (quoted_len text) text)
+quoted_cut n front [] h u = (
+  subst (λ k. IsUtf8 (front ++ take k [])) (sym quoted-nil) u,
+  subst (λ k. IsUtf8 (drop k [])) (sym quoted-nil) IsUtf8-nil,
+)
+quoted_cut zero front (b ∷ more) h u = absurd (omega arith)
+quoted_cut (suc n) front (b ∷ more) h u =
+    let on : (k : ℕ) → quoted_len (b ∷ more) ≡ k → IsUtf8 (front ++ take k (b ∷ more)) × IsUtf8 (drop k (b ∷ more)) → IsUtf8 (front ++ take (quoted_len (b ∷ more)) (b ∷ more)) × IsUtf8 (drop (quoted_len (b ∷ more)) (b ∷ more)) =
+    λ k e both. subst (λ j. IsUtf8 (front ++ take j (b ∷ more)) × IsUtf8 (drop j (b ∷ more))) (sym e) both in
+    elim (b == 34) as (λ v. (b == 34) ≡ v → IsUtf8 (front ++ take (quoted_len (b ∷ more)) (b ∷ more)) × IsUtf8 (drop (quoted_len (b ∷ more)) (b ∷ more))) [
+      | true ↦ λ e.
+          let sign : b ≡ 34 = eqb-true b 34 e in
+          let parts = split_ascii front more b (omega arith) u in
+          on 1 (ap (λ x. quoted_len (x ∷ more)) sign ∙ quoted-close more) (IsUtf8-append front (b ∷ []) parts.0 (one_utf8 b (omega arith)), parts.1)
+      | false ↦ λ quote. elim (b == 92) as (λ v. (b == 92) ≡ v → IsUtf8 (front ++ take (quoted_len (b ∷ more)) (b ∷ more)) × IsUtf8 (drop (quoted_len (b ∷ more)) (b ∷ more))) [
+        | true ↦ λ e. pair_cut n (λ f t l v. quoted_cut n f t l v) front more b h (eqb-true b 92 e) u
+        | false ↦ λ pair.
+            let one : 1 + quoted_len more ≡ suc (quoted_len more) = omega arith in
+            let rest = quoted_cut n (front ++ b ∷ []) more (omega arith) (subst IsUtf8 (sym (append_assoc front (b ∷ []) more)) u) in
+            on (suc (quoted_len more)) (quoted-byte b more quote pair ∙ one) (subst IsUtf8 (append_assoc front (b ∷ []) (take (quoted_len more) more)) rest.0, rest.1)
       ] refl
     ] refl
 
-rest_behind : (n : ℕ) (front text : List ℕ) → length text ≤ n → IsUtf8 (front ++ text) → IsUtf8 (after_quoted text)
-rest_behind n front [] h u = IsUtf8-nil
-rest_behind n front (b ∷ []) h u = IsUtf8-nil
-rest_behind zero front (b ∷ c ∷ more) h u = absurd (omega arith)
-rest_behind (suc n) front (b ∷ c ∷ more) h u =
-    elim (b == 34) as (λ v. (b == 34) ≡ v → IsUtf8 (cond v (c ∷ more) (cond (b == 92) (after_quoted more) (after_quoted (c ∷ more))))) [
-      | true ↦ λ e. let sign : b ≡ 34 = eqb-true b 34 e in (split_ascii front (c ∷ more) b (omega arith) u).1
-      | false ↦ λ e. elim (b == 92) as (λ v. IsUtf8 (cond v (after_quoted more) (after_quoted (c ∷ more)))) [
-        | true ↦ rest_behind n (front ++ b ∷ c ∷ []) more (omega arith) (subst IsUtf8 (sym (append_assoc front (b ∷ c ∷ []) more)) u)
-        | false ↦ rest_behind n (front ++ b ∷ []) (c ∷ more) (omega arith) (subst IsUtf8 (sym (append_assoc front (b ∷ []) (c ∷ more))) u)
-      ]
-    ] refl
+-- what stands up to the end of a quoted string is text
+pub front_utf8 : (text : List ℕ) → IsUtf8 text → IsUtf8 (take (quoted_len text) text)
+front_utf8 text u = (quoted_cut (length text) [] text (omega arith) u).0
+
+-- and so is what stands after it
+back_utf8 : (text : List ℕ) → IsUtf8 text → IsUtf8 (drop (quoted_len text) text)
+back_utf8 text u = (quoted_cut (length text) [] text (omega arith) u).1
 
 -- ---- values
-pub value_utf8 : (text : List ℕ) → IsUtf8 text → IsUtf8 (value_in text)
-value_utf8 [] u = u
-value_utf8 (b ∷ more) u =
-    elim (b == 34) as (λ v. (b == 34) ≡ v → IsUtf8 (cond v (quoted_text more) (before_first ends_value (b ∷ more)))) [
-      | true ↦ λ e. let sign : b ≡ 34 = eqb-true b 34 e in said_behind (length more) [] more (omega arith) (tail_utf8 b more (omega arith) u)
-      | false ↦ λ e. before_utf8 ends_value value_end_small (b ∷ more) u
-    ] refl
+pub run_utf8 : (text : List ℕ) → IsUtf8 text → IsUtf8 (before_first ends_value text)
+run_utf8 text u = before_utf8 ends_value value_end_small text u
 
 behind_value_utf8 : (text : List ℕ) → IsUtf8 text → IsUtf8 (after_value text)
 behind_value_utf8 [] u = u
 behind_value_utf8 (b ∷ more) u =
     elim (b == 34) as (λ v. (b == 34) ≡ v → IsUtf8 (cond v (after_quoted more) (b ∷ more))) [
-      | true ↦ λ e. let sign : b ≡ 34 = eqb-true b 34 e in rest_behind (length more) [] more (omega arith) (tail_utf8 b more (omega arith) u)
+      | true ↦ λ e. let sign : b ≡ 34 = eqb-true b 34 e in back_utf8 more (tail_utf8 b more (omega arith) u)
       | false ↦ λ e. u
     ] refl
 
@@ -182,3 +195,11 @@ sign_utf8 (b ∷ more) e u =
     let sign : b ≡ 61 = eqb-true b 61 e in
     let all : take (length (b ∷ more) - 1) more ≡ more = take_all (length (b ∷ more) - 1) more (omega arith) in
     subst (λ x. IsUtf8 (trimmed_start x)) (sym all) (space_utf8 more (tail_utf8 b more (omega arith) u))
+
+-- and what stands after the `"` of a quoted string
+pub quote_utf8 : (text : List ℕ) → begins_with 34 text ≡ true → IsUtf8 text → IsUtf8 (take (length text - 1) (drop 1 text))
+quote_utf8 [] e u = absurd (cc)
+quote_utf8 (b ∷ more) e u =
+    let sign : b ≡ 34 = eqb-true b 34 e in
+    let all : take (length (b ∷ more) - 1) more ≡ more = take_all (length (b ∷ more) - 1) more (omega arith) in
+    subst IsUtf8 (sym all) (tail_utf8 b more (omega arith) u)

@@ -1,5 +1,5 @@
 -- Parameters that are written are read again.
-use Rattle.std.proofs.Common.{◌≡◌, ℕ, ◌+◌, ◌-◌, ◌<◌, Bool, true, false, cond, not, ◌||◌, ◌==◌, List, [], ◌∷◌, ◌++◌, length, map, take, drop, get_or, refl, sym, ap, ◌∙◌, arith}
+use Rattle.std.proofs.Common.{◌≡◌, ℕ, ◌+◌, ◌-◌, ◌<◌, Bool, true, false, cond, not, ◌||◌, ◌==◌, List, [], ◌∷◌, ◌++◌, length, map, take, drop, get_or, refl, sym, ap, ◌∙◌, arith, append_assoc, length-append}
 use Rattle.std.specs.Char.{to_ascii_lowercase}
 use Rattle.std.specs.List.{after_first, before_first, list_all, list_any, position_or_len, prefix_len, suffix_len}
 use Rattle.std.proofs.lemmas.Bool.{and_parts, eqb-true, or_parts}
@@ -7,11 +7,13 @@ use Rattle.std.proofs.lemmas.List.{drop_at, take_all, take_at}
 use Rattle.std.proofs.lemmas.List.Folds.{list_all_at}
 use Rattle.std.proofs.lemmas.List.Sums.{suffix_len_is}
 use Rattle.nm_base.specs.Bounds.{is_white_space}
+use Rattle.nm_text.specs.QuotedStrings.{quoted_len, unquoted}
 use Rattle.nm_text.specs.WhiteSpace.{trimmed, trimmed_end}
 use Rattle.nm_mime.specs.Laws.{is_name_byte, is_quoted_byte, is_writable, written_params}
 use Rattle.nm_mime.specs.Params.{after_name, after_param, after_quoted, ends_name, is_semicolon, is_star, kept_param, param_from, param_in, params_in, params_of, quoted_text}
 use Rattle.nm_mime.specs.declared.param_list.Param.{Param}
 use Rattle.nm_mime.proofs.ParamLemmas.{params-cons, params-nil}
+use Rattle.nm_mime.proofs.QuotedLemmas.{quoted-byte, quoted-close, unquoted-byte, unquoted-close, unquoted-nil}
 
 -- the first item that passes stands after those that don't
 first_at : (p : ℕ → Bool) (front : List ℕ) (b : ℕ) (rest : List ℕ) → list_any p front ≡ false → p b ≡ true → position_or_len p (front ++ b ∷ rest) ≡ length front
@@ -90,31 +92,30 @@ two true b e = absurd (cc)
 two false true e = absurd (cc)
 two false false e = (refl, refl)
 
-end_said : (rest : List ℕ) → (quoted_text (34 ∷ rest) ≡ []) × (after_quoted (34 ∷ rest) ≡ rest)
-end_said [] = (refl, refl)
-end_said (c ∷ rest) = (refl, refl)
+-- how far the value's string goes, and what it says
+value_len : (value rest : List ℕ) → list_all is_quoted_byte value ≡ true → quoted_len (value ++ 34 ∷ rest) ≡ length value + 1
+value_len [] rest e = quoted-close rest
+value_len (b ∷ value) rest e =
+    let both = and_parts (is_quoted_byte b) (list_all is_quoted_byte value) e in
+    let no = two (b == 34) (b == 92) both.0 in
+    quoted-byte b (value ++ 34 ∷ rest) no.0 no.1 ∙ (let next : quoted_len (value ++ 34 ∷ rest) ≡ length value + 1 = value_len value rest both.1 in let sum : 1 + quoted_len (value ++ 34 ∷ rest) ≡ length (b ∷ value) + 1 = omega arith in sum)
 
-byte_first : (b c : ℕ) (more : List ℕ) → is_quoted_byte b ≡ true → (quoted_text (b ∷ c ∷ more) ≡ b ∷ quoted_text (c ∷ more)) × (after_quoted (b ∷ c ∷ more) ≡ after_quoted (c ∷ more))
-byte_first b c more e =
-    let no = two (b == 34) (b == 92) e in (
-      ap (λ v. cond v [] (cond (b == 92) (c ∷ quoted_text more) (b ∷ quoted_text (c ∷ more)))) no.0 ∙ ap (λ v. cond v (c ∷ quoted_text more) (b ∷ quoted_text (c ∷ more))) no.1,
-      ap (λ v. cond v (c ∷ more) (cond (b == 92) (after_quoted more) (after_quoted (c ∷ more)))) no.0 ∙ ap (λ v. cond v (after_quoted more) (after_quoted (c ∷ more))) no.1,
-    )
-
-said_from : (b : ℕ) (value rest : List ℕ) → is_quoted_byte b ≡ true → list_all is_quoted_byte value ≡ true → (quoted_text (b ∷ (value ++ 34 ∷ rest)) ≡ b ∷ value) × (after_quoted (b ∷ (value ++ 34 ∷ rest)) ≡ rest)
-said_from b [] rest e f =
-    let first = byte_first b 34 rest e in
-    let end = end_said rest in
-    (first.0 ∙ ap (λ l. b ∷ l) end.0, first.1 ∙ end.1)
-said_from b (c ∷ value) rest e f =
-    let both = and_parts (is_quoted_byte c) (list_all is_quoted_byte value) f in
-    let first = byte_first b c (value ++ 34 ∷ rest) e in
-    let others = said_from c value rest both.0 both.1 in
-    (first.0 ∙ ap (λ l. b ∷ l) others.0, first.1 ∙ others.1)
+unquoted_value : (value : List ℕ) → list_all is_quoted_byte value ≡ true → unquoted (value ++ 34 ∷ []) ≡ value
+unquoted_value [] e = unquoted-close [] ∙ unquoted-nil
+unquoted_value (b ∷ value) e =
+    let both = and_parts (is_quoted_byte b) (list_all is_quoted_byte value) e in
+    let no = two (b == 34) (b == 92) both.0 in
+    unquoted-byte b (value ++ 34 ∷ []) no.0 no.1 ∙ ap (λ l. b ∷ l) (unquoted_value value both.1)
 
 value_said : (value rest : List ℕ) → list_all is_quoted_byte value ≡ true → (quoted_text (value ++ 34 ∷ rest) ≡ value) × (after_quoted (value ++ 34 ∷ rest) ≡ rest)
-value_said [] rest e = end_said rest
-value_said (b ∷ value) rest e = let both = and_parts (is_quoted_byte b) (list_all is_quoted_byte value) e in said_from b value rest both.0 both.1
+value_said value rest e =
+    let n : ℕ = quoted_len (value ++ 34 ∷ rest) in
+    let long : length (value ++ 34 ∷ []) ≡ length value + 1 = length-append value (34 ∷ []) in
+    let end : length (value ++ 34 ∷ []) ≡ n = long ∙ sym (value_len value rest e) in
+    let parts : value ++ 34 ∷ rest ≡ (value ++ 34 ∷ []) ++ rest = sym (append_assoc value (34 ∷ []) rest) in (
+      ap unquoted (ap (take n) parts ∙ take_at (value ++ 34 ∷ []) rest n end) ∙ unquoted_value value e,
+      ap (drop n) parts ∙ drop_at (value ++ 34 ∷ []) rest n end,
+    )
 
 -- ---- one parameter after the other
 pub params-written : (params : List Param) → list_all is_writable params ≡ true → params_of (written_params params) ≡ params

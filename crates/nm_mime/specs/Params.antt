@@ -1,10 +1,11 @@
 -- Parameters of a header field (RFC 2045, section 5.1), read generously: `;name=value`, the value a run or a quoted string.
-use Rattle.std.specs.Prelude.{ℕ, zero, suc, Bool, false, ◌||◌, ◌==◌, not, List, [], ◌∷◌, ◌++◌, Option, length, map, drop, find, unwrap_or, if◌then◌else◌}
+use Rattle.std.specs.Prelude.{ℕ, zero, suc, Bool, false, ◌||◌, ◌==◌, List, [], ◌∷◌, ◌++◌, Option, length, map, take, drop, find, unwrap_or, if◌then◌else◌}
 use Rattle.std.specs.Char.{to_ascii_lowercase}
 use Rattle.std.specs.List.{after_first, before_first, list_any, position_or_len}
 use Rattle.std.specs.Option.{option_map}
 use Rattle.std.specs.Str.{bytes_eq}
 use Rattle.nm_base.specs.Bounds.{is_white_space}
+use Rattle.nm_text.specs.QuotedStrings.{quoted_len, unquoted}
 use Rattle.nm_text.specs.WhiteSpace.{trimmed, trimmed_start}
 use Rattle.nm_mime.specs.declared.param_list.Param.{Param}
 
@@ -26,26 +27,11 @@ ends_value b = b == 59 || is_white_space b
 
 -- what a quoted string says after its `"`: up to the next `"`, or to the end; a `\` takes the next byte as it is
 abbrev pub quoted_text : List ℕ → List ℕ
-quoted_text [] = []
-quoted_text (b ∷ []) = if b == 34 then [] else b ∷ []
-quoted_text (b ∷ c ∷ more) = if b == 34 then [] else (if b == 92 then c ∷ quoted_text more else b ∷ quoted_text (c ∷ more))
+quoted_text text = unquoted (take (quoted_len text) text)
 
 -- what stands after it
 abbrev pub after_quoted : List ℕ → List ℕ
-after_quoted [] = []
-after_quoted (b ∷ []) = []
-after_quoted (b ∷ c ∷ more) = if b == 34 then c ∷ more else (if b == 92 then after_quoted more else after_quoted (c ∷ more))
-
--- a quoted string goes on: its `"` does not stand at the front
-abbrev pub goes_on : List ℕ → Bool
-goes_on [] = false
-goes_on (b ∷ more) = not (b == 34)
-
--- a `\` with the byte that it takes
-abbrev pub is_pair : List ℕ → Bool
-is_pair [] = false
-is_pair (b ∷ []) = false
-is_pair (b ∷ c ∷ more) = b == 92
+after_quoted text = drop (quoted_len text) text
 
 -- what the value says with which a text begins
 abbrev pub value_in : List ℕ → List ℕ

@@ -8,7 +8,6 @@ mod laws;
 mod param_list;
 mod part_reader;
 mod pending;
-mod quoted;
 mod reading;
 mod roles;
 mod tree;

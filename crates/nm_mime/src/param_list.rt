@@ -5,11 +5,10 @@ ghost use Rattle.std.specs.Char.{to_ascii_lowercase};
 ghost use Rattle.std.specs.List.{after_first, before_first, list_any, position_or_len};
 ghost use Rattle.std.specs.Option.{option_copied, option_map};
 ghost use Rattle.nm_text.specs.WhiteSpace.{trimmed};
-ghost use Rattle.nm_mime.specs.Params.{after_name, after_param, after_value, begins_with, ends_name, ends_value, is_param, is_semicolon, is_star, kept_param, param_from, param_in, param_of, params_in, params_of, value_in, value_of};
+ghost use Rattle.nm_mime.specs.Params.{after_name, after_param, after_quoted, after_value, begins_with, ends_name, ends_value, is_param, is_semicolon, is_star, kept_param, param_from, param_in, param_of, params_in, params_of, quoted_text, value_in, value_of};
 
-use crate::quoted::{after_quoted, quoted_text};
 use nm_base::{Copies, Many, NoMemory, Text};
-use nm_text::{is_white_space, lowercase, text_of, trimmed, trimmed_start};
+use nm_text::{is_white_space, lowercase, quoted_len, text_of, trimmed, trimmed_start, unquoted};
 use std::alloc::Global;
 
 /// A parameter of a header field.
@@ -87,13 +86,25 @@ fn named_value(alloc: Global, name: &[u8], text: &[u8]) -> Result<Param, NoMemor
 }
 
 fn value_bytes(alloc: Global, text: &[u8]) -> Result<Vec<u8>, NoMemory>
-    ensures { IfOk result (λ value. value.items ≡ value_in text.now) }
+    ensures value { IfOk result (λ value. value.items ≡ value_in text.now) }
+    ensures text { IfOk result (λ value. IsUtf8 text.now → IsUtf8 value.items) }
 {
     if begins_with(b'"', text) {
-        return quoted_text(alloc, &text[1..]);
+        let said = quoted_text(alloc, &text[1..])?;
+        return Ok(said);
     }
     let value = Vec::from_slice(alloc, run(text))?;
     Ok(value)
+}
+
+/// What a quoted string says after its `"`.
+fn quoted_text(alloc: Global, text: &[u8]) -> Result<Vec<u8>, NoMemory>
+    ensures value { IfOk result (λ said. said.items ≡ quoted_text text.now) }
+    ensures text { IfOk result (λ said. IsUtf8 text.now → IsUtf8 said.items) }
+{
+    let (quoted, _) = text.split_at(quoted_len(text));
+    let said = unquoted(alloc, quoted)?;
+    Ok(said)
 }
 
 fn run(text: &[u8]) -> &[u8]
@@ -124,6 +135,15 @@ fn after_name(after: &[u8]) -> &[u8]
         return after_quoted(&value[1..]);
     }
     value
+}
+
+/// What stands after the quoted string, its `"` with it.
+fn after_quoted(text: &[u8]) -> &[u8]
+    ensures value { result.now ≡ after_quoted text.now }
+    ensures within { length result.now ≤ length text.now }
+{
+    let (_, after) = text.split_at(quoted_len(text));
+    after
 }
 
 fn begins_with(sign: u8, text: &[u8]) -> bool
