@@ -8,23 +8,23 @@ use Rattle.std.proofs.lemmas.List.{append-nil, drop_at, length-append, take_at}
 use Rattle.nm_base.specs.Bounds.{is_white_space}
 use Rattle.nm_text.specs.Cuts.{is_byte}
 use Rattle.nm_text.specs.WhiteSpace.{is_all_white_space}
-use Rattle.nm_decode.specs.EncodedWords.{Cut, and_then_cut, between, cut_found, cut_words, fields_of, first_word, joined, or_later, pieces_of, word_of, word_of_fields, words_decoded}
+use Rattle.nm_decode.specs.EncodedWords.{Cut, and_then_cut, between, cut_found, cut_words, fields_of, first_word, joined, or_later, segments_of, word_of, word_of_fields, words_decoded}
 use Rattle.nm_decode.specs.Laws.{IsWordOf, has_mark, word_written}
 use Rattle.nm_decode.specs.declared.words.EncodedWord.{EncodedWord}
 use Rattle.nm_decode.proofs.MarkLaw.{no-word}
-use Rattle.nm_decode.proofs.Pieces.{not_opened, too_short}
+use Rattle.nm_decode.proofs.Segments.{not_opened, too_short}
 
--- a field without a `?` is the first piece
-field-first : (field rest : List ℕ) → list_any (is_byte 63) field ≡ false → pieces_of (field ++ 63 ∷ rest) ≡ field ∷ pieces_of rest
+-- a field without a `?` is the first segment
+field-first : (field rest : List ℕ) → list_any (is_byte 63) field ≡ false → segments_of (field ++ 63 ∷ rest) ≡ field ∷ segments_of rest
 field-first [] rest h = refl
 field-first (b ∷ field) rest h =
     let p = or_parts (eqb b 63) (list_any (is_byte 63) field) h in
     rw p.0 (ap (onto_first b) (field-first field rest p.1))
 
-framed-fields : (charset encoding encoded : List ℕ) (pieces : List (List ℕ))
-    → fields_of ((61 ∷ []) ∷ charset ∷ encoding ∷ encoded ∷ onto_first 61 pieces) ≡ Some (charset, encoding, encoded)
+framed-fields : (charset encoding encoded : List ℕ) (segments : List (List ℕ))
+    → fields_of ((61 ∷ []) ∷ charset ∷ encoding ∷ encoded ∷ onto_first 61 segments) ≡ Some (charset, encoding, encoded)
 framed-fields charset encoding encoded [] = refl
-framed-fields charset encoding encoded (piece ∷ pieces) = refl
+framed-fields charset encoding encoded (segment ∷ segments) = refl
 
 -- the word at the front of a text
 abbrev framed : List ℕ → List ℕ → List ℕ → List ℕ → List ℕ
@@ -45,7 +45,7 @@ framed-word w rest =
     ap (λ ps. option_and_then word_of_fields (fields_of ((61 ∷ []) ∷ ps))) (field-first w.charset (w.encoding ++ (63 ∷ (w.encoded ++ (63 ∷ 61 ∷ rest)))) w.charset_free)
     ∙ ap (λ ps. option_and_then word_of_fields (fields_of ((61 ∷ []) ∷ w.charset ∷ ps))) (field-first w.encoding (w.encoded ++ (63 ∷ 61 ∷ rest)) w.encoding_free)
     ∙ ap (λ ps. option_and_then word_of_fields (fields_of ((61 ∷ []) ∷ w.charset ∷ w.encoding ∷ ps))) (field-first w.encoded (61 ∷ rest) w.encoded_free)
-    ∙ ap (option_and_then word_of_fields) (framed-fields w.charset w.encoding w.encoded (pieces_of rest))
+    ∙ ap (option_and_then word_of_fields) (framed-fields w.charset w.encoding w.encoded (segments_of rest))
     ∙ ap (option_map (λ t. record { len = length w.charset + length w.encoding + length w.encoded + 6; text = t })) w.decoded
 
 whole-front : {word text : List ℕ} (w : IsWordOf word text) (rest : List ℕ) → word ++ rest ≡ framed w.charset w.encoding w.encoded rest

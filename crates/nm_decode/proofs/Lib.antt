@@ -4,7 +4,7 @@ pub mod GapLaw
 pub mod GroupLemmas
 pub mod Lines
 pub mod MarkLaw
-pub mod Pieces
+pub mod Segments
 pub mod QTexts
 pub mod QuotedLaw
 pub mod SingleByteLemmas

@@ -1,11 +1,11 @@
 -- A text in which no `=?` stands has no word.
 use Rattle.std.proofs.Common.{◌≡◌, ℕ, zero, suc, Bool, true, false, ◌&&◌, ◌||◌, List, [], ◌∷◌, None, length, refl, ap, ◌∙◌, eqb, arith}
 use Rattle.std.specs.Option.{option_and_then}
-use Rattle.nm_decode.specs.EncodedWords.{cut_found, cut_words, fields_of, first_word, joined, or_later, pieces_of, words_decoded, word_of, word_of_fields}
+use Rattle.nm_decode.specs.EncodedWords.{cut_found, cut_words, fields_of, first_word, joined, or_later, segments_of, words_decoded, word_of, word_of_fields}
 use Rattle.nm_decode.specs.Laws.{has_mark}
-use Rattle.nm_decode.proofs.Pieces.{not_opened, too_short}
+use Rattle.nm_decode.proofs.Segments.{not_opened, too_short}
 
-none-here : (text : List ℕ) → fields_of (pieces_of text) ≡ None → word_of text ≡ None
+none-here : (text : List ℕ) → fields_of (segments_of text) ≡ None → word_of text ≡ None
 none-here text e = ap (option_and_then word_of_fields) e
 
 parts : (s t r : Bool) → (s && t || r) ≡ false → (s ≡ true → t ≡ false) × (r ≡ false)

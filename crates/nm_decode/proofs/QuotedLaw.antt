@@ -8,7 +8,7 @@ use Rattle.nm_base.specs.Bounds.{is_white_space}
 use Rattle.nm_text.specs.Lines.{lines_of}
 use Rattle.nm_text.specs.WhiteSpace.{trimmed_end}
 use Rattle.nm_decode.specs.Bytes.{hex_byte, hex_value, is_hex}
-use Rattle.nm_decode.specs.Laws.{IsPlainTest, hex_digit, quoted_byte, quoted_line}
+use Rattle.nm_decode.specs.Laws.{IsUnencodedTest, hex_digit, quoted_byte, quoted_line}
 use Rattle.nm_decode.specs.QuotedPrintable.{ends_with, line_bytes, quoted_of, unescaped}
 use Rattle.nm_decode.proofs.Escapes.{unescaped-plain}
 
@@ -34,7 +34,7 @@ escaped-byte h l b rest bytes p q e f =
     ∙ ap (λ t. cond t (hex_byte h l ∷ unescaped rest) (61 ∷ unescaped (h ∷ l ∷ rest))) q
     ∙ ap (λ x. x ∷ unescaped rest) e ∙ ap (λ xs. b ∷ xs) f
 
-back-step : (plain : ℕ → Bool) (b : ℕ) (rest bytes : List ℕ) (t : Bool) → IsPlainTest plain → plain b ≡ t → b < 256 → unescaped rest ≡ bytes → unescaped (quoted_byte plain b ++ rest) ≡ b ∷ bytes
+back-step : (plain : ℕ → Bool) (b : ℕ) (rest bytes : List ℕ) (t : Bool) → IsUnencodedTest plain → plain b ≡ t → b < 256 → unescaped rest ≡ bytes → unescaped (quoted_byte plain b ++ rest) ≡ b ∷ bytes
 back-step plain b rest bytes true k e h f =
     let p : eqb b 61 ≡ false = grind (arith, nat_tests, (k b e).0) in
     rw e (unescaped-plain b rest p ∙ ap (λ xs. b ∷ xs) f)
@@ -43,7 +43,7 @@ back-step plain b rest bytes false k e h f =
     let y : b % 16 < 16 = omega arith in
     rw e (escaped-byte (hex_digit (b / 16)) (hex_digit (b % 16)) b rest bytes (digit-hex (b / 16) x) (digit-hex (b % 16) y) (byte-back b h) f)
 
-pub unescaped-back : (plain : ℕ → Bool) (bytes : List ℕ) → IsPlainTest plain → ((i : ℕ) → get_or bytes i 0 < 256) → unescaped (quoted_line plain bytes) ≡ bytes
+pub unescaped-back : (plain : ℕ → Bool) (bytes : List ℕ) → IsUnencodedTest plain → ((i : ℕ) → get_or bytes i 0 < 256) → unescaped (quoted_line plain bytes) ≡ bytes
 unescaped-back plain [] k h = refl
 unescaped-back plain (b ∷ bytes) k h = back-step plain b (quoted_line plain bytes) bytes (plain b) k refl (h 0) (unescaped-back plain bytes k (λ i. h (suc i)))
 
@@ -52,7 +52,7 @@ abbrev OneLine : List ℕ → Type 0
 OneLine [] = Unit {0}
 OneLine (b ∷ bytes) = (eqb b 10 ≡ false) × OneLine bytes
 
-line-step : (plain : ℕ → Bool) (b : ℕ) (rest : List ℕ) (t : Bool) → IsPlainTest plain → plain b ≡ t → b < 256 → OneLine rest → OneLine (quoted_byte plain b ++ rest)
+line-step : (plain : ℕ → Bool) (b : ℕ) (rest : List ℕ) (t : Bool) → IsUnencodedTest plain → plain b ≡ t → b < 256 → OneLine rest → OneLine (quoted_byte plain b ++ rest)
 line-step plain b rest true k e h f =
     let p : eqb b 10 ≡ false = grind (arith, nat_tests, (k b e).1) in
     rw e (p, f)
@@ -61,7 +61,7 @@ line-step plain b rest false k e h f =
     let y : b % 16 < 16 = omega arith in
     rw e (refl, (digit-white (b / 16) x, (digit-white (b % 16) y, f)))
 
-one-line : (plain : ℕ → Bool) (bytes : List ℕ) → IsPlainTest plain → ((i : ℕ) → get_or bytes i 0 < 256) → OneLine (quoted_line plain bytes)
+one-line : (plain : ℕ → Bool) (bytes : List ℕ) → IsUnencodedTest plain → ((i : ℕ) → get_or bytes i 0 < 256) → OneLine (quoted_line plain bytes)
 one-line plain [] k h = tt
 one-line plain (b ∷ bytes) k h = line-step plain b (quoted_line plain bytes) (plain b) k refl (h 0) (one-line plain bytes k (λ i. h (suc i)))
 
@@ -120,7 +120,7 @@ soft-line xs =
     ap (λ content. cond (ends_with 61 content) (unescaped (take (length content - 1) content)) (unescaped content ++ tail)) (soft-trimmed xs)
     ∙ soft-content xs (unescaped (xs ++ 61 ∷ []) ++ tail)
 
-pub soft_break : (plain : ℕ → Bool) (first rest : List ℕ) → IsPlainTest plain → ((i : ℕ) → get_or first i 0 < 256)
+pub soft_break : (plain : ℕ → Bool) (first rest : List ℕ) → IsUnencodedTest plain → ((i : ℕ) → get_or first i 0 < 256)
     → quoted_of (quoted_line plain first ++ 61 ∷ 10 ∷ rest) ≡ first ++ quoted_of rest
 soft_break plain first rest k h =
     let q = quoted_line plain first in

@@ -15,8 +15,8 @@ use Rattle.base64.proofs.EngineFacts.{decode_of-encode_of}
 use Rattle.nm_base.specs.Bounds.{is_white_space}
 use Rattle.nm_decode.specs.Bytes.{escape_of, hex_byte, is_hex}
 use Rattle.nm_decode.specs.Charsets.{text_of}
-use Rattle.nm_decode.specs.EncodedWords.{Cut, b_bytes, cut_found, cut_words, fields_of, first_word, is_field, is_q_text, joined, later_word, or_later, pieces_of, q_bytes, spaced, words_decoded, word_bytes, word_of, word_of_fields, word_text}
-use Rattle.nm_decode.specs.Laws.{IsQTest, IsPlainTest, b_word, hex_digit, q_word, quoted_byte, quoted_line}
+use Rattle.nm_decode.specs.EncodedWords.{Cut, b_bytes, cut_found, cut_words, fields_of, first_word, is_field, is_q_text, joined, later_word, or_later, segments_of, q_bytes, spaced, words_decoded, word_bytes, word_of, word_of_fields, word_text}
+use Rattle.nm_decode.specs.Laws.{IsQTest, IsUnencodedTest, b_word, hex_digit, q_word, quoted_byte, quoted_line}
 use Rattle.nm_decode.specs.QuotedPrintable.{unescaped}
 use Rattle.nm_decode.specs.declared.words.EncodedWord.{EncodedWord}
 use Rattle.nm_decode.proofs.Base64Law.{Small, below, sextets, small-sextets, symbol_at, symbols-are}
@@ -31,12 +31,12 @@ clean-field : (xs : List ℕ) → Clean xs → is_field xs ≡ true
 clean-field [] h = refl
 clean-field (b ∷ xs) h = rw h.0 (clean-field xs h.2)
 
-piece-step : (b : ℕ) (piece rest : List ℕ) (more : List (List ℕ)) → eqb b 63 ≡ false → pieces_of rest ≡ piece ∷ more → pieces_of (b ∷ rest) ≡ (b ∷ piece) ∷ more
-piece-step b piece rest more e f = rw e (ap (onto_first b) f)
+segment-step : (b : ℕ) (segment rest : List ℕ) (more : List (List ℕ)) → eqb b 63 ≡ false → segments_of rest ≡ segment ∷ more → segments_of (b ∷ rest) ≡ (b ∷ segment) ∷ more
+segment-step b segment rest more e f = rw e (ap (onto_first b) f)
 
-clean-piece : (xs rest : List ℕ) → Clean xs → pieces_of (xs ++ 63 ∷ rest) ≡ xs ∷ pieces_of rest
-clean-piece [] rest h = refl
-clean-piece (b ∷ xs) rest h = piece-step b xs (xs ++ 63 ∷ rest) (pieces_of rest) h.1 (clean-piece xs rest h.2)
+clean-segment : (xs rest : List ℕ) → Clean xs → segments_of (xs ++ 63 ∷ rest) ≡ xs ∷ segments_of rest
+clean-segment [] rest h = refl
+clean-segment (b ∷ xs) rest h = segment-step b xs (xs ++ 63 ∷ rest) (segments_of rest) h.1 (clean-segment xs rest h.2)
 
 clean-append : (xs ys : List ℕ) → Clean xs → Clean ys → Clean (xs ++ ys)
 clean-append [] ys h k = k
@@ -65,20 +65,20 @@ whole-word first more word e l =
     ∙ ap (λ xs. word.text ++ xs) (nothing-after (length more))
     ∙ append-nil word.text
 
-word-pieces : (encoded : List ℕ) → Clean encoded → pieces_of (encoded ++ 63 ∷ 61 ∷ []) ≡ encoded ∷ (61 ∷ []) ∷ []
-word-pieces encoded h = clean-piece encoded (61 ∷ []) h
+word-segments : (encoded : List ℕ) → Clean encoded → segments_of (encoded ++ 63 ∷ 61 ∷ []) ≡ encoded ∷ (61 ∷ []) ∷ []
+word-segments encoded h = clean-segment encoded (61 ∷ []) h
 
 abbrev word_record : List ℕ → List ℕ → EncodedWord
 word_record encoded bytes = record { len = 5 + 1 + length encoded + 6; text = bytes }
 
 b-of : (encoded bytes : List ℕ) → IsUtf8 bytes → Clean encoded → b_bytes encoded ≡ Some bytes → word_of (codes "=?utf-8?B?" ++ (encoded ++ codes "?=")) ≡ Some (word_record encoded bytes)
 b-of encoded bytes u h e =
-    ap (λ ps. option_and_then word_of_fields (fields_of ((61 ∷ []) ∷ codes "utf-8" ∷ (66 ∷ []) ∷ ps))) (word-pieces encoded h)
+    ap (λ ps. option_and_then word_of_fields (fields_of ((61 ∷ []) ∷ codes "utf-8" ∷ (66 ∷ []) ∷ ps))) (word-segments encoded h)
     ∙ ap (option_map (λ text. record { len = 5 + 1 + length encoded + 6; text = text })) (utf8-text (66 ∷ []) encoded bytes u h e)
 
 q-of : (encoded bytes : List ℕ) → IsUtf8 bytes → Clean encoded → q_bytes encoded ≡ Some bytes → word_of (codes "=?utf-8?Q?" ++ (encoded ++ codes "?=")) ≡ Some (word_record encoded bytes)
 q-of encoded bytes u h e =
-    ap (λ ps. option_and_then word_of_fields (fields_of ((61 ∷ []) ∷ codes "utf-8" ∷ (81 ∷ []) ∷ ps))) (word-pieces encoded h)
+    ap (λ ps. option_and_then word_of_fields (fields_of ((61 ∷ []) ∷ codes "utf-8" ∷ (81 ∷ []) ∷ ps))) (word-segments encoded h)
     ∙ ap (option_map (λ text. record { len = 5 + 1 + length encoded + 6; text = text })) (utf8-text (81 ∷ []) encoded bytes u h e)
 
 -- the characters of base64 are clean
@@ -160,7 +160,7 @@ q-text plain (b ∷ m) k h = q-step plain b (quoted_line plain m) (plain b) k re
 q-back : (plain : ℕ → Bool) (m : List ℕ) → IsQTest plain → ((i : ℕ) → get_or m i 0 < 256) → q_bytes (quoted_line plain m) ≡ Some m
 q-back plain m k h =
     let q = q-text plain m k h in
-    let p : IsPlainTest plain = λ b e. ((k b e).0, (k b e).1) in
+    let p : IsUnencodedTest plain = λ b e. ((k b e).0, (k b e).1) in
     ap (λ t. cond t (Some (unescaped (map spaced (quoted_line plain m)))) None) q.1
     ∙ ap (λ xs. Some (unescaped xs)) q.2 ∙ ap Some (unescaped-back plain m p h)
 

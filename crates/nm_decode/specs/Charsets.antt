@@ -22,7 +22,7 @@ char_in _ b = if nat_lt b 128 then b else 0xFFFD
 abbrev pub single_byte_text : Charset → List ℕ → List ℕ
 single_byte_text charset bytes = encode_utf8_all (map (char_in charset) bytes)
 
--- the text of bytes in a charset; damaged UTF-8 is U+FFFD for each maximal piece
+-- the text of bytes in a charset; damaged UTF-8 is U+FFFD for each maximal subpart
 abbrev pub text_in : Charset → List ℕ → List ℕ
 text_in Utf8 bytes = utf8_lossy bytes
 text_in charset bytes = single_byte_text charset bytes

@@ -52,17 +52,17 @@ abbrev pub is_equals : List ℕ → Bool
 is_equals (a ∷ []) = a == 61
 is_equals _ = false
 
--- the first piece begins with `=`
+-- the first segment begins with `=`
 abbrev pub begins_with_equals : List (List ℕ) → Bool
-begins_with_equals ((a ∷ more) ∷ pieces) = a == 61
+begins_with_equals ((a ∷ more) ∷ segments) = a == 61
 begins_with_equals _ = false
 
 -- what stands between the `?`
-abbrev pub pieces_of : List ℕ → List (List ℕ)
-pieces_of text = slice_split (is_byte 63) text
+abbrev pub segments_of : List ℕ → List (List ℕ)
+segments_of text = slice_split (is_byte 63) text
 
--- the charset, the encoding and the encoded text of the word with which a text begins, by its pieces: `=`, the charset,
--- the encoding, the encoded text, and a piece that begins with `=`
+-- the charset, the encoding and the encoded text of the word with which a text begins, by its segments: `=`, the charset,
+-- the encoding, the encoded text, and a segment that begins with `=`
 abbrev pub fields_of : List (List ℕ) → Option (List ℕ × List ℕ × List ℕ)
 fields_of (first ∷ charset ∷ encoding ∷ text ∷ more) =
     if is_equals first && begins_with_equals more then Some (charset, encoding, text) else None
@@ -74,7 +74,7 @@ word_of_fields f = option_map (λ text. record { len = length f.0 + length f.1 +
 
 -- the encoded word that decodes with which a text begins
 abbrev pub word_of : List ℕ → Option EncodedWord
-word_of text = option_and_then word_of_fields (fields_of (pieces_of text))
+word_of text = option_and_then word_of_fields (fields_of (segments_of text))
 
 -- a word at the front, or else a later one
 abbrev pub or_later : Option EncodedWord → Option FoundWord → Option FoundWord
@@ -112,12 +112,12 @@ between gap = if is_all_white_space gap then [] else gap
 
 -- a word after another, with the gap between them
 abbrev pub later_word : List ℕ × List ℕ → List ℕ
-later_word piece = between piece.0 ++ piece.1
+later_word gap_and_word = between gap_and_word.0 ++ gap_and_word.1
 
 -- the text of a cut: its words decoded
 abbrev pub joined : List (List ℕ × List ℕ) → List ℕ → List ℕ
 joined [] last = last
-joined (piece ∷ more) last = piece.0 ++ (piece.1 ++ (flat_map later_word more ++ last))
+joined (gap_and_word ∷ more) last = gap_and_word.0 ++ (gap_and_word.1 ++ (flat_map later_word more ++ last))
 
 -- the text with its encoded words decoded: it has no more words than bytes
 abbrev pub words_decoded : List ℕ → List ℕ

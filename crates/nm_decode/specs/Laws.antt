@@ -14,8 +14,8 @@ has_mark (a ∷ []) = false
 has_mark (a ∷ b ∷ more) = a == 61 && b == 63 || has_mark (b ∷ more)
 
 -- bytes that may stand for themselves in quoted-printable: neither `=` nor white space
-abbrev pub IsPlainTest : (ℕ → Bool) → Type 0
-IsPlainTest plain = (b : ℕ) → plain b ≡ true → (b ≢ 61) × (is_white_space b ≡ false)
+abbrev pub IsUnencodedTest : (ℕ → Bool) → Type 0
+IsUnencodedTest unencoded = (b : ℕ) → unencoded b ≡ true → (b ≢ 61) × (is_white_space b ≡ false)
 
 -- the hex digit of a number below 16
 abbrev pub hex_digit : ℕ → ℕ
@@ -23,11 +23,11 @@ hex_digit n = if nat_lt n 10 then n + 48 else n + 55
 
 -- a byte in quoted-printable: itself, or `=` and two hex digits
 abbrev pub quoted_byte : (ℕ → Bool) → ℕ → List ℕ
-quoted_byte plain b = if plain b then b ∷ [] else 61 ∷ hex_digit (b / 16) ∷ hex_digit (b % 16) ∷ []
+quoted_byte unencoded b = if unencoded b then b ∷ [] else 61 ∷ hex_digit (b / 16) ∷ hex_digit (b % 16) ∷ []
 
 -- bytes in quoted-printable, on one line
 abbrev pub quoted_line : (ℕ → Bool) → List ℕ → List ℕ
-quoted_line plain bytes = flat_map (quoted_byte plain) bytes
+quoted_line unencoded bytes = flat_map (quoted_byte unencoded) bytes
 
 -- a text as one encoded word in B
 abbrev pub b_word : List ℕ → List ℕ
@@ -35,11 +35,11 @@ b_word text = codes "=?utf-8?B?" ++ (encode_of standard text ++ codes "?=")
 
 -- bytes that may stand for themselves in Q: neither `=`, `?`, `_` nor white space
 abbrev pub IsQTest : (ℕ → Bool) → Type 0
-IsQTest plain = (b : ℕ) → plain b ≡ true → (b ≢ 61) × (is_white_space b ≡ false) × (b ≢ 63) × (b ≢ 95)
+IsQTest unencoded = (b : ℕ) → unencoded b ≡ true → (b ≢ 61) × (is_white_space b ≡ false) × (b ≢ 63) × (b ≢ 95)
 
 -- a text as one encoded word in Q
 abbrev pub q_word : (ℕ → Bool) → List ℕ → List ℕ
-q_word plain text = codes "=?utf-8?Q?" ++ (quoted_line plain text ++ codes "?=")
+q_word unencoded text = codes "=?utf-8?Q?" ++ (quoted_line unencoded text ++ codes "?=")
 
 -- an encoded word of these fields
 abbrev pub word_written : List ℕ → List ℕ → List ℕ → List ℕ

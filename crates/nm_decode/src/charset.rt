@@ -62,7 +62,7 @@ pub(crate) fn text_in(alloc: Global, charset: Charset, bytes: &[u8]) -> Result<T
     }
 }
 
-/// Runs of ASCII go over in one piece.
+/// Runs of ASCII go over at once.
 fn decode_single_byte(alloc: Global, charset: Charset, bytes: &[u8]) -> Result<Text, NoMemory>
     ensures { IfOk result (λ text. text ≡ single_byte_text charset bytes.now) }
 {

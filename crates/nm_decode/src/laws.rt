@@ -6,7 +6,7 @@ ghost use Rattle.base64.specs.GeneralPurpose.{encode_of};
 ghost use Rattle.nm_text.specs.WhiteSpace.{is_all_white_space};
 ghost use Rattle.nm_decode.specs.Base64.{base64_of};
 ghost use Rattle.nm_decode.specs.EncodedWords.{words_decoded};
-ghost use Rattle.nm_decode.specs.Laws.{IsPlainTest, IsQTest, IsWordOf, b_word, has_mark, q_word, quoted_line};
+ghost use Rattle.nm_decode.specs.Laws.{IsUnencodedTest, IsQTest, IsWordOf, b_word, has_mark, q_word, quoted_line};
 ghost use Rattle.nm_decode.specs.QuotedPrintable.{quoted_of};
 
 /// A text in which no `=?` stands stays as it is.
@@ -27,8 +27,8 @@ pub fn base64_reads_back(bytes: &[u8])
 /// Bytes in quoted-printable (RFC 2045, section 6.7) read back as the bytes, whichever of them stand for themselves, and
 /// the soft break after them vanishes.
 pub fn quoted_printable_reads_back(bytes: &[u8], after: &[u8])
-    ensures { (plain : ℕ → Bool) → IsPlainTest plain
-        → quoted_of (quoted_line plain bytes.now ++ 61 ∷ 10 ∷ after.now) ≡ bytes.now ++ quoted_of after.now }
+    ensures { (unencoded : ℕ → Bool) → IsUnencodedTest unencoded
+        → quoted_of (quoted_line unencoded bytes.now ++ 61 ∷ 10 ∷ after.now) ≡ bytes.now ++ quoted_of after.now }
 {
     let _ = bytes;
     let _ = after;
@@ -43,7 +43,7 @@ pub fn a_b_word_reads_back(text: &str)
 
 /// Any text as one encoded word in Q reads back as the text, whichever of its bytes stand for themselves.
 pub fn a_q_word_reads_back(text: &str)
-    ensures { (plain : ℕ → Bool) → IsQTest plain → words_decoded (q_word plain text.now) ≡ text.now }
+    ensures { (unencoded : ℕ → Bool) → IsQTest unencoded → words_decoded (q_word unencoded text.now) ≡ text.now }
 {
     let _ = text.as_bytes();
 }

@@ -46,7 +46,7 @@ fn has_last(line: &[u8], byte: u8) -> bool
     }
 }
 
-/// Runs of plain bytes go over in one piece.
+/// Runs of bytes that stand for themselves go over at once.
 pub(crate) fn push_unescaped(out: &mut Vec<u8>, text: &[u8]) -> Result<(), NoMemory>
     ensures { OnOk result (out.new.items ≡ out.old.items ++ unescaped text.now) }
 {

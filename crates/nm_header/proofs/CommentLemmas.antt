@@ -5,7 +5,7 @@ use Rattle.std.specs.Prelude.{IsUtf8}
 use Rattle.std.proofs.lemmas.List.{drop_at, drop_min, length-take-le, take-append-drop}
 use Rattle.nm_header.specs.Comments.{comment_len, depth_after, lexeme_more, lexemes_of}
 use Rattle.nm_text.specs.QuotedStrings.{is_special, pair_more, pairs_of, quoted_len}
-use Rattle.nm_header.proofs.DepthLemmas.{comment_is, depth_through, neq, neq-eqb, sign_is}
+use Rattle.nm_header.proofs.DepthLemmas.{comment_is, depth_through, neq, neq-eqb, special_is}
 use Rattle.nm_header.proofs.CutLemmas.{cut-cons, cut-nil}
 use Rattle.nm_header.proofs.Utf8Lemmas.{split_ascii}
 
@@ -49,7 +49,7 @@ depth_rise depth pair =
 pub closed_by : (depth : ℕ) (pair : List ℕ) → 0 < depth → depth_after depth pair ≡ 0 → pair ≡ 41 ∷ []
 closed_by depth pair h e =
     elim (is_special 41 pair) as (λ v. is_special 41 pair ≡ v → cond v (depth - 1) (cond (is_special 40 pair) (depth + 1) depth) ≡ 0 → pair ≡ 41 ∷ []) [
-      | true ↦ λ s k. sign_is 41 pair s
+      | true ↦ λ s k. special_is 41 pair s
       | false ↦ λ s. elim (is_special 40 pair) as (λ v. cond v (depth + 1) depth ≡ 0 → pair ≡ 41 ∷ []) [ true ↦ λ k. absurd (omega arith) | false ↦ λ k. absurd (omega arith) ]
     ] refl e
 

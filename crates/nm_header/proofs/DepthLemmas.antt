@@ -19,10 +19,10 @@ pub neq-eqb : (a : ℕ) → (a ≡ 0 → ⊥) → (a == 0) ≡ false
 neq-eqb a n = neq a 0 n
 
 -- a special is the pair itself
-pub sign_is : (special : ℕ) (pair : List ℕ) → is_special special pair ≡ true → pair ≡ special ∷ []
-sign_is special [] e = absurd (cc)
-sign_is special (b ∷ []) e = ap (λ x. x ∷ []) (eqb-true b special e)
-sign_is special (b ∷ c ∷ more) e = absurd (cc)
+pub special_is : (special : ℕ) (pair : List ℕ) → is_special special pair ≡ true → pair ≡ special ∷ []
+special_is special [] e = absurd (cc)
+special_is special (b ∷ []) e = ap (λ x. x ∷ []) (eqb-true b special e)
+special_is special (b ∷ c ∷ more) e = absurd (cc)
 
 -- the bytes up to the pair behind which no comment is open
 abbrev pub depth_through : ℕ → List (List ℕ) → ℕ
@@ -40,7 +40,7 @@ same_test a b c d there back =
     ] refl
 
 not_both : (u : List ℕ) → is_special 41 u ≡ true → is_special 40 u ≡ false
-not_both u s = ap (is_special 40) (sign_is 41 u s)
+not_both u s = ap (is_special 40) (special_is 41 u s)
 
 -- one pair more in front
 closes_cons : (depth : ℕ) (u : List ℕ) (front : List (List ℕ)) → 0 < depth → closes depth (u ∷ front) ≡ closes (depth_after depth u) front

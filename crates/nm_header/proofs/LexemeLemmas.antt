@@ -18,26 +18,26 @@ angle_some text at e = let place = place_of is_greater_than text at e in let ins
 pub angle_none : (text : List ℕ) → position is_greater_than text ≡ None → length text ≡ min (position_or_len is_greater_than text + 1) (length text)
 angle_none text e = let long = no_place_of is_greater_than text e in omega arith
 
-token_of : (b : ℕ) (text : List ℕ) (n : ℕ) → mailbox_lexeme_more b text ≡ n → mailbox_lexemes_of (b ∷ text) ≡ take (1 + n) (b ∷ text) ∷ mailbox_lexemes_of (drop (1 + n) (b ∷ text))
-token_of b text n e =
+first_of : (b : ℕ) (text : List ℕ) (n : ℕ) → mailbox_lexeme_more b text ≡ n → mailbox_lexemes_of (b ∷ text) ≡ take (1 + n) (b ∷ text) ∷ mailbox_lexemes_of (drop (1 + n) (b ∷ text))
+first_of b text n e =
     let one : 1 + n ≡ suc n = omega arith in
     cut-cons mailbox_lexeme_more b text ∙ ap (λ k. (b ∷ take k text) ∷ mailbox_lexemes_of (drop k text)) e ∙ ap (λ k. take k (b ∷ text) ∷ mailbox_lexemes_of (drop k (b ∷ text))) (sym one)
 
-pub token_quoted : (text behind : List ℕ) (n : ℕ) → 0 < length text → get_or text 0 0 ≡ 34 → behind ≡ drop 1 text → n ≡ quoted_len behind → mailbox_lexemes_of text ≡ take (1 + n) text ∷ mailbox_lexemes_of (drop (1 + n) text)
-token_quoted [] behind n h e r k = absurd (omega arith)
-token_quoted (b ∷ text) behind n h e r k = token_of b text n (ap (λ x. mailbox_lexeme_more x text) e ∙ ap quoted_len (sym r) ∙ sym k)
+pub first_quoted : (text behind : List ℕ) (n : ℕ) → 0 < length text → get_or text 0 0 ≡ 34 → behind ≡ drop 1 text → n ≡ quoted_len behind → mailbox_lexemes_of text ≡ take (1 + n) text ∷ mailbox_lexemes_of (drop (1 + n) text)
+first_quoted [] behind n h e r k = absurd (omega arith)
+first_quoted (b ∷ text) behind n h e r k = first_of b text n (ap (λ x. mailbox_lexeme_more x text) e ∙ ap quoted_len (sym r) ∙ sym k)
 
-pub token_angle : (text behind : List ℕ) (n : ℕ) → 0 < length text → get_or text 0 0 ≡ 60 → behind ≡ drop 1 text → n ≡ min (position_or_len is_greater_than behind + 1) (length behind) → mailbox_lexemes_of text ≡ take (1 + n) text ∷ mailbox_lexemes_of (drop (1 + n) text)
-token_angle [] behind n h e r k = absurd (omega arith)
-token_angle (b ∷ text) behind n h e r k =
+pub first_angle : (text behind : List ℕ) (n : ℕ) → 0 < length text → get_or text 0 0 ≡ 60 → behind ≡ drop 1 text → n ≡ min (position_or_len is_greater_than behind + 1) (length behind) → mailbox_lexemes_of text ≡ take (1 + n) text ∷ mailbox_lexemes_of (drop (1 + n) text)
+first_angle [] behind n h e r k = absurd (omega arith)
+first_angle (b ∷ text) behind n h e r k =
     let m : ℕ = position_or_len is_greater_than text + 1 in
     let size : n ≡ min m (length text) = k ∙ ap (λ x. min (position_or_len is_greater_than x + 1) (length x)) r in
     let one : 1 + n ≡ suc n = omega arith in
     cut-cons mailbox_lexeme_more b text ∙ ap (λ x. (b ∷ take (mailbox_lexeme_more x text) text) ∷ mailbox_lexemes_of (drop (mailbox_lexeme_more x text) text)) e ∙ ap (λ x. (b ∷ x) ∷ mailbox_lexemes_of (drop m text)) (sym (take_min m text)) ∙ ap (λ x. (b ∷ take (min m (length text)) text) ∷ mailbox_lexemes_of x) (sym (drop_min m text)) ∙ ap (λ k. (b ∷ take k text) ∷ mailbox_lexemes_of (drop k text)) (sym size) ∙ ap (λ k. take k (b ∷ text) ∷ mailbox_lexemes_of (drop k (b ∷ text))) (sym one)
 
-pub token_unit : (text : List ℕ) (n : ℕ) → 0 < length text → (get_or text 0 0 ≡ 34 → ⊥) → (get_or text 0 0 ≡ 60 → ⊥) → pairs_of text ≡ take n text ∷ pairs_of (drop n text) → n ≤ length text → mailbox_lexemes_of text ≡ take n text ∷ mailbox_lexemes_of (drop n text)
-token_unit [] n h no_quote no_angle first within = absurd (omega arith)
-token_unit (b ∷ text) n h no_quote no_angle first within =
+pub first_pair : (text : List ℕ) (n : ℕ) → 0 < length text → (get_or text 0 0 ≡ 34 → ⊥) → (get_or text 0 0 ≡ 60 → ⊥) → pairs_of text ≡ take n text ∷ pairs_of (drop n text) → n ≤ length text → mailbox_lexemes_of text ≡ take n text ∷ mailbox_lexemes_of (drop n text)
+first_pair [] n h no_quote no_angle first within = absurd (omega arith)
+first_pair (b ∷ text) n h no_quote no_angle first within =
     let m : ℕ = pair_more b text in
     let both : (b ∷ take m text) ∷ pairs_of (drop m text) ≡ take n (b ∷ text) ∷ pairs_of (drop n (b ∷ text)) = sym (cut-cons pair_more b text) ∙ first in
     let same : b ∷ take m text ≡ take n (b ∷ text) = cc in

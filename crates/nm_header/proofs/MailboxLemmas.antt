@@ -17,30 +17,30 @@ use Rattle.nm_header.proofs.DepthLemmas.{neq}
 use Rattle.nm_header.proofs.LexemeLemmas.{before_first-no, before_is}
 
 -- ---- where the text may be cut
-sign_small : (specials : List ℕ) (b : ℕ) → list_all (λ s. ltb s 128) specials ≡ true → list_any (λ s. s == b) specials ≡ true → b < 128
-sign_small [] b small e = absurd (cc)
-sign_small (s ∷ specials) b small e =
+special_small : (specials : List ℕ) (b : ℕ) → list_all (λ s. ltb s 128) specials ≡ true → list_any (λ s. s == b) specials ≡ true → b < 128
+special_small [] b small e = absurd (cc)
+special_small (s ∷ specials) b small e =
     let first : ltb s 128 ≡ true = (and_parts (ltb s 128) (list_all (λ x. ltb x 128) specials) small).0 in
     let others : list_all (λ x. ltb x 128) specials ≡ true = (and_parts (ltb s 128) (list_all (λ x. ltb x 128) specials) small).1 in
     elim (s == b) as (λ v. (s == b) ≡ v → b < 128) [
       | true ↦ λ h. let same : s ≡ b = eqb-true s b h in let low : s < 128 = ltb-true s 128 first in omega arith
-      | false ↦ λ h. sign_small specials b others (sym (ap (λ v. v || list_any (λ x. x == b) specials) h) ∙ e)
+      | false ↦ λ h. special_small specials b others (sym (ap (λ v. v || list_any (λ x. x == b) specials) h) ∙ e)
     ] refl
 
 -- the byte at which the lexemes stop
-pub stop_sign : (specials text : List ℕ) (n : ℕ) → StopsAt specials text n → n < length text → list_any (λ s. s == get_or text n 0) specials ≡ true
-stop_sign specials text n s h = sym (ap (begins_with specials) (drop_more text n 0 h)) ∙ s.stop h
+pub stop_special : (specials text : List ℕ) (n : ℕ) → StopsAt specials text n → n < length text → list_any (λ s. s == get_or text n 0) specials ≡ true
+stop_special specials text n s h = sym (ap (begins_with specials) (drop_more text n 0 h)) ∙ s.stop h
 
 pub stop_before : (specials text : List ℕ) (n : ℕ) → list_all (λ s. ltb s 128) specials ≡ true → StopsAt specials text n → IsCharBoundary text n
 stop_before specials text n small s =
     let within = s.within in
     elim (ltb n (length text)) as (λ v. ltb n (length text) ≡ v → IsCharBoundary text n) [
-      | true ↦ λ h. let inside : n < length text = ltb-true n (length text) h in IsCharBoundary-before_ascii text n inside (sign_small specials (get_or text n 0) small (stop_sign specials text n s inside))
+      | true ↦ λ h. let inside : n < length text = ltb-true n (length text) h in IsCharBoundary-before_ascii text n inside (special_small specials (get_or text n 0) small (stop_special specials text n s inside))
       | false ↦ λ h. let all : length text ≡ n = (let long : length text ≤ n = ltb-false n (length text) h in omega arith) in subst (IsCharBoundary text) all (IsCharBoundary-end text)
     ] refl
 
 pub stop_after : (specials text : List ℕ) (n : ℕ) → list_all (λ s. ltb s 128) specials ≡ true → IsUtf8 text → StopsAt specials text n → n < length text → IsCharBoundary text (n + 1)
-stop_after specials text n small u s inside = IsCharBoundary-after_ascii text n u inside (sign_small specials (get_or text n 0) small (stop_sign specials text n s inside))
+stop_after specials text n small u s inside = IsCharBoundary-after_ascii text n u inside (special_small specials (get_or text n 0) small (stop_special specials text n s inside))
 
 -- ---- tests on specials
 or_three : (x y z w : Bool) → (x || (y || (z || (w || false)))) ≡ true → (w || false) ≡ false → (x || (y || (z || false))) ≡ true
@@ -171,8 +171,8 @@ in_colon lexemes c rest none e f =
     let whole : slice_split is_separator (lexemes ++ c ∷ rest) ≡ (lexemes ++ c ∷ part) ∷ parts = split_front is_separator lexemes (c ∷ rest) (c ∷ part) parts (none_of is_separator (begins_with part_ends) no_separator lexemes none) front in
     ap (flat_map (λ x. mailbox_in (after_colon x))) whole ∙ ap (λ x. mailbox_in x ++ flat_map (λ y. mailbox_in (after_colon y)) parts) (colon_behind lexemes c part e) ∙ sym (ap (flat_map (λ x. mailbox_in (after_colon x))) split)
 
-sign_token : (b : ℕ) (text : List ℕ) → list_any (λ s. s == b) part_ends ≡ true → mailbox_lexeme_more b text ≡ 0
-sign_token b text e =
+special_lexeme : (b : ℕ) (text : List ℕ) → list_any (λ s. s == b) part_ends ≡ true → mailbox_lexeme_more b text ≡ 0
+special_lexeme b text e =
     elim (44 == b) as (λ v. (44 == b) ≡ v → (v || ((59 == b) || ((58 == b) || false))) ≡ true → mailbox_lexeme_more b text ≡ 0) [
       | true ↦ λ h k. ap (λ x. mailbox_lexeme_more x text) (sym (eqb-true 44 b h))
       | false ↦ λ h. elim (59 == b) as (λ v. (59 == b) ≡ v → (v || ((58 == b) || false)) ≡ true → mailbox_lexeme_more b text ≡ 0) [
@@ -184,11 +184,11 @@ sign_token b text e =
       ] refl
     ] refl e
 
-sign_tokens : (text : List ℕ) (n : ℕ) → StopsAt part_ends text n → n < length text → mailbox_lexemes_of (drop n text) ≡ (get_or text n 0 ∷ []) ∷ mailbox_lexemes_of (drop (n + 1) text)
-sign_tokens text n s h =
+special_lexemes : (text : List ℕ) (n : ℕ) → StopsAt part_ends text n → n < length text → mailbox_lexemes_of (drop n text) ≡ (get_or text n 0 ∷ []) ∷ mailbox_lexemes_of (drop (n + 1) text)
+special_lexemes text n s h =
     let b : ℕ = get_or text n 0 in
     let rest : List ℕ = drop (n + 1) text in
-    ap mailbox_lexemes_of (drop_more text n 0 h) ∙ cut-cons mailbox_lexeme_more b rest ∙ ap (λ k. (b ∷ take k rest) ∷ mailbox_lexemes_of (drop k rest)) (sign_token b rest (stop_sign part_ends text n s h))
+    ap mailbox_lexemes_of (drop_more text n 0 h) ∙ cut-cons mailbox_lexeme_more b rest ∙ ap (λ k. (b ∷ take k rest) ∷ mailbox_lexemes_of (drop k rest)) (special_lexeme b rest (stop_special part_ends text n s h))
 
 pub in_nil : mailboxes_in (mailbox_lexemes_of []) ≡ []
 in_nil = ap mailboxes_in (cut-nil mailbox_lexeme_more)
@@ -202,14 +202,14 @@ part_end text n before after s e a =
 
 pub part_colon : (text : List ℕ) (n : ℕ) (before : List Mailbox) → StopsAt part_ends text n → n < length text → get_or text n 0 ≡ 58 → before ++ mailboxes_in (mailbox_lexemes_of (drop (n + 1) text)) ≡ before ++ mailboxes_in (mailbox_lexemes_of text)
 part_colon text n before s h e =
-    let lexemes : mailbox_lexemes_of text ≡ lexemes_before part_ends text ++ (get_or text n 0 ∷ []) ∷ mailbox_lexemes_of (drop (n + 1) text) = s.lexemes ∙ ap (λ x. lexemes_before part_ends text ++ x) (sign_tokens text n s h) in
+    let lexemes : mailbox_lexemes_of text ≡ lexemes_before part_ends text ++ (get_or text n 0 ∷ []) ∷ mailbox_lexemes_of (drop (n + 1) text) = s.lexemes ∙ ap (λ x. lexemes_before part_ends text ++ x) (special_lexemes text n s h) in
     ap (λ x. before ++ x) (sym (ap mailboxes_in lexemes ∙ in_colon (lexemes_before part_ends text) (get_or text n 0 ∷ []) (mailbox_lexemes_of (drop (n + 1) text)) s.none (ap (λ b. is_colon (b ∷ [])) e) (ap (λ b. is_separator (b ∷ [])) e)))
 
 pub part_separator : (text : List ℕ) (n : ℕ) (before after : List Mailbox) → StopsAt part_ends text n → n < length text → (get_or text n 0 ≡ 58 → ⊥) → after ≡ before ++ mailbox_in (lexemes_before part_ends text) → after ++ mailboxes_in (mailbox_lexemes_of (drop (n + 1) text)) ≡ before ++ mailboxes_in (mailbox_lexemes_of text)
 part_separator text n before after s h e a =
     let b : ℕ = get_or text n 0 in
-    let special : is_separator (b ∷ []) ≡ true = sym (ap (λ v. (44 == b) || ((59 == b) || (v || false))) (neq 58 b (λ k. e (sym k)))) ∙ stop_sign part_ends text n s h in
-    let lexemes : mailbox_lexemes_of text ≡ lexemes_before part_ends text ++ (b ∷ []) ∷ mailbox_lexemes_of (drop (n + 1) text) = s.lexemes ∙ ap (λ x. lexemes_before part_ends text ++ x) (sign_tokens text n s h) in
+    let special : is_separator (b ∷ []) ≡ true = sym (ap (λ v. (44 == b) || ((59 == b) || (v || false))) (neq 58 b (λ k. e (sym k)))) ∙ stop_special part_ends text n s h in
+    let lexemes : mailbox_lexemes_of text ≡ lexemes_before part_ends text ++ (b ∷ []) ∷ mailbox_lexemes_of (drop (n + 1) text) = s.lexemes ∙ ap (λ x. lexemes_before part_ends text ++ x) (special_lexemes text n s h) in
     ap (λ x. x ++ mailboxes_in (mailbox_lexemes_of (drop (n + 1) text))) a ∙ append_assoc before (mailbox_in (lexemes_before part_ends text)) (mailboxes_in (mailbox_lexemes_of (drop (n + 1) text))) ∙ ap (λ x. before ++ x) (sym (ap mailboxes_in lexemes ∙ in_separator (lexemes_before part_ends text) (b ∷ []) (mailbox_lexemes_of (drop (n + 1) text)) s.none special))
 
 -- ---- one mailbox

@@ -142,5 +142,5 @@ first_within bytes rest first n r some k =
     let left : length rest ≡ length bytes - first = ap length r ∙ length-drop first bytes in
     omega arith
 
-pub none_left : (left : List ℕ) → (length left == 0) ≡ true → length left ≡ 0
-none_left left e = eqb-true (length left) 0 e
+pub no_parts : (left : List ℕ) → (length left == 0) ≡ true → length left ≡ 0
+no_parts left e = eqb-true (length left) 0 e

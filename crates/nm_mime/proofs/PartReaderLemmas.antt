@@ -3,7 +3,7 @@ use Rattle.std.proofs.Common.{◌≡◌, ℕ, ◌+◌, ◌-◌, ◌≤◌, List,
 use Rattle.std.proofs.lemmas.List.{append-nil, take_all}
 use Rattle.nm_header.specs.Fields.{header_of}
 use Rattle.nm_header.specs.declared.header.HeaderList.{HeaderList}
-use Rattle.nm_mime.specs.PartReader.{parts_left}
+use Rattle.nm_mime.specs.PartReader.{entity_parts}
 use Rattle.nm_mime.specs.Pending.{AllInside, entities_to_come, pending_in}
 use Rattle.nm_mime.specs.declared.pending.Pending.{Pending}
 use Rattle.nm_mime.specs.Parts.{IsInside, IsWithin, bytes_in, opening_in, opening_of, parts_of, parts_upto, whole_of}
@@ -34,14 +34,14 @@ whole_inside mail opening e = subst (λ (o : Opening). IsInside (length mail) o.
 pub part_inside : (mail : List ℕ) (part : Part) → part ≡ (opening_of mail (whole_of mail)).part → IsInside (length mail) part
 part_inside mail part e = subst (IsInside (length mail)) (sym e) (opening_inside mail (whole_of mail) (whole_within mail))
 
-whole_left : (mail : List ℕ) → parts_of mail ≡ parts_left mail (whole_of mail ∷ [])
-unfolding parts_left parts_of
-whole_left mail = sym (append-nil (parts_upto 33 mail (whole_of mail)))
+whole_parts : (mail : List ℕ) → parts_of mail ≡ entity_parts mail (whole_of mail ∷ [])
+unfolding entity_parts parts_of
+whole_parts mail = sym (append-nil (parts_upto 33 mail (whole_of mail)))
 
 pub parts_opened : (mail : List ℕ) (part : Part) (none rest : List Pending) → none ≡ [] → part ≡ (opening_of mail (whole_of mail)).part
-    → reverse rest ≡ pending_in (opening_of mail (whole_of mail)) ++ reverse none → parts_of mail ≡ part ∷ parts_left mail (entities_to_come mail (reverse rest))
+    → reverse rest ≡ pending_in (opening_of mail (whole_of mail)) ++ reverse none → parts_of mail ≡ part ∷ entity_parts mail (entities_to_come mail (reverse rest))
 parts_opened mail part none rest n p r =
-    whole_left mail ∙ part_then_rest mail (whole_of mail ∷ []) (whole_of mail) (reverse none) (reverse rest) part (whole_within mail) (sym (ap (λ x. whole_of mail ∷ entities_to_come mail (reverse x)) n)) p r
+    whole_parts mail ∙ part_then_rest mail (whole_of mail ∷ []) (whole_of mail) (reverse none) (reverse rest) part (whole_within mail) (sym (ap (λ x. whole_of mail ∷ entities_to_come mail (reverse x)) n)) p r
 
 pub opened_stand : (mail : List ℕ) (none rest : List Pending) → none ≡ []
     → reverse rest ≡ pending_in (opening_of mail (whole_of mail)) ++ reverse none → AllInside (length mail) (reverse rest)
@@ -51,9 +51,9 @@ opened_stand mail none rest n r =
 pub next_inside : (mail : List ℕ) (entity : Entity) (part : Part) → IsWithin (length mail) entity → part ≡ (opening_of mail entity).part → IsInside (length mail) part
 next_inside mail entity part w p = subst (IsInside (length mail)) (sym p) (opening_inside mail entity w)
 
-pub none_left : (mail : List ℕ) (entities : List Entity) → entities ≡ [] → parts_left mail entities ≡ []
-unfolding parts_left
-none_left mail entities e = ap (parts_left mail) e
+pub no_parts : (mail : List ℕ) (entities : List Entity) → entities ≡ [] → entity_parts mail entities ≡ []
+unfolding entity_parts
+no_parts mail entities e = ap (entity_parts mail) e
 
 pub next_stand : (mail : List ℕ) (entity : Entity) (between after : List Pending) → IsWithin (length mail) entity → AllInside (length mail) between → after ≡ pending_in (opening_of mail entity) ++ between → AllInside (length mail) after
 next_stand mail entity between after w all a = subst (AllInside (length mail)) (sym a) (opened_inside mail entity between w all)

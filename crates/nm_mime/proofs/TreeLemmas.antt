@@ -6,7 +6,7 @@ use Rattle.std.proofs.lemmas.List.Concat.{flat_map-append}
 use Rattle.nm_text.specs.Lines.{content, lines_of}
 use Rattle.nm_header.specs.Texts.{field_text}
 use Rattle.nm_mime.specs.Children.{delimiters_of, ends_part, is_line_of, part_after, part_at, part_len, spans_in, spans_of, stops}
-use Rattle.nm_mime.specs.PartReader.{parts_left}
+use Rattle.nm_mime.specs.PartReader.{entity_parts}
 use Rattle.nm_mime.specs.Pending.{AllInside, IsOpenInside, IsPendingInside, entities_in, entities_to_come, open_entities, pending_in, pending_of}
 use Rattle.nm_mime.specs.declared.pending.OpenMultipart.{OpenMultipart}
 use Rattle.nm_mime.specs.declared.pending.Pending.{Pending}
@@ -145,8 +145,8 @@ same_level mail part n d (s ∷ spans) e =
     let level : 32 - d ≡ 33 - (part.depth + 1) = omega arith in
     ap (λ k. parts_upto k mail (entity_in part n s) ++ flat_map (parts_upto (32 - d) mail) (entities_from part (n + 1) spans)) level ∙ ap (λ l. parts_upto (33 - (part.depth + 1)) mail (entity_in part n s) ++ l) (same_level mail part (n + 1) d spans e)
 
-children_level : (mail : List ℕ) (opening : Opening) (d : ℕ) → opening.part.depth ≡ d → flat_map (parts_upto (32 - d) mail) (children_of mail opening) ≡ parts_left mail (children_of mail opening)
-unfolding children_of parts_left
+children_level : (mail : List ℕ) (opening : Opening) (d : ℕ) → opening.part.depth ≡ d → flat_map (parts_upto (32 - d) mail) (children_of mail opening) ≡ entity_parts mail (children_of mail opening)
+unfolding children_of entity_parts
 children_level mail opening d e =
     elim (is_opened opening.part.role) as (λ v. flat_map (parts_upto (32 - d) mail) (cond v (entities_from opening.part 0 (inside mail opening)) []) ≡ flat_map (λ entity. parts_upto (33 - entity.depth) mail entity) (cond v (entities_from opening.part 0 (inside mail opening)) [])) [
       | true ↦ same_level mail opening.part 0 d (inside mail opening) e
@@ -157,20 +157,20 @@ pub same_depth : (mail : List ℕ) (entity : Entity) → (opening_of mail entity
 unfolding opening_of
 same_depth mail entity = refl
 
-pub left_step : (mail : List ℕ) (entity : Entity) (rest : List Entity) → entity.depth ≤ 32 → parts_left mail (entity ∷ rest) ≡ (opening_of mail entity).part ∷ (parts_left mail (children_of mail (opening_of mail entity)) ++ parts_left mail rest)
-unfolding parts_left
-left_step mail entity rest h =
+pub parts_step : (mail : List ℕ) (entity : Entity) (rest : List Entity) → entity.depth ≤ 32 → entity_parts mail (entity ∷ rest) ≡ (opening_of mail entity).part ∷ (entity_parts mail (children_of mail (opening_of mail entity)) ++ entity_parts mail rest)
+unfolding entity_parts
+parts_step mail entity rest h =
     let level : 33 - entity.depth ≡ suc (32 - entity.depth) = omega arith in
     let opening : Opening = opening_of mail entity in
-    ap (λ k. parts_upto k mail entity ++ parts_left mail rest) level ∙ ap (λ l. (opening.part ∷ l) ++ parts_left mail rest) (children_level mail opening entity.depth (same_depth mail entity))
+    ap (λ k. parts_upto k mail entity ++ entity_parts mail rest) level ∙ ap (λ l. (opening.part ∷ l) ++ entity_parts mail rest) (children_level mail opening entity.depth (same_depth mail entity))
 
-left-append : (mail : List ℕ) (xs ys : List Entity) → parts_left mail (xs ++ ys) ≡ parts_left mail xs ++ parts_left mail ys
-unfolding parts_left
-left-append mail xs ys = flat_map-append (λ entity. parts_upto (33 - entity.depth) mail entity) xs ys
+parts-append : (mail : List ℕ) (xs ys : List Entity) → entity_parts mail (xs ++ ys) ≡ entity_parts mail xs ++ entity_parts mail ys
+unfolding entity_parts
+parts-append mail xs ys = flat_map-append (λ entity. parts_upto (33 - entity.depth) mail entity) xs ys
 
-left-nil : (mail : List ℕ) → parts_left mail [] ≡ []
-unfolding parts_left
-left-nil mail = refl
+parts-nil : (mail : List ℕ) → entity_parts mail [] ≡ []
+unfolding entity_parts
+parts-nil mail = refl
 
 -- ---- what is still to be read in a part that was just opened are the entities in it
 pending_entities : (mail : List ℕ) (opening : Opening) → entities_in mail (pending_of opening) ≡ entities_from opening.part 0 (inside mail opening)
@@ -207,12 +207,12 @@ opened_inside mail entity rest w all =
     ] refl
 
 -- ---- a part, and all that is still to come after it
-pub part_then_rest : (mail : List ℕ) (entities : List Entity) (entity : Entity) (between after : List Pending) (part : Part) → IsWithin (length mail) entity → entities ≡ entity ∷ entities_to_come mail between → part ≡ (opening_of mail entity).part → after ≡ pending_in (opening_of mail entity) ++ between → parts_left mail entities ≡ part ∷ parts_left mail (entities_to_come mail after)
+pub part_then_rest : (mail : List ℕ) (entities : List Entity) (entity : Entity) (between after : List Pending) (part : Part) → IsWithin (length mail) entity → entities ≡ entity ∷ entities_to_come mail between → part ≡ (opening_of mail entity).part → after ≡ pending_in (opening_of mail entity) ++ between → entity_parts mail entities ≡ part ∷ entity_parts mail (entities_to_come mail after)
 part_then_rest mail entities entity between after part w e p a =
     let opening : Opening = opening_of mail entity in
-    let rest : parts_left mail (entities_to_come mail after) ≡ parts_left mail (children_of mail opening) ++ parts_left mail (entities_to_come mail between) =
-    ap (λ x. parts_left mail (entities_to_come mail x)) a ∙ ap (parts_left mail) (opened_entities mail opening between) ∙ left-append mail (children_of mail opening) (entities_to_come mail between) in
-    ap (parts_left mail) e ∙ left_step mail entity (entities_to_come mail between) w.depth ∙ ap (λ x. opening.part ∷ x) (sym rest) ∙ ap (λ x. x ∷ parts_left mail (entities_to_come mail after)) (sym p)
+    let rest : entity_parts mail (entities_to_come mail after) ≡ entity_parts mail (children_of mail opening) ++ entity_parts mail (entities_to_come mail between) =
+    ap (λ x. entity_parts mail (entities_to_come mail x)) a ∙ ap (entity_parts mail) (opened_entities mail opening between) ∙ parts-append mail (children_of mail opening) (entities_to_come mail between) in
+    ap (entity_parts mail) e ∙ parts_step mail entity (entities_to_come mail between) w.depth ∙ ap (λ x. opening.part ∷ x) (sym rest) ∙ ap (λ x. x ∷ entity_parts mail (entities_to_come mail after)) (sym p)
 
 -- ---- what is read next is on top
 pub on_top : (before after : List Pending) (pending : Pending) → before ≡ after ++ pending ∷ [] → reverse before ≡ pending ∷ reverse after

@@ -3,8 +3,8 @@ use Rattle.std.specs.Prelude.{ℕ, ◌<◌, ◌≤◌}
 use Rattle.nm_mime.specs.declared.children.NextSpan.{NextSpan}
 
 -- the part stands before `end`, and the bytes after it begin after the front of these, which are so many
-pub record IsNextInside (size end : ℕ) (found : NextSpan) : Type 0 where
+pub record IsNextInside (len end : ℕ) (found : NextSpan) : Type 0 where
   pub rises : found.span.from ≤ found.span.to
   pub ends : found.span.to ≤ end
   pub goes_on : 0 < found.next
-  pub within : found.next ≤ size
+  pub within : found.next ≤ len

@@ -43,10 +43,10 @@ abbrev pub after_value : List ℕ → List ℕ
 after_value [] = []
 after_value (b ∷ more) = if b == 34 then after_quoted more else b ∷ more
 
--- this sign at the front
+-- this byte at the front
 abbrev pub begins_with : ℕ → List ℕ → Bool
-begins_with sign [] = false
-begins_with sign (b ∷ more) = b == sign
+begins_with special [] = false
+begins_with special (b ∷ more) = b == special
 
 -- names have no case; one with a `*` is passed over
 abbrev pub kept_param : List ℕ → List ℕ → List Param
@@ -56,12 +56,12 @@ kept_param name value =
 -- the parameter of a name after which this stands: there is none where no `=` follows it
 abbrev pub param_from : List ℕ → List ℕ → List Param
 param_from name [] = []
-param_from name (sign ∷ more) = if sign == 61 then kept_param name (value_in (trimmed_start more)) else []
+param_from name (special ∷ more) = if special == 61 then kept_param name (value_in (trimmed_start more)) else []
 
 -- what stands after the name's value, if it has one
 abbrev pub after_name : List ℕ → List ℕ
 after_name [] = []
-after_name (sign ∷ more) = if sign == 61 then after_value (trimmed_start more) else sign ∷ more
+after_name (special ∷ more) = if special == 61 then after_value (trimmed_start more) else special ∷ more
 
 -- the parameter with which a text begins that stands after a `;`
 abbrev pub param_in : List ℕ → List Param

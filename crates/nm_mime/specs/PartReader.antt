@@ -8,8 +8,8 @@ use Rattle.nm_mime.specs.declared.entity.Part.{Part}
 use Rattle.nm_mime.specs.declared.part_reader.PartReader.{PartReader}
 
 -- the parts of these entities, each before those in it
-unfoldable pub parts_left : List ℕ → List Entity → List Part
-parts_left mail entities = flat_map (λ entity. parts_upto (33 - entity.depth) mail entity) entities
+unfoldable pub entity_parts : List ℕ → List Entity → List Part
+entity_parts mail entities = flat_map (λ entity. parts_upto (33 - entity.depth) mail entity) entities
 
 -- the mail that is read
 abbrev pub mail_of : PartReader → List ℕ
@@ -17,7 +17,7 @@ mail_of reader = reader.mail.now
 
 -- the parts that are still to come
 abbrev pub parts_to_come : PartReader → List Part
-parts_to_come reader = parts_left reader.mail.now (entities_to_come reader.mail.now (reverse reader.rest))
+parts_to_come reader = entity_parts reader.mail.now (entities_to_come reader.mail.now (reverse reader.rest))
 
 -- what is still to be read stands inside the mail
 abbrev pub StandInside : PartReader → Type 0

@@ -22,16 +22,16 @@ use Rattle.nm_mime.specs.declared.types.ContentType.{ContentType}
 abbrev pub bytes_in : List ℕ → ℕ → ℕ → List ℕ
 bytes_in mail from to = take (to - from) (drop from mail)
 
--- the entity stands inside a mail of this size, and is not too deep
-pub record IsWithin (size : ℕ) (entity : Entity) : Type 0 where
+-- the entity stands inside a mail of this length, and is not too deep
+pub record IsWithin (len : ℕ) (entity : Entity) : Type 0 where
   pub rises : entity.from ≤ entity.to
-  pub ends : entity.to ≤ size
+  pub ends : entity.to ≤ len
   pub depth : entity.depth ≤ 32
 
--- the content of the part stands inside a mail of this size, and is not too deep
-pub record IsInside (size : ℕ) (part : Part) : Type 0 where
+-- the content of the part stands inside a mail of this length, and is not too deep
+pub record IsInside (len : ℕ) (part : Part) : Type 0 where
   pub rises : part.from ≤ part.to
-  pub ends : part.to ≤ size
+  pub ends : part.to ≤ len
   pub depth : part.depth ≤ 32
 
 -- the boundary that a type names, or nothing

@@ -34,19 +34,19 @@ abbrev pub entities_to_come : List ℕ → List Pending → List Entity
 entities_to_come mail [] = []
 entities_to_come mail (pending ∷ more) = entities_in mail pending ++ entities_to_come mail more
 
--- the multipart stands inside a mail of this size, its parts are not too deep, and its place is inside it
-pub record IsOpenInside (size : ℕ) (multipart : OpenMultipart) : Type 0 where
+-- the multipart stands inside a mail of this length, its parts are not too deep, and its place is inside it
+pub record IsOpenInside (len : ℕ) (multipart : OpenMultipart) : Type 0 where
   pub few : multipart.before ≤ multipart.at
   pub rises : multipart.at ≤ multipart.part.to
-  pub ends : multipart.part.to ≤ size
+  pub ends : multipart.part.to ≤ len
   pub depth : multipart.part.depth < 32
 
--- what is to be read stands inside a mail of this size
+-- what is to be read stands inside a mail of this length
 abbrev pub IsPendingInside : ℕ → Pending → Type 0
-IsPendingInside size (Mail entity) = IsWithin size entity
-IsPendingInside size (Multipart multipart) = IsOpenInside size multipart
+IsPendingInside len (Mail entity) = IsWithin len entity
+IsPendingInside len (Multipart multipart) = IsOpenInside len multipart
 
 -- each of them does
 abbrev pub AllInside : ℕ → List Pending → Type 0
-AllInside size [] = Unit {0}
-AllInside size (pending ∷ more) = IsPendingInside size pending × AllInside size more
+AllInside len [] = Unit {0}
+AllInside len (pending ∷ more) = IsPendingInside len pending × AllInside len more

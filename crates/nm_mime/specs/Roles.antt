@@ -23,7 +23,7 @@ encoding_of text =
 
 -- one of RFC 2045's tspecials: ( ) < > @ , ; : \ " / [ ] ? =
 abbrev pub is_tspecial : ℕ → Bool
-is_tspecial b = list_any (λ sign. sign == b) (codes "()<>@,;:\\\"/[]?=")
+is_tspecial b = list_any (λ special. special == b) (codes "()<>@,;:\\\"/[]?=")
 
 -- no character of a token (RFC 2045, section 5.1)
 abbrev pub ends_token : ℕ → Bool

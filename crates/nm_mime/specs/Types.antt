@@ -25,8 +25,8 @@ read_type text =
     if is_type (run_of text) then Some (record { kind = map to_ascii_lowercase (run_of text); params = params_of text }) else None
 
 -- where none is read: text/plain in ASCII
-abbrev pub plain_type : ContentType
-plain_type = record { kind = codes "text/plain"; params = record { name = codes "charset"; value = codes "us-ascii" } ∷ [] }
+abbrev pub default_type : ContentType
+default_type = record { kind = codes "text/plain"; params = record { name = codes "charset"; value = codes "us-ascii" } ∷ [] }
 
 -- and in a digest a mail
 abbrev pub mail_type : ContentType
@@ -34,8 +34,8 @@ mail_type = record { kind = codes "message/rfc822"; params = [] }
 
 -- the type that a field's text names
 abbrev pub content_type_of : List ℕ → ContentType
-content_type_of text = unwrap_or (read_type text) plain_type
+content_type_of text = unwrap_or (read_type text) default_type
 
 -- the type of a part; `digest`: it stands in a digest
 abbrev pub type_of : Bool → List ℕ → ContentType
-type_of digest text = unwrap_or (read_type text) (if digest then mail_type else plain_type)
+type_of digest text = unwrap_or (read_type text) (if digest then mail_type else default_type)

@@ -146,12 +146,12 @@ fn after_quoted(text: &[u8]) -> &[u8]
     after
 }
 
-fn begins_with(sign: u8, text: &[u8]) -> bool
-    ensures { result ≡ begins_with sign text.now }
+fn begins_with(special: u8, text: &[u8]) -> bool
+    ensures { result ≡ begins_with special text.now }
 {
     match text {
         [] => false,
-        [first, ..] => *first == sign,
+        [first, ..] => *first == special,
     }
 }
 

@@ -4,7 +4,7 @@ ghost use Rattle.std.specs.Prelude.{◌≡◌, IfOk, IsUtf8, map, position, true
 ghost use Rattle.std.specs.Char.{to_ascii_lowercase};
 ghost use Rattle.std.specs.List.{before_first};
 ghost use Rattle.nm_mime.specs.Params.{params_of};
-ghost use Rattle.nm_mime.specs.Types.{content_type_of, ends_type, is_type, mail_type, plain_type, read_type, run_of, type_of};
+ghost use Rattle.nm_mime.specs.Types.{content_type_of, default_type, ends_type, is_type, mail_type, read_type, run_of, type_of};
 
 use crate::param_list::{Param, params};
 use nm_base::{Many, NoMemory, Text};
@@ -39,7 +39,7 @@ pub(crate) fn part_type(alloc: Global, text: &str, digest: bool) -> Result<Conte
     if digest {
         mail_type(alloc)
     } else {
-        plain_type(alloc)
+        default_type(alloc)
     }
 }
 
@@ -54,8 +54,8 @@ fn read(alloc: Global, run: &[u8], text: &[u8]) -> Result<ContentType, NoMemory>
     Ok(ContentType { kind, params })
 }
 
-fn plain_type(alloc: Global) -> Result<ContentType, NoMemory>
-    ensures { IfOk result (λ plain. plain ≡ plain_type) }
+fn default_type(alloc: Global) -> Result<ContentType, NoMemory>
+    ensures { IfOk result (λ found. found ≡ default_type) }
 {
     let name = Text::of(alloc, "charset")?;
     let value = Text::of(alloc, "us-ascii")?;

@@ -1,13 +1,13 @@
 use Rattle.std.proofs.Common.{reverse}
 use Rattle.nm_mime.specs.Pending.{entities_to_come}
-use Rattle.nm_mime.proofs.PartReaderLemmas.{next_inside, next_stand, none_left}
+use Rattle.nm_mime.proofs.PartReaderLemmas.{next_inside, next_stand, no_parts}
 use Rattle.nm_mime.proofs.TreeLemmas.{part_then_rest}
 use Rattle.nm_mime.proofs.part_reader.PartReader.next.Goals as goal
 
 pub returns-in_default-clause-next : goal.returns-in_default-clause-next
 returns-in_default-clause-next c =
     let none = rw c.in_default.is at c.in_ok-entity.ensures.next in
-    none_left c.args.self.now.mail.now _ none
+    no_parts c.args.self.now.mail.now _ none
 
 pub returns-clause-next : goal.returns-clause-next
 returns-clause-next c =
