@@ -13,15 +13,22 @@ pub fn answer(
     asked: &str,
     input: &[u8],
 ) -> Result<Option<Vec<u8>>, RowError> {
-    let got = match kind {
-        b"quoted-printable" => quoted_printable(alloc, input)?.into_vec(),
-        b"base64" => base64_bytes(alloc, input)?.into_vec(),
-        b"charset" => charset_of(alloc, asked, input)?,
-        b"encoded words" => words_decoded(alloc, input)?,
-        b"words" => words_of(alloc, input)?,
-        _ => return Ok(None),
-    };
-    Ok(Some(got))
+    if kind == b"quoted-printable".as_slice() {
+        return Ok(Some(quoted_printable(alloc, input)?.into_vec()));
+    }
+    if kind == b"base64".as_slice() {
+        return Ok(Some(base64_bytes(alloc, input)?.into_vec()));
+    }
+    if kind == b"charset".as_slice() {
+        return Ok(Some(charset_of(alloc, asked, input)?));
+    }
+    if kind == b"encoded words".as_slice() {
+        return Ok(Some(words_decoded(alloc, input)?));
+    }
+    if kind == b"words".as_slice() {
+        return Ok(Some(words_of(alloc, input)?));
+    }
+    Ok(None)
 }
 
 /// The text of the bytes, whose charset has the label that is asked.

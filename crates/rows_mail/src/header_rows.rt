@@ -1,7 +1,7 @@
 //! Rows on the header of a mail: its fields, and the ids, mailboxes and comments in a text.
 
-use nm_base::Text;
-use nm_header::{fields, ids, mailboxes, plain};
+use nm_base::{Mailbox, MessageId, Text};
+use nm_header::{HeaderField, fields, ids, mailboxes, plain};
 use rows::{Lines, RowError, text_of};
 use std::alloc::Global;
 
@@ -12,28 +12,44 @@ pub fn answer(
     asked: &str,
     input: &[u8],
 ) -> Result<Option<Vec<u8>>, RowError> {
-    let got = match kind {
-        b"fields" => fields_of(alloc, input)?,
-        b"body" => body_of(alloc, input)?,
-        b"field" => texts_of(alloc, asked, input)?,
-        b"first field" => first_text_of(alloc, asked, input)?,
-        b"ids" => ids_of(alloc, input)?,
-        b"mailboxes" => mailboxes_of(alloc, input)?,
-        b"without comments" => without_comments(alloc, input)?,
-        _ => return Ok(None),
-    };
-    Ok(Some(got))
+    if kind == b"fields".as_slice() {
+        return Ok(Some(fields_of(alloc, input)?));
+    }
+    if kind == b"body".as_slice() {
+        return Ok(Some(body_of(alloc, input)?));
+    }
+    if kind == b"field".as_slice() {
+        return Ok(Some(texts_of(alloc, asked, input)?));
+    }
+    if kind == b"first field".as_slice() {
+        return Ok(Some(first_text_of(alloc, asked, input)?));
+    }
+    if kind == b"ids".as_slice() {
+        return Ok(Some(ids_of(alloc, input)?));
+    }
+    if kind == b"mailboxes".as_slice() {
+        return Ok(Some(mailboxes_of(alloc, input)?));
+    }
+    if kind == b"without comments".as_slice() {
+        return Ok(Some(without_comments(alloc, input)?));
+    }
+    Ok(None)
 }
 
 /// A line `NAME: BODY` for each field.
 fn fields_of(alloc: Global, mail: &[u8]) -> Result<Vec<u8>, RowError> {
     let header = fields(alloc, mail)?;
     let mut lines = Lines::new(alloc);
-    'fields: for field in header.list.as_slice() {
+    push_fields(&mut lines, header.list.as_slice())?;
+    Ok(lines.into_bytes())
+}
+
+fn push_fields(lines: &mut Lines, fields: &[HeaderField]) -> Result<(), RowError> {
+    'fields: for field in fields {
         lines.line_of(field.name.as_bytes(), b":")?;
         lines.push_after_blank(field.body.as_slice())?;
     }
-    Ok(lines.into_bytes())
+    Ok(())
 }
 
 /// What stands after the header.
@@ -50,10 +66,15 @@ fn texts_of(alloc: Global, name: &str, mail: &[u8]) -> Result<Vec<u8>, RowError>
     let header = fields(alloc, mail)?;
     let texts = header.texts(alloc, name)?;
     let mut lines = Lines::new(alloc);
-    'texts: for text in texts.as_slice() {
+    push_texts(&mut lines, texts.as_slice())?;
+    Ok(lines.into_bytes())
+}
+
+fn push_texts(lines: &mut Lines, texts: &[Text]) -> Result<(), RowError> {
+    'texts: for text in texts {
         lines.line(text.as_bytes())?;
     }
-    Ok(lines.into_bytes())
+    Ok(())
 }
 
 /// The first field of this name.
@@ -80,24 +101,30 @@ fn push_first(lines: &mut Lines, stands: bool, text: &Text) -> Result<(), RowErr
 fn ids_of(alloc: Global, input: &[u8]) -> Result<Vec<u8>, RowError> {
     let found = ids(alloc, text_of(input)?)?;
     let mut lines = Lines::new(alloc);
-    'ids: for id in found.as_slice() {
+    push_ids(&mut lines, found.as_slice())?;
+    Ok(lines.into_bytes())
+}
+
+fn push_ids(lines: &mut Lines, ids: &[MessageId]) -> Result<(), RowError> {
+    'ids: for id in ids {
         lines.line(id.text().as_bytes())?;
     }
-    Ok(lines.into_bytes())
+    Ok(())
 }
 
 fn mailboxes_of(alloc: Global, input: &[u8]) -> Result<Vec<u8>, RowError> {
     let found = mailboxes(alloc, text_of(input)?)?;
     let mut lines = Lines::new(alloc);
-    'mailboxes: for mailbox in found.as_slice() {
-        lines.begin()?;
-        push_mailbox(
-            &mut lines,
-            mailbox.name.as_bytes(),
-            mailbox.address.as_bytes(),
-        )?;
-    }
+    push_mailboxes(&mut lines, found.as_slice())?;
     Ok(lines.into_bytes())
+}
+
+fn push_mailboxes(lines: &mut Lines, mailboxes: &[Mailbox]) -> Result<(), RowError> {
+    'mailboxes: for mailbox in mailboxes {
+        lines.begin()?;
+        push_mailbox(lines, mailbox.name.as_bytes(), mailbox.address.as_bytes())?;
+    }
+    Ok(())
 }
 
 /// `NAME <ADDRESS>`, or `<ADDRESS>` where the name is empty.

@@ -13,24 +13,42 @@ enum Asked {
     All,
     Links,
     Date,
-    People,
+    Mailboxes,
     Words,
     WordLists,
 }
 
 /// The answer where the kind of the row is one of these.
 pub fn answer(alloc: Global, kind: &[u8], input: &[u8]) -> Result<Option<Vec<u8>>, RowError> {
-    let asked = match kind {
-        b"mail" => Asked::All,
-        b"links of a mail" => Asked::Links,
-        b"date of a mail" => Asked::Date,
-        b"people of a mail" => Asked::People,
-        b"words of a mail" => Asked::Words,
-        b"word lists of a mail" => Asked::WordLists,
-        b"texts of a mail" => return Ok(Some(texts_of(alloc, input)?)),
-        _ => return Ok(None),
-    };
-    Ok(Some(mail_of(alloc, asked, input)?))
+    if kind == b"texts of a mail".as_slice() {
+        return Ok(Some(texts_of(alloc, input)?));
+    }
+    match asked_of(kind) {
+        Some(asked) => Ok(Some(mail_of(alloc, asked, input)?)),
+        None => Ok(None),
+    }
+}
+
+fn asked_of(kind: &[u8]) -> Option<Asked> {
+    if kind == b"mail".as_slice() {
+        return Some(Asked::All);
+    }
+    if kind == b"links of a mail".as_slice() {
+        return Some(Asked::Links);
+    }
+    if kind == b"date of a mail".as_slice() {
+        return Some(Asked::Date);
+    }
+    if kind == b"mailboxes of a mail".as_slice() {
+        return Some(Asked::Mailboxes);
+    }
+    if kind == b"words of a mail".as_slice() {
+        return Some(Asked::Words);
+    }
+    if kind == b"word lists of a mail".as_slice() {
+        return Some(Asked::WordLists);
+    }
+    None
 }
 
 fn mail_of(alloc: Global, asked: Asked, mail: &[u8]) -> Result<Vec<u8>, RowError> {
@@ -52,7 +70,7 @@ fn push_copied(
 ) -> Result<(), RowError> {
     let copied = facts.copy()?;
     if copied != *facts {
-        lines.line(b"the copy differs")?;
+        return Ok(lines.line(b"the copy differs")?);
     }
     push_asked(alloc, lines, asked, &copied)
 }
@@ -67,7 +85,7 @@ fn push_asked(
         Asked::All => push_all(alloc, lines, facts),
         Asked::Links => push_links(lines, facts.links.as_slice()),
         Asked::Date => push_date(alloc, lines, facts.date),
-        Asked::People => push_people(lines, facts),
+        Asked::Mailboxes => push_from_to_subject(lines, facts),
         Asked::Words => push_parts(lines, facts),
         Asked::WordLists => push_lists(lines, facts.lists.as_slice()),
     }
@@ -77,7 +95,7 @@ fn push_all(alloc: Global, lines: &mut Lines, facts: &Facts) -> Result<(), RowEr
     lines.line_of(b"id ", facts.id.text().as_bytes())?;
     push_date(alloc, lines, facts.date)?;
     push_links(lines, facts.links.as_slice())?;
-    push_people(lines, facts)?;
+    push_from_to_subject(lines, facts)?;
     push_parts(lines, facts)
 }
 
@@ -98,7 +116,7 @@ fn push_links(lines: &mut Lines, links: &[MessageId]) -> Result<(), RowError> {
 }
 
 /// A line for each who wrote it, each to whom it goes, and the subject.
-fn push_people(lines: &mut Lines, facts: &Facts) -> Result<(), RowError> {
+fn push_from_to_subject(lines: &mut Lines, facts: &Facts) -> Result<(), RowError> {
     push_mailboxes(lines, b"from ", facts.from.as_slice())?;
     push_mailboxes(lines, b"to ", facts.to.as_slice())?;
     lines.line(b"subject")?;
@@ -170,8 +188,13 @@ fn push_marks(lines: &mut Lines, marks: Marks) -> Result<(), RowError> {
 fn texts_of(alloc: Global, mail: &[u8]) -> Result<Vec<u8>, RowError> {
     let texts = bodies(alloc, mail)?;
     let mut lines = Lines::new(alloc);
-    'texts: for text in texts.as_slice() {
+    push_texts(&mut lines, texts.as_slice())?;
+    Ok(lines.into_bytes())
+}
+
+fn push_texts(lines: &mut Lines, texts: &[Text]) -> Result<(), RowError> {
+    'texts: for text in texts {
         lines.line_of(b"text: ", text.as_bytes())?;
     }
-    Ok(lines.into_bytes())
+    Ok(())
 }

@@ -1,32 +1,45 @@
 //! Rows on values: the bounds of names, sets of tags, and lists.
 
 use nm_base::{BadValue, Copies, MailPath, Many, MessageId, Room, Tag, Tags, Text, Word};
-use rows::{Lines, Row, RowError, text_of};
+use rows::{Lines, Row, RowError, cut, text_of};
 use std::alloc::Global;
 
 /// The answer to a row of one of these kinds; each of its lines `|` is a text or a step.
 pub fn answer(alloc: Global, row: &Row<'_>) -> Result<Vec<u8>, RowError> {
-    match row.kind {
-        b"names" => names(alloc, row),
-        b"tags" => tags(alloc, row),
-        b"list" => list(alloc, row),
-        _ => Err(RowError::Broken("no such kind of row")),
+    if row.kind == b"names".as_slice() {
+        return names(alloc, row);
     }
+    if row.kind == b"tags".as_slice() {
+        return tags(alloc, row);
+    }
+    if row.kind == b"list".as_slice() {
+        return list(alloc, row);
+    }
+    Err(RowError::Broken("no such kind of row"))
 }
 
 /// A line for each text: what does not take it as its name, and why.
 fn names(alloc: Global, row: &Row<'_>) -> Result<Vec<u8>, RowError> {
     let mut lines = Lines::new(alloc);
-    'lines: for line in row.lines.as_slice() {
-        if line.mark == b"|".as_slice() {
-            let text = Text::of(alloc, text_of(line.bytes.as_slice())?)?;
-            push_names(&mut lines, &text)?;
-        }
-    }
+    push_rows(alloc, &mut lines, row)?;
     Ok(lines.into_bytes())
 }
 
-fn push_names(lines: &mut Lines, text: &Text) -> Result<(), RowError> {
+fn push_rows(alloc: Global, lines: &mut Lines, row: &Row<'_>) -> Result<(), RowError> {
+    'lines: for line in row.lines.as_slice() {
+        if line.mark == b"|".as_slice() {
+            push_name(alloc, lines, line.bytes.as_slice())?;
+        }
+    }
+    Ok(())
+}
+
+fn push_name(alloc: Global, lines: &mut Lines, bytes: &[u8]) -> Result<(), RowError> {
+    let text = Text::of(alloc, text_of(bytes)?)?;
+    push_verdicts(lines, &text)
+}
+
+fn push_verdicts(lines: &mut Lines, text: &Text) -> Result<(), RowError> {
     lines.line(b"id")?;
     push_verdict(lines, MessageId::new(text.copy()?))?;
     lines.push(b", tag")?;
@@ -51,18 +64,39 @@ fn push_verdict<T: Drop>(lines: &mut Lines, answer: Result<T, BadValue>) -> Resu
 fn tags(alloc: Global, row: &Row<'_>) -> Result<Vec<u8>, RowError> {
     let mut tags = Tags::new(alloc);
     let mut lines = Lines::new(alloc);
+    push_tags(alloc, &mut lines, &mut tags, row)?;
+    Ok(lines.into_bytes())
+}
+
+fn push_tags(
+    alloc: Global,
+    lines: &mut Lines,
+    tags: &mut Tags,
+    row: &Row<'_>,
+) -> Result<(), RowError> {
     'lines: for line in row.lines.as_slice() {
-        if line.mark != b"|".as_slice() {
-            continue;
-        }
-        match line.bytes.as_slice() {
-            [b'+', name @ ..] => tags.add(tag(alloc, name)?)?,
-            [b'-', name @ ..] => tags.remove(&tag(alloc, name)?),
-            [b'?', name @ ..] => push_tag(&mut lines, &tags, &tag(alloc, name)?)?,
-            _ => return Err(RowError::Broken("a tag stands behind +, - or ?")),
+        if line.mark == b"|".as_slice() {
+            tag_step(alloc, lines, tags, line.bytes.as_slice())?;
         }
     }
-    Ok(lines.into_bytes())
+    Ok(())
+}
+
+fn tag_step(
+    alloc: Global,
+    lines: &mut Lines,
+    tags: &mut Tags,
+    step: &[u8],
+) -> Result<(), RowError> {
+    match step {
+        [b'+', name @ ..] => Ok(tags.add(tag(alloc, name)?)?),
+        [b'-', name @ ..] => {
+            tags.remove(&tag(alloc, name)?);
+            Ok(())
+        }
+        [b'?', name @ ..] => push_tag(lines, tags, &tag(alloc, name)?),
+        _ => Err(RowError::Broken("a tag stands behind +, - or ?")),
+    }
 }
 
 fn push_tag(lines: &mut Lines, tags: &Tags, tag: &Tag) -> Result<(), RowError> {
@@ -84,30 +118,46 @@ fn tag(alloc: Global, name: &[u8]) -> Result<Tag, RowError> {
 /// The bytes of a list after the steps: `push`, `spare` and `append` bytes, `pop`, `replace` the second byte.
 fn list(alloc: Global, row: &Row<'_>) -> Result<Vec<u8>, RowError> {
     let mut list = Many::new(alloc);
-    'lines: for line in row.lines.as_slice() {
-        if line.mark == b"|".as_slice() {
-            list_step(alloc, &mut list, line.bytes.as_slice())?;
-        }
-    }
+    run_list(alloc, &mut list, row)?;
     Ok(list.copy()?.into_vec())
 }
 
+fn run_list(alloc: Global, list: &mut Many<u8>, row: &Row<'_>) -> Result<(), RowError> {
+    'lines: for line in row.lines.as_slice() {
+        if line.mark == b"|".as_slice() {
+            list_step(alloc, list, line.bytes.as_slice())?;
+        }
+    }
+    Ok(())
+}
+
 fn list_step(alloc: Global, list: &mut Many<u8>, step: &[u8]) -> Result<(), RowError> {
-    match step {
-        b"pop" => {
-            list.pop();
-        }
-        [b'p', b'u', b's', b'h', b' ', byte] => list.push(*byte)?,
-        [b'a', b'p', b'p', b'e', b'n', b'd', b' ', bytes @ ..] => list.extend_from_slice(bytes)?,
-        [b's', b'e', b'c', b'o', b'n', b'd', b' ', byte] => {
-            if list.len() > 1 {
-                list.replace(1, *byte);
-            }
-        }
-        [b'r', b'o', b'o', b'm', b' ', bytes @ ..] => {
-            list.extend_from_slice(in_room(alloc, bytes)?.as_slice())?;
-        }
-        _ => return Err(RowError::Broken("no step of a list")),
+    let (name, bytes) = cut(step, b' ');
+    if name == b"pop".as_slice() {
+        list.pop();
+        return Ok(());
+    }
+    if name == b"append".as_slice() {
+        return Ok(list.extend_from_slice(bytes)?);
+    }
+    if name == b"room".as_slice() {
+        return Ok(list.extend_from_slice(in_room(alloc, bytes)?.as_slice())?);
+    }
+    match bytes {
+        [byte] => byte_step(list, name, *byte),
+        _ => Err(RowError::Broken("no step of a list")),
+    }
+}
+
+fn byte_step(list: &mut Many<u8>, name: &[u8], byte: u8) -> Result<(), RowError> {
+    if name == b"push".as_slice() {
+        return Ok(list.push(byte)?);
+    }
+    if name != b"second".as_slice() {
+        return Err(RowError::Broken("no step of a list"));
+    }
+    if list.len() > 1 {
+        list.replace(1, byte);
     }
     Ok(())
 }
