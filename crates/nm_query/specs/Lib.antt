@@ -7,6 +7,7 @@ pub mod Lexemes
 pub mod Nesting
 pub mod Parting
 pub mod Prefixes
+pub mod Printing
 pub mod Terms
 pub mod Tokens
 pub mod Values

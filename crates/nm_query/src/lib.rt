@@ -20,7 +20,11 @@ mod token;
 mod tokens;
 mod values;
 
-pub use laws::{a_text_is_read_as_the_grammar_reads_it, tokens_without_a_fault_are_a_query};
+pub use laws::{
+    a_name_in_quotes_is_a_term, a_printed_tree_is_read_back,
+    a_text_is_read_as_the_grammar_reads_it, parentheses_change_nothing,
+    tokens_without_a_fault_are_a_query, two_terms_of_a_kind_are_joined_by_or,
+};
 pub use parsing::parse;
 pub use query::Query;
 pub use query_error::{QueryError, QueryKind};

@@ -44,6 +44,7 @@ pub enum Query {
 
 impl Query {
     /// A query that equals this one.
+    #[cycle(copying)]
     pub fn copy(&self, alloc: Global) -> Result<Query, NoMemory>
         ensures { IfOk result (λ copied. copied ≡ self.now) }
     {
@@ -78,27 +79,20 @@ impl Query {
                 let copied = query.get().copy(alloc)?;
                 Ok(Query::Not(Boxed::new(alloc, copied)?))
             }
-            Query::And(queries) => {
-                let mut copied = Many::new(alloc);
-                'conjuncts: for query in queries.as_slice() {
-                    copied.push(query.copy(alloc)?)?;
-                }
-                Ok(Query::And(copied))
-            }
-            Query::Or(queries) => {
-                let mut copied = Many::new(alloc);
-                'disjuncts: for query in queries.as_slice() {
-                    copied.push(query.copy(alloc)?)?;
-                }
-                Ok(Query::Or(copied))
-            }
-            Query::Xor(queries) => {
-                let mut copied = Many::new(alloc);
-                'exclusives: for query in queries.as_slice() {
-                    copied.push(query.copy(alloc)?)?;
-                }
-                Ok(Query::Xor(copied))
-            }
+            Query::And(queries) => Ok(Query::And(copies(alloc, queries.as_slice())?)),
+            Query::Or(queries) => Ok(Query::Or(copies(alloc, queries.as_slice())?)),
+            Query::Xor(queries) => Ok(Query::Xor(copies(alloc, queries.as_slice())?)),
         }
     }
+}
+
+#[cycle(copying)]
+fn copies(alloc: Global, queries: &[Query]) -> Result<Many<Query>, NoMemory>
+    ensures { IfOk result (λ copied. copied ≡ queries.now) }
+{
+    let mut copied = Many::new(alloc);
+    'queries: for query in queries {
+        copied.push(query.copy(alloc)?)?;
+    }
+    Ok(copied)
 }
