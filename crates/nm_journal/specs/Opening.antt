@@ -7,6 +7,12 @@ use Rattle.nm_journal.specs.declared.journal.JournalError.TheVariants.{BadIndex,
 use Rattle.nm_journal.specs.declared.opening.Header.{Header}
 use Rattle.nm_journal.specs.Records.{IsBroken, IsCut, record_of}
 
+-- a bad index is told of this file
+abbrev pub IsOf : FileNo → JournalError → Type 0
+IsOf file (BadIndex told at) = told ≡ file
+IsOf file DiskFault = Unit {0}
+IsOf file NoMemory = Unit {0}
+
 -- a bad index is told of this file, at the place where its bytes are no records
 abbrev pub HasFault : FileNo → ℕ → List ℕ → JournalError → Type 0
 HasFault file start bytes (BadIndex told at) = (told ≡ file) × IsBroken start bytes at

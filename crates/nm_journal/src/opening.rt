@@ -10,7 +10,7 @@ ghost use Rattle.nm_disk.specs.Observed.{bytes_now};
 ghost use Rattle.nm_faults.specs.Faults.{HasCause, HasCauseOf};
 ghost use Rattle.nm_journal.specs.Journal.{StandsOn, is_disk_fault};
 ghost use Rattle.nm_journal.specs.Moments.{GoesThrough};
-ghost use Rattle.nm_journal.specs.Opening.{HasFault, IsHeaderAt, IsNext, IsNextFault, IsNoFault};
+ghost use Rattle.nm_journal.specs.Opening.{HasFault, IsHeaderAt, IsNext, IsNextFault, IsNoFault, IsOf};
 ghost use Rattle.nm_journal.specs.Records.{AreBodies, HasRecords, records_of};
 
 use crate::{Journal, JournalError};
@@ -48,6 +48,9 @@ impl Journal {
         ensures bad { GoesOn (λ old new. IfErr result (HasFault file at (bytes_now old file)))
             (D.observed disk.old).told (D.observed disk.new).told }
 
+        // On any disk a bad index is told of the file that was asked for.
+        ensures file { IfErr result (IsOf file) }
+
         // At every moment of the call a stop leaves only what it might have left before.
         ensures any_moment { GoesOn (λ old new. GoesThrough file (MayLeave old.present file) old new)
             (D.observed disk.old).told (D.observed disk.new).told }
@@ -78,6 +81,7 @@ fn read_records<D: Disk>(
     ensures gate { IfOk result (λ found. found.0 ≡ at + length (records_of found.1)) }
     ensures place { IfOk result (λ found. (found.0 < max_count) × (length found.1 ≤ found.0)) }
     ensures bad { IfErr result (λ error. IfSome (D.observed disk.old).told (λ moments. HasFault file at (bytes_now moments file) error)) }
+    ensures file { IfErr result (IsOf file) }
     ensures told { (D.observed disk.new).told ≡ (D.observed disk.old).told }
     ensures cause { HasCauseOf is_disk_fault (D.observed disk.old).faults (D.observed disk.new).faults result }
 {
@@ -108,6 +112,7 @@ fn next_record<D: Disk>(
     ensures within { IfOk result (λ next. gate < max_count) }
     ensures more { IfOk result (λ next. IfSome next (λ body. (gate < len) × (gate + 5 + length body ≤ max_count) × (length body < 2 ^ 32))) }
     ensures bad { IfErr result (λ error. IfSome (D.observed disk.old).told (λ moments. IsNextFault file (bytes_now moments file) gate error)) }
+    ensures file { IfErr result (IsOf file) }
     ensures told { (D.observed disk.new).told ≡ (D.observed disk.old).told }
     ensures cause { HasCauseOf is_disk_fault (D.observed disk.old).faults (D.observed disk.new).faults result }
 {
@@ -166,6 +171,7 @@ fn read_body<D: Disk>(
     ensures body { IfOk result (λ body. IfSome (D.observed disk.old).told (λ moments. body ≡ take len (drop (gate + 5) (bytes_now moments file)))) }
     ensures within { IfOk result (λ body. (length body ≡ len) × (gate + 5 + len ≤ max_count)) }
     ensures bad { IfErr result (λ error. IfSome (D.observed disk.old).told (λ moments. IsNoFault error)) }
+    ensures file { IfErr result (IsOf file) }
     ensures told { (D.observed disk.new).told ≡ (D.observed disk.old).told }
     ensures cause { HasCauseOf is_disk_fault (D.observed disk.old).faults (D.observed disk.new).faults result }
 {
