@@ -4,6 +4,8 @@ pub mod NameLemmas
 pub mod LabelLemmas
 pub mod JoinLemmas
 pub mod MapLemmas
+pub mod FilterLemmas
+pub mod SortedLemmas
 pub mod NumberLemmas
 pub mod MemberLemmas
 pub mod MergeLemmas
@@ -11,3 +13,5 @@ pub mod RowLemmas
 pub mod PlaceLemmas
 pub mod OrderLemmas
 pub mod OpenLemmas
+pub mod RemoveLemmas
+pub mod KeepLemmas

@@ -1,6 +1,6 @@
 -- The numbers of a group, read in order, and moved to another group.
-use Rattle.std.proofs.Common.{◌≡◌, ◌≢◌, refl, sym, ap, ◌∙◌, ℕ, ◌+◌, ◌<◌, Bool, true, false, ◌||◌, cond, List, [], ◌∷◌, ◌++◌, length, take, get_or, arith, inl, inr, ◌⊎◌, eq-eqb, ne_eqb, nat_eq, true≢false}
-use Rattle.std.specs.Prelude.{Some, None, Option}
+use Rattle.std.proofs.Common.{◌≡◌, ◌≢◌, refl, sym, ap, subst, ◌∙◌, ℕ, ◌+◌, ◌<◌, Bool, true, false, ◌||◌, cond, List, [], ◌∷◌, ◌++◌, length, take, get_or, arith, inl, inr, ◌⊎◌, eq-eqb, ne_eqb, nat_eq, true≢false}
+use Rattle.std.specs.Prelude.{Contains, Some, None, Option}
 use Rattle.std.specs.declared.cmp.Ordering.TheVariants.{Less, Equal, Greater}
 use Rattle.std.specs.BTreeMap.Range.{entries_from}
 use Rattle.std.specs.List.{list_any, AllByRecursion}
@@ -13,6 +13,8 @@ use Rattle.std.proofs.lemmas.List.{append-nil}
 use Rattle.std.proofs.lemmas.List.Folds.{list_any_more, list_any_at}
 use Rattle.nm_threads.specs.Maps.{at, at_pair, pair_cmp, is_number, AreMembers}
 use Rattle.nm_threads.specs.declared.maps.Member.{Member}
+use Rattle.nm_threads.proofs.ListLemmas.{Contains_there, Contains_first, Contains_cases, Contains_none}
+use Rattle.nm_threads.proofs.SortedLemmas.{Rising, less_from, rising_none, rising_from, entries_filter}
 use Rattle.nm_threads.proofs.MapLemmas.{less_is, equal_is, greater_is, same_number, other_number, same_pair, other_first, other_second}
 
 -- the numbers that stand first, as long as they are of the group
@@ -79,6 +81,38 @@ front_all group number (e ∷ es) sorted =
           ∙ sym (ap is_some (ap (λ test. cond test (Some e.1) (at_pair (group, number) es)) (other_first group number e.0.0 e.0.1 not)))
     ]
 
+-- ---- the numbers of a group rise
+
+front_from : (group : ℕ) (es : List ((ℕ × ℕ) × Member)) (n : ℕ) → Contains (front group es) n → (e : (ℕ × ℕ) × Member) × Contains es e × (e.0.0 ≡ group) × (e.0.1 ≡ n)
+front_from group [] n among = absurd (Contains_none n among)
+front_from group (e ∷ es) n among = elim (cases_eq e.0.0 group) [
+  | inl is ↦
+      elim (Contains_cases e.0.1 (front group es) n (subst (λ all. Contains all n) (front_is group e es is) among)) [
+        | inl here ↦ (e, Contains_first e es, is, here)
+        | inr there ↦ let one = front_from group es n there in (one.0, Contains_there e es one.0 one.1, one.2, one.3)
+      ]
+  | inr not ↦ absurd (Contains_none n (subst (λ all. Contains all n) (front_not group e es not) among))
+]
+
+less_second : (x y : ℕ × ℕ) → x.0 ≡ y.0 → pair_cmp x y ≡ Less → x.1 < y.1
+less_second x y same less = less_from x.1 y.1 (sym (ap (λ answer. ordering_then answer (nat_cmp x.1 y.1)) (equal_is x.0 y.0 same)) ∙ less)
+
+keys_after : (key : ℕ × ℕ) (es : List ((ℕ × ℕ) × Member)) → AllByRecursion (λ other. pair_cmp key other ≡ Less) (keys_of es) → (e : (ℕ × ℕ) × Member) → Contains es e → pair_cmp key e.0 ≡ Less
+keys_after key [] all e among = absurd (Contains_none e among)
+keys_after key (f ∷ es) all e among = elim (Contains_cases f es e among) [ inl here ↦ subst (λ x. pair_cmp key x.0 ≡ Less) here all.0 | inr there ↦ keys_after key es all.1 e there ]
+
+pub front_rising : (group : ℕ) (es : List ((ℕ × ℕ) × Member)) → IsStrictlySortedBy pair_cmp (keys_of es) → Rising (front group es)
+unfolding IsStrictlySortedBy
+front_rising group [] sorted = rising_none
+front_rising group (e ∷ es) sorted = elim (cases_eq e.0.0 group) [
+  | inl is ↦
+      subst Rising (sym (front_is group e es is))
+      (rising_from e.0.1 (front group es)
+      (λ n among. let one = front_from group es n among in subst (λ k. e.0.1 < k) one.3 (less_second e.0 one.0.0 (is ∙ sym one.2) (keys_after e.0 es sorted.0 one.0 one.1)))
+      (front_rising group es sorted.1))
+  | inr not ↦ subst Rising (sym (front_not group e es not)) rising_none
+]
+
 -- ---- numbers moved
 
 pub is_number_from : (group : ℕ) (found : Option ℕ) → is_number group found ≡ true → found ≡ Some group
@@ -126,6 +160,11 @@ module _ (members moved : List ((ℕ × ℕ) × Member)) (groups after : List (�
 pub numbers_all : (group : ℕ) (numbers : List ℕ) (rest members : List ((ℕ × ℕ) × Member)) → numbers ++ front group rest ≡ front group (entries_from (pair_cmp (group, 0)) members) → front group rest ≡ [] → IsStrictlySortedBy pair_cmp (keys_of members)
     → (number : ℕ) → list_any (nat_eq number) numbers ≡ is_some (at_pair (group, number) members)
 numbers_all group numbers rest members so_far none sorted = λ number. ap (list_any (nat_eq number)) (sym (append-nil numbers) ∙ ap (λ back. numbers ++ back) (sym none) ∙ so_far) ∙ front_all group number members sorted
+
+pub numbers_rise : (group : ℕ) (numbers : List ℕ) (rest members : List ((ℕ × ℕ) × Member)) → numbers ++ front group rest ≡ front group (entries_from (pair_cmp (group, 0)) members) → front group rest ≡ [] → IsStrictlySortedBy pair_cmp (keys_of members) → Rising numbers
+numbers_rise group numbers rest members so_far none sorted =
+    subst Rising (sym so_far ∙ ap (λ back. numbers ++ back) none ∙ append-nil numbers)
+    (front_rising group (entries_from (pair_cmp (group, 0)) members) (entries_filter pair_cmp (λ key. is_le (pair_cmp (group, 0) key)) members sorted))
 
 pub no_front : (group : ℕ) (rest after : List ((ℕ × ℕ) × Member)) (e : (ℕ × ℕ) × Member) → rest ≡ e ∷ after → (e.0.0 ≡ group → ⊥) → front group rest ≡ []
 no_front group rest after e is not = ap (front group) is ∙ front_not group e after not

@@ -1,19 +1,22 @@
 -- What the maps of labels say once an id has a number.
-use Rattle.std.proofs.Common.{◌≡◌, ◌≢◌, refl, sym, ap, subst, ◌∙◌, ℕ, ◌+◌, ◌<◌, ◌≤◌, ◌^◌, Bool, true, false, cond, List, [], ◌∷◌, ◌++◌, map, arith, inl, inr, ◌⊎◌, eq-eqb, ne_eqb, true≢false}
+use Rattle.std.proofs.Common.{◌≡◌, ◌≢◌, refl, sym, ap, subst, ◌∙◌, ℕ, ◌+◌, ◌<◌, ◌≤◌, ◌^◌, Bool, true, false, cond, List, [], ◌∷◌, ◌++◌, length, map, arith, inl, inr, ◌⊎◌, eq-eqb, ne_eqb, nat_eq, true≢false}
 use Rattle.std.specs.Prelude.{Contains, Some, None, Option}
 use Rattle.std.specs.BTreeMap.{insert_entry}
 use Rattle.std.specs.Cmp.Lexicographic.{slice_cmp}
+use Rattle.std.specs.Map.{keys_of}
 use Rattle.std.specs.Option.{is_some, option_and_then}
 use Rattle.std.specs.Ordering.{nat_cmp, is_eq}
 use Rattle.std.proofs.lemmas.Bool.{cases_eq}
-use Rattle.std.proofs.lemmas.List.{map_push}
-use Rattle.std.proofs.lemmas.List.Elements.{Contains-push, Contains-append_left, Contains-push_cases}
+use Rattle.std.proofs.lemmas.List.{map_push, append-nil}
+use Rattle.std.proofs.lemmas.List.Elements.{filter-append, Contains-push, Contains-append_left, Contains-push_cases}
 use Rattle.std.proofs.lemmas.Option.{same_Some, none-some}
-use Rattle.nm_threads.specs.Labels.{Label, Labelling, entries_of, has_entry}
+use Rattle.nm_threads.specs.Labels.{Label, Labelling, entries_of, has_entry, named}
 use Rattle.nm_threads.specs.Maps.{at, at_id, at_pair, pair_cmp, name_at, name_in, labelling_of, is_number, AreMaps, given}
 use Rattle.nm_threads.specs.declared.maps.Maps.{Maps}
 use Rattle.nm_threads.specs.declared.maps.Thread.{Thread}
 use Rattle.nm_threads.specs.declared.maps.Member.{Member}
+use Rattle.nm_threads.proofs.FilterLemmas.{filter_yes, filter_no, filter_none}
+use Rattle.nm_threads.proofs.SortedLemmas.{Rising, rising_push}
 use Rattle.nm_threads.proofs.ListLemmas.{Contains_map, Contains_from_map}
 use Rattle.nm_threads.proofs.LabelLemmas.{has_of, has_from}
 use Rattle.nm_threads.proofs.MapLemmas.{cases_id, same_number, other_number, same_id, other_id, same_pair, other_first, other_second, pushed_entry, map_among}
@@ -51,7 +54,7 @@ module _ (m : Maps) (are : AreMaps m) (id : List ℕ) where
 -- ---- a new number
 
 module _ (m : Maps) (are : AreMaps m) (id : List ℕ) (absent : at_id id m.numbers ≡ None) (room : m.next < 2 ^ 63) (ids : List (ℕ × List ℕ)) (numbers : List (List ℕ × ℕ)) (groups : List (ℕ × ℕ)) (threads : List (ℕ × Thread)) (members : List ((ℕ × ℕ) × Member))
-    (thread : Thread) (thread_is : thread.name ≡ m.next)
+    (thread : Thread) (thread_is : thread.name ≡ m.next) (len_is : thread.len ≡ 1)
     (ids_are : ids ≡ insert_entry nat_cmp m.ids m.next id)
     (numbers_are : (other : List ℕ) → at_id other numbers ≡ cond (is_eq (slice_cmp nat_cmp other id)) (Some m.next) (at_id other m.numbers))
     (groups_are : (other : ℕ) → at other groups ≡ cond (is_eq (nat_cmp other m.next)) (Some m.next) (at other m.groups))
@@ -135,8 +138,68 @@ module _ (m : Maps) (are : AreMaps m) (id : List ℕ) (absent : at_id id m.numbe
       absurd (omega (arith, (are.early g s (sym (threads_old g g_not) ∙ s_is)).1, names, ap (λ x. x.name) same, thread_is))
   apart_by g h s t s_is t_is names (inr g_not) (inr h_not) = are.apart g h s t (sym (threads_old g g_not) ∙ s_is) (sym (threads_old h h_not) ∙ t_is) names
 
+  owned_by : (n g : ℕ) → at n groups ≡ Some g → (n ≡ m.next) ⊎ (n ≢ m.next) → (u : List ℕ) × Contains ids (n, u)
+  owned_by n g is (inl here) = (id, subst (λ k. Contains ids (k, id)) (sym here) new_id)
+  owned_by n g is (inr not) = let old = are.owned n g (sym (groups_old n not) ∙ is) in (old.0, old_ids n old.0 old.1)
+
+  headed_by : (g : ℕ) (t : Thread) → at g threads ≡ Some t → (g ≡ m.next) ⊎ (g ≢ m.next) → at t.name groups ≡ Some g
+  headed_by g t is (inl here) =
+      let same : thread ≡ t = same_Some thread t (sym threads_new ∙ ap (λ k. at k threads) (sym here) ∙ is) in
+      ap (λ k. at k groups) (ap (λ x. x.name) (sym same) ∙ thread_is) ∙ groups_new ∙ ap Some (sym here)
+  headed_by g t is (inr not) =
+      let old : at g m.threads ≡ Some t = sym (threads_old g not) ∙ is in groups_old t.name (λ same. omega (arith, (are.early g t old).1, same)) ∙ are.headed g t old
+
+  ordered_grown : Rising (keys_of ids)
+  ordered_grown =
+      subst Rising (sym (ap keys_of ids_grown ∙ map_push (λ e. e.0) m.ids (m.next, id)))
+      (rising_push (keys_of m.ids) m.next are.ordered (λ n among. let e = Contains_from_map (λ e. e.0) m.ids n among in omega (arith, e.2, (are.below e.0.0 e.0.1 e.1).1)))
+
+  label_old : (entry : ℕ × List ℕ) → Contains m.ids entry → label_at new entry ≡ label_at m entry
+  label_old entry among =
+      let pair = are.grouped entry.0 entry.1 among in
+      let n_not : entry.0 ≢ m.next = λ is. omega (arith, (are.below entry.0 entry.1 among).1, is) in
+      let g_not : pair.0 ≢ m.next = λ is. omega (arith, (are.early pair.0 pair.1 pair.3).0, is) in
+      ap (λ name. record { id = entry.1; number = entry.0; name = name })
+      (ap (λ found. name_in (option_and_then (λ group. at group threads) found)) (groups_old entry.0 n_not ∙ pair.2) ∙ ap name_in (threads_old pair.0 g_not) ∙ sym (ap (λ found. name_in (option_and_then (λ group. at group m.threads) found)) pair.2))
+
+  abbrev newest : Label
+  newest = record { id = id; number = m.next; name = m.next }
+
+  labels_grown : (labelling_of new).labels ≡ (labelling_of m).labels ++ newest ∷ []
+  labels_grown =
+      let last : label_at new (m.next, id) ≡ newest =
+      ap (λ name. record { id = id; number = m.next; name = name }) (ap (λ found. name_in (option_and_then (λ group. at group threads) found)) groups_new ∙ ap name_in threads_new ∙ thread_is) in
+      ap (map (label_at new)) ids_grown ∙ map_push (label_at new) m.ids (m.next, id) ∙ ap (λ front. front ++ label_at new (m.next, id) ∷ []) (map_among (label_at new) (label_at m) m.ids label_old) ∙ ap (λ label. (labelling_of m).labels ++ label ∷ []) last
+
+  named_grown : (name : ℕ) → named name (labelling_of new).labels ≡ named name (labelling_of m).labels ++ named name (newest ∷ [])
+  named_grown name = ap (named name) labels_grown ∙ filter-append (λ label. nat_eq label.name name) (labelling_of m).labels (newest ∷ [])
+
+  -- no label has the next number as its name
+  none_next : (a : Label) → Contains (labelling_of m).labels a → nat_eq a.name m.next ≡ false
+  none_next a among =
+      let from = label_from m a among in
+      let pair = are.grouped a.number a.id from.0 in
+      ne_eqb a.name m.next (λ is. omega (arith, (are.early pair.0 pair.1 pair.3).1, is, ap (λ l. l.name) (sym from.1), ap (λ found. name_in (option_and_then (λ group. at group m.threads) found)) pair.2, ap name_in pair.3))
+
+  counted_by : (g : ℕ) (t : Thread) → at g threads ≡ Some t → (g ≡ m.next) ⊎ (g ≢ m.next) → t.len ≡ length (named t.name (labelling_of new).labels)
+  counted_by g t is (inl here) =
+      let same : thread ≡ t = same_Some thread t (sym threads_new ∙ ap (λ k. at k threads) (sym here) ∙ is) in
+      let all : named m.next (labelling_of new).labels ≡ newest ∷ [] =
+      named_grown m.next ∙ ap (λ front. front ++ named m.next (newest ∷ [])) (filter_none (λ label. nat_eq label.name m.next) (labelling_of m).labels none_next) ∙ filter_yes (λ (label : Label). nat_eq label.name m.next) newest [] (eq-eqb m.next m.next refl) in
+      ap (λ x. x.len) (sym same) ∙ len_is ∙ sym (ap length (ap (λ name. named name (labelling_of new).labels) (ap (λ x. x.name) (sym same) ∙ thread_is) ∙ all))
+  counted_by g t is (inr not) =
+      let old : at g m.threads ≡ Some t = sym (threads_old g not) ∙ is in
+      are.counted g t old
+      ∙ sym
+      (ap length
+      (named_grown t.name ∙ ap (λ back. named t.name (labelling_of m).labels ++ back) (filter_no (λ (label : Label). nat_eq label.name t.name) newest [] (ne_eqb m.next t.name (λ same. omega (arith, (are.early g t old).1, same)))) ∙ append-nil (named t.name (labelling_of m).labels)))
+
   pub maps_given : AreMaps new
   maps_given = record {
+    ordered = ordered_grown;
+    owned = λ n g is. owned_by n g is (cases_eq n m.next);
+    headed = λ g t is. headed_by g t is (cases_eq g m.next);
+    counted = λ g t is. counted_by g t is (cases_eq g m.next);
     below = λ n u among. elim (cases_ids n u among) [ inl old ↦ let b = are.below n u old in (b.0, omega (arith, b.1)) | inr here ↦ (omega (arith, ap (λ e. e.0) here, are.small.0), omega (arith, ap (λ e. e.0) here)) ];
     once = λ n a b first second. elim (cases_ids n a first) [
       | inl old ↦ elim (cases_ids n b second) [ inl old_too ↦ are.once n a b old old_too | inr here ↦ absurd (omega (arith, (are.below n a old).1, ap (λ e. e.0) here)) ]
@@ -158,21 +221,9 @@ module _ (m : Maps) (are : AreMaps m) (id : List ℕ) (absent : at_id id m.numbe
     small = (omega (arith, are.small.0), omega (arith, room));
   }
 
-  label_old : (entry : ℕ × List ℕ) → Contains m.ids entry → label_at new entry ≡ label_at m entry
-  label_old entry among =
-      let pair = are.grouped entry.0 entry.1 among in
-      let n_not : entry.0 ≢ m.next = λ is. omega (arith, (are.below entry.0 entry.1 among).1, is) in
-      let g_not : pair.0 ≢ m.next = λ is. omega (arith, (are.early pair.0 pair.1 pair.3).0, is) in
-      ap (λ name. record { id = entry.1; number = entry.0; name = name })
-      (ap (λ found. name_in (option_and_then (λ group. at group threads) found)) (groups_old entry.0 n_not ∙ pair.2) ∙ ap name_in (threads_old pair.0 g_not) ∙ sym (ap (λ found. name_in (option_and_then (λ group. at group m.threads) found)) pair.2))
-
   pub labels_given : labelling_of new ≡ given (labelling_of m) id
   labels_given =
-      let last : label_at new (m.next, id) ≡ record { id = id; number = m.next; name = m.next } =
-      ap (λ name. record { id = id; number = m.next; name = name }) (ap (λ found. name_in (option_and_then (λ group. at group threads) found)) groups_new ∙ ap name_in threads_new ∙ thread_is) in
-      let all : map (label_at new) ids ≡ (labelling_of m).labels ++ (record { id = id; number = m.next; name = m.next }) ∷ [] =
-      ap (map (label_at new)) ids_grown ∙ map_push (label_at new) m.ids (m.next, id) ∙ ap (λ front. front ++ label_at new (m.next, id) ∷ []) (map_among (label_at new) (label_at m) m.ids label_old) ∙ ap (λ label. (labelling_of m).labels ++ label ∷ []) last in
-      ap (λ labels. record { labels = labels; next = m.next + 1 }) all
+      ap (λ labels. record { labels = labels; next = m.next + 1 }) labels_grown
       ∙ sym (ap (λ test. cond test (labelling_of m) (record { labels = (labelling_of m).labels ++ (record { id = id; number = m.next; name = m.next }) ∷ []; next = m.next + 1 })) (sym (has_is m are id) ∙ ap is_some absent))
 
 -- ---- a later next number
@@ -183,6 +234,10 @@ module _ (m : Maps) (are : AreMaps m) (number : ℕ) (le : m.next ≤ number) (m
 
   pub maps_later : AreMaps later
   maps_later = record {
+    ordered = are.ordered;
+    owned = are.owned;
+    headed = are.headed;
+    counted = are.counted;
     below = λ n u among. let b = are.below n u among in (b.0, omega (arith, b.1, le));
     once = are.once;
     found = are.found;

@@ -1,6 +1,6 @@
 -- Labels: of each id that has a number, that number and the name of its thread.
-use Rattle.std.specs.Prelude.{◌≡◌, ℕ, ◌+◌, ◌<◌, ◌≤◌, Bool, List, [], ◌∷◌, ◌++◌, map, IsTrue, Some, Contains, if◌then◌else◌}
-use Rattle.std.specs.List.{list_any}
+use Rattle.std.specs.Prelude.{◌≡◌, ℕ, ◌+◌, ◌<◌, ◌≤◌, Bool, ◌==◌, not, List, [], ◌∷◌, ◌++◌, map, IsTrue, Some, Contains, if◌then◌else◌}
+use Rattle.std.specs.List.{filter, list_any}
 use Rattle.nm_base.specs.Order.{has_text, same_text}
 use Rattle.nm_base.specs.declared.facts.LinkRow.{LinkRow}
 use Rattle.nm_threads.specs.Same.{ids_of}
@@ -24,6 +24,14 @@ entries_of labels = map (λ label. (label.id, label.number)) labels
 -- the id has a number
 abbrev pub has_entry : List (List ℕ × ℕ) → List ℕ → Bool
 has_entry entries id = list_any (λ entry. same_text id entry.0) entries
+
+-- the labels of the thread of this name
+abbrev pub named : ℕ → List Label → List Label
+named name labels = filter (λ label. label.name == name) labels
+
+-- the labels of the other threads than that of this name
+abbrev pub without_name : ℕ → List Label → List Label
+without_name name labels = filter (λ label. not (label.name == name)) labels
 
 -- the entries, and the next number, once each of these ids has a number: those that lack one get the next ones, in order
 abbrev pub numbered : List (List ℕ × ℕ) → ℕ → List (List ℕ) → List (List ℕ × ℕ) × ℕ

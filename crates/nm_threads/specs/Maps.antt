@@ -1,12 +1,13 @@
 -- The maps that labels are kept in. A thread is a group of numbers; which number the group goes by is of no account.
-use Rattle.std.specs.Prelude.{◌≡◌, ℕ, Bool, false, ◌+◌, ◌<◌, ◌≤◌, ◌^◌, ◌==◌, ◌||◌, min, List, [], ◌∷◌, ◌++◌, map, Option, Some, None, Contains, if◌then◌else◌}
+use Rattle.std.specs.Prelude.{◌≡◌, ℕ, Bool, false, ◌+◌, ◌<◌, ◌≤◌, ◌^◌, ◌==◌, ◌||◌, min, List, [], ◌∷◌, ◌++◌, length, map, Option, Some, None, Contains, if◌then◌else◌}
 use Rattle.std.specs.BTreeMap.{is_at}
 use Rattle.std.specs.Cmp.Lexicographic.{slice_cmp}
-use Rattle.std.specs.Map.{lookup}
+use Rattle.std.specs.List.Sorted.{IsStrictlySortedBy}
+use Rattle.std.specs.Map.{keys_of, lookup}
 use Rattle.std.specs.Option.{option_and_then, is_some}
 use Rattle.std.specs.Ordering.{nat_cmp, ordering_then}
 use Rattle.std.specs.declared.cmp.Ordering.{Ordering}
-use Rattle.nm_threads.specs.Labels.{Label, Labelling, entries_of, has_entry}
+use Rattle.nm_threads.specs.Labels.{Label, Labelling, entries_of, has_entry, named}
 use Rattle.nm_threads.specs.declared.maps.Maps.{Maps}
 use Rattle.nm_threads.specs.declared.maps.Thread.{Thread}
 use Rattle.nm_threads.specs.declared.maps.Member.{Member}
@@ -58,8 +59,21 @@ AreMembers members groups = (group number : ℕ) → is_some (at_pair (group, nu
 abbrev pub AreApart : List (ℕ × Thread) → Type 0
 AreApart threads = (g h : ℕ) (s t : Thread) → at g threads ≡ Some s → at h threads ≡ Some t → s.name ≡ t.name → g ≡ h
 
+-- an id by its number, a number by its id, and the group of each number
+pub record AreNumbers (maps : Maps) : Type 0 where
+  pub ordered : IsStrictlySortedBy nat_cmp (keys_of maps.ids)
+  pub below : (number : ℕ) (id : List ℕ) → Contains maps.ids (number, id) → (1 ≤ number) × (number < maps.next)
+  pub once : (number : ℕ) (a b : List ℕ) → Contains maps.ids (number, a) → Contains maps.ids (number, b) → a ≡ b
+  pub found : (id : List ℕ) (number : ℕ) → at_id id maps.numbers ≡ Some number → Contains maps.ids (number, id)
+  pub kept : (id : List ℕ) (number : ℕ) → Contains maps.ids (number, id) → at_id id maps.numbers ≡ Some number
+  pub fresh : (number group : ℕ) → at number maps.groups ≡ Some group → number < maps.next
+  pub owned : (number group : ℕ) → at number maps.groups ≡ Some group → (id : List ℕ) × Contains maps.ids (number, id)
+  pub members : AreMembers maps.members maps.groups
+  pub small : (1 ≤ maps.next) × (maps.next ≤ 2 ^ 63)
+
 -- the maps tell one thing: an id by its number, a number by its id, its group, the group's thread
 pub record AreMaps (maps : Maps) : Type 0 where
+  pub ordered : IsStrictlySortedBy nat_cmp (keys_of maps.ids)
   pub below : (number : ℕ) (id : List ℕ) → Contains maps.ids (number, id) → (1 ≤ number) × (number < maps.next)
   pub once : (number : ℕ) (a b : List ℕ) → Contains maps.ids (number, a) → Contains maps.ids (number, b) → a ≡ b
   pub found : (id : List ℕ) (number : ℕ) → at_id id maps.numbers ≡ Some number → Contains maps.ids (number, id)
@@ -67,7 +81,10 @@ pub record AreMaps (maps : Maps) : Type 0 where
   pub grouped : (number : ℕ) (id : List ℕ) → Contains maps.ids (number, id) → (group : ℕ) × (thread : Thread) × (at number maps.groups ≡ Some group) × (at group maps.threads ≡ Some thread)
   pub fresh : (number group : ℕ) → at number maps.groups ≡ Some group → number < maps.next
   pub early : (group : ℕ) (thread : Thread) → at group maps.threads ≡ Some thread → (group < maps.next) × (thread.name < maps.next)
+  pub owned : (number group : ℕ) → at number maps.groups ≡ Some group → (id : List ℕ) × Contains maps.ids (number, id)
   pub apart : AreApart maps.threads
+  pub headed : (group : ℕ) (thread : Thread) → at group maps.threads ≡ Some thread → at thread.name maps.groups ≡ Some group
+  pub counted : (group : ℕ) (thread : Thread) → at group maps.threads ≡ Some thread → thread.len ≡ length (named thread.name (labelling_of maps).labels)
   pub members : AreMembers maps.members maps.groups
   pub small : (1 ≤ maps.next) × (maps.next ≤ 2 ^ 63)
 

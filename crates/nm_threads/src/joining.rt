@@ -2,7 +2,9 @@
 
 ghost use Rattle.std.specs.Prelude.{◌≡◌, ℕ, Some, None, map, nat_eq, if◌then◌else◌, IfOk, MatchOption, OnOk, Contains};
 ghost use Rattle.std.specs.List.{list_any};
+ghost use Rattle.std.specs.List.Sorted.{IsStrictlySortedBy};
 ghost use Rattle.std.specs.Option.{is_some};
+ghost use Rattle.std.specs.Ordering.{nat_cmp};
 ghost use Rattle.nm_threads.specs.Maps.{AreMaps, AreMembers, at, at_id, at_pair, is_number, labelling_of, relabelled};
 
 use crate::maps::{Maps, Member, Thread};
@@ -35,7 +37,8 @@ pub fn numbers_of(
     members: &SharedMap<(u64, u64), Member>,
     group: u64,
 ) -> Result<Many<u64>, NoMemory>
-    ensures { IfOk result (λ numbers. (number : ℕ) → list_any (nat_eq number) numbers ≡ is_some (at_pair (group, number) members.now)) }
+    ensures all { IfOk result (λ numbers. (number : ℕ) → list_any (nat_eq number) numbers ≡ is_some (at_pair (group, number) members.now)) }
+    ensures rising { IfOk result (λ numbers. IsStrictlySortedBy nat_cmp numbers) }
 {
     let mut numbers = Many::new(alloc);
     let mut rest = members.iter_from(&(group, 0));

@@ -1,17 +1,18 @@
 //! The labels of a mail store's ids: each id's number and the name of its thread. Snapshots hold them.
 
-ghost use Rattle.std.specs.Prelude.{◌≡◌, ◌≤◌, ◌^◌, ◌∷◌, ◌++◌, [], ℕ, List, false, IfOk, OnOk, OnErr, MatchOption, Contains};
-ghost use Rattle.std.specs.List.{flat_map};
+ghost use Rattle.std.specs.Prelude.{◌≡◌, ◌≤◌, ◌^◌, ◌∷◌, ◌++◌, [], ℕ, List, false, not, IfOk, OnOk, OnErr, MatchOption, Contains};
+ghost use Rattle.std.specs.List.{filter, flat_map};
 ghost use Rattle.nm_base.specs.declared.facts.LinkRow.{LinkRow};
 ghost use Rattle.nm_threads.specs.Entries.{AreEntriesOf};
 ghost use Rattle.nm_threads.specs.Labels.{AreLabelsOf, IsLabelling, entries_of, has_entry, numbered};
 ghost use Rattle.nm_threads.specs.Maps.{AreMaps, labelling_of};
 ghost use Rattle.nm_threads.specs.Name.{thread_name};
-ghost use Rattle.nm_threads.specs.Same.{ids_of};
+ghost use Rattle.nm_threads.specs.Same.{ids_of, is_same};
 
 use crate::joining::place_of;
 use crate::maps::Maps;
 use crate::opening::{add_uncounted, give_numbers};
+use crate::removing::remove_named;
 use crate::rows::{add, add_all};
 use nm_base::{Copies, LinkRow, Many, MessageId, NoMemory, Steps};
 use std::alloc::Global;
@@ -121,6 +122,22 @@ impl Labels {
     {
         let mut maps = self.maps.share()?;
         add_all(self.alloc, &mut maps, rows, steps)?;
+        self.maps = maps;
+        Ok(())
+    }
+
+    /// Lets go the thread of an id: all its ids lose their numbers, and no other does. The next number stays.
+    pub fn drop_thread(&mut self, id: &MessageId) -> Result<(), NoMemory>
+        ensures next { OnOk result (self.new.next ≡ self.old.next) }
+        ensures entries { OnOk result ((rows : List LinkRow) → AreLabelsOf rows self.old.labels → entries_of self.new.labels ≡ filter (λ entry. not (is_same rows id.now entry.0)) (entries_of self.old.labels)) }
+        ensures labels { OnOk result ((rows : List LinkRow) → AreLabelsOf rows self.old.labels → AreLabelsOf (filter (λ row. not (is_same rows id.now row.id)) rows) self.new.labels) }
+        ensures err { OnErr result (self.new ≡ self.old) }
+    {
+        let Some(name) = self.name_of(id) else {
+            return Ok(());
+        };
+        let mut maps = self.maps.share()?;
+        remove_named(self.alloc, &mut maps, name)?;
         self.maps = maps;
         Ok(())
     }

@@ -8,6 +8,7 @@ mod laws;
 mod maps;
 mod numbering;
 mod opening;
+mod removing;
 mod rows;
 
 pub use labels::Labels;

@@ -16,7 +16,7 @@ returns-clause-maps c =
     let absent : at_id c.args.id.now c.args.maps.now.numbers ≡ None = none_by (at_id c.args.id.now c.args.maps.now.numbers) (ap is_some (sym c.get.ensures) ∙ copied_some c.get.result ∙ sym c.is_some.ensures ∙ c.if-is_some.false) in
     maps_given c.args.maps.now c.requires.maps c.args.id.now absent (c.requires.room (sym (has_is c.args.maps.now c.requires.maps c.args.id.now) ∙ ap is_some absent))
     c.insert.new.self c.insert-2.new.self c.insert-3.new.self c.insert-4.new.self c.insert-5.new.self
-    (record { name = c.args.maps.now.next; len = 1 }) refl (c.in_ok-insert.ensures.ok ∙ ap (insert_entry nat_cmp c.args.maps.now.ids c.args.maps.now.next) c.in_ok-copy.ensures)
+    (record { name = c.args.maps.now.next; len = 1 }) refl refl (c.in_ok-insert.ensures.ok ∙ ap (insert_entry nat_cmp c.args.maps.now.ids c.args.maps.now.next) c.in_ok-copy.ensures)
     (λ other. c.in_ok-insert-2.ensures.found other ∙ ap (λ id. cond (is_eq (slice_cmp nat_cmp other id)) (Some c.args.maps.now.next) (at_id other c.args.maps.now.numbers)) c.in_ok-copy-2.ensures)
     c.in_ok-insert-3.ensures.found c.in_ok-insert-4.ensures.found _ c.in_ok-insert-5.ensures.found
 
@@ -25,6 +25,6 @@ returns-clause-given c =
     let absent : at_id c.args.id.now c.args.maps.now.numbers ≡ None = none_by (at_id c.args.id.now c.args.maps.now.numbers) (ap is_some (sym c.get.ensures) ∙ copied_some c.get.result ∙ sym c.is_some.ensures ∙ c.if-is_some.false) in
     labels_given c.args.maps.now c.requires.maps c.args.id.now absent (c.requires.room (sym (has_is c.args.maps.now c.requires.maps c.args.id.now) ∙ ap is_some absent))
     c.insert.new.self c.insert-2.new.self c.insert-3.new.self c.insert-4.new.self c.insert-5.new.self
-    (record { name = c.args.maps.now.next; len = 1 }) refl (c.in_ok-insert.ensures.ok ∙ ap (insert_entry nat_cmp c.args.maps.now.ids c.args.maps.now.next) c.in_ok-copy.ensures)
+    (record { name = c.args.maps.now.next; len = 1 }) refl refl (c.in_ok-insert.ensures.ok ∙ ap (insert_entry nat_cmp c.args.maps.now.ids c.args.maps.now.next) c.in_ok-copy.ensures)
     (λ other. c.in_ok-insert-2.ensures.found other ∙ ap (λ id. cond (is_eq (slice_cmp nat_cmp other id)) (Some c.args.maps.now.next) (at_id other c.args.maps.now.numbers)) c.in_ok-copy-2.ensures)
     c.in_ok-insert-3.ensures.found c.in_ok-insert-4.ensures.found _ c.in_ok-insert-5.ensures.found
