@@ -1,16 +1,17 @@
 -- Labels once whole threads are gone.
-use Rattle.std.proofs.Common.{◌≡◌, refl, sym, ap, subst, ◌∙◌, ℕ, Bool, true, false, ◌&&◌, not, List, [], ◌∷◌, inl, inr, eq-eqb, nat_eq, true≢false}
+use Rattle.std.proofs.Common.{◌≡◌, refl, sym, ap, subst, ◌∙◌, ℕ, Bool, true, false, ◌&&◌, not, List, [], ◌∷◌, map, inl, inr, eq-eqb, nat_eq, true≢false}
 use Rattle.std.specs.Prelude.{Contains}
 use Rattle.std.specs.List.{filter}
 use Rattle.std.proofs.lemmas.Bool.{eqb-true, and_parts, and_from, or_left}
 use Rattle.nm_base.specs.Order.{has_text, same_text}
 use Rattle.nm_base.specs.declared.facts.LinkRow.{LinkRow}
 use Rattle.nm_threads.specs.Fits.{Fits}
-use Rattle.nm_threads.specs.Labels.{Label, AreLabelsOf, entries_of, has_entry, is_in_rows, without_name}
+use Rattle.nm_threads.specs.Labels.{Label, AreLabelsOf, entries_of, has_entry, is_in_rows, named, without_name}
 use Rattle.nm_threads.specs.Same.{ids_of, stand_together, IsChain, Same, is_same}
-use Rattle.nm_threads.proofs.FilterLemmas.{Contains_filter, Contains_from_filter, filter_all, filter_among, filter_map_among}
+use Rattle.nm_threads.proofs.FilterLemmas.{Contains_filter, Contains_from_filter, filter_all, filter_none, filter_among, filter_map_among}
 use Rattle.nm_threads.proofs.LabelLemmas.{has_of, entry_from}
 use Rattle.nm_threads.proofs.ListLemmas.{same_text_of, any_one, any_of}
+use Rattle.nm_threads.proofs.MergeLemmas.{map_map}
 use Rattle.nm_threads.proofs.NameLemmas.{alike}
 use Rattle.nm_threads.proofs.SameLemmas.{Same_beside, Same_turned, Same_among, Same_known, is_same_of, is_same_from, is_same_through, is_same_turned}
 
@@ -66,6 +67,13 @@ module _ (rows : List LinkRow) (keep : List ℕ → Bool) (respects : (a b : Lis
             (c.0, Contains_filter test labels c.0 c.1 (sym (respects a.id c.0.id ((fits.alike a c.0 p.0 c.1).0 (sym c.3))) ∙ p.1), c.2, c.3);
       }
 
+not_true : (x : Bool) → not x ≡ true → x ≡ false
+not_true true is = sym is
+not_true false is = refl
+
+pub entries_kept : (keep : List ℕ → Bool) (labels : List Label) → entries_of (filter (λ label. keep label.id) labels) ≡ filter (λ entry. keep entry.0) (entries_of labels)
+entries_kept keep labels = sym (filter_map_among (λ label. (label.id, label.number)) (λ entry. keep entry.0) (λ label. keep label.id) labels (λ label among. refl))
+
 -- ---- the thread of one id
 
 module _ (rows : List LinkRow) (id : List ℕ) where
@@ -76,18 +84,23 @@ module _ (rows : List LinkRow) (id : List ℕ) where
       (λ is. is_same_through rows id b a is (is_same_turned rows a b (is_same_of rows a b same))))
 
   module _ (labels : List Label) (fits : Fits rows labels) (own : Label) (own_in : Contains labels own) (own_is : own.id ≡ id) where
-    name_test : (a : Label) → Contains labels a → not (nat_eq a.name own.name) ≡ not (is_same rows id a.id)
+    name_test : (a : Label) → Contains labels a → nat_eq a.name own.name ≡ is_same rows id a.id
     name_test a among =
-        ap not
-        (alike (nat_eq a.name own.name) (is_same rows id a.id)
+        alike (nat_eq a.name own.name) (is_same rows id a.id)
         (λ is. is_same_of rows id a.id (subst (λ x. Same rows x a.id) own_is ((fits.alike own a own_in among).0 (sym (eqb-true a.name own.name is)))))
-        (λ is. eq-eqb a.name own.name (sym ((fits.alike own a own_in among).1 (subst (λ x. Same rows x a.id) (sym own_is) (is_same_from rows id a.id is))))))
+        (λ is. eq-eqb a.name own.name (sym ((fits.alike own a own_in among).1 (subst (λ x. Same rows x a.id) (sym own_is) (is_same_from rows id a.id is)))))
 
     labels_are : without_name own.name labels ≡ filter (λ label. not (is_same rows id label.id)) labels
-    labels_are = filter_among (λ label. not (nat_eq label.name own.name)) (λ label. not (is_same rows id label.id)) labels name_test
+    labels_are = filter_among (λ label. not (nat_eq label.name own.name)) (λ label. not (is_same rows id label.id)) labels (λ a among. ap not (name_test a among))
 
     pub entries_without : entries_of (without_name own.name labels) ≡ filter (λ entry. not (is_same rows id entry.0)) (entries_of labels)
-    entries_without = ap entries_of labels_are ∙ sym (filter_map_among (λ label. (label.id, label.number)) (λ entry. not (is_same rows id entry.0)) (λ label. not (is_same rows id label.id)) labels (λ label among. refl))
+    entries_without = ap entries_of labels_are ∙ entries_kept (λ u. not (is_same rows id u)) labels
+
+    -- the labels of the thread are those of its ids
+    pub ids_named : map (λ label. label.id) (named own.name labels) ≡ map (λ entry. entry.0) (filter (λ entry. is_same rows id entry.0) (entries_of labels))
+    ids_named =
+        ap (map (λ label. label.id)) (filter_among (λ label. nat_eq label.name own.name) (λ label. is_same rows id label.id) labels name_test)
+        ∙ sym (ap (map (λ entry. entry.0)) (sym (entries_kept (is_same rows id) labels)) ∙ map_map (λ entry. entry.0) (λ (label : Label). (label.id, label.number)) (filter (λ label. is_same rows id label.id) labels))
 
     pub fits_without : Fits (filter (λ row. not (is_same rows id row.id)) rows) (without_name own.name labels)
     fits_without = subst (Fits (filter (λ row. not (is_same rows id row.id)) rows)) (sym labels_are) (fits_kept rows (λ u. not (is_same rows id u)) other_respects labels fits)
@@ -110,3 +123,9 @@ module _ (rows : List LinkRow) (id : List ℕ) where
     entries_stay =
         filter_all (λ entry. not (is_same rows id entry.0)) (entries_of labels)
         (λ entry among. let a = entry_from labels entry.0 entry.1 among in apart_by entry.0 (λ is. true≢false (sym (has_of labels id a.0 a.1 (a.2 ∙ is)) ∙ none)) (is_same rows id entry.0) refl)
+
+    pub none_same : filter (λ entry. is_same rows id entry.0) (entries_of labels) ≡ []
+    none_same =
+        filter_none (λ entry. is_same rows id entry.0) (entries_of labels)
+        (λ entry among.
+        let a = entry_from labels entry.0 entry.1 among in not_true (is_same rows id entry.0) (apart_by entry.0 (λ is. true≢false (sym (has_of labels id a.0 a.1 (a.2 ∙ is)) ∙ none)) (is_same rows id entry.0) refl))

@@ -15,3 +15,5 @@ pub mod OrderLemmas
 pub mod OpenLemmas
 pub mod RemoveLemmas
 pub mod KeepLemmas
+pub mod ThreadLemmas
+pub mod DeadLemmas

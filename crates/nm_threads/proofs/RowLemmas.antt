@@ -4,6 +4,8 @@ use Rattle.std.specs.Prelude.{Contains, Some}
 use Rattle.std.proofs.lemmas.List.{map_push, take-append-drop, drop_more, take_more, take_all, append-nil}
 use Rattle.std.proofs.lemmas.List.Concat.{flat_map-append}
 use Rattle.std.specs.List.{flat_map}
+use Rattle.std.specs.List.Sorted.{IsStrictlySortedBy}
+use Rattle.std.specs.Ordering.{nat_cmp}
 use Rattle.nm_threads.specs.Same.{ids_of}
 use Rattle.nm_threads.proofs.OrderLemmas.{labels_among}
 use Rattle.nm_threads.proofs.ListLemmas.{Contains_cases, Contains_first, Contains_there}
@@ -117,6 +119,7 @@ given_has l id =
 
 pub maps_labelling : (m : Maps) → AreMaps m → IsLabelling (labelling_of m)
 maps_labelling m are = record {
+  rising = subst (IsStrictlySortedBy nat_cmp) (sym (map_map (λ label. label.number) (label_at m) m.ids)) are.ordered;
   ids = λ a b first second is.
       let p = label_from m a first in
       let q = label_from m b second in

@@ -1,6 +1,8 @@
 -- Labels: of each id that has a number, that number and the name of its thread.
-use Rattle.std.specs.Prelude.{◌≡◌, ℕ, ◌+◌, ◌<◌, ◌≤◌, Bool, ◌==◌, not, List, [], ◌∷◌, ◌++◌, map, IsTrue, Some, Contains, if◌then◌else◌}
+use Rattle.std.specs.Prelude.{◌≡◌, ℕ, ◌+◌, ◌<◌, ◌≤◌, Bool, ◌==◌, ◌&&◌, not, List, [], ◌∷◌, ◌++◌, map, IsTrue, Some, Contains, if◌then◌else◌}
 use Rattle.std.specs.List.{filter, list_any}
+use Rattle.std.specs.List.Sorted.{IsStrictlySortedBy}
+use Rattle.std.specs.Ordering.{nat_cmp}
 use Rattle.nm_base.specs.Order.{has_text, same_text}
 use Rattle.nm_base.specs.declared.facts.LinkRow.{LinkRow}
 use Rattle.nm_threads.specs.Same.{ids_of}
@@ -33,6 +35,14 @@ named name labels = filter (λ label. label.name == name) labels
 abbrev pub without_name : ℕ → List Label → List Label
 without_name name labels = filter (λ label. not (label.name == name)) labels
 
+-- the id is of the thread of this name
+abbrev pub is_named : List Label → ℕ → List ℕ → Bool
+is_named labels name id = list_any (λ label. same_text id label.id && label.name == name) labels
+
+-- the labels of the threads that have one of these ids
+abbrev pub held_labels : List (List ℕ) → List Label → List Label
+held_labels ids labels = filter (λ label. list_any (is_named labels label.name) ids) labels
+
 -- the entries, and the next number, once each of these ids has a number: those that lack one get the next ones, in order
 abbrev pub numbered : List (List ℕ × ℕ) → ℕ → List (List ℕ) → List (List ℕ × ℕ) × ℕ
 numbered entries next [] = (entries, next)
@@ -47,8 +57,9 @@ pub record AreLabelsOf (rows : List LinkRow) (labels : List Label) : Type 0 wher
   pub known : (id : List ℕ) → IsTrue (is_in_rows rows id) → IsTrue (has_entry (entries_of labels) id)
   pub names : (label : Label) → Contains labels label → thread_name rows (entries_of labels) label.id ≡ Some label.name
 
--- one label an id, one a number, and all numbers below the next one
+-- one label an id, one a number, by rising number, and all numbers below the next one
 pub record IsLabelling (labelling : Labelling) : Type 0 where
+  pub rising : IsStrictlySortedBy nat_cmp (map (λ label. label.number) labelling.labels)
   pub ids : (a b : Label) → Contains labelling.labels a → Contains labelling.labels b → a.id ≡ b.id → a ≡ b
   pub numbers : (a b : Label) → Contains labelling.labels a → Contains labelling.labels b → a.number ≡ b.number → a ≡ b
   pub below : (a : Label) → Contains labelling.labels a → (1 ≤ a.number) × (a.number < labelling.next)

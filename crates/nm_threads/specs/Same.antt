@@ -29,3 +29,7 @@ Touches rows row a = (id : List ℕ) × IsTrue (has_text (ids_of row) id) × Sam
 abbrev pub is_same : List LinkRow → List ℕ → List ℕ → Bool
 is_same [] a b = same_text a b
 is_same (row ∷ rows) a b = is_same rows a b || (list_any (is_same rows a) (ids_of row) && list_any (is_same rows b) (ids_of row))
+
+-- there is a chain from the id to one of these
+abbrev pub is_held : List LinkRow → List (List ℕ) → List ℕ → Bool
+is_held rows ids id = list_any (is_same rows id) ids

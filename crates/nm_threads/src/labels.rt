@@ -1,16 +1,19 @@
 //! The labels of a mail store's ids: each id's number and the name of its thread. Snapshots hold them.
 
-ghost use Rattle.std.specs.Prelude.{◌≡◌, ◌≤◌, ◌^◌, ◌∷◌, ◌++◌, [], ℕ, List, false, not, IfOk, OnOk, OnErr, MatchOption, Contains};
-ghost use Rattle.std.specs.List.{filter, flat_map};
+ghost use Rattle.std.specs.Prelude.{◌≡◌, ◌≤◌, ◌+◌, ◌^◌, ◌∷◌, ◌++◌, [], ℕ, List, false, length, map, not, IfOk, OnOk, OnErr, MatchOption, Contains};
+ghost use Rattle.std.specs.List.{IsDistinct, filter, flat_map};
+ghost use Rattle.nm_base.specs.Order.{same_text};
 ghost use Rattle.nm_base.specs.declared.facts.LinkRow.{LinkRow};
 ghost use Rattle.nm_threads.specs.Entries.{AreEntriesOf};
-ghost use Rattle.nm_threads.specs.Labels.{AreLabelsOf, IsLabelling, entries_of, has_entry, numbered};
+ghost use Rattle.nm_threads.specs.Labels.{AreLabelsOf, IsLabelling, entries_of, has_entry, named, numbered};
 ghost use Rattle.nm_threads.specs.Maps.{AreMaps, labelling_of};
 ghost use Rattle.nm_threads.specs.Name.{thread_name};
-ghost use Rattle.nm_threads.specs.Same.{ids_of, is_same};
+ghost use Rattle.nm_threads.specs.Same.{ids_of, is_held, is_same};
 
+use crate::dead::remove_dead;
 use crate::joining::place_of;
 use crate::maps::Maps;
+use crate::members::members_named;
 use crate::opening::{add_uncounted, give_numbers};
 use crate::removing::remove_named;
 use crate::rows::{add, add_all};
@@ -92,6 +95,36 @@ impl Labels {
         Some(place.thread.name)
     }
 
+    /// The ids of the thread of this name, by their numbers; none where no thread has it.
+    pub fn members<L: Ledger>(
+        &self,
+        name: u64,
+        steps: &mut Steps<L>,
+    ) -> Result<Many<MessageId>, NoMemory>
+        ensures ids { IfOk result (λ ids. ids ≡ map (λ label. label.id) (named name self.now.labels)) }
+        ensures once { IfOk result (λ ids. IsDistinct same_text ids) }
+        ensures steps { OnOk result (steps.new ≡ steps.old + length (named name self.now.labels)) }
+    {
+        let ids = members_named(self.alloc, &self.maps, name, steps)?;
+        Ok(ids)
+    }
+
+    /// The ids of the thread of an id, by their numbers; none where the id has no number.
+    pub fn thread_of<L: Ledger>(
+        &self,
+        id: &MessageId,
+        steps: &mut Steps<L>,
+    ) -> Result<Many<MessageId>, NoMemory>
+        ensures ids { IfOk result (λ ids. (rows : List LinkRow) → AreLabelsOf rows self.now.labels → ids ≡ map (λ entry. entry.0) (filter (λ entry. is_same rows id.now entry.0) (entries_of self.now.labels))) }
+        ensures once { IfOk result (λ ids. IsDistinct same_text ids) }
+    {
+        let Some(name) = self.name_of(id) else {
+            return Ok(Many::new(self.alloc));
+        };
+        let ids = self.members(name, steps)?;
+        Ok(ids)
+    }
+
     /// Adds the row of a mail: ids without a number get the next ones, the mail's own first, and all are of one thread.
     pub fn add_row<L: Ledger>(
         &mut self,
@@ -138,6 +171,19 @@ impl Labels {
         };
         let mut maps = self.maps.share()?;
         remove_named(self.alloc, &mut maps, name)?;
+        self.maps = maps;
+        Ok(())
+    }
+
+    /// Lets go the threads without a live id: their ids lose their numbers, and no others do. The next number stays.
+    pub fn drop_dead(&mut self, live: &Many<MessageId>) -> Result<(), NoMemory>
+        ensures next { OnOk result (self.new.next ≡ self.old.next) }
+        ensures entries { OnOk result ((rows : List LinkRow) → AreLabelsOf rows self.old.labels → entries_of self.new.labels ≡ filter (λ entry. is_held rows live.now entry.0) (entries_of self.old.labels)) }
+        ensures labels { OnOk result ((rows : List LinkRow) → AreLabelsOf rows self.old.labels → AreLabelsOf (filter (λ row. is_held rows live.now row.id) rows) self.new.labels) }
+        ensures err { OnErr result (self.new ≡ self.old) }
+    {
+        let mut maps = self.maps.share()?;
+        remove_dead(self.alloc, &mut maps, live.as_slice())?;
         self.maps = maps;
         Ok(())
     }

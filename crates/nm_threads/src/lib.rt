@@ -2,10 +2,12 @@
 //! Labels follow the rows of ids as mail comes and goes, and always are those of the plain definition.
 #![tactic(auto)]
 
+mod dead;
 mod joining;
 mod labels;
 mod laws;
 mod maps;
+mod members;
 mod numbering;
 mod opening;
 mod removing;

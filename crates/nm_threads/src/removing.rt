@@ -1,31 +1,17 @@
 //! A thread that goes: its ids lose their numbers. `Labels` calls it.
 
-ghost use Rattle.std.specs.Prelude.{◌≡◌, ◌≢◌, ◌==◌, ℕ, None, Some, MatchOption, not, OnOk, Contains, if◌then◌else◌};
+ghost use Rattle.std.specs.Prelude.{◌≡◌, ◌==◌, ℕ, None, Some, not, OnOk, if◌then◌else◌};
 ghost use Rattle.std.specs.List.{list_any, filter};
 ghost use Rattle.std.specs.List.Sorted.{IsStrictlySortedBy};
 ghost use Rattle.std.specs.Ordering.{nat_cmp};
-ghost use Rattle.nm_threads.specs.Labels.{Label, without_name};
+ghost use Rattle.nm_threads.specs.Labels.{without_name};
 ghost use Rattle.nm_threads.specs.Maps.{AreMaps, AreNumbers, at, is_number, labelling_of};
-ghost use Rattle.nm_threads.specs.declared.maps.Thread.{Thread};
 
 use crate::joining::numbers_of;
 use crate::maps::Maps;
+use crate::members::group_named;
 use nm_base::{Copies, NoMemory};
 use std::alloc::Global;
-
-/// The group of the thread of this name, if there is one.
-pub fn group_named(maps: &Maps, name: u64) -> Option<u64>
-    requires { AreMaps maps.now }
-    ensures { MatchOption result ((label : Label) → Contains (labelling_of maps.now).labels label → label.name ≢ name) (λ group. (thread : Thread) × (at group maps.now.threads ≡ Some thread) × (thread.name ≡ name)) }
-{
-    let group = *maps.groups.get(&name)?;
-    let thread = maps.threads.get(&group)?;
-    if thread.name == name {
-        Some(group)
-    } else {
-        None
-    }
-}
 
 /// Lets go one number of a group, and its id.
 fn remove_number(maps: &mut Maps, number: u64, group: u64) -> Result<(), NoMemory>

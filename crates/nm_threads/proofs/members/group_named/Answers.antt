@@ -1,5 +1,5 @@
 use Rattle.nm_threads.proofs.RemoveLemmas.{no_group, no_thread, not_named}
-use Rattle.nm_threads.proofs.removing.group_named.Goals as goal
+use Rattle.nm_threads.proofs.members.group_named.Goals as goal
 
 pub returns-in_err-group : goal.returns-in_err-group
 returns-in_err-group c = rw c.from_residual.ensures (no_group c.args.maps.now c.requires c.args.name c.in_err-group.ensures)
