@@ -17,3 +17,4 @@ pub mod RemoveLemmas
 pub mod KeepLemmas
 pub mod ThreadLemmas
 pub mod DeadLemmas
+pub mod StepLemmas

@@ -85,7 +85,7 @@ joined_by x y l labels apart more (inr other) =
     omega (arith, more, count_no (min x y) (relabelled x y l) (map (relabelled x y) labels) not, count_no x l labels other.not_x, count_no y l labels other.not_y)
 
 -- the joined thread has the labels of both
-count_joined : (x y : ℕ) (labels : List Label) → x ≢ y → count (min x y) (map (relabelled x y) labels) ≡ count x labels + count y labels
+pub count_joined : (x y : ℕ) (labels : List Label) → x ≢ y → count (min x y) (map (relabelled x y) labels) ≡ count x labels + count y labels
 count_joined x y [] apart = refl
 count_joined x y (l ∷ labels) apart = joined_by x y l labels apart (count_joined x y labels apart) (cases_joined x y l.name)
 

@@ -74,11 +74,11 @@ module _ (l : Labelling) (id : List ℕ) where
   abbrev grown : Labelling
   grown = record { labels = l.labels ++ (record { id = id; number = l.next; name = l.next }) ∷ []; next = l.next + 1 }
 
-  abbrev either : Bool → Labelling
+  abbrev pub either : Bool → Labelling
   either true = l
   either false = grown
 
-  given_is : (test : Bool) → has_entry (entries_of l.labels) id ≡ test → given l id ≡ either test
+  pub given_is : (test : Bool) → has_entry (entries_of l.labels) id ≡ test → given l id ≡ either test
   given_is true is = ap (λ test. cond test l grown) is
   given_is false is = ap (λ test. cond test l grown) is
 

@@ -1,5 +1,5 @@
 -- Labels: of each id that has a number, that number and the name of its thread.
-use Rattle.std.specs.Prelude.{◌≡◌, ℕ, ◌+◌, ◌<◌, ◌≤◌, Bool, ◌==◌, ◌&&◌, not, List, [], ◌∷◌, ◌++◌, map, IsTrue, Some, Contains, if◌then◌else◌}
+use Rattle.std.specs.Prelude.{◌≡◌, ℕ, ◌+◌, ◌<◌, ◌≤◌, Bool, ◌==◌, ◌&&◌, not, List, [], ◌∷◌, ◌++◌, length, map, IsTrue, Some, Contains, if◌then◌else◌}
 use Rattle.std.specs.List.{filter, list_any}
 use Rattle.std.specs.List.Sorted.{IsStrictlySortedBy}
 use Rattle.std.specs.Ordering.{nat_cmp}
@@ -42,6 +42,10 @@ is_named labels name id = list_any (λ label. same_text id label.id && label.nam
 -- the labels of the threads that have one of these ids
 abbrev pub held_labels : List (List ℕ) → List Label → List Label
 held_labels ids labels = filter (λ label. list_any (is_named labels label.name) ids) labels
+
+-- how many ids the thread of an id has
+abbrev pub thread_len : List ℕ → List Label → ℕ
+thread_len id labels = length (held_labels (id ∷ []) labels)
 
 -- the entries, and the next number, once each of these ids has a number: those that lack one get the next ones, in order
 abbrev pub numbered : List (List ℕ × ℕ) → ℕ → List (List ℕ) → List (List ℕ × ℕ) × ℕ

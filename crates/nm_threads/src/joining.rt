@@ -1,11 +1,13 @@
 //! Two threads become one: the numbers of the smaller go to the group of the other. The rows that come do it.
 
-ghost use Rattle.std.specs.Prelude.{◌≡◌, ℕ, Some, None, map, nat_eq, if◌then◌else◌, IfOk, MatchOption, OnOk, Contains};
+ghost use Rattle.std.specs.Prelude.{◌≡◌, ◌==◌, ◌+◌, ℕ, true, min, Some, None, length, map, nat_eq, if◌then◌else◌, IfOk, MatchOption, OnOk, Contains};
 ghost use Rattle.std.specs.List.{list_any};
 ghost use Rattle.std.specs.List.Sorted.{IsStrictlySortedBy};
 ghost use Rattle.std.specs.Option.{is_some};
 ghost use Rattle.std.specs.Ordering.{nat_cmp};
+ghost use Rattle.nm_threads.specs.Labels.{entries_of, has_entry};
 ghost use Rattle.nm_threads.specs.Maps.{AreMaps, AreMembers, at, at_id, at_pair, is_number, labelling_of, relabelled};
+ghost use Rattle.nm_threads.specs.declared.maps.Thread.{Thread};
 
 use crate::maps::{Maps, Member, Thread};
 use nm_base::{Many, MessageId, NoMemory, Steps};
@@ -29,6 +31,19 @@ pub fn place_of(maps: &Maps, id: &MessageId) -> Option<Place>
     let group = *maps.groups.get(number)?;
     let thread = *maps.threads.get(&group)?;
     Some(Place { group, thread })
+}
+
+/// Where an id stands that has a number.
+pub fn place_in(maps: &Maps, id: &MessageId) -> Place
+    requires maps { AreMaps maps.now }
+    requires known { has_entry (entries_of (labelling_of maps.now).labels) id.now ≡ true }
+    ensures { (number : ℕ) × Contains maps.now.ids (number, id.now) × (at number maps.now.groups ≡ Some result.group) × (at result.group maps.now.threads ≡ Some result.thread) }
+{
+    let nowhere = Place {
+        group: 0,
+        thread: Thread { name: 0, len: 0 },
+    };
+    place_of(maps, id).unwrap_or(nowhere)
 }
 
 /// The numbers of a group.
@@ -65,6 +80,7 @@ fn move_numbers<L: Ledger>(
     requires numbers { (number : ℕ) → list_any (nat_eq number) numbers.now ≡ is_number from (at number groups.old) }
     ensures members { OnOk result (AreMembers members.new groups.new) }
     ensures groups { OnOk result ((number : ℕ) → at number groups.new ≡ (if is_number from (at number groups.old) then Some to else at number groups.old)) }
+    ensures steps { OnOk result (steps.new ≡ steps.old + length numbers.now) }
 {
     'numbers: for number in numbers {
         steps.tick();
@@ -90,6 +106,7 @@ pub fn join<L: Ledger>(
     ensures ids { OnOk result (maps.new.ids ≡ maps.old.ids) }
     ensures next { OnOk result (maps.new.next ≡ maps.old.next) }
     ensures labels { OnOk result ((labelling_of maps.new).labels ≡ map (relabelled first.thread.name second.thread.name) (labelling_of maps.old).labels) }
+    ensures steps { OnOk result (steps.new ≡ steps.old + (if first.group == second.group then 0 else min first.thread.len second.thread.len)) }
 {
     if first.group == second.group {
         return Ok(());
@@ -122,6 +139,7 @@ fn merge<L: Ledger>(
     ensures members { OnOk result (AreMembers maps.new.members maps.new.groups) }
     ensures groups { OnOk result ((number : ℕ) → at number maps.new.groups ≡ (if is_number from (at number maps.old.groups) then Some to else at number maps.old.groups)) }
     ensures threads { OnOk result ((group : ℕ) → at group maps.new.threads ≡ (if nat_eq group to then Some thread else if nat_eq group from then None else at group maps.old.threads)) }
+    ensures steps { OnOk result ((one : Thread) → AreMaps maps.old → at from maps.old.threads ≡ Some one → steps.new ≡ steps.old + one.len) }
 {
     let numbers = numbers_of(alloc, &maps.members, from)?;
     move_numbers(

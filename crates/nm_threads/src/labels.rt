@@ -5,7 +5,7 @@ ghost use Rattle.std.specs.List.{IsDistinct, filter, flat_map};
 ghost use Rattle.nm_base.specs.Order.{same_text};
 ghost use Rattle.nm_base.specs.declared.facts.LinkRow.{LinkRow};
 ghost use Rattle.nm_threads.specs.Entries.{AreEntriesOf};
-ghost use Rattle.nm_threads.specs.Labels.{AreLabelsOf, IsLabelling, entries_of, has_entry, named, numbered};
+ghost use Rattle.nm_threads.specs.Labels.{AreLabelsOf, IsLabelling, entries_of, has_entry, named, numbered, thread_len};
 ghost use Rattle.nm_threads.specs.Maps.{AreMaps, labelling_of};
 ghost use Rattle.nm_threads.specs.Name.{thread_name};
 ghost use Rattle.nm_threads.specs.Same.{ids_of, is_held, is_same};
@@ -134,6 +134,7 @@ impl Labels {
         requires { (numbered (entries_of self.old.labels) self.old.next (ids_of row.now)).1 ≤ 2 ^ 63 }
         ensures numbers { OnOk result ((entries_of self.new.labels, self.new.next) ≡ numbered (entries_of self.old.labels) self.old.next (ids_of row.now)) }
         ensures labels { OnOk result ((rows : List LinkRow) → AreLabelsOf rows self.old.labels → AreLabelsOf (row.now ∷ rows) self.new.labels) }
+        ensures steps { OnOk result (steps.new ≤ steps.old + length (ids_of row.now) + thread_len row.now.id self.new.labels) }
         ensures err { OnErr result (self.new ≡ self.old) }
     {
         let mut maps = self.maps.share()?;

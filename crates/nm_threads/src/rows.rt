@@ -1,14 +1,14 @@
 //! A row that comes: its ids get numbers, and their threads become one. `Labels` calls it.
 
-ghost use Rattle.std.specs.Prelude.{◌≡◌, ◌<◌, ◌≤◌, ◌^◌, ◌∷◌, ◌++◌, [], List, false, OnOk};
+ghost use Rattle.std.specs.Prelude.{◌≡◌, ◌+◌, ◌<◌, ◌≤◌, ◌^◌, ◌∷◌, ◌++◌, [], List, length, true, false, OnOk};
 ghost use Rattle.std.specs.List.{flat_map};
 ghost use Rattle.nm_base.specs.declared.facts.LinkRow.{LinkRow};
 ghost use Rattle.nm_threads.specs.Fits.{Fits, Links};
-ghost use Rattle.nm_threads.specs.Labels.{AreLabelsOf, entries_of, has_entry, numbered};
+ghost use Rattle.nm_threads.specs.Labels.{AreLabelsOf, entries_of, has_entry, numbered, thread_len};
 ghost use Rattle.nm_threads.specs.Maps.{AreMaps, labelling_of};
 ghost use Rattle.nm_threads.specs.Same.{ids_of};
 
-use crate::joining::{join, place_of};
+use crate::joining::{join, place_in};
 use crate::maps::Maps;
 use crate::numbering::give_number;
 use nm_base::{LinkRow, MessageId, NoMemory, Steps};
@@ -24,16 +24,17 @@ fn add_link<L: Ledger>(
     steps: &mut Steps<L>,
 ) -> Result<(), NoMemory>
     requires maps { AreMaps maps.old }
+    requires own { has_entry (entries_of (labelling_of maps.old).labels) own.now ≡ true }
     requires room { has_entry (entries_of (labelling_of maps.old).labels) link.now ≡ false → maps.old.next < 2 ^ 63 }
     ensures maps { OnOk result (AreMaps maps.new) }
+    ensures own { OnOk result (has_entry (entries_of (labelling_of maps.new).labels) own.now ≡ true) }
     ensures links { OnOk result (Links (labelling_of maps.old) (labelling_of maps.new) own.now link.now) }
+    ensures steps { OnOk result (steps.new + thread_len own.now (labelling_of maps.old).labels ≤ steps.old + 1 + thread_len own.now (labelling_of maps.new).labels) }
 {
     steps.tick();
     give_number(maps, link)?;
-    let (Some(first), Some(second)) = (place_of(maps, own), place_of(maps, link)) else {
-        // Both have numbers, so this does not come.
-        return Err(NoMemory);
-    };
+    let first = place_in(maps, own);
+    let second = place_in(maps, link);
     join(alloc, maps, first, second, steps)?;
     Ok(())
 }
@@ -50,6 +51,7 @@ pub fn add<L: Ledger>(
     ensures maps { OnOk result (AreMaps maps.new) }
     ensures numbers { OnOk result ((entries_of (labelling_of maps.new).labels, maps.new.next) ≡ numbered (entries_of (labelling_of maps.old).labels) maps.old.next (ids_of row.now)) }
     ensures labels { OnOk result ((rows : List LinkRow) → AreLabelsOf rows (labelling_of maps.old).labels → AreLabelsOf (row.now ∷ rows) (labelling_of maps.new).labels) }
+    ensures steps { OnOk result (steps.new ≤ steps.old + length (ids_of row.now) + thread_len row.now.id (labelling_of maps.new).labels) }
 {
     steps.tick();
     give_number(maps, &row.id)?;

@@ -1,4 +1,4 @@
-use Rattle.std.proofs.Common.{ap, ◌∙◌, cond, get_or, take, nat_eq}
+use Rattle.std.proofs.Common.{ap, ◌∙◌, arith, cond, get_or, take, nat_eq}
 use Rattle.std.specs.Prelude.{Some}
 use Rattle.std.specs.List.{list_any}
 use Rattle.std.specs.Ordering.{is_eq}
@@ -16,4 +16,5 @@ numbers-preserved g c = record {
       c.in_ok-insert.ensures.found
       (λ pair. c.in_ok-insert-2.ensures.found pair ∙ ap (λ rest. cond (is_eq (pair_cmp pair (c.args.to, get_or c.args.numbers.now c.numbers.number-index 0))) (Some (record {})) rest) (c.in_ok-remove.ensures.found pair));
   groups = groups_more c.args.numbers.now c.numbers.number-index c.args.to c.numbers.groups c.insert.new.self c.args.groups.now c.numbers-test.true c.in_ok-insert.ensures.found c.numbers.invariant.groups;
+  steps = omega (arith, c.tick.ensures, c.numbers.invariant.steps);
 }

@@ -2,6 +2,7 @@ use Rattle.std.proofs.Common.{sym, subst, ◌∷◌, ◌≤◌, arith}
 use Rattle.nm_threads.specs.Labels.{entries_of, numbered}
 use Rattle.nm_threads.specs.Maps.{labelling_of}
 use Rattle.nm_threads.proofs.RowLemmas.{room_first, row_numbers, row_labels, row_room, more_numbers, more_labels, row_ends}
+use Rattle.nm_threads.proofs.StepLemmas.{given_known}
 use Rattle.nm_threads.proofs.rows.add.Goals as goal
 
 pub give_number-requires-clause-room : goal.give_number-requires-clause-room
@@ -12,6 +13,8 @@ links-init g c = record {
   maps = c.in_ok-give_number.ensures.maps;
   numbers = row_numbers c.args.maps.now c.give_number.new.maps c.args.row.now.id c.as_slice-link-items.result.now c.in_ok-give_number.ensures.given;
   labels = row_labels c.args.maps.now c.give_number.new.maps c.args.row.now.id c.as_slice-link-items.result.now c.requires.maps c.in_ok-give_number.ensures.given;
+  own = given_known c.args.maps.now c.give_number.new.maps c.args.row.now.id c.in_ok-give_number.ensures.given;
+  steps = omega (arith, c.tick.ensures);
 }
 
 pub add_link-requires-clause-room : goal.add_link-requires-clause-room
@@ -26,6 +29,8 @@ links-preserved g c = record {
       more_numbers c.args.maps.now c.links.maps c.args.row.now.id c.as_slice-link-items.result.now c.links.link-index c.links-test.true c.link-item.result (sym c.link-item.is) c.add_link.new.maps c.in_ok-add_link.ensures.links c.links.invariant.numbers;
   labels = λ rows labels.
       more_labels c.args.maps.now c.links.maps c.args.row.now.id c.as_slice-link-items.result.now c.links.link-index c.links-test.true c.link-item.result (sym c.link-item.is) c.add_link.new.maps c.in_ok-add_link.ensures.links rows (c.links.invariant.labels rows labels);
+  own = c.in_ok-add_link.ensures.own;
+  steps = omega (arith, c.links.invariant.steps, c.in_ok-add_link.ensures.steps);
 }
 
 pub returns-clause-labels : goal.returns-clause-labels

@@ -1,0 +1,122 @@
+-- How many ids the thread of an id has, as a row comes.
+use Rattle.std.proofs.Common.{◌≡◌, ◌≢◌, refl, sym, ap, subst, ◌∙◌, ℕ, ◌+◌, ◌≤◌, Bool, true, false, ◌||◌, cond, min, List, [], ◌∷◌, ◌++◌, length, map, arith, inl, inr, eq-eqb, ne_eqb, nat_eq}
+use Rattle.std.specs.Prelude.{Contains, Some}
+use Rattle.std.proofs.lemmas.Bool.{cases_eq}
+use Rattle.std.proofs.lemmas.List.{append-nil}
+use Rattle.std.proofs.lemmas.List.Elements.{filter-append, Contains-append_left}
+use Rattle.std.proofs.lemmas.Option.{same_Some}
+use Rattle.nm_threads.specs.Labels.{Label, entries_of, has_entry, is_named, named, thread_len}
+use Rattle.nm_threads.specs.Maps.{at, labelling_of, AreMaps, given, relabelled}
+use Rattle.nm_threads.specs.declared.maps.Maps.{Maps}
+use Rattle.nm_threads.specs.declared.maps.Thread.{Thread}
+use Rattle.nm_threads.proofs.DeadLemmas.{named_is}
+use Rattle.nm_threads.proofs.FilterLemmas.{filter_among, filter_no}
+use Rattle.nm_threads.proofs.JoinLemmas.{joined_of}
+use Rattle.nm_threads.proofs.LabelLemmas.{has_of, has_from}
+use Rattle.nm_threads.proofs.ListLemmas.{Contains_map}
+use Rattle.nm_threads.proofs.MergeLemmas.{count_joined, join_itself, name_found}
+use Rattle.nm_threads.proofs.NumberLemmas.{label_from}
+use Rattle.nm_threads.proofs.PlaceLemmas.{label_at_place}
+use Rattle.nm_threads.proofs.RowLemmas.{either, given_has, given_is, maps_labelling}
+
+or_none : (x : Bool) → (x || false) ≡ x
+or_none true = refl
+or_none false = refl
+
+-- the thread of an id is that which its label names
+module _ (m : Maps) (are : AreMaps m) (a : Label) (among : Contains (labelling_of m).labels a) where
+  pub thread_named : thread_len a.id (labelling_of m).labels ≡ length (named a.name (labelling_of m).labels)
+  thread_named =
+      ap length
+      (filter_among (λ label. is_named (labelling_of m).labels label.name a.id || false) (λ label. nat_eq label.name a.name) (labelling_of m).labels
+      (λ b there. or_none (is_named (labelling_of m).labels b.name a.id) ∙ named_is (labelling_of m).labels b.name a among (λ other there_too same. (maps_labelling m are).ids a other among there_too same) a.id refl))
+
+module _ (m : Maps) (are : AreMaps m) (id : List ℕ) (n g : ℕ) (t : Thread) (among : Contains m.ids (n, id)) (group : at n m.groups ≡ Some g) (thread : at g m.threads ≡ Some t) where
+  pub thread_is : thread_len id (labelling_of m).labels ≡ t.len
+  thread_is = thread_named m are (record { id = id; number = n; name = t.name }) (label_at_place m are id n g t among group thread) ∙ sym (are.counted g t thread)
+
+-- ---- an id more has a number
+
+module _ (old mid : Maps) (are : AreMaps old) (are_mid : AreMaps mid) (link : List ℕ) (is : labelling_of mid ≡ given (labelling_of old) link) where
+  old_in_by : (a : Label) → Contains (labelling_of old).labels a → (test : Bool) → Contains (either (labelling_of old) link test).labels a
+  old_in_by a among true = among
+  old_in_by a among false = Contains-append_left (labelling_of old).labels (record { id = link; number = old.next; name = old.next } ∷ []) a among
+
+  mid_is : labelling_of mid ≡ either (labelling_of old) link (has_entry (entries_of (labelling_of old).labels) link)
+  mid_is = is ∙ given_is (labelling_of old) link (has_entry (entries_of (labelling_of old).labels) link) refl
+
+  old_in : (a : Label) → Contains (labelling_of old).labels a → Contains (labelling_of mid).labels a
+  old_in a among = subst (λ l. Contains l.labels a) (sym mid_is) (old_in_by a among (has_entry (entries_of (labelling_of old).labels) link))
+
+  pub still_known : (id : List ℕ) → has_entry (entries_of (labelling_of old).labels) id ≡ true → has_entry (entries_of (labelling_of mid).labels) id ≡ true
+  still_known id has = let a = has_from (labelling_of old).labels id has in has_of (labelling_of mid).labels id a.0 (old_in a.0 a.1) a.2
+
+  name_not : (a : Label) → Contains (labelling_of old).labels a → old.next ≢ a.name
+  name_not a among same =
+      let from = label_from old a among in
+      let pair = are.grouped a.number a.id from.0 in
+      omega (arith, (are.early pair.0 pair.1 pair.3).1, same, ap (λ l. l.name) (sym from.1), name_found old a.number pair.0 pair.1 pair.2 pair.3)
+
+  named_by : (a : Label) → Contains (labelling_of old).labels a → (test : Bool) → named a.name (either (labelling_of old) link test).labels ≡ named a.name (labelling_of old).labels
+  named_by a among true = refl
+  named_by a among false =
+      filter-append (λ label. nat_eq label.name a.name) (labelling_of old).labels (record { id = link; number = old.next; name = old.next } ∷ [])
+      ∙ ap (λ back. named a.name (labelling_of old).labels ++ back) (filter_no (λ (label : Label). nat_eq label.name a.name) (record { id = link; number = old.next; name = old.next }) [] (ne_eqb old.next a.name (name_not a among)))
+      ∙ append-nil (named a.name (labelling_of old).labels)
+
+  pub thread_stays : (id : List ℕ) → has_entry (entries_of (labelling_of old).labels) id ≡ true → thread_len id (labelling_of mid).labels ≡ thread_len id (labelling_of old).labels
+  thread_stays id has =
+      let a = has_from (labelling_of old).labels id has in
+      ap (λ x. thread_len x (labelling_of mid).labels) (sym a.2)
+      ∙ thread_named mid are_mid a.0 (old_in a.0 a.1)
+      ∙ ap (λ l. length (named a.0.name l.labels)) mid_is
+      ∙ ap length (named_by a.0 a.1 (has_entry (entries_of (labelling_of old).labels) link))
+      ∙ sym (thread_named old are a.0 a.1)
+      ∙ ap (λ x. thread_len x (labelling_of old).labels) a.2
+
+-- ---- two threads become one
+
+module _ (mid new : Maps) (are : AreMaps mid) (are_new : AreMaps new) (id : List ℕ) (n g h : ℕ) (s t : Thread) (among : Contains mid.ids (n, id)) (group : at n mid.groups ≡ Some g) (thread : at g mid.threads ≡ Some s) (other : at h mid.threads ≡ Some t)
+    (labels : (labelling_of new).labels ≡ map (relabelled s.name t.name) (labelling_of mid).labels) where
+  abbrev own : Label
+  own = record { id = id; number = n; name = s.name }
+
+  own_in : Contains (labelling_of mid).labels own
+  own_in = label_at_place mid are id n g s among group thread
+
+  new_in : Contains (labelling_of new).labels (relabelled s.name t.name own)
+  new_in = subst (λ all. Contains all (relabelled s.name t.name own)) (sym labels) (Contains_map (relabelled s.name t.name) (labelling_of mid).labels own own_in)
+
+  pub joined_known : has_entry (entries_of (labelling_of new).labels) id ≡ true
+  joined_known = has_of (labelling_of new).labels id (relabelled s.name t.name own) new_in refl
+
+  joined_len : thread_len id (labelling_of new).labels ≡ length (named (min s.name t.name) (map (relabelled s.name t.name) (labelling_of mid).labels))
+  joined_len =
+      thread_named new are_new (relabelled s.name t.name own) new_in
+      ∙ ap (λ name. length (named name (labelling_of new).labels)) (joined_of s.name t.name s.name (inl refl))
+      ∙ ap (λ all. length (named (min s.name t.name) all)) labels
+
+  same_len : g ≡ h → thread_len id (labelling_of new).labels ≡ s.len
+  same_len same =
+      let one : s ≡ t = same_Some s t (sym thread ∙ ap (λ k. at k mid.threads) same ∙ other) in
+      joined_len
+      ∙ ap (λ all. length (named (min s.name t.name) all)) (sym (join_itself (labelling_of mid).labels s.name t.name (ap (λ x. x.name) one)))
+      ∙ ap (λ name. length (named name (labelling_of mid).labels)) (omega (arith, ap (λ x. x.name) one))
+      ∙ sym (are.counted g s thread)
+
+  both_len : g ≢ h → thread_len id (labelling_of new).labels ≡ s.len + t.len
+  both_len apart =
+      joined_len
+      ∙ count_joined s.name t.name (labelling_of mid).labels (λ is. apart (are.apart g h s t thread other is))
+      ∙ omega (arith, are.counted g s thread, are.counted h t other)
+
+  -- what a join costs is won in the size of the thread
+  pub join_pays : (before after : ℕ) → after ≡ before + cond (nat_eq g h) 0 (min s.len t.len) → after + s.len ≤ before + thread_len id (labelling_of new).labels
+  join_pays before after cost = elim (cases_eq g h) [
+    | inl same ↦ omega (arith, cost, ap (λ test. cond test 0 (min s.len t.len)) (eq-eqb g h same), same_len same)
+    | inr apart ↦ omega (arith, cost, ap (λ test. cond test 0 (min s.len t.len)) (ne_eqb g h apart), both_len apart)
+  ]
+
+pub given_known : (old mid : Maps) (id : List ℕ) → labelling_of mid ≡ given (labelling_of old) id → has_entry (entries_of (labelling_of mid).labels) id ≡ true
+given_known old mid id is =
+    let one = given_has (labelling_of old) id in subst (λ l. has_entry (entries_of l.labels) id ≡ true) (sym is) (has_of (given (labelling_of old) id).labels id one.0 one.1 one.2)
