@@ -1,0 +1,145 @@
+//! The files of an index, by their arrival, by their paths and by their messages; the parts of a snapshot hold them.
+
+ghost use Rattle.std.specs.Prelude.{◌≡◌, ◌∷◌, ◌++◌, [], false, true, Some, IfOk, OnOk};
+ghost use Rattle.std.specs.Map.{values_of};
+ghost use Rattle.nm_commit.specs.Index.{has_id, has_path, with_moved, without_path};
+ghost use Rattle.nm_state.specs.Filing.{AreFiled, at_place, at_text, files_in, lying_in};
+
+use crate::places::{add_place, remove_place};
+use nm_base::{Copies, Facts, MailPath, Many, MessageId, NoMemory};
+use nm_shared::{Shared, SharedMap};
+use std::alloc::Global;
+
+/// The files, each at its place: the number of files that had come before it.
+pub struct Filing {
+    pub files: SharedMap<u64, (MailPath, Shared<Facts>)>,
+    pub places: SharedMap<MailPath, u64>,
+    pub of_id: SharedMap<MessageId, Shared<Many<u64>>>,
+    pub next: u64,
+}
+
+impl Drop for Filing {
+    fn drop(self) {
+        let Filing {
+            files: _,
+            places: _,
+            of_id: _,
+            next: _,
+        } = self;
+    }
+}
+
+impl Filing {
+    pub fn new(alloc: Global) -> Filing
+        ensures filed { AreFiled result }
+        ensures files { files_in result ≡ [] }
+    {
+        Filing {
+            files: SharedMap::new(alloc),
+            places: SharedMap::new(alloc),
+            of_id: SharedMap::new(alloc),
+            next: 0,
+        }
+    }
+
+    pub fn share(&self) -> Result<Filing, NoMemory>
+        ensures { IfOk result (λ filing. filing ≡ self.now) }
+    {
+        Ok(Filing {
+            files: self.files.share()?,
+            places: self.places.share()?,
+            of_id: self.of_id.share()?,
+            next: self.next,
+        })
+    }
+}
+
+pub fn has_file(filing: &Filing, path: &MailPath) -> bool
+    requires { AreFiled filing.now }
+    ensures { result ≡ has_path (files_in filing.now) path.now }
+{
+    filing.places.get(path).is_some()
+}
+
+pub fn is_live(filing: &Filing, id: &MessageId) -> bool
+    requires { AreFiled filing.now }
+    ensures { result ≡ has_id (files_in filing.now) id.now }
+{
+    filing.of_id.get(id).is_some()
+}
+
+/// Puts a file behind all others.
+pub fn add_file(
+    alloc: Global,
+    filing: &mut Filing,
+    path: &MailPath,
+    facts: &Facts,
+) -> Result<(), NoMemory>
+    requires filed { AreFiled filing.old }
+    requires new { has_path (files_in filing.old) path.now ≡ false }
+    ensures filed { OnOk result (AreFiled filing.new) }
+    ensures files { OnOk result (files_in filing.new ≡ files_in filing.old ++ (path.now, facts.now) ∷ []) }
+{
+    let place = filing.next;
+    if place == u64::MAX {
+        return Err(NoMemory);
+    }
+    let file = (path.copy()?, Shared::new(alloc, facts.copy()?)?);
+    filing.files.insert(place, file)?;
+    filing.places.insert(path.copy()?, place)?;
+    add_place(alloc, &mut filing.of_id, &facts.id, place)?;
+    filing.next = place + 1;
+    Ok(())
+}
+
+/// The place of the file that lies at the path, and its facts.
+fn lying_at<'a>(filing: &'a Filing, path: &MailPath) -> (u64, &'a Shared<Facts>)
+    requires filed { AreFiled filing.now }
+    requires there { has_path (files_in filing.now) path.now ≡ true }
+    ensures place { at_text path.now filing.now.places ≡ Some result.0 }
+    ensures file { at_place result.0 filing.now.files ≡ Some (path.now, result.1.now) }
+{
+    let Some(place) = filing.places.get(path) else {
+        unreachable!()
+    };
+    let Some(file) = filing.files.get(place) else {
+        unreachable!()
+    };
+    (*place, &file.1)
+}
+
+/// Gives a file another path, in its place.
+pub fn move_file(filing: &mut Filing, from: &MailPath, to: &MailPath) -> Result<(), NoMemory>
+    requires filed { AreFiled filing.old }
+    requires there { has_path (files_in filing.old) from.now ≡ true }
+    requires free { has_path (files_in filing.old) to.now ≡ false }
+    ensures filed { OnOk result (AreFiled filing.new) }
+    ensures files { OnOk result (files_in filing.new ≡ with_moved (files_in filing.old) from.now to.now) }
+{
+    let (place, facts) = lying_at(filing, from);
+    let moved = (to.copy()?, facts.copy()?);
+    filing.files.insert(place, moved)?;
+    filing.places.remove(from)?;
+    filing.places.insert(to.copy()?, place)?;
+    Ok(())
+}
+
+/// Takes a file out, and hands out its facts.
+pub fn remove_file(
+    alloc: Global,
+    filing: &mut Filing,
+    path: &MailPath,
+) -> Result<Shared<Facts>, NoMemory>
+    requires filed { AreFiled filing.old }
+    requires there { has_path (files_in filing.old) path.now ≡ true }
+    ensures filed { OnOk result (AreFiled filing.new) }
+    ensures facts { IfOk result (λ facts. lying_in (files_in filing.old) path.now ≡ (path.now, facts) ∷ []) }
+    ensures files { OnOk result (files_in filing.new ≡ without_path (files_in filing.old) path.now) }
+{
+    let (place, facts) = lying_at(filing, path);
+    let facts = facts.copy()?;
+    filing.files.remove(&place)?;
+    filing.places.remove(path)?;
+    remove_place(alloc, &mut filing.of_id, &facts.get().id, place)?;
+    Ok(facts)
+}

@@ -1,0 +1,6 @@
+//! Searching: an index that doesn't change while it is read. A snapshot shares with the one that it was made of what the
+//! commit between them doesn't touch, and is seen as the plain index.
+#![tactic(auto)]
+
+mod filing;
+mod places;
