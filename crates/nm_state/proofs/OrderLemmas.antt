@@ -50,7 +50,7 @@ turned : {K : Type 0} {cmp : K → K → Ordering} (order : IsTotalOrder cmp) (x
 turned order x y answer is = order.antisymm y x ∙ ap ordering_reverse is
 
 module _ {K V : Type 0} {cmp : K → K → Ordering} (order : IsTotalOrder cmp) where
-  above_all : (key e : K) (ys : List (K × V)) → AllByRecursion (λ y. cmp e y ≡ Less) (keys_of ys) → cmp key e ≡ Less → AllByRecursion (λ y. cmp key y ≡ Less) (keys_of ys)
+  pub above_all : (key e : K) (ys : List (K × V)) → AllByRecursion (λ y. cmp e y ≡ Less) (keys_of ys) → cmp key e ≡ Less → AllByRecursion (λ y. cmp key y ≡ Less) (keys_of ys)
   above_all key e [] all less = tt
   above_all key e (y ∷ ys) all less = (order.trans key e y.0 less all.0, above_all key e ys all.1 less)
 

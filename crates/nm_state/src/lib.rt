@@ -2,5 +2,11 @@
 //! commit between them doesn't touch, and is seen as the plain index.
 #![tactic(auto)]
 
+mod changes;
 mod filing;
+mod kept;
+mod labelling;
+mod parts;
 mod places;
+mod row_bytes;
+mod tagging;

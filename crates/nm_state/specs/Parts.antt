@@ -1,0 +1,39 @@
+-- The parts of a snapshot, and the index that they make.
+use Rattle.std.specs.Prelude.{◌≡◌, ℕ, true, List, Contains}
+use Rattle.std.specs.Map.{values_of}
+use Rattle.nm_base.specs.declared.facts.Facts.{Facts}
+use Rattle.nm_base.specs.declared.facts.LinkRow.{LinkRow}
+use Rattle.nm_index.specs.Index.{is_held, rows_of}
+use Rattle.nm_index.specs.declared.base.Base.{Base}
+use Rattle.nm_threads.specs.Labels.{AreLabelsOf, entries_of}
+use Rattle.nm_state.specs.Filing.{AreFiled, files_in}
+use Rattle.nm_state.specs.Kept.{AreKept}
+use Rattle.nm_state.specs.declared.parts.Parts.{Parts}
+
+-- the index that the parts make
+abbrev pub base_of : Parts → Base
+base_of parts =
+    record {
+      revision = parts.revision;
+      next = parts.labels.next;
+      files = files_in parts.filing;
+      kept = values_of parts.kept;
+      entries = entries_of parts.labels.labels;
+      tags = parts.tags;
+    }
+
+-- each kept row and each number is of a thread with a live message
+pub record AreHeld (index : Base) : Type 0 where
+  pub rows : (row : LinkRow) → Contains index.kept row → is_held index row.id ≡ true
+  pub entries : (entry : List ℕ × ℕ) → Contains index.entries entry → is_held index entry.0 ≡ true
+
+-- the parts tell one thing: the files by their maps, the kept rows by their bytes, the labels by the rows of both
+pub record AreParts (parts : Parts) : Type 0 where
+  pub filed : AreFiled parts.filing
+  pub kept : AreKept parts.kept
+  pub labels : AreLabelsOf (rows_of (base_of parts)) parts.labels.labels
+  pub held : AreHeld (base_of parts)
+
+-- the index with other files
+abbrev pub with_files : Base → List (List ℕ × Facts) → Base
+with_files index files = record index { files = files }

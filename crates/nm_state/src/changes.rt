@@ -1,0 +1,61 @@
+//! What each change does to the parts of a snapshot. Where there is no memory the parts are of no use any more.
+
+ghost use Rattle.std.specs.Prelude.{◌≡◌, ◌≤◌, ◌^◌, false, true, OnOk};
+ghost use Rattle.nm_commit.specs.Index.{has_path, with_moved};
+ghost use Rattle.nm_index.specs.Index.{with_mail, with_tags};
+ghost use Rattle.nm_state.specs.Parts.{AreParts, base_of, with_files};
+
+use crate::filing::{add_file, move_file};
+use crate::labelling::{label_mail, tag_mail, thread_laws};
+use crate::parts::Parts;
+use crate::tagging::set_tags;
+use nm_base::{Copies, Facts, MailPath, MessageId, NoMemory, Tags};
+use std::alloc::Global;
+
+/// A mail has come.
+pub fn add_mail(
+    alloc: Global,
+    parts: &mut Parts,
+    path: &MailPath,
+    facts: &Facts,
+) -> Result<(), NoMemory>
+    requires parts { AreParts parts.old }
+    requires new { has_path (base_of parts.old).files path.now ≡ false }
+    requires room { (with_mail (base_of parts.old) path.now facts.now).next ≤ 2 ^ 63 }
+    ensures parts { OnOk result (AreParts parts.new) }
+    ensures base { OnOk result (base_of parts.new ≡ with_mail (base_of parts.old) path.now facts.now) }
+{
+    thread_laws();
+    tag_mail(alloc, &parts.filing, &mut parts.tags, facts)?;
+    label_mail(&mut parts.labels, facts)?;
+    add_file(alloc, &mut parts.filing, path, facts)?;
+    Ok(())
+}
+
+/// A mail has another name.
+pub fn move_mail(parts: &mut Parts, from: &MailPath, to: &MailPath) -> Result<(), NoMemory>
+    requires parts { AreParts parts.old }
+    requires there { has_path (base_of parts.old).files from.now ≡ true }
+    requires free { has_path (base_of parts.old).files to.now ≡ false }
+    ensures parts { OnOk result (AreParts parts.new) }
+    ensures base { OnOk result (base_of parts.new ≡ with_files (base_of parts.old) (with_moved (base_of parts.old).files from.now to.now)) }
+{
+    thread_laws();
+    move_file(&mut parts.filing, from, to)?;
+    Ok(())
+}
+
+/// A message has these tags and no others.
+pub fn tag_message(
+    alloc: Global,
+    parts: &mut Parts,
+    id: &MessageId,
+    tags: &Tags,
+) -> Result<(), NoMemory>
+    requires { AreParts parts.old }
+    ensures parts { OnOk result (AreParts parts.new) }
+    ensures base { OnOk result (base_of parts.new ≡ with_tags (base_of parts.old) id.now tags.now) }
+{
+    set_tags(alloc, &mut parts.tags, id, tags.copy()?)?;
+    Ok(())
+}

@@ -1,0 +1,62 @@
+//! The parts of a snapshot, which the work of a commit changes one by one.
+
+ghost use Rattle.std.specs.Prelude.{◌≡◌, IfOk};
+ghost use Rattle.nm_index.specs.Index.{empty_index};
+ghost use Rattle.nm_state.specs.Parts.{AreParts, base_of};
+
+use crate::filing::Filing;
+use crate::row_bytes::RowBytes;
+use nm_base::{Copies, LinkRow, MessageId, NoMemory, Tags};
+use nm_shared::{Shared, SharedMap};
+use nm_threads::Labels;
+use std::alloc::Global;
+
+/// Files, rows of mails that went, labels and tags.
+pub struct Parts {
+    pub revision: u64,
+    pub filing: Filing,
+    pub kept: SharedMap<RowBytes, Shared<LinkRow>>,
+    pub labels: Labels,
+    pub tags: SharedMap<MessageId, Shared<Tags>>,
+}
+
+impl Drop for Parts {
+    fn drop(self) {
+        let Parts {
+            revision: _,
+            filing: _,
+            kept: _,
+            labels: _,
+            tags: _,
+        } = self;
+    }
+}
+
+impl Parts {
+    /// No mail, in no memory.
+    pub fn new(alloc: Global) -> Parts
+        ensures parts { AreParts result }
+        ensures base { base_of result ≡ empty_index }
+    {
+        Parts {
+            revision: 0,
+            filing: Filing::new(alloc),
+            kept: SharedMap::new(alloc),
+            labels: Labels::new(alloc),
+            tags: SharedMap::new(alloc),
+        }
+    }
+
+    /// Second handles on all parts.
+    pub fn share(&self) -> Result<Parts, NoMemory>
+        ensures { IfOk result (λ parts. parts ≡ self.now) }
+    {
+        Ok(Parts {
+            revision: self.revision,
+            filing: self.filing.share()?,
+            kept: self.kept.share()?,
+            labels: self.labels.copy()?,
+            tags: self.tags.share()?,
+        })
+    }
+}
