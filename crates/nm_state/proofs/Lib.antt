@@ -5,3 +5,6 @@ pub mod KeptLemmas
 pub mod ListLemmas
 pub mod HeldLemmas
 pub mod AddLemmas
+pub mod ChangeLemmas
+pub mod PruneLemmas
+pub mod TakeLemmas

@@ -1,11 +1,14 @@
 -- The parts of a snapshot, and the index that they make.
-use Rattle.std.specs.Prelude.{◌≡◌, ℕ, true, List, Contains}
+use Rattle.std.specs.Prelude.{◌≡◌, ◌⊎◌, ℕ, true, List, Contains}
+use Rattle.std.specs.BTreeSet.{insert_key}
 use Rattle.std.specs.Map.{values_of}
 use Rattle.nm_base.specs.declared.facts.Facts.{Facts}
 use Rattle.nm_base.specs.declared.facts.LinkRow.{LinkRow}
-use Rattle.nm_index.specs.Index.{is_held, rows_of}
+use Rattle.nm_commit.specs.Index.{without_path}
+use Rattle.nm_index.specs.Index.{is_held, row_cmp, row_of, rows_of}
 use Rattle.nm_index.specs.declared.base.Base.{Base}
-use Rattle.nm_threads.specs.Labels.{AreLabelsOf, entries_of}
+use Rattle.nm_threads.specs.Labels.{AreLabelsOf, entries_of, is_in_rows}
+use Rattle.nm_threads.specs.Same.{Same}
 use Rattle.nm_state.specs.Filing.{AreFiled, files_in}
 use Rattle.nm_state.specs.Kept.{AreKept}
 use Rattle.nm_state.specs.declared.parts.Parts.{Parts}
@@ -37,3 +40,16 @@ pub record AreParts (parts : Parts) : Type 0 where
 -- the index with other files
 abbrev pub with_files : Base → List (List ℕ × Facts) → Base
 with_files index files = record index { files = files }
+
+-- the index after a mail went, before what nothing holds goes
+abbrev pub without_file : Base → List ℕ → Facts → Base
+without_file index path facts = record index { files = without_path index.files path; kept = insert_key row_cmp index.kept (row_of facts) }
+
+-- the same parts while the thread of an id may have lost its last live message
+pub record AreLoose (parts : Parts) (id : List ℕ) : Type 0 where
+  pub filed : AreFiled parts.filing
+  pub kept : AreKept parts.kept
+  pub labels : AreLabelsOf (rows_of (base_of parts)) parts.labels.labels
+  pub known : is_in_rows (rows_of (base_of parts)) id ≡ true
+  pub rows : (row : LinkRow) → Contains (values_of parts.kept) row → (is_held (base_of parts) row.id ≡ true) ⊎ Same (rows_of (base_of parts)) row.id id
+  pub entries : (entry : List ℕ × ℕ) → Contains (entries_of parts.labels.labels) entry → (is_held (base_of parts) entry.0 ≡ true) ⊎ Same (rows_of (base_of parts)) entry.0 id

@@ -1,6 +1,6 @@
 //! The labels and tags of a mail that comes, and the laws of threads that the work rests on.
 
-ghost use Rattle.std.specs.Prelude.{◌≡◌, ◌<◌, ◌≤◌, ◌^◌, ◌∷◌, List, OnOk, if◌then◌else◌};
+ghost use Rattle.std.specs.Prelude.{◌≡◌, ◌<◌, ◌≤◌, ◌^◌, ◌∷◌, List, IfOk, OnOk, if◌then◌else◌};
 ghost use Rattle.std.specs.BTreeMap.{insert_entry};
 ghost use Rattle.std.specs.Cmp.Lexicographic.{slice_cmp};
 ghost use Rattle.std.specs.Ordering.{nat_cmp};
@@ -51,16 +51,23 @@ fn add_uncounted<L: Ledger>(
     labels.add_row(row, &mut steps)
 }
 
+/// The row of a mail: its id, and the ids that it links to.
+pub fn row_of(facts: &Facts) -> Result<LinkRow, NoMemory>
+    ensures { IfOk result (λ row. row ≡ row_of facts.now) }
+{
+    Ok(LinkRow {
+        id: facts.id.copy()?,
+        links: facts.links.copy()?,
+    })
+}
+
 /// The labels once the mail is there.
 pub fn label_mail(labels: &mut Labels, facts: &Facts) -> Result<(), NoMemory>
     requires { (numbered (entries_of labels.old.labels) labels.old.next (facts.now.id ∷ facts.now.links)).1 ≤ 2 ^ 63 }
     ensures numbers { OnOk result ((entries_of labels.new.labels, labels.new.next) ≡ numbered (entries_of labels.old.labels) labels.old.next (facts.now.id ∷ facts.now.links)) }
     ensures labels { OnOk result ((rows : List LinkRow) → AreLabelsOf rows labels.old.labels → AreLabelsOf (row_of facts.now ∷ rows) labels.new.labels) }
 {
-    let row = LinkRow {
-        id: facts.id.copy()?,
-        links: facts.links.copy()?,
-    };
+    let row = row_of(facts)?;
     add_uncounted::<Brand>(labels, &row, Blank::new(1))
 }
 

@@ -2,11 +2,16 @@
 //! commit between them doesn't touch, and is seen as the plain index.
 #![tactic(auto)]
 
+mod applying;
 mod changes;
+mod dropping;
 mod filing;
 mod kept;
 mod labelling;
 mod parts;
 mod places;
 mod row_bytes;
+mod snapshot;
 mod tagging;
+
+pub use snapshot::Snapshot;

@@ -1,0 +1,117 @@
+//! The snapshot.
+
+ghost use Rattle.std.specs.Prelude.{◌≡◌, ◌<◌, ◌≤◌, ◌^◌, false, IfOk, MatchOption, Contains};
+ghost use Rattle.std.specs.BTreeMap.{is_at};
+ghost use Rattle.std.specs.Cmp.Lexicographic.{slice_cmp};
+ghost use Rattle.std.specs.Map.{lookup};
+ghost use Rattle.std.specs.Option.{option_copied};
+ghost use Rattle.std.specs.Ordering.{nat_cmp};
+ghost use Rattle.nm_commit.specs.Index.{Fits, has_path};
+ghost use Rattle.nm_index.specs.Index.{committed, empty_index, has_entry, rows_of};
+ghost use Rattle.nm_threads.specs.Name.{thread_name};
+ghost use Rattle.nm_state.specs.Snapshot.{plain};
+
+use crate::applying::apply_changes;
+use crate::filing::has_file;
+use crate::parts::Parts;
+use nm_base::{Copies, MailPath, MessageId, NoMemory, Tags};
+use nm_commit::Commit;
+use std::alloc::Global;
+use std::marker::Model;
+
+/// An index that doesn't change. A contract sees it as the plain index.
+pub struct Snapshot {
+    alloc: Global,
+    parts: Parts,
+}
+
+impl Model for Snapshot {
+    ghost use Rattle.nm_index.specs.declared.base.Base.{Base};
+    ghost use Rattle.nm_state.specs.Parts.{AreParts, base_of};
+
+    ghost Value = { Base };
+
+    ghost view = { λ s. base_of s.parts };
+
+    ghost invariant = { λ s. AreParts s.parts };
+}
+
+impl Drop for Snapshot {
+    fn drop(self) {
+        let Snapshot { alloc: _, parts: _ } = self;
+    }
+}
+
+impl Snapshot {
+    /// The index before any mail, in no memory.
+    pub fn empty(alloc: Global) -> Snapshot
+        ensures { result ≡ empty_index }
+    {
+        Snapshot {
+            alloc,
+            parts: Parts::new(alloc),
+        }
+    }
+
+    /// The snapshot after a commit. This one stays as it is, and what the commit doesn't touch is in both.
+    pub fn apply(&self, commit: &Commit) -> Result<Snapshot, NoMemory>
+        requires fits { Fits (plain self.now) commit.now }
+        requires numbers { (committed self.now commit.now).next ≤ 2 ^ 63 }
+        requires revision { self.now.revision < 2 ^ 63 }
+        ensures { IfOk result (λ new. new ≡ committed self.now commit.now) }
+    {
+        let mut parts = self.parts.share()?;
+        apply_changes(self.alloc, &mut parts, commit.changes.as_slice())?;
+        parts.revision = self.parts.revision + 1;
+        Ok(Snapshot {
+            alloc: self.alloc,
+            parts,
+        })
+    }
+
+    /// How many commits there were.
+    pub fn revision(&self) -> u64
+        ensures { result ≡ self.now.revision }
+    {
+        self.parts.revision
+    }
+
+    /// The tags of a message that has a file.
+    pub fn tags(&self, id: &MessageId) -> Option<&Tags>
+        ensures { option_copied result ≡ lookup (is_at (slice_cmp nat_cmp id.now)) self.now.tags }
+    {
+        let tags = self.parts.tags.get(id)?;
+        Some(tags.get())
+    }
+
+    /// The number of an id that has been named.
+    pub fn number(&self, id: &MessageId) -> Option<u64>
+        ensures { MatchOption result (has_entry self.now id.now ≡ false) (λ number. Contains self.now.entries (id.now, number)) }
+    {
+        self.parts.labels.number_of(id)
+    }
+
+    /// The name of the thread of an id that has been named.
+    pub fn thread(&self, id: &MessageId) -> Option<u64>
+        ensures { result ≡ thread_name (rows_of self.now) self.now.entries id.now }
+    {
+        self.parts.labels.name_of(id)
+    }
+
+    /// Says whether a file lies there.
+    pub fn has_path(&self, path: &MailPath) -> bool
+        ensures { result ≡ has_path self.now.files path.now }
+    {
+        has_file(&self.parts.filing, path)
+    }
+}
+
+/// The copy is a second handle.
+impl Copies for Snapshot {
+    fn copy(&self) -> Result<Snapshot, NoMemory> {
+        Ok(Snapshot {
+            alloc: self.alloc,
+            parts: self.parts.share()?,
+        })
+    }
+}
