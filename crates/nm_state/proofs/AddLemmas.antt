@@ -1,9 +1,8 @@
 -- A mail that comes: its numbers, its tags, its row, and what is held then.
-use Rattle.std.proofs.Common.{◌≡◌, refl, sym, ap, subst, ◌∙◌, ℕ, ◌+◌, ◌≤◌, ◌^◌, Bool, true, false, ◌||◌, cond, List, [], ◌∷◌, ◌++◌, map, inl, inr, ◌⊎◌, if◌then◌else◌, true≢false}
+use Rattle.std.proofs.Common.{◌≡◌, refl, sym, ap, subst, ◌∙◌, ℕ, ◌+◌, Bool, true, false, cond, List, [], ◌∷◌, ◌++◌, map, inl, inr, ◌⊎◌, if◌then◌else◌}
 use Rattle.std.specs.Prelude.{Contains, fold}
 use Rattle.std.specs.BTreeMap.{insert_entry}
 use Rattle.std.specs.Cmp.Lexicographic.{slice_cmp}
-use Rattle.std.specs.List.{list_any}
 use Rattle.std.specs.Map.{values_of}
 use Rattle.std.specs.Ordering.{nat_cmp}
 use Rattle.std.proofs.lemmas.Bool.{or_left, or_right}
@@ -11,19 +10,18 @@ use Rattle.nm_base.specs.Order.{has_text, same_text}
 use Rattle.nm_base.specs.declared.facts.Facts.{Facts}
 use Rattle.nm_base.specs.declared.facts.LinkRow.{LinkRow}
 use Rattle.nm_commit.specs.Index.{has_id, moved_path, with_moved}
-use Rattle.nm_index.specs.Index.{first_tags, has_entry, is_held, row_of, rows_of, with_entry, with_first_tags, with_mail, with_tags}
+use Rattle.nm_index.specs.Index.{first_tags, has_entry, is_held, row_of, rows_of, with_entry, with_first_tags, with_mail}
 use Rattle.nm_index.specs.declared.base.Base.{Base}
 use Rattle.nm_threads.specs.Labels.{AreLabelsOf, Label, Labelling, entries_of, numbered}
 use Rattle.nm_threads.specs.Labels as labels
-use Rattle.nm_threads.specs.Same.{ids_of, Same}
 use Rattle.nm_state.specs.Filing.{AreFiled, files_in}
 use Rattle.nm_state.specs.Kept.{AreKept}
 use Rattle.nm_state.specs.Parts.{AreHeld, AreParts, base_of, with_files}
 use Rattle.nm_state.specs.ThreadLaws.{ThreadLaws}
 use Rattle.nm_state.specs.declared.parts.Parts.{Parts}
-use Rattle.nm_state.proofs.KeyLemmas.{Contains_first, Contains_there, Contains_cases, Contains_map, Contains_none, any_of, same_text_of, text_same}
-use Rattle.nm_state.proofs.ListLemmas.{in_left, in_right, in_either, map_push}
-use Rattle.nm_state.proofs.HeldLemmas.{file_row, kept_row, a_row, held_by, held_from, held_more, of_row}
+use Rattle.nm_state.proofs.KeyLemmas.{Contains_first, Contains_there, Contains_cases, Contains_map, Contains_none, same_text_of, text_same}
+use Rattle.nm_state.proofs.ListLemmas.{in_left, in_right, in_either}
+use Rattle.nm_state.proofs.HeldLemmas.{file_row, kept_row, a_row, held_by, held_more, of_row}
 
 -- ---- numbers
 

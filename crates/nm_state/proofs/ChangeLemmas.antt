@@ -1,6 +1,7 @@
 -- The changes of a commit, one after the other.
-use Rattle.std.proofs.Common.{◌≡◌, refl, sym, ap, subst, ◌∙◌, ℕ, zero, suc, ◌<◌, ◌≤◌, ◌^◌, List, [], ◌∷◌, length, take, arith}
+use Rattle.std.proofs.Common.{◌≡◌, sym, ap, subst, refl, ◌∙◌, ℕ, zero, suc, ◌+◌, ◌<◌, ◌≤◌, List, [], ◌∷◌, ◌++◌, length, take, arith}
 use Rattle.std.specs.Prelude.{fold, slice_index_or}
+use Rattle.std.proofs.lemmas.List.{take_more}
 use Rattle.nm_base.specs.declared.facts.Facts.{Facts}
 use Rattle.nm_commit.specs.Index.{FitChanges, FitsChange, changed}
 use Rattle.nm_commit.specs.declared.change.Change.{Change}
@@ -37,3 +38,20 @@ module _ (never : (index : Base) (change : Change) → index.next ≤ (applied i
   room_at index at xs i x most lt room is item =
       let here : (applied at x).next ≡ (applied (fold applied index (take i xs)) (slice_index_or xs i x)).next = ap (λ b. (applied b x).next) is ∙ ap (λ change. (applied (fold applied index (take i xs)) change).next) item in
       omega (arith, here, next_there index xs i x lt, room)
+
+-- ---- what fits so far
+
+fits_more : (files : List (List ℕ × Facts)) (xs ys : List Change) → FitChanges files xs → FitChanges (fold changed files xs) ys → FitChanges files (xs ++ ys)
+fits_more files [] ys p q = q
+fits_more files (x ∷ xs) ys p q = (p.0, fits_more (changed files x) xs ys p.1 q)
+
+module _ (files after : List (List ℕ × Facts)) (xs : List Change) (i : ℕ) (x : Change) (is : after ≡ fold changed files (take i xs)) (lt : i < length xs) (item : x ≡ slice_index_or xs i x) where
+  -- what fits, and then a change that fits
+  pub fit_more : FitChanges files (take i xs) → FitsChange after x → FitChanges files (take (i + 1) xs)
+  fit_more p q =
+      let here : FitsChange (fold changed files (take i xs)) (slice_index_or xs i x) = subst (FitsChange (fold changed files (take i xs))) item (subst (λ fs. FitsChange fs x) is q) in
+      subst (FitChanges files) (sym (take_more xs i x lt)) (fits_more files (take i xs) (slice_index_or xs i x ∷ []) p (here, tt))
+
+  -- where all fit, each fits
+  pub fit_at : FitChanges files xs → FitsChange after x
+  fit_at p = subst (λ fs. FitsChange fs x) (sym is) (subst (FitsChange (fold changed files (take i xs))) (sym item) (fits_there files xs i x lt p))

@@ -1,22 +1,22 @@
 -- The files of an index and their maps: what is there, and what an arrival, a move and a removal leave.
-use Rattle.std.proofs.Common.{◌≡◌, ◌≢◌, refl, sym, ap, subst, ◌∙◌, ℕ, ◌+◌, ◌<◌, Bool, true, false, ◌||◌, ◌==◌, not, cond, List, map, [], ◌∷◌, ◌++◌, arith, inl, inr, ◌⊎◌, true≢false, if◌then◌else◌, eq-eqb, eqb-true}
+use Rattle.std.proofs.Common.{◌≡◌, ◌≢◌, refl, sym, ap, subst, ◌∙◌, ℕ, ◌+◌, ◌<◌, Bool, true, false, ◌||◌, ◌==◌, not, cond, List, map, [], ◌∷◌, ◌++◌, arith, inl, inr, true≢false, if◌then◌else◌, eq-eqb, eqb-true}
 use Rattle.std.specs.Prelude.{Contains, Option, Some, None, unwrap_or}
 use Rattle.std.specs.BTreeMap.{insert_entry, is_at}
 use Rattle.std.specs.Cmp.Lexicographic.{slice_cmp}
-use Rattle.std.specs.List.{filter, list_any}
+use Rattle.std.specs.List.{filter}
 use Rattle.std.specs.List.Sorted.{IsStrictlySortedBy}
-use Rattle.std.specs.Map.{keys_of, lookup, remove_entry, values_of}
+use Rattle.std.specs.Map.{keys_of, remove_entry, values_of}
 use Rattle.std.specs.Borrow.{Bor}
 use Rattle.std.specs.Option.{is_some, option_copied}
 use Rattle.std.specs.Ordering.{is_eq, nat_cmp}
 use Rattle.std.proofs.lemmas.Cmp.{nat_cmp_total}
 use Rattle.std.proofs.lemmas.Option.{none-some, same_Some}
-use Rattle.nm_base.specs.Order.{has_text, same_text}
+use Rattle.nm_base.specs.Order.{same_text}
 use Rattle.nm_base.specs.declared.facts.Facts.{Facts}
 use Rattle.nm_commit.specs.Index.{has_id, has_path, moved_path, with_moved, without_path}
 use Rattle.nm_state.specs.Filing.{AreFiled, at_place, at_text, files_in, lying_in, places_of, told, told_places, without_place}
 use Rattle.nm_state.specs.declared.filing.Filing.{Filing}
-use Rattle.nm_state.proofs.KeyLemmas.{same_bool, false_from, Contains_there, Contains_first, Contains_cases, Contains_none, Contains_map, Contains_from_map, any_one, any_of, map_among, same_text_from, same_text_of, text_same, text_other, same_id, other_id, cases_id, same_number, other_number, cases_number, number_from, chosen, other, choose, leave, some_by, none_by}
+use Rattle.nm_state.proofs.KeyLemmas.{same_bool, false_from, Contains_there, Contains_first, Contains_cases, Contains_none, Contains_map, Contains_from_map, any_one, any_of, same_text_from, same_text_of, text_same, text_other, same_id, other_id, cases_id, same_number, other_number, cases_number, number_from, chosen, other, choose, leave, some_by}
 use Rattle.nm_state.proofs.OrderLemmas.{sorted_remove, sorted_insert, sorted_rest, not_first, found_at, found_in, pushed_entry, revalued, inserted_at}
 
 -- ---- what a look-up answered
@@ -92,7 +92,7 @@ one_more : (test : Bool) (e : ℕ × (List ℕ × Facts)) (rest : List (ℕ × (
 one_more true e rest more last is = ap (λ xs. e.0 ∷ xs) (sym is)
 one_more false e rest more last is = sym is
 
-map_cond : (test : Bool) (e : ℕ × (List ℕ × Facts)) (rest : List (ℕ × (List ℕ × Facts))) → map (λ file. file.0) (cond test (e ∷ rest) rest) ≡ cond test (e.0 ∷ map (λ file. file.0) rest) (map (λ file. file.0) rest)
+pub map_cond : (test : Bool) (e : ℕ × (List ℕ × Facts)) (rest : List (ℕ × (List ℕ × Facts))) → map (λ file. file.0) (cond test (e ∷ rest) rest) ≡ cond test (e.0 ∷ map (λ file. file.0) rest) (map (λ file. file.0) rest)
 map_cond true e rest = refl
 map_cond false e rest = refl
 

@@ -1,14 +1,13 @@
 -- Rows of an index, and what its live messages hold.
-use Rattle.std.proofs.Common.{◌≡◌, refl, sym, ap, subst, ◌∙◌, ℕ, Bool, true, false, ◌&&◌, List, [], ◌∷◌, ◌++◌, map, inl, inr, ◌⊎◌}
+use Rattle.std.proofs.Common.{◌≡◌, sym, subst, ℕ, true, ◌&&◌, List, map, inl, inr, ◌⊎◌}
 use Rattle.std.specs.Prelude.{Contains}
-use Rattle.std.specs.List.{list_any}
 use Rattle.std.proofs.lemmas.Bool.{and_from}
 use Rattle.nm_base.specs.Order.{has_text}
 use Rattle.nm_base.specs.declared.facts.Facts.{Facts}
 use Rattle.nm_base.specs.declared.facts.LinkRow.{LinkRow}
 use Rattle.nm_index.specs.Index.{is_held, row_of, rows_of}
 use Rattle.nm_index.specs.declared.base.Base.{Base}
-use Rattle.nm_threads.specs.Same.{ids_of, Same, is_same, stand_together}
+use Rattle.nm_threads.specs.Same.{ids_of, Same, is_same}
 use Rattle.nm_state.specs.ThreadLaws.{ThreadLaws}
 use Rattle.nm_state.proofs.KeyLemmas.{any_one, any_of, Contains_map, Contains_from_map}
 use Rattle.nm_state.proofs.ListLemmas.{in_left, in_right, in_either}

@@ -8,3 +8,4 @@ pub mod AddLemmas
 pub mod ChangeLemmas
 pub mod PruneLemmas
 pub mod TakeLemmas
+pub mod ReadingLemmas

@@ -1,6 +1,6 @@
 -- Pairs in the order of their keys: what an insertion and a removal leave in order, and what stands where.
-use Rattle.std.proofs.Common.{◌≡◌, ◌≢◌, refl, sym, ap, subst, ◌∙◌, ℕ, ◌<◌, cond, true≢false, Bool, true, false, List, [], ◌∷◌, ◌++◌, map, inl, inr, ◌⊎◌, arith}
-use Rattle.std.specs.Prelude.{Contains, Option, Some, None, if◌then◌else◌}
+use Rattle.std.proofs.Common.{◌≡◌, ◌≢◌, refl, sym, ap, subst, ◌∙◌, ℕ, ◌<◌, cond, true≢false, Bool, true, false, List, [], ◌∷◌, ◌++◌, map, inl, inr}
+use Rattle.std.specs.Prelude.{Contains, Some, if◌then◌else◌}
 use Rattle.std.specs.declared.cmp.Ordering.{Ordering}
 use Rattle.std.specs.declared.cmp.Ordering.TheVariants.{Less, Equal, Greater}
 use Rattle.std.specs.Ordering.{ordering_reverse, is_eq, nat_cmp, match_ordering}
@@ -11,7 +11,7 @@ use Rattle.std.specs.Map.{keys_of, lookup, remove_entry}
 use Rattle.std.specs.BTreeMap.{insert_entry, is_at}
 use Rattle.std.proofs.lemmas.Cmp.{nat_cmp_total}
 use Rattle.std.proofs.lemmas.Option.{none-some, same_Some}
-use Rattle.nm_state.proofs.KeyLemmas.{Contains_there, Contains_first, Contains_cases, Contains_none, Contains_map, all_at, chosen, other, same_number, other_number, number_from, less_is, equal_is, greater_is}
+use Rattle.nm_state.proofs.KeyLemmas.{Contains_there, Contains_first, Contains_cases, Contains_none, Contains_map, all_at, same_number, other_number, number_from, greater_is}
 
 module _ {K V : Type 0} (cmp : K → K → Ordering) where
   all_insert_by : (P : K → Type 0) (e : K × V) (es : List (K × V)) (key : K) (value : V) (answer : Ordering) → cmp key e.0 ≡ answer → P e.0 → AllByRecursion P (keys_of es) → P key

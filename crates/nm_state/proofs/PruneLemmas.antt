@@ -1,20 +1,20 @@
 -- What goes once the thread of a mail that went has no live message.
-use Rattle.std.proofs.Common.{◌≡◌, ◌≢◌, refl, sym, ap, subst, ◌∙◌, ℕ, Bool, true, false, ◌&&◌, ◌||◌, not, cond, List, [], ◌∷◌, ◌++◌, map, inl, inr, ◌⊎◌, true≢false}
+use Rattle.std.proofs.Common.{◌≡◌, refl, sym, ap, subst, ◌∙◌, ℕ, Bool, true, false, ◌&&◌, ◌||◌, not, cond, List, [], ◌∷◌, map, inl, inr, ◌⊎◌, true≢false}
 use Rattle.std.specs.Prelude.{Contains}
 use Rattle.std.specs.List.{filter, list_any}
 use Rattle.std.specs.Map.{values_of}
-use Rattle.std.proofs.lemmas.Bool.{and_from, and_parts, or_left}
+use Rattle.std.proofs.lemmas.Bool.{and_parts, or_left}
 use Rattle.nm_base.specs.Order.{has_text, same_text}
 use Rattle.nm_base.specs.declared.facts.Facts.{Facts}
 use Rattle.nm_base.specs.declared.facts.LinkRow.{LinkRow}
 use Rattle.nm_commit.specs.Index.{has_id}
 use Rattle.nm_index.specs.Index.{is_held, pruned, row_of, rows_of}
 use Rattle.nm_index.specs.declared.base.Base.{Base}
-use Rattle.nm_threads.specs.Labels.{AreLabelsOf, Labelling, entries_of, has_entry, is_in_rows}
+use Rattle.nm_threads.specs.Labels.{AreLabelsOf, entries_of, has_entry, is_in_rows}
 use Rattle.nm_threads.specs.Same.{IsChain, Same, ids_of, is_same, stand_together}
 use Rattle.nm_state.specs.Filing.{AreFiled}
 use Rattle.nm_state.specs.Kept.{AreKept}
-use Rattle.nm_state.specs.Parts.{AreHeld, AreLoose, AreParts, base_of}
+use Rattle.nm_state.specs.Parts.{AreLoose, AreParts, base_of}
 use Rattle.nm_state.specs.ThreadLaws.{ThreadLaws}
 use Rattle.nm_state.specs.declared.parts.Parts.{Parts}
 use Rattle.nm_state.proofs.KeyLemmas.{same_bool, false_from, any_one, any_of, Contains_first, Contains_there, Contains_cases, Contains_none, Contains_map, Contains_from_map, same_text_from, same_text_of}
@@ -247,8 +247,8 @@ any_cond other e rest true = refl
 any_cond other e rest false = refl
 
 thread_has : (rows : List LinkRow) (id other : List ℕ) (entries : List (List ℕ × ℕ)) → has_text (map (λ entry. entry.0) (filter (λ entry. is_same rows id entry.0) entries)) other ≡ (has_entry entries other && is_same rows id other)
-thread_has rows id other [] = refl
-thread_has rows id other (e ∷ entries) =
+thread_has all id other [] = refl
+thread_has all id other (e ∷ entries) =
     any_cond other e (filter (λ entry. is_same rows id entry.0) entries) (is_same rows id e.0)
     ∙ either_way (same_text other e.0) (is_same rows id other) (is_same rows id e.0) (has_entry entries other) (has_text (map (λ entry. entry.0) (filter (λ entry. is_same rows id entry.0) entries)) other)
     (λ found. ap (is_same rows id) (sym (same_text_from other e.0 found))) (thread_has rows id other entries)

@@ -1,7 +1,8 @@
 -- The files of an index in the maps that they are kept in. Each has a place, and places rise in the order of arrival.
-use Rattle.std.specs.Prelude.{◌≡◌, ℕ, ◌<◌, ◌==◌, not, List, [], ◌∷◌, ◌++◌, map, filter, Option, Some, None, unwrap_or, if◌then◌else◌}
+use Rattle.std.specs.Prelude.{◌≡◌, ℕ, ◌<◌, ◌==◌, not, List, [], ◌∷◌, map, filter, Option, Some, None, unwrap_or}
 use Rattle.std.specs.BTreeMap.{is_at}
 use Rattle.std.specs.Cmp.Lexicographic.{slice_cmp}
+use Rattle.std.specs.List.{filter_map}
 use Rattle.std.specs.List.Sorted.{IsStrictlySortedBy}
 use Rattle.std.specs.Map.{keys_of, lookup, values_of}
 use Rattle.std.specs.Ordering.{nat_cmp}
@@ -37,6 +38,10 @@ told_places of_id id = unwrap_or (at_text id of_id) []
 -- the files in the order of their arrival
 abbrev pub files_in : Filing → List (List ℕ × Facts)
 files_in filing = values_of filing.files
+
+-- the files at some places, in the order of the places
+abbrev pub files_at_places : List (ℕ × (List ℕ × Facts)) → List ℕ → List (List ℕ × Facts)
+files_at_places files places = filter_map (λ place. at_place place files) places
 
 -- the files that lie at a path
 abbrev pub lying_in : List (List ℕ × Facts) → List ℕ → List (List ℕ × Facts)

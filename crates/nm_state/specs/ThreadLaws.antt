@@ -1,5 +1,5 @@
 -- What is known of threads, in one: the test of one thread, and that no order of rows counts.
-use Rattle.std.specs.Prelude.{ℕ, ◌↔◌, ◌∷◌, List, IsTrue, Contains}
+use Rattle.std.specs.Prelude.{ℕ, ◌↔◌, List, IsTrue, Contains}
 use Rattle.nm_base.specs.declared.facts.LinkRow.{LinkRow}
 use Rattle.nm_threads.specs.Labels.{AreLabelsOf, Label}
 use Rattle.nm_threads.specs.Same.{Same, is_same, stand_together}

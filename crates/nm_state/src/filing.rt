@@ -1,11 +1,14 @@
 //! The files of an index, by their arrival, by their paths and by their messages; the parts of a snapshot hold them.
 
-ghost use Rattle.std.specs.Prelude.{◌≡◌, ◌∷◌, ◌++◌, [], false, true, Some, IfOk, OnOk};
+ghost use Rattle.std.specs.Prelude.{◌≡◌, ◌∷◌, ◌++◌, [], ℕ, List, false, true, Some, IfOk, OnOk, MatchOption};
+ghost use Rattle.std.specs.List.{filter};
+ghost use Rattle.nm_base.specs.Order.{IsSorted, has_text, same_text};
 ghost use Rattle.std.specs.Map.{values_of};
 ghost use Rattle.nm_commit.specs.Index.{has_id, has_path, with_moved, without_path};
 ghost use Rattle.nm_state.specs.Filing.{AreFiled, at_place, at_text, files_in, lying_in};
 
 use crate::places::{add_place, remove_place};
+use crate::reading::{MessageFiles, Paths};
 use nm_base::{Copies, Facts, MailPath, Many, MessageId, NoMemory};
 use nm_shared::{Shared, SharedMap};
 use std::alloc::Global;
@@ -66,6 +69,26 @@ pub fn is_live(filing: &Filing, id: &MessageId) -> bool
     ensures { result ≡ has_id (files_in filing.now) id.now }
 {
     filing.of_id.get(id).is_some()
+}
+
+/// The paths, in the order of their bytes.
+pub fn paths_of(filing: &Filing) -> Paths<'_>
+    requires { AreFiled filing.now }
+    ensures sorted { IsSorted result }
+    ensures paths { (path : List ℕ) → has_text result path ≡ has_path (files_in filing.now) path }
+{
+    // No code needs the number; that the paths are in order comes with it.
+    let _ = filing.places.len();
+    Paths::of(&filing.places)
+}
+
+/// The files of a message, in the order of their arrival.
+pub fn files_of<'a>(filing: &'a Filing, id: &MessageId) -> Option<MessageFiles<'a>>
+    requires { AreFiled filing.now }
+    ensures { MatchOption result (has_id (files_in filing.now) id.now ≡ false) (λ files. files ≡ filter (λ file. same_text id.now file.1.id) (files_in filing.now)) }
+{
+    let places = filing.of_id.get(id)?;
+    Some(MessageFiles::of(places.get().as_slice(), &filing.files))
 }
 
 /// Puts a file behind all others.

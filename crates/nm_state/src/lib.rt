@@ -6,12 +6,15 @@ mod applying;
 mod changes;
 mod dropping;
 mod filing;
+mod fitting;
 mod kept;
 mod labelling;
 mod parts;
 mod places;
+mod reading;
 mod row_bytes;
 mod snapshot;
 mod tagging;
 
+pub use reading::{Files, MessageFiles, Paths};
 pub use snapshot::Snapshot;

@@ -1,19 +1,23 @@
 //! The snapshot.
 
-ghost use Rattle.std.specs.Prelude.{◌≡◌, ◌<◌, ◌≤◌, ◌^◌, false, IfOk, MatchOption, Contains};
+ghost use Rattle.std.specs.Prelude.{◌≡◌, ◌<◌, ◌≤◌, ◌^◌, ◌↔◌, ℕ, List, false, IfOk, IsTrue, MatchOption, Contains};
 ghost use Rattle.std.specs.BTreeMap.{is_at};
 ghost use Rattle.std.specs.Cmp.Lexicographic.{slice_cmp};
+ghost use Rattle.std.specs.List.{filter};
 ghost use Rattle.std.specs.Map.{lookup};
 ghost use Rattle.std.specs.Option.{option_copied};
 ghost use Rattle.std.specs.Ordering.{nat_cmp};
-ghost use Rattle.nm_commit.specs.Index.{Fits, has_path};
+ghost use Rattle.nm_base.specs.Order.{IsSorted, has_text, same_text};
+ghost use Rattle.nm_commit.specs.Index.{Fits, has_id, has_path};
 ghost use Rattle.nm_index.specs.Index.{committed, empty_index, has_entry, rows_of};
 ghost use Rattle.nm_threads.specs.Name.{thread_name};
 ghost use Rattle.nm_state.specs.Snapshot.{plain};
 
 use crate::applying::apply_changes;
-use crate::filing::has_file;
+use crate::filing::{files_of, has_file, paths_of};
+use crate::fitting::changes_fit;
 use crate::parts::Parts;
+use crate::reading::{Files, MessageFiles, Paths};
 use nm_base::{Copies, MailPath, MessageId, NoMemory, Tags};
 use nm_commit::Commit;
 use std::alloc::Global;
@@ -96,6 +100,39 @@ impl Snapshot {
         ensures { result ≡ thread_name (rows_of self.now) self.now.entries id.now }
     {
         self.parts.labels.name_of(id)
+    }
+
+    /// Says whether the commit has a change, and each fits what those before it leave.
+    pub fn fits(&self, commit: &Commit) -> Result<bool, NoMemory>
+        ensures { IfOk result (λ fits. IsTrue fits ↔ Fits (plain self.now) commit.now) }
+    {
+        if commit.changes.is_empty() {
+            return Ok(false);
+        }
+        let mut filing = self.parts.filing.share()?;
+        changes_fit(self.alloc, &mut filing, commit.changes.as_slice())
+    }
+
+    /// The paths of all files, in the order of their bytes.
+    pub fn paths(&self) -> Paths<'_>
+        ensures sorted { IsSorted result }
+        ensures paths { (path : List ℕ) → has_text result path ≡ has_path self.now.files path }
+    {
+        paths_of(&self.parts.filing)
+    }
+
+    /// All files, in the order of their arrival.
+    pub fn files_in_order(&self) -> Files<'_>
+        ensures { result ≡ self.now.files }
+    {
+        Files::of(&self.parts.filing.files)
+    }
+
+    /// The files of a message, the lead file first; none where the id has no file.
+    pub fn files(&self, id: &MessageId) -> Option<MessageFiles<'_>>
+        ensures { MatchOption result (has_id self.now.files id.now ≡ false) (λ files. files ≡ filter (λ file. same_text id.now file.1.id) self.now.files) }
+    {
+        files_of(&self.parts.filing, id)
     }
 
     /// Says whether a file lies there.

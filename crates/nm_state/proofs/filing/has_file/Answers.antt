@@ -1,5 +1,4 @@
-use Rattle.std.proofs.Common.{◌≡◌, ap, ◌∙◌}
-use Rattle.std.specs.Option.{is_some}
+use Rattle.std.proofs.Common.{◌∙◌}
 use Rattle.nm_state.proofs.FilingLemmas.{copied_is, has_place}
 use Rattle.nm_state.proofs.filing.has_file.Goals as goal
 
