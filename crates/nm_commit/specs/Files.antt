@@ -1,5 +1,5 @@
 -- The files of an index in order of arrival, each with the facts of its mail: what a change makes of them, and which commits fit them.
-use Rattle.std.specs.Prelude.{◌≡◌, ℕ, ◌+◌, Bool, true, false, not, List, [], ◌∷◌, ◌++◌, length, fold, map, filter, ◌<◌, if◌then◌else◌}
+use Rattle.std.specs.Prelude.{◌≡◌, ℕ, Bool, true, false, not, List, [], ◌∷◌, ◌++◌, length, fold, map, filter, ◌<◌, if◌then◌else◌}
 use Rattle.nm_base.specs.Limits.{IsDate}
 use Rattle.nm_base.specs.Order.{has_text, same_text}
 use Rattle.nm_base.specs.declared.facts.Facts.{Facts}

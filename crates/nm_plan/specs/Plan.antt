@@ -1,5 +1,5 @@
 -- The commits of a command: first those of what has come, then that of what is gone.
-use Rattle.std.specs.Prelude.{◌≡◌, ℕ, Bool, false, not, List, [], ◌∷◌, ◌++◌, map, filter}
+use Rattle.std.specs.Prelude.{◌≡◌, ℕ, false, not, List, [], ◌∷◌, ◌++◌, map, filter}
 use Rattle.std.specs.List.{AllByRecursion, IsDistinct}
 use Rattle.nm_base.specs.Limits.{IsDate}
 use Rattle.nm_base.specs.Order.{has_text, same_text}

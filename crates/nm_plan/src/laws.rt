@@ -32,7 +32,7 @@ pub fn new_leaves_what_is_listed()
     ensures { (index : Base) (listed : List (List ℕ)) (arrivals : List (List ℕ × Facts)) (path : List ℕ)
         → AllByRecursion (λ arrived. IsTrue (has_text listed arrived)) (paths_of arrivals)
         → has_path (folded index (new_commits index.files listed arrivals)).files path
-            ≡ (has_text listed path && (has_path index.files path || has_path arrivals path)) }
+        ≡ (has_text listed path && (has_path index.files path || has_path arrivals path)) }
 {
     files_follow_their_commits();
 }

@@ -13,7 +13,8 @@ use Rattle.nm_commit.specs.declared.change.Commit.{Commit}
 use Rattle.nm_maildir.specs.declared.given.ReadAnswer.{ReadAnswer}
 use Rattle.nm_maildir.specs.declared.given.ReadAnswer.TheVariants as answers
 use Rattle.nm_plan.specs.Plan.{AreArrivals, to_read}
-use Rattle.nm_top.specs.Reading.{IsRising, mail_in}
+use Rattle.nm_scan.specs.Listing.{IsRising}
+use Rattle.nm_scan.specs.Reading.{mail_in}
 
 -- each text passes the test, or none does
 abbrev pub Every : (List ℕ → Bool) → Bool → List (List ℕ) → Type 0

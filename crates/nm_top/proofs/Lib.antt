@@ -1,4 +1,3 @@
-pub mod ReadLemmas
 pub mod SetLemmas
 pub mod FoldLemmas
 pub mod FitLemmas

@@ -1,5 +1,5 @@
 -- What `new` asks and makes, from its parts.
-use Rattle.std.proofs.Common.{◌≡◌, inl, inr, ℕ, not, List, [], ◌∷◌, ◌++◌, ◌+◌, suc, Option, IfSome, length, map, filter, take, refl, sym, ap, ◌∙◌, subst}
+use Rattle.std.proofs.Common.{◌≡◌, inl, inr, ℕ, not, List, [], ◌∷◌, ◌++◌, ◌+◌, suc, Option, None, Some, IfSome, length, map, filter, take, refl, sym, ap, ◌∙◌, subst, append-nil, arith}
 use Rattle.std.specs.List.{flat_map}
 use Rattle.std.specs.Prelude.{IfOk, Result, Ok, Err}
 use Rattle.nm_base.specs.declared.memory.NoMemory.{NoMemory}
@@ -25,17 +25,50 @@ use Rattle.nm_top.specs.Lean.{Represents, lean}
 use Rattle.nm_top.specs.Line.{AsksMail, AsksNew}
 use Rattle.nm_plan.specs.Plan.{AreArrivals, FitInTurn, files_after_new, new_commits, to_read}
 use Rattle.nm_top.specs.NewLine.{IsNew}
-use Rattle.nm_top.specs.Reading.{IsRising, NotesReads, Reads, ReadsFirst, listed_of, mail_in, read_of, skip_in}
-use Rattle.nm_top.specs.State.{after_reads, read_with, state_with}
-use Rattle.nm_top.specs.Steps.{Scans, HasRead, HasReadAll, IsNewAnswer, IsNewOutcome, Leaves, AppliesScan, commits_for, commits_with, gone_of, kept}
+use Rattle.nm_scan.specs.Listing.{IsRising, listed_of}
+use Rattle.nm_scan.specs.Reading.{answers_at, NotesReads, Reads, ReadsFirst, mail_in, read_of, skip_in}
+use Rattle.nm_scan.specs.Reading.{after_reads, read_with}
+use Rattle.nm_top.specs.State.{state_with}
+use Rattle.nm_scan.specs.Reading.{HasRead, HasReadAll}
+use Rattle.nm_top.specs.Steps.{Scans, IsNewAnswer, IsNewOutcome, Leaves, AppliesScan, commits_for, commits_with, gone_of, kept}
 use Rattle.nm_top.specs.declared.index.PlainIndex.{PlainIndex}
 use Rattle.nm_top.specs.declared.steps.LineResult.{LineResult}
 use Rattle.nm_top.proofs.FitLemmas.{are-arrivals}
 use Rattle.std.proofs.lemmas.List.{map-append}
 use Rattle.nm_top.proofs.LeanLemmas.{kept-lean, only_in-lean, paths-lean, to_read-lean}
 use Rattle.nm_top.proofs.FoldLemmas.{commits-are, filter-same, new-kept, new-length}
-use Rattle.nm_top.proofs.ReadLemmas.{read_none, same_mail}
 use Rattle.nm_top.proofs.SetLemmas.{has_text-in_order}
+
+-- the mail folder that tells the same
+same_mail : (a b : ObservedMail) → a.tree ≡ b.tree → a.reads ≡ b.reads → a.faults ≡ b.faults → a ≡ b
+same_mail a b tree reads faults =
+    ap (λ (t : Option Tree). record { tree = t; reads = a.reads; faults = a.faults }) tree
+    ∙ (ap (λ (r : Option (List (List ℕ))). record { tree = b.tree; reads = r; faults = a.faults }) reads
+    ∙ ap (λ (n : ℕ). record { tree = b.tree; reads = b.reads; faults = n }) faults)
+
+no_answers : (tree : Option Tree) → IfSome tree (λ t. [] ≡ answers_at t [])
+no_answers None = tt
+no_answers (Some t) = refl
+
+none_more : (reads : Option (List (List ℕ))) → reads ≡ read_with reads []
+none_more None = refl
+none_more (Some paths) = ap Some (sym (append-nil paths))
+
+-- nothing is read and nothing more is noted
+read_none : (mail : ObservedMail) (noted : List Given) (paths : List (List ℕ)) → HasRead mail mail noted noted paths
+read_none mail noted paths = record {
+  noted = [];
+  noted_is = sym (append-nil noted);
+  reading = record {
+    answered = 0;
+    asked = 0;
+    within = omega arith;
+    last = (omega arith, omega arith);
+    notes = record { reads = []; noted_is = refl; each = refl; told = no_answers mail.tree };
+    read = none_more mail.reads;
+  };
+  tree = refl;
+}
 
 -- the paths to read are those that the known ones lack
 pub to_read-is : (files : List (List ℕ × Facts)) (known listed : List (List ℕ)) → known ≡ in_order (paths_of files) → filter (λ path. not (has_text known path)) listed ≡ to_read files listed

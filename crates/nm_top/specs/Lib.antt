@@ -2,7 +2,6 @@ pub mod Complete
 pub mod Lean
 pub mod Line
 pub mod NewLine
-pub mod Reading
 pub mod RunLog
 pub mod Session
 pub mod State

@@ -22,7 +22,8 @@ use Rattle.nm_log.specs.declared.script.ScriptLine.{ScriptLine}
 use Rattle.nm_maildir.specs.Observed.{ObservedMail}
 use Rattle.nm_top.specs.NewLine.{IsNew}
 use Rattle.nm_plan.specs.Plan.{to_read}
-use Rattle.nm_top.specs.Reading.{IsListing, ReadsFirst}
+use Rattle.nm_scan.specs.Listing.{IsListing}
+use Rattle.nm_scan.specs.Reading.{ReadsFirst}
 use Rattle.nm_top.specs.State.{State}
 
 -- The reply to a request, and the commits that it makes: a count answers on the index as it is and asks the mail folder nothing.

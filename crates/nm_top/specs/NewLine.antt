@@ -7,8 +7,10 @@ use Rattle.nm_index.specs.Index.{folded}
 use Rattle.nm_maildir.specs.declared.given.Given.{Given}
 use Rattle.nm_maildir.specs.declared.given.Given.TheVariants.{Listed}
 use Rattle.nm_plan.specs.Plan.{FitInTurn, new_commits, to_read}
-use Rattle.nm_top.specs.Reading.{IsListing, Reads}
-use Rattle.nm_top.specs.State.{State, after_reads}
+use Rattle.nm_scan.specs.Listing.{IsListing}
+use Rattle.nm_scan.specs.Reading.{Reads}
+use Rattle.nm_scan.specs.Reading.{after_reads}
+use Rattle.nm_top.specs.State.{State}
 
 -- A `new` that went well: it listed, read each path that the index lacks, and made the commits of that. No call failed.
 pub record IsNew (old : State) (noted : List Given) (text : List ℕ) (commits : List Commit) (new : State) : Type 0 where

@@ -1,10 +1,9 @@
 -- What the parts of `new` leave, one read after another.
-use Rattle.std.specs.Prelude.{◌≡◌, ℕ, ◌+◌, Bool, ◌&&◌, ◌==◌, not, List, [], ◌∷◌, ◌++◌, length, map, filter, Option, None, IfSome, if◌then◌else◌}
+use Rattle.std.specs.Prelude.{◌≡◌, ℕ, ◌+◌, Bool, ◌&&◌, ◌==◌, not, List, [], ◌∷◌, ◌++◌, length, map, filter, if◌then◌else◌}
 use Rattle.std.specs.List.{flat_map}
 use Rattle.nm_base.specs.declared.facts.Facts.{Facts}
 use Rattle.nm_base.specs.Order.{has_text, in_order}
 use Rattle.nm_answer.specs.declared.request.Request.TheVariants as requests
-use Rattle.nm_base.specs.Limits.{IsDate}
 use Rattle.nm_answer.specs.NewText.{new_text, only_in, skip_given}
 use Rattle.nm_commit.specs.Files.{paths_of}
 use Rattle.nm_index.specs.declared.base.Base.{Base}
@@ -16,46 +15,17 @@ use Rattle.nm_log.specs.Replies.{refusal_line}
 use Rattle.nm_log.specs.declared.outcome.Outcome.{Outcome}
 use Rattle.nm_log.specs.declared.outcome.Outcome.TheVariants as outcomes
 use Rattle.nm_answer.specs.declared.report.NewReport.{NewReport}
-use Rattle.nm_maildir.specs.declared.answers.Got.{Got}
-use Rattle.nm_maildir.specs.declared.answers.Got.TheVariants as got
 use Rattle.nm_maildir.specs.declared.given.Given.{Given}
 use Rattle.nm_maildir.specs.declared.given.Given.TheVariants as given
-use Rattle.nm_maildir.specs.declared.given.ReadAnswer.{ReadAnswer}
-use Rattle.nm_extract.specs.Mail.{facts_of}
 use Rattle.nm_maildir.specs.Observed.{ObservedMail}
 use Rattle.nm_top.specs.Lean.{Represents, lean}
 use Rattle.nm_top.specs.Line.{IsAnswer, reply_steps}
 use Rattle.nm_top.specs.NewLine.{IsNew}
-use Rattle.nm_top.specs.State.{State, after_reads}
-use Rattle.nm_top.specs.Reading.{IsListing, IsRising, Reads, ReadsFirst, answer_of}
+use Rattle.nm_scan.specs.Listing.{IsListing, IsRising}
+use Rattle.nm_scan.specs.Reading.{Reads, after_reads}
+use Rattle.nm_top.specs.State.{State}
 use Rattle.nm_top.specs.declared.index.PlainIndex.{PlainIndex}
 use Rattle.nm_top.specs.declared.steps.LineResult.{LineResult}
-
--- the facts that a read found
-abbrev pub found_in : Got → Option Facts
-found_in (got.Found bytes) = facts_of bytes
-found_in got.Missing = None
-found_in got.TooLong = None
-
--- what is made of a read
-pub record Classifies (got : Got) (classified : ReadAnswer × Option Facts) : Type 0 where
-  pub answer : classified.0 ≡ answer_of got
-  pub facts : classified.1 ≡ found_in got
-  pub dated : IfSome classified.1 (λ facts. IsDate facts.date)
-
--- Of the paths the first were read, and that is noted behind what was noted before.
-pub record HasRead (old new : ObservedMail) (old_noted new_noted : List Given) (paths : List (List ℕ)) : Type 0 where
-  pub noted : List Given
-  pub noted_is : new_noted ≡ old_noted ++ noted
-  pub reading : ReadsFirst old new noted paths
-  pub tree : new.tree ≡ old.tree
-
--- All the paths were read, and these arrivals were found.
-pub record HasReadAll (old new : ObservedMail) (old_noted new_noted : List Given) (paths : List (List ℕ)) (arrivals : List (List ℕ × Facts)) : Type 0 where
-  pub noted : List Given
-  pub noted_is : new_noted ≡ old_noted ++ noted
-  pub reading : Reads old.tree noted paths arrivals
-  pub mail : new ≡ after_reads old paths
 
 -- the path stands in the index and is not listed
 abbrev pub is_gone : List (List ℕ) → List (List ℕ) → List ℕ → Bool

@@ -5,14 +5,12 @@ ghost use Rattle.nm_index.specs.declared.base.Base.{Base};
 ghost use Rattle.nm_maildir.specs.Observed.{HasMailCause};
 ghost use Rattle.nm_top.specs.Lean.{Represents};
 ghost use Rattle.nm_top.specs.Line.{AsksNew};
-ghost use Rattle.nm_top.specs.Reading.{IsRising};
+ghost use Rattle.nm_scan.specs.Listing.{IsRising};
 ghost use Rattle.nm_top.specs.State.{state_with};
 ghost use Rattle.nm_top.specs.Steps.{Scans, IsNewAnswer, Leaves, max_steps};
 
 use crate::apply_scan::{Scanned, apply_scan};
 use crate::index::{Mail, PlainIndex, path_set};
-use crate::listing::list_paths;
-use crate::reading::read_all;
 use crate::sets::paths_not_in;
 use crate::steps::LineResult;
 use nm_base::{MailPath, Many, NoMemory, TextSet};
@@ -20,6 +18,7 @@ use nm_log::Outcome;
 use nm_index::the_revision_counts_the_commits;
 use nm_maildir::{Given, MailError, Maildir};
 use nm_plan::{new_commits_fit, the_files_after_new};
+use nm_scan::{list_paths, read_all};
 use std::alloc::Global;
 
 /// Takes in what has come and lets go what is gone, and gives the answer.

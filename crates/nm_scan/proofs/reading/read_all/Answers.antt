@@ -1,8 +1,8 @@
 use Rattle.std.proofs.Common.{refl, rules}
 use Rattle.std.proofs.lemmas.Iterator.Adapters.{YieldsList-from_vec}
 use Rattle.std.proofs.lemmas.Iterator.Consumers.{YieldsList-turn}
-use Rattle.nm_top.proofs.ReadLemmas.{begun_read, front_more, next_read, stops_read}
-use Rattle.nm_top.proofs.reading.read_all.Goals as goal
+use Rattle.nm_scan.proofs.ReadLemmas.{begun_read, front_more, next_read, stops_read}
+use Rattle.nm_scan.proofs.reading.read_all.Goals as goal
 
 pub files-init : goal.files-init
 files-init g c = record { read = begun_read _ _ c.new-arrivals.result c.new-arrivals.ensures; front = refl }

@@ -1,4 +1,4 @@
-//! The paths of the mail folder, for `new`.
+//! The paths of a mail folder; `new` begins with them.
 
 ghost use Rattle.std.specs.Prelude.{◌≡◌, ◌++◌, ◌∷◌, [], fold, IfOk, IfSome, OnOk};
 ghost use Rattle.std.specs.BTreeSet.{insert_key};
@@ -6,14 +6,14 @@ ghost use Rattle.std.specs.Cmp.Lexicographic.{slice_cmp};
 ghost use Rattle.std.specs.Ordering.{nat_cmp};
 ghost use Rattle.nm_maildir.specs.Observed.{HasMailCause};
 ghost use Rattle.nm_maildir.specs.Tree.{listing_of};
-ghost use Rattle.nm_top.specs.Reading.{counts, listed_of, paths_in};
+ghost use Rattle.nm_scan.specs.Listing.{counts, listed_of, paths_in};
 
 use nm_base::{MailPath, NoMemory, Text, TextSet};
 use nm_maildir::{MailError, Maildir};
 use std::alloc::Global;
 
 /// The paths of the mail in the folders `new` and `cur`.
-pub(crate) fn list_paths<M: Maildir>(
+pub fn list_paths<M: Maildir>(
     alloc: Global,
     mail: &mut M,
 ) -> Result<TextSet<MailPath>, MailError>

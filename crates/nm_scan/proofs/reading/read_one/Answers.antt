@@ -1,9 +1,9 @@
 use Rattle.std.proofs.Common.{ℕ, List, [], ◌∷◌, ◌++◌, sym, ap, ◌∙◌, subst}
 use Rattle.nm_maildir.specs.declared.given.Given.{Given}
 use Rattle.nm_maildir.specs.declared.given.Given.TheVariants as given
-use Rattle.nm_top.specs.Steps.{HasRead}
-use Rattle.nm_top.proofs.ReadLemmas.{after_read, all_read, one_read_all}
-use Rattle.nm_top.proofs.reading.read_one.Goals as goal
+use Rattle.nm_scan.specs.Reading.{HasRead}
+use Rattle.nm_scan.proofs.ReadLemmas.{after_read, all_read, one_read_all}
+use Rattle.nm_scan.proofs.reading.read_one.Goals as goal
 
 pub returns-in_err-got-clause-so_far : goal.returns-in_err-got-clause-so_far
 returns-in_err-got-clause-so_far g c = after_read _ _ _ _ c.read.result c.read.ensures.keeps.tree c.read.ensures.keeps.reads

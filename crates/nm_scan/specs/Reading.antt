@@ -1,18 +1,14 @@
--- What `new` learns from the mail folder: which files are there, and what those hold that it doesn't know.
-use Rattle.std.specs.Prelude.{◌≡◌, ℕ, ◌+◌, ◌≤◌, Bool, false, not, ◌==◌, List, [], ◌∷◌, ◌++◌, length, map, filter, take, codes, Option, Some, None, IfSome, is_some, if◌then◌else◌}
+-- What is read of a mail folder: what each file holds, and what is noted of the answers.
+use Rattle.std.specs.Prelude.{◌≡◌, ℕ, ◌+◌, ◌≤◌, List, [], ◌∷◌, ◌++◌, length, map, take, Option, Some, None, IfSome, is_some, if◌then◌else◌}
 use Rattle.std.specs.List.{flat_map, AllByRecursion}
-use Rattle.std.specs.Cmp.Lexicographic.{slice_cmp}
-use Rattle.std.specs.Ordering.{nat_cmp}
-use Rattle.std.specs.List.Sorted.{IsStrictlySortedBy}
-use Rattle.nm_base.specs.MailPath.{is_mail_path}
-use Rattle.nm_base.specs.Order.{in_order}
+use Rattle.std.specs.Option.{option_map}
 use Rattle.nm_base.specs.declared.facts.Facts.{Facts}
 use Rattle.nm_base.specs.declared.refusals.Skip.{Skip}
 use Rattle.nm_base.specs.Limits.{IsDate, max_mail_bytes}
 use Rattle.nm_answer.specs.NewText.{mail_at, skip_at}
 use Rattle.nm_commit.specs.Files.{paths_of}
 use Rattle.nm_extract.specs.Mail.{facts_of}
-use Rattle.nm_maildir.specs.Tree.{Tree, listing_of, got_of}
+use Rattle.nm_maildir.specs.Tree.{Tree, got_of}
 use Rattle.nm_maildir.specs.declared.answers.Got.{Got}
 use Rattle.nm_maildir.specs.declared.answers.Got.TheVariants as got
 use Rattle.nm_maildir.specs.declared.given.Given.{Given}
@@ -20,30 +16,6 @@ use Rattle.nm_maildir.specs.declared.given.Given.TheVariants as given
 use Rattle.nm_maildir.specs.declared.given.ReadAnswer.{ReadAnswer}
 use Rattle.nm_maildir.specs.declared.given.ReadAnswer.TheVariants as answers
 use Rattle.nm_maildir.specs.Observed.{ObservedMail}
-use Rattle.nm_top.specs.State.{read_with}
-
--- a file counts where its name does not begin with a dot
-abbrev pub counts : List ℕ → Bool
-counts [] = false
-counts (first ∷ more) = not (first == 46)
-
--- the paths of the files that count, where they are paths
-abbrev pub paths_in : List ℕ → List (List ℕ) → List (List ℕ)
-paths_in folder names = filter is_mail_path (map (λ name. folder ++ 47 ∷ name) (filter counts names))
-
--- the mail of a tree lies in `new` and `cur`
-abbrev pub listed_of : Tree → List (List ℕ)
-listed_of tree =
-    in_order (paths_in (codes "new") (listing_of tree (codes "new")).files ++ paths_in (codes "cur") (listing_of tree (codes "cur")).files)
-
--- strictly rising by their bytes
-abbrev pub IsRising : List (List ℕ) → Type 0
-IsRising paths = IsStrictlySortedBy (slice_cmp nat_cmp) paths
-
--- What was listed: the paths rise, and a tree that is told says which they are.
-pub record IsListing (tree : Option Tree) (listed : List (List ℕ)) : Type 0 where
-  pub rising : IsRising listed
-  pub told : IfSome tree (λ t. listed ≡ listed_of t)
 
 -- what a read tells of a file
 abbrev pub answer_of : Got → ReadAnswer
@@ -84,6 +56,14 @@ mail_in read = mail_at read.0 read.1
 abbrev pub skip_in : List ℕ × ReadAnswer → List (List ℕ × Skip)
 skip_in read = skip_at read.0 read.1
 
+-- the paths read so far, and these
+abbrev pub read_with : Option (List (List ℕ)) → List (List ℕ) → Option (List (List ℕ))
+read_with reads paths = option_map (λ before. before ++ paths) reads
+
+-- the mail folder after these paths were read in it, where nothing failed
+abbrev pub after_reads : ObservedMail → List (List ℕ) → ObservedMail
+after_reads mail paths = record { tree = mail.tree; reads = read_with mail.reads paths; faults = mail.faults }
+
 -- Each path was read, in order, and its answer is noted; a tree that is told says which answers these are.
 pub record NotesReads (tree : Option Tree) (noted : List Given) (paths : List (List ℕ)) : Type 0 where
   pub reads : List (List ℕ × ReadAnswer)
@@ -106,3 +86,29 @@ pub record ReadsFirst (old new : ObservedMail) (noted : List Given) (paths : Lis
   pub last : (answered ≤ asked) × (asked ≤ answered + 1)
   pub notes : NotesReads old.tree noted (take answered paths)
   pub read : new.reads ≡ read_with old.reads (take asked paths)
+
+-- the facts that a read found
+abbrev pub found_in : Got → Option Facts
+found_in (got.Found bytes) = facts_of bytes
+found_in got.Missing = None
+found_in got.TooLong = None
+
+-- what is made of a read
+pub record Classifies (got : Got) (classified : ReadAnswer × Option Facts) : Type 0 where
+  pub answer : classified.0 ≡ answer_of got
+  pub facts : classified.1 ≡ found_in got
+  pub dated : IfSome classified.1 (λ facts. IsDate facts.date)
+
+-- Of the paths the first were read, and that is noted behind what was noted before.
+pub record HasRead (old new : ObservedMail) (old_noted new_noted : List Given) (paths : List (List ℕ)) : Type 0 where
+  pub noted : List Given
+  pub noted_is : new_noted ≡ old_noted ++ noted
+  pub reading : ReadsFirst old new noted paths
+  pub tree : new.tree ≡ old.tree
+
+-- All the paths were read, and these arrivals were found.
+pub record HasReadAll (old new : ObservedMail) (old_noted new_noted : List Given) (paths : List (List ℕ)) (arrivals : List (List ℕ × Facts)) : Type 0 where
+  pub noted : List Given
+  pub noted_is : new_noted ≡ old_noted ++ noted
+  pub reading : Reads old.tree noted paths arrivals
+  pub mail : new ≡ after_reads old paths

@@ -1,6 +1,6 @@
 use Rattle.std.proofs.Common.{◌≡◌, length, take}
-use Rattle.nm_top.specs.Steps.{HasReadAll}
-use Rattle.nm_top.proofs.reading.read_all.Given as goal
+use Rattle.nm_scan.specs.Reading.{HasReadAll}
+use Rattle.nm_scan.proofs.reading.read_all.Given as goal
 
 -- the paths so far were read, and they are the first
 abbrev pub invariant-files : goal.invariant-files

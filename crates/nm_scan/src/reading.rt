@@ -1,22 +1,24 @@
-//! Reading the files that the index lacks, for `new`.
+//! Reading files of a mail folder, and noting what is answered; `new` reads what the index lacks.
 
 ghost use Rattle.std.specs.Prelude.{◌≡◌, ℕ, List, ◌∷◌, [], ◌++◌, IfOk};
 ghost use Rattle.nm_base.specs.declared.facts.Facts.{Facts};
 ghost use Rattle.nm_maildir.specs.Observed.{HasMailCause};
-ghost use Rattle.nm_top.specs.Reading.{arrival};
-ghost use Rattle.nm_top.specs.Steps.{HasRead, HasReadAll, Classifies};
+ghost use Rattle.nm_scan.specs.Reading.{arrival};
+ghost use Rattle.nm_scan.specs.Reading.{HasRead, HasReadAll, Classifies};
 
-use crate::index::Mail;
 use nm_base::{Copies, Facts, MailPath, Many, NoMemory};
 use nm_extract::{ExtractError, extract};
 use nm_maildir::{Given, Got, MailError, Maildir, ReadAnswer};
 use std::alloc::Global;
 
+/// A mail of the index: where it lies, and its facts.
+pub type Mail = (MailPath, Facts);
+
 /// The most bytes of a mail file.
 const MAX_BYTES: u64 = 67_108_864;
 
 /// Reads the files, notes what is answered of each, and gives those that are mail.
-pub(crate) fn read_all<M: Maildir>(
+pub fn read_all<M: Maildir>(
     alloc: Global,
     mail: &mut M,
     paths: Many<MailPath>,
