@@ -14,6 +14,7 @@ use Rattle.nm_commit.specs.Files.{changed, files_after, has_id, without_path}
 use Rattle.nm_commit.specs.declared.change.Change.{Change}
 use Rattle.nm_commit.specs.declared.change.Change.TheVariants.{Add, Drop, Move, SetTags}
 use Rattle.nm_commit.specs.declared.change.Commit.{Commit}
+use Rattle.nm_index.specs.Fits.{ids_named, named_ids}
 use Rattle.nm_index.specs.Index.{applied, committed, files_at, folded, has_entry, with_entry, with_first_tags, with_tags, without_dead_tags, without_first}
 use Rattle.nm_index.specs.declared.base.Base.{Base}
 
@@ -91,6 +92,33 @@ next_after index (Add path facts) =
 next_after index (Drop path) = omega (arith, gone_next index path (files_at index path))
 next_after index (Move from to) = omega arith
 next_after index (SetTags id tags) = omega arith
+
+next_at_most : (n : ℕ) (test : Bool) (a b : Base) → a.next ≤ n → b.next ≤ n → (if test then a else b).next ≤ n
+next_at_most n true a b g h = g
+next_at_most n false a b g h = h
+
+entry_most : (index : Base) (id : List ℕ) → (with_entry index id).next ≤ index.next + 1
+entry_most index id =
+    next_at_most (index.next + 1) (has_entry index id) index (record index { entries = index.entries ++ (id, index.next) ∷ []; next = index.next + 1 }) (omega arith) (omega arith)
+
+entries_most : (index : Base) (ids : List (List ℕ)) → (fold with_entry index ids).next ≤ index.next + length ids
+entries_most index [] = omega arith
+entries_most index (id ∷ ids) = omega (arith, entry_most index id, entries_most (with_entry index id) ids)
+
+next_most : (index : Base) (change : Change) → (applied index change).next ≤ index.next + named_ids change
+next_most index (Add path facts) =
+    let numbered : Base = fold with_entry index (facts.id ∷ facts.links) in
+    omega (arith, entries_most index (facts.id ∷ facts.links), first_tags_next numbered facts)
+next_most index (Drop path) = omega (arith, gone_next index path (files_at index path))
+next_most index (Move from to) = omega arith
+next_most index (SetTags id tags) = omega arith
+
+changes_most : (index : Base) (changes : List Change) → (fold applied index changes).next ≤ index.next + ids_named changes
+changes_most index [] = omega arith
+changes_most index (change ∷ changes) = omega (arith, next_most index change, changes_most (applied index change) changes)
+
+pub commit_most : (index : Base) (commit : Commit) → (committed index commit).next ≤ index.next + ids_named commit.changes
+commit_most index commit = changes_most index commit.changes
 
 pub revision_after : (index : Base) (commits : List Commit) → (folded index commits).revision ≡ index.revision + length commits
 revision_after index [] = omega arith

@@ -9,7 +9,8 @@ ghost use Rattle.nm_base.specs.Order.{same_text};
 ghost use Rattle.nm_commit.specs.Files.{changed, files_after};
 ghost use Rattle.nm_commit.specs.declared.change.Change.{Change};
 ghost use Rattle.nm_commit.specs.declared.change.Commit.{Commit};
-ghost use Rattle.nm_index.specs.Index.{applied, folded, with_tags};
+ghost use Rattle.nm_index.specs.Fits.{ids_named};
+ghost use Rattle.nm_index.specs.Index.{applied, committed, folded, with_tags};
 ghost use Rattle.nm_index.specs.declared.base.Base.{Base};
 
 /// The files after a change are those that the change makes of the files before, whatever threads and tags there are.
@@ -25,6 +26,11 @@ pub fn files_follow_their_commits()
 /// The number of the next new id never falls.
 pub fn numbers_never_fall()
     ensures { (index : Base) (change : Change) → index.next ≤ (applied index change).next }
+{}
+
+/// And it rises by no more than the ids that a commit names.
+pub fn numbers_rise_with_the_ids_named()
+    ensures { (index : Base) (commit : Commit) → (committed index commit).next ≤ index.next + ids_named commit.changes }
 {}
 
 /// The revision counts the commits.

@@ -13,7 +13,8 @@ use Rattle.nm_commit.specs.declared.change.Commit.{Commit}
 use Rattle.nm_index.specs.Index.{committed, folded}
 use Rattle.nm_index.specs.declared.base.Base.{Base}
 use Rattle.nm_answer.specs.NewText.{gone}
-use Rattle.nm_plan.specs.Plan.{AreArrivals, FitInTurn, add_of, commit_of, drop_of, new_commits}
+use Rattle.nm_index.specs.Fits.{FitInTurn}
+use Rattle.nm_plan.specs.Plan.{AreArrivals, add_of, commit_of, drop_of, new_commits}
 use Rattle.std.specs.List.Sorted.{IsStrictlySortedBy}
 use Rattle.nm_plan.proofs.FoldLemmas.{commit_of-files, fold-adds, new-files}
 use Rattle.nm_plan.proofs.OrderLemmas.{in_order-sorted}

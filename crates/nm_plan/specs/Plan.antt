@@ -7,11 +7,10 @@ use Rattle.nm_base.specs.declared.facts.Facts.{Facts}
 use Rattle.nm_answer.specs.NewText.{gone, listed_in}
 use Rattle.nm_answer.specs.declared.request.Request.{Request}
 use Rattle.nm_answer.specs.declared.request.Request.TheVariants.{New, Count}
-use Rattle.nm_commit.specs.Files.{Fits, has_path, paths_of}
+use Rattle.nm_commit.specs.Files.{has_path, paths_of}
 use Rattle.nm_commit.specs.declared.change.Change.{Change}
 use Rattle.nm_commit.specs.declared.change.Change.TheVariants.{Add, Drop}
 use Rattle.nm_commit.specs.declared.change.Commit.{Commit}
-use Rattle.nm_index.specs.Index.{committed}
 use Rattle.nm_index.specs.declared.base.Base.{Base}
 use Rattle.nm_maildir.specs.declared.given.Given.{Given}
 
@@ -42,11 +41,6 @@ due_commits (Count ask) index noted arrivals = []
 -- the files after a `new`: what has come stands behind what was there, and what is gone is away
 abbrev pub files_after_new : List (List ℕ × Facts) → List (List ℕ) → List (List ℕ × Facts) → List (List ℕ × Facts)
 files_after_new files listed arrivals = filter (λ file. not (has_text (gone files listed) file.0)) (files ++ arrivals)
-
--- each commit fits the index that those before it leave
-abbrev pub FitInTurn : Base → List Commit → Type 0
-FitInTurn index [] = Unit {0}
-FitInTurn index (commit ∷ commits) = Fits index.files commit × FitInTurn (committed index commit) commits
 
 -- Mails that have come: no two at one path, none where the index has a file, each with a date in the range.
 pub record AreArrivals (files arrivals : List (List ℕ × Facts)) : Type 0 where

@@ -7,7 +7,8 @@ ghost use Rattle.nm_base.specs.declared.facts.Facts.{Facts};
 ghost use Rattle.nm_commit.specs.Files.{has_path, paths_of};
 ghost use Rattle.nm_index.specs.Index.{folded};
 ghost use Rattle.nm_index.specs.declared.base.Base.{Base};
-ghost use Rattle.nm_plan.specs.Plan.{AreArrivals, FitInTurn, files_after_new, new_commits};
+ghost use Rattle.nm_index.specs.Fits.{FitInTurn};
+ghost use Rattle.nm_plan.specs.Plan.{AreArrivals, files_after_new, new_commits};
 
 use nm_index::files_follow_their_commits;
 

@@ -9,7 +9,7 @@ use Rattle.std.proofs.lemmas.Bool.{or_left, or_right}
 use Rattle.nm_base.specs.Order.{has_text, same_text}
 use Rattle.nm_base.specs.declared.facts.Facts.{Facts}
 use Rattle.nm_base.specs.declared.facts.LinkRow.{LinkRow}
-use Rattle.nm_commit.specs.Index.{has_id, moved_path, with_moved}
+use Rattle.nm_commit.specs.Files.{has_id, moved_path, with_moved}
 use Rattle.nm_index.specs.Index.{first_tags, has_entry, is_held, row_of, rows_of, with_entry, with_first_tags, with_mail}
 use Rattle.nm_index.specs.declared.base.Base.{Base}
 use Rattle.nm_threads.specs.Labels.{AreLabelsOf, Label, Labelling, entries_of, numbered}

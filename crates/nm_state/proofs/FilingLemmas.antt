@@ -13,7 +13,7 @@ use Rattle.std.proofs.lemmas.Cmp.{nat_cmp_total}
 use Rattle.std.proofs.lemmas.Option.{none-some, same_Some}
 use Rattle.nm_base.specs.Order.{same_text}
 use Rattle.nm_base.specs.declared.facts.Facts.{Facts}
-use Rattle.nm_commit.specs.Index.{has_id, has_path, moved_path, with_moved, without_path}
+use Rattle.nm_commit.specs.Files.{has_id, has_path, moved_path, with_moved, without_path}
 use Rattle.nm_state.specs.Filing.{AreFiled, at_place, at_text, files_in, lying_in, places_of, told, told_places, without_place}
 use Rattle.nm_state.specs.declared.filing.Filing.{Filing}
 use Rattle.nm_state.proofs.KeyLemmas.{same_bool, false_from, Contains_there, Contains_first, Contains_cases, Contains_none, Contains_map, Contains_from_map, any_one, any_of, same_text_from, same_text_of, text_same, text_other, same_id, other_id, cases_id, same_number, other_number, cases_number, number_from, chosen, other, choose, leave, some_by}

@@ -13,7 +13,7 @@ use Rattle.std.proofs.lemmas.Map.Text.{is_eq-slice_cmp}
 use Rattle.std.proofs.lemmas.Option.{none-some, same_Some}
 use Rattle.nm_base.specs.Order.{has_text, same_text}
 use Rattle.nm_base.specs.declared.facts.Facts.{Facts}
-use Rattle.nm_commit.specs.Index.{has_id, has_path}
+use Rattle.nm_commit.specs.Files.{has_id, has_path}
 use Rattle.nm_state.specs.Filing.{AreFiled, at_place, at_text, files_at_places, files_in, places_of, told}
 use Rattle.nm_state.specs.declared.filing.Filing.{Filing}
 use Rattle.nm_state.proofs.KeyLemmas.{Contains_first, Contains_there}

@@ -10,7 +10,7 @@ use Rattle.std.proofs.lemmas.Bool.{or_left}
 use Rattle.nm_base.specs.Order.{has_text, same_text}
 use Rattle.nm_base.specs.declared.facts.Facts.{Facts}
 use Rattle.nm_base.specs.declared.facts.LinkRow.{LinkRow}
-use Rattle.nm_commit.specs.Index.{without_path}
+use Rattle.nm_commit.specs.Files.{without_path}
 use Rattle.nm_index.specs.Index.{is_held, row_cmp, row_of, rows_of}
 use Rattle.nm_index.specs.declared.base.Base.{Base}
 use Rattle.nm_threads.specs.Labels.{AreLabelsOf, Labelling, entries_of}

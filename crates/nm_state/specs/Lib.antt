@@ -1,5 +1,4 @@
 pub mod Filing
 pub mod Kept
 pub mod Parts
-pub mod Snapshot
 pub mod ThreadLaws

@@ -4,7 +4,7 @@ use Rattle.std.specs.BTreeSet.{insert_key}
 use Rattle.std.specs.Map.{values_of}
 use Rattle.nm_base.specs.declared.facts.Facts.{Facts}
 use Rattle.nm_base.specs.declared.facts.LinkRow.{LinkRow}
-use Rattle.nm_commit.specs.Index.{without_path}
+use Rattle.nm_commit.specs.Files.{without_path}
 use Rattle.nm_index.specs.Index.{is_held, row_cmp, row_of, rows_of}
 use Rattle.nm_index.specs.declared.base.Base.{Base}
 use Rattle.nm_threads.specs.Labels.{AreLabelsOf, entries_of, is_in_rows}

@@ -1,7 +1,7 @@
 //! The changes of a commit, one after the other.
 
 ghost use Rattle.std.specs.Prelude.{◌≡◌, ◌≤◌, ◌^◌, fold, OnOk};
-ghost use Rattle.nm_commit.specs.Index.{FitChanges, FitsChange};
+ghost use Rattle.nm_commit.specs.Files.{FitChanges, FitsChange};
 ghost use Rattle.nm_index.specs.Index.{applied};
 ghost use Rattle.nm_state.specs.Parts.{AreParts, base_of};
 

@@ -1,7 +1,7 @@
 //! What each change does to the parts of a snapshot. Where there is no memory the parts are of no use any more.
 
 ghost use Rattle.std.specs.Prelude.{◌≡◌, ◌≤◌, ◌^◌, false, true, OnOk};
-ghost use Rattle.nm_commit.specs.Index.{has_path, with_moved};
+ghost use Rattle.nm_commit.specs.Files.{has_path, with_moved};
 ghost use Rattle.nm_index.specs.Index.{with_mail, with_tags};
 ghost use Rattle.nm_state.specs.Parts.{AreParts, base_of, with_files};
 

@@ -4,7 +4,7 @@
 ghost use Rattle.std.specs.Prelude.{◌≡◌, ◌<◌, ◌∷◌, [], List, true, map, IfOk, OnOk};
 ghost use Rattle.std.specs.List.{filter, list_any};
 ghost use Rattle.nm_base.specs.declared.facts.LinkRow.{LinkRow};
-ghost use Rattle.nm_commit.specs.Index.{has_id, has_path};
+ghost use Rattle.nm_commit.specs.Files.{has_id, has_path};
 ghost use Rattle.nm_index.specs.Index.{files_at, pruned, without_dead_tags, without_first};
 ghost use Rattle.nm_threads.specs.Labels.{AreLabelsOf, entries_of};
 ghost use Rattle.nm_threads.specs.Same.{is_same};

@@ -4,7 +4,7 @@ ghost use Rattle.std.specs.Prelude.{◌≡◌, ◌∷◌, ◌++◌, [], ℕ, Lis
 ghost use Rattle.std.specs.List.{filter};
 ghost use Rattle.nm_base.specs.Order.{IsSorted, has_text, same_text};
 ghost use Rattle.std.specs.Map.{values_of};
-ghost use Rattle.nm_commit.specs.Index.{has_id, has_path, with_moved, without_path};
+ghost use Rattle.nm_commit.specs.Files.{has_id, has_path, with_moved, without_path};
 ghost use Rattle.nm_state.specs.Filing.{AreFiled, at_place, at_text, files_in, lying_in};
 
 use crate::places::{add_place, remove_place};

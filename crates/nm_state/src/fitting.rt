@@ -2,7 +2,7 @@
 
 ghost use Rattle.std.specs.Prelude.{◌≡◌, ◌↔◌, false, IfOk, IsTrue, OnOk};
 ghost use Rattle.nm_base.specs.Limits.{IsDate};
-ghost use Rattle.nm_commit.specs.Index.{FitChanges, FitsChange, changed, has_path};
+ghost use Rattle.nm_commit.specs.Files.{FitChanges, FitsChange, changed, has_path};
 ghost use Rattle.nm_state.specs.Filing.{AreFiled, files_in};
 
 use crate::filing::{Filing, add_file, has_file, is_live, move_file, remove_file};

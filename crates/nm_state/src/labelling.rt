@@ -5,7 +5,7 @@ ghost use Rattle.std.specs.BTreeMap.{insert_entry};
 ghost use Rattle.std.specs.Cmp.Lexicographic.{slice_cmp};
 ghost use Rattle.std.specs.Ordering.{nat_cmp};
 ghost use Rattle.nm_base.specs.declared.facts.LinkRow.{LinkRow};
-ghost use Rattle.nm_commit.specs.Index.{has_id};
+ghost use Rattle.nm_commit.specs.Files.{has_id};
 ghost use Rattle.nm_index.specs.Index.{first_tags, row_of};
 ghost use Rattle.nm_threads.specs.Labels.{AreLabelsOf, entries_of, numbered};
 ghost use Rattle.nm_threads.specs.Same.{ids_of};

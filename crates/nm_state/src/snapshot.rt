@@ -8,10 +8,9 @@ ghost use Rattle.std.specs.Map.{lookup};
 ghost use Rattle.std.specs.Option.{option_copied};
 ghost use Rattle.std.specs.Ordering.{nat_cmp};
 ghost use Rattle.nm_base.specs.Order.{IsSorted, has_text, same_text};
-ghost use Rattle.nm_commit.specs.Index.{Fits, has_id, has_path};
+ghost use Rattle.nm_commit.specs.Files.{Fits, has_id, has_path};
 ghost use Rattle.nm_index.specs.Index.{committed, empty_index, has_entry, rows_of};
 ghost use Rattle.nm_threads.specs.Name.{thread_name};
-ghost use Rattle.nm_state.specs.Snapshot.{plain};
 
 use crate::applying::apply_changes;
 use crate::filing::{files_of, has_file, paths_of};
@@ -59,7 +58,7 @@ impl Snapshot {
 
     /// The snapshot after a commit. This one stays as it is, and what the commit doesn't touch is in both.
     pub fn apply(&self, commit: &Commit) -> Result<Snapshot, NoMemory>
-        requires fits { Fits (plain self.now) commit.now }
+        requires fits { Fits self.now.files commit.now }
         requires numbers { (committed self.now commit.now).next ≤ 2 ^ 63 }
         requires revision { self.now.revision < 2 ^ 63 }
         ensures { IfOk result (λ new. new ≡ committed self.now commit.now) }
@@ -104,7 +103,7 @@ impl Snapshot {
 
     /// Says whether the commit has a change, and each fits what those before it leave.
     pub fn fits(&self, commit: &Commit) -> Result<bool, NoMemory>
-        ensures { IfOk result (λ fits. IsTrue fits ↔ Fits (plain self.now) commit.now) }
+        ensures { IfOk result (λ fits. IsTrue fits ↔ Fits self.now.files commit.now) }
     {
         if commit.changes.is_empty() {
             return Ok(false);

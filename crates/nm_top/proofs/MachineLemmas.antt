@@ -30,7 +30,7 @@ use Rattle.nm_log.specs.declared.outcome.Outcome.{Outcome}
 use Rattle.nm_log.specs.declared.outcome.Outcome.TheVariants as outcomes
 use Rattle.nm_log.specs.declared.script.ScriptLine.{ScriptLine}
 use Rattle.nm_top.specs.Line.{IsAnswer, IsReply, Runs, commit_steps, reply_steps}
-use Rattle.nm_plan.specs.Plan.{FitInTurn}
+use Rattle.nm_index.specs.Fits.{FitInTurn}
 use Rattle.nm_top.specs.Session.{IsMachineRun, lane_count}
 use Rattle.nm_top.specs.State.{State}
 use Rattle.nm_top.proofs.FitLemmas.{or_true}

@@ -23,7 +23,8 @@ use Rattle.nm_log.specs.declared.outcome.Outcome.{Outcome}
 use Rattle.nm_maildir.specs.Observed.{ObservedMail}
 use Rattle.nm_top.specs.Lean.{Represents, lean}
 use Rattle.nm_top.specs.Line.{AsksMail, AsksNew}
-use Rattle.nm_plan.specs.Plan.{AreArrivals, FitInTurn, files_after_new, new_commits, to_read}
+use Rattle.nm_index.specs.Fits.{FitInTurn}
+use Rattle.nm_plan.specs.Plan.{AreArrivals, files_after_new, new_commits, to_read}
 use Rattle.nm_top.specs.NewLine.{IsNew}
 use Rattle.nm_scan.specs.Listing.{IsRising, listed_of}
 use Rattle.nm_scan.specs.Reading.{answers_at, NotesReads, Reads, ReadsFirst, mail_in, read_of, skip_in}

@@ -6,7 +6,8 @@ use Rattle.nm_commit.specs.declared.change.Commit.{Commit}
 use Rattle.nm_index.specs.Index.{folded}
 use Rattle.nm_maildir.specs.declared.given.Given.{Given}
 use Rattle.nm_maildir.specs.declared.given.Given.TheVariants.{Listed}
-use Rattle.nm_plan.specs.Plan.{FitInTurn, new_commits, to_read}
+use Rattle.nm_index.specs.Fits.{FitInTurn}
+use Rattle.nm_plan.specs.Plan.{new_commits, to_read}
 use Rattle.nm_scan.specs.Listing.{IsListing}
 use Rattle.nm_scan.specs.Reading.{Reads}
 use Rattle.nm_scan.specs.Reading.{after_reads}

@@ -1,6 +1,6 @@
 use Rattle.std.proofs.Common.{◌≡◌, false, take}
 use Rattle.std.specs.List.{list_any}
-use Rattle.nm_commit.specs.Index.{has_id}
+use Rattle.nm_commit.specs.Files.{has_id}
 use Rattle.nm_state.specs.Filing.{files_in}
 use Rattle.nm_state.proofs.dropping.any_live.Given as goal
 

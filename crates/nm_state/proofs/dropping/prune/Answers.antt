@@ -2,7 +2,7 @@ use Rattle.std.proofs.Common.{◌≡◌, ◌∙◌, ap, subst, refl, sym, not, L
 use Rattle.std.specs.List.{filter, list_any}
 use Rattle.std.specs.Map.{values_of}
 use Rattle.nm_base.specs.Order.{has_text}
-use Rattle.nm_commit.specs.Index.{has_id}
+use Rattle.nm_commit.specs.Files.{has_id}
 use Rattle.nm_index.specs.Index.{rows_of}
 use Rattle.nm_state.specs.Filing.{files_in}
 use Rattle.nm_state.specs.Parts.{base_of}
