@@ -9,3 +9,4 @@ pub mod ChangeLemmas
 pub mod PruneLemmas
 pub mod TakeLemmas
 pub mod ReadingLemmas
+pub mod OpeningLemmas

@@ -246,12 +246,12 @@ any_cond : (other : List ℕ) (e : List ℕ × ℕ) (rest : List (List ℕ × �
 any_cond other e rest true = refl
 any_cond other e rest false = refl
 
-thread_has : (rows : List LinkRow) (id other : List ℕ) (entries : List (List ℕ × ℕ)) → has_text (map (λ entry. entry.0) (filter (λ entry. is_same rows id entry.0) entries)) other ≡ (has_entry entries other && is_same rows id other)
-thread_has all id other [] = refl
-thread_has all id other (e ∷ entries) =
-    any_cond other e (filter (λ entry. is_same rows id entry.0) entries) (is_same rows id e.0)
-    ∙ either_way (same_text other e.0) (is_same rows id other) (is_same rows id e.0) (has_entry entries other) (has_text (map (λ entry. entry.0) (filter (λ entry. is_same rows id entry.0) entries)) other)
-    (λ found. ap (is_same rows id) (sym (same_text_from other e.0 found))) (thread_has rows id other entries)
+thread_has : (those : List LinkRow) (id other : List ℕ) (entries : List (List ℕ × ℕ)) → has_text (map (λ entry. entry.0) (filter (λ entry. is_same those id entry.0) entries)) other ≡ (has_entry entries other && is_same those id other)
+thread_has those id other [] = refl
+thread_has those id other (e ∷ entries) =
+    any_cond other e (filter (λ entry. is_same those id entry.0) entries) (is_same those id e.0)
+    ∙ either_way (same_text other e.0) (is_same those id other) (is_same those id e.0) (has_entry entries other) (has_text (map (λ entry. entry.0) (filter (λ entry. is_same those id entry.0) entries)) other)
+    (λ found. ap (is_same those id) (sym (same_text_from other e.0 found))) (thread_has those id other entries)
 
 -- the ids of the thread are those that have a number and are of it
 pub members_are : (old : Parts) (id : List ℕ) (loose : AreLoose old id) (ids : List (List ℕ))

@@ -1,4 +1,5 @@
 pub mod Filing
 pub mod Kept
 pub mod Parts
+pub mod Snapshot
 pub mod ThreadLaws

@@ -4,11 +4,12 @@ ghost use Rattle.std.specs.Prelude.{◌≡◌, ◌≤◌, ◌^◌, fold, OnOk};
 ghost use Rattle.nm_commit.specs.Files.{FitChanges, FitsChange};
 ghost use Rattle.nm_index.specs.Index.{applied};
 ghost use Rattle.nm_state.specs.Parts.{AreParts, base_of};
+ghost use Rattle.nm_state.specs.Snapshot.{retagged};
 
 use crate::changes::{add_mail, move_mail, tag_message};
 use crate::dropping::drop_mail;
 use crate::parts::Parts;
-use nm_base::NoMemory;
+use nm_base::{MessageId, NoMemory, Tags};
 use nm_commit::Change;
 use nm_index::{files_follow_their_changes, numbers_never_fall};
 use std::alloc::Global;
@@ -40,6 +41,18 @@ pub fn apply_changes(alloc: Global, parts: &mut Parts, changes: &[Change]) -> Re
     numbers_never_fall();
     'changes: for change in changes {
         apply_change(alloc, parts, change)?;
+    }
+    Ok(())
+}
+
+/// Gives each of these messages its tags and no others.
+pub fn retag(alloc: Global, parts: &mut Parts, sets: &[(MessageId, Tags)]) -> Result<(), NoMemory>
+    requires { AreParts parts.old }
+    ensures parts { OnOk result (AreParts parts.new) }
+    ensures base { OnOk result (base_of parts.new ≡ retagged (base_of parts.old) sets.now) }
+{
+    'sets: for set in sets {
+        tag_message(alloc, parts, &set.0, &set.1)?;
     }
     Ok(())
 }

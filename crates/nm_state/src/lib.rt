@@ -5,10 +5,13 @@
 mod applying;
 mod changes;
 mod dropping;
+mod exporting;
 mod filing;
 mod fitting;
 mod kept;
 mod labelling;
+mod live_ids;
+mod opening;
 mod parts;
 mod places;
 mod reading;
@@ -16,5 +19,6 @@ mod row_bytes;
 mod snapshot;
 mod tagging;
 
+pub use live_ids::LiveIds;
 pub use reading::{Files, MessageFiles, Paths};
 pub use snapshot::Snapshot;

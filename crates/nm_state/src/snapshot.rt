@@ -10,15 +10,21 @@ ghost use Rattle.std.specs.Ordering.{nat_cmp};
 ghost use Rattle.nm_base.specs.Order.{IsSorted, has_text, same_text};
 ghost use Rattle.nm_commit.specs.Files.{Fits, has_id, has_path};
 ghost use Rattle.nm_index.specs.Index.{committed, empty_index, has_entry, rows_of};
+ghost use Rattle.nm_index.specs.Valid.{IsValid};
 ghost use Rattle.nm_threads.specs.Name.{thread_name};
+ghost use Rattle.nm_state.specs.Snapshot.{live_ids, retagged};
 
-use crate::applying::apply_changes;
+use crate::applying::{apply_changes, retag};
+use crate::exporting::base_of;
 use crate::filing::{files_of, has_file, paths_of};
 use crate::fitting::changes_fit;
+use crate::live_ids::LiveIds;
+use crate::opening::parts_of;
 use crate::parts::Parts;
 use crate::reading::{Files, MessageFiles, Paths};
-use nm_base::{Copies, MailPath, MessageId, NoMemory, Tags};
+use nm_base::{Copies, MailPath, Many, MessageId, NoMemory, Tags};
 use nm_commit::Commit;
+use nm_index::Base;
 use std::alloc::Global;
 use std::marker::Model;
 
@@ -56,6 +62,25 @@ impl Snapshot {
         }
     }
 
+    /// The snapshot of an index as data.
+    pub fn of(alloc: Global, base: &Base) -> Result<Snapshot, NoMemory>
+        requires valid { IsValid base.now }
+        requires numbers { base.now.next ≤ 2 ^ 63 }
+        ensures { IfOk result (λ snapshot. snapshot ≡ base.now) }
+    {
+        Ok(Snapshot {
+            alloc,
+            parts: parts_of(alloc, base)?,
+        })
+    }
+
+    /// The index as data.
+    pub fn to_base(&self) -> Result<Base, NoMemory>
+        ensures { IfOk result (λ base. base ≡ self.now) }
+    {
+        base_of(self.alloc, &self.parts)
+    }
+
     /// The snapshot after a commit. This one stays as it is, and what the commit doesn't touch is in both.
     pub fn apply(&self, commit: &Commit) -> Result<Snapshot, NoMemory>
         requires fits { Fits self.now.files commit.now }
@@ -66,6 +91,18 @@ impl Snapshot {
         let mut parts = self.parts.share()?;
         apply_changes(self.alloc, &mut parts, commit.changes.as_slice())?;
         parts.revision = self.parts.revision + 1;
+        Ok(Snapshot {
+            alloc: self.alloc,
+            parts,
+        })
+    }
+
+    /// The snapshot in which these messages have these tags and no others; its revision is that of this one.
+    pub fn with_tags(&self, sets: &Many<(MessageId, Tags)>) -> Result<Snapshot, NoMemory>
+        ensures { IfOk result (λ new. new ≡ retagged self.now sets.now) }
+    {
+        let mut parts = self.parts.share()?;
+        retag(self.alloc, &mut parts, sets.as_slice())?;
         Ok(Snapshot {
             alloc: self.alloc,
             parts,
@@ -110,6 +147,13 @@ impl Snapshot {
         }
         let mut filing = self.parts.filing.share()?;
         changes_fit(self.alloc, &mut filing, commit.changes.as_slice())
+    }
+
+    /// The ids of the messages that have a file, by their numbers.
+    pub fn ids(&self) -> LiveIds<'_>
+        ensures { result ≡ live_ids self.now.files self.now.entries }
+    {
+        LiveIds::of(self.parts.labels.entries(), &self.parts.filing)
     }
 
     /// The paths of all files, in the order of their bytes.

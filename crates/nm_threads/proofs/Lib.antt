@@ -18,3 +18,4 @@ pub mod KeepLemmas
 pub mod ThreadLemmas
 pub mod DeadLemmas
 pub mod StepLemmas
+pub mod EntryLemmas

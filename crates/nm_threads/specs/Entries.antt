@@ -1,5 +1,6 @@
 -- Entries from which labels are made anew.
 use Rattle.std.specs.Prelude.{ℕ, ◌<◌, ◌≤◌, ◌^◌, IsTrue, List, map}
+use Rattle.std.specs.Borrow.{Bor}
 use Rattle.std.specs.List.{AllByRecursion, IsDistinct}
 use Rattle.std.specs.List.Sorted.{IsStrictlySortedBy}
 use Rattle.std.specs.Ordering.{nat_cmp}
@@ -15,3 +16,7 @@ pub record AreEntriesOf (rows : List LinkRow) (entries : List (List ℕ × ℕ))
   pub numbers : AllByRecursion (λ n. (1 ≤ n) × (n < next)) (map (λ entry. entry.1) entries)
   pub known : AllByRecursion (λ row. AllByRecursion (λ id. IsTrue (has_entry entries id)) (ids_of row)) rows
   pub bounds : (1 ≤ next) × (next ≤ 2 ^ 63)
+
+-- what an id that is handed out with its number is
+abbrev pub id_and_number : Bor (List ℕ) × ℕ → List ℕ × ℕ
+id_and_number entry = (entry.0.now, entry.1)

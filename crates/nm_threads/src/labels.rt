@@ -11,6 +11,7 @@ ghost use Rattle.nm_threads.specs.Name.{thread_name};
 ghost use Rattle.nm_threads.specs.Same.{ids_of, is_held, is_same};
 
 use crate::dead::remove_dead;
+use crate::entries::Entries;
 use crate::joining::place_of;
 use crate::maps::Maps;
 use crate::members::members_named;
@@ -93,6 +94,13 @@ impl Labels {
     {
         let place = place_of(&self.maps, id)?;
         Some(place.thread.name)
+    }
+
+    /// All ids that have numbers, by rising numbers.
+    pub fn entries(&self) -> Entries<'_>
+        ensures { result ≡ entries_of self.now.labels }
+    {
+        Entries::of(&self.maps.ids)
     }
 
     /// The ids of the thread of this name, by their numbers; none where no thread has it.

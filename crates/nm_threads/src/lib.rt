@@ -3,6 +3,7 @@
 #![tactic(auto)]
 
 mod dead;
+mod entries;
 mod joining;
 mod labels;
 mod laws;
@@ -13,6 +14,7 @@ mod opening;
 mod removing;
 mod rows;
 
+pub use entries::Entries;
 pub use labels::Labels;
 pub use laws::{
     a_row_joins_the_threads_of_its_ids, a_thread_has_one_name, labels_know_no_order_of_rows,

@@ -1,0 +1,81 @@
+//! A snapshot as data.
+
+ghost use Rattle.std.specs.Prelude.{◌≡◌, IfOk};
+ghost use Rattle.std.specs.Map.{values_of};
+ghost use Rattle.nm_threads.specs.Labels.{entries_of};
+ghost use Rattle.nm_state.specs.Filing.{files_in};
+ghost use Rattle.nm_state.specs.Parts.{base_of};
+
+use crate::filing::Filing;
+use crate::parts::Parts;
+use crate::reading::Files;
+use crate::row_bytes::RowBytes;
+use nm_base::{Copies, Facts, LinkRow, MailPath, Many, MessageId, NoMemory, Tags};
+use nm_index::Base;
+use nm_shared::{Shared, SharedMap};
+use nm_threads::Labels;
+use std::alloc::Global;
+
+fn files_of(alloc: Global, filing: &Filing) -> Result<Many<(MailPath, Facts)>, NoMemory>
+    ensures { IfOk result (λ files. files ≡ files_in filing.now) }
+{
+    let mut files = Many::new(alloc);
+    let mut rest = Files::of(&filing.files);
+    'files: while let Some((path, facts)) = rest.next() {
+        files.push((path.copy()?, facts.copy()?))?;
+    }
+    Ok(files)
+}
+
+fn rows_of(
+    alloc: Global,
+    kept: &SharedMap<RowBytes, Shared<LinkRow>>,
+) -> Result<Many<LinkRow>, NoMemory>
+    ensures { IfOk result (λ rows. rows ≡ values_of kept.now) }
+{
+    let mut rows = Many::new(alloc);
+    let mut rest = kept.iter();
+    'rows: while let Some(entry) = rest.next() {
+        rows.push(entry.1.get().copy()?)?;
+    }
+    Ok(rows)
+}
+
+fn entries_of(alloc: Global, labels: &Labels) -> Result<Many<(MessageId, u64)>, NoMemory>
+    ensures { IfOk result (λ entries. entries ≡ entries_of labels.now.labels) }
+{
+    let mut entries = Many::new(alloc);
+    let mut rest = labels.entries();
+    'entries: while let Some((id, number)) = rest.next() {
+        entries.push((id.copy()?, number))?;
+    }
+    Ok(entries)
+}
+
+fn tags_of(
+    alloc: Global,
+    all: &SharedMap<MessageId, Shared<Tags>>,
+) -> Result<Many<(MessageId, Tags)>, NoMemory>
+    ensures { IfOk result (λ tags. tags ≡ all.now) }
+{
+    let mut tags = Many::new(alloc);
+    let mut rest = all.iter();
+    'tags: while let Some(entry) = rest.next() {
+        tags.push((entry.0.copy()?, entry.1.get().copy()?))?;
+    }
+    Ok(tags)
+}
+
+/// The index that the parts make.
+pub fn base_of(alloc: Global, parts: &Parts) -> Result<Base, NoMemory>
+    ensures { IfOk result (λ base. base ≡ base_of parts.now) }
+{
+    Ok(Base {
+        revision: parts.revision,
+        next: parts.labels.next(),
+        files: files_of(alloc, &parts.filing)?,
+        kept: rows_of(alloc, &parts.kept)?,
+        entries: entries_of(alloc, &parts.labels)?,
+        tags: tags_of(alloc, &parts.tags)?,
+    })
+}
