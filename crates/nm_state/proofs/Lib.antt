@@ -10,3 +10,4 @@ pub mod PruneLemmas
 pub mod TakeLemmas
 pub mod ReadingLemmas
 pub mod OpeningLemmas
+pub mod NumberLemmas

@@ -11,6 +11,7 @@ mod fitting;
 mod kept;
 mod labelling;
 mod live_ids;
+mod numbers;
 mod opening;
 mod parts;
 mod places;

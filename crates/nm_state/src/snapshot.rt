@@ -1,6 +1,6 @@
 //! The snapshot.
 
-ghost use Rattle.std.specs.Prelude.{◌≡◌, ◌<◌, ◌≤◌, ◌^◌, ◌↔◌, ℕ, List, false, IfOk, IsTrue, MatchOption, Contains};
+ghost use Rattle.std.specs.Prelude.{◌≡◌, ◌+◌, ◌<◌, ◌≤◌, ◌^◌, ◌↔◌, ℕ, List, false, IfOk, IsTrue, MatchOption, Contains};
 ghost use Rattle.std.specs.BTreeMap.{is_at};
 ghost use Rattle.std.specs.Cmp.Lexicographic.{slice_cmp};
 ghost use Rattle.std.specs.List.{filter};
@@ -9,6 +9,7 @@ ghost use Rattle.std.specs.Option.{option_copied};
 ghost use Rattle.std.specs.Ordering.{nat_cmp};
 ghost use Rattle.nm_base.specs.Order.{IsSorted, has_text, same_text};
 ghost use Rattle.nm_commit.specs.Files.{Fits, has_id, has_path};
+ghost use Rattle.nm_index.specs.Fits.{ids_named};
 ghost use Rattle.nm_index.specs.Index.{committed, empty_index, has_entry, rows_of};
 ghost use Rattle.nm_index.specs.Valid.{IsValid};
 ghost use Rattle.nm_threads.specs.Name.{thread_name};
@@ -19,12 +20,13 @@ use crate::exporting::base_of;
 use crate::filing::{files_of, has_file, paths_of};
 use crate::fitting::changes_fit;
 use crate::live_ids::LiveIds;
+use crate::numbers::ids_named;
 use crate::opening::parts_of;
 use crate::parts::Parts;
 use crate::reading::{Files, MessageFiles, Paths};
 use nm_base::{Copies, MailPath, Many, MessageId, NoMemory, Tags};
 use nm_commit::Commit;
-use nm_index::Base;
+use nm_index::{Base, numbers_rise_with_the_ids_named};
 use std::alloc::Global;
 use std::marker::Model;
 
@@ -107,6 +109,16 @@ impl Snapshot {
             alloc: self.alloc,
             parts,
         })
+    }
+
+    /// Says whether there is a number for each id that the commit names, whether it has one or not, and one for the revision.
+    pub fn has_numbers(&self, commit: &Commit) -> bool
+        ensures exact { IsTrue result ↔ ((self.now.next + ids_named commit.now.changes ≤ 2 ^ 63) × (self.now.revision < 2 ^ 63)) }
+        ensures enough { IsTrue result → (committed self.now commit.now).next ≤ 2 ^ 63 }
+    {
+        numbers_rise_with_the_ids_named();
+        let left = (1 << 63) - self.parts.labels.next();
+        ids_named(commit.changes.as_slice()) <= left && self.parts.revision < 1 << 63
     }
 
     /// How many commits there were.

@@ -1,10 +1,10 @@
 //! What each kind of row asks stands in the modules beside this one.
 
-use crate::{journal_rows, stop_rows};
+use crate::{journal_rows, snapshot_rows, stop_rows};
 use rows::{Program, Row, RowError};
 use std::alloc::Global;
 
-/// The program that runs the rows on journals and on stops of the disk.
+/// The program that runs the rows on journals, on stops of the disk and on snapshots.
 pub struct Index;
 
 impl Program for Index {
@@ -13,6 +13,7 @@ impl Program for Index {
             b"journal" => journal_rows::written(alloc, row),
             b"opened" => journal_rows::opened(alloc, row),
             b"stops" => stop_rows::stops(alloc, row),
+            b"snapshot" => snapshot_rows::answered(alloc, row),
             b"faults" => stop_rows::faults(alloc, row),
             _ => Err(RowError::Broken("no such kind of row")),
         }

@@ -1,10 +1,12 @@
-//! Bytes on the disk: the program that runs the rows on journals and on stops of the disk. The table stands on the standard
-//! input, and the standard output has a line for each row.
+//! Searching: the program that runs the rows on journals, on stops of the disk and on snapshots. The table stands on the
+//! standard input, and the standard output has a line for each row.
 #![tactic(auto)]
 
 mod answers;
+mod commit_lines;
 mod disks;
 mod journal_rows;
+mod snapshot_rows;
 mod stop_rows;
 
 use answers::Index;

@@ -1,0 +1,151 @@
+//! Rows on snapshots: what one answers after some commits, or before the last of them.
+
+use crate::commit_lines::commit_of;
+use crate::journal_rows::push_number;
+use nm_base::MessageId;
+use nm_commit::Commit;
+use nm_state::Snapshot;
+use rows::{Lines, Row, RowError, cut};
+use std::alloc::Global;
+
+/// What the snapshot after the commits of the lines `|` answers to what stands behind `?`.
+pub fn answered(alloc: Global, row: &Row<'_>) -> Result<Vec<u8>, RowError> {
+    let mut before = Snapshot::empty(alloc);
+    let mut now = Snapshot::empty(alloc);
+    'commits: for line in row.lines.as_slice() {
+        if line.mark == b"|".as_slice() {
+            let commit = commit_of(alloc, line.bytes.as_slice())?;
+            let Some(next) = after(&now, &commit)? else {
+                return Ok(b"does not fit".to_vec(alloc)?);
+            };
+            before = now;
+            now = next;
+        }
+    }
+    let asked = row.text(alloc, b"?")?;
+    let (what, when) = cut(asked.as_slice(), b' ');
+    if when == b"before".as_slice() {
+        return told(alloc, &before, what);
+    }
+    told(alloc, &now, what)
+}
+
+fn after(snapshot: &Snapshot, commit: &Commit) -> Result<Option<Snapshot>, RowError> {
+    if !snapshot.fits(commit)? {
+        return Ok(None);
+    }
+    if !snapshot.has_numbers(commit) {
+        return Err(RowError::Broken("the numbers are used up"));
+    }
+    Ok(Some(snapshot.apply(commit)?))
+}
+
+fn told(alloc: Global, snapshot: &Snapshot, what: &[u8]) -> Result<Vec<u8>, RowError> {
+    let mut lines = Lines::new(alloc);
+    match what {
+        b"threads" => push_threads(alloc, &mut lines, snapshot)?,
+        b"kept" => push_kept(&mut lines, snapshot)?,
+        b"messages" => push_messages(&mut lines, snapshot)?,
+        b"tags" => push_tags(alloc, &mut lines, snapshot)?,
+        b"files" => push_files(&mut lines, snapshot)?,
+        b"paths" => push_paths(&mut lines, snapshot)?,
+        b"revision" => {
+            lines.begin()?;
+            push_number(alloc, &mut lines, snapshot.revision())?;
+        }
+        _ => return Err(RowError::Broken("nothing of the kind is told")),
+    }
+    Ok(lines.into_bytes())
+}
+
+/// A line for each id with a number, by numbers: the id, its number, the name of its thread.
+fn push_threads(alloc: Global, lines: &mut Lines, snapshot: &Snapshot) -> Result<(), RowError> {
+    let base = snapshot.to_base()?;
+    'entries: for entry in base.entries.as_slice() {
+        lines.line(entry.0.text().as_bytes())?;
+        lines.push(b" ")?;
+        push_number(alloc, lines, entry.1)?;
+        if let Some(name) = snapshot.thread(&entry.0) {
+            lines.push(b" ")?;
+            push_number(alloc, lines, name)?;
+        }
+    }
+    Ok(())
+}
+
+/// A line for each kept row: the id, and those that it links to.
+fn push_kept(lines: &mut Lines, snapshot: &Snapshot) -> Result<(), RowError> {
+    let base = snapshot.to_base()?;
+    'rows: for row in base.kept.as_slice() {
+        lines.line(row.id.text().as_bytes())?;
+        push_ids(lines, row.links.as_slice())?;
+    }
+    Ok(())
+}
+
+fn push_ids(lines: &mut Lines, ids: &[MessageId]) -> Result<(), RowError> {
+    'ids: for id in ids {
+        lines.push_after_blank(id.text().as_bytes())?;
+    }
+    Ok(())
+}
+
+/// A line for each message, by numbers: the id, and its paths.
+fn push_messages(lines: &mut Lines, snapshot: &Snapshot) -> Result<(), RowError> {
+    'ids: for id in snapshot.ids() {
+        lines.line(id.text().as_bytes())?;
+        push_paths_of(lines, snapshot, id)?;
+    }
+    Ok(())
+}
+
+fn push_paths_of(lines: &mut Lines, snapshot: &Snapshot, id: &MessageId) -> Result<(), RowError> {
+    let Some(files) = snapshot.files(id) else {
+        return Ok(());
+    };
+    'files: for (path, _) in files {
+        lines.push_after_blank(path.text().as_bytes())?;
+    }
+    Ok(())
+}
+
+/// A line for each message, by numbers: the id, and its tags.
+fn push_tags(alloc: Global, lines: &mut Lines, snapshot: &Snapshot) -> Result<(), RowError> {
+    'ids: for id in snapshot.ids() {
+        lines.line(id.text().as_bytes())?;
+        push_tags_of(alloc, lines, snapshot, id)?;
+    }
+    Ok(())
+}
+
+fn push_tags_of(
+    alloc: Global,
+    lines: &mut Lines,
+    snapshot: &Snapshot,
+    id: &MessageId,
+) -> Result<(), RowError> {
+    let Some(tags) = snapshot.tags(id) else {
+        return Ok(());
+    };
+    let list = tags.to_list(alloc)?;
+    'tags: for tag in list.as_slice() {
+        lines.push_after_blank(tag.text().as_bytes())?;
+    }
+    Ok(())
+}
+
+/// A line for each file, by arrival: its path, and its id.
+fn push_files(lines: &mut Lines, snapshot: &Snapshot) -> Result<(), RowError> {
+    'files: for (path, facts) in snapshot.files_in_order() {
+        lines.line(path.text().as_bytes())?;
+        lines.push_after_blank(facts.id.text().as_bytes())?;
+    }
+    Ok(())
+}
+
+fn push_paths(lines: &mut Lines, snapshot: &Snapshot) -> Result<(), RowError> {
+    'paths: for path in snapshot.paths() {
+        lines.line(path.text().as_bytes())?;
+    }
+    Ok(())
+}
