@@ -1,7 +1,8 @@
-//! The plain index: the program that `bench/structures` measures. Each line of the standard input asks for one work, as
-//! `shared scattered 1000`, and its line of the standard output tells how much there is at the end.
+//! Bytes on the disk: the program that `bench/structures` and `bench/records` measure. Each line of the standard input asks
+//! for one work, as `shared scattered 1000`, and its line of the standard output tells how much there is at the end.
 #![tactic(auto)]
 
+mod journals;
 mod maps;
 mod work;
 
@@ -11,7 +12,7 @@ use std::io;
 fn main(rt: HostRuntime) -> io::Result<()> {
     for line in rt.lines(rt.alloc()) {
         let line = line?;
-        match work::done(rt.alloc(), line.as_str()) {
+        match work::done(&rt, rt.alloc(), line.as_str()) {
             Ok(told) => println!(rt; "{line}: {told}")?,
             Err(NoMemory) => println!(rt; "{line}: no memory")?,
         }

@@ -1,11 +1,12 @@
 //! Which work a line asks for; `main` calls it.
 
+use crate::journals;
 use crate::maps::{self, Order};
 use nm_base::NoMemory;
 use std::alloc::Global;
 
 /// Does the work of a line, and tells how many items there are at the end; 0 where the line asks for none.
-pub fn done(alloc: Global, line: &str) -> Result<u64, NoMemory> {
+pub fn done(rt: &HostRuntime, alloc: Global, line: &str) -> Result<u64, NoMemory> {
     let mut words = line.split(' ');
     let (Some(kind), Some(order), Some(count)) = (words.next(), words.next(), words.next()) else {
         return Ok(0);
@@ -21,6 +22,8 @@ pub fn done(alloc: Global, line: &str) -> Result<u64, NoMemory> {
     match kind {
         "shared" => maps::shared(alloc, order, count),
         "cloned" => maps::cloned(alloc, order, count),
+        "append" => journals::append(rt, alloc, count),
+        "open" => Ok(journals::open_all(rt, alloc)),
         _ => Ok(0),
     }
 }

@@ -5,6 +5,9 @@ use rows::{Program, Row, RowError};
 use std::alloc::Global;
 
 /// The program that runs the rows on journals, on stops of the disk and on snapshots.
+use crate::{commit_rows, journal_rows, stop_rows, tag_rows};
+
+/// The program that runs the rows on the index.
 pub struct Index;
 
 impl Program for Index {
@@ -15,6 +18,9 @@ impl Program for Index {
             b"stops" => stop_rows::stops(alloc, row),
             b"snapshot" => snapshot_rows::answered(alloc, row),
             b"faults" => stop_rows::faults(alloc, row),
+            b"commits" => commit_rows::commits(alloc, row),
+            b"tags" => tag_rows::operations(alloc, row),
+            b"written tags" => tag_rows::written(alloc, row),
             _ => Err(RowError::Broken("no such kind of row")),
         }
     }

@@ -4,10 +4,15 @@
 
 mod answers;
 mod commit_lines;
+//! Bytes on the disk: the program that runs the rows on the index: journals, stops of the disk, commits and tags. The table
+//! stands on the standard input, and the standard output has a line for each row.
+
+mod commit_rows;
 mod disks;
 mod journal_rows;
 mod snapshot_rows;
 mod stop_rows;
+mod tag_rows;
 
 use answers::Index;
 use rows::run_table;
