@@ -41,23 +41,22 @@ fn push_name(alloc: Global, lines: &mut Lines, bytes: &[u8]) -> Result<(), RowEr
 
 fn push_verdicts(lines: &mut Lines, text: &Text) -> Result<(), RowError> {
     lines.line(b"id")?;
-    push_verdict(lines, MessageId::new(text.copy()?))?;
+    lines.push(verdict(MessageId::new(text.copy()?).err()))?;
     lines.push(b", tag")?;
-    push_verdict(lines, Tag::new(text.copy()?))?;
+    lines.push(verdict(Tag::new(text.copy()?).err()))?;
     lines.push(b", word")?;
-    push_verdict(lines, Word::new(text.copy()?))?;
+    lines.push(verdict(Word::new(text.copy()?).err()))?;
     lines.push(b", path")?;
-    push_verdict(lines, MailPath::new(text.copy()?))
+    lines.push(verdict(MailPath::new(text.copy()?).err()))?;
+    Ok(())
 }
 
-fn push_verdict<T: Drop>(lines: &mut Lines, answer: Result<T, BadValue>) -> Result<(), RowError> {
-    let said: &[u8] = match answer {
-        Ok(_) => b" ok",
-        Err(BadValue::Length) => b" LENGTH",
-        Err(BadValue::Byte) => b" BYTE",
-    };
-    lines.push(said)?;
-    Ok(())
+fn verdict(fault: Option<BadValue>) -> &'static [u8] {
+    match fault {
+        None => b" ok",
+        Some(BadValue::Length) => b" LENGTH",
+        Some(BadValue::Byte) => b" BYTE",
+    }
 }
 
 /// The tags that are left: a step is a tag behind `+` or `-`; those that are asked behind `?` are shown.
