@@ -1,7 +1,7 @@
 //! Rows on the lines of scripts: what a line asks for, or how it is refused; and the lines of a script with their numbers.
 
-use nm_base::{CountAsk, Many, NoMemory, Output, Text, UsageKind};
 use nm_answer::Request;
+use nm_base::{CountAsk, Many, NoMemory, Output, Text, UsageKind};
 use nm_io::MemSink;
 use nm_log::{
     ParsedLine, ScriptError, ScriptLine, parse_line, print_usage, read_script, usage_text,
@@ -22,12 +22,16 @@ pub fn requests(alloc: Global, row: &Row<'_>) -> Result<Vec<u8>, RowError> {
 }
 
 fn add_request(alloc: Global, answers: &mut Lines, line: &[u8]) -> Result<(), RowError> {
-    match parse_line(alloc, line)? {
-        ParsedLine::Request(Request::New) => answers.line(b"new")?,
-        ParsedLine::Request(Request::Count(ask)) => add_count(answers, &ask)?,
-        ParsedLine::Usage { word, kind } => add_refusal(alloc, answers, kind, &word)?,
+    let parsed = parse_line(alloc, line)?;
+    add_parsed(alloc, answers, &parsed)
+}
+
+fn add_parsed(alloc: Global, answers: &mut Lines, parsed: &ParsedLine) -> Result<(), RowError> {
+    match parsed {
+        ParsedLine::Request(Request::New) => Ok(answers.line(b"new")?),
+        ParsedLine::Request(Request::Count(ask)) => Ok(add_count(answers, ask)?),
+        ParsedLine::Usage { word, kind } => Ok(add_refusal(alloc, answers, *kind, word)?),
     }
-    Ok(())
 }
 
 /// The query, where the messages that are not excluded are counted, of one query.
@@ -45,13 +49,25 @@ fn add_refusal(
     word: &Text,
 ) -> Result<(), NoMemory> {
     let text = usage_text(alloc, kind, word)?;
+    add_text(
+        answers,
+        text.as_slice(),
+        is_printed(alloc, kind, word, text.as_slice()),
+    )
+}
+
+/// Whether the refusal is printed as this text.
+fn is_printed(alloc: Global, kind: UsageKind, word: &Text, text: &[u8]) -> bool {
     let mut sink = MemSink::new(alloc, Many::new(alloc));
     let _ = print_usage(&mut sink, kind, word.as_str());
-    if sink.bytes() != text.as_slice() {
+    sink.bytes() == text
+}
+
+fn add_text(answers: &mut Lines, text: &[u8], is_printed: bool) -> Result<(), NoMemory> {
+    if !is_printed {
         answers.line(b"it is printed otherwise")?;
     }
-    answers.line(cut(text.as_slice(), b'\n').0)?;
-    Ok(())
+    Ok(answers.line(cut(text, b'\n').0)?)
 }
 
 /// The lines of a script with their numbers, or the limit that it passes.
@@ -59,12 +75,16 @@ pub fn script(alloc: Global, row: &Row<'_>) -> Result<Vec<u8>, RowError> {
     row.has_only(&[b"|", b"="])?;
     let input = row.text(alloc, b"|")?;
     let mut answers = Lines::new(alloc);
-    match read_script(alloc, input.as_slice()) {
-        Ok(script) => add_lines(alloc, &mut answers, script.as_slice())?,
-        Err(ScriptError::Limit(_)) => answers.line(b"it passes a limit")?,
-        Err(ScriptError::NoMemory) => return Err(RowError::NoMemory),
-    }
+    add_script(alloc, &mut answers, input.as_slice())?;
     Ok(answers.into_bytes())
+}
+
+fn add_script(alloc: Global, answers: &mut Lines, input: &[u8]) -> Result<(), RowError> {
+    match read_script(alloc, input) {
+        Ok(script) => Ok(add_lines(alloc, answers, script.as_slice())?),
+        Err(ScriptError::Limit(_)) => Ok(answers.line(b"it passes a limit")?),
+        Err(ScriptError::NoMemory) => Err(RowError::NoMemory),
+    }
 }
 
 fn add_lines(alloc: Global, answers: &mut Lines, script: &[ScriptLine]) -> Result<(), AllocError> {

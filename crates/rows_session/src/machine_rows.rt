@@ -4,6 +4,7 @@ use crate::step_rows::step;
 use nm_base::Copies;
 use nm_core::{Core, CoreError};
 use nm_index::Base;
+use nm_machine::Step;
 use rows::{Lines, Row, RowError};
 use std::alloc::Global;
 
@@ -15,12 +16,22 @@ pub fn answer(alloc: Global, row: &Row<'_>) -> Result<Vec<u8>, RowError> {
     row.has_only(&[b"lanes", b"|", b"="])?;
     let mut core = core(alloc, row)?;
     let mut answers = Lines::new(alloc);
+    run_steps(alloc, &mut core, &mut answers, row)?;
+    Ok(answers.into_bytes())
+}
+
+fn run_steps(
+    alloc: Global,
+    core: &mut Core,
+    answers: &mut Lines,
+    row: &Row<'_>,
+) -> Result<(), RowError> {
     'lines: for line in row.lines.as_slice() {
         if line.mark == b"|".as_slice() {
-            answers.line(run_step(alloc, &mut core, line.bytes.as_slice())?)?;
+            answers.line(run_step(alloc, core, line.bytes.as_slice())?)?;
         }
     }
-    Ok(answers.into_bytes())
+    Ok(())
 }
 
 /// A machine with the lanes of the row, or with one.
@@ -35,11 +46,19 @@ fn core(alloc: Global, row: &Row<'_>) -> Result<Core, RowError> {
 /// Takes a copy of the step, which has to equal it.
 fn run_step(alloc: Global, core: &mut Core, line: &[u8]) -> Result<&'static [u8], RowError> {
     let step = step(alloc, line)?;
+    run_copy(core, &step)
+}
+
+fn run_copy(core: &mut Core, step: &Step) -> Result<&'static [u8], RowError> {
     let copied = step.copy()?;
-    if copied != step {
+    if copied != *step {
         return Ok(b"the copy differs");
     }
-    match core.step(&copied, MOMENT) {
+    answer_to(core, &copied)
+}
+
+fn answer_to(core: &mut Core, step: &Step) -> Result<&'static [u8], RowError> {
+    match core.step(step, MOMENT) {
         Ok(()) => Ok(b"ok"),
         Err(CoreError::NotNow) => Ok(b"refused"),
         Err(CoreError::NoMemory) => Err(RowError::NoMemory),

@@ -1,8 +1,8 @@
 //! Rows on the reply of `new`, from the numbers that it tells and the files that were passed over.
 
 use crate::values::path;
-use nm_base::{MailPath, Many, Skip};
 use nm_answer::NewReport;
+use nm_base::{MailPath, Many, Skip};
 use nm_log::new_reply;
 use rows::{Row, RowError};
 use std::alloc::Global;
@@ -19,16 +19,16 @@ pub fn answer(alloc: Global, row: &Row<'_>) -> Result<Vec<u8>, RowError> {
         b"too-long",
         b"=",
     ])?;
-    let skipped = skipped(alloc, row)?;
-    let report = report(row, skipped)?;
+    let report = report(alloc, row)?;
     Ok(new_reply(alloc, &report)?.into_vec())
 }
 
-fn report(row: &Row<'_>, skipped: Many<(MailPath, Skip)>) -> Result<NewReport, RowError> {
+fn report(alloc: Global, row: &Row<'_>) -> Result<NewReport, RowError> {
     let added = row.number(b"added", 0)?;
     let removed = row.number(b"removed", 0)?;
     let born = row.number(b"messages-added", 0)?;
     let died = row.number(b"messages-removed", 0)?;
+    let skipped = skipped(alloc, row)?;
     Ok(NewReport {
         added,
         removed,
@@ -42,10 +42,20 @@ fn skipped(alloc: Global, row: &Row<'_>) -> Result<Many<(MailPath, Skip)>, RowEr
     let mut skipped = Many::new(alloc);
     'lines: for line in row.lines.as_slice() {
         if let Some(skip) = skip_of(line.mark) {
-            skipped.push((path(alloc, line.bytes.as_slice())?, skip))?;
+            add_skipped(alloc, &mut skipped, line.bytes.as_slice(), skip)?;
         }
     }
     Ok(skipped)
+}
+
+fn add_skipped(
+    alloc: Global,
+    skipped: &mut Many<(MailPath, Skip)>,
+    at: &[u8],
+    skip: Skip,
+) -> Result<(), RowError> {
+    let path = path(alloc, at)?;
+    Ok(skipped.push((path, skip))?)
 }
 
 fn skip_of(mark: &[u8]) -> Option<Skip> {

@@ -15,15 +15,6 @@ const SETTING: Setting = Setting {
     workers: 1,
 };
 
-/// The devices of a call.
-#[derive(Drop)]
-struct Devices {
-    mail: StillTree,
-    input: MemSource,
-    out: MemSink,
-    err: MemSink,
-}
-
 /// Runs the call that the row has.
 pub fn answer(alloc: Global, row: &Row<'_>) -> Result<Vec<u8>, RowError> {
     row.has_only(&[
@@ -37,8 +28,7 @@ pub fn answer(alloc: Global, row: &Row<'_>) -> Result<Vec<u8>, RowError> {
         b"=",
     ])?;
     let args = args(alloc, row)?;
-    let devices = devices_of(alloc, row)?;
-    Ok(run(alloc, args.as_slice(), devices)?)
+    on_mail(alloc, row, args.as_slice())
 }
 
 /// The words of the call: those of the line `$`, or else the word `session`.
@@ -53,37 +43,46 @@ fn args(alloc: Global, row: &Row<'_>) -> Result<Many<Text>, RowError> {
 fn split(alloc: Global, line: &[u8]) -> Result<Many<Text>, RowError> {
     let mut words = Many::new(alloc);
     'words: for word in line.split(|b| *b == b' ') {
-        if !word.is_empty() {
-            words.push(text(alloc, word)?)?;
-        }
+        add_word(alloc, &mut words, word)?;
     }
     Ok(words)
 }
 
-fn devices_of(alloc: Global, row: &Row<'_>) -> Result<Devices, RowError> {
-    let mail = mail(alloc, row)?;
-    let input = input(alloc, row)?;
-    let out = sink(alloc, row, b"out-fails")?;
-    let err = sink(alloc, row, b"err-fails")?;
-    Ok(Devices {
-        mail,
-        input,
-        out,
-        err,
-    })
+fn add_word(alloc: Global, words: &mut Many<Text>, word: &[u8]) -> Result<(), RowError> {
+    if word.is_empty() {
+        return Ok(());
+    }
+    let word = text(alloc, word)?;
+    Ok(words.push(word)?)
 }
 
-fn run(alloc: Global, args: &[Text], devices: Devices) -> Result<Vec<u8>, NoMemory> {
-    let Devices {
-        mut mail,
-        mut input,
-        mut out,
-        mut err,
-    } = devices;
-    let done = notmuch(
-        alloc, args, &SETTING, &mut mail, &mut input, &mut out, &mut err,
-    );
-    transcript(alloc, &done, out.bytes(), err.bytes())
+/// The call over the mail folder of the row. Each device has a function of its own, so that few paths let it go.
+fn on_mail(alloc: Global, row: &Row<'_>, args: &[Text]) -> Result<Vec<u8>, RowError> {
+    let mut mail = mail(alloc, row)?;
+    on_input(alloc, row, args, &mut mail)
+}
+
+fn on_input(
+    alloc: Global,
+    row: &Row<'_>,
+    args: &[Text],
+    mail: &mut StillTree,
+) -> Result<Vec<u8>, RowError> {
+    let mut input = input(alloc, row)?;
+    on_output(alloc, row, args, mail, &mut input)
+}
+
+fn on_output(
+    alloc: Global,
+    row: &Row<'_>,
+    args: &[Text],
+    mail: &mut StillTree,
+    input: &mut MemSource,
+) -> Result<Vec<u8>, RowError> {
+    let mut out = sink(alloc, row, b"out-fails")?;
+    let mut err = sink(alloc, row, b"err-fails")?;
+    let done = notmuch(alloc, args, &SETTING, mail, input, &mut out, &mut err);
+    Ok(transcript(alloc, &done, out.bytes(), err.bytes())?)
 }
 
 /// What was printed, what was said behind `err: `, and a last line with the status and the steps.

@@ -1,12 +1,12 @@
 //! Steps of the machine, as rows write them: `begin`, `append`, `show`, `see`, `meet`, `crash`, `reopen`, and replies.
 
 use crate::values::{id, path, text};
+use nm_answer::Request;
 use nm_base::{
     CountAsk, Facts, Field, FieldWords, MailPath, Many, Marks, MessageId, NoMemory, Output, Text,
     Word,
 };
 use nm_commit::{Change, Commit};
-use nm_answer::Request;
 use nm_machine::Step;
 use rows::{RowError, cut, number_of, signed_of};
 use std::alloc::Global;
@@ -61,12 +61,17 @@ fn begin(alloc: Global, line: &[u8]) -> Result<Step, RowError> {
     let mut changes = Many::new(alloc);
     if line != b"nothing".as_slice() {
         'changes: for part in line.split(|b| *b == b';') {
-            changes.push(change(alloc, part)?)?;
+            add_change(alloc, &mut changes, part)?;
         }
     }
     Ok(Step::Begin {
         commit: Commit { changes },
     })
+}
+
+fn add_change(alloc: Global, changes: &mut Many<Change>, part: &[u8]) -> Result<(), RowError> {
+    let change = change(alloc, part)?;
+    Ok(changes.push(change)?)
 }
 
 /// `add PATH ID DATE`, `drop PATH`, or `move FROM TO`.
