@@ -1,11 +1,8 @@
 //! What each kind of row asks stands in the modules beside this one.
 
-use crate::{journal_rows, snapshot_rows, stop_rows};
+use crate::{commit_rows, journal_rows, snapshot_rows, stop_rows, tag_rows};
 use rows::{Program, Row, RowError};
 use std::alloc::Global;
-
-/// The program that runs the rows on journals, on stops of the disk and on snapshots.
-use crate::{commit_rows, journal_rows, stop_rows, tag_rows};
 
 /// The program that runs the rows on the index.
 pub struct Index;

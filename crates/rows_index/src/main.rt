@@ -1,12 +1,9 @@
-//! Searching: the program that runs the rows on journals, on stops of the disk and on snapshots. The table stands on the
-//! standard input, and the standard output has a line for each row.
+//! Searching: the program that runs the rows on the index: journals, stops of the disk, commits, tags and snapshots. The
+//! table stands on the standard input, and the standard output has a line for each row.
 #![tactic(auto)]
 
 mod answers;
 mod commit_lines;
-//! Bytes on the disk: the program that runs the rows on the index: journals, stops of the disk, commits and tags. The table
-//! stands on the standard input, and the standard output has a line for each row.
-
 mod commit_rows;
 mod disks;
 mod journal_rows;
