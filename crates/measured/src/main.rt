@@ -1,9 +1,12 @@
 //! Bytes on the disk: the program that `bench/structures` and `bench/records` measure. Each line of the standard input asks
 //! for one work, as `shared scattered 1000`, and its line of the standard output tells how much there is at the end.
+//! The plain index: the program that `bench/structures` and `bench/threads` measure. Each line of the standard input asks for one work, as
+//! `shared scattered 1000`, and its line of the standard output tells how much there is at the end.
 #![tactic(auto)]
 
 mod journals;
 mod maps;
+mod threads;
 mod work;
 
 use nm_base::NoMemory;

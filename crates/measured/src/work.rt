@@ -2,6 +2,7 @@
 
 use crate::journals;
 use crate::maps::{self, Order};
+use crate::threads::{self, Work};
 use nm_base::NoMemory;
 use std::alloc::Global;
 
@@ -11,19 +12,31 @@ pub fn done(rt: &HostRuntime, alloc: Global, line: &str) -> Result<u64, NoMemory
     let (Some(kind), Some(order), Some(count)) = (words.next(), words.next(), words.next()) else {
         return Ok(0);
     };
+    let Ok(count) = count.parse::<u64>() else {
+        return Ok(0);
+    };
+    if kind == "threads" {
+        return labels(alloc, order, count);
+    }
     let order = if order == "rising" {
         Order::Rising
     } else {
         Order::Scattered
-    };
-    let Ok(count) = count.parse::<u64>() else {
-        return Ok(0);
     };
     match kind {
         "shared" => maps::shared(alloc, order, count),
         "cloned" => maps::cloned(alloc, order, count),
         "append" => journals::append(rt, alloc, count),
         "open" => Ok(journals::open_all(rt, alloc)),
+        _ => Ok(0),
+    }
+}
+
+fn labels(alloc: Global, work: &str, count: u64) -> Result<u64, NoMemory> {
+    match work {
+        "many" => threads::labelled(alloc, Work::Many, count),
+        "one" => threads::labelled(alloc, Work::One, count),
+        "tenth" => threads::labelled(alloc, Work::Tenth, count),
         _ => Ok(0),
     }
 }

@@ -5,6 +5,9 @@ use rows::{Program, Row, RowError};
 use std::alloc::Global;
 
 /// The program that runs the rows on the index.
+use crate::{journal_rows, stop_rows, thread_rows};
+
+/// The program that runs the rows on threads, journals and stops of the disk.
 pub struct Index;
 
 impl Program for Index {
@@ -18,6 +21,7 @@ impl Program for Index {
             b"commits" => commit_rows::commits(alloc, row),
             b"tags" => tag_rows::operations(alloc, row),
             b"written tags" => tag_rows::written(alloc, row),
+            b"threads" => thread_rows::threads(alloc, row),
             _ => Err(RowError::Broken("no such kind of row")),
         }
     }

@@ -1,5 +1,7 @@
 //! Searching: the program that runs the rows on the index: journals, stops of the disk, commits, tags and snapshots. The
 //! table stands on the standard input, and the standard output has a line for each row.
+//! Bytes on the disk: the program that runs the rows on threads, journals and stops of the disk. The table stands on the standard
+//! input, and the standard output has a line for each row.
 #![tactic(auto)]
 
 mod answers;
@@ -10,6 +12,7 @@ mod journal_rows;
 mod snapshot_rows;
 mod stop_rows;
 mod tag_rows;
+mod thread_rows;
 
 use answers::Index;
 use rows::run_table;
