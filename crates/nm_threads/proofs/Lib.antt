@@ -19,3 +19,4 @@ pub mod ThreadLemmas
 pub mod DeadLemmas
 pub mod StepLemmas
 pub mod EntryLemmas
+pub mod WorkLemmas

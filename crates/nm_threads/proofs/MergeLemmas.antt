@@ -104,7 +104,7 @@ other_by x y name l labels apart more (inr other) (inr not) =
     count_no name (relabelled x y l) (map (relabelled x y) labels) (λ same. not (sym (joined_other x y l.name other.not_x other.not_y) ∙ same)) ∙ more ∙ sym (count_no name l labels not)
 
 -- another thread has as many as before
-count_other : (x y name : ℕ) (labels : List Label) → Other x y name → count name (map (relabelled x y) labels) ≡ count name labels
+pub count_other : (x y name : ℕ) (labels : List Label) → Other x y name → count name (map (relabelled x y) labels) ≡ count name labels
 count_other x y name [] apart = refl
 count_other x y name (l ∷ labels) apart = other_by x y name l labels apart (count_other x y name labels apart) (cases_joined x y l.name) (cases_eq l.name name)
 

@@ -1,7 +1,7 @@
 -- What the labels say once a row has one link more, and once the whole row has come.
 use Rattle.std.proofs.Common.{◌≡◌, refl, sym, ap, subst, ◌∙◌, ℕ, ◌+◌, ◌<◌, ◌≤◌, Bool, true, false, cond, List, [], ◌∷◌, ◌++◌, map, take, drop, length, get_or, arith, inl, inr, true≢false}
 use Rattle.std.specs.Prelude.{Contains, Some}
-use Rattle.std.proofs.lemmas.List.{map_push, take-append-drop, drop_more, take_more, take_all, append-nil}
+use Rattle.std.proofs.lemmas.List.{map_push, take-append-drop, drop_more, take_more, take_all, append-nil, length-append}
 use Rattle.std.proofs.lemmas.List.Concat.{flat_map-append}
 use Rattle.std.specs.List.{flat_map}
 use Rattle.std.specs.List.Sorted.{IsStrictlySortedBy}
@@ -218,6 +218,9 @@ module _ (old now next : Maps) (rows : List LinkRow) (i : ℕ) (lt : i < length 
 
   ids_more : flat_map ids_of (take (i + 1) rows) ≡ flat_map ids_of (take i rows) ++ ids_of row
   ids_more = ap (flat_map ids_of) rows_more ∙ flat_map-append ids_of (take i rows) (row ∷ []) ∙ ap (λ back. flat_map ids_of (take i rows) ++ back) (append-nil (ids_of row))
+
+  pub len_more : length (flat_map ids_of (take (i + 1) rows)) ≡ length (flat_map ids_of (take i rows)) + length (ids_of row)
+  len_more = ap length ids_more ∙ length-append (flat_map ids_of (take i rows)) (ids_of row)
 
   pub rows_room : (most : ℕ) → (numbered (entries_of (labelling_of old).labels) old.next (flat_map ids_of rows)).1 ≤ most → Numbers old now (flat_map ids_of (take i rows)) → (numbered (entries_of (labelling_of now).labels) now.next (ids_of row)).1 ≤ most
   rows_room most le so_far =

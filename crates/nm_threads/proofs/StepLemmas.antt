@@ -42,7 +42,7 @@ module _ (old mid : Maps) (are : AreMaps old) (are_mid : AreMaps mid) (link : Li
   old_in_by a among true = among
   old_in_by a among false = Contains-append_left (labelling_of old).labels (record { id = link; number = old.next; name = old.next } ∷ []) a among
 
-  mid_is : labelling_of mid ≡ either (labelling_of old) link (has_entry (entries_of (labelling_of old).labels) link)
+  pub mid_is : labelling_of mid ≡ either (labelling_of old) link (has_entry (entries_of (labelling_of old).labels) link)
   mid_is = is ∙ given_is (labelling_of old) link (has_entry (entries_of (labelling_of old).labels) link) refl
 
   old_in : (a : Label) → Contains (labelling_of old).labels a → Contains (labelling_of mid).labels a
@@ -57,7 +57,7 @@ module _ (old mid : Maps) (are : AreMaps old) (are_mid : AreMaps mid) (link : Li
       let pair = are.grouped a.number a.id from.0 in
       omega (arith, (are.early pair.0 pair.1 pair.3).1, same, ap (λ l. l.name) (sym from.1), name_found old a.number pair.0 pair.1 pair.2 pair.3)
 
-  named_by : (a : Label) → Contains (labelling_of old).labels a → (test : Bool) → named a.name (either (labelling_of old) link test).labels ≡ named a.name (labelling_of old).labels
+  pub named_by : (a : Label) → Contains (labelling_of old).labels a → (test : Bool) → named a.name (either (labelling_of old) link test).labels ≡ named a.name (labelling_of old).labels
   named_by a among true = refl
   named_by a among false =
       filter-append (λ label. nat_eq label.name a.name) (labelling_of old).labels (record { id = link; number = old.next; name = old.next } ∷ [])

@@ -4,3 +4,4 @@ pub mod Labels
 pub mod Maps
 pub mod Fits
 pub mod Entries
+pub mod Work

@@ -1,9 +1,10 @@
 //! What follows from the definitions. These functions run no code: their clauses are the laws.
 
-ghost use Rattle.std.specs.Prelude.{◌≡◌, ◌+◌, ◌≤◌, ◌↔◌, ◌⊎◌, ◌∷◌, ℕ, List, length, Some, IsTrue, IsSome, Contains};
+ghost use Rattle.std.specs.Prelude.{◌≡◌, ◌+◌, ◌*◌, ◌≤◌, ◌↔◌, ◌⊎◌, ◌∷◌, ℕ, List, length, Some, IsTrue, IsSome, Contains};
 ghost use Rattle.nm_base.specs.declared.facts.LinkRow.{LinkRow};
 ghost use Rattle.nm_threads.specs.Labels.{AreLabelsOf, Label, numbered};
 ghost use Rattle.nm_threads.specs.Same.{Same, Touches, is_same, stand_together};
+ghost use Rattle.nm_threads.specs.Work.{Doubles, potential};
 ghost use Rattle.nm_threads.specs.Name.{AreDistinct, thread_name};
 
 /// Every id is of one thread with itself, and with what those of its thread are of one thread with.
@@ -50,4 +51,9 @@ pub fn labels_know_no_order_of_rows()
 pub fn numbers_rise_by_at_most_one_an_id()
     ensures low { (entries : List (List ℕ × ℕ)) (next : ℕ) (ids : List (List ℕ)) → next ≤ (numbered entries next ids).1 }
     ensures high { (entries : List (List ℕ × ℕ)) (next : ℕ) (ids : List (List ℕ)) → (numbered entries next ids).1 ≤ next + length ids }
+{}
+
+/// For any number that rises by one where its argument is doubled, the potential is at most n times that of n, for n ids.
+pub fn the_potential_of_n_ids_is_at_most_n_log_n()
+    ensures { (f : ℕ → ℕ) (labels : List Label) → Doubles f → potential f labels ≤ length labels * f (length labels) }
 {}

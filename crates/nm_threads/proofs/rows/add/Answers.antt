@@ -3,6 +3,7 @@ use Rattle.nm_threads.specs.Labels.{entries_of, numbered}
 use Rattle.nm_threads.specs.Maps.{labelling_of}
 use Rattle.nm_threads.proofs.RowLemmas.{room_first, row_numbers, row_labels, row_room, more_numbers, more_labels, row_ends}
 use Rattle.nm_threads.proofs.StepLemmas.{given_known}
+use Rattle.nm_threads.proofs.WorkLemmas.{potential_given}
 use Rattle.nm_threads.proofs.rows.add.Goals as goal
 
 pub give_number-requires-clause-room : goal.give_number-requires-clause-room
@@ -15,6 +16,7 @@ links-init g c = record {
   labels = row_labels c.args.maps.now c.give_number.new.maps c.args.row.now.id c.as_slice-link-items.result.now c.requires.maps c.in_ok-give_number.ensures.given;
   own = given_known c.args.maps.now c.give_number.new.maps c.args.row.now.id c.in_ok-give_number.ensures.given;
   steps = omega (arith, c.tick.ensures);
+  work = λ f doubles. omega (arith, c.tick.ensures, potential_given f c.args.maps.now c.give_number.new.maps c.requires.maps c.in_ok-give_number.ensures.maps c.args.row.now.id c.in_ok-give_number.ensures.given);
 }
 
 pub add_link-requires-clause-room : goal.add_link-requires-clause-room
@@ -31,6 +33,7 @@ links-preserved g c = record {
       more_labels c.args.maps.now c.links.maps c.args.row.now.id c.as_slice-link-items.result.now c.links.link-index c.links-test.true c.link-item.result (sym c.link-item.is) c.add_link.new.maps c.in_ok-add_link.ensures.links rows (c.links.invariant.labels rows labels);
   own = c.in_ok-add_link.ensures.own;
   steps = omega (arith, c.links.invariant.steps, c.in_ok-add_link.ensures.steps);
+  work = λ f doubles. omega (arith, c.links.invariant.work f doubles, c.in_ok-add_link.ensures.work f doubles);
 }
 
 pub returns-clause-labels : goal.returns-clause-labels

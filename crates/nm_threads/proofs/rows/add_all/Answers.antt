@@ -1,5 +1,5 @@
-use Rattle.std.proofs.Common.{sym}
-use Rattle.nm_threads.proofs.RowLemmas.{rows_room, rows_numbers, rows_labels}
+use Rattle.std.proofs.Common.{sym, arith}
+use Rattle.nm_threads.proofs.RowLemmas.{len_more, rows_room, rows_numbers, rows_labels}
 use Rattle.nm_threads.proofs.rows.add_all.Goals as goal
 
 pub add-requires-clause-room : goal.add-requires-clause-room
@@ -10,5 +10,6 @@ pub rows-preserved : goal.rows-preserved
 rows-preserved g c = record {
   maps = c.in_ok-add.ensures.maps;
   numbers = rows_numbers c.args.maps.now c.rows.maps c.add.new.maps c.args.rows.now c.rows.row-index c.rows-test.true c.row-item.result (sym c.row-item.is) c.rows.invariant.numbers c.in_ok-add.ensures.numbers;
+  work = λ f doubles. omega (arith, c.rows.invariant.work f doubles, c.in_ok-add.ensures.work f doubles, len_more c.args.maps.now c.rows.maps c.add.new.maps c.args.rows.now c.rows.row-index c.rows-test.true c.row-item.result (sym c.row-item.is));
   labels = rows_labels c.args.maps.now c.rows.maps c.add.new.maps c.args.rows.now c.rows.row-index c.rows-test.true c.row-item.result (sym c.row-item.is) c.rows.invariant.labels c.in_ok-add.ensures.labels;
 }

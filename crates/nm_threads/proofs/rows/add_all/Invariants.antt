@@ -1,13 +1,15 @@
-use Rattle.std.proofs.Common.{take}
+use Rattle.std.proofs.Common.{ℕ, ◌+◌, ◌≤◌, length, take}
 use Rattle.std.specs.List.{flat_map}
-use Rattle.nm_threads.specs.Maps.{AreMaps}
+use Rattle.nm_threads.specs.Maps.{AreMaps, labelling_of}
 use Rattle.nm_threads.specs.Same.{ids_of}
 use Rattle.nm_threads.proofs.RowLemmas.{LabelsSoFar, Numbers}
+use Rattle.nm_threads.specs.Work.{Doubles, potential}
 use Rattle.nm_threads.proofs.rows.add_all.Given as goal
 
 abbrev pub invariant-rows : goal.invariant-rows
 invariant-rows g l = record {
   maps : AreMaps l.maps;
   numbers : Numbers l.fn.maps l.maps (flat_map ids_of (take l.row-index l.rows));
+  work : (f : ℕ → ℕ) → Doubles f → l.steps + potential f (labelling_of l.fn.maps).labels ≤ l.fn.steps + length (flat_map ids_of (take l.row-index l.rows)) + potential f (labelling_of l.maps).labels;
   labels : LabelsSoFar l.fn.maps l.maps (take l.row-index l.rows);
 }

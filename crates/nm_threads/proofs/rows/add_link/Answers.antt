@@ -1,6 +1,7 @@
 use Rattle.std.proofs.Common.{arith}
 use Rattle.nm_threads.proofs.RowLemmas.{link_is}
 use Rattle.nm_threads.proofs.StepLemmas.{given_known, join_pays, joined_known, still_known, thread_is, thread_stays}
+use Rattle.nm_threads.proofs.WorkLemmas.{potential_given, join_work}
 use Rattle.nm_threads.proofs.rows.add_link.Goals as goal
 
 pub place_in-first-requires-clause-known : goal.place_in-first-requires-clause-known
@@ -32,4 +33,14 @@ returns-clause-steps g c =
       thread_stays c.args.maps.now c.give_number.new.maps c.requires.maps c.in_ok-give_number.ensures.maps c.args.link.now c.in_ok-give_number.ensures.given c.args.own.now c.requires.own,
       join_pays c.give_number.new.maps c.join.new.maps c.in_ok-give_number.ensures.maps c.in_ok-join.ensures.maps c.args.own.now first.0 c.place_in-first.result.group c.place_in-second.result.group c.place_in-first.result.thread
           c.place_in-second.result.thread first.1 first.2 first.3 c.place_in-second.ensures.3 c.in_ok-join.ensures.labels c.tick.new.self c.join.new.steps c.in_ok-join.ensures.steps,
+    )
+
+pub returns-clause-work : goal.returns-clause-work
+returns-clause-work g c = λ f doubles.
+    omega (
+      arith,
+      c.tick.ensures,
+      potential_given f c.args.maps.now c.give_number.new.maps c.requires.maps c.in_ok-give_number.ensures.maps c.args.link.now c.in_ok-give_number.ensures.given,
+      join_work f doubles c.give_number.new.maps c.join.new.maps c.in_ok-give_number.ensures.maps c.place_in-first.result.group c.place_in-second.result.group c.place_in-first.result.thread c.place_in-second.result.thread c.place_in-first.ensures.3
+          c.place_in-second.ensures.3 c.in_ok-join.ensures.labels c.tick.new.self c.join.new.steps c.in_ok-join.ensures.steps,
     )
