@@ -1,7 +1,5 @@
-//! Bytes on the disk: the program that `bench/structures` and `bench/records` measure. Each line of the standard input asks
-//! for one work, as `shared scattered 1000`, and its line of the standard output tells how much there is at the end.
-//! The plain index: the program that `bench/structures` and `bench/threads` measure. Each line of the standard input asks for one work, as
-//! `shared scattered 1000`, and its line of the standard output tells how much there is at the end.
+//! Bytes on the disk: the program that `bench/structures`, `bench/threads` and `bench/records` measure. Each line of the standard input
+//! asks for one work, as `shared scattered 1000`, and its line of the standard output tells how much there is at the end.
 #![tactic(auto)]
 
 mod journals;

@@ -1,13 +1,10 @@
 //! What each kind of row asks stands in the modules beside this one.
 
-use crate::{commit_rows, journal_rows, snapshot_rows, stop_rows, tag_rows};
+use crate::{commit_rows, journal_rows, snapshot_rows, stop_rows, tag_rows, thread_rows};
 use rows::{Program, Row, RowError};
 use std::alloc::Global;
 
 /// The program that runs the rows on the index.
-use crate::{journal_rows, stop_rows, thread_rows};
-
-/// The program that runs the rows on threads, journals and stops of the disk.
 pub struct Index;
 
 impl Program for Index {

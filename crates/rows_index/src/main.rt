@@ -1,7 +1,5 @@
-//! Searching: the program that runs the rows on the index: journals, stops of the disk, commits, tags and snapshots. The
-//! table stands on the standard input, and the standard output has a line for each row.
-//! Bytes on the disk: the program that runs the rows on threads, journals and stops of the disk. The table stands on the standard
-//! input, and the standard output has a line for each row.
+//! Searching: the program that runs the rows on the index: threads, journals, stops of the disk, commits, tags and snapshots.
+//! The table stands on the standard input, and the standard output has a line for each row.
 #![tactic(auto)]
 
 mod answers;
