@@ -1,0 +1,75 @@
+-- What a commit makes of a disk that a writer stands on.
+use Rattle.std.proofs.Common.{◌≡◌, inl, inr, ℕ, true, List, [], ◌∷◌, ◌++◌, Option, None, Some, IfSome, refl, sym, ap, ◌∙◌, subst}
+use Rattle.std.specs.List.{AllByRecursion}
+use Rattle.nm_commit.specs.Files.{Fits}
+use Rattle.nm_commit.specs.declared.change.Commit.{Commit}
+use Rattle.nm_disk.specs.Calls.{GoesOn}
+use Rattle.nm_disk.specs.Observed.{Moments}
+use Rattle.nm_disk.specs.declared.disk.FileNo.{FileNo}
+use Rattle.nm_disk.specs.declared.disk.FileNo.TheVariants.{Head}
+use Rattle.nm_disk.specs.declared.state.DiskState.{DiskState}
+use Rattle.nm_index.specs.Index.{committed}
+use Rattle.nm_index.specs.declared.base.Base.{Base}
+use Rattle.nm_journal.specs.Journal.{IsBeforeOrAfter, JournalState, StandsOn}
+use Rattle.nm_journal.specs.Moments.{GoesThrough, LeavesOnly}
+use Rattle.nm_journal.specs.Records.{HasRecords}
+use Rattle.nm_record.specs.CommitGrammar.{commit_grammar}
+use Rattle.nm_writer.specs.StoredIndex.{HasCommits, HoldsIndex}
+use Rattle.nm_writer.specs.Writer.{StandsOnIndex, WriterState}
+use Rattle.nm_writer.specs.Writing.{HoldsEither}
+use Rattle.nm_writer.proofs.ReplayLemmas.{commits-more}
+
+-- records of these commits hold the index after them
+holds : (bodies : List (List ℕ)) (commits : List Commit) (index : Base) (bytes : List ℕ) → HasCommits bodies commits index → HasRecords 0 bodies bytes → HoldsIndex bytes index
+holds bodies commits index bytes h records = record {
+  commits = commits;
+  records = subst (λ l. HasRecords 0 l bytes) h.bodies_are records;
+  values = h.values;
+  fit = h.fit;
+  index_is = h.index_is;
+}
+
+either : (bodies : List (List ℕ)) (commits : List Commit) (index : Base) (commit : Commit) (frame bytes : List ℕ) → HasCommits bodies commits index → frame ≡ commit_grammar.bytes commit → commit_grammar.is_value commit ≡ true → Fits index.files commit
+    → IsBeforeOrAfter 0 bodies frame bytes → HoldsEither index commit bytes
+either bodies commits index commit frame bytes h is value fits (inl before) = inl (holds bodies commits index bytes h before)
+either bodies commits index commit frame bytes h is value fits (inr after) =
+    inr (holds (bodies ++ frame ∷ []) (commits ++ commit ∷ []) (committed index commit) bytes (commits-more bodies commits index frame commit (committed index commit) h is value fits refl) after)
+
+each-map : (file : FileNo) (P Q : List ℕ → Type 0) → ((bytes : List ℕ) → P bytes → Q bytes) → (states : List DiskState) → AllByRecursion (LeavesOnly file P) states → AllByRecursion (LeavesOnly file Q) states
+each-map file P Q f [] h = tt
+each-map file P Q f (state ∷ states) h = (λ bytes left. f bytes (h.0 bytes left), each-map file P Q f states h.1)
+
+through-map : (file : FileNo) (P Q : List ℕ → Type 0) (old new : Moments) → ((bytes : List ℕ) → P bytes → Q bytes) → GoesThrough file P old new → GoesThrough file Q old new
+through-map file P Q old new f h = record { states = h.states; each = each-map file P Q f h.states h.each; are = h.are }
+
+-- at every moment of an append the disk holds one of the two indices
+pub any-moment : (old new : Option Moments) (writer : WriterState) (journal : JournalState) (commit : Commit) (frame : List ℕ) → writer.journal ≡ journal → IfSome old (λ m. StandsOnIndex m.present writer)
+    → frame ≡ commit_grammar.bytes commit → commit_grammar.is_value commit ≡ true → Fits writer.shown.files commit
+    → GoesOn (λ o n. (bodies : List (List ℕ)) → StandsOn o.present journal bodies → GoesThrough journal.file (IsBeforeOrAfter journal.start bodies frame) o n) old new
+    → GoesOn (λ o n. GoesThrough Head (HoldsEither writer.shown commit) o n) old new
+any-moment None None writer journal commit frame same stands is value fits h = tt
+any-moment None (Some n) writer journal commit frame same stands is value fits h = h
+any-moment (Some o) None writer journal commit frame same stands is value fits h = h
+any-moment (Some o) (Some n) writer journal commit frame same stands is value fits h =
+    let through : GoesThrough journal.file (IsBeforeOrAfter journal.start stands.bodies frame) o n = h stands.bodies (subst (λ (j : JournalState). StandsOn o.present j stands.bodies) same stands.journal) in
+    let file : journal.file ≡ Head = ap (λ (j : JournalState). j.file) (sym same) ∙ stands.file in
+    let start : journal.start ≡ 0 = ap (λ (j : JournalState). j.start) (sym same) ∙ stands.start in
+    through-map Head (IsBeforeOrAfter 0 stands.bodies frame) (HoldsEither writer.shown commit) o n (λ bytes found. either stands.bodies stands.commits writer.shown commit frame bytes stands.holds is value fits found)
+    (subst (λ (k : ℕ). GoesThrough Head (IsBeforeOrAfter k stands.bodies frame) o n) start (subst (λ (f : FileNo). GoesThrough f (IsBeforeOrAfter journal.start stands.bodies frame) o n) file through))
+
+-- after an append the writer stands on the disk with the commit
+pub stands-after : (old new : Option Moments) (writer after : WriterState) (journal : JournalState) (commit : Commit) (frame : List ℕ) → writer.journal ≡ journal → IfSome old (λ m. StandsOnIndex m.present writer)
+    → frame ≡ commit_grammar.bytes commit → commit_grammar.is_value commit ≡ true → Fits writer.shown.files commit → after.shown ≡ committed writer.shown commit → after.journal.file ≡ journal.file → after.journal.start ≡ journal.start
+    → GoesOn (λ o n. (bodies : List (List ℕ)) → StandsOn o.present journal bodies → StandsOn n.present after.journal (bodies ++ frame ∷ [])) old new
+    → GoesOn (λ o n. StandsOnIndex n.present after) old new
+stands-after None None writer after journal commit frame same stands is value fits made file start h = tt
+stands-after None (Some n) writer after journal commit frame same stands is value fits made file start h = h
+stands-after (Some o) None writer after journal commit frame same stands is value fits made file start h = h
+stands-after (Some o) (Some n) writer after journal commit frame same stands is value fits made file start h = record {
+  bodies = stands.bodies ++ frame ∷ [];
+  commits = stands.commits ++ commit ∷ [];
+  file = file ∙ (ap (λ (j : JournalState). j.file) (sym same) ∙ stands.file);
+  start = start ∙ (ap (λ (j : JournalState). j.start) (sym same) ∙ stands.start);
+  journal = h stands.bodies (subst (λ (j : JournalState). StandsOn o.present j stands.bodies) same stands.journal);
+  holds = commits-more stands.bodies stands.commits writer.shown frame commit after.shown stands.holds is value fits made;
+}

@@ -1,0 +1,100 @@
+-- Replaying one body more.
+use Rattle.std.proofs.Common.{◌≡◌, ℕ, ◌+◌, ◌<◌, ◌^◌, true, zero, suc, List, [], ◌∷◌, ◌++◌, length, min, take, drop, get_or, refl, sym, ap, ◌∙◌, subst, arith, length-append}
+use Rattle.std.proofs.lemmas.List.{map-append, take_more}
+use Rattle.nm_base.specs.Limits.{max_count}
+use Rattle.nm_commit.specs.Files.{Fits}
+use Rattle.nm_commit.specs.declared.change.Commit.{Commit}
+use Rattle.nm_index.specs.Fits.{FitInTurn}
+use Rattle.nm_index.specs.Index.{committed, empty_index, folded}
+use Rattle.nm_index.specs.declared.base.Base.{Base}
+use Rattle.nm_journal.specs.Records.{AreBodies, record_of, records_of}
+use Rattle.nm_record.specs.CommitGrammar.{commit_grammar}
+use Rattle.nm_writer.specs.Opening.{HasBodyFault, IsBadBody, IsToldAt}
+use Rattle.nm_writer.specs.declared.open_error.OpenError.{OpenError}
+use Rattle.nm_writer.specs.declared.open_error.OpenError.TheVariants.{BadIndex, DiskFault, NoMemory}
+use Rattle.nm_writer.specs.StoredIndex.{AreCommits, HasBadBody, HasCommits, IsNoCommit, bodies_of}
+
+fits-more : (index : Base) (commits : List Commit) (commit : Commit) → FitInTurn index commits → Fits (folded index commits).files commit → FitInTurn index (commits ++ commit ∷ [])
+fits-more index [] commit fit here = (here, tt)
+fits-more index (first ∷ commits) commit fit here = (fit.0, fits-more (committed index first) commits commit fit.1 here)
+
+folded-more : (index : Base) (commits : List Commit) (commit : Commit) → folded index (commits ++ commit ∷ []) ≡ committed (folded index commits) commit
+folded-more index [] commit = refl
+folded-more index (first ∷ commits) commit = folded-more (committed index first) commits commit
+
+values-more : (commits : List Commit) (commit : Commit) → AreCommits commits → commit_grammar.is_value commit ≡ true → AreCommits (commits ++ commit ∷ [])
+values-more [] commit values here = (here, tt)
+values-more (first ∷ commits) commit values here = (values.0, values-more commits commit values.1 here)
+
+-- a commit that fits, after those before it
+pub commits-more : (bodies : List (List ℕ)) (commits : List Commit) (index : Base) (body : List ℕ) (commit : Commit) (new : Base) → HasCommits bodies commits index
+    → body ≡ commit_grammar.bytes commit → commit_grammar.is_value commit ≡ true → Fits index.files commit → new ≡ committed index commit → HasCommits (bodies ++ body ∷ []) (commits ++ commit ∷ []) new
+commits-more bodies commits index body commit new h is value fits made = record {
+  bodies_are = ap (λ l. l ++ body ∷ []) h.bodies_are ∙ (ap (λ b. bodies_of commits ++ b ∷ []) is ∙ sym (map-append (λ c. commit_grammar.bytes c) commits (commit ∷ [])));
+  values = values-more commits commit h.values value;
+  fit = fits-more empty_index commits commit h.fit (subst (λ (b : Base). Fits b.files commit) h.index_is fits);
+  index_is = made ∙ (ap (λ (b : Base). committed b commit) h.index_is ∙ sym (folded-more empty_index commits commit));
+}
+
+-- the bodies so far
+abbrev pub Replayed : List (List ℕ) → Base → Type 0
+Replayed bodies index = (commits : List Commit) × HasCommits bodies commits index
+
+pub none-replayed : Replayed [] empty_index
+none-replayed = ([], record { bodies_are = refl; values = tt; fit = tt; index_is = refl })
+
+abbrev pub IsAfter : Base → List ℕ → Base → Type 0
+IsAfter index body new = (commit : Commit) × (body ≡ commit_grammar.bytes commit) × (commit_grammar.is_value commit ≡ true) × Fits index.files commit × (new ≡ committed index commit)
+
+pub replayed-turn : (bodies : List (List ℕ)) (i : ℕ) (body seen : List ℕ) (index new : Base) → i < length bodies → body ≡ get_or bodies i body → seen ≡ body → Replayed (take i bodies) index → IsAfter index seen new → Replayed (take (i + 1) bodies) new
+replayed-turn bodies i body seen index new within is same before after =
+    let front : take (i + 1) bodies ≡ take i bodies ++ body ∷ [] = take_more bodies i body within ∙ ap (λ (b : List ℕ). take i bodies ++ b ∷ []) (sym is) in
+    subst (λ (l : List (List ℕ)). Replayed l new) (sym front)
+    (before.0 ++ after.0 ∷ [], commits-more (take i bodies) before.0 index body after.0 new before.1 (sym same ∙ after.1) after.2 after.3 after.4)
+
+record-length : (body : List ℕ) → length (record_of body) ≡ 5 + length body
+record-length body = omega (arith, length-append {A = ℕ})
+
+records-more : (bodies : List (List ℕ)) (body : List ℕ) → length (records_of (bodies ++ body ∷ [])) ≡ length (records_of bodies) + (5 + length body)
+records-more [] body = omega (arith, record-length body, length-append (record_of body) [])
+records-more (first ∷ bodies) body = omega (arith, length-append (record_of first) (records_of (bodies ++ body ∷ [])), length-append (record_of first) (records_of bodies), records-more bodies body)
+
+body-fits : (bodies : List (List ℕ)) (i : ℕ) (body : List ℕ) → i < length bodies → body ≡ get_or bodies i body → AreBodies bodies → length body < 2 ^ 32
+body-fits [] i body within is fit = absurd (omega arith)
+body-fits (first ∷ bodies) zero body within is fit = subst (λ (b : List ℕ). length b < 2 ^ 32) (sym is) fit.0
+body-fits (first ∷ bodies) (suc i) body within is fit = body-fits bodies i body (omega arith) is fit.1
+
+cut-at : (bodies : List (List ℕ)) (i : ℕ) (body : List ℕ) → i < length bodies → body ≡ get_or bodies i body → bodies ≡ take i bodies ++ body ∷ drop (suc i) bodies
+cut-at [] i body within is = absurd (omega arith)
+cut-at (first ∷ bodies) zero body within is = ap (λ (b : List ℕ). b ∷ bodies) (sym is)
+cut-at (first ∷ bodies) (suc i) body within is = ap (λ (l : List (List ℕ)). first ∷ l) (cut-at bodies i body (omega arith) is)
+
+-- the body after those so far is bad
+pub bad-body : (bodies : List (List ℕ)) (i : ℕ) (body seen : List ℕ) (index : Base) (gate at : ℕ) → i < length bodies → body ≡ get_or bodies i body → seen ≡ body → Replayed (take i bodies) index → gate ≡ min (length (records_of (take i bodies))) max_count
+    → at ≡ gate → (length seen < 2 ^ 32 → IsNoCommit index seen) → AreBodies bodies → HasBadBody bodies at
+bad-body bodies i body seen index gate at within is same before place told bad fit = record {
+  front = take i bodies;
+  body = body;
+  more = drop (suc i) bodies;
+  bodies_are = cut-at bodies i body within is;
+  commits = before.0;
+  index = index;
+  before = before.1;
+  bad = subst (IsNoCommit index) same (bad (subst (λ (b : List ℕ). length b < 2 ^ 32) (sym same) (body-fits bodies i body within is fit)));
+  at_is = told ∙ place;
+}
+
+-- the place of the next gate
+pub gate-turn : (bodies : List (List ℕ)) (i : ℕ) (body : List ℕ) (gate mid next len : ℕ) → i < length bodies → body ≡ get_or bodies i body → gate ≡ min (length (records_of (take i bodies))) max_count
+    → mid ≡ min (gate + 5) max_count → next ≡ min (mid + len) max_count → len ≡ length body → next ≡ min (length (records_of (take (i + 1) bodies))) max_count
+gate-turn bodies i body gate mid next len within is before first second long =
+    let front : take (i + 1) bodies ≡ take i bodies ++ body ∷ [] = take_more bodies i body within ∙ ap (λ (b : List ℕ). take i bodies ++ b ∷ []) (sym is) in
+    let longer : length (records_of (take (i + 1) bodies)) ≡ length (records_of (take i bodies)) + (5 + length body) = ap (λ l. length (records_of l)) front ∙ records-more (take i bodies) body in
+    omega (arith, before, first, second, long, longer)
+
+-- a bad body is told of all bodies
+pub body-fault : (bodies : List (List ℕ)) (i : ℕ) (body seen : List ℕ) (index : Base) (gate : ℕ) (error : OpenError) → i < length bodies → body ≡ get_or bodies i body → seen ≡ body → Replayed (take i bodies) index
+    → gate ≡ min (length (records_of (take i bodies))) max_count → IsBadBody index seen error → IsToldAt gate error → HasBodyFault bodies error
+body-fault bodies i body seen index gate (BadIndex file at) within is same before place bad told = (bad.0, λ fit. bad-body bodies i body seen index gate at within is same before place told bad.1 fit)
+body-fault bodies i body seen index gate DiskFault within is same before place bad told = absurd bad
+body-fault bodies i body seen index gate NoMemory within is same before place bad told = tt

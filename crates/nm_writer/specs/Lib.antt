@@ -1,0 +1,5 @@
+pub mod Errors
+pub mod Opening
+pub mod StoredIndex
+pub mod Writer
+pub mod Writing

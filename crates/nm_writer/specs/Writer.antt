@@ -1,0 +1,26 @@
+-- A writer, and what it means that it stands on a disk.
+use Rattle.std.specs.Prelude.{◌≡◌, ℕ, List, Option}
+use Rattle.nm_commit.specs.declared.change.Commit.{Commit}
+use Rattle.nm_disk.specs.declared.disk.FileNo.TheVariants.{Head}
+use Rattle.nm_disk.specs.declared.state.DiskState.{DiskState}
+use Rattle.nm_index.specs.declared.base.Base.{Base}
+use Rattle.nm_journal.specs.Journal.{JournalState, StandsOn}
+use Rattle.nm_writer.specs.StoredIndex.{HasCommits}
+
+-- the journal, the index shown, the commits begun since the opening, the clocks of those acknowledged, and the faults of the disk
+-- when it closed
+pub record WriterState : Type 0 where
+  pub journal : JournalState
+  pub shown : Base
+  pub begun : List Commit
+  pub acked : List ℕ
+  pub closed : Option ℕ
+
+-- whatever a stop leaves has records of these commits, and the index shown is the one after them
+pub record StandsOnIndex (state : DiskState) (writer : WriterState) : Type 0 where
+  pub bodies : List (List ℕ)
+  pub commits : List Commit
+  pub file : writer.journal.file ≡ Head
+  pub start : writer.journal.start ≡ 0
+  pub journal : StandsOn state writer.journal bodies
+  pub holds : HasCommits bodies commits writer.shown

@@ -1,0 +1,93 @@
+//! One commit, which every command makes so.
+
+ghost use Rattle.std.specs.Prelude.{◌≡◌, ◌<◌, ◌^◌, true, length, IfErr, IfOk, IfSome, None, OnOk};
+ghost use Rattle.nm_commit.specs.Files.{Fits};
+ghost use Rattle.nm_disk.specs.Calls.{GoesOn};
+ghost use Rattle.nm_faults.specs.Faults.{HasCauseOf};
+ghost use Rattle.nm_index.specs.Index.{committed};
+ghost use Rattle.nm_journal.specs.Moments.{GoesThrough};
+ghost use Rattle.nm_record.specs.CommitGrammar.{commit_grammar};
+ghost use Rattle.nm_writer.specs.Writer.{StandsOnIndex};
+ghost use Rattle.nm_writer.specs.Writing.{HoldsEither, IsAfterCommit, IsPreparing, is_write_fault};
+
+use crate::replaying::apply;
+use crate::{WriteError, Writer};
+use nm_base::Limit;
+use nm_commit::Commit;
+use nm_disk::{Disk, DiskFault, FileNo};
+use nm_journal::Frame;
+use nm_record::commit_bytes;
+use nm_state::Snapshot;
+use std::alloc::Global;
+
+/// The most commits of a session.
+const MAX_COMMITS: usize = 65_536;
+
+/// The most bytes of a commit.
+const MAX_COMMIT_BYTES: usize = 1_073_741_824;
+
+impl Writer {
+    /// Makes one commit: all memory first, then the record on the disk, then the index after it is shown.
+    pub fn commit<D: Disk>(&mut self, disk: &mut D, commit: Commit) -> Result<(), WriteError>
+        requires open { self.old.closed ≡ None }
+        requires fits { Fits self.old.shown.files commit }
+        requires value { commit_grammar.is_value commit ≡ true }
+        requires size { length (commit_grammar.bytes commit) < 2 ^ 32 }
+        requires stands { IfSome (D.observed disk.old).told (λ moments. StandsOnIndex moments.present self.old) }
+
+        ensures after { IsAfterCommit self.old commit (D.observed disk.new).clock (D.observed disk.new).faults result self.new }
+
+        // Once it is made, whatever a stop leaves holds the index that is shown.
+        ensures stands { GoesOn (λ old new. OnOk result (StandsOnIndex new.present self.new))
+            (D.observed disk.old).told (D.observed disk.new).told }
+
+        // At every moment of the call a stop leaves the index from before, or the one with the commit.
+        ensures any_moment { GoesOn (λ old new. GoesThrough FileNo.Head (HoldsEither self.old.shown commit) old new)
+            (D.observed disk.old).told (D.observed disk.new).told }
+
+        ensures cause { HasCauseOf is_write_fault (D.observed disk.old).faults (D.observed disk.new).faults result }
+    {
+        let made = self.begun.as_slice().len();
+        let (frame, next) = prepared(self.alloc, made, &self.shown, &commit)?;
+        self.begun.reserve(1)?;
+        self.acked.reserve(1)?;
+        match self.journal.append(disk, &frame) {
+            Ok(receipt) => {
+                self.begun.push_spare(commit);
+                self.acked.push_spare(receipt.clock());
+                self.shown = next;
+                Ok(())
+            }
+            Err(DiskFault) => {
+                self.begun.push_spare(commit);
+                self.closed = Some(disk.faults());
+                Err(WriteError::DiskFault)
+            }
+        }
+    }
+}
+
+/// The record of the commit, and the snapshot after it. `made` is how many commits were begun before.
+fn prepared(
+    alloc: Global,
+    made: usize,
+    shown: &Snapshot,
+    commit: &Commit,
+) -> Result<(Frame, Snapshot), WriteError>
+    requires fits { Fits shown.now.files commit.now }
+    requires size { length (commit_grammar.bytes commit.now) < 2 ^ 32 }
+    ensures frame { IfOk result (λ prepared. prepared.0 ≡ commit_grammar.bytes commit.now) }
+    ensures next { IfOk result (λ prepared. prepared.1 ≡ committed shown.now commit.now) }
+    ensures limits { IfErr result (IsPreparing made commit.now) }
+{
+    if made >= MAX_COMMITS {
+        return Err(WriteError::Limit(Limit::Commits));
+    }
+    let body = commit_bytes(alloc, commit)?;
+    if body.len() > MAX_COMMIT_BYTES {
+        return Err(WriteError::Limit(Limit::CommitBytes));
+    }
+    let next = apply(shown, commit)?;
+    let frame = Frame::new(alloc, &body)?;
+    Ok((frame, next))
+}

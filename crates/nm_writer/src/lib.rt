@@ -1,0 +1,12 @@
+//! Committing and publishing: the writer, which opens the index that a disk holds, and keeps it there commit by commit.
+#![tactic(auto)]
+
+mod committing;
+mod open_error;
+mod replaying;
+mod write_error;
+mod writer;
+
+pub use open_error::OpenError;
+pub use write_error::WriteError;
+pub use writer::Writer;

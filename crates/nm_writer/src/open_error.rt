@@ -1,0 +1,44 @@
+//! Why an index can't be opened.
+
+use nm_base::NoMemory;
+use nm_disk::FileNo;
+use nm_journal::JournalError;
+use thiserror::Error;
+
+/// Why an index can't be opened.
+#[derive(Debug, Drop, PartialEq, Eq, Error)]
+pub enum OpenError {
+    #[error("disk fault")]
+    DiskFault,
+    /// The file holds no index; from this place on.
+    #[error("bad index")]
+    BadIndex { file: FileNo, at: u64 },
+    #[error("no memory")]
+    NoMemory,
+}
+
+impl From<NoMemory> for OpenError {
+    ghost use Rattle.std.specs.Prelude.{◌≡◌};
+    ghost use Rattle.nm_writer.specs.declared.open_error.OpenError.TheVariants.{NoMemory as Wanted};
+
+    ghost from_gives = { λ _ e. e ≡ Wanted };
+
+    fn from(_: NoMemory) -> OpenError {
+        OpenError::NoMemory
+    }
+}
+
+impl From<JournalError> for OpenError {
+    ghost use Rattle.std.specs.Prelude.{◌≡◌};
+    ghost use Rattle.nm_writer.specs.Errors.{of_journal};
+
+    ghost from_gives = { λ error e. e ≡ of_journal error };
+
+    fn from(error: JournalError) -> OpenError {
+        match error {
+            JournalError::DiskFault => OpenError::DiskFault,
+            JournalError::BadIndex { file, at } => OpenError::BadIndex { file, at },
+            JournalError::NoMemory => OpenError::NoMemory,
+        }
+    }
+}

@@ -1,0 +1,81 @@
+//! The index that the bodies of records leave, one commit after the other; opening replays them.
+
+ghost use Rattle.std.specs.Prelude.{◌≡◌, ◌+◌, ◌<◌, ◌≤◌, ◌^◌, true, IfErr, IfOk, IfSome, IsTrue, List};
+ghost use Rattle.nm_commit.specs.Files.{Fits};
+ghost use Rattle.nm_commit.specs.declared.change.Commit.{Commit};
+ghost use Rattle.nm_index.specs.Index.{committed};
+ghost use Rattle.nm_record.specs.CommitGrammar.{commit_grammar};
+ghost use Rattle.nm_writer.specs.Opening.{HasBodyFault, IsBadBody, IsToldAt, IsUnfit};
+ghost use Rattle.nm_writer.specs.StoredIndex.{HasCommits};
+
+use crate::OpenError;
+use nm_base::{Many, NoMemory};
+use nm_codec::ReadError;
+use nm_commit::Commit;
+use nm_disk::FileNo;
+use nm_record::read_commit;
+use nm_state::Snapshot;
+use std::alloc::Global;
+
+/// The snapshot after the commits that the bodies spell.
+pub(crate) fn replayed(alloc: Global, bodies: &[Many<u8>]) -> Result<Snapshot, OpenError>
+    ensures ok { IfOk result (λ snapshot. (commits : List Commit) × HasCommits bodies.now commits snapshot) }
+    ensures bad { IfErr result (HasBodyFault bodies.now) }
+{
+    let mut snapshot = Snapshot::empty(alloc);
+    let mut gate = 0u64;
+    'bodies: for body in bodies {
+        snapshot = replay_one(alloc, &snapshot, body.as_slice(), gate)?;
+        gate = gate.saturating_add(5).saturating_add(body.len() as u64);
+    }
+    Ok(snapshot)
+}
+
+/// The snapshot after the commit that the body spells. A bad body is told at `gate`.
+fn replay_one(
+    alloc: Global,
+    snapshot: &Snapshot,
+    body: &[u8],
+    gate: u64,
+) -> Result<Snapshot, OpenError>
+    ensures ok { IfOk result (λ new. (commit : Commit) × (body.now ≡ commit_grammar.bytes commit) × (commit_grammar.is_value commit ≡ true)
+        × Fits snapshot.now.files commit × (new ≡ committed snapshot.now commit)) }
+    ensures bad { IfErr result (IsBadBody snapshot.now body.now) }
+    ensures gate { IfErr result (IsToldAt gate) }
+{
+    match read_commit(alloc, body) {
+        Ok(commit) => apply_read(snapshot, &commit, gate),
+        Err(ReadError::Bad { .. }) => Err(OpenError::BadIndex {
+            file: FileNo::Head,
+            at: gate,
+        }),
+        Err(ReadError::NoMemory) => Err(OpenError::NoMemory),
+    }
+}
+
+/// The snapshot after a commit, where it fits. Numbers that would pass 2^63, which no disk can hold, are told as no memory.
+fn apply_read(snapshot: &Snapshot, commit: &Commit, gate: u64) -> Result<Snapshot, OpenError>
+    ensures ok { IfOk result (λ new. Fits snapshot.now.files commit.now × (new ≡ committed snapshot.now commit.now)) }
+    ensures bad { IfErr result (IsUnfit snapshot.now commit.now) }
+    ensures gate { IfErr result (IsToldAt gate) }
+{
+    if !snapshot.fits(commit)? {
+        return Err(OpenError::BadIndex {
+            file: FileNo::Head,
+            at: gate,
+        });
+    }
+    let next = apply(snapshot, commit)?;
+    Ok(next)
+}
+
+/// The snapshot after a commit that fits. Numbers that would pass 2^63 are told as no memory.
+pub(crate) fn apply(snapshot: &Snapshot, commit: &Commit) -> Result<Snapshot, NoMemory>
+    requires fits { Fits snapshot.now.files commit.now }
+    ensures { IfOk result (λ new. new ≡ committed snapshot.now commit.now) }
+{
+    if !snapshot.has_numbers(commit) {
+        return Err(NoMemory);
+    }
+    snapshot.apply(commit)
+}

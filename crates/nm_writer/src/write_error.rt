@@ -1,0 +1,27 @@
+//! Why a commit was not made.
+
+use nm_base::{Limit, NoMemory};
+use thiserror::Error;
+
+/// Why a commit was not made.
+#[derive(Clone, Copy, Debug, PartialEq, Eq, Error)]
+pub enum WriteError {
+    /// The disk failed: it may hold the commit or not, and the writer is closed.
+    #[error("disk fault")]
+    DiskFault,
+    #[error("a limit is passed")]
+    Limit(Limit),
+    #[error("no memory")]
+    NoMemory,
+}
+
+impl From<NoMemory> for WriteError {
+    ghost use Rattle.std.specs.Prelude.{◌≡◌};
+    ghost use Rattle.nm_writer.specs.declared.write_error.WriteError.TheVariants.{NoMemory as Wanted};
+
+    ghost from_gives = { λ _ e. e ≡ Wanted };
+
+    fn from(_: NoMemory) -> WriteError {
+        WriteError::NoMemory
+    }
+}

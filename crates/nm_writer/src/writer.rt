@@ -1,0 +1,108 @@
+//! The writer of an index on a disk.
+
+ghost use Rattle.std.specs.Prelude.{◌≡◌, [], false, IfErr, IfOk, IfSome, List, None};
+ghost use Rattle.nm_disk.specs.Calls.{GoesOn};
+ghost use Rattle.nm_disk.specs.Images.{MayLeave};
+ghost use Rattle.nm_disk.specs.Observed.{bytes_now};
+ghost use Rattle.nm_faults.specs.Faults.{HasCauseOf};
+ghost use Rattle.nm_journal.specs.Moments.{GoesThrough};
+ghost use Rattle.nm_writer.specs.Opening.{HasOpenFault, is_disk_fault};
+ghost use Rattle.nm_writer.specs.StoredIndex.{HoldsIndex};
+ghost use Rattle.nm_writer.specs.Writer.{StandsOnIndex};
+
+use crate::OpenError;
+use crate::replaying::replayed;
+use nm_base::Room;
+use nm_commit::Commit;
+use nm_disk::{Disk, FileNo};
+use nm_journal::Journal;
+use nm_state::Snapshot;
+use std::alloc::Global;
+use std::marker::Model;
+
+/// The index that a disk holds, and the journal that it is kept in.
+pub struct Writer {
+    pub(crate) alloc: Global,
+    pub(crate) journal: Journal,
+    pub(crate) shown: Snapshot,
+    /// The commits begun since the opening.
+    pub(crate) begun: Room<Commit>,
+    /// Of each that was acknowledged, the clock of the disk at that moment.
+    pub(crate) acked: Room<u64>,
+    /// The faults of the disk when it failed.
+    pub(crate) closed: Option<u64>,
+}
+
+impl Model for Writer {
+    ghost use Rattle.std.specs.Prelude.{◌≡◌, None, false};
+    ghost use Rattle.nm_writer.specs.Writer.{WriterState};
+
+    ghost Value = { WriterState };
+
+    ghost view = { λ w. record { journal = w.journal; shown = w.shown; begun = w.begun.0; acked = w.acked.0; closed = w.closed } };
+
+    ghost invariant = { λ w. w.closed ≡ None → w.journal.failed ≡ false };
+}
+
+impl Drop for Writer {
+    fn drop(self) {
+        let Writer {
+            alloc: _,
+            journal: _,
+            shown: _,
+            begun: _,
+            acked: _,
+            closed: _,
+        } = self;
+    }
+}
+
+impl Writer {
+    /// Opens the index that the head file holds: a fresh disk holds the empty one. The disk is synced first.
+    pub fn open<D: Disk>(alloc: Global, disk: &mut D) -> Result<Writer, OpenError>
+        // The index shown is that which a read gives.
+        ensures index { GoesOn (λ old new. IfOk result (λ writer. HoldsIndex (bytes_now old FileNo.Head) writer.shown))
+            (D.observed disk.old).told (D.observed disk.new).told }
+
+        // And so it is whatever a stop leaves from then on.
+        ensures stands { GoesOn (λ old new. IfOk result (λ writer. StandsOnIndex new.present writer))
+            (D.observed disk.old).told (D.observed disk.new).told }
+
+        ensures fresh { IfOk result (λ writer. (writer.begun ≡ []) × (writer.acked ≡ []) × (writer.closed ≡ None)) }
+
+        // A bad index is told only where what a read gives is none, and then at the stated place.
+        ensures bad { GoesOn (λ old new. IfErr result (HasOpenFault (bytes_now old FileNo.Head)))
+            (D.observed disk.old).told (D.observed disk.new).told }
+
+        // At every moment of the call a stop leaves only what it might have left before.
+        ensures any_moment { GoesOn (λ old new. GoesThrough FileNo.Head (MayLeave old.present FileNo.Head) old new)
+            (D.observed disk.old).told (D.observed disk.new).told }
+
+        ensures cause { HasCauseOf is_disk_fault (D.observed disk.old).faults (D.observed disk.new).faults result }
+    {
+        let (journal, bodies) = Journal::open(alloc, disk, FileNo::Head, 0)?;
+        let shown = replayed(alloc, bodies.as_slice())?;
+        Ok(Writer {
+            alloc,
+            journal,
+            shown,
+            begun: Room::new(alloc),
+            acked: Room::new(alloc),
+            closed: None,
+        })
+    }
+
+    /// The index after all commits that were acknowledged.
+    pub fn snapshot(&self) -> &Snapshot
+        ensures { result.now ≡ self.now.shown }
+    {
+        &self.shown
+    }
+
+    /// For each commit that was acknowledged since the opening, in order, the clock of the disk at that moment.
+    pub fn acked(&self) -> &[u64]
+        ensures { result.now ≡ self.now.acked }
+    {
+        self.acked.as_slice()
+    }
+}
