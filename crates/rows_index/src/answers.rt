@@ -1,6 +1,6 @@
 //! What each kind of row asks stands in the modules beside this one.
 
-use crate::{commit_rows, journal_rows, snapshot_rows, stop_rows, tag_rows, thread_rows};
+use crate::{commit_rows, index_rows, journal_rows, snapshot_rows, stop_rows, tag_rows, thread_rows};
 use rows::{Program, Row, RowError};
 use std::alloc::Global;
 
@@ -15,6 +15,7 @@ impl Program for Index {
             b"stops" => stop_rows::stops(alloc, row),
             b"snapshot" => snapshot_rows::answered(alloc, row),
             b"faults" => stop_rows::faults(alloc, row),
+            b"index" => index_rows::opened(alloc, row),
             b"commits" => commit_rows::commits(alloc, row),
             b"tags" => tag_rows::operations(alloc, row),
             b"written tags" => tag_rows::written(alloc, row),

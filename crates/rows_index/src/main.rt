@@ -6,6 +6,7 @@ mod answers;
 mod commit_lines;
 mod commit_rows;
 mod disks;
+mod index_rows;
 mod journal_rows;
 mod snapshot_rows;
 mod stop_rows;

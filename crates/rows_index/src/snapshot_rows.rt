@@ -40,7 +40,8 @@ fn after(snapshot: &Snapshot, commit: &Commit) -> Result<Option<Snapshot>, RowEr
     Ok(Some(snapshot.apply(commit)?))
 }
 
-fn told(alloc: Global, snapshot: &Snapshot, what: &[u8]) -> Result<Vec<u8>, RowError> {
+/// What the snapshot answers to the word.
+pub fn told(alloc: Global, snapshot: &Snapshot, what: &[u8]) -> Result<Vec<u8>, RowError> {
     let mut lines = Lines::new(alloc);
     match what {
         b"threads" => push_threads(alloc, &mut lines, snapshot)?,

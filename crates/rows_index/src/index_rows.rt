@@ -1,0 +1,37 @@
+//! Rows on the index that a disk holds: what is opened where these are the bodies of its records.
+
+use crate::disks::fresh;
+use crate::journal_rows::{append_all, push_number};
+use crate::snapshot_rows::told;
+use nm_disk::Disk;
+use nm_writer::{OpenError, Writer};
+use rows::{Lines, Row, RowError};
+use std::alloc::Global;
+
+/// What the index that is opened answers to what stands behind `?`, or the place of the bad record.
+pub fn opened(alloc: Global, row: &Row<'_>) -> Result<Vec<u8>, RowError> {
+    let mut disk = fresh(alloc)?;
+    append_all(alloc, &mut disk, row)?;
+    found(alloc, &mut disk, row)
+}
+
+fn found<D: Disk>(alloc: Global, disk: &mut D, row: &Row<'_>) -> Result<Vec<u8>, RowError> {
+    match Writer::open(alloc, disk) {
+        Ok(writer) => answered(alloc, &writer, row),
+        Err(OpenError::BadIndex { at, .. }) => bad_at(alloc, at),
+        Err(OpenError::DiskFault) => Ok(b"disk fault".to_vec(alloc)?),
+        Err(OpenError::NoMemory) => Err(RowError::NoMemory),
+    }
+}
+
+fn answered(alloc: Global, writer: &Writer, row: &Row<'_>) -> Result<Vec<u8>, RowError> {
+    let asked = row.text(alloc, b"?")?;
+    told(alloc, writer.snapshot(), asked.as_slice())
+}
+
+fn bad_at(alloc: Global, at: u64) -> Result<Vec<u8>, RowError> {
+    let mut lines = Lines::new(alloc);
+    lines.line(b"bad at ")?;
+    push_number(alloc, &mut lines, at)?;
+    Ok(lines.into_bytes())
+}
