@@ -48,7 +48,7 @@ fn add_uncounted<L: Ledger>(
     ensures labels { OnOk result ((rows : List LinkRow) → AreLabelsOf rows labels.old.labels → AreLabelsOf (row.now ∷ rows) labels.new.labels) }
 {
     let mut steps = Steps::<L>::begin(blank);
-    labels.add_row(row, &mut steps)
+    labels.add_row_in_place(row, &mut steps)
 }
 
 /// The row of a mail: its id, and the ids that it links to.

@@ -22,6 +22,7 @@ use crate::rows::{add, add_all};
 use nm_base::{Copies, LinkRow, Many, MessageId, NoMemory, Steps};
 use std::alloc::Global;
 use std::marker::{Brand, Model};
+use std::mem;
 use std::sync::ledger::{Blank, Ledger};
 
 /// Labels of ids. A contract sees each id with its number and the name of its thread, and the number that comes next.
@@ -148,6 +149,25 @@ impl Labels {
         ensures err { OnErr result (self.new ≡ self.old) }
     {
         let mut maps = self.maps.share()?;
+        add(self.alloc, &mut maps, row, steps)?;
+        self.maps = maps;
+        Ok(())
+    }
+
+    /// The same without a second handle on what was there, for far less work at many rows one by one. Where there was no
+    /// memory all labels are lost.
+    pub fn add_row_in_place<L: Ledger>(
+        &mut self,
+        row: &LinkRow,
+        steps: &mut Steps<L>,
+    ) -> Result<(), NoMemory>
+        requires { (numbered (entries_of self.old.labels) self.old.next (ids_of row.now)).1 ≤ 2 ^ 63 }
+        ensures numbers { OnOk result ((entries_of self.new.labels, self.new.next) ≡ numbered (entries_of self.old.labels) self.old.next (ids_of row.now)) }
+        ensures labels { OnOk result ((rows : List LinkRow) → AreLabelsOf rows self.old.labels → AreLabelsOf (row.now ∷ rows) self.new.labels) }
+        ensures steps { OnOk result (steps.new ≤ steps.old + length (ids_of row.now) + thread_len row.now.id self.new.labels) }
+        ensures err { OnErr result (self.new.labels ≡ []) }
+    {
+        let mut maps = mem::replace(&mut self.maps, Maps::new(self.alloc));
         add(self.alloc, &mut maps, row, steps)?;
         self.maps = maps;
         Ok(())
