@@ -8,6 +8,5 @@ mod laws;
 pub use base::Base;
 pub use laws::{
     files_follow_their_changes, files_follow_their_commits, numbers_never_fall,
-    numbers_rise_with_the_ids_named,
-    tags_of_others_stay, the_revision_counts_the_commits,
+    numbers_rise_with_the_ids_named, tags_of_others_stay, the_revision_counts_the_commits,
 };

@@ -5,8 +5,8 @@ ghost use Rattle.nm_log.specs.ParsedLine.{parse_line, parse_command, parse_count
 ghost use Rattle.nm_log.specs.Words.{words_of};
 
 use crate::words::next_word;
-use nm_base::{CountAsk, NoMemory, Output, Text, UsageKind};
 use nm_answer::Request;
+use nm_base::{CountAsk, NoMemory, Output, Text, UsageKind};
 use nm_core::is_subject_query;
 use std::alloc::Global;
 

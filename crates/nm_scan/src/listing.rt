@@ -13,10 +13,7 @@ use nm_maildir::{MailError, Maildir};
 use std::alloc::Global;
 
 /// The paths of the mail in the folders `new` and `cur`.
-pub fn list_paths<M: Maildir>(
-    alloc: Global,
-    mail: &mut M,
-) -> Result<TextSet<MailPath>, MailError>
+pub fn list_paths<M: Maildir>(alloc: Global, mail: &mut M) -> Result<TextSet<MailPath>, MailError>
     ensures listed { IfOk result (λ paths. IfSome (M.observed mail.old).tree (λ t. paths ≡ listed_of t)) }
     ensures tree { (M.observed mail.new).tree ≡ (M.observed mail.old).tree }
     ensures reads { (M.observed mail.new).reads ≡ (M.observed mail.old).reads }

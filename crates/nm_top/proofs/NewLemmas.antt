@@ -132,8 +132,8 @@ paths-length [] = refl
 paths-length (file ∷ files) = ap suc (paths-length files)
 
 module _ (fits : (index : Base) (listed : List (List ℕ)) (arrivals : List (List ℕ × Facts)) → AreArrivals index.files arrivals → FitInTurn index (new_commits index.files listed arrivals))
-         (after_new : (index : Base) (listed : List (List ℕ)) (arrivals : List (List ℕ × Facts)) → (folded index (new_commits index.files listed arrivals)).files ≡ files_after_new index.files listed arrivals)
-         (counts : (index : Base) (commits : List Commit) → (folded index commits).revision ≡ index.revision + length commits) where
+    (after_new : (index : Base) (listed : List (List ℕ)) (arrivals : List (List ℕ × Facts)) → (folded index (new_commits index.files listed arrivals)).files ≡ files_after_new index.files listed arrivals)
+    (counts : (index : Base) (commits : List Commit) → (folded index commits).revision ≡ index.revision + length commits) where
   -- what is held after what has come and what is gone stands for the index after their commits
   new-stands : (known listed : List (List ℕ)) (arrivals : List (List ℕ × Facts)) (noted : List Given) (held new_held : PlainIndex) (old : Base) (done : LineResult)
       → Represents held old → known ≡ in_order (paths_of old.files) → AppliesScan known listed arrivals noted held new_held done → Represents new_held (folded old (commits_with known listed arrivals))

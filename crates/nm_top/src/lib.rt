@@ -13,7 +13,7 @@ mod steps;
 mod top_call;
 
 pub use nm_answer::Request;
-pub use nm_machine::Step;
 pub use nm_log::{Done, LineLog, Outcome, SessionLog, Setting};
+pub use nm_machine::Step;
 pub use nm_maildir::{Given, ReadAnswer};
 pub use top_call::notmuch;

@@ -14,11 +14,11 @@ ghost use Rattle.nm_top.specs.Steps.{IsLineAnswer, Leaves, max_steps};
 use crate::index::{Mail, PlainIndex};
 use crate::new::run_new;
 use crate::steps::{LineResult, reply_step};
-use nm_base::{CountAsk, Many, NoMemory, Room, Text, UsageKind};
 use nm_answer::Request;
+use nm_base::{CountAsk, Many, NoMemory, Room, Text, UsageKind};
 use nm_core::count_text;
-use nm_machine::Step;
 use nm_log::{LineLog, Outcome, ParsedLine, ScriptLine, line_status, parse_line, usage_text};
+use nm_machine::Step;
 use nm_maildir::{Given, Maildir};
 use std::alloc::Global;
 

@@ -7,11 +7,11 @@ ghost use Rattle.nm_plan.specs.Plan.{add_of, commit_of, drop_of};
 ghost use Rattle.nm_top.specs.Steps.{max_steps};
 
 use crate::index::Mail;
+use nm_answer::Request;
 use nm_base::{Copies, MailPath, Many, NoMemory};
 use nm_commit::{Change, Commit};
-use nm_answer::Request;
-use nm_machine::Step;
 use nm_log::Outcome;
+use nm_machine::Step;
 use std::alloc::Global;
 
 /// What came of a line: how it ended, what it says, and the steps that it took.

@@ -1,6 +1,8 @@
 //! What each kind of row asks stands in the modules beside this one.
 
-use crate::{commit_rows, index_rows, journal_rows, snapshot_rows, stop_rows, tag_rows, thread_rows};
+use crate::{
+    commit_rows, index_rows, journal_rows, snapshot_rows, stop_rows, tag_rows, thread_rows,
+};
 use rows::{Program, Row, RowError};
 use std::alloc::Global;
 

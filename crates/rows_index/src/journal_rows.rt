@@ -27,11 +27,7 @@ pub fn written(alloc: Global, row: &Row<'_>) -> Result<Vec<u8>, RowError> {
 }
 
 /// Appends the body of each line `|`, and answers how many bytes the records and the last gate have.
-pub fn append_all<D: Disk>(
-    alloc: Global,
-    disk: &mut D,
-    row: &Row<'_>,
-) -> Result<usize, RowError> {
+pub fn append_all<D: Disk>(alloc: Global, disk: &mut D, row: &Row<'_>) -> Result<usize, RowError> {
     let mut len = 1usize;
     'bodies: for line in row.lines.as_slice() {
         if line.mark == b"|".as_slice() {

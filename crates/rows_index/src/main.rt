@@ -1,4 +1,4 @@
-//! Searching: the program that runs the rows on the index: threads, journals, stops of the disk, commits, tags and snapshots.
+//! Committing and publishing: the program that runs the rows on the index: threads, journals, stops of the disk, commits, tags and snapshots.
 //! The table stands on the standard input, and the standard output has a line for each row.
 #![tactic(auto)]
 
