@@ -1,11 +1,9 @@
 -- The index after the commits of a `new`: what has come stands behind what was there, and what is gone is away.
-use Rattle.std.proofs.Common.{◌≡◌, ℕ, ◌+◌, ◌<◌, ◌==◌, Bool, true, false, ◌||◌, ◌&&◌, not, cond, List, [], ◌∷◌, ◌++◌, length, map, filter, fold, suc, refl, sym, ap, ◌∙◌, append-nil, append_assoc, arith}
-use Rattle.std.specs.Cmp.Lexicographic.{nat_list_eq_equiv}
-use Rattle.nm_base.specs.Order.{has_text, in_order, same_text}
+use Rattle.std.proofs.Common.{◌≡◌, ℕ, ◌+◌, ◌<◌, ◌==◌, Bool, false, ◌&&◌, not, cond, List, [], ◌∷◌, ◌++◌, length, map, filter, fold, suc, refl, sym, ap, ◌∙◌, arith}
+use Rattle.nm_base.specs.Order.{has_text, in_order}
 use Rattle.nm_base.specs.declared.facts.Facts.{Facts}
 use Rattle.nm_commit.specs.Files.{paths_of}
 use Rattle.nm_commit.specs.declared.change.Change.{Change}
-use Rattle.nm_commit.specs.declared.change.Commit.{Commit}
 use Rattle.nm_answer.specs.NewText.{gone}
 use Rattle.nm_plan.specs.Plan.{add_of, commit_of, drop_of, files_after_new, new_commits}
 use Rattle.nm_top.specs.Steps.{commits_for, commits_with, gone_of, kept}

@@ -1,11 +1,10 @@
 -- The steps of a session are a run of the machine of commits and replies.
-use Rattle.std.proofs.Common.{◌≡◌, ℕ, ℤ, ◌+◌, ◌<◌, Bool, true, false, ◌&&◌, ◌||◌, not, cond, codes, IsTrue, List, [], ◌∷◌, ◌++◌, None, Some, length, slice_index, slice_set, refl, sym, ap, ◌∙◌, subst, arith}
+use Rattle.std.proofs.Common.{◌≡◌, ℕ, ℤ, ◌+◌, ◌<◌, Bool, true, false, ◌&&◌, ◌||◌, not, cond, codes, List, [], ◌∷◌, ◌++◌, None, Some, length, slice_index, slice_set, refl, sym, ap, ◌∙◌, subst, arith}
 use Rattle.std.specs.List.{flat_map}
 use Rattle.std.specs.Cmp.Lexicographic.{nat_list_eq_equiv}
 use Rattle.std.specs.Str.{is_utf8}
 use Rattle.std.proofs.lemmas.List.{length-append, length-replicate, take_all, get_or-set_same, length-set}
 use Rattle.nm_base.specs.Order.{same_text}
-use Rattle.nm_base.specs.declared.facts.Facts.{Facts}
 use Rattle.nm_base.specs.declared.refusals.UsageKind.TheVariants as kinds
 use Rattle.nm_base.specs.declared.asks.CountAsk.{CountAsk}
 use Rattle.nm_answer.specs.declared.request.Request.{Request}

@@ -5,7 +5,7 @@ use Rattle.std.specs.Prelude.{IfOk, Result, Ok, Err}
 use Rattle.nm_base.specs.declared.memory.NoMemory.{NoMemory}
 use Rattle.nm_base.specs.Order.{has_text, in_order}
 use Rattle.nm_base.specs.declared.facts.Facts.{Facts}
-use Rattle.nm_commit.specs.Files.{files_after, paths_of}
+use Rattle.nm_commit.specs.Files.{paths_of}
 use Rattle.nm_index.specs.Index.{folded}
 use Rattle.nm_index.specs.declared.base.Base.{Base}
 use Rattle.nm_commit.specs.declared.change.Commit.{Commit}
@@ -13,7 +13,6 @@ use Rattle.nm_maildir.specs.Tree.{Tree}
 use Rattle.nm_maildir.specs.declared.given.Given.{Given}
 use Rattle.nm_maildir.specs.declared.given.Given.TheVariants as given
 use Rattle.nm_maildir.specs.declared.given.ReadAnswer.{ReadAnswer}
-use Rattle.nm_base.specs.declared.refusals.Skip.{Skip}
 use Rattle.nm_answer.specs.declared.request.Request.TheVariants as requests
 use Rattle.nm_answer.specs.NewText.{gone, mail_given, new_text, listed_in, only_in, skip_given}
 use Rattle.nm_log.specs.declared.line_parser.ParsedLine.{ParsedLine}
@@ -27,7 +26,7 @@ use Rattle.nm_index.specs.Fits.{FitInTurn}
 use Rattle.nm_plan.specs.Plan.{AreArrivals, files_after_new, new_commits, to_read}
 use Rattle.nm_top.specs.NewLine.{IsNew}
 use Rattle.nm_scan.specs.Listing.{IsRising, listed_of}
-use Rattle.nm_scan.specs.Reading.{answers_at, NotesReads, Reads, ReadsFirst, mail_in, read_of, skip_in}
+use Rattle.nm_scan.specs.Reading.{answers_at, NotesReads, Reads, ReadsFirst, mail_in, read_of}
 use Rattle.nm_scan.specs.Reading.{after_reads, read_with}
 use Rattle.nm_top.specs.State.{state_with}
 use Rattle.nm_scan.specs.Reading.{HasRead, HasReadAll}

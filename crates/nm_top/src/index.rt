@@ -1,7 +1,7 @@
 //! The index as it is held, and its paths and ids as sets, for `new`.
 
-ghost use Rattle.std.specs.Prelude.{◌≡◌, ◌+◌, ◌++◌, IfOk, length, map, filter, not};
-ghost use Rattle.nm_base.specs.Order.{has_text, in_order};
+ghost use Rattle.std.specs.Prelude.{◌≡◌, IfOk};
+ghost use Rattle.nm_base.specs.Order.{in_order};
 ghost use Rattle.nm_answer.specs.Count.{ids_of};
 ghost use Rattle.nm_commit.specs.Files.{paths_of};
 

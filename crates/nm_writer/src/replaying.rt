@@ -1,6 +1,6 @@
 //! The index that the bodies of records leave, one commit after the other; opening replays them.
 
-ghost use Rattle.std.specs.Prelude.{◌≡◌, ◌+◌, ◌<◌, ◌≤◌, ◌^◌, true, IfErr, IfOk, IfSome, IsTrue, List};
+ghost use Rattle.std.specs.Prelude.{◌≡◌, true, IfErr, IfOk, List};
 ghost use Rattle.nm_commit.specs.Files.{Fits};
 ghost use Rattle.nm_commit.specs.declared.change.Commit.{Commit};
 ghost use Rattle.nm_index.specs.Index.{committed};

@@ -1,6 +1,6 @@
 //! The writer of an index on a disk.
 
-ghost use Rattle.std.specs.Prelude.{◌≡◌, [], false, IfErr, IfOk, IfSome, List, None};
+ghost use Rattle.std.specs.Prelude.{◌≡◌, [], false, IfErr, IfOk, None};
 ghost use Rattle.nm_disk.specs.Calls.{GoesOn};
 ghost use Rattle.nm_disk.specs.Images.{MayLeave};
 ghost use Rattle.nm_disk.specs.Observed.{bytes_now};
