@@ -1,2 +1,3 @@
 pub mod CommitLemmas
+pub mod LawLemmas
 pub mod ReplayLemmas

@@ -2,11 +2,13 @@
 #![tactic(auto)]
 
 mod committing;
+mod laws;
 mod open_error;
 mod replaying;
 mod write_error;
 mod writer;
 
+pub use laws::{an_index_is_held_once, what_holds_an_index_is_not_bad};
 pub use open_error::OpenError;
 pub use write_error::WriteError;
 pub use writer::Writer;
