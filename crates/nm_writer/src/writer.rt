@@ -12,7 +12,7 @@ ghost use Rattle.nm_writer.specs.Writer.{StandsOnIndex};
 
 use crate::OpenError;
 use crate::replaying::replayed;
-use nm_base::Room;
+use nm_base::{Many, Room};
 use nm_commit::Commit;
 use nm_disk::{Disk, FileNo};
 use nm_journal::Journal;
@@ -104,5 +104,29 @@ impl Writer {
         ensures { result.now ≡ self.now.acked }
     {
         self.acked.as_slice()
+    }
+
+    /// The faults of the disk when a commit failed; no commit is made after that.
+    pub fn closed(&self) -> Option<u64>
+        ensures { result ≡ self.now.closed }
+    {
+        self.closed
+    }
+
+    /// The commits begun since the opening, and the clocks of those that were acknowledged; it takes no memory. The last commit
+    /// has no clock where the disk failed.
+    pub fn finish(self) -> (Many<Commit>, Many<u64>)
+        ensures begun { result.0 ≡ self.begun }
+        ensures acked { result.1 ≡ self.acked }
+    {
+        let Writer {
+            alloc: _,
+            journal: _,
+            shown: _,
+            begun,
+            acked,
+            closed: _,
+        } = self;
+        (begun.into_many(), acked.into_many())
     }
 }
