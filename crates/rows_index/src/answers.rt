@@ -11,18 +11,52 @@ pub struct Index;
 
 impl Program for Index {
     fn answer(&self, alloc: Global, row: &Row<'_>) -> Result<Vec<u8>, RowError> {
-        match row.kind {
-            b"journal" => journal_rows::written(alloc, row),
-            b"opened" => journal_rows::opened(alloc, row),
-            b"stops" => stop_rows::stops(alloc, row),
-            b"snapshot" => snapshot_rows::answered(alloc, row),
-            b"faults" => stop_rows::faults(alloc, row),
-            b"index" => index_rows::opened(alloc, row),
-            b"commits" => commit_rows::commits(alloc, row),
-            b"tags" => tag_rows::operations(alloc, row),
-            b"written tags" => tag_rows::written(alloc, row),
-            b"threads" => thread_rows::threads(alloc, row),
-            _ => Err(RowError::Broken("no such kind of row")),
+        if let Some(answer) = journal_answer(alloc, row)? {
+            return Ok(answer);
         }
+        if let Some(answer) = index_answer(alloc, row)? {
+            return Ok(answer);
+        }
+        Err(RowError::Broken("no such kind of row"))
     }
+}
+
+/// The answer where the kind is of journals and stops of the disk.
+fn journal_answer(alloc: Global, row: &Row<'_>) -> Result<Option<Vec<u8>>, RowError> {
+    if row.kind == b"journal".as_slice() {
+        return Ok(Some(journal_rows::written(alloc, row)?));
+    }
+    if row.kind == b"opened".as_slice() {
+        return Ok(Some(journal_rows::opened(alloc, row)?));
+    }
+    if row.kind == b"stops".as_slice() {
+        return Ok(Some(stop_rows::stops(alloc, row)?));
+    }
+    if row.kind == b"faults".as_slice() {
+        return Ok(Some(stop_rows::faults(alloc, row)?));
+    }
+    Ok(None)
+}
+
+/// The answer where the kind is of commits, tags, threads, snapshots and stored indices.
+fn index_answer(alloc: Global, row: &Row<'_>) -> Result<Option<Vec<u8>>, RowError> {
+    if row.kind == b"snapshot".as_slice() {
+        return Ok(Some(snapshot_rows::answered(alloc, row)?));
+    }
+    if row.kind == b"index".as_slice() {
+        return Ok(Some(index_rows::opened(alloc, row)?));
+    }
+    if row.kind == b"commits".as_slice() {
+        return Ok(Some(commit_rows::commits(alloc, row)?));
+    }
+    if row.kind == b"tags".as_slice() {
+        return Ok(Some(tag_rows::operations(alloc, row)?));
+    }
+    if row.kind == b"written tags".as_slice() {
+        return Ok(Some(tag_rows::written(alloc, row)?));
+    }
+    if row.kind == b"threads".as_slice() {
+        return Ok(Some(thread_rows::threads(alloc, row)?));
+    }
+    Ok(None)
 }

@@ -43,20 +43,40 @@ fn after(snapshot: &Snapshot, commit: &Commit) -> Result<Option<Snapshot>, RowEr
 /// What the snapshot answers to the word.
 pub fn told(alloc: Global, snapshot: &Snapshot, what: &[u8]) -> Result<Vec<u8>, RowError> {
     let mut lines = Lines::new(alloc);
-    match what {
-        b"threads" => push_threads(alloc, &mut lines, snapshot)?,
-        b"kept" => push_kept(&mut lines, snapshot)?,
-        b"messages" => push_messages(&mut lines, snapshot)?,
-        b"tags" => push_tags(alloc, &mut lines, snapshot)?,
-        b"files" => push_files(&mut lines, snapshot)?,
-        b"paths" => push_paths(&mut lines, snapshot)?,
-        b"revision" => {
-            lines.begin()?;
-            push_number(alloc, &mut lines, snapshot.revision())?;
-        }
-        _ => return Err(RowError::Broken("nothing of the kind is told")),
-    }
+    push_told(alloc, &mut lines, snapshot, what)?;
     Ok(lines.into_bytes())
+}
+
+fn push_told(
+    alloc: Global,
+    lines: &mut Lines,
+    snapshot: &Snapshot,
+    what: &[u8],
+) -> Result<(), RowError> {
+    if what == b"threads".as_slice() {
+        return push_threads(alloc, lines, snapshot);
+    }
+    if what == b"kept".as_slice() {
+        return push_kept(lines, snapshot);
+    }
+    if what == b"messages".as_slice() {
+        return push_messages(lines, snapshot);
+    }
+    if what == b"tags".as_slice() {
+        return push_tags(alloc, lines, snapshot);
+    }
+    if what == b"files".as_slice() {
+        return push_files(lines, snapshot);
+    }
+    if what == b"paths".as_slice() {
+        return push_paths(lines, snapshot);
+    }
+    if what == b"revision".as_slice() {
+        lines.begin()?;
+        push_number(alloc, lines, snapshot.revision())?;
+        return Ok(());
+    }
+    Err(RowError::Broken("nothing of the kind is told"))
 }
 
 /// A line for each id with a number, by numbers: the id, its number, the name of its thread.

@@ -48,23 +48,55 @@ fn run<L: Ledger>(
     lines: &mut Lines,
 ) -> Result<(), RowError> {
     let (word, rest) = cut(command, b' ');
-    match word {
-        b"row" => add(labels, &row_of(alloc, rest)?, steps),
-        b"pairs" => add_pairs(alloc, labels, number_of(rest)?, steps),
-        b"drop" => Ok(labels.drop_thread(&id_of(alloc, rest)?)?),
-        b"live" => Ok(labels.drop_dead(&ids_of(alloc, rest)?)?),
-        b"copy" => change_copy(alloc, labels, rest, steps),
-        b"name" => push_option(alloc, lines, labels.name_of(&id_of(alloc, rest)?)),
-        b"number" => push_option(alloc, lines, labels.number_of(&id_of(alloc, rest)?)),
-        b"next" => push_option(alloc, lines, Some(labels.next())),
-        b"members" => push_ids(lines, labels.members(number_of(rest)?, steps)?.as_slice()),
-        b"thread" => push_ids(
+    if word == b"row".as_slice() {
+        return add(labels, &row_of(alloc, rest)?, steps);
+    }
+    if word == b"pairs".as_slice() {
+        return add_pairs(alloc, labels, number_of(rest)?, steps);
+    }
+    if word == b"drop".as_slice() {
+        return Ok(labels.drop_thread(&id_of(alloc, rest)?)?);
+    }
+    if word == b"live".as_slice() {
+        return Ok(labels.drop_dead(&ids_of(alloc, rest)?)?);
+    }
+    if word == b"copy".as_slice() {
+        return change_copy(alloc, labels, rest, steps);
+    }
+    tell(alloc, labels, word, rest, steps, lines)
+}
+
+/// Tells what one command asks.
+fn tell<L: Ledger>(
+    alloc: Global,
+    labels: &Labels,
+    word: &[u8],
+    rest: &[u8],
+    steps: &mut Steps<L>,
+    lines: &mut Lines,
+) -> Result<(), RowError> {
+    if word == b"name".as_slice() {
+        return push_option(alloc, lines, labels.name_of(&id_of(alloc, rest)?));
+    }
+    if word == b"number".as_slice() {
+        return push_option(alloc, lines, labels.number_of(&id_of(alloc, rest)?));
+    }
+    if word == b"next".as_slice() {
+        return push_option(alloc, lines, Some(labels.next()));
+    }
+    if word == b"members".as_slice() {
+        return push_ids(lines, labels.members(number_of(rest)?, steps)?.as_slice());
+    }
+    if word == b"thread".as_slice() {
+        return push_ids(
             lines,
             labels.thread_of(&id_of(alloc, rest)?, steps)?.as_slice(),
-        ),
-        b"count" => count(alloc, labels, number_of(rest)?, steps, lines),
-        _ => Err(RowError::Broken("no such command")),
+        );
     }
+    if word == b"count".as_slice() {
+        return count(alloc, labels, number_of(rest)?, steps, lines);
+    }
+    Err(RowError::Broken("no such command"))
 }
 
 /// Adds a row, where there is room for its numbers.
