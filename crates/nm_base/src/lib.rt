@@ -5,6 +5,7 @@
 mod asks;
 mod boxed;
 mod copies;
+mod dates;
 mod facts;
 mod forms;
 mod limit;
@@ -27,6 +28,7 @@ mod word;
 pub use asks::{CountAsk, DumpAsk, RestoreAsk, SearchAsk, ShowAsk, TagAsk};
 pub use boxed::Boxed;
 pub use copies::Copies;
+pub use dates::is_date;
 pub use facts::{Facts, Field, FieldWords, LinkRow, Mailbox, Marks};
 pub use forms::{DumpForm, Output, ReadForm};
 pub use limit::Limit;

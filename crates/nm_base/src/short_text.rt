@@ -1,34 +1,32 @@
-//! A text of at most 22 bytes, which needs no block of its own, for `Text`.
+//! A text that stands in a room of fixed size, for `Text`.
 
-ghost use Rattle.std.specs.Prelude.{◌≡◌, ◌≤◌, [], IsUtf8, length, take};
+ghost use Rattle.std.specs.Prelude.{◌≡◌, ◌≤◌, ◌<◌, [], IsUtf8, length, take};
 
-/// The bytes that a text may have without a block of its own.
-pub(crate) const MAX_SHORT: usize = 22;
-
-/// A text of at most 22 bytes, which stand in the value itself.
+/// A text of at most `N` bytes, which stand in the value itself.
 #[derive(Clone, Copy)]
-pub(crate) struct ShortText {
+pub(crate) struct ShortText<const N: usize> {
     len: u8,
-    bytes: [u8; MAX_SHORT],
-    ghost fits: { len ≤ 22 },
+    bytes: [u8; N],
+    ghost fits: { len ≤ N },
     ghost utf8: { ∥ IsUtf8 (take len bytes) ∥₁ },
 }
 
-impl ShortText {
-    pub(crate) fn empty() -> ShortText
+impl<const N: usize> ShortText<N> {
+    pub(crate) fn empty() -> ShortText<N>
         ensures { take result.len result.bytes ≡ [] }
     {
         ShortText {
             len: 0,
-            bytes: [0; MAX_SHORT],
+            bytes: [0; N],
         }
     }
 
-    pub(crate) fn of(s: &str) -> ShortText
-        requires { length s.now ≤ 22 }
+    pub(crate) fn of(s: &str) -> ShortText<N>
+        requires fits { length s.now ≤ N }
+        requires byte { length s.now < 256 }
         ensures { take result.len result.bytes ≡ s.now }
     {
-        let mut bytes = [0; MAX_SHORT];
+        let mut bytes = [0; N];
         bytes[..s.len()].copy_from_slice(s.as_bytes());
         ShortText {
             len: s.len() as u8,

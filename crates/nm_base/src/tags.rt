@@ -1,11 +1,13 @@
 //! A set of tags.
 
-ghost use Rattle.std.specs.Prelude.{◌≡◌, [], IfOk, OnOk, OnErr};
+ghost use Rattle.std.specs.Prelude.{◌≡◌, ◌<◌, ◌^◌, [], length, IfOk, OnOk, OnErr};
+ghost use Rattle.std.specs.Map.Iter.{ShowsInOrder, deref};
 ghost use Rattle.nm_base.specs.Order.{IsSorted};
 ghost use Rattle.nm_base.specs.Tags.{has_tag, with_tag, without_tag};
 
 use crate::{Copies, Many, NoMemory, Tag, TextSet};
 use std::alloc::Global;
+use std::collections::btree_set;
 use std::marker::Model;
 
 /// A set of tags, seen as the strictly rising list of them.
@@ -57,6 +59,16 @@ impl Tags {
         ensures sorted { IsSorted self.new }
     {
         self.set.remove(tag);
+    }
+
+    /// The tags in order, one by one.
+    pub fn iter(&self) -> btree_set::Iter<'_, Tag>
+        ensures rest { result ≡ self.now }
+        ensures runs { ShowsInOrder (deref {X = Tag}) }
+        ensures sorted { IsSorted self.now }
+        ensures few { length self.now < 2 ^ 63 }
+    {
+        self.set.iter()
     }
 
     /// The tags in order.

@@ -6,24 +6,31 @@ ghost use Rattle.std.specs.Cmp.Lexicographic.{nat_list_cmp_total, nat_list_eq_eq
 ghost use Rattle.std.specs.Ordering.{nat_cmp};
 ghost use Rattle.std.specs.Prelude.{nat_eq};
 
-use crate::short_text::{MAX_SHORT, ShortText};
+use crate::short_text::ShortText;
 use crate::{Copies, NoMemory};
 use std::alloc::{AllocError, Global};
 use std::cmp::Ordering;
 use std::fmt;
 use std::fmt::{Debug, Formatter, Write};
 use std::marker::Model;
-use std::sync::ArcStr;
+use std::sync::{Arc, ArcStr};
 
 /// UTF-8 text, seen as its bytes. A copy takes no memory: it shares a long text's bytes.
 pub struct Text {
     stored: Stored,
 }
 
+/// The most bytes of a text that stands in the value: with them a text takes 16 bytes.
+const MAX_SHORT: usize = 14;
+
+/// The most bytes of a text that stands in one shared block, which then takes 48 bytes; a longer one takes two blocks.
+const MAX_MIDDLE: usize = 31;
+
 /// Where the bytes lie.
 pub(crate) enum Stored {
-    Short(ShortText),
-    Shared(ArcStr),
+    Short(ShortText<14>),
+    Middle(Arc<ShortText<31>, Global>),
+    Long(ArcStr),
 }
 
 impl Model for Text {
@@ -46,7 +53,8 @@ impl Drop for Stored {
     fn drop(self) {
         match self {
             Stored::Short(_) => {}
-            Stored::Shared(_) => {}
+            Stored::Middle(_) => {}
+            Stored::Long(_) => {}
         }
     }
 }
@@ -67,8 +75,11 @@ impl Text {
         if s.len() <= MAX_SHORT {
             return Ok(short(s));
         }
+        if s.len() <= MAX_MIDDLE {
+            return middle(alloc, s);
+        }
         Ok(Text {
-            stored: Stored::Shared(ArcStr::from_str(alloc, s)?),
+            stored: Stored::Long(ArcStr::from_str(alloc, s)?),
         })
     }
 
@@ -78,8 +89,11 @@ impl Text {
         if string.len() <= MAX_SHORT {
             return Ok(short(string.as_str()));
         }
+        if string.len() <= MAX_MIDDLE {
+            return middle(*string.allocator(), string.as_str());
+        }
         Ok(Text {
-            stored: Stored::Shared(ArcStr::from_string(string)?),
+            stored: Stored::Long(ArcStr::from_string(string)?),
         })
     }
 
@@ -88,7 +102,8 @@ impl Text {
     {
         match &self.stored {
             Stored::Short(short) => short.as_str(),
-            Stored::Shared(shared) => shared.as_str(),
+            Stored::Middle(middle) => middle.as_str(),
+            Stored::Long(long) => long.as_str(),
         }
     }
 
@@ -97,18 +112,28 @@ impl Text {
     {
         match &self.stored {
             Stored::Short(short) => short.as_bytes(),
-            Stored::Shared(shared) => shared.as_str().as_bytes(),
+            Stored::Middle(middle) => middle.as_bytes(),
+            Stored::Long(long) => long.as_str().as_bytes(),
         }
     }
 }
 
 fn short(s: &str) -> Text
-    requires { length s.now ≤ 22 }
+    requires { length s.now ≤ 14 }
     ensures { result ≡ s.now }
 {
     Text {
         stored: Stored::Short(ShortText::of(s)),
     }
+}
+
+fn middle(alloc: Global, s: &str) -> Result<Text, NoMemory>
+    requires { length s.now ≤ 31 }
+    ensures { IfOk result (λ text. text ≡ s.now) }
+{
+    Ok(Text {
+        stored: Stored::Middle(Arc::new(alloc, ShortText::of(s))?),
+    })
 }
 
 impl Clone for Text {
@@ -119,10 +144,16 @@ impl Clone for Text {
             Stored::Short(short) => Ok(Text {
                 stored: Stored::Short(*short),
             }),
-            Stored::Shared(shared) => {
-                let shared = shared.clone()?;
+            Stored::Middle(middle) => {
+                let middle = Arc::try_clone(middle)?;
                 Ok(Text {
-                    stored: Stored::Shared(shared),
+                    stored: Stored::Middle(middle),
+                })
+            }
+            Stored::Long(long) => {
+                let long = long.clone()?;
+                Ok(Text {
+                    stored: Stored::Long(long),
                 })
             }
         }

@@ -2,11 +2,10 @@
 
 ghost use Rattle.std.specs.Prelude.{◌≡◌, ◌↔◌, [], ◌∷◌, ◌++◌, IfOk, IsTrue, fold};
 ghost use Rattle.std.specs.List.{list_any};
-ghost use Rattle.nm_base.specs.Limits.{IsDate};
 ghost use Rattle.nm_base.specs.Order.{same_text};
 ghost use Rattle.nm_commit.specs.Files.{FitChanges, FitsChange, changed, files_after, has_id, has_path, moved_path, with_moved, without_path};
 
-use nm_base::{Copies, Facts, MailPath, Many, MessageId, NoMemory};
+use nm_base::{Copies, Facts, MailPath, Many, MessageId, NoMemory, is_date};
 use nm_commit::{Change, Commit};
 use std::alloc::Global;
 
@@ -157,10 +156,4 @@ fn any_lies_at(files: &[(MailPath, Facts)], path: &MailPath) -> bool
     ensures { result ≡ list_any (λ file. same_text path.now file.0) files.now }
 {
     files.iter().any(|file| *path == file.0)
-}
-
-fn is_date(seconds: i64) -> bool
-    ensures { IsTrue result ↔ IsDate seconds }
-{
-    seconds >= -62_135_596_800 && seconds <= 253_000_000_000
 }

@@ -1,12 +1,11 @@
 //! The facts of a mail in bytes; an arrival has them.
 
 ghost use Rattle.std.specs.Prelude.{◌≡◌, ◌++◌, ◌<◌, ◌^◌, length, OnOk};
-ghost use Rattle.nm_base.specs.Limits.{is_date};
 ghost use Rattle.nm_record.specs.Codes.{field_code, marks_code, marks_of};
 ghost use Rattle.nm_record.specs.Facts.{content_grammar, content_parts, date_grammar, facts_grammar, field_grammar, field_words_grammar, heading_grammar, heading_parts, mailbox_grammar, marks_grammar};
 
 use crate::names::{IdFormat, WordFormat};
-use nm_base::{Facts, Field, FieldWords, Mailbox, Marks, NoMemory};
+use nm_base::{Facts, Field, FieldWords, Mailbox, Marks, NoMemory, is_date};
 use nm_codec::{Format, ListOf, Pair, ReadError, Reader, TextFormat, Writer};
 use std::alloc::Global;
 
@@ -111,12 +110,6 @@ impl Format for DateFormat {
     fn write(value: &i64, writer: &mut Writer) -> Result<(), NoMemory> {
         writer.put_i64(*value)
     }
-}
-
-fn is_date(second: i64) -> bool
-    ensures { result ≡ is_date second }
-{
-    second >= -62_135_596_800 && second <= 253_000_000_000
 }
 
 impl Format for MarksFormat {

@@ -1,12 +1,11 @@
 //! Which commits fit: each change is held against the files that the changes before it leave.
 
 ghost use Rattle.std.specs.Prelude.{◌≡◌, ◌↔◌, false, IfOk, IsTrue, OnOk};
-ghost use Rattle.nm_base.specs.Limits.{IsDate};
 ghost use Rattle.nm_commit.specs.Files.{FitChanges, FitsChange, changed, has_path};
 ghost use Rattle.nm_state.specs.Filing.{AreFiled, files_in};
 
 use crate::filing::{Filing, add_file, has_file, is_live, move_file, remove_file};
-use nm_base::{MailPath, NoMemory};
+use nm_base::{MailPath, NoMemory, is_date};
 use nm_commit::Change;
 use std::alloc::Global;
 
@@ -41,12 +40,6 @@ fn is_free(filing: &Filing, path: &MailPath) -> bool
     ensures { IsTrue result ↔ (has_path (files_in filing.now) path.now ≡ false) }
 {
     !has_file(filing, path)
-}
-
-fn is_date(second: i64) -> bool
-    ensures { IsTrue result ↔ IsDate second }
-{
-    second >= -62_135_596_800 && second <= 253_000_000_000
 }
 
 /// The files after a change that fits.

@@ -3,4 +3,4 @@ use Rattle.std.proofs.lemmas.Str.{IsUtf8-had}
 use Rattle.nm_base.proofs.short_text.ShortText.as_str.Goals as goal
 
 pub from_utf8_unchecked-requires : goal.from_utf8_unchecked-requires
-from_utf8_unchecked-requires c = rw c.as_bytes.ensures (IsUtf8-had _ c.args.self.now.utf8)
+from_utf8_unchecked-requires g c = rw c.as_bytes.ensures (IsUtf8-had _ c.args.self.now.utf8)
