@@ -15,6 +15,7 @@ pub mod OrderLemmas
 pub mod OpenLemmas
 pub mod RemoveLemmas
 pub mod KeepLemmas
+pub mod GoneLemmas
 pub mod ThreadLemmas
 pub mod DeadLemmas
 pub mod StepLemmas

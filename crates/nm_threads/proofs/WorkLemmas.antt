@@ -1,19 +1,18 @@
 -- What a join costs is won in the potential of the labels.
-use Rattle.std.proofs.Common.{◌≡◌, ◌≢◌, refl, sym, ap, subst, ◌∙◌, ℕ, suc, ◌+◌, ◌*◌, ◌<◌, ◌≤◌, Bool, true, false, cond, min, List, [], ◌∷◌, ◌++◌, length, map, arith, inl, inr, ◌⊎◌, eq-eqb, ne_eqb, nat_eq}
+use Rattle.std.proofs.Common.{◌≡◌, ◌≢◌, refl, sym, ap, subst, ◌∙◌, ℕ, suc, ◌+◌, ◌*◌, ◌<◌, ◌≤◌, Bool, true, false, cond, min, List, [], ◌∷◌, length, map, arith, inl, inr, ◌⊎◌, eq-eqb, ne_eqb, nat_eq}
 use Rattle.std.specs.Prelude.{Contains, Some}
 use Rattle.std.proofs.lemmas.Option.{same_Some}
 use Rattle.nm_threads.specs.declared.maps.Thread.{Thread}
 use Rattle.std.specs.List.{filter, sum_by}
 use Rattle.std.proofs.lemmas.Bool.{eqb-true, cases_eq, cases_lt}
-use Rattle.std.proofs.lemmas.List.{length-map}
 use Rattle.std.proofs.lemmas.List.Sums.{count_by-le-length, length-filter, sum_by-cons, sum_by_push}
-use Rattle.nm_threads.specs.Labels.{Label, Labelling, entries_of, has_entry, named}
+use Rattle.nm_threads.specs.Labels.{Label, entries_of, has_entry, named}
 use Rattle.nm_threads.specs.Maps.{at, labelling_of, AreMaps, given, joined_name, relabelled}
 use Rattle.nm_threads.specs.Work.{Doubles, potential}
 use Rattle.nm_threads.specs.declared.maps.Maps.{Maps}
 use Rattle.nm_threads.proofs.FilterLemmas.{Contains_filter, filter_yes, filter_no}
 use Rattle.nm_threads.proofs.JoinLemmas.{Other, joined_of, joined_other, cases_joined}
-use Rattle.nm_threads.proofs.ListLemmas.{Contains_there, Contains_first, Contains_cases, Contains_none}
+use Rattle.nm_threads.proofs.ListLemmas.{Contains_there, Contains_first, Contains_none}
 use Rattle.nm_threads.proofs.MergeLemmas.{count_joined, count_other, join_itself}
 use Rattle.nm_threads.proofs.RowLemmas.{either}
 use Rattle.nm_threads.proofs.StepLemmas.{mid_is, named_by}

@@ -207,6 +207,23 @@ impl Labels {
         Ok(())
     }
 
+    /// The same without a second handle on what was there, for far less work at many threads one by one. Where there was no
+    /// memory all labels are lost.
+    pub fn drop_thread_in_place(&mut self, id: &MessageId) -> Result<(), NoMemory>
+        ensures next { OnOk result (self.new.next ≡ self.old.next) }
+        ensures entries { OnOk result ((rows : List LinkRow) → AreLabelsOf rows self.old.labels → entries_of self.new.labels ≡ filter (λ entry. not (is_same rows id.now entry.0)) (entries_of self.old.labels)) }
+        ensures labels { OnOk result ((rows : List LinkRow) → AreLabelsOf rows self.old.labels → AreLabelsOf (filter (λ row. not (is_same rows id.now row.id)) rows) self.new.labels) }
+        ensures err { OnErr result (self.new.labels ≡ []) }
+    {
+        let Some(name) = self.name_of(id) else {
+            return Ok(());
+        };
+        let mut maps = mem::replace(&mut self.maps, Maps::new(self.alloc));
+        remove_named(self.alloc, &mut maps, name)?;
+        self.maps = maps;
+        Ok(())
+    }
+
     /// Lets go the threads without a live id: their ids lose their numbers, and no others do. The next number stays.
     pub fn drop_dead(&mut self, live: &Many<MessageId>) -> Result<(), NoMemory>
         ensures next { OnOk result (self.new.next ≡ self.old.next) }
