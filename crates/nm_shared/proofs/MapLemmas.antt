@@ -267,6 +267,10 @@ pub not_false : (b : Bool) → not b ≡ false → b ≡ true
 not_false true e = refl
 not_false false e = sym e
 
+-- the same pairs in other runs are the same map
+pub map_again : {K V : Type 0} (cmp : K → K → Ordering) (runs new : List (List (K × V))) (len : ℕ) → IsMap cmp runs len → flat new ≡ flat runs → HaveItems new → IsMap cmp new len
+map_again cmp runs new len map is filled = record { sorted = subst (λ all. IsStrictlySortedBy cmp (keys_of all)) (sym is) map.sorted; filled = filled; counted = map.counted ∙ ap length (sym is) }
+
 pub map_of_none : {K V : Type 0} (cmp : K → K → Ordering) (runs : List (List (K × V))) → runs ≡ [] → IsMap cmp runs 0
 map_of_none {V = V} cmp runs none = subst (λ all. IsMap cmp all 0) (sym none) (record { sorted = sorted_none V cmp; filled = λ place lt. absurd (omega arith); counted = refl })
 

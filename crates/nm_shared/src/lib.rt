@@ -4,6 +4,7 @@
 
 mod across;
 mod items;
+mod room;
 mod run;
 mod runs;
 mod search;

@@ -10,6 +10,12 @@ use std::alloc::Global;
 /// A run with this many items is cut in two before another goes into it.
 const MAX_RUN: usize = 128;
 
+/// So long may the last one of many runs become. Items that rise fill it, and a second handle counts fewer runs then.
+const MAX_LAST: usize = 512;
+
+/// So many runs are many.
+const MANY_RUNS: usize = 64;
+
 /// Two neighbours with this many items together become one, which has room for as many again.
 const MAX_JOINED: usize = MAX_RUN / 2;
 
@@ -48,10 +54,10 @@ pub fn cut_run<T: Copies>(runs: &mut Vec<Run<T>>, at: usize) -> Result<(), NoMem
         return Ok(());
     };
     let items = run.as_slice();
-    if items.len() < MAX_RUN {
+    if items.len() < most_items(at, runs.len()) {
         return Ok(());
     }
-    let middle = middle_of(at + 1 < runs.len());
+    let middle = middle_of(items.len(), at + 1 < runs.len());
     let front = Run::of(copied(alloc, &items[..middle])?)?;
     let back = Run::of(copied(alloc, &items[middle..])?)?;
     runs.insert(at + 1, back)?;
@@ -59,12 +65,24 @@ pub fn cut_run<T: Copies>(runs: &mut Vec<Run<T>>, at: usize) -> Result<(), NoMem
     Ok(())
 }
 
-/// Where a full run is cut.
-fn middle_of(has_next: bool) -> usize
-    ensures low { 0 < result }
-    ensures high { result < MAX_RUN }
+/// How many items the run at `at` may have, of so many runs.
+pub fn most_items(at: usize, runs: usize) -> usize
+    ensures { 1 < result }
 {
-    if has_next { MAX_RUN / 2 } else { MAX_RUN - 1 }
+    if runs < MANY_RUNS || at.saturating_add(1) < runs {
+        MAX_RUN
+    } else {
+        MAX_LAST
+    }
+}
+
+/// Where a full run of so many items is cut.
+fn middle_of(len: usize, has_next: bool) -> usize
+    requires { 1 < len }
+    ensures low { 0 < result }
+    ensures high { result < len }
+{
+    if has_next { len / 2 } else { len - 1 }
 }
 
 /// Joins the run at `at` and the next one, if both are there and small, so that many removals leave no tiny runs.

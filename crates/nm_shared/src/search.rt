@@ -1,10 +1,10 @@
 //! Where a key stands among blocks of pairs, for maps.
 
-ghost use Rattle.std.specs.Prelude.{◌≡◌, ◌≢◌, ◌<◌, ℕ, true, false, length, slice_index_or};
-ghost use Rattle.std.specs.declared.cmp.Ordering.TheVariants.{Equal};
+ghost use Rattle.std.specs.Prelude.{◌≡◌, ◌≢◌, ◌-◌, ◌<◌, ℕ, true, false, length, slice_index_or};
+ghost use Rattle.std.specs.declared.cmp.Ordering.TheVariants.{Equal, Less};
 ghost use Rattle.std.specs.List.Sorted.{IsStrictlySortedBy};
 ghost use Rattle.std.specs.Map.{keys_of};
-ghost use Rattle.nm_shared.specs.Runs.{flat, HaveItems};
+ghost use Rattle.nm_shared.specs.Runs.{flat, run_at, HaveItems};
 ghost use Rattle.nm_shared.specs.Search.{IsRunOf, IsPlaceOf};
 ghost use Rattle.nm_shared.specs.Spot.{IsSpotOf};
 
@@ -24,6 +24,10 @@ pub fn run_of<K: Ord, V>(runs: &[Run<(K, V)>], key: &K) -> usize
     requires { HaveItems runs.now }
     ensures { IsRunOf K.cmp key.now runs.now result }
 {
+    // Keys that rise are looked for at the end, whose last run is at hand.
+    if is_in_last(runs, key) {
+        return runs.len();
+    }
     let mut low = 0;
     let mut high = runs.len();
     'halves: while low < high {
@@ -35,6 +39,17 @@ pub fn run_of<K: Ord, V>(runs: &[Run<(K, V)>], key: &K) -> usize
         }
     }
     low
+}
+
+/// Whether there is a last run, and it doesn't begin above `key`.
+fn is_in_last<K: Ord, V>(runs: &[Run<(K, V)>], key: &K) -> bool
+    requires { HaveItems runs.now }
+    ensures { result ≡ true → (entry : K × V) → K.cmp key.now (slice_index_or (run_at runs.now (length runs.now - 1)) 0 entry).0 ≢ Less }
+{
+    match runs.last() {
+        None => false,
+        Some(run) => key.cmp(&run.as_slice()[0].0) != Ordering::Less,
+    }
 }
 
 /// How many keys of a run are below `key`.

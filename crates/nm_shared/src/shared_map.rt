@@ -9,9 +9,10 @@ ghost use Rattle.std.specs.Option.{option_copied};
 ghost use Rattle.std.specs.Ordering.{is_eq};
 
 use crate::Items;
+use crate::room::spot_with_room;
 use crate::run::Run;
-use crate::runs::{cut_run, join_run, put_first, shared};
-use crate::search::{run_of, spot_of};
+use crate::runs::{join_run, put_first, shared};
+use crate::search::spot_of;
 use nm_base::{Copies, NoMemory};
 use std::alloc::Global;
 use std::marker::Model;
@@ -129,7 +130,6 @@ impl<K: Ord + Copies, V: Copies> SharedMap<K, V> {
         ensures found { OnOk result ((other : K) → lookup (is_at (K.cmp other)) self.new ≡ (if is_eq (K.cmp other key) then Some value else lookup (is_at (K.cmp other)) self.old)) }
         ensures err { OnErr result (self.new ≡ self.old) }
     {
-        self.make_room(&key);
         self.put(key, value)?;
         Ok(())
     }
@@ -139,18 +139,9 @@ impl<K: Ord + Copies, V: Copies> SharedMap<K, V> {
         ensures found { OnOk result ((other : K) → lookup (is_at (K.cmp other)) self.new ≡ (if is_eq (K.cmp other key.now) then None else lookup (is_at (K.cmp other)) self.old)) }
         ensures err { OnErr result (self.new ≡ self.old) }
     {
-        let run = run_of(self.runs.as_slice(), key).saturating_sub(1);
-        self.take_out(key)?;
+        let run = self.take_out(key)?;
         self.join_beside(run);
         Ok(())
-    }
-
-    /// Cuts the run that `key` goes into, if it is full. Without memory for it the run grows.
-    fn make_room(&mut self, key: &K)
-        ensures { self.new ≡ self.old }
-    {
-        let run = run_of(self.runs.as_slice(), key).saturating_sub(1);
-        let _ = cut_run(&mut self.runs, run);
     }
 
     fn put(&mut self, key: K, value: V) -> Result<(), NoMemory>
@@ -160,7 +151,7 @@ impl<K: Ord + Copies, V: Copies> SharedMap<K, V> {
         if self.len == usize::MAX {
             return Err(NoMemory);
         }
-        let spot = spot_of(self.runs.as_slice(), &key);
+        let spot = spot_with_room(&mut self.runs, &key);
         if spot.found {
             self.runs[spot.run].replace_value(spot.at, value)?;
             return Ok(());
@@ -175,23 +166,25 @@ impl<K: Ord + Copies, V: Copies> SharedMap<K, V> {
         Ok(())
     }
 
-    fn take_out(&mut self, key: &K) -> Result<(), NoMemory>
+    /// The same, and answers at which run the pair stood, or would stand.
+    fn take_out(&mut self, key: &K) -> Result<usize, NoMemory>
         ensures ok { OnOk result (self.new ≡ remove_entry (is_at (K.cmp key.now)) self.old) }
         ensures err { OnErr result (self.new ≡ self.old) }
+        ensures sorted { IsStrictlySortedBy K.cmp (keys_of self.old) }
     {
         let spot = spot_of(self.runs.as_slice(), key);
         if !spot.found {
-            return Ok(());
+            return Ok(spot.run);
         }
         let len = self.len.saturating_sub(1);
         if self.runs[spot.run].len() == 1 {
             self.runs.remove(spot.run);
             self.len = len;
-            return Ok(());
+            return Ok(spot.run);
         }
         self.runs[spot.run].remove(spot.at)?;
         self.len = len;
-        Ok(())
+        Ok(spot.run)
     }
 
     /// Joins small runs beside this one. Without memory for it they stay.

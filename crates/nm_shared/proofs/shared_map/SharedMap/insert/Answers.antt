@@ -1,8 +1,8 @@
 use Rattle.std.proofs.Common.{ap, ◌∙◌}
-use Rattle.std.specs.BTreeMap.{insert_entry, is_at}
+use Rattle.std.specs.BTreeMap.{is_at}
 use Rattle.std.specs.Map.{lookup}
 use Rattle.nm_shared.proofs.EntryLemmas.{lookup_inserted}
 use Rattle.nm_shared.proofs.shared_map.SharedMap.insert.Goals as goal
 
 pub returns-clause-found : goal.returns-clause-found
-returns-clause-found g c = λ other. ap (lookup (is_at (g.K.Ord.cmp other))) (c.in_ok-put.ensures.ok ∙ ap (λ all. insert_entry g.K.Ord.cmp all c.args.key c.args.value) c.make_room.ensures) ∙ lookup_inserted g.met.K.Ord.total c.args.key other c.args.self.now c.args.value
+returns-clause-found g c = λ other. ap (lookup (is_at (g.K.Ord.cmp other))) c.in_ok-put.ensures.ok ∙ lookup_inserted g.met.K.Ord.total c.args.key other c.args.self.now c.args.value
