@@ -10,7 +10,7 @@ use std::alloc::Global;
 use std::marker::Brand;
 use std::sync::ledger::{Blank, Ledger};
 
-/// So many rows come together. A copy is kept then; the one before it is let go.
+/// A commit brings so many rows. A copy is kept after it; the one before it is let go.
 const TOGETHER: usize = 256;
 
 /// The threads have 1 to so many mails.
@@ -33,6 +33,15 @@ pub enum Work {
     Tenth,
 }
 
+/// How the rows of a commit are added.
+#[derive(Clone, Copy, Debug, PartialEq, Eq)]
+pub enum Coming {
+    /// All or none.
+    Together,
+    /// One by one, each to the labels that are there.
+    Alone,
+}
+
 /// A thread that mails come to: the numbers of its first mail and of the last one, and how many are still to come.
 #[derive(Clone, Copy, Debug)]
 struct Thread {
@@ -42,18 +51,24 @@ struct Thread {
 }
 
 /// How many ids have numbers after this work on so many mails.
-pub fn labelled(alloc: Global, work: Work, count: u64) -> Result<u64, NoMemory> {
-    counted::<Brand>(alloc, work, count, Blank::new(1))
+pub fn labelled(alloc: Global, work: Work, coming: Coming, count: u64) -> Result<u64, NoMemory> {
+    counted::<Brand>(alloc, work, coming, count, Blank::new(1))
 }
 
-fn counted<L: Ledger>(alloc: Global, work: Work, count: u64, blank: Blank) -> Result<u64, NoMemory>
+fn counted<L: Ledger>(
+    alloc: Global,
+    work: Work,
+    coming: Coming,
+    count: u64,
+    blank: Blank,
+) -> Result<u64, NoMemory>
     requires name { blank.name ≡ L.name }
     requires parts { blank.parts ≡ L.parts }
     requires whole { 0 < L.parts }
 {
     let mut steps = Steps::<L>::begin(blank);
     let mut labels = Labels::new(alloc);
-    let firsts = grow(alloc, &mut labels, work, count, &mut steps)?;
+    let firsts = grow(alloc, &mut labels, work, coming, count, &mut steps)?;
     if work != Work::Tenth {
         return Ok(labels.next() - 1);
     }
@@ -66,6 +81,7 @@ fn grow<L: Ledger>(
     alloc: Global,
     labels: &mut Labels,
     work: Work,
+    coming: Coming,
     count: u64,
     steps: &mut Steps<L>,
 ) -> Result<Many<u64>, NoMemory> {
@@ -87,12 +103,12 @@ fn grow<L: Ledger>(
         thread.last = at;
         thread.rest = thread.rest.saturating_sub(1);
         if rows.len() == TOGETHER {
-            add(labels, rows.as_slice(), steps)?;
+            add(labels, rows.as_slice(), coming, steps)?;
             rows = Many::new(alloc);
             _kept = labels.copy()?;
         }
     }
-    add(labels, rows.as_slice(), steps)?;
+    add(labels, rows.as_slice(), coming, steps)?;
     Ok(firsts)
 }
 
@@ -136,14 +152,42 @@ fn id_of(alloc: Global, at: u64) -> Result<MessageId, NoMemory> {
 fn add<L: Ledger>(
     labels: &mut Labels,
     rows: &[LinkRow],
+    coming: Coming,
     steps: &mut Steps<L>,
 ) -> Result<(), NoMemory> {
+    if coming == Coming::Alone {
+        return add_alone(labels, rows, steps);
+    }
     numbers_rise_by_at_most_one_an_id();
     if !has_room(labels.next(), rows) {
         return Err(NoMemory);
     }
     labels.add_rows(rows, steps)?;
     Ok(())
+}
+
+/// Adds rows one by one, where there is room for their numbers.
+fn add_alone<L: Ledger>(
+    labels: &mut Labels,
+    rows: &[LinkRow],
+    steps: &mut Steps<L>,
+) -> Result<(), NoMemory> {
+    'rows: for row in rows {
+        numbers_rise_by_at_most_one_an_id();
+        if !row_has_room(labels.next(), row) {
+            return Err(NoMemory);
+        }
+        labels.add_row_in_place(row, steps)?;
+    }
+    Ok(())
+}
+
+/// Whether the ids of a row find numbers from this one on.
+fn row_has_room(next: u64, row: &LinkRow) -> bool
+    ensures { IsTrue result → next + length (ids_of row.now) ≤ 2 ^ 63 }
+{
+    let len = row.links.len() as u64;
+    len < MOST && next < MOST - len
 }
 
 /// Whether the ids of rows find numbers from this one on.
@@ -153,11 +197,10 @@ fn has_room(next: u64, rows: &[LinkRow]) -> bool
 {
     let mut end = next;
     'rows: for row in rows {
-        let len = row.links.len() as u64;
-        if len >= MOST || end >= MOST - len {
+        if !row_has_room(end, row) {
             return false;
         }
-        end += len + 1;
+        end += row.links.len() as u64 + 1;
     }
     true
 }
@@ -167,7 +210,7 @@ fn drop_tenth(alloc: Global, labels: &mut Labels, firsts: &[u64]) -> Result<(), 
     let mut threads = 0u64;
     'threads: for first in firsts {
         if threads % 10 == 0 {
-            labels.drop_thread(&id_of(alloc, *first)?)?;
+            labels.drop_thread_in_place(&id_of(alloc, *first)?)?;
         }
         threads = threads.wrapping_add(1);
     }

@@ -2,7 +2,7 @@
 
 use crate::journals;
 use crate::maps::{self, Order};
-use crate::threads::{self, Work};
+use crate::threads::{self, Coming, Work};
 use nm_base::NoMemory;
 use std::alloc::Global;
 
@@ -16,7 +16,10 @@ pub fn done(rt: &HostRuntime, alloc: Global, line: &str) -> Result<u64, NoMemory
         return Ok(0);
     };
     if kind == "threads" {
-        return labels(alloc, order, count);
+        return labels(alloc, order, Coming::Together, count);
+    }
+    if kind == "rows" {
+        return labels(alloc, order, Coming::Alone, count);
     }
     let order = if order == "rising" {
         Order::Rising
@@ -32,11 +35,11 @@ pub fn done(rt: &HostRuntime, alloc: Global, line: &str) -> Result<u64, NoMemory
     }
 }
 
-fn labels(alloc: Global, work: &str, count: u64) -> Result<u64, NoMemory> {
+fn labels(alloc: Global, work: &str, coming: Coming, count: u64) -> Result<u64, NoMemory> {
     match work {
-        "many" => threads::labelled(alloc, Work::Many, count),
-        "one" => threads::labelled(alloc, Work::One, count),
-        "tenth" => threads::labelled(alloc, Work::Tenth, count),
+        "many" => threads::labelled(alloc, Work::Many, coming, count),
+        "one" => threads::labelled(alloc, Work::One, coming, count),
+        "tenth" => threads::labelled(alloc, Work::Tenth, coming, count),
         _ => Ok(0),
     }
 }
