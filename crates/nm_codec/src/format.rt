@@ -1,7 +1,8 @@
 //! A format: how values of one type stand in bytes. `nm_record` puts the format of the index together from those of
 //! texts, pairs and lists.
 
-ghost use Rattle.std.specs.Prelude.{◌≡◌, ◌<◌, ◌^◌, ◌++◌, length, OnOk};
+ghost use Rattle.std.specs.Prelude.{◌≡◌, ◌<◌, ◌^◌, ◌++◌, length, min, Bool, OnOk};
+ghost use Rattle.nm_base.specs.Limits.{max_count};
 ghost use Rattle.nm_codec.specs.Grammar.{Grammar};
 ghost use Rattle.nm_codec.specs.Reading.{GivesUnlessWanted};
 
@@ -15,9 +16,17 @@ pub trait Format {
 
     ghost grammar: { Grammar Self.Value };
 
+    /// What a value must pass beside that which its type promises, to be one of the grammar.
+    ghost asked: { Self.Value → Bool };
+
     /// Takes a value from the front of the bytes that are left.
     fn read(alloc: Global, reader: &mut Reader<'_>) -> Result<Self::Value, ReadError>
         ensures { GivesUnlessWanted reader.old result reader.new (grammar.read reader.old.rest) };
+
+    /// How many bytes a value has, up to 2^64 - 1. It looks at every part of the value and takes no memory.
+    fn len(value: &Self::Value) -> u64
+        ensures len { result ≡ min (length (grammar.bytes value.now)) max_count }
+        ensures value { grammar.is_value value.now ≡ asked value.now };
 
     /// Adds the bytes of a value, which are fewer than 2 ^ 32.
     fn write(value: &Self::Value, writer: &mut Writer) -> Result<(), NoMemory>

@@ -17,5 +17,5 @@ pub use pair::Pair;
 pub use read_error::{Bad, ReadError};
 pub use reader::Reader;
 pub use rising::RisingOf;
-pub use text::TextFormat;
+pub use text::{TextFormat, text_len};
 pub use writer::Writer;

@@ -1,7 +1,8 @@
 //! Lists, whose count stands before them.
 
-ghost use Rattle.std.specs.Prelude.{◌≡◌, ◌++◌, ◌<◌, ◌^◌, length, OnOk};
+ghost use Rattle.std.specs.Prelude.{◌≡◌, ◌++◌, ◌<◌, ◌^◌, length, min, OnOk};
 ghost use Rattle.std.specs.List.{flat_map, list_all};
+ghost use Rattle.nm_base.specs.Limits.{max_count};
 ghost use Rattle.nm_codec.specs.Grammar.{list_grammar};
 ghost use Rattle.nm_codec.specs.Reading.{GivesUnlessWanted, items_at, list_at};
 ghost use Rattle.nm_codec.specs.Spelling.{list_bytes};
@@ -21,10 +22,16 @@ impl<F: Format> Format for ListOf<F> {
 
     ghost grammar = { list_grammar F.grammar };
 
+    ghost asked = { list_all F.asked };
+
     #[tactic(auto, unfolding(crate::specs::Reading::list_at))]
     fn read(alloc: Global, reader: &mut Reader<'_>) -> Result<Many<F::Value>, ReadError> {
         let count = reader.u32()?;
         read_items::<F>(alloc, count, reader)
+    }
+
+    fn len(value: &Many<F::Value>) -> u64 {
+        items_len::<F>(value.as_slice()).saturating_add(4)
     }
 
     fn write(value: &Many<F::Value>, writer: &mut Writer) -> Result<(), NoMemory> {
@@ -57,4 +64,15 @@ fn write_items<F: Format>(items: &[F::Value], writer: &mut Writer) -> Result<(),
         F::write(item, writer)?;
     }
     Ok(())
+}
+
+fn items_len<F: Format>(items: &[F::Value]) -> u64
+    ensures len { result ≡ min (length (flat_map (F.grammar).bytes items.now)) max_count }
+    ensures value { list_all (F.grammar).is_value items.now ≡ list_all F.asked items.now }
+{
+    let mut len = 0u64;
+    'items: for item in items {
+        len = len.saturating_add(F::len(item));
+    }
+    len
 }

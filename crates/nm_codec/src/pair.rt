@@ -1,5 +1,6 @@
 //! Two values, one behind the other.
 
+ghost use Rattle.std.specs.Prelude.{◌&&◌};
 ghost use Rattle.nm_codec.specs.Grammar.{pair_grammar};
 
 use crate::{Format, ReadError, Reader, Writer};
@@ -17,11 +18,17 @@ impl<F: Format, G: Format> Format for Pair<F, G> {
 
     ghost grammar = { pair_grammar F.grammar G.grammar };
 
+    ghost asked = { λ pair. F.asked pair.0 && G.asked pair.1 };
+
     #[tactic(auto, unfolding(crate::specs::Reading::pair_at))]
     fn read(alloc: Global, reader: &mut Reader<'_>) -> Result<(F::Value, G::Value), ReadError> {
         let first = F::read(alloc, reader)?;
         let second = G::read(alloc, reader)?;
         Ok((first, second))
+    }
+
+    fn len(value: &(F::Value, G::Value)) -> u64 {
+        F::len(&value.0).saturating_add(G::len(&value.1))
     }
 
     fn write(value: &(F::Value, G::Value), writer: &mut Writer) -> Result<(), NoMemory> {

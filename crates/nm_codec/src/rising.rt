@@ -1,9 +1,10 @@
 //! Lists that rise strictly, whose count stands before them.
 
-ghost use Rattle.std.specs.Prelude.{◌≡◌, ◌++◌, ◌-◌, length, slice_get};
+ghost use Rattle.std.specs.Prelude.{◌≡◌, ◌&&◌, ◌++◌, ◌-◌, None, length, slice_get};
+ghost use Rattle.std.specs.List.{list_all};
 ghost use Rattle.std.specs.Option.{option_copied};
 ghost use Rattle.nm_codec.specs.Grammar.{rising_grammar};
-ghost use Rattle.nm_codec.specs.Reading.{GivesUnlessWanted, follows, is_below, last_of, rising_items_at, tested_at};
+ghost use Rattle.nm_codec.specs.Reading.{GivesUnlessWanted, follows, is_below, is_rising, last_of, rising_items_at, tested_at};
 
 use crate::{Format, ListOf, ReadError, Reader, Writer};
 use nm_base::{Many, NoMemory};
@@ -23,10 +24,16 @@ where
 
     ghost grammar = { rising_grammar (is_below F.Value.cmp) F.grammar };
 
+    ghost asked = { λ items. list_all F.asked items && is_rising (is_below F.Value.cmp) None items };
+
     #[tactic(auto, unfolding(crate::specs::Reading::rising_at))]
     fn read(alloc: Global, reader: &mut Reader<'_>) -> Result<Many<F::Value>, ReadError> {
         let count = reader.u32()?;
         read_items::<F>(alloc, count, reader)
+    }
+
+    fn len(value: &Many<F::Value>) -> u64 {
+        <ListOf<F> as Format>::len(value)
     }
 
     fn write(value: &Many<F::Value>, writer: &mut Writer) -> Result<(), NoMemory> {

@@ -1,3 +1,4 @@
 pub mod FoundLemmas
+pub mod LenLemmas
 pub mod TagLemmas
 pub mod WriteLemmas

@@ -1,6 +1,7 @@
 -- Changes and commits in bytes: a change is its kind in one byte, and then what it speaks of; a commit is a list of them.
-use Rattle.std.specs.Prelude.{ℕ, zero, suc, Bool, List, ◌∷◌, length, Err}
+use Rattle.std.specs.Prelude.{ℕ, zero, suc, Bool, true, List, ◌∷◌, length, Err}
 use Rattle.std.specs.Int.{w8}
+use Rattle.nm_base.specs.Limits.{is_date}
 use Rattle.nm_base.specs.declared.facts.Facts.{Facts}
 use Rattle.nm_commit.specs.declared.change.Change.{Change}
 use Rattle.nm_commit.specs.declared.change.Change.TheVariants.{Add, Drop, Move, SetTags}
@@ -43,3 +44,10 @@ is_change (Add path facts) = arrival_grammar.is_value (path, facts)
 is_change (Drop path) = path_grammar.is_value path
 is_change (Move from to) = move_grammar.is_value (from, to)
 is_change (SetTags id tags) = tagging_grammar.is_value (id, tags)
+
+-- a mail that comes has a date in the range
+abbrev pub has_date : Change → Bool
+has_date (Add path facts) = is_date facts.date
+has_date (Drop path) = true
+has_date (Move from to) = true
+has_date (SetTags id tags) = true

@@ -1,10 +1,11 @@
 //! Changes in bytes; a commit is a list of them.
 
-ghost use Rattle.std.specs.Prelude.{◌≡◌, ◌++◌, ◌<◌, ◌^◌, length, OnOk};
+ghost use Rattle.std.specs.Prelude.{◌≡◌, ◌++◌, ◌<◌, ◌^◌, length, min, OnOk};
+ghost use Rattle.nm_base.specs.Limits.{is_date, max_count};
 ghost use Rattle.nm_commit.specs.declared.change.Change.{Change};
 ghost use Rattle.nm_codec.specs.Reading.{GivesUnlessWanted, mapped_at};
 ghost use Rattle.nm_record.specs.CommitGrammar.{change_grammar};
-ghost use Rattle.nm_record.specs.Commits.{arrival_grammar, change_at, change_bytes, kind_at, move_grammar, tagging_grammar};
+ghost use Rattle.nm_record.specs.Commits.{arrival_grammar, change_at, change_bytes, has_date, kind_at, move_grammar, tagging_grammar};
 ghost use Rattle.nm_record.specs.Facts.{path_grammar};
 
 use crate::facts::FactsFormat;
@@ -30,6 +31,8 @@ impl Format for ChangeFormat {
 
     ghost grammar = { change_grammar };
 
+    ghost asked = { has_date };
+
     #[tactic(auto, unfolding(crate::specs::Commits::change_at))]
     fn read(alloc: Global, reader: &mut Reader<'_>) -> Result<Change, ReadError> {
         let at = reader.at();
@@ -39,6 +42,19 @@ impl Format for ChangeFormat {
             MOVE => read_move(alloc, reader),
             SET_TAGS => read_set_tags(alloc, reader),
             _ => Err(ReadError::Bad { at }),
+        }
+    }
+
+    fn len(value: &Change) -> u64 {
+        match value {
+            Change::Add { path, facts } => arrival_len(path, facts).saturating_add(1),
+            Change::Drop { path } => PathFormat::len(path).saturating_add(1),
+            Change::Move { from, to } => PathFormat::len(from)
+                .saturating_add(PathFormat::len(to))
+                .saturating_add(1),
+            Change::SetTags { id, tags } => IdFormat::len(id)
+                .saturating_add(TagsFormat::len(tags))
+                .saturating_add(1),
         }
     }
 
@@ -68,6 +84,13 @@ impl Format for ChangeFormat {
             }
         }
     }
+}
+
+fn arrival_len(path: &MailPath, facts: &Facts) -> u64
+    ensures len { result ≡ min (length (arrival_grammar.bytes (path.now, facts.now))) max_count }
+    ensures value { arrival_grammar.is_value (path.now, facts.now) ≡ is_date facts.now.date }
+{
+    PathFormat::len(path).saturating_add(FactsFormat::len(facts))
 }
 
 fn write_arrival(path: &MailPath, facts: &Facts, writer: &mut Writer) -> Result<(), NoMemory>

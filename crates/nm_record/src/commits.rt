@@ -1,15 +1,30 @@
 //! Commits in bytes; the journal keeps them.
 
-ghost use Rattle.std.specs.Prelude.{◌≡◌, ◌<◌, ◌^◌, length, true, IfOk};
+ghost use Rattle.std.specs.Prelude.{◌≡◌, ◌&&◌, ◌<◌, ◌^◌, ℕ, List, length, min, nat_lt, true, IfOk};
+ghost use Rattle.std.specs.List.{list_all};
+ghost use Rattle.nm_base.specs.Limits.{max_count};
+ghost use Rattle.nm_base.specs.declared.facts.Facts.{Facts};
+ghost use Rattle.nm_commit.specs.Files.{Fits};
 ghost use Rattle.nm_commit.specs.declared.change.Commit.{Commit};
 ghost use Rattle.nm_codec.specs.Reading.{AnswersUnlessWanted, all_of};
 ghost use Rattle.nm_record.specs.CommitGrammar.{commit_grammar};
+ghost use Rattle.nm_record.specs.Commits.{has_date};
 
 use crate::changes::ChangeFormat;
 use nm_base::{Many, NoMemory};
 use nm_codec::{Format, ListOf, ReadError, Reader, Writer};
 use nm_commit::Commit;
 use std::alloc::Global;
+
+/// How many bytes the one spelling of a commit has, up to 2^64 - 1. It takes no memory.
+pub fn commit_len(commit: &Commit) -> u64
+    ensures len { result ≡ min (length (commit_grammar.bytes commit.now)) max_count }
+
+    // Each part of a commit obeys its type, so one that fits some files has the values that a commit may have.
+    ensures value { (files : List (List ℕ × Facts)) → Fits files commit.now → commit_grammar.is_value commit.now ≡ true }
+{
+    CommitFormat::len(commit)
+}
 
 /// The one spelling of a commit, which has fewer than 2 ^ 32 bytes.
 pub fn commit_bytes(alloc: Global, commit: &Commit) -> Result<Many<u8>, NoMemory>
@@ -54,6 +69,8 @@ impl Format for CommitFormat {
 
     ghost grammar = { commit_grammar };
 
+    ghost asked = { λ commit. list_all has_date commit.changes && nat_lt 0 (length commit.changes) };
+
     #[tactic(auto, unfolding(nm_codec::specs::Reading::tested_at, nm_codec::specs::Reading::mapped_at))]
     fn read(alloc: Global, reader: &mut Reader<'_>) -> Result<Commit, ReadError> {
         let at = reader.at();
@@ -62,6 +79,10 @@ impl Format for CommitFormat {
             return Ok(Commit { changes });
         }
         Err(ReadError::Bad { at })
+    }
+
+    fn len(value: &Commit) -> u64 {
+        <ListOf<ChangeFormat> as Format>::len(&value.changes)
     }
 
     fn write(value: &Commit, writer: &mut Writer) -> Result<(), NoMemory> {

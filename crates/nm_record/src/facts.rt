@@ -1,6 +1,7 @@
 //! The facts of a mail in bytes; an arrival has them.
 
-ghost use Rattle.std.specs.Prelude.{◌≡◌, ◌++◌, ◌<◌, ◌^◌, length, OnOk};
+ghost use Rattle.std.specs.Prelude.{◌≡◌, ◌++◌, ◌<◌, ◌^◌, length, min, true, OnOk};
+ghost use Rattle.nm_base.specs.Limits.{is_date, max_count};
 ghost use Rattle.nm_record.specs.Codes.{field_code, marks_code, marks_of};
 ghost use Rattle.nm_record.specs.Facts.{content_grammar, content_parts, date_grammar, facts_grammar, field_grammar, field_words_grammar, heading_grammar, heading_parts, mailbox_grammar, marks_grammar};
 
@@ -26,10 +27,16 @@ impl Format for MailboxFormat {
 
     ghost grammar = { mailbox_grammar };
 
+    ghost asked = { λ mailbox. true };
+
     #[tactic(auto, unfolding(nm_codec::specs::Reading::mapped_at))]
     fn read(alloc: Global, reader: &mut Reader<'_>) -> Result<Mailbox, ReadError> {
         let (name, address) = <Pair<TextFormat, TextFormat> as Format>::read(alloc, reader)?;
         Ok(Mailbox { name, address })
+    }
+
+    fn len(value: &Mailbox) -> u64 {
+        TextFormat::len(&value.name).saturating_add(TextFormat::len(&value.address))
     }
 
     fn write(value: &Mailbox, writer: &mut Writer) -> Result<(), NoMemory> {
@@ -43,6 +50,8 @@ impl Format for FieldFormat {
 
     ghost grammar = { field_grammar };
 
+    ghost asked = { λ field. true };
+
     #[tactic(auto, unfolding(nm_codec::specs::Reading::coded_at))]
     fn read(_: Global, reader: &mut Reader<'_>) -> Result<Field, ReadError> {
         let at = reader.at();
@@ -54,6 +63,10 @@ impl Format for FieldFormat {
             4 => Ok(Field::Attachment),
             _ => Err(ReadError::Bad { at }),
         }
+    }
+
+    fn len(_: &Field) -> u64 {
+        1
     }
 
     fn write(value: &Field, writer: &mut Writer) -> Result<(), NoMemory> {
@@ -78,12 +91,19 @@ impl Format for FieldWordsFormat {
 
     ghost grammar = { field_words_grammar };
 
+    ghost asked = { λ list. true };
+
     #[tactic(auto, unfolding(nm_codec::specs::Reading::mapped_at))]
     fn read(alloc: Global, reader: &mut Reader<'_>) -> Result<FieldWords, ReadError> {
         let (field, words) = <Pair<FieldFormat, ListOf<WordFormat>> as Format>::read(
             alloc, reader,
         )?;
         Ok(FieldWords { field, words })
+    }
+
+    fn len(value: &FieldWords) -> u64 {
+        FieldFormat::len(&value.field)
+            .saturating_add(<ListOf<WordFormat> as Format>::len(&value.words))
     }
 
     fn write(value: &FieldWords, writer: &mut Writer) -> Result<(), NoMemory> {
@@ -97,6 +117,8 @@ impl Format for DateFormat {
 
     ghost grammar = { date_grammar };
 
+    ghost asked = { is_date };
+
     #[tactic(auto, unfolding(nm_codec::specs::Reading::tested_at))]
     fn read(_: Global, reader: &mut Reader<'_>) -> Result<i64, ReadError> {
         let at = reader.at();
@@ -105,6 +127,10 @@ impl Format for DateFormat {
             return Ok(date);
         }
         Err(ReadError::Bad { at })
+    }
+
+    fn len(_: &i64) -> u64 {
+        8
     }
 
     fn write(value: &i64, writer: &mut Writer) -> Result<(), NoMemory> {
@@ -117,6 +143,8 @@ impl Format for MarksFormat {
 
     ghost grammar = { marks_grammar };
 
+    ghost asked = { λ marks. true };
+
     #[tactic(auto, unfolding(nm_codec::specs::Reading::coded_at))]
     fn read(_: Global, reader: &mut Reader<'_>) -> Result<Marks, ReadError> {
         let at = reader.at();
@@ -124,6 +152,10 @@ impl Format for MarksFormat {
             Some(marks) => Ok(marks),
             None => Err(ReadError::Bad { at }),
         }
+    }
+
+    fn len(_: &Marks) -> u64 {
+        1
     }
 
     fn write(value: &Marks, writer: &mut Writer) -> Result<(), NoMemory> {
@@ -189,6 +221,8 @@ impl Format for FactsFormat {
 
     ghost grammar = { facts_grammar };
 
+    ghost asked = { λ facts. is_date facts.date };
+
     #[tactic(auto, unfolding(nm_codec::specs::Reading::mapped_at))]
     fn read(alloc: Global, reader: &mut Reader<'_>) -> Result<Facts, ReadError> {
         let (id, (links, (date, (from, (to, (subject, (lists, (types, marks)))))))) =
@@ -206,6 +240,13 @@ impl Format for FactsFormat {
         })
     }
 
+    fn len(value: &Facts) -> u64 {
+        IdFormat::len(&value.id)
+            .saturating_add(<ListOf<IdFormat> as Format>::len(&value.links))
+            .saturating_add(DateFormat::len(&value.date))
+            .saturating_add(heading_len(value))
+    }
+
     fn write(value: &Facts, writer: &mut Writer) -> Result<(), NoMemory> {
         IdFormat::write(&value.id, writer)?;
         <ListOf<IdFormat> as Format>::write(&value.links, writer)?;
@@ -213,6 +254,25 @@ impl Format for FactsFormat {
         write_heading(value, writer)?;
         Ok(())
     }
+}
+
+fn heading_len(facts: &Facts) -> u64
+    ensures len { result ≡ min (length (heading_grammar.bytes (heading_parts facts.now))) max_count }
+    ensures value { heading_grammar.is_value (heading_parts facts.now) ≡ true }
+{
+    <ListOf<MailboxFormat> as Format>::len(&facts.from)
+        .saturating_add(<ListOf<MailboxFormat> as Format>::len(&facts.to))
+        .saturating_add(TextFormat::len(&facts.subject))
+        .saturating_add(content_len(facts))
+}
+
+fn content_len(facts: &Facts) -> u64
+    ensures len { result ≡ min (length (content_grammar.bytes (content_parts facts.now))) max_count }
+    ensures value { content_grammar.is_value (content_parts facts.now) ≡ true }
+{
+    <ListOf<FieldWordsFormat> as Format>::len(&facts.lists)
+        .saturating_add(<ListOf<TextFormat> as Format>::len(&facts.types))
+        .saturating_add(MarksFormat::len(&facts.marks))
 }
 
 fn write_heading(facts: &Facts, writer: &mut Writer) -> Result<(), NoMemory>

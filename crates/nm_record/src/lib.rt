@@ -8,4 +8,4 @@ mod facts;
 mod names;
 mod tag_list;
 
-pub use commits::{commit_bytes, read_commit};
+pub use commits::{commit_bytes, commit_len, read_commit};

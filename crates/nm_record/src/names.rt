@@ -1,9 +1,10 @@
 //! Ids, tags, words and paths as texts that obey their rules; facts and changes are made of them.
 
+ghost use Rattle.std.specs.Prelude.{true};
 ghost use Rattle.nm_record.specs.Facts.{id_grammar, path_grammar, tag_grammar, word_grammar};
 
 use nm_base::{MailPath, MessageId, NoMemory, Tag, Word};
-use nm_codec::{Format, ReadError, Reader, Writer};
+use nm_codec::{Format, ReadError, Reader, Writer, text_len};
 use std::alloc::Global;
 
 pub(crate) struct IdFormat;
@@ -19,6 +20,8 @@ impl Format for IdFormat {
 
     ghost grammar = { id_grammar };
 
+    ghost asked = { λ id. true };
+
     #[tactic(auto, unfolding(nm_codec::specs::Reading::tested_at))]
     fn read(alloc: Global, reader: &mut Reader<'_>) -> Result<MessageId, ReadError> {
         let at = reader.at();
@@ -26,6 +29,10 @@ impl Format for IdFormat {
             Ok(id) => Ok(id),
             Err(_) => Err(ReadError::Bad { at }),
         }
+    }
+
+    fn len(value: &MessageId) -> u64 {
+        text_len(value.text())
     }
 
     fn write(value: &MessageId, writer: &mut Writer) -> Result<(), NoMemory> {
@@ -38,6 +45,8 @@ impl Format for TagFormat {
 
     ghost grammar = { tag_grammar };
 
+    ghost asked = { λ tag. true };
+
     #[tactic(auto, unfolding(nm_codec::specs::Reading::tested_at))]
     fn read(alloc: Global, reader: &mut Reader<'_>) -> Result<Tag, ReadError> {
         let at = reader.at();
@@ -45,6 +54,10 @@ impl Format for TagFormat {
             Ok(tag) => Ok(tag),
             Err(_) => Err(ReadError::Bad { at }),
         }
+    }
+
+    fn len(value: &Tag) -> u64 {
+        text_len(value.text())
     }
 
     fn write(value: &Tag, writer: &mut Writer) -> Result<(), NoMemory> {
@@ -57,6 +70,8 @@ impl Format for WordFormat {
 
     ghost grammar = { word_grammar };
 
+    ghost asked = { λ word. true };
+
     #[tactic(auto, unfolding(nm_codec::specs::Reading::tested_at))]
     fn read(alloc: Global, reader: &mut Reader<'_>) -> Result<Word, ReadError> {
         let at = reader.at();
@@ -64,6 +79,10 @@ impl Format for WordFormat {
             Ok(word) => Ok(word),
             Err(_) => Err(ReadError::Bad { at }),
         }
+    }
+
+    fn len(value: &Word) -> u64 {
+        text_len(value.text())
     }
 
     fn write(value: &Word, writer: &mut Writer) -> Result<(), NoMemory> {
@@ -76,6 +95,8 @@ impl Format for PathFormat {
 
     ghost grammar = { path_grammar };
 
+    ghost asked = { λ path. true };
+
     #[tactic(auto, unfolding(nm_codec::specs::Reading::tested_at))]
     fn read(alloc: Global, reader: &mut Reader<'_>) -> Result<MailPath, ReadError> {
         let at = reader.at();
@@ -83,6 +104,10 @@ impl Format for PathFormat {
             Ok(path) => Ok(path),
             Err(_) => Err(ReadError::Bad { at }),
         }
+    }
+
+    fn len(value: &MailPath) -> u64 {
+        text_len(value.text())
     }
 
     fn write(value: &MailPath, writer: &mut Writer) -> Result<(), NoMemory> {

@@ -1,6 +1,6 @@
 //! A set of tags in bytes: its tags, which rise strictly.
 
-ghost use Rattle.std.specs.Prelude.{◌≡◌, true, IfOk, None};
+ghost use Rattle.std.specs.Prelude.{◌≡◌, length, min, true, IfOk, None};
 ghost use Rattle.std.specs.Cmp.Lexicographic.{slice_cmp};
 ghost use Rattle.std.specs.Ordering.{nat_cmp};
 ghost use Rattle.nm_codec.specs.Reading.{is_below, is_rising};
@@ -18,9 +18,19 @@ impl Format for TagsFormat {
 
     ghost grammar = { tags_grammar };
 
+    ghost asked = { λ tags. true };
+
     fn read(alloc: Global, reader: &mut Reader<'_>) -> Result<Tags, ReadError> {
         let tags = <RisingOf<TagFormat> as Format>::read(alloc, reader)?;
         Ok(tags_of(alloc, &tags)?)
+    }
+
+    fn len(value: &Tags) -> u64 {
+        let mut len = 4u64;
+        'tags: for tag in value.iter() {
+            len = len.saturating_add(TagFormat::len(tag));
+        }
+        len
     }
 
     fn write(value: &Tags, writer: &mut Writer) -> Result<(), NoMemory> {

@@ -1,6 +1,6 @@
 //! One commit, which every command makes so.
 
-ghost use Rattle.std.specs.Prelude.{◌≡◌, ◌<◌, ◌^◌, true, length, IfErr, IfOk, IfSome, None, OnOk};
+ghost use Rattle.std.specs.Prelude.{◌≡◌, true, IfErr, IfOk, IfSome, None, OnOk};
 ghost use Rattle.nm_commit.specs.Files.{Fits};
 ghost use Rattle.nm_disk.specs.Calls.{GoesOn};
 ghost use Rattle.nm_faults.specs.Faults.{HasCauseOf};
@@ -16,7 +16,7 @@ use nm_base::Limit;
 use nm_commit::Commit;
 use nm_disk::{Disk, DiskFault, FileNo};
 use nm_journal::Frame;
-use nm_record::commit_bytes;
+use nm_record::{commit_bytes, commit_len};
 use nm_state::Snapshot;
 use std::alloc::Global;
 
@@ -24,15 +24,13 @@ use std::alloc::Global;
 const MAX_COMMITS: usize = 65_536;
 
 /// The most bytes of a commit.
-const MAX_COMMIT_BYTES: usize = 1_073_741_824;
+const MAX_COMMIT_BYTES: u64 = 1_073_741_824;
 
 impl Writer {
     /// Makes one commit: all memory first, then the record on the disk, then the index after it is shown.
     pub fn commit<D: Disk>(&mut self, disk: &mut D, commit: Commit) -> Result<(), WriteError>
         requires open { self.old.closed ≡ None }
         requires fits { Fits self.old.shown.files commit }
-        requires value { commit_grammar.is_value commit ≡ true }
-        requires size { length (commit_grammar.bytes commit) < 2 ^ 32 }
         requires stands { IfSome (D.observed disk.old).told (λ moments. StandsOnIndex moments.present self.old) }
 
         ensures after { IsAfterCommit self.old commit (D.observed disk.new).clock (D.observed disk.new).faults result self.new }
@@ -75,18 +73,18 @@ fn prepared(
     commit: &Commit,
 ) -> Result<(Frame, Snapshot), WriteError>
     requires fits { Fits shown.now.files commit.now }
-    requires size { length (commit_grammar.bytes commit.now) < 2 ^ 32 }
     ensures frame { IfOk result (λ prepared. prepared.0 ≡ commit_grammar.bytes commit.now) }
+    ensures value { IfOk result (λ prepared. commit_grammar.is_value commit.now ≡ true) }
     ensures next { IfOk result (λ prepared. prepared.1 ≡ committed shown.now commit.now) }
     ensures limits { IfErr result (IsPreparing made commit.now) }
 {
     if made >= MAX_COMMITS {
         return Err(WriteError::Limit(Limit::Commits));
     }
-    let body = commit_bytes(alloc, commit)?;
-    if body.len() > MAX_COMMIT_BYTES {
+    if commit_len(commit) > MAX_COMMIT_BYTES {
         return Err(WriteError::Limit(Limit::CommitBytes));
     }
+    let body = commit_bytes(alloc, commit)?;
     let next = apply(shown, commit)?;
     let frame = Frame::new(alloc, &body)?;
     Ok((frame, next))
