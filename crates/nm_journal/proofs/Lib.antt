@@ -1,4 +1,5 @@
 pub mod AppendLemmas
+pub mod ClockLemmas
 pub mod MomentLemmas
 pub mod OpenLemmas
 pub mod RecordLemmas

@@ -1,6 +1,7 @@
 -- What a stop leaves of a file at the moments that a call goes through.
-use Rattle.std.specs.Prelude.{◌≡◌, ℕ, List, ◌∷◌, ◌++◌}
+use Rattle.std.specs.Prelude.{◌≡◌, ℕ, ◌≤◌, List, ◌∷◌, ◌++◌}
 use Rattle.std.specs.List.{AllByRecursion}
+use Rattle.nm_base.specs.Limits.{max_count}
 use Rattle.nm_disk.specs.declared.disk.FileNo.{FileNo}
 use Rattle.nm_disk.specs.declared.state.DiskState.{DiskState}
 use Rattle.nm_disk.specs.Images.{MayLeave}
@@ -19,3 +20,7 @@ pub record GoesThrough (file : FileNo) (holds : List ℕ → Type 0) (old new : 
   pub states : List DiskState
   pub each : AllByRecursion (LeavesOnly file holds) states
   pub are : all_moments new ≡ states ++ all_moments old
+
+-- a clock of 64 bits never falls, and stays one
+abbrev pub NeverFalls : ℕ → ℕ → Type 0
+NeverFalls before now = before ≤ max_count → (before ≤ now) × (now ≤ max_count)

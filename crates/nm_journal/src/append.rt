@@ -1,11 +1,11 @@
 //! One record more: it is staged behind the closed gate, and then the gate is opened.
 
-ghost use Rattle.std.specs.Prelude.{◌≡◌, ◌+◌, ◌<◌, ◌≤◌, ℕ, List, [], ◌∷◌, ◌++◌, true, false, length, IfOk, IfSome, OnOk, OnErr};
+ghost use Rattle.std.specs.Prelude.{◌≡◌, ◌+◌, ◌<◌, ◌≤◌, ℕ, List, [], ◌∷◌, ◌++◌, true, false, length, min, IfOk, IfSome, OnOk, OnErr};
 ghost use Rattle.nm_base.specs.Limits.{max_count};
 ghost use Rattle.nm_disk.specs.Calls.{GoesOn};
 ghost use Rattle.nm_faults.specs.Faults.{HasCause, HasCauseOf};
 ghost use Rattle.nm_journal.specs.Journal.{IsBeforeOrAfter, StandsOn, with_record};
-ghost use Rattle.nm_journal.specs.Moments.{GoesThrough};
+ghost use Rattle.nm_journal.specs.Moments.{GoesThrough, NeverFalls};
 ghost use Rattle.nm_journal.specs.Records.{HasRecords};
 ghost use Rattle.nm_journal.specs.Staged.{EndsAt, StagedAt};
 
@@ -22,6 +22,10 @@ impl Journal {
         ensures ok { OnOk result (self.new ≡ with_record self.old frame.now) }
         ensures err { OnErr result (self.new ≡ record self.old { failed = true }) }
         ensures receipt { IfOk result (λ receipt. receipt ≡ record { number = self.new.count; clock = (D.observed disk.new).clock; body = frame.now }) }
+
+        // The clock of the receipt is the number of moments before the present one.
+        ensures number { IfOk result (λ receipt. IfSome (D.observed disk.new).told (λ moments. receipt.clock ≡ min (length moments.past) max_count)) }
+        ensures clock { NeverFalls (D.observed disk.old).clock (D.observed disk.new).clock }
 
         // Once it has answered its receipt, whatever a stop leaves has the record.
         ensures stands { GoesOn
@@ -66,6 +70,7 @@ fn write_record<D: Disk>(disk: &mut D, file: FileNo, gate: u64, frame: &Frame) -
         (λ old new. (start : ℕ) (bodies : List (List ℕ)) → EndsAt old.present file start gate bodies
         → GoesThrough file (IsBeforeOrAfter start bodies frame.now) old new)
         (D.observed disk.old).told (D.observed disk.new).told }
+    ensures clock { NeverFalls (D.observed disk.old).clock (D.observed disk.new).clock }
     ensures cause { HasCause (D.observed disk.old).faults (D.observed disk.new).faults result }
 {
     stage(disk, file, gate, frame)?;
@@ -85,6 +90,7 @@ fn stage<D: Disk>(disk: &mut D, file: FileNo, gate: u64, frame: &Frame) -> Resul
         (λ old new. (start : ℕ) (bodies : List (List ℕ)) → EndsAt old.present file start gate bodies
         → GoesThrough file (HasRecords start bodies) old new)
         (D.observed disk.old).told (D.observed disk.new).told }
+    ensures clock { NeverFalls (D.observed disk.old).clock (D.observed disk.new).clock }
     ensures cause { HasCause (D.observed disk.old).faults (D.observed disk.new).faults result }
 {
     disk.write_at(file, gate + 1, frame.bytes())?;
@@ -103,6 +109,7 @@ fn open_gate<D: Disk>(disk: &mut D, file: FileNo, gate: u64, frame: &Frame) -> R
         (λ old new. (start : ℕ) (bodies : List (List ℕ)) → StagedAt old.present file start gate bodies frame.now
         → GoesThrough file (IsBeforeOrAfter start bodies frame.now) old new)
         (D.observed disk.old).told (D.observed disk.new).told }
+    ensures clock { NeverFalls (D.observed disk.old).clock (D.observed disk.new).clock }
     ensures cause { HasCause (D.observed disk.old).faults (D.observed disk.new).faults result }
 {
     let _len = frame.len();

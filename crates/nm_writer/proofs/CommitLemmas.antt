@@ -20,7 +20,7 @@ use Rattle.nm_writer.specs.Writing.{HoldsEither}
 use Rattle.nm_writer.proofs.ReplayLemmas.{commits-more}
 
 -- records of these commits hold the index after them
-holds : (bodies : List (List ℕ)) (commits : List Commit) (index : Base) (bytes : List ℕ) → HasCommits bodies commits index → HasRecords 0 bodies bytes → HoldsIndex bytes index
+pub holds : (bodies : List (List ℕ)) (commits : List Commit) (index : Base) (bytes : List ℕ) → HasCommits bodies commits index → HasRecords 0 bodies bytes → HoldsIndex bytes index
 holds bodies commits index bytes h records = record {
   commits = commits;
   records = subst (λ l. HasRecords 0 l bytes) h.bodies_are records;

@@ -18,7 +18,7 @@ fits-more : (index : Base) (commits : List Commit) (commit : Commit) → FitInTu
 fits-more index [] commit fit here = (here, tt)
 fits-more index (first ∷ commits) commit fit here = (fit.0, fits-more (committed index first) commits commit fit.1 here)
 
-folded-more : (index : Base) (commits : List Commit) (commit : Commit) → folded index (commits ++ commit ∷ []) ≡ committed (folded index commits) commit
+pub folded-more : (index : Base) (commits : List Commit) (commit : Commit) → folded index (commits ++ commit ∷ []) ≡ committed (folded index commits) commit
 folded-more index [] commit = refl
 folded-more index (first ∷ commits) commit = folded-more (committed index first) commits commit
 

@@ -1,3 +1,4 @@
+pub mod Durable
 pub mod Errors
 pub mod Opening
 pub mod StoredIndex

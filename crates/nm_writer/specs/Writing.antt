@@ -1,9 +1,10 @@
--- What a commit leaves, of the writer and of the disk.
+-- What a commit leaves, and what commits one after the other leave, of the writer and of the disk.
 use Rattle.std.specs.Prelude.{◌≡◌, ◌⊎◌, ℕ, ◌<◌, ◌≤◌, Bool, true, false, List, [], ◌∷◌, ◌++◌, Some, length, Result, Ok, Err}
+use Rattle.nm_base.specs.Limits.{max_commits}
 use Rattle.nm_base.specs.declared.limit.Limit.{Limit}
 use Rattle.nm_base.specs.declared.limit.Limit.TheVariants as limits
 use Rattle.nm_commit.specs.declared.change.Commit.{Commit}
-use Rattle.nm_index.specs.Index.{committed}
+use Rattle.nm_index.specs.Index.{committed, folded}
 use Rattle.nm_index.specs.declared.base.Base.{Base}
 use Rattle.nm_record.specs.CommitGrammar.{commit_grammar}
 use Rattle.nm_writer.specs.StoredIndex.{HoldsIndex}
@@ -11,39 +12,97 @@ use Rattle.nm_writer.specs.Writer.{WriterState}
 use Rattle.nm_writer.specs.declared.write_error.WriteError.{WriteError}
 use Rattle.nm_writer.specs.declared.write_error.WriteError.TheVariants as errors
 
--- the most commits of a session, and the most bytes of one
-abbrev pub max_commits : ℕ
-max_commits = 65536
-
+-- the most bytes of a commit
 abbrev pub max_commit_bytes : ℕ
 max_commit_bytes = 1073741824
 
--- what a commit passes where so many were begun before
-abbrev pub IsPassed : ℕ → Commit → Limit → Type 0
-IsPassed made commit limit =
+-- the limit that a commit passes where so many were begun before and this index is shown
+abbrev pub IsPassed : ℕ → Base → Commit → Limit → Type 0
+IsPassed made shown commit limit =
     ((limit ≡ limits.Commits) × (max_commits ≤ made))
     ⊎ ((limit ≡ limits.CommitBytes) × (made < max_commits) × (max_commit_bytes < length (commit_grammar.bytes commit)))
 
 -- a commit is refused before the disk is touched
-abbrev pub IsPreparing : ℕ → Commit → WriteError → Type 0
-IsPreparing made commit errors.DiskFault = ⊥
-IsPreparing made commit (errors.Limit limit) = IsPassed made commit limit
-IsPreparing made commit errors.NoMemory = Unit {0}
+abbrev pub IsPreparing : ℕ → Base → Commit → WriteError → Type 0
+IsPreparing made shown commit errors.MailFault = ⊥
+IsPreparing made shown commit errors.DiskFault = ⊥
+IsPreparing made shown commit (errors.Closed fault) = ⊥
+IsPreparing made shown commit (errors.Limit limit) = IsPassed made shown commit limit
+IsPreparing made shown commit errors.NoMemory = Unit {0}
 
 -- The commit is made and shown, and its clock kept; or it is begun and the writer closed, with the faults of the disk; or nothing is.
 abbrev pub IsAfterCommit : {T : Type 0} → WriterState → Commit → ℕ → ℕ → Result T WriteError → WriterState → Type 0
 IsAfterCommit old commit clock faults (Ok done) new =
     (new.shown ≡ committed old.shown commit) × (new.begun ≡ old.begun ++ commit ∷ []) × (new.acked ≡ old.acked ++ clock ∷ []) × (new.closed ≡ old.closed)
+IsAfterCommit old commit clock faults (Err errors.MailFault) new = ⊥
 IsAfterCommit old commit clock faults (Err errors.DiskFault) new =
     (new.shown ≡ old.shown) × (new.begun ≡ old.begun ++ commit ∷ []) × (new.acked ≡ old.acked) × (new.closed ≡ Some faults)
-IsAfterCommit old commit clock faults (Err (errors.Limit limit)) new = IsPassed (length old.begun) commit limit × (new ≡ old)
+IsAfterCommit old commit clock faults (Err (errors.Closed fault)) new = ⊥
+IsAfterCommit old commit clock faults (Err (errors.Limit limit)) new = IsPassed (length old.begun) old.shown commit limit × (new ≡ old)
 IsAfterCommit old commit clock faults (Err errors.NoMemory) new = new ≡ old
+
+-- the commits are made and shown, one after the other, and a clock is kept of each
+pub record HasCommitted (old : WriterState) (done : List Commit) (new : WriterState) : Type 0 where
+  pub shown : new.shown ≡ folded old.shown done
+  pub begun : new.begun ≡ old.begun ++ done
+  pub clocks : List ℕ
+  pub acked : new.acked ≡ old.acked ++ clocks
+  pub each : length clocks ≡ length done
+  pub closed : new.closed ≡ old.closed
+
+-- of these commits some were made, the first ones
+pub record StopsWithin (old : WriterState) (due : List Commit) (new : WriterState) : Type 0 where
+  pub done : List Commit
+  pub more : List Commit
+  pub due_are : due ≡ done ++ more
+  pub made : HasCommitted old done new
+
+-- of these commits some were made, and the next one passes a limit
+pub record PassesWithin (old : WriterState) (due : List Commit) (limit : Limit) (new : WriterState) : Type 0 where
+  pub done : List Commit
+  pub commit : Commit
+  pub more : List Commit
+  pub due_are : due ≡ done ++ commit ∷ more
+  pub made : HasCommitted old done new
+  pub passed : IsPassed (length new.begun) new.shown commit limit
+
+-- Of these commits some were made and are shown, and the disk failed at the next one, so the writer is closed, with the faults of the disk.
+pub record FailsWithin (old : WriterState) (due : List Commit) (faults : ℕ) (new : WriterState) : Type 0 where
+  pub done : List Commit
+  pub commit : Commit
+  pub more : List Commit
+  pub due_are : due ≡ done ++ commit ∷ more
+  pub shown : new.shown ≡ folded old.shown done
+  pub begun : new.begun ≡ old.begun ++ (done ++ commit ∷ [])
+  pub clocks : List ℕ
+  pub acked : new.acked ≡ old.acked ++ clocks
+  pub each : length clocks ≡ length done
+  pub closed : new.closed ≡ Some faults
+
+-- What the commits that are due leave, one after the other: all are made, or those before the one that is refused.
+abbrev pub IsAfterCommits : {T : Type 0} → WriterState → List Commit → ℕ → Result T WriteError → WriterState → Type 0
+IsAfterCommits old due faults (Ok done) new = HasCommitted old due new
+IsAfterCommits old due faults (Err errors.MailFault) new = ⊥
+IsAfterCommits old due faults (Err errors.DiskFault) new = FailsWithin old due faults new
+IsAfterCommits old due faults (Err (errors.Closed fault)) new = ⊥
+IsAfterCommits old due faults (Err (errors.Limit limit)) new = PassesWithin old due limit new
+IsAfterCommits old due faults (Err errors.NoMemory) new = StopsWithin old due new
 
 -- the index from before, or the one with the commit
 abbrev pub HoldsEither : Base → Commit → List ℕ → Type 0
 HoldsEither index commit bytes = HoldsIndex bytes index ⊎ HoldsIndex bytes (committed index commit)
 
 abbrev pub is_write_fault : WriteError → Bool
+is_write_fault errors.MailFault = false
 is_write_fault errors.DiskFault = true
+is_write_fault (errors.Closed fault) = false
 is_write_fault (errors.Limit limit) = false
 is_write_fault errors.NoMemory = false
+
+-- the error is a fault of the mail folder
+abbrev pub is_read_fault : WriteError → Bool
+is_read_fault errors.MailFault = true
+is_read_fault errors.DiskFault = false
+is_read_fault (errors.Closed fault) = false
+is_read_fault (errors.Limit limit) = false
+is_read_fault errors.NoMemory = false

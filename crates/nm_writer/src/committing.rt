@@ -1,12 +1,16 @@
 //! One commit, which every command makes so.
 
-ghost use Rattle.std.specs.Prelude.{◌≡◌, true, IfErr, IfOk, IfSome, None, OnOk};
+ghost use Rattle.std.specs.Prelude.{◌≡◌, false, length, min, true, IfErr, IfOk, IfSome, None, OnOk};
+ghost use Rattle.nm_base.specs.Limits.{max_count};
 ghost use Rattle.nm_commit.specs.Files.{Fits};
 ghost use Rattle.nm_disk.specs.Calls.{GoesOn};
+ghost use Rattle.nm_disk.specs.Observed.{ObservedDisk};
 ghost use Rattle.nm_faults.specs.Faults.{HasCauseOf};
 ghost use Rattle.nm_index.specs.Index.{committed};
-ghost use Rattle.nm_journal.specs.Moments.{GoesThrough};
+ghost use Rattle.nm_index.specs.declared.base.Base.{Base};
+ghost use Rattle.nm_journal.specs.Moments.{GoesThrough, NeverFalls};
 ghost use Rattle.nm_record.specs.CommitGrammar.{commit_grammar};
+ghost use Rattle.nm_writer.specs.Durable.{IsDurable};
 ghost use Rattle.nm_writer.specs.Writer.{StandsOnIndex};
 ghost use Rattle.nm_writer.specs.Writing.{HoldsEither, IsAfterCommit, IsPreparing, is_write_fault};
 
@@ -29,20 +33,41 @@ const MAX_COMMIT_BYTES: u64 = 1_073_741_824;
 impl Writer {
     /// Makes one commit: all memory first, then the record on the disk, then the index after it is shown.
     pub fn commit<D: Disk>(&mut self, disk: &mut D, commit: Commit) -> Result<(), WriteError>
-        requires open { self.old.closed ≡ None }
+        requires alive { self.old.closed ≡ None }
         requires fits { Fits self.old.shown.files commit }
         requires stands { IfSome (D.observed disk.old).told (λ moments. StandsOnIndex moments.present self.old) }
 
         ensures after { IsAfterCommit self.old commit (D.observed disk.new).clock (D.observed disk.new).faults result self.new }
 
-        // Once it is made, whatever a stop leaves holds the index that is shown.
-        ensures stands { GoesOn (λ old new. OnOk result (StandsOnIndex new.present self.new))
-            (D.observed disk.old).told (D.observed disk.new).told }
+        // Whatever a stop leaves then holds the index that is shown, unless the disk failed.
+        ensures stands { self.new.closed ≡ None → IfSome (D.observed disk.new).told (λ moments. StandsOnIndex moments.present self.new) }
 
         // At every moment of the call a stop leaves the index from before, or the one with the commit.
         ensures any_moment { GoesOn (λ old new. GoesThrough FileNo.Head (HoldsEither self.old.shown commit) old new)
             (D.observed disk.old).told (D.observed disk.new).told }
 
+        // What was acknowledged is never lost.
+        ensures durable { (entry : ObservedDisk) (opening : Base) → IsDurable entry opening (D.observed disk.old) self.old
+            → IsDurable entry opening (D.observed disk.new) self.new }
+
+        ensures cause { HasCauseOf is_write_fault (D.observed disk.old).faults (D.observed disk.new).faults result }
+    {
+        self.make(disk, commit)
+    }
+
+    /// Makes one commit, as `commit` does.
+    fn make<D: Disk>(&mut self, disk: &mut D, commit: Commit) -> Result<(), WriteError>
+        requires alive { self.old.closed ≡ None }
+        requires fits { Fits self.old.shown.files commit }
+        requires stands { IfSome (D.observed disk.old).told (λ moments. StandsOnIndex moments.present self.old) }
+        ensures after { IsAfterCommit self.old commit (D.observed disk.new).clock (D.observed disk.new).faults result self.new }
+        ensures stands { GoesOn (λ old new. OnOk result (StandsOnIndex new.present self.new))
+            (D.observed disk.old).told (D.observed disk.new).told }
+        ensures any_moment { GoesOn (λ old new. GoesThrough FileNo.Head (HoldsEither self.old.shown commit) old new)
+            (D.observed disk.old).told (D.observed disk.new).told }
+        ensures rises { NeverFalls (D.observed disk.old).clock (D.observed disk.new).clock }
+        ensures number { IfOk result (λ _. IfSome (D.observed disk.new).told (λ moments. (D.observed disk.new).clock ≡ min (length moments.past) max_count)) }
+        ensures waits { IfErr result (λ error. is_write_fault error ≡ false → D.observed disk.new ≡ D.observed disk.old) }
         ensures cause { HasCauseOf is_write_fault (D.observed disk.old).faults (D.observed disk.new).faults result }
     {
         let made = self.begun.as_slice().len();
@@ -76,7 +101,7 @@ fn prepared(
     ensures frame { IfOk result (λ prepared. prepared.0 ≡ commit_grammar.bytes commit.now) }
     ensures value { IfOk result (λ prepared. commit_grammar.is_value commit.now ≡ true) }
     ensures next { IfOk result (λ prepared. prepared.1 ≡ committed shown.now commit.now) }
-    ensures limits { IfErr result (IsPreparing made commit.now) }
+    ensures limits { IfErr result (IsPreparing made shown.now commit.now) }
 {
     if made >= MAX_COMMITS {
         return Err(WriteError::Limit(Limit::Commits));

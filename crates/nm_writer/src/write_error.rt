@@ -1,14 +1,20 @@
-//! Why a commit was not made.
+//! Why a commit or a command was refused.
 
 use nm_base::{Limit, NoMemory};
 use thiserror::Error;
 
-/// Why a commit was not made.
+/// Why a commit or a command was refused.
 #[derive(Clone, Copy, Debug, PartialEq, Eq, Error)]
 pub enum WriteError {
+    /// The mail folder failed, and nothing is changed.
+    #[error("mail fault")]
+    MailFault,
     /// The disk failed: it may hold the commit or not, and the writer is closed.
     #[error("disk fault")]
     DiskFault,
+    /// The disk had failed before, when it had so many faults; no device is asked.
+    #[error("closed by a disk fault")]
+    Closed { fault: u64 },
     #[error("a limit is passed")]
     Limit(Limit),
     #[error("no memory")]

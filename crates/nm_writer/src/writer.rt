@@ -1,11 +1,13 @@
 //! The writer of an index on a disk.
 
-ghost use Rattle.std.specs.Prelude.{◌≡◌, [], false, IfErr, IfOk, None};
+ghost use Rattle.std.specs.Prelude.{◌≡◌, ◌≤◌, [], false, IfErr, IfOk, IfSome, None};
+ghost use Rattle.nm_base.specs.Limits.{max_count};
 ghost use Rattle.nm_disk.specs.Calls.{GoesOn};
 ghost use Rattle.nm_disk.specs.Images.{MayLeave};
 ghost use Rattle.nm_disk.specs.Observed.{bytes_now};
 ghost use Rattle.nm_faults.specs.Faults.{HasCauseOf};
 ghost use Rattle.nm_journal.specs.Moments.{GoesThrough};
+ghost use Rattle.nm_writer.specs.Durable.{IsDurable};
 ghost use Rattle.nm_writer.specs.Opening.{HasOpenFault, is_disk_fault};
 ghost use Rattle.nm_writer.specs.StoredIndex.{HoldsIndex};
 ghost use Rattle.nm_writer.specs.Writer.{StandsOnIndex};
@@ -68,6 +70,12 @@ impl Writer {
         ensures stands { GoesOn (λ old new. IfOk result (λ writer. StandsOnIndex new.present writer))
             (D.observed disk.old).told (D.observed disk.new).told }
 
+        // What will be acknowledged is never lost, from the end of the call on; and from its entry on, where no write was
+        // pending there.
+        ensures durable { IfOk result (λ writer. IsDurable (D.observed disk.new) writer.shown (D.observed disk.new) writer) }
+        ensures durable_from_entry { IfSome (D.observed disk.old).told (λ moments. moments.present.written ≡ [])
+            → IfOk result (λ writer. IsDurable (D.observed disk.old) writer.shown (D.observed disk.new) writer) }
+
         ensures fresh { IfOk result (λ writer. (writer.begun ≡ []) × (writer.acked ≡ []) × (writer.closed ≡ None)) }
 
         // A bad index is told only where what a read gives is none, and then at the stated place.
@@ -80,8 +88,27 @@ impl Writer {
 
         ensures cause { HasCauseOf is_disk_fault (D.observed disk.old).faults (D.observed disk.new).faults result }
     {
+        Writer::opened(alloc, disk)
+    }
+
+    /// Opens the index, as `open` does.
+    fn opened<D: Disk>(alloc: Global, disk: &mut D) -> Result<Writer, OpenError>
+        ensures index { GoesOn (λ old new. IfOk result (λ writer. HoldsIndex (bytes_now old FileNo.Head) writer.shown))
+            (D.observed disk.old).told (D.observed disk.new).told }
+        ensures stands { GoesOn (λ old new. IfOk result (λ writer. StandsOnIndex new.present writer))
+            (D.observed disk.old).told (D.observed disk.new).told }
+        ensures fresh { IfOk result (λ writer. (writer.begun ≡ []) × (writer.acked ≡ []) × (writer.closed ≡ None)) }
+        ensures clock { IfOk result (λ writer. (D.observed disk.new).clock ≤ max_count) }
+        ensures bad { GoesOn (λ old new. IfErr result (HasOpenFault (bytes_now old FileNo.Head)))
+            (D.observed disk.old).told (D.observed disk.new).told }
+        ensures any_moment { GoesOn (λ old new. GoesThrough FileNo.Head (MayLeave old.present FileNo.Head) old new)
+            (D.observed disk.old).told (D.observed disk.new).told }
+        ensures cause { HasCauseOf is_disk_fault (D.observed disk.old).faults (D.observed disk.new).faults result }
+    {
         let (journal, bodies) = Journal::open(alloc, disk, FileNo::Head, 0)?;
         let shown = replayed(alloc, bodies.as_slice())?;
+        // A clock is a number of 64 bits, which the contract tells of the disk as well.
+        let _ = disk.clock();
         Ok(Writer {
             alloc,
             journal,

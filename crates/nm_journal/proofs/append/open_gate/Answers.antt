@@ -1,4 +1,5 @@
 use Rattle.nm_journal.proofs.AppendLemmas.{open_failed, open_goes, open_stands, room_for_gate}
+use Rattle.nm_journal.proofs.ClockLemmas.{then-on, ticked}
 use Rattle.nm_journal.proofs.append.open_gate.Goals as goal
 
 pub write_at-requires : goal.write_at-requires
@@ -22,3 +23,13 @@ returns-clause-any_moment g c =
     open_goes c.args.file c.args.gate c.args.frame.now c.len-len.ensures.fits c.sync.result
     (g.D.Disk.observed c.args.disk.now).told (g.D.Disk.observed c.write_at.new.self).told (g.D.Disk.observed c.sync.new.self).told
     (g.D.Disk.reads_an_image c.args.disk.now) c.in_ok-write_at.ensures.writes.told c.sync.ensures.told
+
+pub returns-in_err-write_at-clause-clock : goal.returns-in_err-write_at-clause-clock
+returns-in_err-write_at-clause-clock g c =
+    ticked (g.D.Disk.observed c.args.disk.now).clock (g.D.Disk.observed c.write_at.new.self).clock c.write_at.result c.write_at.ensures.writes.clock
+
+pub returns-clause-clock : goal.returns-clause-clock
+returns-clause-clock g c =
+    then-on (g.D.Disk.observed c.args.disk.now).clock (g.D.Disk.observed c.write_at.new.self).clock (g.D.Disk.observed c.sync.new.self).clock
+    (ticked (g.D.Disk.observed c.args.disk.now).clock (g.D.Disk.observed c.write_at.new.self).clock c.write_at.result c.write_at.ensures.writes.clock)
+    (ticked (g.D.Disk.observed c.write_at.new.self).clock (g.D.Disk.observed c.sync.new.self).clock c.sync.result c.sync.ensures.clock)

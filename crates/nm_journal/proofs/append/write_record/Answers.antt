@@ -1,4 +1,5 @@
 use Rattle.nm_journal.proofs.AppendLemmas.{is_staged, only_staged, record_goes, record_stands}
+use Rattle.nm_journal.proofs.ClockLemmas.{then-on}
 use Rattle.nm_journal.proofs.append.write_record.Goals as goal
 
 pub returns-in_err-stage-clause-any_moment : goal.returns-in_err-stage-clause-any_moment
@@ -21,3 +22,7 @@ returns-clause-any_moment g c =
     record_goes c.args.file c.args.gate c.args.frame.now
     (g.D.Disk.observed c.args.disk.now).told (g.D.Disk.observed c.stage.new.disk).told (g.D.Disk.observed c.open_gate.new.disk).told
     c.stage.ensures.any_moment c.in_ok-stage.ensures.staged c.open_gate.ensures.any_moment
+
+pub returns-clause-clock : goal.returns-clause-clock
+returns-clause-clock g c =
+    then-on (g.D.Disk.observed c.args.disk.now).clock (g.D.Disk.observed c.stage.new.disk).clock (g.D.Disk.observed c.open_gate.new.disk).clock c.stage.ensures.clock c.open_gate.ensures.clock

@@ -1,0 +1,95 @@
+-- What an opening leaves, from its end on, and from its entry on where no write was pending there.
+use Rattle.std.proofs.Common.{◌≡◌, ℕ, ◌+◌, ◌<◌, ◌≤◌, min, false, List, [], ◌∷◌, ◌++◌, Option, None, Some, IfOk, IfSome, Result, Ok, Err, length, take, get_or, refl, sym, ap, ◌∙◌, subst, append_assoc, arith}
+use Rattle.std.specs.List.{AllByRecursion}
+use Rattle.std.proofs.lemmas.List.{ext_get_or}
+use Rattle.nm_base.specs.Limits.{max_count}
+use Rattle.nm_commit.specs.declared.change.Commit.{Commit}
+use Rattle.nm_disk.specs.Calls.{GoesOn}
+use Rattle.nm_disk.specs.Images.{IsImage, IsLeft, MayLeave, bytes_of, is_written, reach}
+use Rattle.nm_disk.specs.Observed.{Moments, ObservedDisk, bytes_now}
+use Rattle.nm_disk.specs.declared.disk.FileNo.TheVariants.{Head}
+use Rattle.nm_disk.specs.declared.state.DiskState.{DiskState}
+use Rattle.nm_disk.specs.declared.state.Range.{Range}
+use Rattle.nm_index.specs.Index.{folded}
+use Rattle.nm_index.specs.declared.base.Base.{Base}
+use Rattle.nm_journal.specs.Moments.{GoesThrough, LeavesOnly}
+use Rattle.nm_writer.specs.Durable.{EachKeeps, HoldsPrefix, IsDurable, KeptSince, NeverFall}
+use Rattle.nm_writer.specs.StoredIndex.{HoldsIndex}
+use Rattle.nm_writer.specs.declared.open_error.OpenError.{OpenError}
+use Rattle.nm_writer.specs.Writer.{StandsOnIndex, WriterState}
+use Rattle.nm_writer.proofs.DurableLemmas.{stands-holds}
+
+-- before any commit the index is that of no commit
+prefix-none : (index : Base) (bytes : List ℕ) → HoldsIndex bytes index → HoldsPrefix index [] 0 bytes
+prefix-none index bytes h = record { count = 0; within = omega arith; acknowledged = omega arith; holds = h }
+
+each-none : (index : Base) (before : ℕ) (states : List DiskState) → AllByRecursion (LeavesOnly Head (λ bytes. HoldsIndex bytes index)) states → EachKeeps index [] [] before states
+each-none index before [] h = tt
+each-none index before (state ∷ states) h = (λ bytes left. prefix-none index bytes (h.0 bytes left), each-none index before states h.1)
+
+pub kept-here : (told : Option Moments) (writer : WriterState) → IfSome told (λ m. StandsOnIndex m.present writer) → GoesOn (KeptSince writer.shown [] []) told told
+kept-here None writer h = tt
+kept-here (Some m) writer h = record { states = m.present ∷ []; are = refl; each = each-none writer.shown (length m.past) (m.present ∷ []) (stands-holds m.present writer h, tt) }
+
+-- where nothing is pending a stop leaves what a read gives
+left-synced : (synced bytes : List ℕ) (written : List Range) → written ≡ [] → IsLeft synced (is_written written Head) (reach written Head (length synced)) bytes → bytes ≡ synced
+left-synced synced bytes written none left' =
+    let left : IsLeft synced (is_written [] Head) (length synced) bytes = subst (λ (w : List Range). IsLeft synced (is_written w Head) (reach w Head (length synced)) bytes) none left' in
+    let same : length bytes ≡ length synced = omega (arith, left.no_shorter, left.no_longer) in
+    ext_get_or 0 bytes synced same (λ i within. left.elsewhere i (omega (arith, within, same)) refl)
+
+settled : (state : DiskState) (bytes : List ℕ) → state.written ≡ [] → IsImage state state.now → MayLeave state Head bytes → bytes ≡ bytes_of Head state.now
+settled state bytes none image left =
+    left-synced (bytes_of Head state.synced) bytes state.written none left ∙ sym (left-synced (bytes_of Head state.synced) (bytes_of Head state.now) state.written none (image Head))
+
+each-settled : (entry : DiskState) (index : Base) (states : List DiskState) → entry.written ≡ [] → IsImage entry entry.now → HoldsIndex (bytes_of Head entry.now) index → AllByRecursion (LeavesOnly Head (MayLeave entry Head)) states
+    → AllByRecursion (LeavesOnly Head (λ bytes. HoldsIndex bytes index)) (states ++ entry ∷ [])
+each-settled entry index [] none image held h = (λ bytes left. subst (λ (b : List ℕ). HoldsIndex b index) (sym (settled entry bytes none image left)) held, tt)
+each-settled entry index (state ∷ states) none image held h =
+    (λ bytes left. subst (λ (b : List ℕ). HoldsIndex b index) (sym (settled entry bytes none image (h.0 bytes left))) held, each-settled entry index states none image held h.1)
+
+pub kept-entry : (old new : Option Moments) (index : Base) → IfSome old (λ m. m.present.written ≡ []) → IfSome old (λ m. IsImage m.present m.present.now) → GoesOn (λ o n. HoldsIndex (bytes_now o Head) index) old new
+    → GoesOn (λ o n. GoesThrough Head (MayLeave o.present Head) o n) old new → GoesOn (KeptSince index [] []) old new
+kept-entry None None index none image held through = tt
+kept-entry None (Some n) index none image held through = absurd through
+kept-entry (Some o) None index none image held through = absurd through
+kept-entry (Some o) (Some n) index none image held through = record {
+  states = through.states ++ o.present ∷ [];
+  are = through.are ∙ sym (append_assoc through.states (o.present ∷ []) o.past);
+  each = each-none index (length o.past) (through.states ++ o.present ∷ []) (each-settled o.present index through.states none image held through.each);
+}
+
+-- a writer that was opened is durable from an entry on, where what a stop leaves since then is its index
+module _ (entry new : ObservedDisk) (writer : WriterState) (begun : writer.begun ≡ []) (acked : writer.acked ≡ []) (clock : new.clock ≤ max_count) where
+  pub durable-none : GoesOn (KeptSince writer.shown [] []) entry.told new.told → IsDurable entry writer.shown new writer
+  durable-none kept =
+      let none : length writer.begun ≡ 0 = ap (λ (l : List Commit). length l) begun in
+      let unacked : length writer.acked ≡ 0 = ap (λ (l : List ℕ). length l) acked in
+      record {
+        within = omega (arith, none, unacked);
+        few = omega (arith, none, unacked);
+        all = λ alive. none ∙ sym unacked;
+        shown = subst (λ (l : List Commit). writer.shown ≡ folded writer.shown (take (length writer.acked) l)) (sym begun) (subst (λ (l : List ℕ). writer.shown ≡ folded writer.shown (take (length l) [])) (sym acked) refl);
+        clocks = subst (λ (l : List ℕ). NeverFall 0 l new.clock) (sym acked) (omega arith);
+        clock = clock;
+        kept = subst (λ (l : List Commit). GoesOn (KeptSince writer.shown l writer.acked) entry.told new.told) (sym begun) (subst (λ (l : List ℕ). GoesOn (KeptSince writer.shown [] l) entry.told new.told) (sym acked) kept);
+      }
+
+here-told : (old new : Option Moments) (writer : WriterState) → GoesOn (λ o n. StandsOnIndex n.present writer) old new → IfSome new (λ m. StandsOnIndex m.present writer)
+here-told None None writer h = tt
+here-told None (Some n) writer h = absurd h
+here-told (Some o) None writer h = tt
+here-told (Some o) (Some n) writer h = h
+
+-- from the end of an opening on
+pub durable-here : (old new : ObservedDisk) (result : Result WriterState OpenError) → IfOk result (λ w. (w.begun ≡ []) × (w.acked ≡ []) × (w.closed ≡ None)) → IfOk result (λ w. new.clock ≤ max_count)
+    → GoesOn (λ o n. IfOk result (λ w. StandsOnIndex n.present w)) old.told new.told → IfOk result (λ w. IsDurable new w.shown new w)
+durable-here old new (Ok w) fresh clock stands = durable-none new new w fresh.0 fresh.1 clock (kept-here new.told w (here-told old.told new.told w stands))
+durable-here old new (Err error) fresh clock stands = tt
+
+-- and from its entry on
+pub durable-entry : (old new : ObservedDisk) (result : Result WriterState OpenError) → IfSome old.told (λ m. IsImage m.present m.present.now) → IfOk result (λ w. (w.begun ≡ []) × (w.acked ≡ []) × (w.closed ≡ None)) → IfOk result (λ w. new.clock ≤ max_count)
+    → GoesOn (λ o n. IfOk result (λ w. HoldsIndex (bytes_now o Head) w.shown)) old.told new.told → GoesOn (λ o n. GoesThrough Head (MayLeave o.present Head) o n) old.told new.told
+    → IfSome old.told (λ m. m.present.written ≡ []) → IfOk result (λ w. IsDurable old w.shown new w)
+durable-entry old new (Ok w) image fresh clock index through none = durable-none old new w fresh.0 fresh.1 clock (kept-entry old.told new.told w.shown none image index through)
+durable-entry old new (Err error) image fresh clock index through none = tt
