@@ -1,4 +1,5 @@
 pub mod FoundLemmas
 pub mod LenLemmas
+pub mod SizeLemmas
 pub mod TagLemmas
 pub mod WriteLemmas

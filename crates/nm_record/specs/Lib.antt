@@ -1,7 +1,9 @@
+pub mod BaseBytes
 pub mod ChangeLaws
 pub mod CodeLaws
 pub mod Codes
 pub mod CommitGrammar
 pub mod Commits
 pub mod Facts
+pub mod Room
 pub mod Tags

@@ -5,7 +5,11 @@
 mod changes;
 mod commits;
 mod facts;
+mod laws;
+mod lens;
 mod names;
 mod tag_list;
 
 pub use commits::{commit_bytes, commit_len, read_commit};
+pub use laws::a_base_takes_what_its_parts_take;
+pub use lens::{file_len, id_len, tags_len};
