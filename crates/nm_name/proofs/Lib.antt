@@ -1,0 +1,3 @@
+mod CutLemmas
+mod LawLemmas
+pub mod PathLemmas

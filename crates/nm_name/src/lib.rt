@@ -1,0 +1,13 @@
+//! Committing and publishing: the flags that the name of a mail file carries (maildir(5)), read and written.
+#![tactic(auto)]
+
+mod cuts;
+mod flags;
+mod laws;
+mod names;
+mod renaming;
+
+pub use flags::Flags;
+pub use laws::{a_name_that_may_not_be_renamed_stays, other_letters_stay, what_is_written_is_read};
+pub use names::parse_name;
+pub use renaming::{NameError, with_flags};
