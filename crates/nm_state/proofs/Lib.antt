@@ -3,6 +3,7 @@ pub mod OrderLemmas
 pub mod FilingLemmas
 pub mod KeptLemmas
 pub mod ListLemmas
+pub mod MeasureLemmas
 pub mod HeldLemmas
 pub mod AddLemmas
 pub mod ChangeLemmas
@@ -11,3 +12,4 @@ pub mod TakeLemmas
 pub mod ReadingLemmas
 pub mod OpeningLemmas
 pub mod NumberLemmas
+pub mod RoomLemmas

@@ -1,5 +1,7 @@
+pub mod Counts
 pub mod Filing
 pub mod Kept
+pub mod Measures
 pub mod Parts
 pub mod Snapshot
 pub mod ThreadLaws

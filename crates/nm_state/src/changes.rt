@@ -27,7 +27,7 @@ pub fn add_mail(
 {
     thread_laws();
     tag_mail(alloc, &parts.filing, &mut parts.tags, facts)?;
-    label_mail(&mut parts.labels, facts)?;
+    label_mail(alloc, &mut parts.labels, facts)?;
     add_file(alloc, &mut parts.filing, path, facts)?;
     Ok(())
 }

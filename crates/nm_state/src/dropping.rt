@@ -1,13 +1,10 @@
 //! A mail that goes: its row is kept, and then what no live message holds goes. Only the thread of the mail can have lost
 //! its last live message, so nothing else is looked at.
 
-ghost use Rattle.std.specs.Prelude.{◌≡◌, ◌<◌, ◌∷◌, [], List, true, map, IfOk, OnOk};
-ghost use Rattle.std.specs.List.{filter, list_any};
-ghost use Rattle.nm_base.specs.declared.facts.LinkRow.{LinkRow};
+ghost use Rattle.std.specs.Prelude.{◌≡◌, ◌∷◌, [], true, IfOk, OnOk};
+ghost use Rattle.std.specs.List.{list_any};
 ghost use Rattle.nm_commit.specs.Files.{has_id, has_path};
 ghost use Rattle.nm_index.specs.Index.{files_at, pruned, without_dead_tags, without_first};
-ghost use Rattle.nm_threads.specs.Labels.{AreLabelsOf, entries_of};
-ghost use Rattle.nm_threads.specs.Same.{is_same};
 ghost use Rattle.nm_state.specs.Filing.{AreFiled, files_in};
 ghost use Rattle.nm_state.specs.Parts.{AreLoose, AreParts, base_of, without_file};
 
@@ -15,34 +12,9 @@ use crate::filing::{Filing, is_live, remove_file};
 use crate::kept::{forget_rows, keep_row};
 use crate::labelling::{row_of, thread_laws};
 use crate::parts::Parts;
-use nm_base::{Facts, MailPath, Many, MessageId, NoMemory, Steps};
+use nm_base::{Facts, MailPath, MessageId, NoMemory};
 use nm_shared::Shared;
-use nm_threads::Labels;
 use std::alloc::Global;
-use std::marker::Brand;
-use std::sync::ledger::{Blank, Ledger};
-
-/// The ids of a thread, whose steps nobody counts.
-fn thread_uncounted<L: Ledger>(
-    labels: &Labels,
-    id: &MessageId,
-    blank: Blank,
-) -> Result<Many<MessageId>, NoMemory>
-    requires name { blank.name ≡ L.name }
-    requires parts { blank.parts ≡ L.parts }
-    requires whole { 0 < L.parts }
-    ensures { IfOk result (λ ids. (rows : List LinkRow) → AreLabelsOf rows labels.now.labels → ids ≡ map (λ entry. entry.0) (filter (λ entry. is_same rows id.now entry.0) (entries_of labels.now.labels))) }
-{
-    let mut steps = Steps::<L>::begin(blank);
-    labels.thread_of(id, &mut steps)
-}
-
-/// The ids of the thread of an id.
-fn members_of(labels: &Labels, id: &MessageId) -> Result<Many<MessageId>, NoMemory>
-    ensures { IfOk result (λ ids. (rows : List LinkRow) → AreLabelsOf rows labels.now.labels → ids ≡ map (λ entry. entry.0) (filter (λ entry. is_same rows id.now entry.0) (entries_of labels.now.labels))) }
-{
-    thread_uncounted::<Brand>(labels, id, Blank::new(1))
-}
 
 /// Says whether one of the messages has a file.
 fn any_live(filing: &Filing, ids: &[MessageId]) -> bool
@@ -79,11 +51,11 @@ fn prune(alloc: Global, parts: &mut Parts, id: &MessageId) -> Result<(), NoMemor
     ensures base { OnOk result (base_of parts.new ≡ pruned (base_of parts.old)) }
 {
     thread_laws();
-    let members = members_of(&parts.labels, id)?;
+    let members = parts.labels.thread_of(id)?;
     if any_live(&parts.filing, members.as_slice()) {
         return Ok(());
     }
-    parts.labels.drop_thread(id)?;
+    parts.labels.drop_thread(id, members.as_slice())?;
     forget_rows(alloc, &mut parts.kept, members.as_slice())?;
     Ok(())
 }

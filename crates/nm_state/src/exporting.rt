@@ -7,20 +7,21 @@ ghost use Rattle.nm_state.specs.Filing.{files_in};
 ghost use Rattle.nm_state.specs.Parts.{base_of};
 
 use crate::filing::Filing;
+use crate::measured_labels::MeasuredLabels;
+use crate::measured_map::MeasuredMap;
 use crate::parts::Parts;
 use crate::reading::Files;
 use crate::row_bytes::RowBytes;
 use nm_base::{Copies, Facts, LinkRow, MailPath, Many, MessageId, NoMemory, Tags};
 use nm_index::Base;
-use nm_shared::{Shared, SharedMap};
-use nm_threads::Labels;
+use nm_shared::Shared;
 use std::alloc::Global;
 
 fn files_of(alloc: Global, filing: &Filing) -> Result<Many<(MailPath, Facts)>, NoMemory>
     ensures { IfOk result (λ files. files ≡ files_in filing.now) }
 {
     let mut files = Many::new(alloc);
-    let mut rest = Files::of(&filing.files);
+    let mut rest = Files::of(filing.files.pairs());
     'files: while let Some((path, facts)) = rest.next() {
         files.push((path.copy()?, facts.copy()?))?;
     }
@@ -29,7 +30,7 @@ fn files_of(alloc: Global, filing: &Filing) -> Result<Many<(MailPath, Facts)>, N
 
 fn rows_of(
     alloc: Global,
-    kept: &SharedMap<RowBytes, Shared<LinkRow>>,
+    kept: &MeasuredMap<RowBytes, Shared<LinkRow>>,
 ) -> Result<Many<LinkRow>, NoMemory>
     ensures { IfOk result (λ rows. rows ≡ values_of kept.now) }
 {
@@ -41,7 +42,7 @@ fn rows_of(
     Ok(rows)
 }
 
-fn entries_of(alloc: Global, labels: &Labels) -> Result<Many<(MessageId, u64)>, NoMemory>
+fn entries_of(alloc: Global, labels: &MeasuredLabels) -> Result<Many<(MessageId, u64)>, NoMemory>
     ensures { IfOk result (λ entries. entries ≡ entries_of labels.now.labels) }
 {
     let mut entries = Many::new(alloc);
@@ -54,7 +55,7 @@ fn entries_of(alloc: Global, labels: &Labels) -> Result<Many<(MessageId, u64)>, 
 
 fn tags_of(
     alloc: Global,
-    all: &SharedMap<MessageId, Shared<Tags>>,
+    all: &MeasuredMap<MessageId, Shared<Tags>>,
 ) -> Result<Many<(MessageId, Tags)>, NoMemory>
     ensures { IfOk result (λ tags. tags ≡ all.now) }
 {

@@ -7,6 +7,7 @@ ghost use Rattle.std.specs.Map.{values_of};
 ghost use Rattle.nm_commit.specs.Files.{has_id, has_path, with_moved, without_path};
 ghost use Rattle.nm_state.specs.Filing.{AreFiled, at_place, at_text, files_in, lying_in};
 
+use crate::measured_map::MeasuredMap;
 use crate::places::{add_place, remove_place};
 use crate::reading::{MessageFiles, Paths};
 use nm_base::{Copies, Facts, MailPath, Many, MessageId, NoMemory};
@@ -15,7 +16,7 @@ use std::alloc::Global;
 
 /// The files, each at its place: the number of files that had come before it.
 pub struct Filing {
-    pub files: SharedMap<u64, (MailPath, Shared<Facts>)>,
+    pub files: MeasuredMap<u64, (MailPath, Shared<Facts>)>,
     pub places: SharedMap<MailPath, u64>,
     pub of_id: SharedMap<MessageId, Shared<Many<u64>>>,
     pub next: u64,
@@ -38,7 +39,7 @@ impl Filing {
         ensures files { files_in result ≡ [] }
     {
         Filing {
-            files: SharedMap::new(alloc),
+            files: MeasuredMap::new(alloc),
             places: SharedMap::new(alloc),
             of_id: SharedMap::new(alloc),
             next: 0,
@@ -88,7 +89,7 @@ pub fn files_of<'a>(filing: &'a Filing, id: &MessageId) -> Option<MessageFiles<'
     ensures { MatchOption result (has_id (files_in filing.now) id.now ≡ false) (λ files. files ≡ filter (λ file. same_text id.now file.1.id) (files_in filing.now)) }
 {
     let places = filing.of_id.get(id)?;
-    Some(MessageFiles::of(places.get().as_slice(), &filing.files))
+    Some(MessageFiles::of(places.get().as_slice(), filing.files.pairs()))
 }
 
 /// Puts a file behind all others.

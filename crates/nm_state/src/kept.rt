@@ -8,15 +8,16 @@ ghost use Rattle.nm_base.specs.Order.{has_text};
 ghost use Rattle.nm_index.specs.Index.{row_cmp};
 ghost use Rattle.nm_state.specs.Kept.{AreKept};
 
+use crate::measured_map::MeasuredMap;
 use crate::row_bytes::RowBytes;
 use nm_base::{Copies, LinkRow, MessageId, NoMemory, TextSet};
-use nm_shared::{Shared, SharedMap};
+use nm_shared::Shared;
 use std::alloc::Global;
 
 /// Keeps a row, at its place in the order.
 pub fn keep_row(
     alloc: Global,
-    kept: &mut SharedMap<RowBytes, Shared<LinkRow>>,
+    kept: &mut MeasuredMap<RowBytes, Shared<LinkRow>>,
     row: LinkRow,
 ) -> Result<(), NoMemory>
     requires { AreKept kept.old }
@@ -49,13 +50,13 @@ fn set_of(alloc: Global, ids: &[MessageId]) -> Result<TextSet<MessageId>, NoMemo
 /// The rows whose mails are none of these.
 fn other_rows(
     alloc: Global,
-    kept: &SharedMap<RowBytes, Shared<LinkRow>>,
+    kept: &MeasuredMap<RowBytes, Shared<LinkRow>>,
     ids: &TextSet<MessageId>,
-) -> Result<SharedMap<RowBytes, Shared<LinkRow>>, NoMemory>
+) -> Result<MeasuredMap<RowBytes, Shared<LinkRow>>, NoMemory>
     requires { AreKept kept.now }
     ensures { IfOk result (λ rest. rest ≡ filter (λ entry. not (has_text ids.now entry.1.id)) kept.now) }
 {
-    let mut rest = SharedMap::new(alloc);
+    let mut rest = MeasuredMap::new(alloc);
     let mut entries = kept.iter();
     'entries: while let Some(entry) = entries.next() {
         if !ids.contains(&entry.1.get().id) {
@@ -68,7 +69,7 @@ fn other_rows(
 /// Lets go the rows of these mails.
 pub fn forget_rows(
     alloc: Global,
-    kept: &mut SharedMap<RowBytes, Shared<LinkRow>>,
+    kept: &mut MeasuredMap<RowBytes, Shared<LinkRow>>,
     ids: &[MessageId],
 ) -> Result<(), NoMemory>
     requires { AreKept kept.old }

@@ -1,6 +1,6 @@
 //! The labels and tags of a mail that comes, and the laws of threads that the work rests on.
 
-ghost use Rattle.std.specs.Prelude.{◌≡◌, ◌<◌, ◌≤◌, ◌^◌, ◌∷◌, List, IfOk, OnOk, if◌then◌else◌};
+ghost use Rattle.std.specs.Prelude.{◌≡◌, ◌≤◌, ◌^◌, ◌∷◌, List, IfOk, OnOk, if◌then◌else◌};
 ghost use Rattle.std.specs.BTreeMap.{insert_entry};
 ghost use Rattle.std.specs.Cmp.Lexicographic.{slice_cmp};
 ghost use Rattle.std.specs.Ordering.{nat_cmp};
@@ -8,21 +8,20 @@ ghost use Rattle.nm_base.specs.declared.facts.LinkRow.{LinkRow};
 ghost use Rattle.nm_commit.specs.Files.{has_id};
 ghost use Rattle.nm_index.specs.Index.{first_tags, row_of};
 ghost use Rattle.nm_threads.specs.Labels.{AreLabelsOf, entries_of, numbered};
-ghost use Rattle.nm_threads.specs.Same.{ids_of};
 ghost use Rattle.nm_state.specs.Filing.{AreFiled, files_in};
 ghost use Rattle.nm_state.specs.ThreadLaws.{ThreadLaws};
 
 use crate::filing::{Filing, is_live};
+use crate::measured_labels::MeasuredLabels;
+use crate::measured_map::MeasuredMap;
 use crate::tagging::{first_tags, set_tags};
-use nm_base::{Copies, Facts, LinkRow, MessageId, NoMemory, Steps, Tags};
-use nm_shared::{Shared, SharedMap};
+use nm_base::{Copies, Facts, LinkRow, MessageId, NoMemory, Tags};
+use nm_shared::Shared;
 use nm_threads::{
-    Labels, labels_know_no_order_of_rows, same_is_an_equivalence, same_is_what_is_computed,
+    labels_know_no_order_of_rows, same_is_an_equivalence, same_is_what_is_computed,
     the_order_of_rows_is_nothing,
 };
 use std::alloc::Global;
-use std::marker::Brand;
-use std::sync::ledger::{Blank, Ledger};
 
 /// The laws of threads in one. No code runs.
 pub fn thread_laws()
@@ -32,23 +31,6 @@ pub fn thread_laws()
     same_is_an_equivalence();
     the_order_of_rows_is_nothing();
     labels_know_no_order_of_rows();
-}
-
-/// Adds a row whose steps nobody counts.
-fn add_uncounted<L: Ledger>(
-    labels: &mut Labels,
-    row: &LinkRow,
-    blank: Blank,
-) -> Result<(), NoMemory>
-    requires name { blank.name ≡ L.name }
-    requires parts { blank.parts ≡ L.parts }
-    requires whole { 0 < L.parts }
-    requires room { (numbered (entries_of labels.old.labels) labels.old.next (ids_of row.now)).1 ≤ 2 ^ 63 }
-    ensures numbers { OnOk result ((entries_of labels.new.labels, labels.new.next) ≡ numbered (entries_of labels.old.labels) labels.old.next (ids_of row.now)) }
-    ensures labels { OnOk result ((rows : List LinkRow) → AreLabelsOf rows labels.old.labels → AreLabelsOf (row.now ∷ rows) labels.new.labels) }
-{
-    let mut steps = Steps::<L>::begin(blank);
-    labels.add_row_in_place(row, &mut steps)
 }
 
 /// The row of a mail: its id, and the ids that it links to.
@@ -62,20 +44,21 @@ pub fn row_of(facts: &Facts) -> Result<LinkRow, NoMemory>
 }
 
 /// The labels once the mail is there.
-pub fn label_mail(labels: &mut Labels, facts: &Facts) -> Result<(), NoMemory>
+pub fn label_mail(alloc: Global, labels: &mut MeasuredLabels, facts: &Facts) -> Result<(), NoMemory>
     requires { (numbered (entries_of labels.old.labels) labels.old.next (facts.now.id ∷ facts.now.links)).1 ≤ 2 ^ 63 }
     ensures numbers { OnOk result ((entries_of labels.new.labels, labels.new.next) ≡ numbered (entries_of labels.old.labels) labels.old.next (facts.now.id ∷ facts.now.links)) }
     ensures labels { OnOk result ((rows : List LinkRow) → AreLabelsOf rows labels.old.labels → AreLabelsOf (row_of facts.now ∷ rows) labels.new.labels) }
 {
     let row = row_of(facts)?;
-    add_uncounted::<Brand>(labels, &row, Blank::new(1))
+    labels.add_row(alloc, &row)?;
+    Ok(())
 }
 
 /// The tags once the mail is there: a message without a file gets its first ones.
 pub fn tag_mail(
     alloc: Global,
     filing: &Filing,
-    tags: &mut SharedMap<MessageId, Shared<Tags>>,
+    tags: &mut MeasuredMap<MessageId, Shared<Tags>>,
     facts: &Facts,
 ) -> Result<(), NoMemory>
     requires { AreFiled filing.now }

@@ -15,13 +15,14 @@ ghost use Rattle.nm_state.specs.Parts.{AreParts, base_of};
 use crate::filing::{Filing, add_file};
 use crate::kept::keep_row;
 use crate::labelling::row_of;
+use crate::measured_labels::MeasuredLabels;
+use crate::measured_map::MeasuredMap;
 use crate::parts::Parts;
 use crate::row_bytes::RowBytes;
 use crate::tagging::set_tags;
 use nm_base::{Copies, Facts, LinkRow, MailPath, Many, MessageId, NoMemory, Tags};
 use nm_index::Base;
-use nm_shared::{Shared, SharedMap};
-use nm_threads::Labels;
+use nm_shared::Shared;
 use std::alloc::Global;
 
 /// The files in their maps.
@@ -41,12 +42,12 @@ fn file_all(alloc: Global, files: &[(MailPath, Facts)]) -> Result<Filing, NoMemo
 fn keep_all(
     alloc: Global,
     rows: &[LinkRow],
-) -> Result<SharedMap<RowBytes, Shared<LinkRow>>, NoMemory>
+) -> Result<MeasuredMap<RowBytes, Shared<LinkRow>>, NoMemory>
     requires { IsStrictlySortedBy row_cmp rows.now }
     ensures kept { IfOk result (λ kept. AreKept kept) }
     ensures rows { IfOk result (λ kept. values_of kept ≡ rows.now) }
 {
-    let mut kept = SharedMap::new(alloc);
+    let mut kept = MeasuredMap::new(alloc);
     'rows: for row in rows {
         keep_row(alloc, &mut kept, row.copy()?)?;
     }
@@ -57,11 +58,11 @@ fn keep_all(
 fn tag_all(
     alloc: Global,
     tags: &[(MessageId, Tags)],
-) -> Result<SharedMap<MessageId, Shared<Tags>>, NoMemory>
+) -> Result<MeasuredMap<MessageId, Shared<Tags>>, NoMemory>
     requires { IsSorted (keys_of tags.now) }
     ensures { IfOk result (λ all. all ≡ tags.now) }
 {
-    let mut all = SharedMap::new(alloc);
+    let mut all = MeasuredMap::new(alloc);
     'tags: for tagged in tags {
         set_tags(alloc, &mut all, &tagged.0, tagged.1.copy()?)?;
     }
@@ -101,7 +102,7 @@ pub fn parts_of(alloc: Global, base: &Base) -> Result<Parts, NoMemory>
     ensures base { IfOk result (λ parts. base_of parts ≡ base.now) }
 {
     let rows = all_rows(alloc, base.files.as_slice(), &base.kept)?;
-    let labels = Labels::of(alloc, &rows, &base.entries, base.next)?;
+    let labels = MeasuredLabels::of(alloc, &rows, &base.entries, base.next)?;
     let filing = file_all(alloc, base.files.as_slice())?;
     let kept = keep_all(alloc, base.kept.as_slice())?;
     let tags = tag_all(alloc, base.tags.as_slice())?;

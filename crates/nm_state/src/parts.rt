@@ -5,19 +5,20 @@ ghost use Rattle.nm_index.specs.Index.{empty_index};
 ghost use Rattle.nm_state.specs.Parts.{AreParts, base_of};
 
 use crate::filing::Filing;
+use crate::measured_labels::MeasuredLabels;
+use crate::measured_map::MeasuredMap;
 use crate::row_bytes::RowBytes;
 use nm_base::{Copies, LinkRow, MessageId, NoMemory, Tags};
-use nm_shared::{Shared, SharedMap};
-use nm_threads::Labels;
+use nm_shared::Shared;
 use std::alloc::Global;
 
 /// Files, rows of mails that went, labels and tags.
 pub struct Parts {
     pub revision: u64,
     pub filing: Filing,
-    pub kept: SharedMap<RowBytes, Shared<LinkRow>>,
-    pub labels: Labels,
-    pub tags: SharedMap<MessageId, Shared<Tags>>,
+    pub kept: MeasuredMap<RowBytes, Shared<LinkRow>>,
+    pub labels: MeasuredLabels,
+    pub tags: MeasuredMap<MessageId, Shared<Tags>>,
 }
 
 impl Drop for Parts {
@@ -41,9 +42,9 @@ impl Parts {
         Parts {
             revision: 0,
             filing: Filing::new(alloc),
-            kept: SharedMap::new(alloc),
-            labels: Labels::new(alloc),
-            tags: SharedMap::new(alloc),
+            kept: MeasuredMap::new(alloc),
+            labels: MeasuredLabels::new(alloc),
+            tags: MeasuredMap::new(alloc),
         }
     }
 

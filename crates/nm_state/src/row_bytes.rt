@@ -51,7 +51,7 @@ impl RowBytes {
         })
     }
 
-    fn as_slice(&self) -> &[u8]
+    pub fn as_slice(&self) -> &[u8]
         ensures { result.now ≡ self.now }
     {
         self.bytes.get().as_slice()

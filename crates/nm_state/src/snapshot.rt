@@ -1,6 +1,6 @@
 //! The snapshot.
 
-ghost use Rattle.std.specs.Prelude.{◌≡◌, ◌+◌, ◌<◌, ◌≤◌, ◌^◌, ◌↔◌, ℕ, List, false, IfOk, IsTrue, MatchOption, Contains};
+ghost use Rattle.std.specs.Prelude.{◌≡◌, ◌+◌, ◌<◌, ◌≤◌, ◌^◌, ◌↔◌, ℕ, List, false, None, Some, IfOk, IsTrue, MatchOption, OnOk, Contains};
 ghost use Rattle.std.specs.BTreeMap.{is_at};
 ghost use Rattle.std.specs.Cmp.Lexicographic.{slice_cmp};
 ghost use Rattle.std.specs.List.{filter};
@@ -8,10 +8,12 @@ ghost use Rattle.std.specs.Map.{lookup};
 ghost use Rattle.std.specs.Option.{option_copied};
 ghost use Rattle.std.specs.Ordering.{nat_cmp};
 ghost use Rattle.nm_base.specs.Order.{IsSorted, has_text, same_text};
+ghost use Rattle.nm_base.specs.declared.limit.Limit.{Limit};
 ghost use Rattle.nm_commit.specs.Files.{Fits, has_id, has_path};
 ghost use Rattle.nm_index.specs.Fits.{ids_named};
 ghost use Rattle.nm_index.specs.Index.{committed, empty_index, has_entry, rows_of};
 ghost use Rattle.nm_index.specs.Valid.{IsValid};
+ghost use Rattle.nm_record.specs.Room.{limit_passed};
 ghost use Rattle.nm_threads.specs.Name.{thread_name};
 ghost use Rattle.nm_state.specs.Snapshot.{live_ids, retagged};
 
@@ -24,6 +26,7 @@ use crate::numbers::ids_named;
 use crate::opening::parts_of;
 use crate::parts::Parts;
 use crate::reading::{Files, MessageFiles, Paths};
+use crate::room::{RoomError, counts_after, limit_passed};
 use nm_base::{Copies, MailPath, Many, MessageId, NoMemory, Tags};
 use nm_commit::Commit;
 use nm_index::{Base, numbers_rise_with_the_ids_named};
@@ -116,9 +119,35 @@ impl Snapshot {
         ensures exact { IsTrue result ↔ ((self.now.next + ids_named commit.now.changes ≤ 2 ^ 63) × (self.now.revision < 2 ^ 63)) }
         ensures enough { IsTrue result → (committed self.now commit.now).next ≤ 2 ^ 63 }
     {
+        self.has_ids(commit) && self.parts.revision < 1 << 63
+    }
+
+    /// Says whether the index after a commit keeps to the limits, or tells the first that it passes: of files, of its bytes as
+    /// data, of numbers. Where there might be no number for each id that the commit names, this is told as out of memory.
+    pub fn room(&self, commit: &Commit) -> Result<(), RoomError>
+        requires fits { Fits self.now.files commit.now }
+        ensures ok { OnOk result (limit_passed (committed self.now commit.now) ≡ None) }
+        ensures enough { OnOk result (((committed self.now commit.now).next ≤ 2 ^ 63) × (self.now.revision < 2 ^ 63)) }
+        ensures limit { (limit : Limit) → result ≡ Err (RoomError.Limit limit) → limit_passed (committed self.now commit.now) ≡ Some limit }
+    {
+        if !self.has_ids(commit) {
+            return Err(RoomError::NoMemory);
+        }
+        let counts = counts_after(self.alloc, &self.parts, commit)?;
+        match limit_passed(counts, self.parts.revision) {
+            None => Ok(()),
+            Some(limit) => Err(RoomError::Limit(limit)),
+        }
+    }
+
+    /// Says whether there is a number for each id that the commit names, whether it has one or not.
+    fn has_ids(&self, commit: &Commit) -> bool
+        ensures exact { IsTrue result ↔ (self.now.next + ids_named commit.now.changes ≤ 2 ^ 63) }
+        ensures enough { IsTrue result → (committed self.now commit.now).next ≤ 2 ^ 63 }
+    {
         numbers_rise_with_the_ids_named();
         let left = (1 << 63) - self.parts.labels.next();
-        ids_named(commit.changes.as_slice()) <= left && self.parts.revision < 1 << 63
+        ids_named(commit.changes.as_slice()) <= left
     }
 
     /// How many commits there were.
@@ -180,7 +209,7 @@ impl Snapshot {
     pub fn files_in_order(&self) -> Files<'_>
         ensures { result ≡ self.now.files }
     {
-        Files::of(&self.parts.filing.files)
+        Files::of(self.parts.filing.files.pairs())
     }
 
     /// The files of a message, the lead file first; none where the id has no file.

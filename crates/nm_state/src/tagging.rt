@@ -8,8 +8,9 @@ ghost use Rattle.nm_base.specs.Tag.{is_tag};
 ghost use Rattle.nm_base.specs.Tags.{with_tag};
 ghost use Rattle.nm_index.specs.Index.{first_tags};
 
+use crate::measured_map::MeasuredMap;
 use nm_base::{Copies, Marks, MessageId, NoMemory, Tag, Tags, Text};
-use nm_shared::{Shared, SharedMap};
+use nm_shared::Shared;
 use std::alloc::Global;
 
 /// Adds the tag of a word.
@@ -51,7 +52,7 @@ pub fn first_tags(alloc: Global, marks: Marks) -> Result<Tags, NoMemory>
 /// Gives a message these tags and no others.
 pub fn set_tags(
     alloc: Global,
-    all: &mut SharedMap<MessageId, Shared<Tags>>,
+    all: &mut MeasuredMap<MessageId, Shared<Tags>>,
     id: &MessageId,
     tags: Tags,
 ) -> Result<(), NoMemory>

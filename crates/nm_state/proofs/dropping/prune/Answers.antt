@@ -31,7 +31,7 @@ returns-clause-parts c =
       tags = c.args.parts.now.tags;
     }) refl refl refl c.in_ok-drop_thread.ensures.next (c.in_ok-drop_thread.ensures.entries (rows_of (base_of c.args.parts.now)) c.requires.labels) (c.in_ok-drop_thread.ensures.labels (rows_of (base_of c.args.parts.now)) c.requires.labels)
     c.in_ok-forget_rows.ensures.kept
-    (subst (λ (ids : List (List ℕ)). values_of c.forget_rows.new.kept ≡ filter (λ row. not (has_text ids row.id)) (values_of c.args.parts.now.kept)) c.as_slice-2.ensures c.in_ok-forget_rows.ensures.rows)).0
+    (subst (λ (ids : List (List ℕ)). values_of c.forget_rows.new.kept ≡ filter (λ row. not (has_text ids row.id)) (values_of c.args.parts.now.kept)) c.as_slice-3.ensures c.in_ok-forget_rows.ensures.rows)).0
 
 pub returns-clause-base : goal.returns-clause-base
 returns-clause-base c =
@@ -45,4 +45,4 @@ returns-clause-base c =
       tags = c.args.parts.now.tags;
     }) refl refl refl c.in_ok-drop_thread.ensures.next (c.in_ok-drop_thread.ensures.entries (rows_of (base_of c.args.parts.now)) c.requires.labels) (c.in_ok-drop_thread.ensures.labels (rows_of (base_of c.args.parts.now)) c.requires.labels)
     c.in_ok-forget_rows.ensures.kept
-    (subst (λ (ids : List (List ℕ)). values_of c.forget_rows.new.kept ≡ filter (λ row. not (has_text ids row.id)) (values_of c.args.parts.now.kept)) c.as_slice-2.ensures c.in_ok-forget_rows.ensures.rows)).1
+    (subst (λ (ids : List (List ℕ)). values_of c.forget_rows.new.kept ≡ filter (λ row. not (has_text ids row.id)) (values_of c.args.parts.now.kept)) c.as_slice-3.ensures c.in_ok-forget_rows.ensures.rows)).1

@@ -1,0 +1,24 @@
+use Rattle.std.proofs.Common.{◌+◌, ◌∙◌, ap, arith, subst, sym}
+use Rattle.std.specs.Prelude.{Some}
+use Rattle.nm_base.specs.declared.limit.Limit.{Limit}
+use Rattle.nm_index.specs.Index.{committed}
+use Rattle.nm_index.specs.declared.base.Base.{Base}
+use Rattle.nm_state.specs.Counts.{AreCounts}
+use Rattle.nm_state.proofs.RoomLemmas.{revision_within, same_limit}
+use Rattle.nm_state.proofs.snapshot.Snapshot.room.Goals as goal
+
+pub returns-in-None-clause-ok : goal.returns-in-None-clause-ok
+returns-in-None-clause-ok c =
+    sym (c.in-None.ensures (committed c.args.self.now c.args.commit.now) (subst (λ (index : Base). AreCounts (committed index c.args.commit.now) c.in_ok-counts.counts) c.self.view_is c.in_ok-counts.ensures)
+    (ap (λ (index : Base). index.revision + 1) (sym c.self.view_is)))
+
+pub returns-in-None-clause-enough : goal.returns-in-None-clause-enough
+returns-in-None-clause-enough c =
+    let passes = sym (c.in-None.ensures (committed c.args.self.now c.args.commit.now) (subst (λ (index : Base). AreCounts (committed index c.args.commit.now) c.in_ok-counts.counts) c.self.view_is c.in_ok-counts.ensures)
+    (ap (λ (index : Base). index.revision + 1) (sym c.self.view_is))) in
+    (c.has_ids.ensures.enough c.if-not-has_ids.false, omega (arith, revision_within (committed c.args.self.now c.args.commit.now) passes))
+
+pub returns-in-Some-clause-limit : goal.returns-in-Some-clause-limit
+returns-in-Some-clause-limit c = λ limit same.
+    sym (c.in-Some.ensures (committed c.args.self.now c.args.commit.now) (subst (λ (index : Base). AreCounts (committed index c.args.commit.now) c.in_ok-counts.counts) c.self.view_is c.in_ok-counts.ensures)
+    (ap (λ (index : Base). index.revision + 1) (sym c.self.view_is))) ∙ ap (λ (l : Limit). Some l) (same_limit c.in-Some.limit limit same)

@@ -1,0 +1,12 @@
+-- What an index comes to.
+use Rattle.std.specs.Prelude.{◌≡◌, length, min}
+use Rattle.nm_base.specs.Limits.{max_count}
+use Rattle.nm_index.specs.declared.base.Base.{Base}
+use Rattle.nm_record.specs.BaseBytes.{base_len}
+use Rattle.nm_state.specs.declared.room.Counts.{Counts}
+
+-- so many files, so many bytes, as far as a number tells them, and this next number
+pub record AreCounts (index : Base) (counts : Counts) : Type 0 where
+  pub files : counts.files ≡ length index.files
+  pub bytes : counts.bytes ≡ min (base_len index) max_count
+  pub next : counts.next ≡ index.next

@@ -1,0 +1,103 @@
+//! Whether an index has room for a commit: what it would come to is counted, and held against the limits.
+
+ghost use Rattle.std.specs.Prelude.{◌≡◌, ◌+◌, ◌≤◌, ◌^◌, fold, length, min, IfOk};
+ghost use Rattle.nm_base.specs.Limits.{max_count};
+ghost use Rattle.nm_commit.specs.Files.{FitChanges};
+ghost use Rattle.nm_index.specs.Index.{applied, committed};
+ghost use Rattle.nm_index.specs.declared.base.Base.{Base};
+ghost use Rattle.nm_record.specs.BaseBytes.{base_len};
+ghost use Rattle.nm_record.specs.Room.{limit_passed};
+ghost use Rattle.nm_state.specs.Counts.{AreCounts};
+ghost use Rattle.nm_state.specs.Parts.{AreParts, base_of};
+
+use crate::applying::apply_changes;
+use crate::parts::Parts;
+use nm_base::{Limit, NoMemory};
+use nm_commit::Commit;
+use nm_record::a_base_takes_what_its_parts_take;
+use std::alloc::Global;
+use thiserror::Error;
+
+/// Why a commit is not made.
+#[derive(Clone, Copy, Debug, PartialEq, Eq, Error)]
+pub enum RoomError {
+    /// The index after it would pass this limit.
+    #[error("limit")]
+    Limit(Limit),
+    #[error("no memory")]
+    NoMemory,
+}
+
+impl From<NoMemory> for RoomError {
+    ghost use Rattle.std.specs.Prelude.{◌≡◌};
+    ghost use Rattle.nm_state.specs.declared.room.RoomError.TheVariants.{NoMemory as Wanted};
+
+    ghost from_gives = { λ _ e. e ≡ Wanted };
+
+    fn from(_: NoMemory) -> RoomError {
+        RoomError::NoMemory
+    }
+}
+
+/// The most files of an index.
+const MAX_FILES: u64 = 1_048_576;
+
+/// The most bytes of an index as data.
+const MAX_INDEX_BYTES: u64 = 1_073_741_824;
+
+/// The most that the next number and the revision come to.
+const MAX_NUMBER: u64 = 1 << 63;
+
+/// What an index comes to: how many files, how many bytes as data, as far as a number tells them, and the next number.
+#[derive(Clone, Copy, Debug, Drop)]
+pub struct Counts {
+    pub files: u64,
+    pub bytes: u64,
+    pub next: u64,
+}
+
+/// What the index of the parts comes to.
+fn counts_of(parts: &Parts) -> Counts
+    requires { AreParts parts.now }
+    ensures { AreCounts (base_of parts.now) result }
+{
+    a_base_takes_what_its_parts_take();
+    let bytes = 32u64
+        .saturating_add(parts.filing.files.bytes())
+        .saturating_add(parts.kept.bytes())
+        .saturating_add(parts.labels.bytes())
+        .saturating_add(parts.tags.bytes());
+    Counts {
+        files: parts.filing.files.pairs().len() as u64,
+        bytes,
+        next: parts.labels.next(),
+    }
+}
+
+/// What the index comes to after a commit.
+pub fn counts_after(alloc: Global, parts: &Parts, commit: &Commit) -> Result<Counts, NoMemory>
+    requires parts { AreParts parts.now }
+    requires fits { FitChanges (base_of parts.now).files commit.now.changes }
+    requires numbers { (fold applied (base_of parts.now) commit.now.changes).next ≤ 2 ^ 63 }
+    ensures { IfOk result (λ counts. AreCounts (committed (base_of parts.now) commit.now) counts) }
+{
+    let mut after = parts.share()?;
+    apply_changes(alloc, &mut after, commit.changes.as_slice())?;
+    Ok(counts_of(&after))
+}
+
+/// The first limit that an index passes which comes to so much, one revision after this one.
+pub fn limit_passed(counts: Counts, revision: u64) -> Option<Limit>
+    ensures { (index : Base) → AreCounts index counts → index.revision ≡ revision + 1 → result ≡ limit_passed index }
+{
+    if counts.files > MAX_FILES {
+        return Some(Limit::Files);
+    }
+    if counts.bytes > MAX_INDEX_BYTES {
+        return Some(Limit::IndexBytes);
+    }
+    if counts.next > MAX_NUMBER || revision >= MAX_NUMBER {
+        return Some(Limit::Numbers);
+    }
+    None
+}
