@@ -1,4 +1,5 @@
 pub mod ParsedLine
+pub mod Refusals
 pub mod Replies
 pub mod Script
 pub mod Words

@@ -1,6 +1,8 @@
 -- The texts of replies and refusals, and how a log is printed.
 use Rattle.std.specs.Prelude.{ℕ, List, [], ◌++◌, length, codes}
 use Rattle.std.specs.List.{flat_map}
+use Rattle.nm_base.specs.declared.limit.Limit.{Limit}
+use Rattle.nm_base.specs.declared.limit.Limit.TheVariants as limits
 use Rattle.nm_base.specs.declared.refusals.UsageKind.{UsageKind}
 use Rattle.nm_base.specs.declared.refusals.UsageKind.TheVariants as kinds
 use Rattle.nm_answer.specs.NewText.{number_after}
@@ -25,11 +27,32 @@ kind_name kinds.Utf8 = codes "utf8"
 abbrev pub usage_line : UsageKind → List ℕ → List ℕ
 usage_line kind word = codes "notmuch: usage: " ++ (kind_name kind ++ (codes ": " ++ (word ++ codes "\n")))
 
+-- the bound that was passed, in lower case
+abbrev pub limit_name : Limit → List ℕ
+limit_name limits.Files = codes "files"
+limit_name limits.Dirs = codes "dirs"
+limit_name limits.Depth = codes "depth"
+limit_name limits.IndexBytes = codes "indexbytes"
+limit_name limits.CommitBytes = codes "commitbytes"
+limit_name limits.InputBytes = codes "inputbytes"
+limit_name limits.Lines = codes "lines"
+limit_name limits.Commits = codes "commits"
+limit_name limits.QueryBytes = codes "querybytes"
+limit_name limits.QueryDepth = codes "querydepth"
+limit_name limits.ShowBytes = codes "showbytes"
+limit_name limits.Numbers = codes "numbers"
+
+abbrev pub limit_line : Limit → List ℕ
+limit_line limit = codes "notmuch: limit: " ++ (limit_name limit ++ codes "\n")
+
 -- the line of a refusal; an Ok has none
 abbrev pub refusal_line : Outcome → List ℕ
 refusal_line outcomes.Ok = []
 refusal_line (outcomes.Usage word kind) = usage_line kind word
 refusal_line outcomes.MailFault = codes "notmuch: mail fault\n"
+refusal_line outcomes.DiskFault = codes "notmuch: disk fault\n"
+refusal_line (outcomes.Closed fault) = codes "notmuch: closed by a disk fault\n"
+refusal_line (outcomes.Limit limit) = limit_line limit
 refusal_line outcomes.NoMemory = codes "notmuch: no memory\n"
 
 -- the status of a line
@@ -37,6 +60,9 @@ abbrev pub status_of : Outcome → ℕ
 status_of outcomes.Ok = 0
 status_of (outcomes.Usage word kind) = 2
 status_of outcomes.MailFault = 3
+status_of outcomes.DiskFault = 4
+status_of (outcomes.Closed fault) = 4
+status_of (outcomes.Limit limit) = 9
 status_of outcomes.NoMemory = 7
 
 -- the lane and the number of the line, the revision, the status, and the length of the reply

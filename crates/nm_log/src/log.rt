@@ -34,6 +34,8 @@ pub struct LineLog {
     pub given: Many<Given>,
     /// How often the mail folder had failed when the line ended.
     pub mail_faults: u64,
+    /// And the disk.
+    pub disk_faults: u64,
 }
 
 /// What a session did.
@@ -42,6 +44,8 @@ pub struct SessionLog {
     /// Its commits and its replies, in the order in which they came.
     pub steps: Many<Step>,
     pub lines: Many<LineLog>,
+    /// For each commit that was acknowledged, in order, the clock of the disk at that moment.
+    pub acked: Many<u64>,
 }
 
 /// How a run of the program ended.

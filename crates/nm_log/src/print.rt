@@ -76,7 +76,7 @@ fn put_usage<E: Sink>(err: &mut E, kind: UsageKind, word: &str) -> Result<(), Fa
 }
 
 #[tactic(auto, using(crate::proofs::Puts::puts))]
-fn put_five<E: Sink>(
+pub(crate) fn put_five<E: Sink>(
     err: &mut E,
     a: &[u8],
     b: &[u8],
@@ -101,7 +101,7 @@ fn put_four<E: Sink>(err: &mut E, a: &[u8], b: &[u8], c: &[u8], d: &[u8]) -> Res
 }
 
 #[tactic(auto, using(crate::proofs::Puts::puts))]
-fn put_three<E: Sink>(err: &mut E, a: &[u8], b: &[u8], c: &[u8]) -> Result<(), Failed>
+pub(crate) fn put_three<E: Sink>(err: &mut E, a: &[u8], b: &[u8], c: &[u8]) -> Result<(), Failed>
     ensures bytes { PutAppends (E.observed err.old).bytes (E.observed err.new).bytes result (a.now ++ (b.now ++ c.now)) }
     ensures cause { HasCause (E.observed err.old).faults (E.observed err.new).faults result }
 {

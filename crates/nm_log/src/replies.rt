@@ -4,12 +4,12 @@ ghost use Rattle.std.specs.Prelude.{◌≡◌, ◌++◌, IfOk, OnOk};
 ghost use Rattle.std.specs.Fmt.{decimal};
 ghost use Rattle.std.specs.List.{flat_map};
 ghost use Rattle.nm_answer.specs.NewText.{is_quiet, new_text, number_after, skip_line, skip_name, summary_line};
-ghost use Rattle.nm_log.specs.Replies.{kind_name, status_of, usage_line};
+ghost use Rattle.nm_log.specs.Replies.{kind_name, limit_line, limit_name, refusal_line, status_of, usage_line};
 
 use crate::Outcome;
 use itoa::Buffer;
 use nm_answer::NewReport;
-use nm_base::{MailPath, Many, NoMemory, Skip, Text, UsageKind};
+use nm_base::{Limit, MailPath, Many, NoMemory, Skip, Text, UsageKind};
 use std::alloc::Global;
 
 /// The status of a line that ended so.
@@ -20,6 +20,8 @@ pub fn line_status(outcome: &Outcome) -> u8
         Outcome::Ok => 0,
         Outcome::Usage { .. } => 2,
         Outcome::MailFault => 3,
+        Outcome::DiskFault | Outcome::Closed { .. } => 4,
+        Outcome::Limit(_) => 9,
         Outcome::NoMemory => 7,
     }
 }
@@ -54,6 +56,51 @@ pub fn usage_text(alloc: Global, kind: UsageKind, word: &Text) -> Result<Many<u8
     text.extend_from_slice(word.as_bytes())?;
     text.extend_from_slice(b"\n")?;
     Ok(text)
+}
+
+/// The bound as it is printed.
+pub(crate) fn printed_limit(limit: Limit) -> &'static str
+    ensures { result.now ≡ limit_name limit }
+{
+    match limit {
+        Limit::Files => "files",
+        Limit::Dirs => "dirs",
+        Limit::Depth => "depth",
+        Limit::IndexBytes => "indexbytes",
+        Limit::CommitBytes => "commitbytes",
+        Limit::InputBytes => "inputbytes",
+        Limit::Lines => "lines",
+        Limit::Commits => "commits",
+        Limit::QueryBytes => "querybytes",
+        Limit::QueryDepth => "querydepth",
+        Limit::ShowBytes => "showbytes",
+        Limit::Numbers => "numbers",
+    }
+}
+
+fn limit_text(alloc: Global, limit: Limit) -> Result<Many<u8>, NoMemory>
+    ensures { IfOk result (λ text. text ≡ limit_line limit) }
+{
+    let name = printed_limit(limit);
+    let mut text = Many::from_slice(alloc, b"notmuch: limit: ")?;
+    text.extend_from_slice(name.as_bytes())?;
+    text.extend_from_slice(b"\n")?;
+    Ok(text)
+}
+
+/// The line of a refusal, empty for an Ok.
+pub fn refusal_text(alloc: Global, outcome: &Outcome) -> Result<Many<u8>, NoMemory>
+    ensures { IfOk result (λ text. text ≡ refusal_line outcome.now) }
+{
+    match outcome {
+        Outcome::Ok => Ok(Many::new(alloc)),
+        Outcome::Usage { word, kind } => usage_text(alloc, *kind, word),
+        Outcome::MailFault => Many::from_slice(alloc, b"notmuch: mail fault\n"),
+        Outcome::DiskFault => Many::from_slice(alloc, b"notmuch: disk fault\n"),
+        Outcome::Closed { .. } => Many::from_slice(alloc, b"notmuch: closed by a disk fault\n"),
+        Outcome::Limit(limit) => limit_text(alloc, *limit),
+        Outcome::NoMemory => Many::from_slice(alloc, b"notmuch: no memory\n"),
+    }
 }
 
 /// The reply of `new`.

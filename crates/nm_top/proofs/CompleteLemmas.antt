@@ -39,6 +39,9 @@ quiet_line : (outcome : Outcome) (old : State) (line : List ℕ) (noted : List G
 quiet_line outcomes.Ok old line noted text taken new stands room h = refl
 quiet_line (outcomes.Usage word kind) old line noted text taken new stands room h = refl
 quiet_line outcomes.MailFault old line noted text taken new stands room h = let rose = h.1.1 room in absurd (omega arith)
+quiet_line outcomes.DiskFault old line noted text taken new stands room h = absurd h
+quiet_line (outcomes.Closed fault) old line noted text taken new stands room h = absurd h
+quiet_line (outcomes.Limit limit) old line noted text taken new stands room h = absurd h
 quiet_line outcomes.NoMemory old line noted text taken new stands room h = refl
 
 quiet_run : (old new : State) (ls : List ScriptLine) (logs : List LineLog) (taken : List Step) → new.mail.faults ≤ old.mail.faults → old.mail.faults < max_count → Runs old ls logs taken new → has_mail_fault logs ≡ false

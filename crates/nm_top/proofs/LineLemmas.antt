@@ -49,6 +49,9 @@ new_outcome : (outcome : Outcome) (old new : State) (line : List ℕ) (noted : L
 new_outcome outcomes.Ok old new line noted text taken is h = (requests.New, h.0, is, h.1, h.2)
 new_outcome (outcomes.Usage word kind) old new line noted text taken is h = absurd h
 new_outcome outcomes.MailFault old new line noted text taken is h = (is, h.0, h.1, h.2, h.3)
+new_outcome outcomes.DiskFault old new line noted text taken is h = absurd h
+new_outcome (outcomes.Closed fault) old new line noted text taken is h = absurd h
+new_outcome (outcomes.Limit limit) old new line noted text taken is h = absurd h
 new_outcome outcomes.NoMemory old new line noted text taken is h = absurd h
 
 pub new_line : (mail new_mail : ObservedMail) (new_held : PlainIndex) (old : Base) (line : List ℕ) (noted : List Given) (result : Result LineResult NoMemory) → parse_line line ≡ asked.Request requests.New

@@ -176,6 +176,9 @@ module _ (moment : ℤ) where
       subst (λ (l : List Step). Goes m l new.index) (sym h.4) (request-goes h.0 old line noted text h.1 new m at h.2 h.3)
   line-goes (outcomes.Usage word kind) old line noted text taken new m at h = none-goes old.index new.index m taken at h.2 (ap (λ (s : State). s.index) h.3)
   line-goes outcomes.MailFault old line noted text taken new m at h = none-goes old.index new.index m taken at h.2 h.3
+  line-goes outcomes.DiskFault old line noted text taken new m at h = absurd h
+  line-goes (outcomes.Closed fault) old line noted text taken new m at h = absurd h
+  line-goes (outcomes.Limit limit) old line noted text taken new m at h = absurd h
   line-goes outcomes.NoMemory old line noted text taken new m at h = none-goes old.index new.index m taken at h.0 h.1
 
   -- the steps of all lines

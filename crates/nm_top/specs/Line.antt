@@ -48,6 +48,10 @@ IsAnswer (outcomes.Usage word kind) old line noted text taken new =
     (parse_line line ≡ asked.Usage word kind) × (noted ≡ []) × (taken ≡ []) × (new ≡ old) × (text ≡ refusal_line (outcomes.Usage word kind))
 IsAnswer outcomes.MailFault old line noted text taken new =
     (parse_line line ≡ asked.Request requests.New) × HasRisen old.mail.faults new.mail.faults × (taken ≡ []) × (new.index ≡ old.index) × (text ≡ refusal_line outcomes.MailFault)
+-- no disk is asked yet
+IsAnswer outcomes.DiskFault old line noted text taken new = ⊥
+IsAnswer (outcomes.Closed fault) old line noted text taken new = ⊥
+IsAnswer (outcomes.Limit limit) old line noted text taken new = ⊥
 IsAnswer outcomes.NoMemory old line noted text taken new = (taken ≡ []) × (new.index ≡ old.index) × (text ≡ refusal_line outcomes.NoMemory)
 
 -- The mail was listed, and of the listed paths that the index lacks the first were read, each once, in their order.

@@ -60,6 +60,9 @@ abbrev pub is_mail_fault : Outcome → Bool
 is_mail_fault outcomes.Ok = false
 is_mail_fault (outcomes.Usage word kind) = false
 is_mail_fault outcomes.MailFault = true
+is_mail_fault outcomes.DiskFault = false
+is_mail_fault (outcomes.Closed fault) = false
+is_mail_fault (outcomes.Limit limit) = false
 is_mail_fault outcomes.NoMemory = false
 
 -- the line ended for want of memory
@@ -67,6 +70,9 @@ abbrev pub is_no_memory : Outcome → Bool
 is_no_memory outcomes.Ok = false
 is_no_memory (outcomes.Usage word kind) = false
 is_no_memory outcomes.MailFault = false
+is_no_memory outcomes.DiskFault = false
+is_no_memory (outcomes.Closed fault) = false
+is_no_memory (outcomes.Limit limit) = false
 is_no_memory outcomes.NoMemory = true
 
 abbrev pub has_mail_fault : List LineLog → Bool

@@ -85,6 +85,9 @@ IsNewOutcome outcomes.Ok old noted text taken new =
 IsNewOutcome (outcomes.Usage word kind) old noted text taken new = ⊥
 IsNewOutcome outcomes.MailFault old noted text taken new =
     HasRisen old.mail.faults new.mail.faults × (taken ≡ []) × (new.index ≡ old.index) × (text ≡ refusal_line outcomes.MailFault)
+IsNewOutcome outcomes.DiskFault old noted text taken new = ⊥
+IsNewOutcome (outcomes.Closed fault) old noted text taken new = ⊥
+IsNewOutcome (outcomes.Limit limit) old noted text taken new = ⊥
 IsNewOutcome outcomes.NoMemory old noted text taken new = ⊥
 
 abbrev pub IsNewAnswer : State → List Given → LineResult → State → Type 0

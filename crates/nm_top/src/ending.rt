@@ -68,6 +68,7 @@ fn ended(alloc: Global, status: u8) -> Done
         log: SessionLog {
             steps: Many::new(alloc),
             lines: Many::new(alloc),
+            acked: Many::new(alloc),
         },
     }
 }
@@ -99,7 +100,12 @@ fn tells_mail_fault(outcome: &Outcome) -> bool
 {
     match outcome {
         Outcome::MailFault => true,
-        Outcome::Ok | Outcome::Usage { .. } | Outcome::NoMemory => false,
+        Outcome::Ok
+        | Outcome::Usage { .. }
+        | Outcome::DiskFault
+        | Outcome::Closed { .. }
+        | Outcome::Limit(_)
+        | Outcome::NoMemory => false,
     }
 }
 
@@ -114,6 +120,11 @@ fn tells_no_memory(outcome: &Outcome) -> bool
 {
     match outcome {
         Outcome::NoMemory => true,
-        Outcome::Ok | Outcome::Usage { .. } | Outcome::MailFault => false,
+        Outcome::Ok
+        | Outcome::Usage { .. }
+        | Outcome::MailFault
+        | Outcome::DiskFault
+        | Outcome::Closed { .. }
+        | Outcome::Limit(_) => false,
     }
 }

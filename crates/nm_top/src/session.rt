@@ -124,6 +124,7 @@ fn run_line<M: Maildir>(
         text,
         given,
         mail_faults: mail.faults(),
+        disk_faults: 0,
     };
     (log, steps)
 }

@@ -6,7 +6,7 @@ ghost use Rattle.nm_top.specs.Session.{Ending, Ends, IsRun, devices, args_fault}
 
 use crate::ending::{print_all, refuse, refuse_args, say_last, status_of_run};
 use crate::session::run_lines;
-use nm_base::{Text, UsageKind};
+use nm_base::{Many, Text, UsageKind};
 use nm_io::{Sink, Source, TakeError, take_all};
 use nm_log::{Done, ScriptError, ScriptLine, SessionLog, Setting, read_script};
 use nm_maildir::Maildir;
@@ -129,6 +129,7 @@ fn run_script<M: Maildir, O: Sink, E: Sink>(
         log: SessionLog {
             steps: run.steps,
             lines: run.logs,
+            acked: Many::new(alloc),
         },
     }
 }
