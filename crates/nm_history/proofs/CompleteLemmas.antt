@@ -1,0 +1,170 @@
+-- A session in which nothing fails ends with status 0, or 7 for want of memory.
+use Rattle.std.proofs.Common.{◌≡◌, ◌≢◌, ℕ, ℤ, ◌<◌, ◌≤◌, ◌⊎◌, inl, inr, Bool, true, false, List, [], ◌∷◌, ◌++◌, Option, None, Some, IfSome, length, map, refl, sym, ap, ◌∙◌, subst, append-nil, arith, suc}
+use Rattle.std.specs.Io.KnownBytes.{Consumes, IsAtEnd}
+use Rattle.std.specs.Str.Lines.{lines}
+use Rattle.std.proofs.lemmas.Slice.Zip.{seconds-zip}
+use Rattle.nm_base.specs.Limits.{max_count, max_input_bytes, max_lines}
+use Rattle.nm_base.specs.declared.limit.Limit.{Limit}
+use Rattle.nm_base.specs.declared.limit.Limit.TheVariants as limits
+use Rattle.nm_disk.specs.Observed.{Moments, bytes_now}
+use Rattle.nm_disk.specs.declared.disk.FileNo.TheVariants.{Head}
+use Rattle.nm_index.specs.declared.base.Base.{Base}
+use Rattle.nm_io.specs.Observed.{ObservedStream}
+use Rattle.nm_log.specs.Script.{script_lines}
+use Rattle.nm_log.specs.declared.line_parser.ParsedLine.{ParsedLine}
+use Rattle.nm_log.specs.declared.log.LineLog.{LineLog}
+use Rattle.nm_log.specs.declared.outcome.Outcome.{Outcome}
+use Rattle.nm_log.specs.declared.outcome.Outcome.TheVariants as outcomes
+use Rattle.nm_log.specs.declared.refusal.Refusal.TheVariants as refusals
+use Rattle.nm_log.specs.declared.script.ScriptLine.{ScriptLine}
+use Rattle.nm_machine.specs.declared.step.Step.{Step}
+use Rattle.nm_maildir.specs.Observed.{ObservedMail}
+use Rattle.nm_writer.specs.StoredIndex.{HoldsIndex, HoldsNoIndex}
+use Rattle.nm_history.specs.Call.{Call, Ending, Ran, Refused, words_fault}
+use Rattle.nm_history.specs.Complete.{IsComplete, IsFinished, IsWithin, NoFault, Opens}
+use Rattle.nm_history.specs.Given.{GivenAlong, IsGiven}
+use Rattle.nm_history.specs.History.{History}
+use Rattle.nm_history.specs.LineAnswers.{HasAnswer, HasCause, LineAnswers}
+use Rattle.nm_history.specs.Lines.{Along, Before, RunLine, at_first, behind, behind_all, lines_run}
+use Rattle.nm_history.specs.PrintedOut.{AreLogsOf, PrintedOut, StreamAppends}
+use Rattle.nm_history.specs.Refusals.{IsInputPassed}
+use Rattle.nm_history.specs.Status.{Status, any_wants_memory, fault_of, fault_or, first_fault, session_status, status_of_fault, write_fault}
+
+-- each line has its log
+logs-length : (script : List ScriptLine) (logs : List LineLog) → AreLogsOf script logs true → length logs ≡ length script
+logs-length [] [] h = refl
+logs-length (line ∷ script) [] h = absurd (cc)
+logs-length [] (log ∷ logs) h = absurd h
+logs-length (line ∷ script) (log ∷ logs) h = ap suc (logs-length script logs h.1)
+
+-- the counts never fall along the lines
+
+mail-grows : (opening : Base) (steps : List Step) (before : Before) (done : List RunLine) (old new : ObservedMail) → GivenAlong opening steps before done old new → old.faults ≤ new.faults
+mail-grows opening steps before [] old new h = omega (arith, ap (λ (m : ObservedMail). m.faults) h)
+mail-grows opening steps before (ran ∷ done) old new h = omega (arith, h.1.never_falls, mail-grows opening steps (behind before ran) done h.0 new h.2)
+
+disk-grows : (opening : Base) (steps : List Step) (before : Before) (done : List RunLine) (old new : ObservedMail) → GivenAlong opening steps before done old new
+    → before.disk_faults ≤ (behind_all before done).disk_faults
+disk-grows opening steps before [] old new h = omega arith
+disk-grows opening steps before (ran ∷ done) old new h = omega (arith, h.1.disk_never_falls, disk-grows opening steps (behind before ran) done h.0 new h.2)
+
+-- where no count rises no device failed in the line
+quiet-line : (outcome : Outcome) (line : ParsedLine) (before : Before) (mail disk : ℕ) → HasCause outcome line before mail disk
+    → mail ≤ before.mail_faults → before.mail_faults < max_count → disk ≤ before.disk_faults → before.disk_faults < max_count → fault_of outcome ≡ None
+quiet-line outcomes.Ok line before mail disk h m room d space = refl
+quiet-line (outcomes.Usage word kind) line before mail disk h m room d space = refl
+quiet-line outcomes.MailFault line before mail disk h m room d space = let rose = h.2.1 room in absurd (omega arith)
+quiet-line outcomes.DiskFault line before mail disk h m room d space = let rose = h.2.1 space in absurd (omega arith)
+quiet-line (outcomes.Closed fault) line before mail disk h m room d space = refl
+quiet-line (outcomes.Limit limit) line before mail disk h m room d space = refl
+quiet-line outcomes.NoMemory line before mail disk h m room d space = refl
+
+abbrev logs-of : List RunLine → List LineLog
+logs-of done = map (λ ran. ran.1) done
+
+quiet-lines : (opening : Base) (moment : ℤ) (steps : List Step) (before : Before) (done : List RunLine) (old new : ObservedMail)
+    → GivenAlong opening steps before done old new → Along (HasAnswer opening moment steps) before done → before.mail_faults ≡ old.faults
+    → new.faults ≤ old.faults → old.faults < max_count → (behind_all before done).disk_faults ≤ before.disk_faults → before.disk_faults < max_count
+    → first_fault (logs-of done) ≡ None
+quiet-lines opening moment steps before [] old new h answers same m room d space = refl
+quiet-lines opening moment steps before (ran ∷ done) old new h answers same m room d space =
+    let mail = mail-grows opening steps (behind before ran) done h.0 new h.2 in
+    let disk = disk-grows opening steps (behind before ran) done h.0 new h.2 in
+    let noted = h.1.noted in
+    let rises = h.1.never_falls in
+    let disk_rises = h.1.disk_never_falls in
+    let first = quiet-line ran.1.outcome _ before ran.1.mail_faults ran.1.disk_faults answers.0.cause (omega arith) (omega arith) (omega arith) space in
+    ap (λ (f : Option ℕ). fault_or f (first_fault (logs-of done))) first
+    ∙ quiet-lines opening moment steps (behind before ran) done h.0 new h.2 answers.1 noted (omega arith) (omega arith) (omega arith) (omega (arith, h.1.disk_never_falls))
+
+-- what was read to its end is what was told
+read-is : (old new : Option (List ℕ)) (input read : List ℕ) → old ≡ Some input → Consumes old new read → IsAtEnd new → read ≡ input
+read-is None new input read told h end = absurd (cc)
+read-is (Some bytes) None input read told h end = absurd h
+read-is (Some bytes) (Some rest) input read told h end =
+    let same : bytes ≡ input = cc in
+    sym (append-nil read) ∙ (ap (λ l. read ++ l) (sym end) ∙ (sym h ∙ same))
+
+-- an output that did not fail
+quiet-out : (failed : Bool) (old new : ObservedStream) (bytes : List ℕ) → new.faults ≡ old.faults → old.faults < max_count → StreamAppends failed old new bytes → failed ≡ false
+quiet-out false old new bytes stands room h = refl
+quiet-out true old new bytes stands room h = let rose = h.1.1 room in absurd (omega arith)
+
+-- an input within its limits passed none
+within-limits : (limit : Limit) (read input : List ℕ) (call : Call) → IsInputPassed limit read call → IsWithin input call → ⊥
+within-limits limits.InputBytes read input call h within =
+    let long : max_input_bytes < length input = subst (λ (o : Option (List ℕ)). IfSome o (λ bytes. max_input_bytes < length bytes)) within.told h in
+    let short = within.bytes in
+    omega arith
+within-limits limits.Lines read input call h within =
+    let same = read-is call.entry.input.bytes call.after.input.bytes input read within.told h.0.bytes h.0.end in
+    let many : max_lines < length (lines input) = subst (λ (l : List ℕ). max_lines < length (lines l)) same h.1 in
+    let few = within.few in
+    omega arith
+within-limits limits.Files read input call h within = h
+within-limits limits.Dirs read input call h within = h
+within-limits limits.Depth read input call h within = h
+within-limits limits.IndexBytes read input call h within = h
+within-limits limits.CommitBytes read input call h within = h
+within-limits limits.Commits read input call h within = h
+within-limits limits.QueryBytes read input call h within = h
+within-limits limits.QueryDepth read input call h within = h
+within-limits limits.ShowBytes read input call h within = h
+within-limits limits.Numbers read input call h within = h
+
+clash-told : (told : Option Moments) (P Q : Moments → Type 0) → told ≢ None → IfSome told P → IfSome told Q → ((moments : Moments) → P moments → Q moments → ⊥) → ⊥
+clash-told None P Q some p q apart = some refl
+clash-told (Some moments) P Q some p q apart = apart moments p q
+
+-- the statuses that are left
+left-status : (wanted : Bool) → (status_of_fault None wanted ≡ 0) ⊎ (status_of_fault None wanted ≡ 7)
+left-status true = inr refl
+left-status false = inl refl
+
+left-whole : (whole : Bool) (logs : List LineLog) (out_failed : Bool) → (whole ≡ true → first_fault logs ≡ None) → out_failed ≡ false
+    → ((whole ≡ true) × (session_status whole logs out_failed ≡ 0)) ⊎ (session_status whole logs out_failed ≡ 7)
+left-whole false logs out_failed none quiet = inr refl
+left-whole true logs out_failed none quiet =
+    let is : session_status true logs out_failed ≡ status_of_fault None (any_wants_memory logs) =
+    ap (λ (f : Option ℕ). status_of_fault (fault_or f (write_fault out_failed)) (any_wants_memory logs)) (none refl)
+    ∙ ap (λ (b : Bool). status_of_fault (write_fault b) (any_wants_memory logs)) quiet in
+    elim (left-status (any_wants_memory logs)) [
+      | inl zero ↦ inl (refl, is ∙ zero)
+      | inr seven ↦ inr (is ∙ seven)
+    ]
+
+module _ (not_bad : (bytes : List ℕ) (index : Base) (at : ℕ) → HoldsIndex bytes index → HoldsNoIndex bytes at → ⊥) where
+  by-ending : (ending : Ending) (opening : Base) (read : List ℕ) (whole out_failed : Bool) (call : Call) (input : List ℕ)
+      → words_fault call.words ≡ None → NoFault call → IsWithin input call → Opens call
+      → PrintedOut ending read whole out_failed call → Status ending whole out_failed call
+      → LineAnswers opening call.setting.moment (at_first opening call.entry) call.done.log.steps (lines_run read call.done)
+      → IsGiven opening call.done.log.steps (at_first opening call.entry) (lines_run read call.done) ending call.entry call.after
+      → IsFinished input call ⊎ (call.done.status ≡ 7)
+  by-ending (Refused (refusals.Usage word kind)) opening read whole out_failed call input right quiet within opens said status answers given =
+      let wrong = said.0.0 in absurd (cc)
+  by-ending (Refused refusals.ReadFault) opening read whole out_failed call input right quiet within opens said status answers given =
+      let rose = said.0.1.1 quiet.input.room in let same = quiet.input.same in absurd (omega arith)
+  by-ending (Refused (refusals.Limit limit)) opening read whole out_failed call input right quiet within opens said status answers given =
+      absurd (within-limits limit read input call said.0.1 within)
+  by-ending (Refused refusals.DiskFault) opening read whole out_failed call input right quiet within opens said status answers given =
+      let rose = said.0.1.1 quiet.disk.room in let same = quiet.disk.same in absurd (omega arith)
+  by-ending (Refused (refusals.BadIndex file at)) opening read whole out_failed call input right quiet within opens said status answers given =
+      absurd (clash-told call.entry.disk.told _ _ opens.told opens.holds said.0.2 (λ moments holds bad. not_bad (bytes_now moments Head) opens.index at holds bad))
+  by-ending (Refused refusals.NoMemory) opening read whole out_failed call input right quiet within opens said status answers given = inr status
+  by-ending Ran opening read whole out_failed call input right quiet within opens said status answers given =
+      let logs : List LineLog = call.done.log.lines in
+      let same : read ≡ input = read-is call.entry.input.bytes call.after.input.bytes input read within.told said.0.read.bytes said.0.read.end in
+      let no_out : out_failed ≡ false = quiet-out out_failed call.entry.out call.after.out _ quiet.out.same quiet.out.room said.1.out in
+      let each : whole ≡ true → length logs ≡ length (script_lines read) = λ all. logs-length (script_lines read) logs (subst (λ (b : Bool). AreLogsOf (script_lines read) logs b) all said.1.lines) in
+      let none : whole ≡ true → first_fault logs ≡ None = λ all.
+      subst (λ (l : List LineLog). first_fault l ≡ None) (seconds-zip (script_lines read) logs (each all))
+      (quiet-lines opening call.setting.moment call.done.log.steps (at_first opening call.entry) (lines_run read call.done) call.entry.mail call.after.mail given.along answers refl
+      (omega (arith, quiet.mail.same)) quiet.mail.room (omega (arith, quiet.disk.same, given.disk)) quiet.disk.room) in
+      elim (left-whole whole logs out_failed none no_out) [
+        | inl w ↦ inl (record { status = status ∙ w.1; each = each w.0 ∙ ap (λ (l : List ℕ). length (script_lines l)) same })
+        | inr w ↦ inr (status ∙ w)
+      ]
+
+  pub complete : (call : Call) → History call → IsComplete call
+  complete call h input right quiet within opens =
+      by-ending h.2.ending h.0 h.1 h.2.whole h.2.out_failed call input right quiet within opens h.2.printed_out h.2.status h.2.line_answers h.2.given

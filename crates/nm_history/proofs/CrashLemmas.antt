@@ -1,0 +1,52 @@
+-- What a stop leaves before the first commit.
+use Rattle.std.proofs.Common.{◌≡◌, ℕ, ◌+◌, ◌≤◌, List, [], ◌∷◌, ◌++◌, length, refl, sym, ap, ◌∙◌, subst, arith, length-append}
+use Rattle.std.specs.List.{AllByRecursion}
+use Rattle.nm_disk.specs.ImageLaws.{left_when_synced}
+use Rattle.nm_disk.specs.Images.{IsImage, IsLeft, MayLeave, bytes_of, is_written, reach}
+use Rattle.nm_disk.specs.Observed.{Moments, bytes_now}
+use Rattle.nm_disk.specs.declared.disk.FileNo.TheVariants.{Head}
+use Rattle.nm_disk.specs.declared.state.DiskState.{DiskState}
+use Rattle.nm_disk.specs.declared.state.Range.{Range}
+use Rattle.nm_journal.specs.Moments.{GoesThrough, LeavesOnly}
+use Rattle.nm_writer.specs.StoredIndex.{HoldsIndex}
+use Rattle.nm_history.specs.CrashPrefix.{HasSettled, KeepsCommits}
+
+-- where no write is pending, a stop leaves what was synced
+left-quiet : (state : DiskState) (bytes : List ℕ) → state.written ≡ [] → MayLeave state Head bytes → bytes ≡ bytes_of Head state.synced
+left-quiet state bytes quiet left =
+    let synced : List ℕ = bytes_of Head state.synced in
+    left_when_synced synced bytes (subst (λ (written : List Range). IsLeft synced (is_written written Head) (reach written Head (length synced)) bytes) quiet left)
+
+-- and that is what a read gives
+left-is-now : (state : DiskState) (bytes : List ℕ) → state.written ≡ [] → IsImage state state.now → MayLeave state Head bytes → bytes ≡ bytes_of Head state.now
+left-is-now state bytes quiet image left = left-quiet state bytes quiet left ∙ sym (left-quiet state (bytes_of Head state.now) quiet (image Head))
+
+-- a state that is no older than this one is this one or one of the new ones
+is-new : (P : DiskState → Type 0) (states : List DiskState) (present : DiskState) (past newer : List DiskState) (state : DiskState) (older : List DiskState)
+    → states ++ present ∷ past ≡ newer ++ state ∷ older → length past ≤ length older → AllByRecursion P states → P present → P state
+is-new P [] present past [] state older e n all p = let same : present ≡ state = cc in subst P same p
+is-new P [] present past (other ∷ newer) state older e n all p =
+    absurd (omega (arith, n, ap length e, length-append newer (state ∷ older)))
+is-new P (first ∷ states) present past [] state older e n all p = let same : first ≡ state = cc in subst P same all.0
+is-new P (first ∷ states) present past (other ∷ newer) state older e n all p = is-new P states present past newer state older (cc) n all.1 p
+
+-- a moment of the call is no older than the one at which it began
+no-older : (entered : ℕ) (state : DiskState) (older : List DiskState) → HasSettled entered (state ∷ older) → entered ≤ length older
+no-older entered state older h =
+    omega (arith, h.in_call, ap length h.order, length-append h.later (h.settled ∷ h.earlier))
+
+pub opening-keeps : (before now : Moments) → before.present.written ≡ [] → IsImage before.present before.present.now
+    → GoesThrough Head (MayLeave before.present Head) before now → KeepsCommits [] [] before now
+opening-keeps before now quiet image through opening state number bytes holds moment left =
+    let entry : DiskState = before.present in
+    let may : LeavesOnly Head (MayLeave entry Head) state =
+    is-new (LeavesOnly Head (MayLeave entry Head)) through.states entry before.past moment.newer state moment.older
+    (sym through.are ∙ moment.order) (no-older (length before.past) state moment.older moment.since) through.each (λ bytes left. left) in
+    let same : bytes ≡ bytes_now before Head = left-is-now entry bytes quiet image (may bytes left) in
+    record {
+      kept = [];
+      more = [];
+      order = refl;
+      holds = subst (λ (b : List ℕ). HoldsIndex b opening) (sym same) holds;
+      acknowledged = omega arith;
+    }

@@ -1,0 +1,6 @@
+mod ClockLemmas
+mod CompleteLemmas
+mod CrashLemmas
+mod LawLemmas
+mod LineLemmas
+mod MachineLemmas

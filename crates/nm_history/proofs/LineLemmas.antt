@@ -1,0 +1,308 @@
+-- A line more keeps where a session stands, its commits, its answers and what the folder gave.
+use Rattle.std.proofs.Common.{◌≡◌, ◌⊎◌, ℕ, ℤ, ◌+◌, List, [], ◌∷◌, ◌++◌, Option, None, Some, IsSome, length, map, fold, refl, sym, ap, ◌∙◌, subst, arith, inl, inr, append-nil, append_assoc}
+use Rattle.std.specs.List.{flat_map}
+use Rattle.std.proofs.lemmas.Grind.{flat_map-append}
+use Rattle.std.proofs.lemmas.List.{length-append}
+use Rattle.nm_commit.specs.declared.change.Commit.{Commit}
+use Rattle.nm_index.specs.Index.{committed, folded}
+use Rattle.nm_index.specs.declared.base.Base.{Base}
+use Rattle.nm_log.specs.ParsedLine.{parse_line}
+use Rattle.nm_log.specs.declared.outcome.Outcome.{Outcome}
+use Rattle.nm_log.specs.declared.outcome.Outcome.TheVariants as outcomes
+use Rattle.nm_machine.specs.declared.step.Step.{Step}
+use Rattle.nm_maildir.specs.Observed.{ObservedMail}
+use Rattle.nm_maildir.specs.Tree.{Tree}
+use Rattle.nm_maildir.specs.declared.given.Given.{Given}
+use Rattle.nm_history.specs.Call.{Devices}
+use Rattle.nm_history.specs.Given.{Asks, GivenAlong}
+use Rattle.nm_history.specs.LineAnswers.{HasAnswer, HasCause, LineAnswers}
+use Rattle.nm_history.specs.LineCommits.{EachMakes, LineCommits, Makes, MakesCommits}
+use Rattle.nm_history.specs.LineResult.{IsLineResult, Place, StandsAt, before_at, begin_step, commit_steps, line_steps, reply_step}
+use Rattle.nm_history.specs.Lines.{Along, Before, IsIndexAt, RunLine, at_first, begun, begun_by, behind, behind_all, closed_after}
+use Rattle.nm_history.specs.MachineRun.{Replied, reply_to}
+
+pub fold-append : {A B : Type 0} (f : A → B → A) (a : A) (xs ys : List B) → fold f a (xs ++ ys) ≡ fold f (fold f a xs) ys
+fold-append f a [] ys = refl
+fold-append f a (x ∷ xs) ys = fold-append f (f a x) xs ys
+
+-- the commits that steps begin
+
+pub begun-append : (steps more : List Step) → begun (steps ++ more) ≡ begun steps ++ begun more
+begun-append steps more = flat_map-append begun_by steps more
+
+begun-commits : (made : List Commit) → begun (flat_map commit_steps made) ≡ made
+begun-commits [] = refl
+begun-commits (commit ∷ made) = ap (λ (l : List Commit). commit ∷ l) (begun-commits made)
+
+begun-flight : (flight : List Commit) → begun (map begin_step flight) ≡ flight
+begun-flight [] = refl
+begun-flight (commit ∷ flight) = ap (λ (l : List Commit). commit ∷ l) (begun-flight flight)
+
+begun-replies : (replies : List Replied) → begun (map reply_step replies) ≡ []
+begun-replies [] = refl
+begun-replies (replied ∷ replies) = begun-replies replies
+
+pub begun-line : (made flight : List Commit) (replies : List Replied) → begun (line_steps made flight replies) ≡ made ++ flight
+begun-line made flight replies =
+    begun-append (flat_map commit_steps made) (map begin_step flight ++ map reply_step replies)
+    ∙ ap (λ (l : List Commit). l ++ begun (map begin_step flight ++ map reply_step replies)) (begun-commits made)
+    ∙ ap (λ (l : List Commit). made ++ l) (begun-append (map begin_step flight) (map reply_step replies)
+    ∙ ap (λ (l : List Commit). l ++ begun (map reply_step replies)) (begun-flight flight)
+    ∙ ap (λ (l : List Commit). flight ++ l) (begun-replies replies) ∙ append-nil flight)
+
+-- the revision after commits
+
+pub revision-folded : (index : Base) (commits : List Commit) → (folded index commits).revision ≡ index.revision + length commits
+revision-folded index [] = omega arith
+revision-folded index (commit ∷ commits) = revision-folded (committed index commit) commits ∙ omega arith
+
+-- lists of which one end is empty
+
+nil-left : {X : Type 0} (xs ys : List X) → xs ++ ys ≡ [] → xs ≡ []
+nil-left [] ys e = refl
+nil-left (x ∷ xs) ys e = absurd (cc)
+
+nil-right : {X : Type 0} (xs ys : List X) → xs ++ ys ≡ [] → ys ≡ []
+nil-right [] ys e = e
+nil-right (x ∷ xs) ys e = absurd (cc)
+
+-- what was on its way before a line, or what the line made, is nothing
+abbrev pub Apart : List Commit → List Commit → List Commit → Type 0
+Apart way made flight = (way ≡ []) ⊎ (made ++ flight ≡ [])
+
+pub weave : (acknowledged way made flight : List Commit) → Apart way made flight → (acknowledged ++ way) ++ (made ++ flight) ≡ (acknowledged ++ made) ++ (way ++ flight)
+weave acknowledged way made flight (inl none) =
+    ap (λ (l : List Commit). (acknowledged ++ l) ++ (made ++ flight)) none
+    ∙ ap (λ (l : List Commit). l ++ (made ++ flight)) (append-nil acknowledged)
+    ∙ sym (append_assoc acknowledged made flight)
+    ∙ sym (ap (λ (l : List Commit). (acknowledged ++ made) ++ (l ++ flight)) none)
+weave acknowledged way made flight (inr none) =
+    ap (λ (l : List Commit). (acknowledged ++ way) ++ l) none
+    ∙ append-nil (acknowledged ++ way)
+    ∙ sym (ap (λ (l : List Commit). l ++ way) (ap (λ (l : List Commit). acknowledged ++ l) (nil-left made flight none) ∙ append-nil acknowledged))
+    ∙ sym (ap (λ (l : List Commit). (acknowledged ++ made) ++ l) (ap (λ (l : List Commit). way ++ l) (nil-right made flight none) ∙ append-nil way))
+
+-- a line leaves at most one commit on its way, and none where the writer stays open
+
+pub one-on-way : (outcome : Outcome) (tree : Option Tree) (index : Base) (line : List ℕ) (noted : List Given) (count : ℕ) (made flight : List Commit)
+    → Makes outcome tree index line noted count made flight → (flight ≡ []) ⊎ ((commit : Commit) × (flight ≡ commit ∷ []))
+one-on-way outcomes.Ok tree index line noted count made flight h = inl h.1
+one-on-way (outcomes.Usage word kind) tree index line noted count made flight h = inl h.1
+one-on-way outcomes.MailFault tree index line noted count made flight h = inl h.1
+one-on-way outcomes.DiskFault tree index line noted count made flight h = inr (h.0, h.2)
+one-on-way (outcomes.Closed fault) tree index line noted count made flight h = inl h.1
+one-on-way (outcomes.Limit limit) tree index line noted count made flight h = inl h.3
+one-on-way outcomes.NoMemory tree index line noted count made flight h = inl h.1
+
+-- the writer that is open behind a line was open before it, and the line left nothing on its way
+still-open : (outcome : Outcome) (closed : Option ℕ) (faults : ℕ) (tree : Option Tree) (index : Base) (line : List ℕ) (noted : List Given) (count : ℕ) (made flight : List Commit)
+    → Makes outcome tree index line noted count made flight → closed_after closed outcome faults ≡ None → (closed ≡ None) × (flight ≡ [])
+still-open outcomes.Ok closed faults tree index line noted count made flight h e = (e, h.1)
+still-open (outcomes.Usage word kind) closed faults tree index line noted count made flight h e = (e, h.1)
+still-open outcomes.MailFault closed faults tree index line noted count made flight h e = (e, h.1)
+still-open outcomes.DiskFault closed faults tree index line noted count made flight h e = absurd (cc)
+still-open (outcomes.Closed fault) closed faults tree index line noted count made flight h e = (e, h.1)
+still-open (outcomes.Limit limit) closed faults tree index line noted count made flight h e = (e, h.3)
+still-open outcomes.NoMemory closed faults tree index line noted count made flight h e = (e, h.1)
+
+apart-by : (closed : Option ℕ) (way made flight : List Commit) → (closed ≡ None → way ≡ []) → (IsSome closed → made ++ flight ≡ []) → Apart way made flight
+apart-by None way made flight none idle = inl (none refl)
+apart-by (Some fault) way made flight none idle = inr (idle refl)
+
+-- what stands before a line, by its parts
+abbrev before-with : ℕ → ℕ → ℕ → Option ℕ → Before
+before-with revision mail disk closed = record { revision = revision; mail_faults = mail; disk_faults = disk; closed = closed }
+
+before-is : (r m d : ℕ) (c : Option ℕ) (s n e : ℕ) (k : Option ℕ) → r ≡ s → m ≡ n → d ≡ e → c ≡ k → before-with r m d c ≡ before-with s n e k
+before-is r m d c s n e k p q u v =
+    ap (λ x. before-with x m d c) p ∙ ap (λ x. before-with s x d c) q ∙ ap (λ x. before-with s n x c) u ∙ ap (λ (x : Option ℕ). before-with s n e x) v
+
+module _ (opening : Base) (moment : ℤ) (entry : Devices) (steps taken : List Step) (lines : List RunLine) (acknowledged : List Commit)
+    (old new : Place) (ran : RunLine) (at : StandsAt opening entry steps lines acknowledged old) (result : IsLineResult moment old ran taken new) where
+  pub apart : Apart at.flight result.made result.flight
+  apart = apart-by old.writer.closed at.flight result.made result.flight at.none_open result.has_made.idle
+
+  pub begun-all : begun (steps ++ taken) ≡ (acknowledged ++ result.made) ++ (at.flight ++ result.flight)
+  begun-all =
+      begun-append steps taken
+      ∙ ap (λ (l : List Commit). l ++ begun taken) at.begun_are
+      ∙ ap (λ (l : List Commit). (acknowledged ++ at.flight) ++ l) (ap begun result.steps ∙ begun-line result.made result.flight (reply_to ran))
+      ∙ weave acknowledged at.flight result.made result.flight apart
+
+  pub shown-all : new.writer.shown ≡ folded opening (acknowledged ++ result.made)
+  shown-all =
+      result.has_made.shown ∙ ap (λ (i : Base). folded i result.made) at.shown ∙ sym (fold-append committed opening acknowledged result.made)
+
+  pub revision-before : (behind_all (at_first opening entry) lines).revision ≡ opening.revision + length acknowledged
+  revision-before =
+      ap (λ (b : Before). b.revision) at.before ∙ ap (λ (i : Base). i.revision) at.shown ∙ revision-folded opening acknowledged
+
+  pub revision-after : ran.1.revision ≡ opening.revision + length (acknowledged ++ result.made)
+  revision-after = result.revision ∙ ap (λ (i : Base). i.revision) shown-all ∙ revision-folded opening (acknowledged ++ result.made)
+
+  behind-is : behind (before_at old) ran ≡ before_at new
+  behind-is =
+      before-is _ _ _ _ _ _ _ _ result.revision result.mail_faults result.disk_faults
+      (ap (λ n. closed_after old.writer.closed ran.1.outcome n) result.disk_faults ∙ sym result.closed)
+
+  pub before-next : behind_all (at_first opening entry) (lines ++ ran ∷ []) ≡ before_at new
+  before-next =
+      fold-append behind (at_first opening entry) lines (ran ∷ []) ∙ ap (λ (b : Before). behind b ran) at.before ∙ behind-is
+
+  pub stands-more : StandsAt opening entry (steps ++ taken) (lines ++ ran ∷ []) (acknowledged ++ result.made) new
+  stands-more = record {
+    flight = at.flight ++ result.flight;
+    begun_are = begun-all;
+    begun_by_writer =
+        result.has_made.begun_are ∙ ap (λ (l : List Commit). l ++ (result.made ++ result.flight)) at.begun_by_writer
+        ∙ weave acknowledged at.flight result.made result.flight apart;
+    none_open = λ is_open.
+        let still = still-open ran.1.outcome old.writer.closed new.disk_faults _ _ _ _ _ result.made result.flight result.makes (sym result.closed ∙ is_open) in
+        ap (λ (l : List Commit). l ++ result.flight) (at.none_open still.0) ∙ still.1;
+    acked =
+        ap length result.has_made.acked ∙ length-append old.writer.acked result.has_made.clocks
+        ∙ ap (λ n. n + length result.has_made.clocks) at.acked ∙ ap (λ n. length acknowledged + n) result.has_made.one_each
+        ∙ sym (length-append acknowledged result.made);
+    shown = shown-all;
+    before = before-next;
+    tree = result.tree ∙ at.tree;
+  }
+
+  -- the commits of the line
+  makes-commits : MakesCommits opening entry.mail.tree acknowledged ran result.made result.flight
+  makes-commits = record {
+    revision = revision-after;
+    makes =
+        let count : length old.writer.acked + length result.made ≡ length (acknowledged ++ result.made) =
+        ap (λ n. n + length result.made) at.acked ∙ sym (length-append acknowledged result.made) in
+        subst (λ n. Makes ran.1.outcome entry.mail.tree (folded opening acknowledged) ran.0.text ran.1.given n result.made result.flight) count
+        (subst (λ (i : Base). Makes ran.1.outcome entry.mail.tree i ran.0.text ran.1.given (length old.writer.acked + length result.made) result.made result.flight) at.shown
+        (subst (λ (t : Option Tree). Makes ran.1.outcome t old.writer.shown ran.0.text ran.1.given (length old.writer.acked + length result.made) result.made result.flight) at.tree result.makes));
+  }
+
+  makes-more : (earlier commits : List Commit) (before : List RunLine) → EachMakes opening entry.mail.tree earlier before commits acknowledged
+      → EachMakes opening entry.mail.tree earlier (before ++ ran ∷ []) (commits ++ (result.made ++ result.flight)) (acknowledged ++ result.made)
+  makes-more earlier commits [] h = (
+    result.made,
+    result.flight,
+    [],
+    ap (λ (l : List Commit). l ++ (result.made ++ result.flight)) h.0 ∙ ap (λ (l : List Commit). result.made ++ l) (sym (append-nil result.flight)),
+    subst (λ (l : List Commit). MakesCommits opening entry.mail.tree l ran result.made result.flight) h.1 makes-commits,
+    (refl, ap (λ (l : List Commit). l ++ result.made) h.1),
+  )
+  makes-more earlier commits (first ∷ before) h = (
+    h.0,
+    h.1,
+    h.2 ++ (result.made ++ result.flight),
+    ap (λ (l : List Commit). l ++ (result.made ++ result.flight)) h.3
+        ∙ append_assoc h.0 (h.1 ++ h.2) (result.made ++ result.flight)
+        ∙ ap (λ (l : List Commit). h.0 ++ l) (append_assoc h.1 h.2 (result.made ++ result.flight)),
+    h.4,
+    makes-more (earlier ++ h.0) h.2 before h.5,
+  )
+
+  pub commits-more : LineCommits opening entry.mail.tree steps lines acknowledged
+      → LineCommits opening entry.mail.tree (steps ++ taken) (lines ++ ran ∷ []) (acknowledged ++ result.made)
+  commits-more h =
+      subst (λ (l : List Commit). EachMakes opening entry.mail.tree [] (lines ++ ran ∷ []) l (acknowledged ++ result.made))
+      (sym (begun-append steps taken ∙ ap (λ (l : List Commit). begun steps ++ l) (ap begun result.steps ∙ begun-line result.made result.flight (reply_to ran))))
+      (makes-more [] (begun steps) lines h)
+
+  -- an index stays where it is
+  index-more : (revision : ℕ) (index : Base) → IsIndexAt opening steps revision index → IsIndexAt opening (steps ++ taken) revision index
+  index-more revision index h = record {
+    front = h.front;
+    more = h.more ++ begun taken;
+    begun_are =
+        begun-append steps taken ∙ ap (λ (l : List Commit). l ++ begun taken) h.begun_are ∙ append_assoc h.front h.more (begun taken);
+    revision_is = h.revision_is;
+    index_is = h.index_is;
+  }
+
+  index-old : IsIndexAt opening (steps ++ taken) (before_at old).revision old.writer.shown
+  index-old = index-more _ _ (record {
+    front = acknowledged;
+    more = at.flight;
+    begun_are = at.begun_are;
+    revision_is = ap (λ (i : Base). i.revision) at.shown ∙ revision-folded opening acknowledged;
+    index_is = at.shown;
+  })
+
+  index-new : IsIndexAt opening (steps ++ taken) ran.1.revision new.writer.shown
+  index-new = record {
+    front = acknowledged ++ result.made;
+    more = at.flight ++ result.flight;
+    begun_are = begun-all;
+    revision_is = revision-after;
+    index_is = shown-all;
+  }
+
+  has-answer : HasAnswer opening moment (steps ++ taken) (before_at old) ran
+  has-answer = record {
+    index_before = old.writer.shown;
+    index = new.writer.shown;
+    at_before = index-old;
+    at_after = index-new;
+    cause =
+        subst (λ n. HasCause ran.1.outcome (parse_line ran.0.text) (before_at old) n ran.1.disk_faults) (sym result.mail_faults)
+        (subst (λ n. HasCause ran.1.outcome (parse_line ran.0.text) (before_at old) new.mail.faults n) (sym result.disk_faults) result.cause);
+    status = result.status;
+    text = result.text;
+  }
+
+  answers-more : (before : Before) (done : List RunLine) → behind_all before done ≡ before_at old → Along (HasAnswer opening moment steps) before done
+      → Along (HasAnswer opening moment (steps ++ taken)) before (done ++ ran ∷ [])
+  answers-more before [] e h = (subst (λ (b : Before). HasAnswer opening moment (steps ++ taken) b ran) (sym e) has-answer, tt)
+  answers-more before (first ∷ done) e h = (
+    record {
+      index_before = h.0.index_before;
+      index = h.0.index;
+      at_before = index-more _ _ h.0.at_before;
+      at_after = index-more _ _ h.0.at_after;
+      cause = h.0.cause;
+      status = h.0.status;
+      text = h.0.text;
+    },
+    answers-more (behind before first) done e h.1,
+  )
+
+  pub line-answers-more : LineAnswers opening moment (at_first opening entry) steps lines → LineAnswers opening moment (at_first opening entry) (steps ++ taken) (lines ++ ran ∷ [])
+  line-answers-more h = answers-more (at_first opening entry) lines at.before h
+
+  -- what the line asked the folder
+  asks-it : Asks opening (steps ++ taken) (before_at old) ran old.mail new.mail
+  asks-it = record {
+    index = old.writer.shown;
+    at = index-old;
+    asks = result.asks;
+    tree = result.tree;
+    noted = result.mail_faults;
+    never_falls = result.mail_never_falls;
+    disk_never_falls = omega (arith, result.disk_never_falls, result.disk_faults);
+  }
+
+  given-along : (before : Before) (done : List RunLine) (first_mail : ObservedMail) → behind_all before done ≡ before_at old → GivenAlong opening steps before done first_mail old.mail
+      → GivenAlong opening (steps ++ taken) before (done ++ ran ∷ []) first_mail new.mail
+  given-along before [] first_mail e h = (
+    new.mail,
+    subst (λ (m : ObservedMail). Asks opening (steps ++ taken) before ran m new.mail) h
+        (subst (λ (b : Before). Asks opening (steps ++ taken) b ran old.mail new.mail) (sym e) asks-it),
+    refl,
+  )
+  given-along before (first ∷ done) first_mail e h = (
+    h.0,
+    record {
+      index = h.1.index;
+      at = index-more _ _ h.1.at;
+      asks = h.1.asks;
+      tree = h.1.tree;
+      noted = h.1.noted;
+      never_falls = h.1.never_falls;
+      disk_never_falls = h.1.disk_never_falls;
+    },
+    given-along (behind before first) done h.0 e h.2,
+  )
+
+  pub given-more : GivenAlong opening steps (at_first opening entry) lines entry.mail old.mail
+      → GivenAlong opening (steps ++ taken) (at_first opening entry) (lines ++ ran ∷ []) entry.mail new.mail
+  given-more h = given-along (at_first opening entry) lines entry.mail at.before h

@@ -1,0 +1,369 @@
+-- The steps of a line go on with the run of the machine.
+use Rattle.std.proofs.Common.{◌≡◌, ◌⊎◌, ℕ, ℤ, ◌+◌, Bool, true, false, ◌&&◌, ◌||◌, not, cond, codes, List, [], ◌∷◌, ◌++◌, Option, None, Some, length, map, fold, slice_index, slice_set, refl, sym, ap, ◌∙◌, subst, arith, inl, inr, append-nil, append_assoc}
+use Rattle.std.specs.List.{flat_map}
+use Rattle.std.specs.Cmp.Lexicographic.{nat_list_eq_equiv}
+use Rattle.std.specs.Str.{is_utf8}
+use Rattle.std.proofs.lemmas.Grind.{flat_map-append}
+use Rattle.std.proofs.lemmas.List.{length-append, length-replicate, take_all, get_or-set_same, length-set}
+use Rattle.nm_base.specs.Order.{same_text}
+use Rattle.nm_base.specs.declared.refusals.UsageKind.TheVariants as kinds
+use Rattle.nm_answer.specs.declared.request.Request.{Request}
+use Rattle.nm_answer.specs.declared.request.Request.TheVariants as requests
+use Rattle.nm_answer.specs.Answer.{answer, is_of_index, is_plain_count, is_reply}
+use Rattle.nm_answer.specs.Count.{count_text, is_subject_query}
+use Rattle.nm_commit.specs.Files.{Fits}
+use Rattle.nm_commit.specs.declared.change.Commit.{Commit}
+use Rattle.nm_index.specs.Fits.{FitInTurn}
+use Rattle.nm_index.specs.Index.{committed, folded}
+use Rattle.nm_index.specs.declared.base.Base.{Base}
+use Rattle.nm_machine.specs.Machine as machine
+use Rattle.nm_machine.specs.Machine.{Machine, in_flight, index_after}
+use Rattle.nm_machine.specs.declared.step.Step.{Step}
+use Rattle.nm_machine.specs.declared.step.Step.TheVariants as steps
+use Rattle.nm_maildir.specs.declared.given.Given.{Given}
+use Rattle.nm_log.specs.ParsedLine.{parse_line, parse_command, parse_count, count_of, parse_new, refused, parse_words}
+use Rattle.nm_log.specs.Words.{words_of}
+use Rattle.nm_log.specs.declared.line_parser.ParsedLine.{ParsedLine}
+use Rattle.nm_log.specs.declared.line_parser.ParsedLine.TheVariants as asked
+use Rattle.nm_log.specs.declared.outcome.Outcome.{Outcome}
+use Rattle.nm_log.specs.declared.outcome.Outcome.TheVariants as outcomes
+use Rattle.nm_history.specs.Call.{Devices}
+use Rattle.nm_history.specs.LineAnswers.{line_text}
+use Rattle.nm_history.specs.LineResult.{IsLineResult, Place, StandsAt, begin_step, commit_steps, line_steps, reply_step}
+use Rattle.nm_history.specs.Lines.{Before, RunLine, at_first}
+use Rattle.nm_history.specs.MachineRun.{IsAtRest, MachineRun, NeverStops, Replied, is_stop, lane_count, next, replied_where, replies_from, reply_by, reply_to}
+use Rattle.nm_history.proofs.LineLemmas.{apart, before-next, begun-all, fold-append, one-on-way, revision-after, shown-all}
+
+or-true : (b : Bool) → (b || true) ≡ true
+or-true true = refl
+or-true false = refl
+
+-- commits that fit one after the other, cut in two
+fit-append : (index : Base) (commits more : List Commit) → FitInTurn index (commits ++ more) → FitInTurn index commits × FitInTurn (folded index commits) more
+fit-append index [] more h = (tt, h)
+fit-append index (commit ∷ commits) more h = let rest = fit-append (committed index commit) commits more h.1 in ((h.0, rest.0), rest.1)
+
+none-on-way : (flight : Option Commit) → in_flight flight ≡ [] → flight ≡ None
+none-on-way None e = refl
+none-on-way (Some commit) e = absurd (cc)
+
+-- steps and replies, cut in two
+
+replies-append : (m : Machine) (taken more : List Step) → replies_from m (taken ++ more) ≡ replies_from m taken ++ replies_from (fold next m taken) more
+replies-append m [] more = refl
+replies-append m (step ∷ taken) more =
+    ap (λ (l : List Replied). reply_by m step ++ l) (replies-append (next m step) taken more)
+    ∙ sym (append_assoc (reply_by m step) (replies_from (next m step) taken) (replies_from (fold next (next m step) taken) more))
+
+never-append : (taken more : List Step) → NeverStops taken → NeverStops more → NeverStops (taken ++ more)
+never-append [] more h k = k
+never-append (step ∷ taken) more h k = (h.0, never-append taken more h.1 k)
+
+module _ (moment : ℤ) where
+  runs-append : (m mid last : Machine) (taken more : List Step) → machine.Runs moment m taken mid → machine.Runs moment mid more last → machine.Runs moment m (taken ++ more) last
+  runs-append m mid last [] more h k = subst (λ (x : Machine). machine.Runs moment x more last) h k
+  runs-append m mid last (step ∷ taken) more h k = (h.0, h.1, runs-append h.0 mid last taken more h.2 k)
+
+  -- the commit on its way is there
+  abbrev landed : Machine → List Commit → Machine
+  landed m arrived = record m { commits = m.commits ++ arrived; flight = None }
+
+  -- a step that is no stop leaves the next state
+  next-is : (m : Machine) (step : Step) (new : Machine) → is_stop step ≡ false → machine.Takes moment m step new → new ≡ next m step
+  next-is m (steps.Begin commit) new e t = t.after
+  next-is m steps.Append new e t =
+      t.after.2 ∙ ap (λ (f : Option Commit). landed m (in_flight f)) (sym t.after.1)
+  next-is m steps.Show new e t = t.after
+  next-is m (steps.See lane) new e t = t.after
+  next-is m steps.Meet new e t = t.after
+  next-is m (steps.Reply lane request text) new e t = t.after
+  next-is m (steps.Crash kept) new e t = absurd (cc)
+  next-is m steps.Reopen new e t = absurd (cc)
+
+  fold-is : (m : Machine) (taken : List Step) (last : Machine) → NeverStops taken → machine.Runs moment m taken last → fold next m taken ≡ last
+  fold-is m [] last never h = sym h
+  fold-is m (step ∷ taken) last never h =
+      ap (λ (x : Machine). fold next x taken) (sym (next-is m step h.0 never.0 h.1)) ∙ fold-is h.0 taken last never.1 h.2
+
+  -- some steps from a state at rest, what is then acknowledged and on its way, and the replies
+  pub record Goes (opening : Base) (m : Machine) (taken : List Step) (acknowledged way : List Commit) (replies : List Replied) : Type 0 where
+    pub last : Machine
+    pub run : machine.Runs moment m taken last
+    pub rest : IsAtRest opening acknowledged last
+    pub on_way : in_flight last.flight ≡ way
+    pub never : NeverStops taken
+    pub replies_are : replies_from m taken ≡ replies
+
+  abbrev replied-with : ℕ → Request → List ℕ → Replied
+  replied-with revision request text = record { lane = 0; revision = revision; request = request; text = text }
+
+  module _ (opening : Base) where
+    stays : (m : Machine) (acknowledged way : List Commit) → IsAtRest opening acknowledged m → in_flight m.flight ≡ way → Goes opening m [] acknowledged way []
+    stays m acknowledged way rest on = record { last = m; run = refl; rest = rest; on_way = on; never = tt; replies_are = refl }
+
+    goes-on : (m : Machine) (taken more : List Step) (mid mid_way acknowledged way : List Commit) (first_replies replies : List Replied)
+        → (first : Goes opening m taken mid mid_way first_replies) → Goes opening first.last more acknowledged way replies
+        → Goes opening m (taken ++ more) acknowledged way (first_replies ++ replies)
+    goes-on m taken more mid mid_way acknowledged way first_replies replies first second = record {
+      last = second.last;
+      run = runs-append m first.last second.last taken more first.run second.run;
+      rest = second.rest;
+      on_way = second.on_way;
+      never = never-append taken more first.never second.never;
+      replies_are =
+          replies-append m taken more
+          ∙ ap (λ (l : List Replied). l ++ replies_from (fold next m taken) more) first.replies_are
+          ∙ ap (λ (l : List Replied). first_replies ++ l) (ap (λ (x : Machine). replies_from x more) (fold-is m taken first.last first.never first.run) ∙ second.replies_are);
+    }
+
+    index-is : (m : Machine) (acknowledged : List Commit) → IsAtRest opening acknowledged m → folded m.opening m.commits ≡ folded opening acknowledged
+    index-is m acknowledged rest =
+        ap (λ (i : Base). folded i m.commits) rest.opening_is ∙ ap (folded opening) rest.commits
+
+    -- a commit that fits is begun
+    begins : (m : Machine) (acknowledged : List Commit) (commit : Commit) → IsAtRest opening acknowledged m → in_flight m.flight ≡ []
+        → Fits (folded opening acknowledged).files commit → Goes opening m (begin_step commit ∷ []) acknowledged (commit ∷ []) []
+    begins m acknowledged commit rest none fits = record {
+      last = record m { flight = Some commit };
+      run = (
+        record m { flight = Some commit },
+        record {
+          allowed = (rest.up, rest.shown, none-on-way m.flight none, subst (λ (i : Base). Fits i.files commit) (sym (index-is m acknowledged rest)) fits);
+          after = refl;
+        },
+        refl,
+      );
+      rest = record { opening_is = rest.opening_is; commits = rest.commits; shown = rest.shown; lanes = rest.lanes; sees = rest.sees; up = rest.up };
+      on_way = refl;
+      never = (refl, tt);
+      replies_are = refl;
+    }
+
+    -- it is there, and is shown
+    lands : (m : Machine) (acknowledged : List Commit) (commit : Commit) → IsAtRest opening acknowledged m → in_flight m.flight ≡ []
+        → Fits (folded opening acknowledged).files commit → Goes opening m (commit_steps commit) (acknowledged ++ commit ∷ []) [] []
+    lands m acknowledged commit rest none fits =
+        let started : Machine = record m { flight = Some commit } in
+        let there : Machine = record started { commits = m.commits ++ commit ∷ []; flight = None } in
+        let shown : Machine = record there { shown = length there.commits; lanes = slice_set m.lanes 0 (length there.commits) } in
+        let longer : length there.commits ≡ length m.commits + 1 = length-append m.commits (commit ∷ []) in
+        record {
+          last = shown;
+          run = (
+            started,
+            record {
+              allowed = (rest.up, rest.shown, none-on-way m.flight none, subst (λ (i : Base). Fits i.files commit) (sym (index-is m acknowledged rest)) fits);
+              after = refl;
+            },
+            (there, record { allowed = (rest.up, cc); after = (commit, refl, refl) }, (shown, record { allowed = (rest.up, longer ∙ ap (λ n. n + 1) rest.shown); after = refl }, refl)),
+          );
+          rest = record {
+            opening_is = rest.opening_is;
+            commits = ap (λ (l : List Commit). l ++ commit ∷ []) rest.commits;
+            shown = refl;
+            lanes = length-set m.lanes 0 (length there.commits) ∙ rest.lanes;
+            sees = get_or-set_same m.lanes 0 (length there.commits) 0 (omega (arith, rest.lanes));
+            up = rest.up;
+          };
+          on_way = refl;
+          never = (refl, (refl, (refl, tt)));
+          replies_are = refl;
+        }
+
+    -- commits that fit, one after the other
+    commits-go : (m : Machine) (acknowledged made : List Commit) → IsAtRest opening acknowledged m → in_flight m.flight ≡ []
+        → FitInTurn (folded opening acknowledged) made → Goes opening m (flat_map commit_steps made) (acknowledged ++ made) [] []
+    commits-go m acknowledged [] rest none fit =
+        subst (λ (l : List Commit). Goes opening m [] l [] []) (sym (append-nil acknowledged)) (stays m acknowledged [] rest none)
+    commits-go m acknowledged (commit ∷ made) rest none fit =
+        let first = lands m acknowledged commit rest none fit.0 in
+        let further =
+        commits-go first.last (acknowledged ++ commit ∷ []) made first.rest first.on_way
+        (subst (λ (i : Base). FitInTurn i made) (sym (fold-append committed opening acknowledged (commit ∷ []))) fit.1) in
+        subst (λ (l : List Commit). Goes opening m (flat_map commit_steps (commit ∷ made)) l [] []) (append_assoc acknowledged (commit ∷ []) made)
+        (goes-on m (commit_steps commit) (flat_map commit_steps made) (acknowledged ++ commit ∷ []) [] ((acknowledged ++ commit ∷ []) ++ made) [] [] [] first further)
+
+    -- the one that a line leaves on its way
+    flight-goes : (m : Machine) (acknowledged flight : List Commit) → IsAtRest opening acknowledged m → in_flight m.flight ≡ []
+        → FitInTurn (folded opening acknowledged) flight → (flight ≡ []) ⊎ ((commit : Commit) × (flight ≡ commit ∷ []))
+        → Goes opening m (map begin_step flight) acknowledged flight []
+    flight-goes m acknowledged flight rest none fit (inl is) =
+        subst (λ (l : List Commit). Goes opening m (map begin_step l) acknowledged l []) (sym is) (stays m acknowledged [] rest none)
+    flight-goes m acknowledged flight rest none fit (inr one) =
+        subst (λ (l : List Commit). Goes opening m (map begin_step l) acknowledged l []) (sym one.1)
+        (begins m acknowledged one.0 rest none (subst (λ (l : List Commit). FitInTurn (folded opening acknowledged) l) one.1 fit).0)
+
+    -- what a line commits: nothing, or with nothing on its way before
+    writes-go : (m : Machine) (acknowledged way made flight : List Commit) → IsAtRest opening acknowledged m → in_flight m.flight ≡ way
+        → FitInTurn (folded opening acknowledged) (made ++ flight) → (flight ≡ []) ⊎ ((commit : Commit) × (flight ≡ commit ∷ []))
+        → (way ≡ []) ⊎ ((made ≡ []) × (flight ≡ []))
+        → Goes opening m (flat_map commit_steps made ++ map begin_step flight) (acknowledged ++ made) (way ++ flight) []
+    writes-go m acknowledged way made flight rest on fit one (inl none) =
+        let fits = fit-append (folded opening acknowledged) made flight fit in
+        let first = commits-go m acknowledged made rest (on ∙ none) fits.0 in
+        let second =
+        flight-goes first.last (acknowledged ++ made) flight first.rest first.on_way
+        (subst (λ (i : Base). FitInTurn i flight) (sym (fold-append committed opening acknowledged made)) fits.1) one in
+        subst (λ (l : List Commit). Goes opening m (flat_map commit_steps made ++ map begin_step flight) (acknowledged ++ made) (l ++ flight) []) (sym none)
+        (goes-on m (flat_map commit_steps made) (map begin_step flight) (acknowledged ++ made) [] (acknowledged ++ made) flight [] [] first second)
+    writes-go m acknowledged way made flight rest on fit one (inr none) =
+        subst (λ (l : List Commit). Goes opening m (flat_map commit_steps l ++ map begin_step flight) (acknowledged ++ l) (way ++ flight) []) (sym none.0)
+        (subst (λ (l : List Commit). Goes opening m (map begin_step l) (acknowledged ++ []) (way ++ l) []) (sym none.1)
+        (subst (λ (l : List Commit). Goes opening m [] l (way ++ []) []) (sym (append-nil acknowledged))
+        (subst (λ (l : List Commit). Goes opening m [] acknowledged l []) (sym (append-nil way)) (stays m acknowledged way rest on))))
+
+    -- a reply of the first lane, on all commits
+    reply-goes : (m : Machine) (acknowledged way : List Commit) (revision : ℕ) (request : Request) (text : List ℕ) → IsAtRest opening acknowledged m → in_flight m.flight ≡ way
+        → revision ≡ opening.revision + length acknowledged → is_reply (folded opening acknowledged) moment request text ≡ true
+        → Goes opening m (steps.Reply 0 request text ∷ []) acknowledged way (replied-with revision request text ∷ [])
+    reply-goes m acknowledged way revision request text rest on at right =
+        let all : index_after m (slice_index m.lanes 0) ≡ folded opening acknowledged =
+        ap (index_after m) rest.sees ∙ (ap (folded m.opening) (take_all (length m.commits) m.commits (omega arith)) ∙ index-is m acknowledged rest) in
+        record {
+          last = m;
+          run = (m, record { allowed = (rest.up, omega (arith, rest.lanes), ap (λ (i : Base). is_reply i moment request text) all ∙ right); after = refl }, refl);
+          rest = rest;
+          on_way = on;
+          never = (refl, tt);
+          replies_are =
+              ap (λ n. replied-with n request text ∷ [])
+              (ap (λ (i : Base). i.revision + slice_index m.lanes 0) rest.opening_is
+              ∙ ap (λ n. opening.revision + n) (rest.sees ∙ ap length rest.commits) ∙ sym at);
+        }
+
+  -- a count that is asked for is a plain one
+  abbrev IsPlainAsked : ParsedLine → Type 0
+  IsPlainAsked (asked.Usage word kind) = Unit {0}
+  IsPlainAsked (asked.Request requests.New) = Unit {0}
+  IsPlainAsked (asked.Request (requests.Count ask)) = is_plain_count ask ≡ true
+
+  plain-either : (b : Bool) (first second : ParsedLine) → IsPlainAsked first → IsPlainAsked second → IsPlainAsked (cond b first second)
+  plain-either true first second h k = h
+  plain-either false first second h k = k
+
+  plain-query : (b : Bool) (word : List ℕ) → is_subject_query word ≡ b → IsPlainAsked (cond b (count_of word) (refused kinds.Value word))
+  plain-query true word e = e
+  plain-query false word e = tt
+
+  plain-new : (words : List (List ℕ)) → IsPlainAsked (parse_new words)
+  plain-new [] = tt
+  plain-new (word ∷ more) = tt
+
+  plain-count : (words : List (List ℕ)) → IsPlainAsked (parse_count words)
+  plain-count [] = tt
+  plain-count (word ∷ []) = plain-query (is_subject_query word) word refl
+  plain-count (word ∷ other ∷ more) = tt
+
+  plain-command : (words : List (List ℕ)) → IsPlainAsked (parse_command words)
+  plain-command [] = tt
+  plain-command (name ∷ words) = plain-either (same_text name (codes "new")) _ _ (plain-new words) (plain-either (same_text name (codes "count")) _ _ (plain-count words) tt)
+
+  plain-words : (words : List (List ℕ)) → IsPlainAsked (parse_words words)
+  plain-words [] = tt
+  plain-words (lane ∷ words) = plain-either (same_text lane (codes "0")) _ _ (plain-command words) tt
+
+  plain-asked : (line : List ℕ) → IsPlainAsked (parse_line line)
+  plain-asked line = plain-either (is_utf8 line) _ _ (plain-words (words_of line)) tt
+
+  -- the answer to a line is a reply that the machine takes
+  right-reply : (request : Request) (line : List ℕ) (before index : Base) (noted : List Given) (text : List ℕ) → parse_line line ≡ asked.Request request
+      → text ≡ answer request [] before index moment noted → is_reply index moment request text ≡ true
+  right-reply requests.New line before index noted text e is = refl
+  right-reply (requests.Count ask) line before index noted text e is =
+      let plain : is_plain_count ask ≡ true = subst IsPlainAsked e (plain-asked line) in
+      let either : Bool = not (is_of_index (requests.Count ask)) in
+      ap (λ (b : Bool). either || (b && same_text text (count_text ask.query index.files))) plain
+      ∙ (ap (λ (b : Bool). either || b) (ap (λ (t : List ℕ). same_text t (count_text ask.query index.files)) is ∙ nat_list_eq_equiv.refl (count_text ask.query index.files)) ∙ or-true either)
+
+  -- the reply to a line, by its outcome
+  answer-goes : (opening : Base) (m : Machine) (acknowledged way : List Commit) (outcome : Outcome) (line : List ℕ) (parsed : ParsedLine) (revision : ℕ) (text : List ℕ) (before : Base) (noted : List Given)
+      → parse_line line ≡ parsed → IsAtRest opening acknowledged m → in_flight m.flight ≡ way → revision ≡ opening.revision + length acknowledged
+      → text ≡ line_text outcome parsed before (folded opening acknowledged) moment noted
+      → Goes opening m (map reply_step (replied_where outcome parsed 0 revision text)) acknowledged way (replied_where outcome parsed 0 revision text)
+  answer-goes opening m acknowledged way outcomes.Ok line (asked.Request request) revision text before noted e rest on at is =
+      reply-goes opening m acknowledged way revision request text rest on at (right-reply request line before (folded opening acknowledged) noted text e is)
+  answer-goes opening m acknowledged way outcomes.Ok line (asked.Usage word kind) revision text before noted e rest on at is = stays opening m acknowledged way rest on
+  answer-goes opening m acknowledged way (outcomes.Usage word kind) line parsed revision text before noted e rest on at is = stays opening m acknowledged way rest on
+  answer-goes opening m acknowledged way outcomes.MailFault line parsed revision text before noted e rest on at is = stays opening m acknowledged way rest on
+  answer-goes opening m acknowledged way outcomes.DiskFault line parsed revision text before noted e rest on at is = stays opening m acknowledged way rest on
+  answer-goes opening m acknowledged way (outcomes.Closed fault) line parsed revision text before noted e rest on at is = stays opening m acknowledged way rest on
+  answer-goes opening m acknowledged way (outcomes.Limit limit) line parsed revision text before noted e rest on at is = stays opening m acknowledged way rest on
+  answer-goes opening m acknowledged way outcomes.NoMemory line parsed revision text before noted e rest on at is = stays opening m acknowledged way rest on
+
+  cancel : (xs ys zs : List Commit) → xs ++ ys ≡ xs ++ zs → ys ≡ zs
+  cancel [] ys zs e = e
+  cancel (x ∷ xs) ys zs e = cancel xs ys zs (cc)
+
+  both-nil : (made flight : List Commit) → made ++ flight ≡ [] → (made ≡ []) × (flight ≡ [])
+  both-nil [] flight e = (refl, e)
+  both-nil (commit ∷ made) flight e = absurd (cc)
+
+  apart-both : (way made flight : List Commit) → (way ≡ []) ⊎ (made ++ flight ≡ []) → (way ≡ []) ⊎ ((made ≡ []) × (flight ≡ []))
+  apart-both way made flight (inl none) = inl none
+  apart-both way made flight (inr none) = inr (both-nil made flight none)
+
+  module _ (opening : Base) (entry : Devices) (before taken : List Step) (lines : List RunLine) (acknowledged : List Commit)
+      (old new : Place) (ran : RunLine) (at : StandsAt opening entry before lines acknowledged old) (result : IsLineResult moment old ran taken new) where
+    way-is : (h : MachineRun opening moment (at_first opening entry) before lines acknowledged) → in_flight h.last.flight ≡ at.flight
+    way-is h = cancel acknowledged (in_flight h.last.flight) at.flight (sym h.begun_are ∙ at.begun_are)
+
+    line-goes : (h : MachineRun opening moment (at_first opening entry) before lines acknowledged)
+        → Goes opening h.last taken (acknowledged ++ result.made) (at.flight ++ result.flight) (reply_to ran)
+    line-goes h =
+        let writes =
+        writes-go opening h.last acknowledged at.flight result.made result.flight h.rest (way-is h)
+        (subst (λ (i : Base). FitInTurn i (result.made ++ result.flight)) at.shown result.has_made.fit)
+        (one-on-way ran.1.outcome _ _ _ _ _ result.made result.flight result.makes)
+        (apart-both at.flight result.made result.flight (apart opening moment entry before taken lines acknowledged old new ran at result)) in
+        let shown : new.writer.shown ≡ folded opening (acknowledged ++ result.made) = shown-all opening moment entry before taken lines acknowledged old new ran at result in
+        let said : ran.1.text ≡ line_text ran.1.outcome (parse_line ran.0.text) old.writer.shown (folded opening (acknowledged ++ result.made)) moment ran.1.given =
+        subst (λ (i : Base). ran.1.text ≡ line_text ran.1.outcome (parse_line ran.0.text) old.writer.shown i moment ran.1.given) shown result.text in
+        let answers =
+        answer-goes opening writes.last (acknowledged ++ result.made) (at.flight ++ result.flight) ran.1.outcome ran.0.text (parse_line ran.0.text) ran.1.revision ran.1.text old.writer.shown ran.1.given
+        refl writes.rest writes.on_way (revision-after opening moment entry before taken lines acknowledged old new ran at result) said in
+        let replies : List Replied = replied_where ran.1.outcome (parse_line ran.0.text) 0 ran.1.revision ran.1.text in
+        let all =
+        goes-on opening h.last (flat_map commit_steps result.made ++ map begin_step result.flight) (map reply_step replies) (acknowledged ++ result.made) (at.flight ++ result.flight)
+        (acknowledged ++ result.made) (at.flight ++ result.flight) [] replies writes answers in
+        let joined : (flat_map commit_steps result.made ++ map begin_step result.flight) ++ map reply_step replies ≡ line_steps result.made result.flight replies =
+        append_assoc (flat_map commit_steps result.made) (map begin_step result.flight) (map reply_step replies) in
+        subst (λ (l : List Step). Goes opening h.last l (acknowledged ++ result.made) (at.flight ++ result.flight) (reply_to ran)) (sym result.steps)
+        (subst (λ n. Goes opening h.last (line_steps result.made result.flight (replied_where ran.1.outcome (parse_line ran.0.text) n ran.1.revision ran.1.text))
+        (acknowledged ++ result.made) (at.flight ++ result.flight) (replied_where ran.1.outcome (parse_line ran.0.text) n ran.1.revision ran.1.text)) (sym result.numbers.lane)
+        (subst (λ (l : List Step). Goes opening h.last l (acknowledged ++ result.made) (at.flight ++ result.flight) replies) joined all))
+
+    pub run-more : MachineRun opening moment (at_first opening entry) before lines acknowledged
+        → MachineRun opening moment (at_first opening entry) (before ++ taken) (lines ++ ran ∷ []) (acknowledged ++ result.made)
+    run-more h =
+        let goes = line-goes h in
+        let start : Machine = machine.start opening lane_count in
+        record {
+          last = goes.last;
+          run = runs-append start h.last goes.last before taken h.run goes.run;
+          never_stops = never-append before taken h.never_stops goes.never;
+          replies =
+              replies-append start before taken
+              ∙ ap (λ (l : List Replied). l ++ replies_from (fold next start before) taken) h.replies
+              ∙ ap (λ (l : List Replied). flat_map reply_to lines ++ l)
+              (ap (λ (x : Machine). replies_from x taken) (fold-is start before h.last h.never_stops h.run) ∙ goes.replies_are ∙ sym (append-nil (reply_to ran)))
+              ∙ sym (flat_map-append reply_to lines (ran ∷ []));
+          begun_are =
+              begun-all opening moment entry before taken lines acknowledged old new ran at result
+              ∙ ap (λ (l : List Commit). (acknowledged ++ result.made) ++ l) (sym goes.on_way);
+          rest = goes.rest;
+          revision =
+              ap (λ (b : Before). b.revision) (before-next opening moment entry before taken lines acknowledged old new ran at result)
+              ∙ sym result.revision ∙ revision-after opening moment entry before taken lines acknowledged old new ran at result;
+        }
+
+-- the machine at the start
+pub run-none : (opening : Base) (moment : ℤ) (entry : Devices) → MachineRun opening moment (at_first opening entry) [] [] []
+run-none opening moment entry = record {
+  last = machine.start opening lane_count;
+  run = refl;
+  never_stops = tt;
+  replies = refl;
+  begun_are = refl;
+  rest = record { opening_is = refl; commits = refl; shown = refl; lanes = length-replicate {A = ℕ} lane_count 0; sees = refl; up = refl };
+  revision = omega arith;
+}

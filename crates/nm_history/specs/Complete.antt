@@ -1,0 +1,46 @@
+-- With nothing in its way a session runs to its end: want of memory alone may stop it.
+use Rattle.std.specs.Prelude.{◌≡◌, ◌≢◌, ◌⊎◌, ℕ, ◌<◌, ◌≤◌, List, length, None, Some, IfSome}
+use Rattle.std.specs.Str.Lines.{lines}
+use Rattle.nm_base.specs.Limits.{max_count, max_input_bytes, max_lines}
+use Rattle.nm_disk.specs.Observed.{bytes_now}
+use Rattle.nm_disk.specs.declared.disk.FileNo.TheVariants.{Head}
+use Rattle.nm_index.specs.declared.base.Base.{Base}
+use Rattle.nm_log.specs.Script.{script_lines}
+use Rattle.nm_writer.specs.StoredIndex.{HoldsIndex}
+use Rattle.nm_history.specs.Call.{Call, words_fault}
+
+-- the count did not rise, and does not stand at its type's end
+pub record StaysBelow (old new : ℕ) : Type 0 where
+  pub same : new ≡ old
+  pub room : old < max_count
+
+-- no device failed in the call, and no count stands at its type's end
+pub record NoFault (call : Call) : Type 0 where
+  pub mail : StaysBelow call.entry.mail.faults call.after.mail.faults
+  pub disk : StaysBelow call.entry.disk.faults call.after.disk.faults
+  pub input : StaysBelow call.entry.input.faults call.after.input.faults
+  pub out : StaysBelow call.entry.out.faults call.after.out.faults
+
+-- the input tells these bytes, and they are within the limits
+pub record IsWithin (input : List ℕ) (call : Call) : Type 0 where
+  pub told : call.entry.input.bytes ≡ Some input
+  pub bytes : length input ≤ max_input_bytes
+  pub few : length (lines input) ≤ max_lines
+
+-- the disk tells its bytes, and they hold an index
+pub record Opens (call : Call) : Type 0 where
+  pub index : Base
+  pub holds : IfSome call.entry.disk.told (λ moments. HoldsIndex (bytes_now moments Head) index)
+  pub told : call.entry.disk.told ≢ None
+
+-- every line of the script has its log
+pub record IsFinished (input : List ℕ) (call : Call) : Type 0 where
+  pub status : call.done.status ≡ 0
+  pub each : length call.done.log.lines ≡ length (script_lines input)
+
+-- Where the words are right, no device failed, the input is within the limits and the disk holds an index, the script is
+-- answered to its end, or memory was wanting.
+abbrev pub IsComplete : Call → Type 0
+IsComplete call =
+    (input : List ℕ) → words_fault call.words ≡ None → NoFault call → IsWithin input call → Opens call
+    → IsFinished input call ⊎ (call.done.status ≡ 7)

@@ -1,0 +1,81 @@
+-- What a stop at any moment of the call leaves on the disk: the index after the first of the commits, every one among them that
+-- was acknowledged by that moment.
+use Rattle.std.specs.Prelude.{◌≡◌, ℕ, ◌≤◌, Bool, true, false, ◌&&◌, nat_le, nat_lt, List, [], ◌∷◌, ◌++◌, length, filter}
+use Rattle.std.specs.List.{AllByRecursion}
+use Rattle.std.specs.List.Sorted.{IsSortedBy}
+use Rattle.nm_base.specs.Limits.{max_count}
+use Rattle.nm_commit.specs.declared.change.Commit.{Commit}
+use Rattle.nm_disk.specs.Images.{MayLeave}
+use Rattle.nm_disk.specs.Observed.{Moments, ObservedDisk, bytes_now}
+use Rattle.nm_disk.specs.declared.disk.FileNo.TheVariants.{Head}
+use Rattle.nm_disk.specs.declared.state.DiskState.{DiskState}
+use Rattle.nm_index.specs.Index.{folded}
+use Rattle.nm_index.specs.declared.base.Base.{Base}
+use Rattle.nm_journal.specs.Journal.{IfTold}
+use Rattle.nm_journal.specs.Moments.{all_moments}
+use Rattle.nm_machine.specs.declared.step.Step.{Step}
+use Rattle.nm_machine.specs.declared.step.Step.TheVariants.{Begin, Append, Show, See, Meet, Reply, Crash, Reopen}
+use Rattle.nm_writer.specs.StoredIndex.{HoldsIndex}
+use Rattle.nm_history.specs.Lines.{begun}
+
+-- a commit is acknowledged
+abbrev pub is_append : Step → Bool
+is_append (Begin commit) = false
+is_append Append = true
+is_append Show = false
+is_append (See lane) = false
+is_append Meet = false
+is_append (Reply lane request text) = false
+is_append (Crash kept) = false
+is_append Reopen = false
+
+-- how many commits the steps acknowledge
+abbrev pub appends : List Step → ℕ
+appends steps = length (filter is_append steps)
+
+-- among these moments is one of the call, so many moments or more after the disk's first, at which no write was pending
+pub record HasSettled (entered : ℕ) (moments : List DiskState) : Type 0 where
+  pub later : List DiskState
+  pub settled : DiskState
+  pub earlier : List DiskState
+  pub order : moments ≡ later ++ settled ∷ earlier
+  pub in_call : entered ≤ length earlier
+  pub quiet : settled.written ≡ []
+
+-- A moment of the call, by its number: where writes were pending when the call began, one since a sync first went well.
+pub record IsMoment (before now : Moments) (state : DiskState) (number : ℕ) : Type 0 where
+  pub newer : List DiskState
+  pub older : List DiskState
+  pub order : all_moments now ≡ newer ++ state ∷ older
+  pub number_is : number ≡ length older
+  pub since : HasSettled (length before.past) (state ∷ older)
+
+-- the commit was acknowledged by this moment, as far as clocks tell
+abbrev pub is_by : ℕ → ℕ → Bool
+is_by number clock = nat_le clock number && nat_lt clock max_count
+
+-- how many commits were acknowledged by this moment
+abbrev pub acknowledged_by : ℕ → List ℕ → ℕ
+acknowledged_by number acked = length (filter (is_by number) acked)
+
+-- The bytes hold the index after the first of the commits, those acknowledged by this moment among them.
+pub record HoldsPrefix (opening : Base) (commits : List Commit) (acked : List ℕ) (number : ℕ) (bytes : List ℕ) : Type 0 where
+  pub kept : List Commit
+  pub more : List Commit
+  pub order : commits ≡ kept ++ more
+  pub holds : HoldsIndex bytes (folded opening kept)
+  pub acknowledged : acknowledged_by number acked ≤ length kept
+
+-- whatever a stop at a moment of the call leaves holds such an index
+abbrev pub KeepsCommits : List Commit → List ℕ → Moments → Moments → Type 0
+KeepsCommits commits acked before now =
+    (opening : Base) (state : DiskState) (number : ℕ) (bytes : List ℕ) → HoldsIndex (bytes_now before Head) opening
+    → IsMoment before now state number → MayLeave state Head bytes → HoldsPrefix opening commits acked number bytes
+
+-- Where the disk held an index when the call began, every moment of the call leaves its acknowledged commits on it. Each of these
+-- has its clock; clocks never fall, and end at that of the return.
+pub record CrashPrefix (entry after : ObservedDisk) (steps : List Step) (acked : List ℕ) : Type 0 where
+  pub every_moment : IfTold entry.told after.told (KeepsCommits (begun steps) acked)
+  pub one_each : length acked ≡ appends steps
+  pub never_fall : IsSortedBy nat_lt acked
+  pub ends : AllByRecursion (λ clock. clock ≤ after.clock) acked

@@ -1,0 +1,15 @@
+pub mod Call
+pub mod Complete
+pub mod CrashPrefix
+pub mod Given
+pub mod History
+pub mod LineAnswers
+pub mod LineCommits
+pub mod LineResult
+pub mod Lines
+pub mod MachineRun
+pub mod OpeningIndex
+pub mod PrintedOut
+pub mod Refusals
+pub mod Requests
+pub mod Status

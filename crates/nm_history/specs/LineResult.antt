@@ -1,0 +1,93 @@
+-- What one line does with the writer and the mail folder, and what its log says. The statements of a session go on by it.
+use Rattle.std.specs.Prelude.{◌≡◌, ℕ, ℤ, ◌+◌, ◌≤◌, List, [], ◌∷◌, ◌++◌, length, map, None, IsSome}
+use Rattle.std.specs.List.{flat_map}
+use Rattle.nm_commit.specs.declared.change.Commit.{Commit}
+use Rattle.nm_index.specs.Fits.{FitInTurn}
+use Rattle.nm_index.specs.Index.{folded}
+use Rattle.nm_index.specs.declared.base.Base.{Base}
+use Rattle.nm_log.specs.ParsedLine.{parse_line}
+use Rattle.nm_log.specs.Replies.{status_of}
+use Rattle.nm_machine.specs.declared.step.Step.{Step}
+use Rattle.nm_machine.specs.declared.step.Step.TheVariants.{Begin, Append, Show, Reply}
+use Rattle.nm_maildir.specs.Observed.{ObservedMail}
+use Rattle.nm_writer.specs.Writer.{WriterState}
+use Rattle.nm_history.specs.Call.{Devices}
+use Rattle.nm_history.specs.Given.{AsksMail}
+use Rattle.nm_history.specs.LineAnswers.{HasCause, line_text}
+use Rattle.nm_history.specs.LineCommits.{Makes}
+use Rattle.nm_history.specs.Lines.{Before, RunLine, at_first, begun, behind_all, closed_after}
+use Rattle.nm_history.specs.MachineRun.{Replied, reply_to}
+use Rattle.nm_history.specs.PrintedOut.{IsNumbered}
+
+-- the writer, what is observed of the mail folder, and how often the disk has failed
+pub record Place : Type 0 where
+  pub writer : WriterState
+  pub mail : ObservedMail
+  pub disk_faults : ℕ
+
+-- what stands before the next line
+abbrev pub before_at : Place → Before
+before_at place = record {
+  revision = place.writer.shown.revision;
+  mail_faults = place.mail.faults;
+  disk_faults = place.disk_faults;
+  closed = place.writer.closed;
+}
+
+-- a commit is begun, is there, and is shown
+abbrev pub commit_steps : Commit → List Step
+commit_steps commit = Begin commit ∷ Append ∷ Show ∷ []
+
+-- a commit is begun
+abbrev pub begin_step : Commit → Step
+begin_step commit = Begin commit
+
+abbrev pub reply_step : Replied → Step
+reply_step replied = Reply replied.lane replied.request replied.text
+
+-- the commits of a line one after the other, the one that it leaves on its way, and its reply
+abbrev pub line_steps : List Commit → List Commit → List Replied → List Step
+line_steps made flight replies = flat_map commit_steps made ++ (map begin_step flight ++ map reply_step replies)
+
+-- What the writer has made of a line: these commits are shown and acknowledged, and this one is on its way.
+pub record HasMade (old : WriterState) (made flight : List Commit) (new : WriterState) : Type 0 where
+  pub fit : FitInTurn old.shown (made ++ flight)
+  -- a closed writer makes nothing
+  pub idle : IsSome old.closed → made ++ flight ≡ []
+  pub shown : new.shown ≡ folded old.shown made
+  pub begun_are : new.begun ≡ old.begun ++ (made ++ flight)
+  pub clocks : List ℕ
+  pub acked : new.acked ≡ old.acked ++ clocks
+  pub one_each : length clocks ≡ length made
+
+-- A line was run: what it made, asked and said, and the steps that it took.
+pub record IsLineResult (moment : ℤ) (old : Place) (ran : RunLine) (taken : List Step) (new : Place) : Type 0 where
+  pub made : List Commit
+  pub flight : List Commit
+  pub has_made : HasMade old.writer made flight new.writer
+  pub makes : Makes ran.1.outcome old.mail.tree old.writer.shown ran.0.text ran.1.given (length old.writer.acked + length made) made flight
+  pub closed : new.writer.closed ≡ closed_after old.writer.closed ran.1.outcome new.disk_faults
+  pub asks : AsksMail (parse_line ran.0.text) old.mail new.mail old.writer.shown.files ran.1.given
+  pub tree : new.mail.tree ≡ old.mail.tree
+  pub mail_never_falls : old.mail.faults ≤ new.mail.faults
+  pub disk_never_falls : old.disk_faults ≤ new.disk_faults
+  pub numbers : IsNumbered ran.0 ran.1
+  pub revision : ran.1.revision ≡ new.writer.shown.revision
+  pub mail_faults : ran.1.mail_faults ≡ new.mail.faults
+  pub disk_faults : ran.1.disk_faults ≡ new.disk_faults
+  pub cause : HasCause ran.1.outcome (parse_line ran.0.text) (before_at old) new.mail.faults new.disk_faults
+  pub status : ran.1.status ≡ status_of ran.1.outcome
+  pub text : ran.1.text ≡ line_text ran.1.outcome (parse_line ran.0.text) old.writer.shown new.writer.shown moment ran.1.given
+  pub steps : taken ≡ line_steps made flight (reply_to ran)
+
+-- Where a session stands behind some lines, as the log tells it: these commits were acknowledged, and one may be on its way
+-- behind a fault of the disk.
+pub record StandsAt (opening : Base) (entry : Devices) (steps : List Step) (lines : List RunLine) (acknowledged : List Commit) (place : Place) : Type 0 where
+  pub flight : List Commit
+  pub begun_are : begun steps ≡ acknowledged ++ flight
+  pub begun_by_writer : place.writer.begun ≡ acknowledged ++ flight
+  pub none_open : place.writer.closed ≡ None → flight ≡ []
+  pub acked : length place.writer.acked ≡ length acknowledged
+  pub shown : place.writer.shown ≡ folded opening acknowledged
+  pub before : behind_all (at_first opening entry) lines ≡ before_at place
+  pub tree : place.mail.tree ≡ entry.mail.tree

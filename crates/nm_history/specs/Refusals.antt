@@ -1,0 +1,59 @@
+-- Why a call is refused as a whole, and what was read where it isn't.
+use Rattle.std.specs.Prelude.{◌≡◌, ℕ, ◌<◌, ◌≤◌, List, length, None, Some, IfSome}
+use Rattle.std.specs.Io.KnownBytes.{Consumes, IsAtEnd}
+use Rattle.std.specs.Str.Lines.{lines}
+use Rattle.nm_base.specs.Limits.{max_input_bytes, max_lines}
+use Rattle.nm_base.specs.declared.limit.Limit.{Limit}
+use Rattle.nm_base.specs.declared.limit.Limit.TheVariants as limits
+use Rattle.nm_disk.specs.Observed.{bytes_now}
+use Rattle.nm_disk.specs.declared.disk.FileNo.TheVariants.{Head}
+use Rattle.nm_faults.specs.Faults.{HasRisen}
+use Rattle.nm_io.specs.Observed.{ObservedStream}
+use Rattle.nm_log.specs.declared.refusal.Refusal.{Refusal}
+use Rattle.nm_log.specs.declared.refusal.Refusal.TheVariants as refusals
+use Rattle.nm_writer.specs.StoredIndex.{HoldsNoIndex}
+use Rattle.nm_history.specs.Call.{Call, words_fault}
+
+-- the input was read to its end, and these are its bytes
+pub record IsRead (input : List ℕ) (old new : ObservedStream) : Type 0 where
+  pub bytes : Consumes old.bytes new.bytes input
+  pub end : IsAtEnd new.bytes
+  pub within : length input ≤ max_input_bytes
+  pub sound : new.faults ≡ old.faults
+
+-- the words are right, and the input is a script
+pub record ReadsScript (input : List ℕ) (call : Call) : Type 0 where
+  pub words : words_fault call.words ≡ None
+  pub read : IsRead input call.entry.input call.after.input
+  pub few : length (lines input) ≤ max_lines
+
+-- the bound that was passed before a line was run: the bytes or the lines of the input
+abbrev pub IsInputPassed : Limit → List ℕ → Call → Type 0
+IsInputPassed limits.InputBytes input call = IfSome call.entry.input.bytes (λ bytes. max_input_bytes < length bytes)
+IsInputPassed limits.Lines input call = IsRead input call.entry.input call.after.input × (max_lines < length (lines input))
+IsInputPassed limits.Files input call = ⊥
+IsInputPassed limits.Dirs input call = ⊥
+IsInputPassed limits.Depth input call = ⊥
+IsInputPassed limits.IndexBytes input call = ⊥
+IsInputPassed limits.CommitBytes input call = ⊥
+IsInputPassed limits.Commits input call = ⊥
+IsInputPassed limits.QueryBytes input call = ⊥
+IsInputPassed limits.QueryDepth input call = ⊥
+IsInputPassed limits.ShowBytes input call = ⊥
+IsInputPassed limits.Numbers input call = ⊥
+
+-- the disk is as it was, since it was not asked
+abbrev pub DiskUnasked : Call → Type 0
+DiskUnasked call = call.after.disk ≡ call.entry.disk
+
+-- The cause of a refusal, in the order in which they are met: the words, the input, the index on the disk. Want of memory alone is free.
+abbrev pub IsRefusedFor : Refusal → List ℕ → Call → Type 0
+IsRefusedFor (refusals.Usage word kind) input call =
+    (words_fault call.words ≡ Some (kind, word)) × (call.after.input ≡ call.entry.input) × DiskUnasked call
+IsRefusedFor refusals.ReadFault input call =
+    (words_fault call.words ≡ None) × HasRisen call.entry.input.faults call.after.input.faults × DiskUnasked call
+IsRefusedFor (refusals.Limit limit) input call = (words_fault call.words ≡ None) × IsInputPassed limit input call × DiskUnasked call
+IsRefusedFor refusals.DiskFault input call = ReadsScript input call × HasRisen call.entry.disk.faults call.after.disk.faults
+IsRefusedFor (refusals.BadIndex file at) input call =
+    ReadsScript input call × (file ≡ Head) × IfSome call.entry.disk.told (λ moments. HoldsNoIndex (bytes_now moments Head) at)
+IsRefusedFor refusals.NoMemory input call = words_fault call.words ≡ None

@@ -1,0 +1,60 @@
+-- The status of a call.
+use Rattle.std.specs.Prelude.{◌≡◌, ℕ, Bool, true, false, not, List, [], ◌∷◌, Option, None, Some, if◌then◌else◌}
+use Rattle.std.specs.List.{list_any}
+use Rattle.nm_log.specs.Refusals.{refused_status}
+use Rattle.nm_log.specs.declared.log.LineLog.{LineLog}
+use Rattle.nm_log.specs.declared.outcome.Outcome.{Outcome}
+use Rattle.nm_log.specs.declared.outcome.Outcome.TheVariants as outcomes
+use Rattle.nm_history.specs.Call.{Call, Ending, Ran, Refused}
+
+-- the status of the device that failed in a line
+abbrev pub fault_of : Outcome → Option ℕ
+fault_of outcomes.Ok = None
+fault_of (outcomes.Usage word kind) = None
+fault_of outcomes.MailFault = Some 3
+fault_of outcomes.DiskFault = Some 4
+fault_of (outcomes.Closed fault) = None
+fault_of (outcomes.Limit limit) = None
+fault_of outcomes.NoMemory = None
+
+-- this fault, or where there is none the other
+abbrev pub fault_or : Option ℕ → Option ℕ → Option ℕ
+fault_or None other = other
+fault_or (Some status) other = Some status
+
+-- the first fault of a device in the lines
+abbrev pub first_fault : List LineLog → Option ℕ
+first_fault [] = None
+first_fault (log ∷ logs) = fault_or (fault_of log.outcome) (first_fault logs)
+
+-- the output fails when the lines were run
+abbrev pub write_fault : Bool → Option ℕ
+write_fault out_failed = if out_failed then Some 6 else None
+
+-- the line ended for want of memory
+abbrev pub wants_memory : Outcome → Bool
+wants_memory outcomes.Ok = false
+wants_memory (outcomes.Usage word kind) = false
+wants_memory outcomes.MailFault = false
+wants_memory outcomes.DiskFault = false
+wants_memory (outcomes.Closed fault) = false
+wants_memory (outcomes.Limit limit) = false
+wants_memory outcomes.NoMemory = true
+
+abbrev pub any_wants_memory : List LineLog → Bool
+any_wants_memory logs = list_any (λ log. wants_memory log.outcome) logs
+
+-- the status of a fault, or where there is none 7 for a line that wanted memory, else 0
+abbrev pub status_of_fault : Option ℕ → Bool → ℕ
+status_of_fault (Some status) wanted = status
+status_of_fault None wanted = if wanted then 7 else 0
+
+-- Want of memory before the end of the script; else the first fault of a device; else a line's want of memory.
+abbrev pub session_status : Bool → List LineLog → Bool → ℕ
+session_status whole logs out_failed =
+    if not whole then 7 else status_of_fault (fault_or (first_fault logs) (write_fault out_failed)) (any_wants_memory logs)
+
+-- What the process exits with.
+abbrev pub Status : Ending → Bool → Bool → Call → Type 0
+Status (Refused refusal) whole out_failed call = call.done.status ≡ refused_status refusal
+Status Ran whole out_failed call = call.done.status ≡ session_status whole call.done.log.lines out_failed

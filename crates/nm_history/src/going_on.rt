@@ -1,0 +1,91 @@
+//! The statements of a session hold before its first line, and a line more keeps them. These functions run no code: their
+//! clauses are the laws, which the loop of a session calls.
+
+ghost use Rattle.std.specs.Prelude.{◌≡◌, ℕ, ℤ, List, [], ◌∷◌, ◌++◌, None, length};
+ghost use Rattle.nm_commit.specs.declared.change.Commit.{Commit};
+ghost use Rattle.nm_index.specs.declared.base.Base.{Base};
+ghost use Rattle.nm_machine.specs.declared.step.Step.{Step};
+ghost use Rattle.nm_history.specs.Call.{Devices};
+ghost use Rattle.nm_history.specs.CrashPrefix.{appends};
+ghost use Rattle.nm_history.specs.Given.{GivenAlong};
+ghost use Rattle.nm_history.specs.LineAnswers.{LineAnswers};
+ghost use Rattle.nm_history.specs.LineCommits.{LineCommits};
+ghost use Rattle.nm_history.specs.LineResult.{IsLineResult, Place, StandsAt};
+ghost use Rattle.nm_history.specs.Lines.{RunLine, at_first};
+ghost use Rattle.nm_history.specs.MachineRun.{MachineRun};
+
+/// Before the first line nothing is begun or acknowledged, and the opening index is shown.
+pub fn no_line_stands_at_the_opening()
+    ensures { (opening : Base) (entry : Devices) (place : Place) → place.writer.shown ≡ opening → place.writer.begun ≡ []
+        → place.writer.acked ≡ [] → place.writer.closed ≡ None → place.mail ≡ entry.mail → place.disk_faults ≡ entry.disk.faults
+        → StandsAt opening entry [] [] [] place }
+{}
+
+/// No step is a run of the machine.
+pub fn no_step_is_a_run_of_the_machine()
+    ensures { (opening : Base) (moment : ℤ) (entry : Devices) → MachineRun opening moment (at_first opening entry) [] [] [] }
+{}
+
+/// Where no line was run there is no commit.
+pub fn no_line_makes_no_commit()
+    ensures { (opening : Base) (entry : Devices) → LineCommits opening entry.mail.tree [] [] [] }
+{}
+
+/// Where no line was run there is no answer.
+pub fn no_line_is_answered()
+    ensures { (opening : Base) (moment : ℤ) (entry : Devices) → LineAnswers opening moment (at_first opening entry) [] [] }
+{}
+
+/// And nothing was asked of the mail folder.
+pub fn nothing_is_given_to_no_line()
+    ensures { (opening : Base) (entry : Devices) → GivenAlong opening [] (at_first opening entry) [] entry.mail entry.mail }
+{}
+
+/// Behind a line more the session stands where the line left it; the commits that it made are acknowledged.
+pub fn a_line_more_keeps_where_it_stands()
+    ensures { (opening : Base) (moment : ℤ) (entry : Devices) (steps taken : List Step) (lines : List RunLine) (acknowledged : List Commit)
+        (old new : Place) (ran : RunLine) → StandsAt opening entry steps lines acknowledged old
+        → (result : IsLineResult moment old ran taken new)
+        → StandsAt opening entry (steps ++ taken) (lines ++ ran ∷ []) (acknowledged ++ result.made) new }
+{}
+
+/// The steps of a line more go on with the run of the machine.
+pub fn a_line_more_keeps_the_machine_run()
+    ensures { (opening : Base) (moment : ℤ) (entry : Devices) (steps taken : List Step) (lines : List RunLine) (acknowledged : List Commit)
+        (old new : Place) (ran : RunLine) → StandsAt opening entry steps lines acknowledged old
+        → (result : IsLineResult moment old ran taken new)
+        → MachineRun opening moment (at_first opening entry) steps lines acknowledged
+        → MachineRun opening moment (at_first opening entry) (steps ++ taken) (lines ++ ran ∷ []) (acknowledged ++ result.made) }
+{}
+
+/// The commits of a line more are those that its outcome says.
+pub fn a_line_more_keeps_the_commits()
+    ensures { (opening : Base) (moment : ℤ) (entry : Devices) (steps taken : List Step) (lines : List RunLine) (acknowledged : List Commit)
+        (old new : Place) (ran : RunLine) → StandsAt opening entry steps lines acknowledged old
+        → (result : IsLineResult moment old ran taken new)
+        → LineCommits opening entry.mail.tree steps lines acknowledged
+        → LineCommits opening entry.mail.tree (steps ++ taken) (lines ++ ran ∷ []) (acknowledged ++ result.made) }
+{}
+
+/// A line more is answered on the index before it and on its own.
+pub fn a_line_more_keeps_the_answers()
+    ensures { (opening : Base) (moment : ℤ) (entry : Devices) (steps taken : List Step) (lines : List RunLine) (acknowledged : List Commit)
+        (old new : Place) (ran : RunLine) → StandsAt opening entry steps lines acknowledged old → IsLineResult moment old ran taken new
+        → LineAnswers opening moment (at_first opening entry) steps lines
+        → LineAnswers opening moment (at_first opening entry) (steps ++ taken) (lines ++ ran ∷ []) }
+{}
+
+/// A line more asks the mail folder for what it needs.
+pub fn a_line_more_keeps_the_given()
+    ensures { (opening : Base) (moment : ℤ) (entry : Devices) (steps taken : List Step) (lines : List RunLine) (acknowledged : List Commit)
+        (old new : Place) (ran : RunLine) → StandsAt opening entry steps lines acknowledged old → IsLineResult moment old ran taken new
+        → GivenAlong opening steps (at_first opening entry) lines entry.mail old.mail
+        → GivenAlong opening (steps ++ taken) (at_first opening entry) (lines ++ ran ∷ []) entry.mail new.mail }
+{}
+
+/// Each commit that a line more acknowledges has its clock.
+pub fn a_line_more_keeps_the_clocks()
+    ensures { (opening : Base) (moment : ℤ) (entry : Devices) (steps taken : List Step) (lines : List RunLine) (acknowledged : List Commit)
+        (old new : Place) (ran : RunLine) → StandsAt opening entry steps lines acknowledged old → IsLineResult moment old ran taken new
+        → length old.writer.acked ≡ appends steps → length new.writer.acked ≡ appends (steps ++ taken) }
+{}

@@ -1,0 +1,66 @@
+//! What follows from the definitions for single lines and for whole sessions. These functions run no code: their clauses are the laws.
+
+ghost use Rattle.std.specs.Prelude.{◌≡◌, ◌⊎◌, ℕ, Bool, List, [], ◌∷◌, ◌++◌, None, Some, true};
+ghost use Rattle.nm_index.specs.declared.base.Base.{Base};
+ghost use Rattle.nm_machine.specs.declared.step.Step.{Step};
+ghost use Rattle.nm_log.specs.declared.line_parser.ParsedLine.{ParsedLine};
+ghost use Rattle.nm_log.specs.declared.log.LineLog.{LineLog};
+ghost use Rattle.nm_log.specs.declared.outcome.Outcome.{Outcome};
+ghost use Rattle.nm_disk.specs.Images.{IsImage, MayLeave};
+ghost use Rattle.nm_disk.specs.Observed.{Moments};
+ghost use Rattle.nm_disk.specs.declared.disk.FileNo.TheVariants as heads;
+ghost use Rattle.nm_journal.specs.Moments.{GoesThrough};
+ghost use Rattle.nm_history.specs.Call.{Call};
+ghost use Rattle.nm_history.specs.Complete.{IsComplete};
+ghost use Rattle.nm_history.specs.CrashPrefix.{KeepsCommits};
+ghost use Rattle.nm_history.specs.History.{History};
+ghost use Rattle.nm_history.specs.LineAnswers.{HasCause};
+ghost use Rattle.nm_history.specs.Lines.{Before, IsIndexAt};
+ghost use Rattle.nm_history.specs.Requests.{asks_to_write};
+ghost use Rattle.nm_history.specs.Status.{first_fault, session_status};
+
+use nm_writer::what_holds_an_index_is_not_bad;
+
+/// The steps have one index at a revision.
+pub fn an_index_at_a_revision_is_one()
+    ensures { (opening : Base) (steps : List Step) (revision : ℕ) (one other : Base)
+        → IsIndexAt opening steps revision one → IsIndexAt opening steps revision other → one ≡ other }
+{}
+
+/// Behind a fault of the disk a line that would change the index is told that it is closed, and by which fault; or it wants memory.
+pub fn what_writes_behind_a_disk_fault_is_closed()
+    ensures { (outcome : Outcome) (line : ParsedLine) (before : Before) (mail disk fault : ℕ) → before.closed ≡ Some fault
+        → asks_to_write line ≡ true → HasCause outcome line before mail disk → (outcome ≡ Outcome.Closed fault) ⊎ (outcome ≡ Outcome.NoMemory) }
+{}
+
+/// Where no disk failed in an earlier line, no line is told that the index is closed.
+pub fn no_line_is_closed_without_a_fault()
+    ensures { (line : ParsedLine) (before : Before) (mail disk fault : ℕ) → before.closed ≡ None
+        → HasCause (Outcome.Closed fault) line before mail disk → ⊥ }
+{}
+
+/// A script that is run to its end has status 4 where the disk is the first device to fail, whatever the lines behind it answer.
+pub fn a_disk_fault_is_the_status()
+    ensures { (front back : List LineLog) (log : LineLog) (out_failed : Bool) → first_fault front ≡ None → log.outcome ≡ Outcome.DiskFault
+        → session_status true (front ++ log ∷ back) out_failed ≡ 4 }
+{}
+
+/// And 3 where it is the mail folder.
+pub fn a_mail_fault_is_the_status()
+    ensures { (front back : List LineLog) (log : LineLog) (out_failed : Bool) → first_fault front ≡ None → log.outcome ≡ Outcome.MailFault
+        → session_status true (front ++ log ∷ back) out_failed ≡ 3 }
+{}
+
+/// A session with such a history is complete.
+pub fn a_history_is_complete()
+    ensures { (call : Call) → History call → IsComplete call }
+{
+    what_holds_an_index_is_not_bad();
+}
+
+/// Before the first commit a stop leaves the index that the disk held, where no write was pending when the call began and the
+/// opening left only what a stop might have left before it.
+pub fn an_opening_keeps_the_index()
+    ensures { (before now : Moments) → before.present.written ≡ [] → IsImage before.present before.present.now
+        → GoesThrough heads.Head (MayLeave before.present heads.Head) before now → KeepsCommits [] [] before now }
+{}

@@ -1,0 +1,18 @@
+//! Commands and replies: the statement of a session, as definitions over what it began with, what it was told, what is observed
+//! of the devices, and its log; and the laws by which a session's loop keeps them line by line.
+#![tactic(auto)]
+
+mod going_on;
+mod laws;
+
+pub use going_on::{
+    a_line_more_keeps_the_answers, a_line_more_keeps_the_clocks, a_line_more_keeps_the_commits,
+    a_line_more_keeps_the_given, a_line_more_keeps_the_machine_run,
+    a_line_more_keeps_where_it_stands, no_line_is_answered, no_line_makes_no_commit,
+    no_line_stands_at_the_opening, no_step_is_a_run_of_the_machine, nothing_is_given_to_no_line,
+};
+pub use laws::{
+    a_disk_fault_is_the_status, a_history_is_complete, a_mail_fault_is_the_status,
+    an_index_at_a_revision_is_one, an_opening_keeps_the_index, no_line_is_closed_without_a_fault,
+    what_writes_behind_a_disk_fault_is_closed,
+};
