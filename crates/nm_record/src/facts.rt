@@ -102,8 +102,9 @@ impl Format for FieldWordsFormat {
     }
 
     fn len(value: &FieldWords) -> u64 {
-        FieldFormat::len(&value.field)
-            .saturating_add(<ListOf<WordFormat> as Format>::len(&value.words))
+        FieldFormat::len(&value.field).saturating_add(<ListOf<WordFormat> as Format>::len(
+            &value.words,
+        ))
     }
 
     fn write(value: &FieldWords, writer: &mut Writer) -> Result<(), NoMemory> {

@@ -82,11 +82,10 @@ either-prefix opening shown begun commit least bytes is few (inr new) = record {
 each-joined : (opening shown : Base) (begun : List Commit) (commit : Commit) (acked : List ℕ) (before : ℕ) (new old : List DiskState) → shown ≡ folded opening begun → length acked ≤ length begun
     → AllByRecursion (LeavesOnly Head (HoldsEither shown commit)) new → EachKeeps opening begun acked before old → EachKeeps opening (begun ++ commit ∷ []) acked before (new ++ old)
 each-joined opening shown begun commit acked before [] old is few through h = each-more opening begun commit acked before old h
-each-joined opening shown begun commit acked before (state ∷ new) old is few through h =
-    (
-      λ bytes left. either-prefix opening shown begun commit (acked_by (min (before + length (new ++ old)) max_count) acked) bytes is (omega (arith, few, counted (min (before + length (new ++ old)) max_count) acked)) (through.0 bytes left),
-      each-joined opening shown begun commit acked before new old is few through.1 h,
-    )
+each-joined opening shown begun commit acked before (state ∷ new) old is few through h = (
+  λ bytes left. either-prefix opening shown begun commit (acked_by (min (before + length (new ++ old)) max_count) acked) bytes is (omega (arith, few, counted (min (before + length (new ++ old)) max_count) acked)) (through.0 bytes left),
+  each-joined opening shown begun commit acked before new old is few through.1 h,
+)
 
 -- a clock more, that of a later moment, asks nothing more of these
 each-acked : (opening : Base) (begun : List Commit) (acked : List ℕ) (own before last : ℕ) (states : List DiskState) → own ≡ min last max_count → before + length states ≤ last → EachKeeps opening begun acked before states → EachKeeps opening begun (acked ++ own ∷ []) before states
@@ -103,8 +102,7 @@ each-now opening begun acked own before [] past now are long is few stands h = t
 each-now opening begun acked own before (state ∷ states) past now are long is few stands h =
     let tail : now.past ≡ states ++ past = ap (λ (l : List DiskState). drop 1 l) are in
     let top : now.present ≡ state = ap (λ (l : List DiskState). get_or l 0 now.present) are in
-    let length_is : length now.past ≡ before + length states = omega (arith, ap (λ (l : List DiskState). length l) tail, length-append states past, long) in
-    (
+    let length_is : length now.past ≡ before + length states = omega (arith, ap (λ (l : List DiskState). length l) tail, length-append states past, long) in (
       λ bytes left. record {
         count = length begun;
         within = omega arith;

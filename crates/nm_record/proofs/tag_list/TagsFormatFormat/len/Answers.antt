@@ -13,8 +13,7 @@ tags-init c =
 
 pub tags-preserved : goal.tags-preserved
 tags-preserved c =
-    let all = c.args.value.now in
-    (
+    let all = c.args.value.now in (
       len_turn tag_grammar.bytes c.tags.tag-iterator c.next.new.self all c.in-Some.tag.now c.tags.len c.len.result c.saturating_add-len.result c.in-Some.ensures.steps c.tags.invariant.0 c.len.ensures.len c.saturating_add-len.ensures,
       tag_turn tag_grammar.is_value c.tags.tag-iterator c.next.new.self all c.in-Some.tag.now c.in-Some.ensures.steps c.tags.invariant.1 c.len.ensures.value,
       omega (arith, c.saturating_add-len.ensures),
