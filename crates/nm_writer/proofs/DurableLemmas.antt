@@ -2,7 +2,7 @@
 use Rattle.std.proofs.Common.{◌≡◌, inl, inr, ℕ, ◌+◌, ◌<◌, ◌≤◌, min, Bool, true, false, ◌&&◌, cond, List, [], ◌∷◌, ◌++◌, Option, None, Some, IfSome, IfErr, IfOk, OnOk, Result, Ok, Err, filter, length, take, drop, get_or, length-append, refl, sym, ap, ◌∙◌, subst, append_assoc, append-nil, arith}
 use Rattle.std.specs.Prelude.{nat_le, nat_lt}
 use Rattle.std.specs.List.{AllByRecursion}
-use Rattle.std.proofs.lemmas.Bool.{cases_lt, leb-true, ltb-true}
+use Rattle.std.proofs.lemmas.Bool.{leb-true, ltb-true}
 use Rattle.std.proofs.lemmas.List.{length_push, take_all, take-append-le}
 use Rattle.std.proofs.lemmas.List.Elements.{filter-append}
 use Rattle.nm_base.specs.Limits.{max_count}
@@ -15,10 +15,9 @@ use Rattle.nm_disk.specs.declared.disk.FileNo.TheVariants.{Head}
 use Rattle.nm_disk.specs.declared.state.DiskState.{DiskState}
 use Rattle.nm_index.specs.Index.{committed, folded}
 use Rattle.nm_index.specs.declared.base.Base.{Base}
-use Rattle.nm_journal.specs.Journal.{JournalState}
 use Rattle.nm_journal.specs.Moments.{GoesThrough, LeavesOnly, NeverFalls, all_moments}
 use Rattle.nm_journal.specs.Records.{HasRecords}
-use Rattle.nm_writer.specs.Durable.{EachKeeps, HoldsPrefix, IsDurable, KeepsAcknowledged, KeptSince, NeverFall, acked_by}
+use Rattle.nm_writer.specs.Durable.{EachKeeps, HoldsPrefix, IsDurable, KeptSince, NeverFall, acked_by}
 use Rattle.nm_writer.specs.StoredIndex.{HoldsIndex}
 use Rattle.nm_writer.specs.Writer.{StandsOnIndex, WriterState}
 use Rattle.nm_writer.specs.Writing.{HoldsEither, IsAfterCommit, is_write_fault}

@@ -1,5 +1,9 @@
 pub mod CommitLemmas
+pub mod DoneLemmas
 pub mod DurableLemmas
 pub mod EntryLemmas
 pub mod LawLemmas
+pub mod OrderLemmas
 pub mod ReplayLemmas
+pub mod SameLemmas
+pub mod SetLemmas

@@ -1,6 +1,7 @@
 pub mod Durable
 pub mod Errors
 pub mod Opening
+pub mod Report
 pub mod StoredIndex
 pub mod Writer
 pub mod Writing

@@ -22,6 +22,10 @@ IsPassed made shown commit limit =
     ((limit ≡ limits.Commits) × (max_commits ≤ made))
     ⊎ ((limit ≡ limits.CommitBytes) × (made < max_commits) × (max_commit_bytes < length (commit_grammar.bytes commit)))
 
+-- where so many were begun before, the commit passes no limit
+abbrev pub IsWithin : ℕ → Commit → Type 0
+IsWithin made commit = (made < max_commits) × (length (commit_grammar.bytes commit) ≤ max_commit_bytes)
+
 -- a commit is refused before the disk is touched
 abbrev pub IsPreparing : ℕ → Base → Commit → WriteError → Type 0
 IsPreparing made shown commit errors.MailFault = ⊥

@@ -12,7 +12,7 @@ ghost use Rattle.nm_journal.specs.Moments.{GoesThrough, NeverFalls};
 ghost use Rattle.nm_record.specs.CommitGrammar.{commit_grammar};
 ghost use Rattle.nm_writer.specs.Durable.{IsDurable};
 ghost use Rattle.nm_writer.specs.Writer.{StandsOnIndex};
-ghost use Rattle.nm_writer.specs.Writing.{HoldsEither, IsAfterCommit, IsPreparing, is_write_fault};
+ghost use Rattle.nm_writer.specs.Writing.{HoldsEither, IsAfterCommit, IsPreparing, IsWithin, is_write_fault};
 
 use crate::replaying::apply;
 use crate::{WriteError, Writer};
@@ -38,6 +38,9 @@ impl Writer {
         requires stands { IfSome (D.observed disk.old).told (λ moments. StandsOnIndex moments.present self.old) }
 
         ensures after { IsAfterCommit self.old commit (D.observed disk.new).clock (D.observed disk.new).faults result self.new }
+
+        // What is made passes no limit.
+        ensures within { IfOk result (λ _. IsWithin (length self.old.begun) commit) }
 
         // Whatever a stop leaves then holds the index that is shown, unless the disk failed.
         ensures stands { self.new.closed ≡ None → IfSome (D.observed disk.new).told (λ moments. StandsOnIndex moments.present self.new) }
@@ -67,6 +70,7 @@ impl Writer {
             (D.observed disk.old).told (D.observed disk.new).told }
         ensures rises { NeverFalls (D.observed disk.old).clock (D.observed disk.new).clock }
         ensures number { IfOk result (λ _. IfSome (D.observed disk.new).told (λ moments. (D.observed disk.new).clock ≡ min (length moments.past) max_count)) }
+        ensures within { IfOk result (λ _. IsWithin (length self.old.begun) commit) }
         ensures waits { IfErr result (λ error. is_write_fault error ≡ false → D.observed disk.new ≡ D.observed disk.old) }
         ensures cause { HasCauseOf is_write_fault (D.observed disk.old).faults (D.observed disk.new).faults result }
     {
@@ -101,6 +105,7 @@ fn prepared(
     ensures frame { IfOk result (λ prepared. prepared.0 ≡ commit_grammar.bytes commit.now) }
     ensures value { IfOk result (λ prepared. commit_grammar.is_value commit.now ≡ true) }
     ensures next { IfOk result (λ prepared. prepared.1 ≡ committed shown.now commit.now) }
+    ensures within { IfOk result (λ prepared. IsWithin made commit.now) }
     ensures limits { IfErr result (IsPreparing made shown.now commit.now) }
 {
     if made >= MAX_COMMITS {

@@ -3,8 +3,10 @@
 
 mod committing;
 mod laws;
+mod new;
 mod open_error;
 mod replaying;
+mod reporting;
 mod write_error;
 mod writer;
 

@@ -1,0 +1,113 @@
+//! What a `new` reports, from the snapshots before and after it and from what was noted.
+
+ghost use Rattle.std.specs.Prelude.{◌≡◌, ◌++◌, IfOk, OnOk, fold, length};
+ghost use Rattle.std.specs.BTreeSet.{insert_key};
+ghost use Rattle.std.specs.Cmp.Lexicographic.{slice_cmp};
+ghost use Rattle.std.specs.List.{flat_map};
+ghost use Rattle.std.specs.Ordering.{nat_cmp};
+ghost use Rattle.nm_answer.specs.NewText.{only_in, skip_at, skip_given};
+ghost use Rattle.nm_commit.specs.Files.{has_id};
+ghost use Rattle.nm_writer.specs.Report.{lacking, report_with};
+
+use nm_answer::NewReport;
+use nm_base::{Copies, MailPath, Many, MessageId, NoMemory, Skip, TextSet};
+use nm_maildir::{Given, ReadAnswer};
+use nm_state::Snapshot;
+use std::alloc::Global;
+
+/// The report of a `new` that added and removed so many files.
+pub(crate) fn report(
+    alloc: Global,
+    before: &Snapshot,
+    after: &Snapshot,
+    added: u64,
+    removed: u64,
+    noted: &[Given],
+) -> Result<NewReport, NoMemory>
+    ensures { IfOk result (λ report. report ≡ report_with added removed before.now.files after.now.files noted.now) }
+{
+    let born = ids_only_in(alloc, before, after)?;
+    let died = ids_only_in(alloc, after, before)?;
+    let skipped = skips(alloc, noted)?;
+    Ok(NewReport {
+        added,
+        removed,
+        born,
+        died,
+        skipped,
+    })
+}
+
+/// How many messages of the second snapshot the first one lacks; no other ids are copied.
+fn ids_only_in(alloc: Global, first: &Snapshot, second: &Snapshot) -> Result<u64, NoMemory>
+    ensures { IfOk result (λ count. count ≡ length (only_in first.now.files second.now.files)) }
+{
+    let mut ids: TextSet<MessageId> = TextSet::new(alloc);
+    'files: for file in second.files_in_order() {
+        add_if_lacking(first, &file.1.id, &mut ids)?;
+    }
+    Ok(ids.len() as u64)
+}
+
+/// Puts the id into the set, where the snapshot has no file of it.
+fn add_if_lacking(
+    first: &Snapshot,
+    id: &MessageId,
+    ids: &mut TextSet<MessageId>,
+) -> Result<(), NoMemory>
+    ensures { OnOk result (ids.new ≡ fold (insert_key (slice_cmp nat_cmp)) ids.old (lacking first.now.files id.now)) }
+{
+    if has_message(first, id) {
+        return Ok(());
+    }
+    ids.insert(id.copy()?)?;
+    Ok(())
+}
+
+/// Says whether the snapshot has a file of the message.
+fn has_message(snapshot: &Snapshot, id: &MessageId) -> bool
+    ensures { result ≡ has_id snapshot.now.files id.now }
+{
+    match snapshot.files(id) {
+        None => false,
+        Some(mut files) => files.next().is_some(),
+    }
+}
+
+/// The files that were read and passed over.
+fn skips(alloc: Global, noted: &[Given]) -> Result<Many<(MailPath, Skip)>, NoMemory>
+    ensures { IfOk result (λ skips. skips ≡ flat_map skip_given noted.now) }
+{
+    let mut skips = Many::new(alloc);
+    'noted: for given in noted {
+        add_skip(&mut skips, given)?;
+    }
+    Ok(skips)
+}
+
+fn add_skip(skips: &mut Many<(MailPath, Skip)>, given: &Given) -> Result<(), NoMemory>
+    ensures { OnOk result (skips.new ≡ skips.old ++ skip_given given.now) }
+{
+    match given {
+        Given::Read { path, answer } => add_read(skips, path, answer),
+        _ => Ok(()),
+    }
+}
+
+fn add_read(
+    skips: &mut Many<(MailPath, Skip)>,
+    path: &MailPath,
+    answer: &ReadAnswer,
+) -> Result<(), NoMemory>
+    ensures { OnOk result (skips.new ≡ skips.old ++ skip_at path.now answer.now) }
+{
+    let skip = match answer {
+        ReadAnswer::NotMail => Skip::NotMail,
+        ReadAnswer::Missing => Skip::Missing,
+        ReadAnswer::TooLong => Skip::TooLong,
+        ReadAnswer::Mail | ReadAnswer::Body(_) => return Ok(()),
+    };
+    let path = path.copy()?;
+    skips.push((path, skip))?;
+    Ok(())
+}
