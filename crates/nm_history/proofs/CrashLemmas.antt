@@ -1,13 +1,17 @@
 -- What a stop leaves before the first commit.
-use Rattle.std.proofs.Common.{◌≡◌, ℕ, ◌+◌, ◌≤◌, List, [], ◌∷◌, ◌++◌, length, refl, sym, ap, ◌∙◌, subst, arith, length-append}
+use Rattle.std.proofs.Common.{◌≡◌, ℕ, ◌+◌, ◌≤◌, min, List, [], ◌∷◌, ◌++◌, length, refl, sym, ap, ◌∙◌, subst, arith, length-append}
 use Rattle.std.specs.List.{AllByRecursion}
+use Rattle.nm_base.specs.Limits.{max_count}
+use Rattle.nm_commit.specs.declared.change.Commit.{Commit}
 use Rattle.nm_disk.specs.ImageLaws.{left_when_synced}
 use Rattle.nm_disk.specs.Images.{IsImage, IsLeft, MayLeave, bytes_of, is_written, reach}
 use Rattle.nm_disk.specs.Observed.{Moments, bytes_now}
 use Rattle.nm_disk.specs.declared.disk.FileNo.TheVariants.{Head}
 use Rattle.nm_disk.specs.declared.state.DiskState.{DiskState}
 use Rattle.nm_disk.specs.declared.state.Range.{Range}
+use Rattle.nm_index.specs.declared.base.Base.{Base}
 use Rattle.nm_journal.specs.Moments.{GoesThrough, LeavesOnly}
+use Rattle.nm_writer.specs.Durable.{EachKeeps, HoldsPrefix, KeepsAcknowledged, KeptSince, acked_by}
 use Rattle.nm_writer.specs.StoredIndex.{HoldsIndex}
 use Rattle.nm_history.specs.CrashPrefix.{HasSettled, KeepsCommits}
 
@@ -44,9 +48,32 @@ opening-keeps before now quiet image through opening state number bytes holds mo
     (sym through.are ∙ moment.order) (no-older (length before.past) state moment.older moment.since) through.each (λ bytes left. left) in
     let same : bytes ≡ bytes_now before Head = left-is-now entry bytes quiet image (may bytes left) in
     record {
-      kept = [];
-      more = [];
-      order = refl;
-      holds = subst (λ (b : List ℕ). HoldsIndex b opening) (sym same) holds;
+      count = 0;
+      within = omega arith;
       acknowledged = omega arith;
+      holds = subst (λ (b : List ℕ). HoldsIndex b opening) (sym same) holds;
     }
+
+-- at a moment among these, which is no older than what went before them, a stop leaves what was acknowledged by then
+each-at : (opening : Base) (commits : List Commit) (acked : List ℕ) (states past newer : List DiskState) (state : DiskState) (older : List DiskState)
+    → states ++ past ≡ newer ++ state ∷ older → length past ≤ length older → EachKeeps opening commits acked (length past) states
+    → KeepsAcknowledged opening commits acked (min (length older) max_count) state
+each-at opening commits acked [] past newer state older e n h = absurd (omega (arith, n, ap length e, length-append newer (state ∷ older)))
+each-at opening commits acked (first ∷ states) past [] state older e n h =
+    let same : first ≡ state = cc in
+    let rest : states ++ past ≡ older = cc in
+    let number : length past + length states ≡ length older = omega (arith, ap length rest, length-append states past) in
+    subst (λ (s : DiskState). KeepsAcknowledged opening commits acked (min (length older) max_count) s) same
+    (subst (λ n. KeepsAcknowledged opening commits acked (min n max_count) first) number h.0)
+each-at opening commits acked (first ∷ states) past (other ∷ newer) state older e n h = each-at opening commits acked states past newer state older (cc) n h.1
+
+module _ (once : (bytes : List ℕ) (one other : Base) → HoldsIndex bytes one → HoldsIndex bytes other → one ≡ other) where
+  pub durable-keeps : (opening : Base) (commits : List Commit) (acked : List ℕ) (before now : Moments) → HoldsIndex (bytes_now before Head) opening
+      → KeptSince opening commits acked before now → KeepsCommits commits acked before now
+  durable-keeps opening commits acked before now held kept other state number bytes holds moment left =
+      let same : opening ≡ other = once (bytes_now before Head) opening other held holds in
+      let keeps =
+      each-at opening commits acked kept.states before.past moment.newer state moment.older (sym kept.are ∙ moment.order)
+      (no-older (length before.past) state moment.older moment.since) kept.each bytes left in
+      subst (λ (index : Base). HoldsPrefix index commits (acked_by (min number max_count) acked) bytes) same
+      (subst (λ n. HoldsPrefix opening commits (acked_by (min n max_count) acked) bytes) (sym moment.number_is) keeps)

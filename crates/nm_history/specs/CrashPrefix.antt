@@ -1,20 +1,18 @@
 -- What a stop at any moment of the call leaves on the disk: the index after the first of the commits, every one among them that
 -- was acknowledged by that moment.
-use Rattle.std.specs.Prelude.{◌≡◌, ℕ, ◌≤◌, Bool, true, false, ◌&&◌, nat_le, nat_lt, List, [], ◌∷◌, ◌++◌, length, filter}
-use Rattle.std.specs.List.{AllByRecursion}
-use Rattle.std.specs.List.Sorted.{IsSortedBy}
+use Rattle.std.specs.Prelude.{◌≡◌, ℕ, ◌≤◌, Bool, true, false, min, List, [], ◌∷◌, ◌++◌, length, filter}
 use Rattle.nm_base.specs.Limits.{max_count}
 use Rattle.nm_commit.specs.declared.change.Commit.{Commit}
 use Rattle.nm_disk.specs.Images.{MayLeave}
 use Rattle.nm_disk.specs.Observed.{Moments, ObservedDisk, bytes_now}
 use Rattle.nm_disk.specs.declared.disk.FileNo.TheVariants.{Head}
 use Rattle.nm_disk.specs.declared.state.DiskState.{DiskState}
-use Rattle.nm_index.specs.Index.{folded}
 use Rattle.nm_index.specs.declared.base.Base.{Base}
 use Rattle.nm_journal.specs.Journal.{IfTold}
 use Rattle.nm_journal.specs.Moments.{all_moments}
 use Rattle.nm_machine.specs.declared.step.Step.{Step}
 use Rattle.nm_machine.specs.declared.step.Step.TheVariants.{Begin, Append, Show, See, Meet, Reply, Crash, Reopen}
+use Rattle.nm_writer.specs.Durable.{HoldsPrefix, NeverFall, acked_by}
 use Rattle.nm_writer.specs.StoredIndex.{HoldsIndex}
 use Rattle.nm_history.specs.Lines.{begun}
 
@@ -50,32 +48,15 @@ pub record IsMoment (before now : Moments) (state : DiskState) (number : ℕ) : 
   pub number_is : number ≡ length older
   pub since : HasSettled (length before.past) (state ∷ older)
 
--- the commit was acknowledged by this moment, as far as clocks tell
-abbrev pub is_by : ℕ → ℕ → Bool
-is_by number clock = nat_le clock number && nat_lt clock max_count
-
--- how many commits were acknowledged by this moment
-abbrev pub acknowledged_by : ℕ → List ℕ → ℕ
-acknowledged_by number acked = length (filter (is_by number) acked)
-
--- The bytes hold the index after the first of the commits, those acknowledged by this moment among them.
-pub record HoldsPrefix (opening : Base) (commits : List Commit) (acked : List ℕ) (number : ℕ) (bytes : List ℕ) : Type 0 where
-  pub kept : List Commit
-  pub more : List Commit
-  pub order : commits ≡ kept ++ more
-  pub holds : HoldsIndex bytes (folded opening kept)
-  pub acknowledged : acknowledged_by number acked ≤ length kept
-
--- whatever a stop at a moment of the call leaves holds such an index
+-- whatever a stop at a moment of the call leaves holds the index after the first commits, those acknowledged by then among them
 abbrev pub KeepsCommits : List Commit → List ℕ → Moments → Moments → Type 0
 KeepsCommits commits acked before now =
     (opening : Base) (state : DiskState) (number : ℕ) (bytes : List ℕ) → HoldsIndex (bytes_now before Head) opening
-    → IsMoment before now state number → MayLeave state Head bytes → HoldsPrefix opening commits acked number bytes
+    → IsMoment before now state number → MayLeave state Head bytes → HoldsPrefix opening commits (acked_by (min number max_count) acked) bytes
 
 -- Where the disk held an index when the call began, every moment of the call leaves its acknowledged commits on it. Each of these
 -- has its clock; clocks never fall, and end at that of the return.
 pub record CrashPrefix (entry after : ObservedDisk) (steps : List Step) (acked : List ℕ) : Type 0 where
   pub every_moment : IfTold entry.told after.told (KeepsCommits (begun steps) acked)
   pub one_each : length acked ≡ appends steps
-  pub never_fall : IsSortedBy nat_lt acked
-  pub ends : AllByRecursion (λ clock. clock ≤ after.clock) acked
+  pub clocks : NeverFall 0 acked after.clock

@@ -65,7 +65,7 @@ Makes outcomes.DiskFault tree index line noted count made flight = (commit : Com
 Makes (outcomes.Closed fault) tree index line noted count made flight = (made ≡ []) × (flight ≡ [])
 -- the next one would pass the limit
 Makes (outcomes.Limit limit) tree index line noted count made flight =
-    (commit : Commit) × StopsAt tree index line noted made commit × IsPassed count commit limit × (flight ≡ [])
+    (commit : Commit) × StopsAt tree index line noted made commit × IsPassed count (folded index made) commit limit × (flight ≡ [])
 Makes outcomes.NoMemory tree index line noted count made flight = MakesFirst tree index line noted made × (flight ≡ [])
 
 -- What a line makes of the commits before it, and the revision that it leaves.

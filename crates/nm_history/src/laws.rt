@@ -1,15 +1,18 @@
 //! What follows from the definitions for single lines and for whole sessions. These functions run no code: their clauses are the laws.
 
 ghost use Rattle.std.specs.Prelude.{◌≡◌, ◌⊎◌, ℕ, Bool, List, [], ◌∷◌, ◌++◌, None, Some, true};
+ghost use Rattle.nm_commit.specs.declared.change.Commit.{Commit};
 ghost use Rattle.nm_index.specs.declared.base.Base.{Base};
 ghost use Rattle.nm_machine.specs.declared.step.Step.{Step};
 ghost use Rattle.nm_log.specs.declared.line_parser.ParsedLine.{ParsedLine};
 ghost use Rattle.nm_log.specs.declared.log.LineLog.{LineLog};
 ghost use Rattle.nm_log.specs.declared.outcome.Outcome.{Outcome};
 ghost use Rattle.nm_disk.specs.Images.{IsImage, MayLeave};
-ghost use Rattle.nm_disk.specs.Observed.{Moments};
+ghost use Rattle.nm_disk.specs.Observed.{Moments, bytes_now};
 ghost use Rattle.nm_disk.specs.declared.disk.FileNo.TheVariants as heads;
 ghost use Rattle.nm_journal.specs.Moments.{GoesThrough};
+ghost use Rattle.nm_writer.specs.Durable.{KeptSince};
+ghost use Rattle.nm_writer.specs.StoredIndex.{HoldsIndex};
 ghost use Rattle.nm_history.specs.Call.{Call};
 ghost use Rattle.nm_history.specs.Complete.{IsComplete};
 ghost use Rattle.nm_history.specs.CrashPrefix.{KeepsCommits};
@@ -19,7 +22,7 @@ ghost use Rattle.nm_history.specs.Lines.{Before, IsIndexAt};
 ghost use Rattle.nm_history.specs.Requests.{asks_to_write};
 ghost use Rattle.nm_history.specs.Status.{first_fault, session_status};
 
-use nm_writer::what_holds_an_index_is_not_bad;
+use nm_writer::{an_index_is_held_once, what_holds_an_index_is_not_bad};
 
 /// The steps have one index at a revision.
 pub fn an_index_at_a_revision_is_one()
@@ -56,6 +59,14 @@ pub fn a_history_is_complete()
     ensures { (call : Call) → History call → IsComplete call }
 {
     what_holds_an_index_is_not_bad();
+}
+
+/// A writer whose commits are kept since the entry leaves them on the disk at every moment of the call.
+pub fn a_durable_index_keeps_its_commits()
+    ensures { (opening : Base) (commits : List Commit) (acked : List ℕ) (before now : Moments) → HoldsIndex (bytes_now before heads.Head) opening
+        → KeptSince opening commits acked before now → KeepsCommits commits acked before now }
+{
+    an_index_is_held_once();
 }
 
 /// Before the first commit a stop leaves the index that the disk held, where no write was pending when the call began and the
