@@ -21,16 +21,15 @@ returns-in-Err-Limit g c = λ words sound.
     )
 
 pub returns-in-Ok-read_script : goal.returns-in-Ok-read_script
-returns-in-Ok-read_script g c = λ words sound.
-    (
-      Ran,
-      c.in-Ok.bytes,
-      (
-        sound,
-        record { bytes = c.in-Ok.ensures.consumed; end = c.in-Ok.ensures.end; within = c.in-Ok.ensures.within; sound = c.in-Ok.ensures.cause },
-        subst (λ (bytes : List ℕ). length (lines bytes) ≤ max_lines) c.as_slice.ensures c.in-Ok-read_script.ensures.few,
-        subst (λ (script : List ScriptLine). IsRun c.args.setting.now.moment script (g.M.Maildir.observed c.args.mail.now) (g.M.Maildir.observed c.run_script.new.mail)
+returns-in-Ok-read_script g c = λ words sound. (
+  Ran,
+  c.in-Ok.bytes,
+  (
+    sound,
+    record { bytes = c.in-Ok.ensures.consumed; end = c.in-Ok.ensures.end; within = c.in-Ok.ensures.within; sound = c.in-Ok.ensures.cause },
+    subst (λ (bytes : List ℕ). length (lines bytes) ≤ max_lines) c.as_slice.ensures c.in-Ok-read_script.ensures.few,
+    subst (λ (script : List ScriptLine). IsRun c.args.setting.now.moment script (g.M.Maildir.observed c.args.mail.now) (g.M.Maildir.observed c.run_script.new.mail)
         (g.O.Sink.observed c.args.out.now) (g.O.Sink.observed c.run_script.new.out) (g.E.Sink.observed c.args.err.now) (g.E.Sink.observed c.run_script.new.err) c.run_script.result)
         (c.as_slice-in-Ok-read_script.ensures ∙ c.in-Ok-read_script.ensures.ok ∙ ap script_lines c.as_slice.ensures) c.run_script.ensures,
-      ),
-    )
+  ),
+)
