@@ -13,6 +13,7 @@ use Rattle.nm_codec.specs.SignedLaws.{coded_again, coded_read, signed_tested_aga
 use Rattle.nm_codec.specs.RisingLaws.{rising_again, rising_only}
 use Rattle.nm_codec.specs.MapLaws.{mapped_again, mapped_only, tested_again, tested_only}
 
+-- One spelling of the values of a type: how they are read and written, which values have one, and that reading and writing undo each other.
 pub record Grammar (A : Type 0) : Type 0 where
   -- what stands at the front of bytes, or where the first byte outside of the grammar is
   pub read : List ℕ → Reading A

@@ -24,11 +24,13 @@ pub record IsWidth (w : Width) (limit : ℕ) : Type 0 where
   pub again : (n : ℕ) → n < limit → from_be_bytes w (to_be_bytes w n) ≡ n
   pub below : (bytes : List ℕ) → IsBytes bytes → from_be_bytes w bytes < limit
 
+-- a byte is the number that it spells
 one_byte : (bytes : List ℕ) → length bytes ≡ 1 → IsBytes bytes → to_be_bytes w8 (from_be_bytes w8 bytes) ≡ bytes
 one_byte [] e fits = absurd (omega arith)
 one_byte (b ∷ []) e fits = ap (λ n. n ∷ []) (omega (arith, fits 0))
 one_byte (b ∷ c ∷ bytes) e fits = absurd (omega arith)
 
+-- a number of 8 bits
 pub is_width_8 : IsWidth w8 (2 ^ 8)
 is_width_8 = record {
   len = λ n. refl;
@@ -37,6 +39,7 @@ is_width_8 = record {
   below = λ bytes fits. omega (arith, fits 0);
 }
 
+-- a number of 32 bits
 pub is_width_32 : IsWidth w32 (2 ^ 32)
 is_width_32 = record {
   len = λ n. refl;

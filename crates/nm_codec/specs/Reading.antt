@@ -15,6 +15,7 @@ Reading A = Result (A × List ℕ) ℕ
 
 -- a step of reading, and then what depends on its value
 infixl 10 ◌>>=◌
+-- one reading, and then another on what it gives; a fault ends both
 abbrev pub ◌>>=◌ : {A B : Type 0} → Result A ℕ → (A → Result B ℕ) → Result B ℕ
 (Ok x) >>= f = f x
 (Err left) >>= f = Err left
@@ -52,6 +53,7 @@ abbrev pub chosen : {A : Type 0} → Option A → List ℕ → ℕ → Reading A
 chosen (Some a) rest left = Ok (a, rest)
 chosen None rest left = Err left
 
+-- a byte at the front, as a code
 unfoldable pub coded_at : {A : Type 0} → (ℕ → Option A) → List ℕ → Reading A
 coded_at value_of bytes = do
   n ← number_at w8 bytes

@@ -27,5 +27,6 @@ pub both : (a b : Bool) → a ≡ true → b ≡ true → (a && b) ≡ true
 both true b h k = k
 both false b h k = h
 
+-- what takes some bytes and then others takes both
 pub Takes-then : (a x b y c : List ℕ) → Takes a x b → Takes b y c → Takes a (x ++ y) c
 Takes-then a x b y c p q = record { parts = p.parts ∙ ap (λ (t : List ℕ). x ++ t) q.parts ∙ sym (append_assoc x y c); rest_fits = q.rest_fits }

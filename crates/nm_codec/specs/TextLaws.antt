@@ -12,6 +12,7 @@ use Rattle.nm_codec.specs.NumberLaws.{IsBytes-drop, is_width_32, number_again, n
 pub some_text : (text : List ℕ) → 0 < length (text_bytes text)
 some_text text = omega (arith, length-append (to_be_bytes w32 (length text)) text)
 
+-- a text that was written is read
 pub text_again : (text rest : List ℕ) → is_utf8 text ≡ true → length (text_bytes text) < 2 ^ 32 → text_at (text_bytes text ++ rest) ≡ Ok (text, rest)
 unfolding text_at
 text_again text rest utf8 short =
@@ -19,10 +20,12 @@ text_again text rest utf8 short =
     let count : length text < 2 ^ 32 = omega (arith, short, length-append (to_be_bytes w32 (length text)) text) in
     rw (number_again w32 (2 ^ 32) is_width_32 (length text) (text ++ rest) count, long, take_at text rest (length text) refl, drop_at text rest (length text) refl, utf8) refl
 
+-- what was read was long enough
 long_enough : (b : Bool) (more : Result (List ℕ × List ℕ) ℕ) (y : List ℕ × List ℕ) → cond b (Err 0) more ≡ Ok y → (b ≡ false) × (more ≡ Ok y)
 long_enough true more y e = absurd cc
 long_enough false more y e = (refl, e)
 
+-- a text that was read was written so
 pub text_only : (bytes text rest : List ℕ) → IsBytes bytes → text_at bytes ≡ Ok (text, rest) → Takes bytes (text_bytes text) rest × (is_utf8 text ≡ true)
 unfolding text_at
 text_only bytes text rest fits e =

@@ -9,6 +9,7 @@ use Rattle.nm_disk.specs.declared.files.Files.{Files}
 use Rattle.nm_disk.specs.declared.state.DiskState.{DiskState}
 use Rattle.nm_disk.specs.declared.state.Range.{Range}
 
+-- the bytes of one of the files
 abbrev pub bytes_of : FileNo → Files → List ℕ
 bytes_of Head files = files.head
 bytes_of BankA files = files.bank_a
@@ -24,6 +25,7 @@ with_bytes files BankB bytes = record { head = files.head; bank_a = files.bank_a
 abbrev pub overwritten : List ℕ → ℕ → List ℕ → List ℕ
 overwritten old at bytes = take at old ++ bytes ++ drop (at + length bytes) old
 
+-- the two are one file
 abbrev pub same_file : FileNo → FileNo → Bool
 same_file Head Head = true
 same_file Head BankA = false
