@@ -1,22 +1,34 @@
 //! Changes and commits, which `new` makes and the machine takes.
 
 use nm_base::{Copies, Facts, MailPath, Many, MessageId, NoMemory, Tags};
+use nm_shared::Shared;
 
 /// One change of an index.
-#[derive(Debug, Drop, PartialEq, Eq)]
+#[derive(Drop)]
 pub enum Change {
-    /// A mail has come.
-    Add { path: MailPath, facts: Facts },
+    /// A mail has come. Its facts are shared by all that hold them.
+    Add {
+        path: MailPath,
+        facts: Shared<Facts>,
+    },
     /// A mail is gone.
-    Drop { path: MailPath },
+    Drop {
+        path: MailPath,
+    },
     /// A mail has another name.
-    Move { from: MailPath, to: MailPath },
+    Move {
+        from: MailPath,
+        to: MailPath,
+    },
     /// A message has these tags and no others.
-    SetTags { id: MessageId, tags: Tags },
+    SetTags {
+        id: MessageId,
+        tags: Tags,
+    },
 }
 
 /// Changes that are made together or not at all.
-#[derive(Debug, Drop, PartialEq, Eq)]
+#[derive(Drop)]
 pub struct Commit {
     pub changes: Many<Change>,
 }

@@ -39,7 +39,7 @@ pub struct LineLog {
 }
 
 /// What a session did.
-#[derive(Debug, Drop)]
+#[derive(Drop)]
 pub struct SessionLog {
     /// Its commits and its replies, in the order in which they came.
     pub steps: Many<Step>,
@@ -49,7 +49,7 @@ pub struct SessionLog {
 }
 
 /// How a run of the program ended.
-#[derive(Debug, Drop)]
+#[derive(Drop)]
 pub struct Done {
     /// What the process exits with.
     pub status: u8,

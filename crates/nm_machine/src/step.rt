@@ -5,7 +5,7 @@ use nm_base::{Copies, Many, NoMemory};
 use nm_commit::Commit;
 
 /// What may happen between commits and replies. Lanes are counted from 0.
-#[derive(Debug, Drop, PartialEq, Eq)]
+#[derive(Drop)]
 pub enum Step {
     /// A commit is on its way to the disk.
     Begin {

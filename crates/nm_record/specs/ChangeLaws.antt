@@ -11,6 +11,7 @@ use Rattle.nm_codec.specs.NumberLaws.{is_width_8, number_again, number_only}
 use Rattle.nm_record.specs.Commits.{arrival_grammar, change_at, change_bytes, is_change, kind_at, move_grammar, tagging_grammar}
 use Rattle.nm_record.specs.Facts.{path_grammar}
 
+-- a change has a byte at least
 pub some_change : (change : Change) → 0 < length (change_bytes change)
 some_change (Add path facts) = omega arith
 some_change (Drop path) = omega arith
@@ -36,6 +37,7 @@ module _ {A : Type 0} (make : A → Change) (g : Grammar A) where
       let first = g.only bytes f.0.0 f.0.1 fits f.1 in
       (f.0.0, ap (λ (p : Change × List ℕ). p.0) is, subst (λ (r : List ℕ). Takes bytes (g.bytes f.0.0) r) (ap (λ (p : Change × List ℕ). p.1) is) first.0, first.1)
 
+-- a change that was written is read
 pub change_again : (change : Change) (rest : List ℕ) → is_change change ≡ true → length (change_bytes change) < 2 ^ 32 → change_at (change_bytes change ++ rest) ≡ Ok (change, rest)
 change_again (Add path facts) rest v short = kind_again (λ p. Add p.0 p.1) arrival_grammar 1 (omega arith) (λ bytes left. refl) (path, facts) rest v (omega (arith, short))
 change_again (Drop path) rest v short = kind_again Drop path_grammar 2 (omega arith) (λ bytes left. refl) path rest v (omega (arith, short))
@@ -46,6 +48,7 @@ change_again (SetTags id tags) rest v short = kind_again (λ p. SetTags p.0 p.1)
 abbrev IsOf : ℕ → List ℕ → Change → List ℕ → Type 0
 IsOf kind bytes change rest = (body : List ℕ) × Takes bytes body rest × (u8_bytes kind ++ body ≡ change_bytes change) × (is_change change ≡ true)
 
+-- what is read behind a kind was written so
 of_kind : (kind : ℕ) (bytes : List ℕ) (left : ℕ) (change : Change) (rest : List ℕ) → IsBytes bytes → kind_at kind bytes left ≡ Ok (change, rest) → IsOf kind bytes change rest
 of_kind zero bytes left change rest fits e = absurd cc
 of_kind (suc zero) bytes left change rest fits e =
@@ -62,6 +65,7 @@ of_kind (suc (suc (suc (suc zero)))) bytes left change rest fits e =
     subst (λ (c : Change). IsOf 4 bytes c rest) k.1 (tagging_grammar.bytes k.0, k.2, refl, k.3)
 of_kind (suc (suc (suc (suc (suc n))))) bytes left change rest fits e = absurd cc
 
+-- a change that was read was written so
 pub change_only : (all : List ℕ) (change : Change) (rest : List ℕ) → IsBytes all → change_at all ≡ Ok (change, rest) → Takes all (change_bytes change) rest × (is_change change ≡ true)
 unfolding change_at
 change_only all change rest fits e =

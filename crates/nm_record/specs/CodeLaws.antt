@@ -8,6 +8,7 @@ use Rattle.nm_base.specs.declared.facts.Field.TheVariants.{From, To, Subject, Bo
 use Rattle.nm_base.specs.declared.facts.Marks.{Marks}
 use Rattle.nm_record.specs.Codes.{field_code, field_of, marks_code, marks_of}
 
+-- the field of a code that was written
 pub field_back : (f : Field) → field_of (field_code f) ≡ Some f
 field_back From = refl
 field_back To = refl
@@ -15,6 +16,7 @@ field_back Subject = refl
 field_back Body = refl
 field_back Attachment = refl
 
+-- the code of a field is a byte
 pub field_is_small : (f : Field) → field_code f < 2 ^ 8
 field_is_small From = omega arith
 field_is_small To = omega arith
@@ -28,6 +30,7 @@ the a = Some a
 is_the : {A : Type 0} (a b : A) → the a ≡ the b → a ≡ b
 is_the a b e = cc
 
+-- the code of a field that was read
 pub field_code_of : (n : ℕ) (f : Field) → field_of n ≡ Some f → field_code f ≡ n
 field_code_of zero f e = ap field_code (sym (is_the From f e))
 field_code_of (suc zero) f e = ap field_code (sym (is_the To f e))
@@ -39,6 +42,7 @@ field_code_of (suc (suc (suc (suc (suc n))))) f e = absurd cc
 abbrev of_three : Bool → Bool → Bool → Marks
 of_three a s e = record { attachment = a; signed = s; encrypted = e }
 
+-- the marks of a code that was written
 three_back : (a s e : Bool) → marks_of (marks_code (of_three a s e)) ≡ the (of_three a s e)
 three_back true true true = refl
 three_back true true false = refl
@@ -52,6 +56,7 @@ three_back false false false = refl
 pub marks_back : (m : Marks) → marks_of (marks_code m) ≡ Some m
 marks_back m = three_back m.attachment m.signed m.encrypted
 
+-- the code of marks is a byte
 three_small : (a s e : Bool) → marks_code (of_three a s e) < 2 ^ 8
 three_small true true true = omega arith
 three_small true true false = omega arith
@@ -65,6 +70,7 @@ three_small false false false = omega arith
 pub marks_are_small : (m : Marks) → marks_code m < 2 ^ 8
 marks_are_small m = three_small m.attachment m.signed m.encrypted
 
+-- the code of marks that were read
 pub marks_code_of : (n : ℕ) (m : Marks) → marks_of n ≡ Some m → marks_code m ≡ n
 marks_code_of zero m e = ap marks_code (sym (is_the (of_three false false false) m e))
 marks_code_of (suc zero) m e = ap marks_code (sym (is_the (of_three true false false) m e))
@@ -76,6 +82,7 @@ marks_code_of (suc (suc (suc (suc (suc (suc zero)))))) m e = ap marks_code (sym 
 marks_code_of (suc (suc (suc (suc (suc (suc (suc zero))))))) m e = ap marks_code (sym (is_the (of_three true true true) m e))
 marks_code_of (suc (suc (suc (suc (suc (suc (suc (suc n)))))))) m e = absurd cc
 
+-- a date in the range is a number of 64 bits
 pub date_fits : (z : ℤ) → is_date z ≡ true → FitsSigned w64 z
 date_fits (pos n) h = grind arith
 date_fits (negsuc n) h = grind arith

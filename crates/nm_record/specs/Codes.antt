@@ -12,6 +12,7 @@ field_code Subject = 2
 field_code Body = 3
 field_code Attachment = 4
 
+-- the field that has this code
 abbrev pub field_of : ℕ → Option Field
 field_of zero = Some From
 field_of (suc zero) = Some To
@@ -24,9 +25,11 @@ field_of (suc (suc (suc (suc (suc n))))) = None
 abbrev pub marks_code : Marks → ℕ
 marks_code marks = (if marks.attachment then 1 else 0) + (if marks.signed then 2 else 0) + (if marks.encrypted then 4 else 0)
 
+-- the three marks
 abbrev marks : Bool → Bool → Bool → Option Marks
 marks attachment signed encrypted = Some (record { attachment = attachment; signed = signed; encrypted = encrypted })
 
+-- the marks that have this code
 abbrev pub marks_of : ℕ → Option Marks
 marks_of zero = marks false false false
 marks_of (suc zero) = marks true false false

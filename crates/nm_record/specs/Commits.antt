@@ -28,17 +28,20 @@ kind_at (suc (suc (suc zero))) bytes left = mapped_at (λ p. Move p.0 p.1) move_
 kind_at (suc (suc (suc (suc zero)))) bytes left = mapped_at (λ p. SetTags p.0 p.1) tagging_grammar.read bytes
 kind_at (suc (suc (suc (suc (suc n))))) bytes left = Err left
 
+-- the change at the front of the bytes, and the bytes behind it
 unfoldable pub change_at : List ℕ → Reading Change
 change_at bytes = do
   kind ← number_at w8 bytes
   kind_at kind.0 kind.1 (length bytes)
 
+-- the bytes of a change: its kind, and what it says
 abbrev pub change_bytes : Change → List ℕ
 change_bytes (Add path facts) = 1 ∷ arrival_grammar.bytes (path, facts)
 change_bytes (Drop path) = 2 ∷ path_grammar.bytes path
 change_bytes (Move from to) = 3 ∷ move_grammar.bytes (from, to)
 change_bytes (SetTags id tags) = 4 ∷ tagging_grammar.bytes (id, tags)
 
+-- the change has a date in the range, where it has one
 abbrev pub is_change : Change → Bool
 is_change (Add path facts) = arrival_grammar.is_value (path, facts)
 is_change (Drop path) = path_grammar.is_value path

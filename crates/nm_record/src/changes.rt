@@ -14,6 +14,7 @@ use crate::tag_list::TagsFormat;
 use nm_base::{Facts, MailPath, NoMemory};
 use nm_codec::{Format, Pair, ReadError, Reader, Writer};
 use nm_commit::Change;
+use nm_shared::Shared;
 use std::alloc::Global;
 
 pub(crate) struct ChangeFormat;
@@ -47,7 +48,7 @@ impl Format for ChangeFormat {
 
     fn len(value: &Change) -> u64 {
         match value {
-            Change::Add { path, facts } => arrival_len(path, facts).saturating_add(1),
+            Change::Add { path, facts } => arrival_len(path, facts.get()).saturating_add(1),
             Change::Drop { path } => PathFormat::len(path).saturating_add(1),
             Change::Move { from, to } => PathFormat::len(from)
                 .saturating_add(PathFormat::len(to))
@@ -93,7 +94,18 @@ fn arrival_len(path: &MailPath, facts: &Facts) -> u64
     PathFormat::len(path).saturating_add(FactsFormat::len(facts))
 }
 
-fn write_arrival(path: &MailPath, facts: &Facts, writer: &mut Writer) -> Result<(), NoMemory>
+fn write_arrival(
+    path: &MailPath,
+    facts: &Shared<Facts>,
+    writer: &mut Writer,
+) -> Result<(), NoMemory>
+    requires { length (arrival_grammar.bytes (path.now, facts.now)) < 2 ^ 32 }
+    ensures { OnOk result (writer.new ≡ writer.old ++ arrival_grammar.bytes (path.now, facts.now)) }
+{
+    write_file(path, facts.get(), writer)
+}
+
+fn write_file(path: &MailPath, facts: &Facts, writer: &mut Writer) -> Result<(), NoMemory>
     requires { length (arrival_grammar.bytes (path.now, facts.now)) < 2 ^ 32 }
     ensures { OnOk result (writer.new ≡ writer.old ++ arrival_grammar.bytes (path.now, facts.now)) }
 {
@@ -107,6 +119,7 @@ fn read_add(alloc: Global, reader: &mut Reader<'_>) -> Result<Change, ReadError>
     ensures { GivesUnlessWanted reader.old result reader.new (mapped_at (λ p. Change.Add p.0 p.1) arrival_grammar.read reader.old.rest) }
 {
     let (path, facts) = <Pair<PathFormat, FactsFormat> as Format>::read(alloc, reader)?;
+    let facts = Shared::new(alloc, facts)?;
     Ok(Change::Add { path, facts })
 }
 
