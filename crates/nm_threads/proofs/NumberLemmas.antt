@@ -35,6 +35,10 @@ label_from m a among = let one = Contains_from_map (label_at m) m.ids a among in
   subst (λ l. label_at m (l.number, l.id) ≡ l) one.2 refl,
 )
 
+-- an id that stands at a number has an entry
+pub known_at : (m : Maps) (number : ℕ) (id : List ℕ) → Contains m.ids (number, id) → has_entry (entries_of (labelling_of m).labels) id ≡ true
+known_at m number id among = has_of (labelling_of m).labels id (label_at m (number, id)) (label_of m number id among) refl
+
 module _ (m : Maps) (are : AreMaps m) (id : List ℕ) where
   has_by : (found : Option ℕ) → at_id id m.numbers ≡ found → (test : Bool) → has_entry (entries_of (labelling_of m).labels) id ≡ test → is_some found ≡ test
   has_by None is true has =
@@ -69,10 +73,10 @@ module _ (m : Maps) (are : AreMaps m) (id : List ℕ) (absent : at_id id m.numbe
   cases_ids : (n : ℕ) (u : List ℕ) → Contains ids (n, u) → Contains m.ids (n, u) ⊎ ◌≡◌ {A = ℕ × List ℕ} (m.next, id) (n, u)
   cases_ids n u among = Contains-push_cases m.ids (m.next, id) (n, u) (subst (λ all. Contains all (n, u)) ids_grown among)
 
-  old_ids : (n : ℕ) (u : List ℕ) → Contains m.ids (n, u) → Contains ids (n, u)
+  pub old_ids : (n : ℕ) (u : List ℕ) → Contains m.ids (n, u) → Contains ids (n, u)
   old_ids n u among = subst (λ all. Contains all (n, u)) (sym ids_grown) (Contains-append_left m.ids ((m.next, id) ∷ []) (n, u) among)
 
-  new_id : Contains ids (m.next, id)
+  pub new_id : Contains ids (m.next, id)
   new_id = subst (λ all. Contains all (m.next, id)) (sym ids_grown) (Contains-push m.ids (m.next, id))
 
   -- ids that have numbers are others than the new one

@@ -1,12 +1,11 @@
 -- What the labels tell of one id.
-use Rattle.std.proofs.Common.{◌≡◌, sym, ap, subst, ◌∙◌, ℕ, true, false, List, true≢false}
-use Rattle.std.specs.Prelude.{Contains, MatchOption, Option, Some, None, unwrap_or}
+use Rattle.std.proofs.Common.{◌≡◌, sym, ap, subst, ◌∙◌, ℕ, false, List}
+use Rattle.std.specs.Prelude.{Contains, Some, None}
 use Rattle.std.specs.Option.{is_some}
 use Rattle.std.proofs.lemmas.Option.{none-some, same_Some}
 use Rattle.nm_threads.specs.Labels.{entries_of, has_entry}
 use Rattle.nm_threads.specs.Maps.{at, at_id, labelling_of, AreMaps}
 use Rattle.nm_threads.specs.declared.maps.Maps.{Maps}
-use Rattle.nm_threads.specs.declared.joining.Place.{Place}
 use Rattle.nm_threads.specs.declared.maps.Thread.{Thread}
 use Rattle.nm_threads.proofs.LabelLemmas.{entry_of}
 use Rattle.nm_threads.proofs.MergeLemmas.{name_found}
@@ -31,11 +30,3 @@ module _ (m : Maps) (are : AreMaps m) (id : List ℕ) where
 
   pub label_at_place : (n g : ℕ) (t : Thread) → Contains m.ids (n, id) → at n m.groups ≡ Some g → at g m.threads ≡ Some t → Contains (labelling_of m).labels (record { id = id; number = n; name = t.name })
   label_at_place n g t among group thread = subst (λ name. Contains (labelling_of m).labels (record { id = id; number = n; name = name })) (name_found m n g t group thread) (label_of m n id among)
-
-abbrev pub StandsAt : Maps → List ℕ → Place → Type 0
-StandsAt m id place = (number : ℕ) × Contains m.ids (number, id) × (at number m.groups ≡ Some place.group) × (at place.group m.threads ≡ Some place.thread)
-
--- an id with a number has a place
-pub place_by : (m : Maps) (are : AreMaps m) (id : List ℕ) → has_entry (entries_of (labelling_of m).labels) id ≡ true → (other : Place) (found : Option Place) → MatchOption found (at_id id m.numbers ≡ None) (StandsAt m id) → StandsAt m id (unwrap_or found other)
-place_by m are id has other None none = absurd (true≢false (sym has ∙ no_entry m are id none))
-place_by m are id has other (Some place) stands = stands

@@ -1,11 +1,10 @@
 //! Two threads become one: the numbers of the smaller go to the group of the other. The rows that come do it.
 
-ghost use Rattle.std.specs.Prelude.{◌≡◌, ◌==◌, ◌+◌, ℕ, true, min, Some, None, length, map, nat_eq, if◌then◌else◌, IfOk, MatchOption, OnOk, Contains};
+ghost use Rattle.std.specs.Prelude.{◌≡◌, ◌==◌, ◌+◌, ℕ, List, min, Some, None, length, map, nat_eq, if◌then◌else◌, IfOk, MatchOption, OnOk, Contains};
 ghost use Rattle.std.specs.List.{list_any};
 ghost use Rattle.std.specs.List.Sorted.{IsStrictlySortedBy};
 ghost use Rattle.std.specs.Option.{is_some};
 ghost use Rattle.std.specs.Ordering.{nat_cmp};
-ghost use Rattle.nm_threads.specs.Labels.{entries_of, has_entry};
 ghost use Rattle.nm_threads.specs.Maps.{AreMaps, AreMembers, at, at_id, at_pair, is_number, labelling_of, relabelled};
 ghost use Rattle.nm_threads.specs.declared.maps.Thread.{Thread};
 
@@ -33,17 +32,23 @@ pub fn place_of(maps: &Maps, id: &MessageId) -> Option<Place>
     Some(Place { group, thread })
 }
 
-/// Where an id stands that has a number.
-pub fn place_in(maps: &Maps, id: &MessageId) -> Place
+/// Where the id of a number stands.
+pub fn place_at(maps: &Maps, number: u64) -> Place
     requires maps { AreMaps maps.now }
-    requires known { has_entry (entries_of (labelling_of maps.now).labels) id.now ≡ true }
-    ensures { (number : ℕ) × Contains maps.now.ids (number, id.now) × (at number maps.now.groups ≡ Some result.group) × (at result.group maps.now.threads ≡ Some result.thread) }
+    requires known { (id : List ℕ) × Contains maps.now.ids (number, id) }
+    ensures group { at number maps.now.groups ≡ Some result.group }
+    ensures thread { at result.group maps.now.threads ≡ Some result.thread }
 {
-    let nowhere = Place {
-        group: 0,
-        thread: Thread { name: 0, len: 0 },
+    let Some(group) = maps.groups.get(&number) else {
+        unreachable!()
     };
-    place_of(maps, id).unwrap_or(nowhere)
+    let Some(thread) = maps.threads.get(group) else {
+        unreachable!()
+    };
+    Place {
+        group: *group,
+        thread: *thread,
+    }
 }
 
 /// The numbers of a group.

@@ -76,6 +76,7 @@ impl Labels {
     /// The number that the next id gets.
     pub fn next(&self) -> u64
         ensures next { result ≡ self.now.next }
+        ensures least { 1 ≤ result }
         ensures most { result ≤ 2 ^ 63 }
         ensures labelling { IsLabelling self.now }
     {
@@ -218,9 +219,9 @@ impl Labels {
         let Some(name) = self.name_of(id) else {
             return Ok(());
         };
-        let mut maps = mem::replace(&mut self.maps, Maps::new(self.alloc));
-        remove_named(self.alloc, &mut maps, name)?;
-        self.maps = maps;
+        let mut rest = mem::replace(&mut self.maps, Maps::new(self.alloc));
+        remove_named(self.alloc, &mut rest, name)?;
+        self.maps = rest;
         Ok(())
     }
 

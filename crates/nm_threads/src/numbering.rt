@@ -1,21 +1,23 @@
 //! Numbers for ids; the rows that come have their ids numbered here.
 
-ghost use Rattle.std.specs.Prelude.{◌≡◌, ◌+◌, ◌<◌, ◌≤◌, ◌^◌, ◌++◌, ◌∷◌, [], false, OnOk};
+ghost use Rattle.std.specs.Prelude.{◌≡◌, ◌+◌, ◌<◌, ◌≤◌, ◌^◌, ◌++◌, ◌∷◌, [], ℕ, List, false, Contains, IfOk, OnOk};
 ghost use Rattle.nm_threads.specs.Labels.{entries_of, has_entry};
 ghost use Rattle.nm_threads.specs.Maps.{AreMaps, given, labelling_of};
 
 use crate::maps::{Maps, Member, Thread};
 use nm_base::{Copies, MessageId, NoMemory};
 
-/// Gives an id without a number the next one; it is a thread of its own.
-pub fn give_number(maps: &mut Maps, id: &MessageId) -> Result<(), NoMemory>
+/// Gives an id without a number the next one; it is a thread of its own. The answer is the number of the id.
+pub fn give_number(maps: &mut Maps, id: &MessageId) -> Result<u64, NoMemory>
     requires maps { AreMaps maps.old }
     requires room { has_entry (entries_of (labelling_of maps.old).labels) id.now ≡ false → maps.old.next < 2 ^ 63 }
     ensures maps { OnOk result (AreMaps maps.new) }
     ensures given { OnOk result (labelling_of maps.new ≡ given (labelling_of maps.old) id.now) }
+    ensures number { IfOk result (λ number. Contains maps.new.ids (number, id.now)) }
+    ensures others { OnOk result ((number : ℕ) (other : List ℕ) → Contains maps.old.ids (number, other) → Contains maps.new.ids (number, other)) }
 {
-    if maps.numbers.get(id).is_some() {
-        return Ok(());
+    if let Some(number) = maps.numbers.get(id) {
+        return Ok(*number);
     }
     let number = maps.next;
     let thread = Thread {
@@ -28,7 +30,7 @@ pub fn give_number(maps: &mut Maps, id: &MessageId) -> Result<(), NoMemory>
     maps.threads.insert(number, thread)?;
     maps.members.insert((number, number), Member)?;
     maps.next = number + 1;
-    Ok(())
+    Ok(number)
 }
 
 /// Gives an id this number; it is a thread of its own. The next number comes after it.

@@ -1,6 +1,6 @@
 //! A row that comes: its ids get numbers, and their threads become one. `Labels` calls it.
 
-ghost use Rattle.std.specs.Prelude.{◌≡◌, ◌+◌, ◌<◌, ◌≤◌, ◌^◌, ◌∷◌, ◌++◌, [], ℕ, List, length, true, false, OnOk};
+ghost use Rattle.std.specs.Prelude.{◌≡◌, ◌+◌, ◌<◌, ◌≤◌, ◌^◌, ◌∷◌, ◌++◌, [], ℕ, List, length, false, Contains, OnOk};
 ghost use Rattle.std.specs.List.{flat_map};
 ghost use Rattle.nm_base.specs.declared.facts.LinkRow.{LinkRow};
 ghost use Rattle.nm_threads.specs.Fits.{Fits, Links};
@@ -9,34 +9,35 @@ ghost use Rattle.nm_threads.specs.Maps.{AreMaps, labelling_of};
 ghost use Rattle.nm_threads.specs.Same.{ids_of};
 ghost use Rattle.nm_threads.specs.Work.{Doubles, potential};
 
-use crate::joining::{join, place_in};
+use crate::joining::{join, place_at};
 use crate::maps::Maps;
 use crate::numbering::give_number;
 use nm_base::{LinkRow, MessageId, NoMemory, Steps};
 use std::alloc::Global;
 use std::sync::ledger::Ledger;
 
-/// Adds one link to the row of an id that has a number.
+/// Adds one link to the row of an id that has a number, this one.
 fn add_link<L: Ledger>(
     alloc: Global,
     maps: &mut Maps,
     own: &MessageId,
+    number: u64,
     link: &MessageId,
     steps: &mut Steps<L>,
 ) -> Result<(), NoMemory>
     requires maps { AreMaps maps.old }
-    requires own { has_entry (entries_of (labelling_of maps.old).labels) own.now ≡ true }
+    requires own { Contains maps.old.ids (number, own.now) }
     requires room { has_entry (entries_of (labelling_of maps.old).labels) link.now ≡ false → maps.old.next < 2 ^ 63 }
     ensures maps { OnOk result (AreMaps maps.new) }
-    ensures own { OnOk result (has_entry (entries_of (labelling_of maps.new).labels) own.now ≡ true) }
+    ensures own { OnOk result (Contains maps.new.ids (number, own.now)) }
     ensures links { OnOk result (Links (labelling_of maps.old) (labelling_of maps.new) own.now link.now) }
     ensures steps { OnOk result (steps.new + thread_len own.now (labelling_of maps.old).labels ≤ steps.old + 1 + thread_len own.now (labelling_of maps.new).labels) }
     ensures work { OnOk result ((f : ℕ → ℕ) → Doubles f → steps.new + potential f (labelling_of maps.old).labels ≤ steps.old + 1 + potential f (labelling_of maps.new).labels) }
 {
     steps.tick();
-    give_number(maps, link)?;
-    let first = place_in(maps, own);
-    let second = place_in(maps, link);
+    let other = give_number(maps, link)?;
+    let first = place_at(maps, number);
+    let second = place_at(maps, other);
     join(alloc, maps, first, second, steps)?;
     Ok(())
 }
@@ -57,9 +58,9 @@ pub fn add<L: Ledger>(
     ensures work { OnOk result ((f : ℕ → ℕ) → Doubles f → steps.new + potential f (labelling_of maps.old).labels ≤ steps.old + length (ids_of row.now) + potential f (labelling_of maps.new).labels) }
 {
     steps.tick();
-    give_number(maps, &row.id)?;
+    let number = give_number(maps, &row.id)?;
     'links: for link in row.links.as_slice() {
-        add_link(alloc, maps, &row.id, link, steps)?;
+        add_link(alloc, maps, &row.id, number, link, steps)?;
     }
     Ok(())
 }

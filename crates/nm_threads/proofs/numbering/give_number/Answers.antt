@@ -4,16 +4,15 @@ use Rattle.std.specs.Cmp.Lexicographic.{slice_cmp}
 use Rattle.std.specs.Option.{is_some}
 use Rattle.std.specs.Ordering.{is_eq, nat_cmp}
 use Rattle.nm_threads.specs.Maps.{at_id}
-use Rattle.nm_threads.proofs.MapLemmas.{copied_some, none_by}
-use Rattle.nm_threads.proofs.NumberLemmas.{given_old, has_is, maps_given, labels_given}
+use Rattle.nm_threads.proofs.NumberLemmas.{given_old, has_is, maps_given, labels_given, new_id, old_ids}
 use Rattle.nm_threads.proofs.numbering.give_number.Goals as goal
 
-pub returns-then-is_some-clause-given : goal.returns-then-is_some-clause-given
-returns-then-is_some-clause-given c = given_old c.args.maps.now c.requires.maps c.args.id.now (ap is_some (sym c.get.ensures) ∙ copied_some c.get.result ∙ sym c.is_some.ensures ∙ c.if-is_some.true)
+pub returns-in-Some-clause-given : goal.returns-in-Some-clause-given
+returns-in-Some-clause-given c = given_old c.args.maps.now c.requires.maps c.args.id.now (ap is_some (sym c.in-Some.ensures))
 
 pub returns-clause-maps : goal.returns-clause-maps
 returns-clause-maps c =
-    let absent : at_id c.args.id.now c.args.maps.now.numbers ≡ None = none_by (at_id c.args.id.now c.args.maps.now.numbers) (ap is_some (sym c.get.ensures) ∙ copied_some c.get.result ∙ sym c.is_some.ensures ∙ c.if-is_some.false) in
+    let absent : at_id c.args.id.now c.args.maps.now.numbers ≡ None = sym c.in_default.ensures in
     maps_given c.args.maps.now c.requires.maps c.args.id.now absent (c.requires.room (sym (has_is c.args.maps.now c.requires.maps c.args.id.now) ∙ ap is_some absent))
     c.insert.new.self c.insert-2.new.self c.insert-3.new.self c.insert-4.new.self c.insert-5.new.self
     (record { name = c.args.maps.now.next; len = 1 }) refl refl (c.in_ok-insert.ensures.ok ∙ ap (insert_entry nat_cmp c.args.maps.now.ids c.args.maps.now.next) c.in_ok-copy.ensures)
@@ -22,9 +21,27 @@ returns-clause-maps c =
 
 pub returns-clause-given : goal.returns-clause-given
 returns-clause-given c =
-    let absent : at_id c.args.id.now c.args.maps.now.numbers ≡ None = none_by (at_id c.args.id.now c.args.maps.now.numbers) (ap is_some (sym c.get.ensures) ∙ copied_some c.get.result ∙ sym c.is_some.ensures ∙ c.if-is_some.false) in
+    let absent : at_id c.args.id.now c.args.maps.now.numbers ≡ None = sym c.in_default.ensures in
     labels_given c.args.maps.now c.requires.maps c.args.id.now absent (c.requires.room (sym (has_is c.args.maps.now c.requires.maps c.args.id.now) ∙ ap is_some absent))
     c.insert.new.self c.insert-2.new.self c.insert-3.new.self c.insert-4.new.self c.insert-5.new.self
     (record { name = c.args.maps.now.next; len = 1 }) refl refl (c.in_ok-insert.ensures.ok ∙ ap (insert_entry nat_cmp c.args.maps.now.ids c.args.maps.now.next) c.in_ok-copy.ensures)
     (λ other. c.in_ok-insert-2.ensures.found other ∙ ap (λ id. cond (is_eq (slice_cmp nat_cmp other id)) (Some c.args.maps.now.next) (at_id other c.args.maps.now.numbers)) c.in_ok-copy-2.ensures)
     c.in_ok-insert-3.ensures.found c.in_ok-insert-4.ensures.found _ c.in_ok-insert-5.ensures.found
+
+pub returns-clause-number : goal.returns-clause-number
+returns-clause-number c =
+    let absent : at_id c.args.id.now c.args.maps.now.numbers ≡ None = sym c.in_default.ensures in
+    new_id c.args.maps.now c.requires.maps c.args.id.now absent (c.requires.room (sym (has_is c.args.maps.now c.requires.maps c.args.id.now) ∙ ap is_some absent))
+    c.insert.new.self c.insert-2.new.self c.insert-3.new.self c.insert-4.new.self c.insert-5.new.self
+    (record { name = c.args.maps.now.next; len = 1 }) refl refl (c.in_ok-insert.ensures.ok ∙ ap (insert_entry nat_cmp c.args.maps.now.ids c.args.maps.now.next) c.in_ok-copy.ensures)
+    (λ other. c.in_ok-insert-2.ensures.found other ∙ ap (λ id. cond (is_eq (slice_cmp nat_cmp other id)) (Some c.args.maps.now.next) (at_id other c.args.maps.now.numbers)) c.in_ok-copy-2.ensures)
+    c.in_ok-insert-3.ensures.found c.in_ok-insert-4.ensures.found _ c.in_ok-insert-5.ensures.found
+
+pub returns-clause-others : goal.returns-clause-others
+returns-clause-others c = λ number other among.
+    let absent : at_id c.args.id.now c.args.maps.now.numbers ≡ None = sym c.in_default.ensures in
+    old_ids c.args.maps.now c.requires.maps c.args.id.now absent (c.requires.room (sym (has_is c.args.maps.now c.requires.maps c.args.id.now) ∙ ap is_some absent))
+    c.insert.new.self c.insert-2.new.self c.insert-3.new.self c.insert-4.new.self c.insert-5.new.self
+    (record { name = c.args.maps.now.next; len = 1 }) refl refl (c.in_ok-insert.ensures.ok ∙ ap (insert_entry nat_cmp c.args.maps.now.ids c.args.maps.now.next) c.in_ok-copy.ensures)
+    (λ other. c.in_ok-insert-2.ensures.found other ∙ ap (λ id. cond (is_eq (slice_cmp nat_cmp other id)) (Some c.args.maps.now.next) (at_id other c.args.maps.now.numbers)) c.in_ok-copy-2.ensures)
+    c.in_ok-insert-3.ensures.found c.in_ok-insert-4.ensures.found _ c.in_ok-insert-5.ensures.found number other among

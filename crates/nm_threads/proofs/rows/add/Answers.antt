@@ -2,7 +2,6 @@ use Rattle.std.proofs.Common.{sym, subst, ◌∷◌, ◌≤◌, arith}
 use Rattle.nm_threads.specs.Labels.{entries_of, numbered}
 use Rattle.nm_threads.specs.Maps.{labelling_of}
 use Rattle.nm_threads.proofs.RowLemmas.{room_first, row_numbers, row_labels, row_room, more_numbers, more_labels, row_ends}
-use Rattle.nm_threads.proofs.StepLemmas.{given_known}
 use Rattle.nm_threads.proofs.WorkLemmas.{potential_given}
 use Rattle.nm_threads.proofs.rows.add.Goals as goal
 
@@ -11,12 +10,12 @@ give_number-requires-clause-room g c = room_first (entries_of (labelling_of c.ar
 
 pub links-init : goal.links-init
 links-init g c = record {
-  maps = c.in_ok-give_number.ensures.maps;
-  numbers = row_numbers c.args.maps.now c.give_number.new.maps c.args.row.now.id c.as_slice-link-items.result.now c.in_ok-give_number.ensures.given;
-  labels = row_labels c.args.maps.now c.give_number.new.maps c.args.row.now.id c.as_slice-link-items.result.now c.requires.maps c.in_ok-give_number.ensures.given;
-  own = given_known c.args.maps.now c.give_number.new.maps c.args.row.now.id c.in_ok-give_number.ensures.given;
+  maps = c.in_ok-number.ensures.maps;
+  numbers = row_numbers c.args.maps.now c.give_number.new.maps c.args.row.now.id c.as_slice-link-items.result.now c.in_ok-number.ensures.given;
+  labels = row_labels c.args.maps.now c.give_number.new.maps c.args.row.now.id c.as_slice-link-items.result.now c.requires.maps c.in_ok-number.ensures.given;
+  own = c.in_ok-number.ensures.number;
   steps = omega (arith, c.tick.ensures);
-  work = λ f doubles. omega (arith, c.tick.ensures, potential_given f c.args.maps.now c.give_number.new.maps c.requires.maps c.in_ok-give_number.ensures.maps c.args.row.now.id c.in_ok-give_number.ensures.given);
+  work = λ f doubles. omega (arith, c.tick.ensures, potential_given f c.args.maps.now c.give_number.new.maps c.requires.maps c.in_ok-number.ensures.maps c.args.row.now.id c.in_ok-number.ensures.given);
 }
 
 pub add_link-requires-clause-room : goal.add_link-requires-clause-room

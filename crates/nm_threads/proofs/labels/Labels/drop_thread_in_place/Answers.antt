@@ -16,10 +16,10 @@ pub returns-clause-entries : goal.returns-clause-entries
 returns-clause-entries c =
     let own = c.in-Some.ensures.label in
     entries_gone c.args.self.now (subst IsLabelling c.self.view_is (maps_labelling c.self.inside.maps c.self.invariant)) (record { id = c.args.id.now; number = own.0; name = c.in-Some.name }) own.1 (labelling_of c.remove_named.new.maps).labels
-    (c.in_ok-remove_named.ensures.labels ∙ ap (λ m. without_name c.in-Some.name (labelling_of m).labels) c.replace-maps.ensures.value ∙ ap (λ l. without_name c.in-Some.name l.labels) c.self.view_is)
+    (c.in_ok-remove_named.ensures.labels ∙ ap (λ m. without_name c.in-Some.name (labelling_of m).labels) c.replace-rest.ensures.value ∙ ap (λ l. without_name c.in-Some.name l.labels) c.self.view_is)
 
 pub returns-clause-labels : goal.returns-clause-labels
 returns-clause-labels c =
     let own = c.in-Some.ensures.label in
     labels_gone c.args.self.now (subst IsLabelling c.self.view_is (maps_labelling c.self.inside.maps c.self.invariant)) (record { id = c.args.id.now; number = own.0; name = c.in-Some.name }) own.1 (labelling_of c.remove_named.new.maps).labels
-    (c.in_ok-remove_named.ensures.labels ∙ ap (λ m. without_name c.in-Some.name (labelling_of m).labels) c.replace-maps.ensures.value ∙ ap (λ l. without_name c.in-Some.name l.labels) c.self.view_is)
+    (c.in_ok-remove_named.ensures.labels ∙ ap (λ m. without_name c.in-Some.name (labelling_of m).labels) c.replace-rest.ensures.value ∙ ap (λ l. without_name c.in-Some.name l.labels) c.self.view_is)
