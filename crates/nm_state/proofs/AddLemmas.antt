@@ -16,12 +16,13 @@ use Rattle.nm_threads.specs.Labels.{AreLabelsOf, Label, Labelling, entries_of, n
 use Rattle.nm_threads.specs.Labels as labels
 use Rattle.nm_state.specs.Filing.{AreFiled, files_in}
 use Rattle.nm_state.specs.Kept.{AreKept}
-use Rattle.nm_state.specs.Parts.{AreHeld, AreParts, base_of, with_files}
+use Rattle.nm_state.specs.Parts.{AreHeld, AreParts, AreTagged, base_of, with_files}
 use Rattle.nm_state.specs.ThreadLaws.{ThreadLaws}
 use Rattle.nm_state.specs.declared.parts.Parts.{Parts}
 use Rattle.nm_state.proofs.KeyLemmas.{Contains_first, Contains_there, Contains_cases, Contains_map, Contains_none, same_text_of, text_same}
 use Rattle.nm_state.proofs.ListLemmas.{in_left, in_right, in_either}
 use Rattle.nm_state.proofs.HeldLemmas.{file_row, kept_row, a_row, held_by, held_more, of_row}
+use Rattle.nm_state.proofs.TagLemmas.{moved_tagged, tagged_by}
 
 -- ---- numbers
 
@@ -61,10 +62,6 @@ numbered_one [] entries next entry among = inl among
 numbered_one (id ∷ ids) entries next entry among = one_by (labels.has_entry entries id) id ids entries next entry (numbered_one ids entries next entry) (numbered_one ids (entries ++ (id, next) ∷ []) (next + 1) entry) among
 
 -- ---- the index with the mail
-
-tagged_by : (test : Bool) (index : Base) (tags : List (List ℕ × List (List ℕ))) → cond test index (record index { tags = tags }) ≡ record index { tags = cond test index.tags tags }
-tagged_by true index tags = refl
-tagged_by false index tags = refl
 
 -- the index once the mail is there, part by part
 abbrev pub mailed : Base → List ℕ → Facts → Base
@@ -139,14 +136,15 @@ pub mail_added : (laws : ThreadLaws) (old new : Parts) (path : List ℕ) (facts 
     → (entries_of new.labels.labels, new.labels.next) ≡ numbered (entries_of old.labels.labels) old.labels.next (facts.id ∷ facts.links)
     → ((rows : List LinkRow) → AreLabelsOf rows old.labels.labels → AreLabelsOf (row_of facts ∷ rows) new.labels.labels)
     → new.tags ≡ (if has_id (files_in old.filing) facts.id then old.tags else insert_entry (slice_cmp nat_cmp) old.tags facts.id (first_tags facts.marks))
-    → AreParts new × (base_of new ≡ with_mail (base_of old) path facts)
-mail_added laws old new path facts are revision kept filed files numbers label tags = (
+    → AreTagged (files_in old.filing ++ (path, facts) ∷ []) new.tags → AreParts new × (base_of new ≡ with_mail (base_of old) path facts)
+mail_added laws old new path facts are revision kept filed files numbers label tags tagged = (
   record {
     filed = filed;
     kept = subst AreKept (sym kept) are.kept;
     labels = laws.unordered (row_of facts ∷ rows_of (base_of old)) (rows_of (base_of new)) new.labels.labels (new_rows laws (base_of old) (base_of new) path facts files (ap values_of kept))
         (all_rows laws (base_of old) (base_of new) path facts files (ap values_of kept)) (label (rows_of (base_of old)) are.labels);
     held = mailed_held laws (base_of old) (base_of new) path facts files (ap values_of kept) are.held (ap (λ all. all.0) numbers);
+    tagged = subst (λ fs. AreTagged fs new.tags) (sym files) tagged;
   },
   (λ i. record {
     revision = revision i;
@@ -165,8 +163,8 @@ same_rows [] from to = refl
 same_rows (file ∷ files) from to = ap (λ rows. row_of file.1 ∷ rows) (same_rows files from to)
 
 -- the parts once a file has another path
-pub file_moved : (laws : ThreadLaws) (old new : Parts) (from to : List ℕ) → AreParts old → new.kept ≡ old.kept → new.labels ≡ old.labels → AreFiled new.filing → files_in new.filing ≡ with_moved (files_in old.filing) from to → AreParts new
-file_moved laws old new from to are kept labels filed files =
+pub file_moved : (laws : ThreadLaws) (old new : Parts) (from to : List ℕ) → AreParts old → new.kept ≡ old.kept → new.labels ≡ old.labels → new.tags ≡ old.tags → AreFiled new.filing → files_in new.filing ≡ with_moved (files_in old.filing) from to → AreParts new
+file_moved laws old new from to are kept labels tags filed files =
     let rows : rows_of (base_of new) ≡ rows_of (base_of old) = ap (λ fs. map (λ (file : List ℕ × Facts). row_of file.1) fs ++ values_of new.kept) files ∙ (λ i. same_rows (files_in old.filing) from to i ++ values_of (kept i)) in
     let more : (id : List ℕ) → is_held (base_of old) id ≡ true → is_held (base_of new) id ≡ true =
     held_more laws (base_of old) (base_of new) (λ row among. subst (λ all. Contains all row) (sym rows) among)
@@ -183,4 +181,5 @@ file_moved laws old new from to are kept labels filed files =
         rows = λ row among. more row.id (are.held.rows row (subst (λ all. Contains (values_of all) row) kept among));
         entries = λ entry among. more entry.0 (are.held.entries entry (subst (λ (l : Labelling). Contains (entries_of l.labels) entry) labels among));
       };
+      tagged = subst (λ all. AreTagged (files_in new.filing) all) (sym tags) (subst (λ fs. AreTagged fs old.tags) (sym files) (moved_tagged (files_in old.filing) from to old.tags are.tagged));
     }

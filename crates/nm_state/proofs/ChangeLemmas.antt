@@ -24,7 +24,8 @@ module _ (follow : (index : Base) (change : Change) → (applied index change).f
       subst (λ change. FitsChange at.files change) (sym item) (subst (λ files. FitsChange files (slice_index_or xs i x)) (sym (ap (λ b. b.files) is ∙ files_after (take i xs) index)) (fits_there index.files xs i x lt fits))
 
 module _ (never : (index : Base) (change : Change) → index.next ≤ (applied index change).next) where
-  rises : (xs : List Change) (index : Base) → index.next ≤ (fold applied index xs).next
+  -- no change lets the next number fall
+  pub rises : (xs : List Change) (index : Base) → index.next ≤ (fold applied index xs).next
   rises [] index = omega arith
   rises (x ∷ xs) index = omega (arith, never index x, rises xs (applied index x))
 

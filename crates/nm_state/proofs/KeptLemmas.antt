@@ -1,5 +1,5 @@
 -- Rows at their bytes: an insertion among them, and a row that is there already.
-use Rattle.std.proofs.Common.{◌≡◌, refl, sym, ap, subst, ◌∙◌, ℕ, Bool, true, false, ◌&&◌, not, cond, List, [], ◌∷◌, ◌++◌, inl, inr, ◌⊎◌, true≢false}
+use Rattle.std.proofs.Common.{◌≡◌, refl, sym, ap, subst, ◌∙◌, ℕ, Bool, true, false, ◌&&◌, not, cond, List, [], ◌∷◌, inl, inr, ◌⊎◌, true≢false}
 use Rattle.std.specs.Prelude.{Contains, Option, Some, None}
 use Rattle.std.specs.BTreeMap.{insert_entry, is_at}
 use Rattle.std.specs.BTreeSet.{insert_key}
@@ -7,13 +7,13 @@ use Rattle.std.specs.Cmp.Lexicographic.{pointwise, slice_cmp}
 use Rattle.std.specs.List.{AllByRecursion, filter}
 use Rattle.std.specs.List.Sorted.{IsStrictlySortedBy}
 use Rattle.std.specs.Map.{keys_of, lookup, values_of}
-use Rattle.std.specs.Ordering.{is_eq, match_ordering, nat_cmp, ordering_reverse}
+use Rattle.std.specs.Ordering.{is_eq, match_ordering, nat_cmp}
 use Rattle.std.specs.declared.cmp.Ordering.{Ordering}
 use Rattle.std.specs.declared.cmp.Ordering.TheVariants.{Less, Equal, Greater}
 use Rattle.std.proofs.lemmas.Bool.{and_parts}
 use Rattle.std.proofs.lemmas.Cmp.{nat_list_cmp_total}
 use Rattle.std.proofs.lemmas.Option.{none-some, same_Some}
-use Rattle.nm_base.specs.Order.{has_text, same_text}
+use Rattle.nm_base.specs.Order.{same_text}
 use Rattle.nm_base.specs.declared.facts.LinkRow.{LinkRow}
 use Rattle.nm_index.specs.Index.{row_bytes, row_cmp}
 use Rattle.nm_state.specs.Kept.{AreKept}
@@ -159,73 +159,3 @@ pub sorted_filter : (p : List ℕ × LinkRow → Bool) (es : Rows) → IsStrictl
 unfolding IsStrictlySortedBy
 sorted_filter p [] sorted = tt
 sorted_filter p (e ∷ es) sorted = sorted_filter_by e (filter p es) (p e) (all_filter (λ key. slice_cmp nat_cmp e.0 key ≡ Less) p es sorted.0) (sorted_filter p es sorted.1)
-
-all_middle : (P : List ℕ → Type 0) (xs : Rows) (e : List ℕ × LinkRow) (ys : Rows) → AllByRecursion P (keys_of (xs ++ e ∷ ys)) → P e.0
-all_middle P [] e ys all = all.0
-all_middle P (x ∷ xs) e ys all = all_middle P xs e ys all.1
-
--- an entry that stands behind others goes there
-pushed_last : (xs : Rows) (e : List ℕ × LinkRow) (ys : Rows) → IsStrictlySortedBy (slice_cmp nat_cmp) (keys_of (xs ++ e ∷ ys)) → insert_entry (slice_cmp nat_cmp) xs e.0 e.1 ≡ xs ++ e ∷ []
-unfolding IsStrictlySortedBy
-pushed_last [] e ys sorted = refl
-pushed_last (x ∷ xs) e ys sorted =
-    let above : slice_cmp nat_cmp e.0 x.0 ≡ Greater = nat_list_cmp_total.antisymm e.0 x.0 ∙ ap ordering_reverse (all_middle (λ key. slice_cmp nat_cmp x.0 key ≡ Less) xs e ys sorted.0) in
-    rw above (ap (λ more. x ∷ more) (pushed_last xs e ys sorted.1))
-
-behind : (xs : Rows) (e : List ℕ × LinkRow) (ys : Rows) → (xs ++ e ∷ []) ++ ys ≡ xs ++ e ∷ ys
-behind [] e ys = refl
-behind (x ∷ xs) e ys = ap (λ more. x ∷ more) (behind xs e ys)
-
-chosen_first : {A : Type 0} (test : Bool) (x : A) (rest : List A) → test ≡ true → cond test (x ∷ rest) rest ≡ x ∷ rest
-chosen_first true x rest is = refl
-chosen_first false x rest is = absurd (true≢false (sym is))
-
-passed_over : {A : Type 0} (test : Bool) (x : A) (rest : List A) → test ≡ false → cond test (x ∷ rest) rest ≡ rest
-passed_over true x rest is = absurd (true≢false is)
-passed_over false x rest is = refl
-
-module _ (p : List ℕ × LinkRow → Bool) (kept rest entries left : Rows) (e : List ℕ × LinkRow) (so_far : rest ++ filter p entries ≡ filter p kept) (step : entries ≡ e ∷ left) where
-  -- one entry more
-  pub rest_more : (new : Rows) (key : List ℕ) (value : LinkRow) → IsStrictlySortedBy (slice_cmp nat_cmp) (keys_of kept) → p e ≡ true → key ≡ e.0 → value ≡ e.1 → new ≡ insert_entry (slice_cmp nat_cmp) rest key value → new ++ filter p left ≡ filter p kept
-  rest_more new key value sorted passes key_is value_is is =
-      let all : rest ++ e ∷ filter p left ≡ filter p kept = ap (λ more. rest ++ more) (sym (ap (filter p) step ∙ chosen_first (p e) e (filter p left) passes)) ∙ so_far in
-      let in_order : IsStrictlySortedBy (slice_cmp nat_cmp) (keys_of (rest ++ e ∷ filter p left)) = subst (λ es. IsStrictlySortedBy (slice_cmp nat_cmp) (keys_of es)) (sym all) (sorted_filter p kept sorted) in
-      let pushed : new ≡ rest ++ e ∷ [] = is ∙ (λ i. insert_entry (slice_cmp nat_cmp) rest (key_is i) (value_is i)) ∙ pushed_last rest e (filter p left) in_order in
-      ap (λ es. es ++ filter p left) pushed ∙ behind rest e (filter p left) ∙ all
-
-  pub rest_same : p e ≡ false → rest ++ filter p left ≡ filter p kept
-  rest_same fails = ap (λ more. rest ++ more) (sym (ap (filter p) step ∙ passed_over (p e) e (filter p left) fails)) ∙ so_far
-
-values_cond : (q : LinkRow → Bool) (e : List ℕ × LinkRow) (rest : Rows) (test : Bool) → values_of (cond test (e ∷ rest) rest) ≡ cond test (e.1 ∷ values_of rest) (values_of rest)
-values_cond q e rest true = refl
-values_cond q e rest false = refl
-
-values_filter : (q : LinkRow → Bool) (es : Rows) → values_of (filter (λ e. q e.1) es) ≡ filter q (values_of es)
-values_filter q [] = refl
-values_filter q (e ∷ es) = values_cond q e (filter (λ x. q x.1) es) (q e.1) ∙ (let rest : values_of (filter (λ x. q x.1) es) ≡ filter q (values_of es) = values_filter q es in (λ i. cond (q e.1) (e.1 ∷ rest i) (rest i)))
-
-filter_entry_by : (x y : List ℕ × LinkRow) (rest : Rows) (test : Bool) → Contains (cond test (x ∷ rest) rest) y → (x ≡ y) ⊎ Contains rest y
-filter_entry_by x y rest true among = Contains_cases x rest y among
-filter_entry_by x y rest false among = inr among
-
-filter_entry : (p : List ℕ × LinkRow → Bool) (es : Rows) (y : List ℕ × LinkRow) → Contains (filter p es) y → Contains es y
-filter_entry p [] y among = among
-filter_entry p (e ∷ es) y among = elim (filter_entry_by e y (filter p es) (p e) among) [
-  | inl here ↦ subst (λ z. Contains (e ∷ es) z) here (Contains_first e es)
-  | inr there ↦ Contains_there e es y (filter_entry p es y there)
-]
-
-same_tests : (p q : List ℕ × LinkRow → Bool) (es : Rows) → ((e : List ℕ × LinkRow) → p e ≡ q e) → filter p es ≡ filter q es
-same_tests p q [] agree = refl
-same_tests p q (e ∷ es) agree = let first : p e ≡ q e = agree e in let rest : filter p es ≡ filter q es = same_tests p q es agree in (λ i. cond (first i) (e ∷ rest i) (rest i))
-
--- without the rows of some mails
-pub rows_left : (old new : Rows) (set ids : List (List ℕ)) → AreKept old → ((id : List ℕ) → has_text set id ≡ has_text ids id) → new ≡ filter (λ entry. not (has_text set entry.1.id)) old
-    → AreKept new × (values_of new ≡ filter (λ row. not (has_text ids row.id)) (values_of old))
-rows_left old new set ids are same is = (
-  record {
-    sorted = subst (λ es. IsStrictlySortedBy (slice_cmp nat_cmp) (keys_of es)) (sym is) (sorted_filter (λ entry. not (has_text set entry.1.id)) old are.sorted);
-    keyed = λ e among. are.keyed e (filter_entry (λ entry. not (has_text set entry.1.id)) old e (subst (λ es. Contains es e) is among));
-  },
-  ap values_of (is ∙ same_tests (λ entry. not (has_text set entry.1.id)) (λ entry. not (has_text ids entry.1.id)) old (λ e. ap not (same e.1.id))) ∙ values_filter (λ row. not (has_text ids row.id)) old,
-)

@@ -9,7 +9,11 @@ pub mod AddLemmas
 pub mod ChangeLemmas
 pub mod PruneLemmas
 pub mod TakeLemmas
+pub mod TagLemmas
+pub mod MailRowLemmas
+pub mod ValidLemmas
 pub mod ReadingLemmas
 pub mod OpeningLemmas
 pub mod NumberLemmas
 pub mod RoomLemmas
+pub mod RenumberLemmas

@@ -23,9 +23,10 @@ use Rattle.nm_threads.specs.Entries.{AreEntriesOf}
 use Rattle.nm_threads.specs.Labels.{AreLabelsOf, entries_of}
 use Rattle.nm_state.specs.Filing.{AreFiled, files_in}
 use Rattle.nm_state.specs.Kept.{AreKept}
-use Rattle.nm_state.specs.Parts.{AreHeld, AreParts, base_of}
+use Rattle.nm_state.specs.Parts.{AreHeld, AreParts, AreTagged, base_of}
 use Rattle.nm_state.specs.declared.parts.Parts.{Parts}
 use Rattle.nm_state.proofs.KeyLemmas.{Contains_map, all_at, text_other, text_same}
+use Rattle.nm_state.proofs.TagLemmas.{opened_tagged}
 
 neither : (a b : Bool) → a ≡ false → b ≡ false → (a || b) ≡ false
 neither a b first second = ap (λ x. x || b) first ∙ second
@@ -125,4 +126,6 @@ opened index parts rows valid rows_are revision filed files kept kept_are entrie
       rows = λ row among. all_at (λ (r : LinkRow). IsTrue (is_held index r.id)) index.kept valid.kept row among;
       entries = λ entry among. all_at (λ id. IsTrue (is_held index id)) (map (λ e. e.0) index.entries) valid.held entry.0 (Contains_map (λ (e : List ℕ × ℕ). e.0) index.entries entry among);
     } in
-    (record { filed = filed; kept = kept; labels = subst (λ all. AreLabelsOf all parts.labels.labels) (rows_are ∙ ap rows_of (sym base)) labels; held = subst AreHeld (sym base) held }, base)
+    let tagged : AreTagged (files_in parts.filing) parts.tags =
+    subst (λ all. AreTagged (files_in parts.filing) all) (sym tags) (subst (λ fs. AreTagged fs index.tags) (sym files) (opened_tagged index.files index.tags valid.live valid.sets)) in
+    (record { filed = filed; kept = kept; labels = subst (λ all. AreLabelsOf all parts.labels.labels) (rows_are ∙ ap rows_of (sym base)) labels; held = subst AreHeld (sym base) held; tagged = tagged }, base)

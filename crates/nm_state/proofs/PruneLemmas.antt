@@ -12,10 +12,11 @@ use Rattle.nm_index.specs.Index.{is_held, pruned, row_of, rows_of}
 use Rattle.nm_index.specs.declared.base.Base.{Base}
 use Rattle.nm_threads.specs.Labels.{AreLabelsOf, entries_of, has_entry, is_in_rows}
 use Rattle.nm_threads.specs.Same.{IsChain, Same, ids_of, is_same, stand_together}
-use Rattle.nm_state.specs.Filing.{AreFiled}
+use Rattle.nm_state.specs.Filing.{AreFiled, files_in}
 use Rattle.nm_state.specs.Kept.{AreKept}
-use Rattle.nm_state.specs.Parts.{AreLoose, AreParts, base_of}
+use Rattle.nm_state.specs.Parts.{AreLoose, AreParts, AreTagged, base_of}
 use Rattle.nm_state.specs.ThreadLaws.{ThreadLaws}
+use Rattle.nm_state.specs.declared.filing.Filing.{Filing}
 use Rattle.nm_state.specs.declared.parts.Parts.{Parts}
 use Rattle.nm_state.proofs.KeyLemmas.{same_bool, false_from, any_one, any_of, Contains_first, Contains_there, Contains_cases, Contains_none, Contains_map, Contains_from_map, same_text_from, same_text_of}
 use Rattle.nm_state.proofs.HeldLemmas.{file_row, kept_row, a_row, held_by, held_from, of_row}
@@ -136,7 +137,7 @@ module _ (laws : ThreadLaws) (old : Parts) (id : List ℕ) (loose : AreLoose old
         let entries : (entry : List ℕ × ℕ) → Contains index.entries entry → is_held index entry.0 ≡ true = λ entry among. still_held entry.0 (loose.entries entry among) in
         let kept_is : index.kept ≡ filter (λ row. is_held index row.id) index.kept = sym (filter_same (λ row. is_held index row.id) (λ _. true) index.kept kept ∙ all_pass index.kept) in
         let entries_is : index.entries ≡ filter (λ entry. is_held index entry.0) index.entries = sym (filter_same (λ entry. is_held index entry.0) (λ _. true) index.entries entries ∙ all_pass index.entries) in
-        (record { filed = loose.filed; kept = loose.kept; labels = loose.labels; held = record { rows = kept; entries = entries } }, λ i. record index { kept = kept_is i; entries = entries_is i })
+        (record { filed = loose.filed; kept = loose.kept; labels = loose.labels; held = record { rows = kept; entries = entries }; tagged = loose.tagged }, λ i. record index { kept = kept_is i; entries = entries_is i })
 
   -- where none is, what is of the thread goes
   module _ (dead : list_any (has_id (base_of old).files) ids ≡ false) where
@@ -216,6 +217,7 @@ module _ (laws : ThreadLaws) (old : Parts) (id : List ℕ) (loose : AreLoose old
             rows = λ row among. held_after row.id (from_filter (λ (r : LinkRow). is_held index r.id) index.kept row (subst (λ all. Contains all row) pruned_kept among)).1;
             entries = λ entry among. held_after entry.0 (from_filter (λ (e : List ℕ × ℕ). is_held index e.0) index.entries entry (subst (λ all. Contains all entry) pruned_entries among)).1;
           };
+          tagged = subst (λ (f : Filing). AreTagged (files_in f) new.tags) (sym filing) (subst (λ all. AreTagged (files_in old.filing) all) (sym tags) loose.tagged);
         },
         λ i. record {
           revision = revision i;

@@ -134,7 +134,18 @@ module _ (index : Base) (counts : Counts) (revision : ℕ) (are : AreCounts inde
       none files bytes numbers (few le) (small le2)
       (neither (nat_lt max_number index.next) (nat_lt max_number index.revision) (le-ltb max_number index.next (omega (arith, le3, are.next))) (le-ltb max_number index.revision (omega (arith, lt, is))))
 
--- an index that passes no limit has not used up its revisions
+-- an index that passes no limit has used up neither its numbers nor its revisions
+numbers_false : (a b n r : Bool) → chain a b (n || r) ≡ None → n ≡ false
+numbers_false true b n r e = absurd (true≢false (ap is_some e))
+numbers_false false true n r e = absurd (true≢false (ap is_some e))
+numbers_false false false true r e = absurd (true≢false (ap is_some e))
+numbers_false false false false r e = refl
+
+pub next_within : (index : Base) → limit_passed index ≡ None → index.next ≤ max_number
+next_within index e =
+    ltb-false max_number index.next
+    (numbers_false (nat_lt max_files (length index.files)) (nat_lt max_index_bytes (base_len index)) (nat_lt max_number index.next) (nat_lt max_number index.revision) e)
+
 last_false : (a b n r : Bool) → chain a b (n || r) ≡ None → r ≡ false
 last_false true b n r e = absurd (true≢false (ap is_some e))
 last_false false true n r e = absurd (true≢false (ap is_some e))
@@ -147,10 +158,10 @@ revision_within index e =
     ltb-false max_number index.revision
     (last_false (nat_lt max_files (length index.files)) (nat_lt max_index_bytes (base_len index)) (nat_lt max_number index.next) (nat_lt max_number index.revision) e)
 
-abbrev limit_or : Limit → Result (Unit {0}) RoomError → Limit
-limit_or d (Ok u) = d
+abbrev limit_or : {X : Type 0} → Limit → Result X RoomError → Limit
+limit_or d (Ok x) = d
 limit_or d (Err (Passes l)) = l
 limit_or d (Err Wanted) = d
 
-pub same_limit : (a b : Limit) → ◌≡◌ {A = Result (Unit {0}) RoomError} (Err (Passes a)) (Err (Passes b)) → a ≡ b
+pub same_limit : {X : Type 0} (a b : Limit) → ◌≡◌ {A = Result X RoomError} (Err (Passes a)) (Err (Passes b)) → a ≡ b
 same_limit a b e = ap (limit_or a) e

@@ -1,28 +1,31 @@
 -- A file that is taken out, its row kept.
-use Rattle.std.proofs.Common.{◌≡◌, refl, sym, ap, subst, ◌∙◌, ℕ, Bool, true, false, not, List, [], ◌∷◌, inl, inr, ◌⊎◌}
+use Rattle.std.proofs.Common.{◌≡◌, ◌≢◌, refl, sym, ap, subst, ◌∙◌, ℕ, Bool, true, false, not, List, [], ◌∷◌, inl, inr, ◌⊎◌}
 use Rattle.std.specs.Prelude.{Contains}
+use Rattle.std.specs.BTreeMap.{is_at}
 use Rattle.std.specs.BTreeSet.{insert_key}
-use Rattle.std.specs.Map.{values_of}
-use Rattle.std.specs.Ordering.{match_ordering}
+use Rattle.std.specs.Cmp.Lexicographic.{slice_cmp}
+use Rattle.std.specs.Map.{remove_entry, values_of}
+use Rattle.std.specs.Ordering.{match_ordering, nat_cmp}
 use Rattle.std.specs.declared.cmp.Ordering.{Ordering}
 use Rattle.std.specs.declared.cmp.Ordering.TheVariants.{Less, Equal, Greater}
 use Rattle.std.proofs.lemmas.Bool.{or_left}
 use Rattle.nm_base.specs.Order.{has_text, same_text}
 use Rattle.nm_base.specs.declared.facts.Facts.{Facts}
 use Rattle.nm_base.specs.declared.facts.LinkRow.{LinkRow}
-use Rattle.nm_commit.specs.Files.{without_path}
-use Rattle.nm_index.specs.Index.{is_held, row_cmp, row_of, rows_of}
+use Rattle.nm_commit.specs.Files.{has_id, without_path}
+use Rattle.nm_index.specs.Index.{is_held, pruned, row_cmp, row_of, rows_of, without_mail}
 use Rattle.nm_index.specs.declared.base.Base.{Base}
 use Rattle.nm_threads.specs.Labels.{AreLabelsOf, Labelling, entries_of}
 use Rattle.nm_threads.specs.Same.{Same, ids_of}
 use Rattle.nm_state.specs.Filing.{AreFiled, files_in, lying_in}
 use Rattle.nm_state.specs.Kept.{AreKept}
-use Rattle.nm_state.specs.Parts.{AreLoose, AreParts, base_of}
+use Rattle.nm_state.specs.Parts.{AreLoose, AreParts, AreTagged, base_of, without_file}
 use Rattle.nm_state.specs.ThreadLaws.{ThreadLaws}
 use Rattle.nm_state.specs.declared.parts.Parts.{Parts}
 use Rattle.nm_state.proofs.KeyLemmas.{any_of, Contains_first, Contains_there, Contains_cases, Contains_none, same_text_of}
 use Rattle.nm_state.proofs.HeldLemmas.{file_row, kept_row, a_row, held_by, held_from}
-use Rattle.nm_state.proofs.PruneLemmas.{from_filter, in_filter}
+use Rattle.nm_state.proofs.PruneLemmas.{file_live, from_filter, in_filter}
+use Rattle.nm_state.proofs.TagLemmas.{others_live, tagged_by}
 
 -- ---- a row among others in order
 
@@ -62,7 +65,8 @@ by_path false = inr refl
 
 module _ (laws : ThreadLaws) (old new : Parts) (path : List ℕ) (facts : Facts) (are : AreParts old) (filed : AreFiled new.filing) (kept : AreKept new.kept) (labels : new.labels ≡ old.labels)
     (files : files_in new.filing ≡ without_path (files_in old.filing) path) (lying : lying_in (files_in old.filing) path ≡ (path, facts) ∷ [])
-    (rows : values_of new.kept ≡ insert_key row_cmp (values_of old.kept) (row_of facts)) (there : Contains (values_of new.kept) (row_of facts)) where
+    (rows : values_of new.kept ≡ insert_key row_cmp (values_of old.kept) (row_of facts)) (there : Contains (values_of new.kept) (row_of facts))
+    (untagged : (files : List (List ℕ × Facts)) → AreTagged files old.tags → has_id files facts.id ≡ true → ((other : List ℕ) → other ≢ facts.id → has_id (files_in new.filing) other ≡ has_id files other) → AreTagged (files_in new.filing) new.tags) where
   abbrev before : Base
   before = base_of old
 
@@ -131,4 +135,13 @@ module _ (laws : ThreadLaws) (old new : Parts) (path : List ℕ) (facts : Facts)
         (or_left (same_text facts.id facts.id) (has_text facts.links facts.id) (same_text_of facts.id));
     rows = kept_or;
     entries = λ entry among. held_or entry.0 (are.held.entries entry (subst (λ (l : Labelling). Contains (entries_of l.labels) entry) labels among));
+    tagged = untagged before.files are.tagged (file_live before.files (path, facts) the_file) (λ other not. ap (λ fs. has_id fs other) files ∙ others_live before.files path facts lying other not);
   }
+
+-- ---- what goes then
+
+-- the tags of a message go before or after the rest
+pub dropped_is : (index : Base) (path : List ℕ) (facts : Facts) → pruned (without_file index path facts) ≡ without_mail index path facts
+dropped_is index path facts =
+    let bare : Base = record index { files = without_path index.files path; kept = insert_key row_cmp index.kept (row_of facts) } in
+    sym (tagged_by (has_id (without_path index.files path) facts.id) (pruned bare) (remove_entry (is_at (slice_cmp nat_cmp facts.id)) index.tags))

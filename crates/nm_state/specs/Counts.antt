@@ -5,8 +5,8 @@ use Rattle.nm_index.specs.declared.base.Base.{Base}
 use Rattle.nm_record.specs.BaseBytes.{base_len}
 use Rattle.nm_state.specs.declared.room.Counts.{Counts}
 
--- so many files, so many bytes, as far as a number tells them, and this next number
+-- so many files, so many bytes and this next number, as far as a number tells them
 pub record AreCounts (index : Base) (counts : Counts) : Type 0 where
   pub files : counts.files ≡ length index.files
   pub bytes : counts.bytes ≡ min (base_len index) max_count
-  pub next : counts.next ≡ index.next
+  pub next : counts.next ≡ min index.next max_count

@@ -3,5 +3,6 @@ pub mod Filing
 pub mod Kept
 pub mod Measures
 pub mod Parts
+pub mod Renumbered
 pub mod Snapshot
 pub mod ThreadLaws

@@ -1,7 +1,8 @@
 //! The changes of a commit, one after the other.
 
-ghost use Rattle.std.specs.Prelude.{◌≡◌, ◌≤◌, ◌^◌, fold, OnOk};
-ghost use Rattle.nm_commit.specs.Files.{FitChanges, FitsChange};
+ghost use Rattle.std.specs.Prelude.{◌≡◌, ◌≤◌, ◌^◌, fold, IsTrue, OnOk};
+ghost use Rattle.std.specs.List.{AllByRecursion};
+ghost use Rattle.nm_commit.specs.Files.{FitChanges, FitsChange, has_id};
 ghost use Rattle.nm_index.specs.Index.{applied};
 ghost use Rattle.nm_state.specs.Parts.{AreParts, base_of};
 ghost use Rattle.nm_state.specs.Snapshot.{retagged};
@@ -45,9 +46,10 @@ pub fn apply_changes(alloc: Global, parts: &mut Parts, changes: &[Change]) -> Re
     Ok(())
 }
 
-/// Gives each of these messages its tags and no others.
+/// Gives each of these messages, which have files, its tags and no others.
 pub fn retag(alloc: Global, parts: &mut Parts, sets: &[(MessageId, Tags)]) -> Result<(), NoMemory>
-    requires { AreParts parts.old }
+    requires parts { AreParts parts.old }
+    requires live { AllByRecursion (λ set. IsTrue (has_id (base_of parts.old).files set.0)) sets.now }
     ensures parts { OnOk result (AreParts parts.new) }
     ensures base { OnOk result (base_of parts.new ≡ retagged (base_of parts.old) sets.now) }
 {

@@ -1,7 +1,7 @@
 //! What each change does to the parts of a snapshot. Where there is no memory the parts are of no use any more.
 
 ghost use Rattle.std.specs.Prelude.{◌≡◌, ◌≤◌, ◌^◌, false, true, OnOk};
-ghost use Rattle.nm_commit.specs.Files.{has_path, with_moved};
+ghost use Rattle.nm_commit.specs.Files.{has_id, has_path, with_moved};
 ghost use Rattle.nm_index.specs.Index.{with_mail, with_tags};
 ghost use Rattle.nm_state.specs.Parts.{AreParts, base_of, with_files};
 
@@ -10,6 +10,7 @@ use crate::labelling::{label_mail, tag_mail, thread_laws};
 use crate::parts::Parts;
 use crate::tagging::set_tags;
 use nm_base::{Copies, Facts, MailPath, MessageId, NoMemory, Tags};
+use nm_shared::Shared;
 use std::alloc::Global;
 
 /// A mail has come.
@@ -17,7 +18,7 @@ pub fn add_mail(
     alloc: Global,
     parts: &mut Parts,
     path: &MailPath,
-    facts: &Facts,
+    facts: &Shared<Facts>,
 ) -> Result<(), NoMemory>
     requires parts { AreParts parts.old }
     requires new { has_path (base_of parts.old).files path.now ≡ false }
@@ -45,14 +46,15 @@ pub fn move_mail(parts: &mut Parts, from: &MailPath, to: &MailPath) -> Result<()
     Ok(())
 }
 
-/// A message has these tags and no others.
+/// A message that has a file has these tags and no others.
 pub fn tag_message(
     alloc: Global,
     parts: &mut Parts,
     id: &MessageId,
     tags: &Tags,
 ) -> Result<(), NoMemory>
-    requires { AreParts parts.old }
+    requires parts { AreParts parts.old }
+    requires live { has_id (base_of parts.old).files id.now ≡ true }
     ensures parts { OnOk result (AreParts parts.new) }
     ensures base { OnOk result (base_of parts.new ≡ with_tags (base_of parts.old) id.now tags.now) }
 {

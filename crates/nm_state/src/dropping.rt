@@ -1,18 +1,20 @@
 //! A mail that goes: its row is kept, and then what no live message holds goes. Only the thread of the mail can have lost
 //! its last live message, so nothing else is looked at.
 
-ghost use Rattle.std.specs.Prelude.{◌≡◌, ◌∷◌, [], true, IfOk, OnOk};
+ghost use Rattle.std.specs.Prelude.{◌≡◌, ◌≢◌, ◌∷◌, [], ℕ, List, true, IfOk, OnOk};
 ghost use Rattle.std.specs.List.{list_any};
 ghost use Rattle.nm_commit.specs.Files.{has_id, has_path};
-ghost use Rattle.nm_index.specs.Index.{files_at, pruned, without_dead_tags, without_first};
+ghost use Rattle.nm_base.specs.declared.facts.Facts.{Facts};
+ghost use Rattle.nm_index.specs.Index.{files_at, pruned, without_first};
 ghost use Rattle.nm_state.specs.Filing.{AreFiled, files_in};
-ghost use Rattle.nm_state.specs.Parts.{AreLoose, AreParts, base_of, without_file};
+ghost use Rattle.nm_state.specs.Parts.{AreLoose, AreParts, AreTagged, base_of, tags_after, without_file};
 
 use crate::filing::{Filing, is_live, remove_file};
 use crate::kept::{forget_rows, keep_row};
 use crate::labelling::{row_of, thread_laws};
+use crate::measured_map::MeasuredMap;
 use crate::parts::Parts;
-use nm_base::{Facts, MailPath, MessageId, NoMemory};
+use nm_base::{Facts, MailPath, MessageId, NoMemory, Tags};
 use nm_shared::Shared;
 use std::alloc::Global;
 
@@ -29,7 +31,25 @@ fn any_live(filing: &Filing, ids: &[MessageId]) -> bool
     false
 }
 
-/// Takes the file out, and keeps its row.
+/// Lets go the tags of a message that has no file.
+fn untag(
+    filing: &Filing,
+    tags: &mut MeasuredMap<MessageId, Shared<Tags>>,
+    message: &MessageId,
+) -> Result<(), NoMemory>
+    requires { AreFiled filing.now }
+    ensures tags { OnOk result (tags.new ≡ tags_after (files_in filing.now) tags.old message.now) }
+    ensures tagged { OnOk result ((files : List (List ℕ × Facts)) → AreTagged files tags.old → has_id files message.now ≡ true
+        → ((other : List ℕ) → other ≢ message.now → has_id (files_in filing.now) other ≡ has_id files other) → AreTagged (files_in filing.now) tags.new) }
+{
+    if is_live(filing, message) {
+        return Ok(());
+    }
+    tags.remove(message)?;
+    Ok(())
+}
+
+/// Takes the file out, and keeps its row; the tags go with the last file of a message.
 fn take_out(alloc: Global, parts: &mut Parts, path: &MailPath) -> Result<Shared<Facts>, NoMemory>
     requires parts { AreParts parts.old }
     requires there { has_path (base_of parts.old).files path.now ≡ true }
@@ -41,6 +61,7 @@ fn take_out(alloc: Global, parts: &mut Parts, path: &MailPath) -> Result<Shared<
     let facts = remove_file(alloc, &mut parts.filing, path)?;
     let row = row_of(facts.get())?;
     keep_row(alloc, &mut parts.kept, row)?;
+    untag(&parts.filing, &mut parts.tags, &facts.get().id)?;
     Ok(facts)
 }
 
@@ -60,19 +81,6 @@ fn prune(alloc: Global, parts: &mut Parts, id: &MessageId) -> Result<(), NoMemor
     Ok(())
 }
 
-/// Lets go the tags of a message that has no file.
-fn untag(parts: &mut Parts, id: &MessageId) -> Result<(), NoMemory>
-    requires { AreParts parts.old }
-    ensures parts { OnOk result (AreParts parts.new) }
-    ensures base { OnOk result (base_of parts.new ≡ without_dead_tags (base_of parts.old) id.now) }
-{
-    if is_live(&parts.filing, id) {
-        return Ok(());
-    }
-    parts.tags.remove(id)?;
-    Ok(())
-}
-
 /// A mail is gone.
 pub fn drop_mail(alloc: Global, parts: &mut Parts, path: &MailPath) -> Result<(), NoMemory>
     requires parts { AreParts parts.old }
@@ -81,8 +89,6 @@ pub fn drop_mail(alloc: Global, parts: &mut Parts, path: &MailPath) -> Result<()
     ensures base { OnOk result (base_of parts.new ≡ without_first (base_of parts.old) path.now (files_at (base_of parts.old) path.now)) }
 {
     let facts = take_out(alloc, parts, path)?;
-    let id = &facts.get().id;
-    prune(alloc, parts, id)?;
-    untag(parts, id)?;
+    prune(alloc, parts, &facts.get().id)?;
     Ok(())
 }

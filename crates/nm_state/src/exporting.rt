@@ -4,7 +4,8 @@ ghost use Rattle.std.specs.Prelude.{◌≡◌, IfOk};
 ghost use Rattle.std.specs.Map.{values_of};
 ghost use Rattle.nm_threads.specs.Labels.{entries_of};
 ghost use Rattle.nm_state.specs.Filing.{files_in};
-ghost use Rattle.nm_state.specs.Parts.{base_of};
+ghost use Rattle.nm_index.specs.Valid.{IsValid};
+ghost use Rattle.nm_state.specs.Parts.{AreParts, base_of};
 
 use crate::filing::Filing;
 use crate::measured_labels::MeasuredLabels;
@@ -69,11 +70,16 @@ fn tags_of(
 
 /// The index that the parts make.
 pub fn base_of(alloc: Global, parts: &Parts) -> Result<Base, NoMemory>
-    ensures { IfOk result (λ base. base ≡ base_of parts.now) }
+    requires { AreParts parts.now }
+    ensures base { IfOk result (λ base. base ≡ base_of parts.now) }
+    ensures valid { IfOk result (λ base. IsValid base) }
 {
+    let next = parts.labels.next();
+    // No code needs the number; that the ids are in order comes with it.
+    let _ = parts.tags.pairs().len();
     Ok(Base {
         revision: parts.revision,
-        next: parts.labels.next(),
+        next,
         files: files_of(alloc, &parts.filing)?,
         kept: rows_of(alloc, &parts.kept)?,
         entries: entries_of(alloc, &parts.labels)?,

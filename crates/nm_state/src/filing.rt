@@ -1,11 +1,13 @@
 //! The files of an index, by their arrival, by their paths and by their messages; the parts of a snapshot hold them.
 
-ghost use Rattle.std.specs.Prelude.{◌≡◌, ◌∷◌, ◌++◌, [], ℕ, List, false, true, Some, IfOk, OnOk, MatchOption};
+ghost use Rattle.std.specs.Prelude.{◌≡◌, ◌∷◌, ◌++◌, [], ℕ, List, false, true, Some, if◌then◌else◌, IfOk, OnOk, MatchOption};
+ghost use Rattle.std.specs.Cmp.Lexicographic.{slice_cmp};
 ghost use Rattle.std.specs.List.{filter};
+ghost use Rattle.std.specs.Ordering.{is_eq, nat_cmp};
 ghost use Rattle.nm_base.specs.Order.{IsSorted, has_text, same_text};
 ghost use Rattle.std.specs.Map.{values_of};
 ghost use Rattle.nm_commit.specs.Files.{has_id, has_path, with_moved, without_path};
-ghost use Rattle.nm_state.specs.Filing.{AreFiled, at_place, at_text, files_in, lying_in};
+ghost use Rattle.nm_state.specs.Filing.{AreFiled, at_place, at_text, files_in, lying_in, told_places};
 
 use crate::measured_map::MeasuredMap;
 use crate::places::{add_place, remove_place};
@@ -97,7 +99,7 @@ pub fn add_file(
     alloc: Global,
     filing: &mut Filing,
     path: &MailPath,
-    facts: &Facts,
+    facts: &Shared<Facts>,
 ) -> Result<(), NoMemory>
     requires filed { AreFiled filing.old }
     requires new { has_path (files_in filing.old) path.now ≡ false }
@@ -108,12 +110,24 @@ pub fn add_file(
     if place == u64::MAX {
         return Err(NoMemory);
     }
-    let file = (path.copy()?, Shared::new(alloc, facts.copy()?)?);
+    let file = (path.copy()?, facts.copy()?);
     filing.files.insert(place, file)?;
     filing.places.insert(path.copy()?, place)?;
-    add_place(alloc, &mut filing.of_id, &facts.id, place)?;
+    place_file(alloc, &mut filing.of_id, facts, place)?;
     filing.next = place + 1;
     Ok(())
+}
+
+/// A file of the message stands at the place, behind its other ones.
+fn place_file(
+    alloc: Global,
+    of_id: &mut SharedMap<MessageId, Shared<Many<u64>>>,
+    facts: &Shared<Facts>,
+    place: u64,
+) -> Result<(), NoMemory>
+    ensures { OnOk result ((other : List ℕ) → at_text other of_id.new ≡ (if is_eq (slice_cmp nat_cmp other facts.now.id) then Some (told_places of_id.old facts.now.id ++ place ∷ []) else at_text other of_id.old)) }
+{
+    add_place(alloc, of_id, &facts.get().id, place)
 }
 
 /// The place of the file that lies at the path, and its facts.

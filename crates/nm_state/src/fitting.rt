@@ -28,7 +28,7 @@ fn change_fits(filing: &Filing, change: &Change) -> bool
     ensures { IsTrue result ↔ FitsChange (files_in filing.now) change.now }
 {
     match change {
-        Change::Add { path, facts } => is_free(filing, path) && is_date(facts.date),
+        Change::Add { path, facts } => is_free(filing, path) && is_date(facts.get().date),
         Change::Drop { path } => has_file(filing, path),
         Change::Move { from, to } => has_file(filing, from) && is_free(filing, to),
         Change::SetTags { id, .. } => is_live(filing, id),

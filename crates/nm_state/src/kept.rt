@@ -1,16 +1,18 @@
 //! The rows of mails that went while their thread is there.
 
-ghost use Rattle.std.specs.Prelude.{◌≡◌, ℕ, List, not, IfOk, OnOk, Contains};
+ghost use Rattle.std.specs.Prelude.{◌≡◌, not, Some, IfOk, MatchOption, OnOk, Contains};
 ghost use Rattle.std.specs.BTreeSet.{insert_key};
 ghost use Rattle.std.specs.List.{filter};
 ghost use Rattle.std.specs.Map.{values_of};
-ghost use Rattle.nm_base.specs.Order.{has_text};
+ghost use Rattle.nm_base.specs.Order.{has_text, same_text};
+ghost use Rattle.nm_base.specs.declared.facts.LinkRow.{LinkRow};
 ghost use Rattle.nm_index.specs.Index.{row_cmp};
-ghost use Rattle.nm_state.specs.Kept.{AreKept};
+ghost use Rattle.nm_state.specs.Filing.{at_text};
+ghost use Rattle.nm_state.specs.Kept.{AreKept, HasNoRow};
 
 use crate::measured_map::MeasuredMap;
 use crate::row_bytes::RowBytes;
-use nm_base::{Copies, LinkRow, MessageId, NoMemory, TextSet};
+use nm_base::{Copies, LinkRow, MessageId, NoMemory};
 use nm_shared::Shared;
 use std::alloc::Global;
 
@@ -37,36 +39,48 @@ pub fn keep_row(
     Ok(())
 }
 
-fn set_of(alloc: Global, ids: &[MessageId]) -> Result<TextSet<MessageId>, NoMemory>
-    ensures { IfOk result (λ set. (id : List ℕ) → has_text set id ≡ has_text ids.now id) }
-{
-    let mut set = TextSet::new(alloc);
-    'ids: for id in ids {
-        set.insert(id.copy()?)?;
-    }
-    Ok(set)
-}
-
-/// The rows whose mails are none of these.
-fn other_rows(
+/// The bytes of a row of the mail, if there is one.
+fn row_of_mail(
     alloc: Global,
     kept: &MeasuredMap<RowBytes, Shared<LinkRow>>,
-    ids: &TextSet<MessageId>,
-) -> Result<MeasuredMap<RowBytes, Shared<LinkRow>>, NoMemory>
+    id: &MessageId,
+) -> Result<Option<RowBytes>, NoMemory>
     requires { AreKept kept.now }
-    ensures { IfOk result (λ rest. rest ≡ filter (λ entry. not (has_text ids.now entry.1.id)) kept.now) }
+    ensures { IfOk result (λ found. MatchOption found (HasNoRow (values_of kept.now) id.now) (λ bytes. (row : LinkRow) × (row.id ≡ id.now) × (at_text bytes kept.now ≡ Some row))) }
 {
-    let mut rest = MeasuredMap::new(alloc);
-    let mut entries = kept.iter();
-    'entries: while let Some(entry) = entries.next() {
-        if !ids.contains(&entry.1.get().id) {
-            rest.insert(entry.0.copy()?, entry.1.copy()?)?;
-        }
+    let start = RowBytes::start(alloc, id)?;
+    let mut ahead = kept.pairs().iter_from(&start);
+    let Some(first) = ahead.next() else {
+        return Ok(None);
+    };
+    if !first.0.begins_with(&start) {
+        return Ok(None);
     }
-    Ok(rest)
+    // Rows that begin with the bytes of an id are of its mail.
+    if first.1.get().id != *id {
+        return Err(NoMemory);
+    }
+    let bytes = first.0.copy()?;
+    Ok(Some(bytes))
 }
 
-/// Lets go the rows of these mails.
+/// Lets go the rows of a mail.
+fn forget_mail(
+    alloc: Global,
+    kept: &mut MeasuredMap<RowBytes, Shared<LinkRow>>,
+    id: &MessageId,
+) -> Result<(), NoMemory>
+    requires { AreKept kept.old }
+    ensures kept { OnOk result (AreKept kept.new) }
+    ensures rows { OnOk result (values_of kept.new ≡ filter (λ row. not (same_text row.id id.now)) (values_of kept.old)) }
+{
+    'rows: while let Some(bytes) = row_of_mail(alloc, kept, id)? {
+        kept.remove(&bytes)?;
+    }
+    Ok(())
+}
+
+/// Lets go the rows of these mails. No other row is looked at.
 pub fn forget_rows(
     alloc: Global,
     kept: &mut MeasuredMap<RowBytes, Shared<LinkRow>>,
@@ -76,7 +90,8 @@ pub fn forget_rows(
     ensures kept { OnOk result (AreKept kept.new) }
     ensures rows { OnOk result (values_of kept.new ≡ filter (λ row. not (has_text ids.now row.id)) (values_of kept.old)) }
 {
-    let ids = set_of(alloc, ids)?;
-    *kept = other_rows(alloc, kept, &ids)?;
+    'ids: for id in ids {
+        forget_mail(alloc, kept, id)?;
+    }
     Ok(())
 }

@@ -1,6 +1,6 @@
 //! The labels and tags of a mail that comes, and the laws of threads that the work rests on.
 
-ghost use Rattle.std.specs.Prelude.{◌≡◌, ◌≤◌, ◌^◌, ◌∷◌, List, IfOk, OnOk, if◌then◌else◌};
+ghost use Rattle.std.specs.Prelude.{◌≡◌, ◌≤◌, ◌^◌, ◌∷◌, ◌++◌, [], ℕ, List, IfOk, OnOk, if◌then◌else◌};
 ghost use Rattle.std.specs.BTreeMap.{insert_entry};
 ghost use Rattle.std.specs.Cmp.Lexicographic.{slice_cmp};
 ghost use Rattle.std.specs.Ordering.{nat_cmp};
@@ -9,6 +9,7 @@ ghost use Rattle.nm_commit.specs.Files.{has_id};
 ghost use Rattle.nm_index.specs.Index.{first_tags, row_of};
 ghost use Rattle.nm_threads.specs.Labels.{AreLabelsOf, entries_of, numbered};
 ghost use Rattle.nm_state.specs.Filing.{AreFiled, files_in};
+ghost use Rattle.nm_state.specs.Parts.{AreTagged};
 ghost use Rattle.nm_state.specs.ThreadLaws.{ThreadLaws};
 
 use crate::filing::{Filing, is_live};
@@ -44,14 +45,24 @@ pub fn row_of(facts: &Facts) -> Result<LinkRow, NoMemory>
 }
 
 /// The labels once the mail is there.
-pub fn label_mail(alloc: Global, labels: &mut MeasuredLabels, facts: &Facts) -> Result<(), NoMemory>
+pub fn label_mail(
+    alloc: Global,
+    labels: &mut MeasuredLabels,
+    facts: &Shared<Facts>,
+) -> Result<(), NoMemory>
     requires { (numbered (entries_of labels.old.labels) labels.old.next (facts.now.id ∷ facts.now.links)).1 ≤ 2 ^ 63 }
     ensures numbers { OnOk result ((entries_of labels.new.labels, labels.new.next) ≡ numbered (entries_of labels.old.labels) labels.old.next (facts.now.id ∷ facts.now.links)) }
     ensures labels { OnOk result ((rows : List LinkRow) → AreLabelsOf rows labels.old.labels → AreLabelsOf (row_of facts.now ∷ rows) labels.new.labels) }
 {
-    let row = row_of(facts)?;
+    let row = shared_row(facts)?;
     labels.add_row(alloc, &row)?;
     Ok(())
+}
+
+fn shared_row(facts: &Shared<Facts>) -> Result<LinkRow, NoMemory>
+    ensures { IfOk result (λ row. row ≡ row_of facts.now) }
+{
+    row_of(facts.get())
 }
 
 /// The tags once the mail is there: a message without a file gets its first ones.
@@ -59,13 +70,28 @@ pub fn tag_mail(
     alloc: Global,
     filing: &Filing,
     tags: &mut MeasuredMap<MessageId, Shared<Tags>>,
+    facts: &Shared<Facts>,
+) -> Result<(), NoMemory>
+    requires { AreFiled filing.now }
+    ensures tags { OnOk result (tags.new ≡ (if has_id (files_in filing.now) facts.now.id then tags.old else insert_entry (slice_cmp nat_cmp) tags.old facts.now.id (first_tags facts.now.marks))) }
+    ensures tagged { OnOk result ((path : List ℕ) → AreTagged (files_in filing.now) tags.old → AreTagged (files_in filing.now ++ (path, facts.now) ∷ []) tags.new) }
+{
+    tag_first(alloc, filing, tags, facts.get())
+}
+
+fn tag_first(
+    alloc: Global,
+    filing: &Filing,
+    tags: &mut MeasuredMap<MessageId, Shared<Tags>>,
     facts: &Facts,
 ) -> Result<(), NoMemory>
     requires { AreFiled filing.now }
-    ensures { OnOk result (tags.new ≡ (if has_id (files_in filing.now) facts.now.id then tags.old else insert_entry (slice_cmp nat_cmp) tags.old facts.now.id (first_tags facts.now.marks))) }
+    ensures tags { OnOk result (tags.new ≡ (if has_id (files_in filing.now) facts.now.id then tags.old else insert_entry (slice_cmp nat_cmp) tags.old facts.now.id (first_tags facts.now.marks))) }
+    ensures tagged { OnOk result ((path : List ℕ) → AreTagged (files_in filing.now) tags.old → AreTagged (files_in filing.now ++ (path, facts.now) ∷ []) tags.new) }
 {
     if is_live(filing, &facts.id) {
         return Ok(());
     }
-    set_tags(alloc, tags, &facts.id, first_tags(alloc, facts.marks)?)
+    set_tags(alloc, tags, &facts.id, first_tags(alloc, facts.marks)?)?;
+    Ok(())
 }

@@ -19,6 +19,7 @@ mod opening;
 mod parts;
 mod places;
 mod reading;
+mod renumbering;
 mod room;
 mod row_bytes;
 mod snapshot;

@@ -7,7 +7,7 @@ ghost use Rattle.nm_base.specs.Order.{has_text};
 ghost use Rattle.nm_base.specs.declared.facts.LinkRow.{LinkRow};
 ghost use Rattle.nm_record.specs.BaseBytes.{entry_bytes};
 ghost use Rattle.nm_threads.specs.Entries.{AreEntriesOf};
-ghost use Rattle.nm_threads.specs.Labels.{AreLabelsOf, entries_of, has_entry, numbered};
+ghost use Rattle.nm_threads.specs.Labels.{AreLabelsOf, IsLabelling, entries_of, has_entry, numbered};
 ghost use Rattle.nm_threads.specs.Name.{thread_name};
 ghost use Rattle.nm_threads.specs.Same.{ids_of, is_same};
 ghost use Rattle.nm_state.specs.Measures.{AreSeen, entries_len, ids_len};
@@ -189,7 +189,9 @@ impl MeasuredLabels {
     /// The number that the next id gets.
     pub fn next(&self) -> u64
         ensures next { result ≡ self.now.next }
+        ensures least { 1 ≤ result }
         ensures most { result ≤ 2 ^ 63 }
+        ensures labelling { IsLabelling self.now }
     {
         self.labels.next()
     }
@@ -236,7 +238,7 @@ impl MeasuredLabels {
         Ok(())
     }
 
-    /// Lets go the thread of an id, of which these are the ids.
+    /// Lets go the thread of an id, of which these are the ids. Where there was no memory all labels are lost.
     pub fn drop_thread(&mut self, id: &MessageId, members: &[MessageId]) -> Result<(), NoMemory>
         requires rows { (rows : List LinkRow) × AreLabelsOf rows self.old.labels }
         requires members { (rows : List LinkRow) → AreLabelsOf rows self.old.labels → members.now ≡ map (λ entry. entry.0) (filter (λ entry. is_same rows id.now entry.0) (entries_of self.old.labels)) }
@@ -245,8 +247,10 @@ impl MeasuredLabels {
         ensures labels { OnOk result ((rows : List LinkRow) → AreLabelsOf rows self.old.labels → AreLabelsOf (filter (λ row. not (is_same rows id.now row.id)) rows) self.new.labels) }
     {
         let less = ids_len(members)?;
-        self.labels.drop_thread(id)?;
-        self.bytes = self.bytes.saturating_sub(less);
+        let bytes = self.bytes.saturating_sub(less);
+        self.bytes = 0;
+        self.labels.drop_thread_in_place(id)?;
+        self.bytes = bytes;
         Ok(())
     }
 }

@@ -33,7 +33,8 @@ fn file_all(alloc: Global, files: &[(MailPath, Facts)]) -> Result<Filing, NoMemo
 {
     let mut filing = Filing::new(alloc);
     'files: for file in files {
-        add_file(alloc, &mut filing, &file.0, &file.1)?;
+        let facts = Shared::new(alloc, file.1.copy()?)?;
+        add_file(alloc, &mut filing, &file.0, &facts)?;
     }
     Ok(filing)
 }

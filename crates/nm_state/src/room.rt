@@ -11,9 +11,12 @@ ghost use Rattle.nm_state.specs.Counts.{AreCounts};
 ghost use Rattle.nm_state.specs.Parts.{AreParts, base_of};
 
 use crate::applying::apply_changes;
+use crate::numbers::has_ids;
 use crate::parts::Parts;
+use crate::renumbering::renumbered;
 use nm_base::{Limit, NoMemory};
 use nm_commit::Commit;
+use nm_index::numbers_never_fall;
 use nm_record::a_base_takes_what_its_parts_take;
 use std::alloc::Global;
 use thiserror::Error;
@@ -48,7 +51,7 @@ const MAX_INDEX_BYTES: u64 = 1_073_741_824;
 /// The most that the next number and the revision come to.
 const MAX_NUMBER: u64 = 1 << 63;
 
-/// What an index comes to: how many files, how many bytes as data, as far as a number tells them, and the next number.
+/// What an index comes to, as far as a number tells it: how many files, how many bytes as data, and the next number.
 #[derive(Clone, Copy, Debug, Drop)]
 pub struct Counts {
     pub files: u64,
@@ -57,7 +60,7 @@ pub struct Counts {
 }
 
 /// What the index of the parts comes to.
-fn counts_of(parts: &Parts) -> Counts
+pub fn counts_of(parts: &Parts) -> Counts
     requires { AreParts parts.now }
     ensures { AreCounts (base_of parts.now) result }
 {
@@ -74,8 +77,8 @@ fn counts_of(parts: &Parts) -> Counts
     }
 }
 
-/// What the index comes to after a commit.
-pub fn counts_after(alloc: Global, parts: &Parts, commit: &Commit) -> Result<Counts, NoMemory>
+/// What the index comes to after a commit for whose ids there are numbers.
+fn counts_made(alloc: Global, parts: &Parts, commit: &Commit) -> Result<Counts, NoMemory>
     requires parts { AreParts parts.now }
     requires fits { FitChanges (base_of parts.now).files commit.now.changes }
     requires numbers { (fold applied (base_of parts.now) commit.now.changes).next ≤ 2 ^ 63 }
@@ -84,6 +87,40 @@ pub fn counts_after(alloc: Global, parts: &Parts, commit: &Commit) -> Result<Cou
     let mut after = parts.share()?;
     apply_changes(alloc, &mut after, commit.changes.as_slice())?;
     Ok(counts_of(&after))
+}
+
+/// The same where there may be no number for each id that the commit names: told by the index whose ids are numbered anew.
+fn counts_anew(alloc: Global, parts: &Parts, commit: &Commit) -> Result<Counts, NoMemory>
+    requires parts { AreParts parts.now }
+    requires fits { FitChanges (base_of parts.now).files commit.now.changes }
+    ensures { IfOk result (λ counts. AreCounts (committed (base_of parts.now) commit.now) counts) }
+{
+    a_base_takes_what_its_parts_take();
+    numbers_never_fall();
+    let anew = renumbered(alloc, parts)?;
+    if !has_ids(&anew, commit) {
+        return Err(NoMemory);
+    }
+    let counts = counts_made(alloc, &anew, commit)?;
+    let more = counts.next.saturating_sub(anew.labels.next());
+    Ok(Counts {
+        files: counts.files,
+        bytes: counts.bytes,
+        next: parts.labels.next().saturating_add(more),
+    })
+}
+
+/// What the index comes to after a commit.
+pub fn counts_after(alloc: Global, parts: &Parts, commit: &Commit) -> Result<Counts, NoMemory>
+    requires parts { AreParts parts.now }
+    requires fits { FitChanges (base_of parts.now).files commit.now.changes }
+    ensures { IfOk result (λ counts. AreCounts (committed (base_of parts.now) commit.now) counts) }
+{
+    if has_ids(parts, commit) {
+        counts_made(alloc, parts, commit)
+    } else {
+        counts_anew(alloc, parts, commit)
+    }
 }
 
 /// The first limit that an index passes which comes to so much, one revision after this one.

@@ -3,7 +3,7 @@
 ghost use Rattle.std.specs.Prelude.{◌≡◌, ◌++◌, ◌<◌, ◌^◌, IfOk, OnOk, Some, length, refl, nat_eq};
 ghost use Rattle.std.specs.Cmp.{partial_equiv_from_equiv};
 ghost use Rattle.std.specs.Cmp.Lexicographic.{nat_list_cmp_total, nat_list_eq_equiv, pointwise, slice_cmp, texts_po, texts_ties};
-ghost use Rattle.std.specs.List.{flat_map};
+ghost use Rattle.std.specs.List.{flat_map, starts_with};
 ghost use Rattle.std.specs.Ordering.{nat_cmp};
 ghost use Rattle.nm_codec.specs.Spelling.{text_bytes};
 ghost use Rattle.nm_index.specs.Index.{row_bytes};
@@ -49,6 +49,23 @@ impl RowBytes {
         Ok(RowBytes {
             bytes: Shared::new(alloc, writer.finish())?,
         })
+    }
+
+    /// What the rows of a mail begin with.
+    pub fn start(alloc: Global, id: &MessageId) -> Result<RowBytes, NoMemory>
+        ensures { IfOk result (λ bytes. bytes ≡ text_bytes id.now) }
+    {
+        let mut writer = Writer::new(alloc);
+        put_id(&mut writer, id)?;
+        Ok(RowBytes {
+            bytes: Shared::new(alloc, writer.finish())?,
+        })
+    }
+
+    pub fn begins_with(&self, start: &RowBytes) -> bool
+        ensures { result ≡ starts_with nat_eq self.now start.now }
+    {
+        self.as_slice().starts_with(start.as_slice())
     }
 
     pub fn as_slice(&self) -> &[u8]

@@ -3,7 +3,7 @@
 ghost use Rattle.std.specs.Prelude.{◌≡◌, ◌+◌, ◌<◌, ◌≤◌, ◌^◌, ◌↔◌, ℕ, List, false, None, Some, IfOk, IsTrue, MatchOption, OnOk, Contains};
 ghost use Rattle.std.specs.BTreeMap.{is_at};
 ghost use Rattle.std.specs.Cmp.Lexicographic.{slice_cmp};
-ghost use Rattle.std.specs.List.{filter};
+ghost use Rattle.std.specs.List.{AllByRecursion, filter};
 ghost use Rattle.std.specs.Map.{lookup};
 ghost use Rattle.std.specs.Option.{option_copied};
 ghost use Rattle.std.specs.Ordering.{nat_cmp};
@@ -22,14 +22,14 @@ use crate::exporting::base_of;
 use crate::filing::{files_of, has_file, paths_of};
 use crate::fitting::changes_fit;
 use crate::live_ids::LiveIds;
-use crate::numbers::ids_named;
+use crate::numbers::has_ids;
 use crate::opening::parts_of;
 use crate::parts::Parts;
 use crate::reading::{Files, MessageFiles, Paths};
-use crate::room::{RoomError, counts_after, limit_passed};
+use crate::room::{RoomError, counts_after, counts_of, limit_passed};
 use nm_base::{Copies, MailPath, Many, MessageId, NoMemory, Tags};
 use nm_commit::Commit;
-use nm_index::{Base, numbers_rise_with_the_ids_named};
+use nm_index::Base;
 use std::alloc::Global;
 use std::marker::Model;
 
@@ -81,7 +81,8 @@ impl Snapshot {
 
     /// The index as data.
     pub fn to_base(&self) -> Result<Base, NoMemory>
-        ensures { IfOk result (λ base. base ≡ self.now) }
+        ensures base { IfOk result (λ base. base ≡ self.now) }
+        ensures valid { IfOk result (λ base. IsValid base) }
     {
         base_of(self.alloc, &self.parts)
     }
@@ -102,8 +103,10 @@ impl Snapshot {
         })
     }
 
-    /// The snapshot in which these messages have these tags and no others; its revision is that of this one.
+    /// The snapshot in which these messages, which have files, have these tags and no others; its revision is that of this
+    /// one.
     pub fn with_tags(&self, sets: &Many<(MessageId, Tags)>) -> Result<Snapshot, NoMemory>
+        requires live { AllByRecursion (λ set. IsTrue (has_id self.now.files set.0)) sets.now }
         ensures { IfOk result (λ new. new ≡ retagged self.now sets.now) }
     {
         let mut parts = self.parts.share()?;
@@ -119,20 +122,17 @@ impl Snapshot {
         ensures exact { IsTrue result ↔ ((self.now.next + ids_named commit.now.changes ≤ 2 ^ 63) × (self.now.revision < 2 ^ 63)) }
         ensures enough { IsTrue result → (committed self.now commit.now).next ≤ 2 ^ 63 }
     {
-        self.has_ids(commit) && self.parts.revision < 1 << 63
+        has_ids(&self.parts, commit) && self.parts.revision < 1 << 63
     }
 
     /// Says whether the index after a commit keeps to the limits, or tells the first that it passes: of files, of its bytes as
-    /// data, of numbers. Where there might be no number for each id that the commit names, this is told as out of memory.
+    /// data, of numbers. It costs what `apply` costs.
     pub fn room(&self, commit: &Commit) -> Result<(), RoomError>
         requires fits { Fits self.now.files commit.now }
         ensures ok { OnOk result (limit_passed (committed self.now commit.now) ≡ None) }
         ensures enough { OnOk result (((committed self.now commit.now).next ≤ 2 ^ 63) × (self.now.revision < 2 ^ 63)) }
         ensures limit { (limit : Limit) → result ≡ Err (RoomError.Limit limit) → limit_passed (committed self.now commit.now) ≡ Some limit }
     {
-        if !self.has_ids(commit) {
-            return Err(RoomError::NoMemory);
-        }
         let counts = counts_after(self.alloc, &self.parts, commit)?;
         match limit_passed(counts, self.parts.revision) {
             None => Ok(()),
@@ -140,14 +140,24 @@ impl Snapshot {
         }
     }
 
-    /// Says whether there is a number for each id that the commit names, whether it has one or not.
-    fn has_ids(&self, commit: &Commit) -> bool
-        ensures exact { IsTrue result ↔ (self.now.next + ids_named commit.now.changes ≤ 2 ^ 63) }
-        ensures enough { IsTrue result → (committed self.now commit.now).next ≤ 2 ^ 63 }
+    /// The snapshot after a commit, or the first limit that it would pass: what `room` and then `apply` tell, for the work of
+    /// one of them.
+    pub fn apply_within_limits(&self, commit: &Commit) -> Result<Snapshot, RoomError>
+        requires fits { Fits self.now.files commit.now }
+        ensures ok { IfOk result (λ new. new ≡ committed self.now commit.now) }
+        ensures within { OnOk result (limit_passed (committed self.now commit.now) ≡ None) }
+        ensures limit { (limit : Limit) → result ≡ Err (RoomError.Limit limit) → limit_passed (committed self.now commit.now) ≡ Some limit }
     {
-        numbers_rise_with_the_ids_named();
-        let left = (1 << 63) - self.parts.labels.next();
-        ids_named(commit.changes.as_slice()) <= left
+        if !self.has_numbers(commit) {
+            self.room(commit)?;
+            let new = self.apply(commit)?;
+            return Ok(new);
+        }
+        let new = self.apply(commit)?;
+        match limit_passed(counts_of(&new.parts), self.parts.revision) {
+            None => Ok(new),
+            Some(limit) => Err(RoomError::Limit(limit)),
+        }
     }
 
     /// How many commits there were.

@@ -1,12 +1,14 @@
 //! The tags that a message begins with.
 
-ghost use Rattle.std.specs.Prelude.{◌≡◌, true, IfOk, OnOk, if◌then◌else◌};
+ghost use Rattle.std.specs.Prelude.{◌≡◌, ℕ, List, true, Some, IfOk, OnOk, if◌then◌else◌};
 ghost use Rattle.std.specs.BTreeMap.{insert_entry};
 ghost use Rattle.std.specs.Cmp.Lexicographic.{slice_cmp};
-ghost use Rattle.std.specs.Ordering.{nat_cmp};
+ghost use Rattle.std.specs.Ordering.{is_eq, nat_cmp};
+ghost use Rattle.nm_base.specs.Order.{IsSorted};
 ghost use Rattle.nm_base.specs.Tag.{is_tag};
 ghost use Rattle.nm_base.specs.Tags.{with_tag};
 ghost use Rattle.nm_index.specs.Index.{first_tags};
+ghost use Rattle.nm_state.specs.Filing.{at_text};
 
 use crate::measured_map::MeasuredMap;
 use nm_base::{Copies, Marks, MessageId, NoMemory, Tag, Tags, Text};
@@ -56,8 +58,12 @@ pub fn set_tags(
     id: &MessageId,
     tags: Tags,
 ) -> Result<(), NoMemory>
-    ensures { OnOk result (all.new ≡ insert_entry (slice_cmp nat_cmp) all.old id.now tags) }
+    ensures tags { OnOk result (all.new ≡ insert_entry (slice_cmp nat_cmp) all.old id.now tags) }
+    ensures found { OnOk result ((other : List ℕ) → at_text other all.new ≡ (if is_eq (slice_cmp nat_cmp other id.now) then Some tags else at_text other all.old)) }
+    ensures sorted { IsSorted tags }
 {
+    // No code needs them one by one; that they are in order comes with it.
+    let _ = tags.iter();
     all.insert(id.copy()?, Shared::new(alloc, tags)?)?;
     Ok(())
 }

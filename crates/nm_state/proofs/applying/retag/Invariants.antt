@@ -7,4 +7,5 @@ abbrev pub invariant-sets : goal.invariant-sets
 invariant-sets l = record {
   parts : AreParts l.parts;
   base : base_of l.parts ≡ retagged (base_of l.initial.parts) (take l.set-index l.sets);
+  files : (base_of l.parts).files ≡ (base_of l.initial.parts).files;
 }

@@ -15,7 +15,7 @@ returns-clause-parts c =
       kept = c.args.parts.now.kept;
       labels = c.label_mail.new.labels;
       tags = c.tag_mail.new.tags;
-    }) c.args.path.now c.args.facts.now c.requires.parts refl refl c.in_ok-add_file.ensures.filed c.in_ok-add_file.ensures.files c.in_ok-label_mail.ensures.numbers c.in_ok-label_mail.ensures.labels c.in_ok-tag_mail.ensures).0
+    }) c.args.path.now c.args.facts.now c.requires.parts refl refl c.in_ok-add_file.ensures.filed c.in_ok-add_file.ensures.files c.in_ok-label_mail.ensures.numbers c.in_ok-label_mail.ensures.labels c.in_ok-tag_mail.ensures.tags (c.in_ok-tag_mail.ensures.tagged c.args.path.now c.requires.parts.tagged)).0
 
 pub returns-clause-base : goal.returns-clause-base
 returns-clause-base c =
@@ -26,4 +26,4 @@ returns-clause-base c =
       kept = c.args.parts.now.kept;
       labels = c.label_mail.new.labels;
       tags = c.tag_mail.new.tags;
-    }) c.args.path.now c.args.facts.now c.requires.parts refl refl c.in_ok-add_file.ensures.filed c.in_ok-add_file.ensures.files c.in_ok-label_mail.ensures.numbers c.in_ok-label_mail.ensures.labels c.in_ok-tag_mail.ensures).1
+    }) c.args.path.now c.args.facts.now c.requires.parts refl refl c.in_ok-add_file.ensures.filed c.in_ok-add_file.ensures.files c.in_ok-label_mail.ensures.numbers c.in_ok-label_mail.ensures.labels c.in_ok-tag_mail.ensures.tags (c.in_ok-tag_mail.ensures.tagged c.args.path.now c.requires.parts.tagged)).1

@@ -11,4 +11,4 @@ returns-clause-parts c =
       kept = c.args.parts.now.kept;
       labels = c.args.parts.now.labels;
       tags = c.args.parts.now.tags;
-    }) c.args.from.now c.args.to.now c.requires.parts refl refl c.in_ok-move_file.ensures.filed c.in_ok-move_file.ensures.files
+    }) c.args.from.now c.args.to.now c.requires.parts refl refl refl c.in_ok-move_file.ensures.filed c.in_ok-move_file.ensures.files

@@ -1,8 +1,13 @@
-use Rattle.nm_state.proofs.KeptLemmas.{rows_left}
+use Rattle.std.proofs.Common.{sym}
+use Rattle.std.specs.Map.{values_of}
+use Rattle.nm_state.proofs.MailRowLemmas.{all_stay, one_more_mail}
 use Rattle.nm_state.proofs.kept.forget_rows.Goals as goal
 
-pub returns-clause-kept : goal.returns-clause-kept
-returns-clause-kept c = (rows_left c.args.kept.now c.in_ok-kept.field-0 c.in_ok-ids.ids c.args.ids.now c.requires c.in_ok-ids.ensures c.in_ok-kept.ensures).0
+pub ids-init : goal.ids-init
+ids-init c = record { kept = c.requires; rows = sym (all_stay (values_of c.args.kept.now)) }
 
-pub returns-clause-rows : goal.returns-clause-rows
-returns-clause-rows c = (rows_left c.args.kept.now c.in_ok-kept.field-0 c.in_ok-ids.ids c.args.ids.now c.requires c.in_ok-ids.ensures c.in_ok-kept.ensures).1
+pub ids-preserved : goal.ids-preserved
+ids-preserved c = record {
+  kept = c.in_ok-forget_mail.ensures.kept;
+  rows = one_more_mail (values_of c.args.kept.now) c.ids.kept c.forget_mail.new.kept c.args.ids.now c.ids.id-index c.id-item.result c.ids-test.true c.id-item.is c.ids.invariant.rows c.in_ok-forget_mail.ensures.rows;
+}

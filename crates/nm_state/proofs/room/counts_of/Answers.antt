@@ -10,5 +10,5 @@ returns c =
     record {
       files = c.len.ensures.len ∙ ap (λ (files : List (ℕ × (List ℕ × Facts))). length files) c.pairs.ensures ∙ sym (length-values_of c.args.parts.now.filing.files);
       bytes = omega (arith, all, c.saturating_add.ensures, c.saturating_add-2.ensures, c.saturating_add-3.ensures, c.saturating_add-bytes.ensures);
-      next = c.next.ensures.next;
+      next = omega (arith, c.next.ensures.next, c.next.ensures.most);
     }

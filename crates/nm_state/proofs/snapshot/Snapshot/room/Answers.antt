@@ -4,7 +4,7 @@ use Rattle.nm_base.specs.declared.limit.Limit.{Limit}
 use Rattle.nm_index.specs.Index.{committed}
 use Rattle.nm_index.specs.declared.base.Base.{Base}
 use Rattle.nm_state.specs.Counts.{AreCounts}
-use Rattle.nm_state.proofs.RoomLemmas.{revision_within, same_limit}
+use Rattle.nm_state.proofs.RoomLemmas.{next_within, revision_within, same_limit}
 use Rattle.nm_state.proofs.snapshot.Snapshot.room.Goals as goal
 
 pub returns-in-None-clause-ok : goal.returns-in-None-clause-ok
@@ -16,7 +16,8 @@ pub returns-in-None-clause-enough : goal.returns-in-None-clause-enough
 returns-in-None-clause-enough c =
     let passes = sym (c.in-None.ensures (committed c.args.self.now c.args.commit.now) (subst (λ (index : Base). AreCounts (committed index c.args.commit.now) c.in_ok-counts.counts) c.self.view_is c.in_ok-counts.ensures)
     (ap (λ (index : Base). index.revision + 1) (sym c.self.view_is))) in
-    (c.has_ids.ensures.enough c.if-not-has_ids.false, omega (arith, revision_within (committed c.args.self.now c.args.commit.now) passes))
+    let after = committed c.args.self.now c.args.commit.now in
+    ((omega (arith, next_within after passes)), (omega (arith, revision_within after passes)))
 
 pub returns-in-Some-clause-limit : goal.returns-in-Some-clause-limit
 returns-in-Some-clause-limit c = λ limit same.

@@ -5,7 +5,7 @@ use Rattle.nm_index.specs.declared.base.Base.{Base}
 use Rattle.nm_state.specs.Counts.{AreCounts}
 use Rattle.nm_state.specs.Parts.{base_of}
 use Rattle.nm_state.proofs.RoomLemmas.{counts_committed}
-use Rattle.nm_state.proofs.room.counts_after.Goals as goal
+use Rattle.nm_state.proofs.room.counts_made.Goals as goal
 
 pub returns : goal.returns
 returns c =
