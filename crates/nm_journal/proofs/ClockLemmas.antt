@@ -1,5 +1,5 @@
 -- The clock of a disk over calls.
-use Rattle.std.proofs.Common.{◌≡◌, inl, inr, ℕ, Result, Ok, Err, arith}
+use Rattle.std.proofs.Common.{inl, inr, ℕ, Result, Ok, Err, arith}
 use Rattle.nm_base.specs.declared.memory.Failed.{Failed}
 use Rattle.nm_disk.specs.Calls.{Ticks}
 use Rattle.nm_journal.specs.Moments.{NeverFalls}

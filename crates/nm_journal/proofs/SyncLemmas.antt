@@ -1,5 +1,5 @@
 -- The sync with which a journal is opened.
-use Rattle.std.proofs.Common.{◌≡◌, ℕ, ◌+◌, false, List, length, Option, None, Some, IfSome, sym, ap, subst, ◌∙◌}
+use Rattle.std.proofs.Common.{◌≡◌, inl, inr, ℕ, ◌+◌, false, List, length, Option, None, Some, IfSome, sym, ap, subst, ◌∙◌}
 use Rattle.nm_disk.specs.declared.disk.FileNo.{FileNo}
 use Rattle.nm_disk.specs.Calls.{GoesOn, MayFail, synced}
 use Rattle.nm_disk.specs.ImageLaws.{when_synced}
@@ -9,7 +9,7 @@ use Rattle.nm_journal.proofs.AppendLemmas.{ReadsAnImage}
 use Rattle.nm_journal.proofs.MomentLemmas.{through_failed, through_one}
 use Rattle.nm_journal.proofs.WriteLemmas.{by_parts}
 use Rattle.nm_journal.specs.Journal.{StandsOn}
-use Rattle.nm_journal.specs.Moments.{GoesThrough}
+use Rattle.nm_journal.specs.Moments.{GoesThrough, IsSynced, SyncsOrFails}
 use Rattle.nm_journal.specs.Records.{HasRecords, records_of}
 
 -- only what might have been left before
@@ -54,3 +54,19 @@ sync_stands file (Some old) (Some new) z at gate count bodies syncs e has ends s
           subst (HasRecords at bodies) (now_same ∙ sym (when_synced old.present file bytes left_synced)) has;
     } in
     subst (λ (o : Option Moments). GoesOn (λ old new. StandsOn new.present (record { file = file; start = at; gate = gate; count = count; failed = false }) bodies) (Some old) o) (sym e) stands
+
+-- nothing but that sync happened, or it failed
+pub sync_failed_only : (x y : Option Moments) → GoesOn (λ old new. MayFail old new old.present.written) x y → GoesOn SyncsOrFails x y
+sync_failed_only None None fails = tt
+sync_failed_only None (Some new) fails = absurd fails
+sync_failed_only (Some old) None fails = absurd fails
+sync_failed_only (Some old) (Some new) fails = inl fails
+
+pub sync_goes_only : (x y z : Option Moments) → GoesOn IsSynced x y → z ≡ y → GoesOn IsSynced x z
+sync_goes_only x y z syncs e = subst (λ (o : Option Moments). GoesOn IsSynced x o) (sym e) syncs
+
+pub sync_goes_or_fails : (x y z : Option Moments) → GoesOn IsSynced x y → z ≡ y → GoesOn SyncsOrFails x z
+sync_goes_or_fails None None z syncs e = subst (λ (o : Option Moments). GoesOn SyncsOrFails None o) (sym e) tt
+sync_goes_or_fails None (Some new) z syncs e = absurd syncs
+sync_goes_or_fails (Some old) None z syncs e = absurd syncs
+sync_goes_or_fails (Some old) (Some new) z syncs e = subst (λ (o : Option Moments). GoesOn SyncsOrFails (Some old) o) (sym e) (inr syncs)

@@ -1,11 +1,12 @@
 -- What a stop leaves of a file at the moments that a call goes through.
-use Rattle.std.specs.Prelude.{◌≡◌, ℕ, ◌≤◌, List, ◌∷◌, ◌++◌}
+use Rattle.std.specs.Prelude.{◌≡◌, ◌⊎◌, ℕ, ◌≤◌, List, ◌∷◌, ◌++◌}
 use Rattle.std.specs.List.{AllByRecursion}
 use Rattle.nm_base.specs.Limits.{max_count}
 use Rattle.nm_disk.specs.declared.disk.FileNo.{FileNo}
 use Rattle.nm_disk.specs.declared.state.DiskState.{DiskState}
+use Rattle.nm_disk.specs.Calls.{MayFail, synced}
 use Rattle.nm_disk.specs.Images.{MayLeave}
-use Rattle.nm_disk.specs.Observed.{Moments}
+use Rattle.nm_disk.specs.Observed.{Moments, later}
 
 -- the states at all moments so far, the present one first
 abbrev pub all_moments : Moments → List DiskState
@@ -20,6 +21,14 @@ pub record GoesThrough (file : FileNo) (holds : List ℕ → Type 0) (old new : 
   pub states : List DiskState
   pub each : AllByRecursion (LeavesOnly file holds) states
   pub are : all_moments new ≡ states ++ all_moments old
+
+-- one moment has passed, in which the disk was synced
+abbrev pub IsSynced : Moments → Moments → Type 0
+IsSynced old new = new ≡ later old (synced old.present)
+
+-- The disk was synced once, or that failed, and nothing is written.
+abbrev pub SyncsOrFails : Moments → Moments → Type 0
+SyncsOrFails old new = MayFail old new old.present.written ⊎ IsSynced old new
 
 -- a clock of 64 bits never falls, and stays one
 abbrev pub NeverFalls : ℕ → ℕ → Type 0

@@ -9,7 +9,7 @@ ghost use Rattle.nm_disk.specs.Images.{MayLeave};
 ghost use Rattle.nm_disk.specs.Observed.{bytes_now};
 ghost use Rattle.nm_faults.specs.Faults.{HasCause, HasCauseOf};
 ghost use Rattle.nm_journal.specs.Journal.{StandsOn, is_disk_fault};
-ghost use Rattle.nm_journal.specs.Moments.{GoesThrough};
+ghost use Rattle.nm_journal.specs.Moments.{GoesThrough, IsSynced, SyncsOrFails};
 ghost use Rattle.nm_journal.specs.Opening.{HasFault, IsHeaderAt, IsNext, IsNextFault, IsNoFault, IsOf};
 ghost use Rattle.nm_journal.specs.Records.{AreBodies, HasRecords, records_of};
 
@@ -50,6 +50,10 @@ impl Journal {
 
         // On any disk a bad index is told of the file that was asked for.
         ensures file { IfErr result (IsOf file) }
+
+        // The disk is synced once, and nothing is written; where the call fails that sync may have failed.
+        ensures synced { GoesOn (λ old new. IfOk result (λ _. IsSynced old new)) (D.observed disk.old).told (D.observed disk.new).told }
+        ensures syncs { GoesOn SyncsOrFails (D.observed disk.old).told (D.observed disk.new).told }
 
         // At every moment of the call a stop leaves only what it might have left before.
         ensures any_moment { GoesOn (λ old new. GoesThrough file (MayLeave old.present file) old new)
