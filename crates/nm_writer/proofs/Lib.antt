@@ -1,9 +1,12 @@
+pub mod ArrivalLemmas
 pub mod CommitLemmas
 pub mod DoneLemmas
 pub mod DurableLemmas
 pub mod EntryLemmas
 pub mod LawLemmas
+pub mod NewLemmas
 pub mod OrderLemmas
 pub mod ReplayLemmas
 pub mod SameLemmas
+pub mod ScanLemmas
 pub mod SetLemmas

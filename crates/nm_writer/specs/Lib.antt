@@ -1,5 +1,6 @@
 pub mod Durable
 pub mod Errors
+pub mod New
 pub mod Opening
 pub mod Report
 pub mod StoredIndex

@@ -15,6 +15,12 @@ HasOpenFault bytes (BadIndex file at) = (file ≡ Head) × HoldsNoIndex bytes at
 HasOpenFault bytes DiskFault = Unit {0}
 HasOpenFault bytes NoMemory = Unit {0}
 
+-- a bad index is told of the head
+abbrev pub IsOfHead : OpenError → Type 0
+IsOfHead (BadIndex file at) = file ≡ Head
+IsOfHead DiskFault = Unit {0}
+IsOfHead NoMemory = Unit {0}
+
 -- where a body of records is bad, it is told at its gate
 abbrev pub HasBodyFault : List (List ℕ) → OpenError → Type 0
 HasBodyFault bodies (BadIndex file at) = (file ≡ Head) × (AreBodies bodies → HasBadBody bodies at)

@@ -1,5 +1,5 @@
 -- What a commit leaves, and what commits one after the other leave, of the writer and of the disk.
-use Rattle.std.specs.Prelude.{◌≡◌, ◌⊎◌, ℕ, ◌<◌, ◌≤◌, Bool, true, false, List, [], ◌∷◌, ◌++◌, Some, length, Result, Ok, Err}
+use Rattle.std.specs.Prelude.{◌≡◌, ◌⊎◌, ℕ, ◌<◌, ◌≤◌, Bool, true, false, List, [], ◌∷◌, ◌++◌, None, Some, length, Result, Ok, Err}
 use Rattle.nm_base.specs.Limits.{max_commits}
 use Rattle.nm_base.specs.declared.limit.Limit.{Limit}
 use Rattle.nm_base.specs.declared.limit.Limit.TheVariants as limits
@@ -7,6 +7,7 @@ use Rattle.nm_commit.specs.declared.change.Commit.{Commit}
 use Rattle.nm_index.specs.Index.{committed, folded}
 use Rattle.nm_index.specs.declared.base.Base.{Base}
 use Rattle.nm_record.specs.CommitGrammar.{commit_grammar}
+use Rattle.nm_record.specs.Room.{limit_passed}
 use Rattle.nm_writer.specs.StoredIndex.{HoldsIndex}
 use Rattle.nm_writer.specs.Writer.{WriterState}
 use Rattle.nm_writer.specs.declared.write_error.WriteError.{WriteError}
@@ -16,15 +17,25 @@ use Rattle.nm_writer.specs.declared.write_error.WriteError.TheVariants as errors
 abbrev pub max_commit_bytes : ℕ
 max_commit_bytes = 1073741824
 
--- the limit that a commit passes where so many were begun before and this index is shown
+-- The limit that a commit passes where so many were begun before and this index is shown: how many they are, its bytes, or the first
+-- that the index after it passes.
 abbrev pub IsPassed : ℕ → Base → Commit → Limit → Type 0
 IsPassed made shown commit limit =
     ((limit ≡ limits.Commits) × (max_commits ≤ made))
-    ⊎ ((limit ≡ limits.CommitBytes) × (made < max_commits) × (max_commit_bytes < length (commit_grammar.bytes commit)))
+    ⊎ (((limit ≡ limits.CommitBytes) × (made < max_commits) × (max_commit_bytes < length (commit_grammar.bytes commit)))
+    ⊎ ((made < max_commits) × (length (commit_grammar.bytes commit) ≤ max_commit_bytes) × (limit_passed (committed shown commit) ≡ Some limit)))
 
--- where so many were begun before, the commit passes no limit
-abbrev pub IsWithin : ℕ → Commit → Type 0
-IsWithin made commit = (made < max_commits) × (length (commit_grammar.bytes commit) ≤ max_commit_bytes)
+-- where so many were begun before, the commit passes no limit, and the index after it none
+abbrev pub IsWithin : ℕ → Base → Commit → Type 0
+IsWithin made shown commit = (made < max_commits) × (length (commit_grammar.bytes commit) ≤ max_commit_bytes) × (limit_passed (committed shown commit) ≡ None)
+
+-- the index would pass this limit, or there is no memory
+abbrev pub IsFull : Base → WriteError → Type 0
+IsFull index errors.MailFault = ⊥
+IsFull index errors.DiskFault = ⊥
+IsFull index (errors.Closed fault) = ⊥
+IsFull index (errors.Limit limit) = limit_passed index ≡ Some limit
+IsFull index errors.NoMemory = Unit {0}
 
 -- a commit is refused before the disk is touched
 abbrev pub IsPreparing : ℕ → Base → Commit → WriteError → Type 0

@@ -10,18 +10,18 @@ ghost use Rattle.nm_index.specs.Index.{committed};
 ghost use Rattle.nm_index.specs.declared.base.Base.{Base};
 ghost use Rattle.nm_journal.specs.Moments.{GoesThrough, NeverFalls};
 ghost use Rattle.nm_record.specs.CommitGrammar.{commit_grammar};
+ghost use Rattle.nm_record.specs.Room.{limit_passed};
 ghost use Rattle.nm_writer.specs.Durable.{IsDurable};
 ghost use Rattle.nm_writer.specs.Writer.{StandsOnIndex};
-ghost use Rattle.nm_writer.specs.Writing.{HoldsEither, IsAfterCommit, IsPreparing, IsWithin, is_write_fault};
+ghost use Rattle.nm_writer.specs.Writing.{HoldsEither, IsAfterCommit, IsFull, IsPreparing, IsWithin, is_write_fault};
 
-use crate::replaying::apply;
 use crate::{WriteError, Writer};
 use nm_base::Limit;
 use nm_commit::Commit;
 use nm_disk::{Disk, DiskFault, FileNo};
 use nm_journal::Frame;
 use nm_record::{commit_bytes, commit_len};
-use nm_state::Snapshot;
+use nm_state::{RoomError, Snapshot};
 use std::alloc::Global;
 
 /// The most commits of a session.
@@ -40,7 +40,7 @@ impl Writer {
         ensures after { IsAfterCommit self.old commit (D.observed disk.new).clock (D.observed disk.new).faults result self.new }
 
         // What is made passes no limit.
-        ensures within { IfOk result (λ _. IsWithin (length self.old.begun) commit) }
+        ensures within { IfOk result (λ _. IsWithin (length self.old.begun) self.old.shown commit) }
 
         // Whatever a stop leaves then holds the index that is shown, unless the disk failed.
         ensures stands { self.new.closed ≡ None → IfSome (D.observed disk.new).told (λ moments. StandsOnIndex moments.present self.new) }
@@ -70,7 +70,7 @@ impl Writer {
             (D.observed disk.old).told (D.observed disk.new).told }
         ensures rises { NeverFalls (D.observed disk.old).clock (D.observed disk.new).clock }
         ensures number { IfOk result (λ _. IfSome (D.observed disk.new).told (λ moments. (D.observed disk.new).clock ≡ min (length moments.past) max_count)) }
-        ensures within { IfOk result (λ _. IsWithin (length self.old.begun) commit) }
+        ensures within { IfOk result (λ _. IsWithin (length self.old.begun) self.old.shown commit) }
         ensures waits { IfErr result (λ error. is_write_fault error ≡ false → D.observed disk.new ≡ D.observed disk.old) }
         ensures cause { HasCauseOf is_write_fault (D.observed disk.old).faults (D.observed disk.new).faults result }
     {
@@ -105,7 +105,7 @@ fn prepared(
     ensures frame { IfOk result (λ prepared. prepared.0 ≡ commit_grammar.bytes commit.now) }
     ensures value { IfOk result (λ prepared. commit_grammar.is_value commit.now ≡ true) }
     ensures next { IfOk result (λ prepared. prepared.1 ≡ committed shown.now commit.now) }
-    ensures within { IfOk result (λ prepared. IsWithin made commit.now) }
+    ensures within { IfOk result (λ prepared. IsWithin made shown.now commit.now) }
     ensures limits { IfErr result (IsPreparing made shown.now commit.now) }
 {
     if made >= MAX_COMMITS {
@@ -114,8 +114,22 @@ fn prepared(
     if commit_len(commit) > MAX_COMMIT_BYTES {
         return Err(WriteError::Limit(Limit::CommitBytes));
     }
+    let next = next_snapshot(shown, commit)?;
     let body = commit_bytes(alloc, commit)?;
-    let next = apply(shown, commit)?;
     let frame = Frame::new(alloc, &body)?;
     Ok((frame, next))
+}
+
+/// The snapshot after the commit, or the first limit that it would pass.
+fn next_snapshot(shown: &Snapshot, commit: &Commit) -> Result<Snapshot, WriteError>
+    requires fits { Fits shown.now.files commit.now }
+    ensures next { IfOk result (λ next. next ≡ committed shown.now commit.now) }
+    ensures within { IfOk result (λ _. limit_passed (committed shown.now commit.now) ≡ None) }
+    ensures limits { IfErr result (IsFull (committed shown.now commit.now)) }
+{
+    match shown.apply_within_limits(commit) {
+        Ok(next) => Ok(next),
+        Err(RoomError::Limit(limit)) => Err(WriteError::Limit(limit)),
+        Err(RoomError::NoMemory) => Err(WriteError::NoMemory),
+    }
 }

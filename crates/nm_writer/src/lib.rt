@@ -7,6 +7,7 @@ mod new;
 mod open_error;
 mod replaying;
 mod reporting;
+mod scanning;
 mod write_error;
 mod writer;
 

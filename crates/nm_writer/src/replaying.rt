@@ -5,7 +5,7 @@ ghost use Rattle.nm_commit.specs.Files.{Fits};
 ghost use Rattle.nm_commit.specs.declared.change.Commit.{Commit};
 ghost use Rattle.nm_index.specs.Index.{committed};
 ghost use Rattle.nm_record.specs.CommitGrammar.{commit_grammar};
-ghost use Rattle.nm_writer.specs.Opening.{HasBodyFault, IsBadBody, IsToldAt, IsUnfit};
+ghost use Rattle.nm_writer.specs.Opening.{HasBodyFault, IsBadBody, IsOfHead, IsToldAt, IsUnfit};
 ghost use Rattle.nm_writer.specs.StoredIndex.{HasCommits};
 
 use crate::OpenError;
@@ -21,6 +21,7 @@ use std::alloc::Global;
 pub(crate) fn replayed(alloc: Global, bodies: &[Many<u8>]) -> Result<Snapshot, OpenError>
     ensures ok { IfOk result (λ snapshot. (commits : List Commit) × HasCommits bodies.now commits snapshot) }
     ensures bad { IfErr result (HasBodyFault bodies.now) }
+    ensures file { IfErr result IsOfHead }
 {
     let mut snapshot = Snapshot::empty(alloc);
     let mut gate = 0u64;
@@ -41,6 +42,7 @@ fn replay_one(
     ensures ok { IfOk result (λ new. (commit : Commit) × (body.now ≡ commit_grammar.bytes commit) × (commit_grammar.is_value commit ≡ true)
         × Fits snapshot.now.files commit × (new ≡ committed snapshot.now commit)) }
     ensures bad { IfErr result (IsBadBody snapshot.now body.now) }
+    ensures file { IfErr result IsOfHead }
     ensures gate { IfErr result (IsToldAt gate) }
 {
     match read_commit(alloc, body) {
@@ -57,6 +59,7 @@ fn replay_one(
 fn apply_read(snapshot: &Snapshot, commit: &Commit, gate: u64) -> Result<Snapshot, OpenError>
     ensures ok { IfOk result (λ new. Fits snapshot.now.files commit.now × (new ≡ committed snapshot.now commit.now)) }
     ensures bad { IfErr result (IsUnfit snapshot.now commit.now) }
+    ensures file { IfErr result IsOfHead }
     ensures gate { IfErr result (IsToldAt gate) }
 {
     if !snapshot.fits(commit)? {

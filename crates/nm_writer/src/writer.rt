@@ -6,9 +6,9 @@ ghost use Rattle.nm_disk.specs.Calls.{GoesOn};
 ghost use Rattle.nm_disk.specs.Images.{MayLeave};
 ghost use Rattle.nm_disk.specs.Observed.{bytes_now};
 ghost use Rattle.nm_faults.specs.Faults.{HasCauseOf};
-ghost use Rattle.nm_journal.specs.Moments.{GoesThrough};
+ghost use Rattle.nm_journal.specs.Moments.{GoesThrough, IsSynced, SyncsOrFails};
 ghost use Rattle.nm_writer.specs.Durable.{IsDurable};
-ghost use Rattle.nm_writer.specs.Opening.{HasOpenFault, is_disk_fault};
+ghost use Rattle.nm_writer.specs.Opening.{HasOpenFault, IsOfHead, is_disk_fault};
 ghost use Rattle.nm_writer.specs.StoredIndex.{HoldsIndex};
 ghost use Rattle.nm_writer.specs.Writer.{StandsOnIndex};
 
@@ -82,6 +82,13 @@ impl Writer {
         ensures bad { GoesOn (λ old new. IfErr result (HasOpenFault (bytes_now old FileNo.Head)))
             (D.observed disk.old).told (D.observed disk.new).told }
 
+        // On any disk a bad index is told of the head.
+        ensures file { IfErr result IsOfHead }
+
+        // The disk is synced once, and nothing is written; where the call fails that sync may have failed.
+        ensures synced { GoesOn (λ old new. IfOk result (λ _. IsSynced old new)) (D.observed disk.old).told (D.observed disk.new).told }
+        ensures syncs { GoesOn SyncsOrFails (D.observed disk.old).told (D.observed disk.new).told }
+
         // At every moment of the call a stop leaves only what it might have left before.
         ensures any_moment { GoesOn (λ old new. GoesThrough FileNo.Head (MayLeave old.present FileNo.Head) old new)
             (D.observed disk.old).told (D.observed disk.new).told }
@@ -99,8 +106,11 @@ impl Writer {
             (D.observed disk.old).told (D.observed disk.new).told }
         ensures fresh { IfOk result (λ writer. (writer.begun ≡ []) × (writer.acked ≡ []) × (writer.closed ≡ None)) }
         ensures clock { IfOk result (λ writer. (D.observed disk.new).clock ≤ max_count) }
+        ensures file { IfErr result IsOfHead }
         ensures bad { GoesOn (λ old new. IfErr result (HasOpenFault (bytes_now old FileNo.Head)))
             (D.observed disk.old).told (D.observed disk.new).told }
+        ensures synced { GoesOn (λ old new. IfOk result (λ _. IsSynced old new)) (D.observed disk.old).told (D.observed disk.new).told }
+        ensures syncs { GoesOn SyncsOrFails (D.observed disk.old).told (D.observed disk.new).told }
         ensures any_moment { GoesOn (λ old new. GoesThrough FileNo.Head (MayLeave old.present FileNo.Head) old new)
             (D.observed disk.old).told (D.observed disk.new).told }
         ensures cause { HasCauseOf is_disk_fault (D.observed disk.old).faults (D.observed disk.new).faults result }

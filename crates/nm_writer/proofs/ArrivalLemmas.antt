@@ -1,0 +1,114 @@
+-- The mails that a `new` has read come to an index that lacks them, each path once.
+use Rattle.std.proofs.Common.{◌≡◌, ℕ, Bool, true, false, ◌||◌, not, cond, List, [], ◌∷◌, map, filter, refl, sym, ap, ◌∙◌, subst}
+use Rattle.std.specs.List.{AllByRecursion, flat_map, IsDistinct}
+use Rattle.std.specs.Cmp.Lexicographic.{slice_cmp, texts_ties, nat_list_eq_equiv}
+use Rattle.std.specs.Ordering.{eq_by_cmp, nat_cmp}
+use Rattle.std.proofs.lemmas.Map.Keys.{IsDistinct-cons, IsDistinct-from_sorted}
+use Rattle.nm_base.specs.Order.{has_text, same_text}
+use Rattle.nm_base.specs.declared.facts.Facts.{Facts}
+use Rattle.nm_base.specs.Limits.{IsDate}
+use Rattle.nm_commit.specs.Files.{has_path, paths_of}
+use Rattle.nm_maildir.specs.declared.given.ReadAnswer.{ReadAnswer}
+use Rattle.nm_maildir.specs.declared.given.ReadAnswer.TheVariants as answers
+use Rattle.nm_plan.specs.Plan.{AreArrivals, to_read}
+use Rattle.nm_scan.specs.Listing.{IsRising}
+use Rattle.nm_scan.specs.Reading.{mail_in}
+
+-- each text passes the test, or none does
+abbrev pub Every : (List ℕ → Bool) → Bool → List (List ℕ) → Type 0
+Every test value texts = AllByRecursion (λ text. test text ≡ value) texts
+
+unequal : (text : List ℕ) (texts : List (List ℕ)) → AllByRecursion (λ other. eq_by_cmp (slice_cmp nat_cmp) text other ≡ false) texts → AllByRecursion (λ other. same_text text other ≡ false) texts
+unequal text [] h = tt
+unequal text (other ∷ texts) h = (texts_ties text other ∙ h.0, unequal text texts h.1)
+
+distinct-same : (texts : List (List ℕ)) → IsDistinct (eq_by_cmp (slice_cmp nat_cmp)) texts → IsDistinct same_text texts
+unfolding IsDistinct
+distinct-same [] h = tt
+distinct-same (text ∷ texts) h = (unequal text texts h.0, distinct-same texts h.1)
+
+-- rising texts stand once each
+distinct-rising : (texts : List (List ℕ)) → IsRising texts → IsDistinct same_text texts
+distinct-rising texts h = distinct-same texts (IsDistinct-from_sorted (slice_cmp nat_cmp) texts h)
+
+-- a filter keeps what holds of every text
+every-cond : (P : List ℕ → Type 0) (b : Bool) (text : List ℕ) (texts : List (List ℕ)) → P text → AllByRecursion P texts → AllByRecursion P (cond b (text ∷ texts) texts)
+every-cond P true text texts first rest = (first, rest)
+every-cond P false text texts first rest = rest
+
+every-filter : (P : List ℕ → Type 0) (keep : List ℕ → Bool) (texts : List (List ℕ)) → AllByRecursion P texts → AllByRecursion P (filter keep texts)
+every-filter P keep [] h = tt
+every-filter P keep (text ∷ texts) h = every-cond P (keep text) text (filter keep texts) h.0 (every-filter P keep texts h.1)
+
+distinct-cond : (b : Bool) (text : List ℕ) (texts : List (List ℕ)) → AllByRecursion (λ other. same_text text other ≡ false) texts → IsDistinct same_text texts → IsDistinct same_text (cond b (text ∷ texts) texts)
+distinct-cond true text texts first rest = IsDistinct-cons same_text text texts first rest
+distinct-cond false text texts first rest = rest
+
+distinct-filter : (keep : List ℕ → Bool) (texts : List (List ℕ)) → IsDistinct same_text texts → IsDistinct same_text (filter keep texts)
+unfolding IsDistinct
+distinct-filter keep [] h = tt
+distinct-filter keep (text ∷ texts) h = distinct-cond (keep text) text (filter keep texts) (every-filter _ keep texts h.0) (distinct-filter keep texts h.1)
+
+-- what a filter keeps passes its test
+kept-cond : (keep : List ℕ → Bool) (b : Bool) (text : List ℕ) (texts : List (List ℕ)) → keep text ≡ b → Every keep true texts → Every keep true (cond b (text ∷ texts) texts)
+kept-cond keep true text texts e h = (e, h)
+kept-cond keep false text texts e h = h
+
+every-kept : (keep : List ℕ → Bool) (texts : List (List ℕ)) → Every keep true (filter keep texts)
+every-kept keep [] = tt
+every-kept keep (text ∷ texts) = kept-cond keep (keep text) text (filter keep texts) refl (every-kept keep texts)
+
+pub every-map : (P Q : List ℕ → Type 0) (texts : List (List ℕ)) → ((text : List ℕ) → P text → Q text) → AllByRecursion P texts → AllByRecursion Q texts
+every-map P Q [] f h = tt
+every-map P Q (text ∷ texts) f h = (f text h.0, every-map P Q texts f h.1)
+
+-- the reads that found mail are some of the reads
+every-mail : (P : List ℕ → Type 0) (reads : List (List ℕ × ReadAnswer)) → AllByRecursion P (map (λ read. read.0) reads) → AllByRecursion P (flat_map mail_in reads)
+every-mail P [] h = tt
+every-mail P ((path, answers.Mail) ∷ reads) h = (h.0, every-mail P reads h.1)
+every-mail P ((path, answers.NotMail) ∷ reads) h = every-mail P reads h.1
+every-mail P ((path, answers.Missing) ∷ reads) h = every-mail P reads h.1
+every-mail P ((path, answers.TooLong) ∷ reads) h = every-mail P reads h.1
+every-mail P ((path, answers.Body bytes) ∷ reads) h = every-mail P reads h.1
+
+distinct-mail : (reads : List (List ℕ × ReadAnswer)) → IsDistinct same_text (map (λ read. read.0) reads) → IsDistinct same_text (flat_map mail_in reads)
+unfolding IsDistinct
+distinct-mail [] h = tt
+distinct-mail ((path, answers.Mail) ∷ reads) h = (every-mail _ reads h.0, distinct-mail reads h.1)
+distinct-mail ((path, answers.NotMail) ∷ reads) h = distinct-mail reads h.1
+distinct-mail ((path, answers.Missing) ∷ reads) h = distinct-mail reads h.1
+distinct-mail ((path, answers.TooLong) ∷ reads) h = distinct-mail reads h.1
+distinct-mail ((path, answers.Body bytes) ∷ reads) h = distinct-mail reads h.1
+
+-- every text of a list stands in it
+same_as_itself : (text : List ℕ) → same_text text text ≡ true
+same_as_itself text = nat_list_eq_equiv.refl text
+
+pub or_true : (b : Bool) → (b || true) ≡ true
+or_true true = refl
+or_true false = refl
+
+pub every-in : (texts : List (List ℕ)) → AllByRecursion (λ text. has_text texts text ≡ true) texts
+every-in [] = tt
+every-in (text ∷ texts) = (
+  ap (λ b. b || has_text texts text) (same_as_itself text),
+  every-map (λ other. has_text texts other ≡ true) (λ other. has_text (text ∷ texts) other ≡ true) texts (λ other h. ap (λ b. same_text other text || b) h ∙ or_true (same_text other text)) (every-in texts),
+)
+
+not-true : (b : Bool) → not b ≡ true → b ≡ false
+not-true true h = sym h
+not-true false h = refl
+
+-- the mails that were read are arrivals
+pub are-arrivals : (files : List (List ℕ × Facts)) (listed : List (List ℕ)) (arrivals : List (List ℕ × Facts)) (reads : List (List ℕ × ReadAnswer))
+    → IsRising listed → map (λ read. read.0) reads ≡ to_read files listed → paths_of arrivals ≡ flat_map mail_in reads → AllByRecursion (λ arrival. IsDate arrival.1.date) arrivals → AreArrivals files arrivals
+are-arrivals files listed arrivals reads rising each mails dated =
+    let once : IsDistinct same_text (map (λ read. read.0) reads) = subst (IsDistinct same_text) (sym each) (distinct-filter (λ path. not (has_path files path)) listed (distinct-rising listed rising)) in
+    let fresh : AllByRecursion (λ path. has_path files path ≡ false) (map (λ read. read.0) reads) =
+    subst (AllByRecursion (λ path. has_path files path ≡ false)) (sym each)
+    (every-map (λ path. not (has_path files path) ≡ true) (λ path. has_path files path ≡ false) (to_read files listed) (λ path h. not-true (has_path files path) h) (every-kept (λ path. not (has_path files path)) listed)) in
+    record {
+      once = subst (IsDistinct same_text) (sym mails) (distinct-mail reads once);
+      fresh = subst (AllByRecursion (λ path. has_path files path ≡ false)) (sym mails) (every-mail _ reads fresh);
+      dated = dated;
+    }

@@ -1,0 +1,101 @@
+-- What a scan asks, notes and finds, from its parts.
+use Rattle.std.proofs.Common.{◌≡◌, inr, ℕ, not, List, [], ◌∷◌, ◌++◌, Option, None, Some, IfSome, filter, take, refl, sym, ap, ◌∙◌, subst, append-nil, arith}
+use Rattle.nm_answer.specs.NewText.{gone}
+use Rattle.nm_base.specs.Order.{IsSorted, has_text}
+use Rattle.nm_base.specs.declared.facts.Facts.{Facts}
+use Rattle.nm_commit.specs.Files.{has_path}
+use Rattle.nm_maildir.specs.Observed.{ObservedMail}
+use Rattle.nm_maildir.specs.Tree.{Tree}
+use Rattle.nm_maildir.specs.declared.given.Given.{Given}
+use Rattle.nm_maildir.specs.declared.given.Given.TheVariants as given
+use Rattle.nm_plan.specs.Plan.{to_read}
+use Rattle.nm_scan.specs.Listing.{IsRising, listed_of}
+use Rattle.nm_scan.specs.Reading.{HasRead, HasReadAll, NotesReads, answers_at, read_with}
+use Rattle.nm_scan.specs.Scanning.{AsksNew}
+use Rattle.nm_writer.proofs.SameLemmas.{paths-are}
+use Rattle.nm_writer.specs.New.{Scans}
+use Rattle.nm_writer.specs.declared.scanning.Scanned.{Scanned}
+
+-- the mail folder that tells the same
+same_mail : (a b : ObservedMail) → a.tree ≡ b.tree → a.reads ≡ b.reads → a.faults ≡ b.faults → a ≡ b
+same_mail a b tree reads faults =
+    ap (λ (t : Option Tree). record { tree = t; reads = a.reads; faults = a.faults }) tree
+    ∙ (ap (λ (r : Option (List (List ℕ))). record { tree = b.tree; reads = r; faults = a.faults }) reads
+    ∙ ap (λ (n : ℕ). record { tree = b.tree; reads = b.reads; faults = n }) faults)
+
+no_answers : (tree : Option Tree) → IfSome tree (λ t. [] ≡ answers_at t [])
+no_answers None = tt
+no_answers (Some t) = refl
+
+none_more : (reads : Option (List (List ℕ))) → reads ≡ read_with reads []
+none_more None = refl
+none_more (Some paths) = ap Some (sym (append-nil paths))
+
+-- nothing is read and nothing more is noted
+read_none : (mail : ObservedMail) (noted : List Given) (paths : List (List ℕ)) → HasRead mail mail noted noted paths
+read_none mail noted paths = record {
+  noted = [];
+  noted_is = sym (append-nil noted);
+  reading = record {
+    answered = 0;
+    asked = 0;
+    within = omega arith;
+    last = (omega arith, omega arith);
+    notes = record { reads = []; noted_is = refl; each = refl; told = no_answers mail.tree };
+    read = none_more mail.reads;
+  };
+  tree = refl;
+}
+
+-- the paths of the index that are not listed, once none is left to look at
+pub gone-end : (files : List (List ℕ × Facts)) (listed paths start rest found : List (List ℕ)) → IsSorted paths → ((path : List ℕ) → has_text paths path ≡ has_path files path) → start ≡ paths → rest ≡ []
+    → found ++ filter (λ path. not (has_text listed path)) rest ≡ filter (λ path. not (has_text listed path)) start → found ≡ gone files listed
+gone-end files listed paths start rest found sorted same begins none so_far =
+    sym (append-nil found) ∙ (ap (λ (l : List (List ℕ)). found ++ filter (λ path. not (has_text listed path)) l) (sym none)
+    ∙ (so_far ∙ ap (filter (λ path. not (has_text listed path))) (begins ∙ paths-are files paths sorted same)))
+
+-- the listing and the first of the paths were asked
+pub asked_reading : (old mid new : ObservedMail) (files : List (List ℕ × Facts)) (before noted0 noted : List Given) (listed paths : List (List ℕ)) → mid.tree ≡ old.tree → mid.reads ≡ old.reads → before ≡ [] → noted0 ≡ before ++ given.Listed listed ∷ []
+    → IsRising listed → IfSome old.tree (λ t. listed ≡ listed_of t) → paths ≡ to_read files listed → HasRead mid new noted0 noted paths → AsksNew old new files noted
+asked_reading old mid new files before noted0 noted listed paths same_tree same none is rising told paths_are h' =
+    let h : HasRead mid new noted0 noted (to_read files listed) = subst (λ (l : List (List ℕ)). HasRead mid new noted0 noted l) paths_are h' in
+    let reading = h.reading in
+    inr (record {
+      listed = listed;
+      listing = record { rising = rising; told = told };
+      answers = h.noted;
+      noted_is = h.noted_is ∙ ap (λ l. l ++ h.noted) (is ∙ ap (λ l. l ++ given.Listed listed ∷ []) none);
+      reading = record {
+        answered = reading.answered;
+        asked = reading.asked;
+        within = reading.within;
+        last = reading.last;
+        notes = subst (λ (t : Option Tree). NotesReads t h.noted (take reading.answered (to_read files listed))) same_tree reading.notes;
+        read = reading.read ∙ ap (λ (r : Option (List (List ℕ))). read_with r (take reading.asked (to_read files listed))) same;
+      };
+    })
+
+-- the listing alone was asked
+pub asked_listing : (old mid : ObservedMail) (files : List (List ℕ × Facts)) (before noted : List Given) (listed : List (List ℕ)) → mid.tree ≡ old.tree → mid.reads ≡ old.reads → before ≡ [] → noted ≡ before ++ given.Listed listed ∷ []
+    → IsRising listed → IfSome old.tree (λ t. listed ≡ listed_of t) → AsksNew old mid files noted
+asked_listing old mid files before noted listed same_tree same none is rising told =
+    asked_reading old mid mid files before noted noted listed (to_read files listed) same_tree same none is rising told refl (read_none mid noted (to_read files listed))
+
+-- all was scanned
+pub scanned_all : (old mid new : ObservedMail) (files : List (List ℕ × Facts)) (before noted0 noted : List Given) (listed paths : List (List ℕ)) (scanned : Scanned) → mid.tree ≡ old.tree → mid.reads ≡ old.reads → mid.faults ≡ old.faults
+    → before ≡ [] → noted0 ≡ before ++ given.Listed listed ∷ []
+    → IsRising listed → IfSome old.tree (λ t. listed ≡ listed_of t) → paths ≡ to_read files listed → HasReadAll mid new noted0 noted paths scanned.arrivals → scanned.gone ≡ gone files listed
+    → Scans old new files noted scanned
+scanned_all old mid new files before noted0 noted listed paths scanned same_tree same_reads same_faults none is rising told paths_are h' gone_are =
+    let h : HasReadAll old new noted0 noted (to_read files listed) scanned.arrivals =
+    subst (λ (m : ObservedMail). HasReadAll m new noted0 noted (to_read files listed) scanned.arrivals) (same_mail mid old same_tree same_reads same_faults)
+    (subst (λ (l : List (List ℕ)). HasReadAll mid new noted0 noted l scanned.arrivals) paths_are h') in
+    record {
+      listed = listed;
+      listing = record { rising = rising; told = told };
+      answers = h.noted;
+      noted_is = h.noted_is ∙ ap (λ l. l ++ h.noted) (is ∙ ap (λ l. l ++ given.Listed listed ∷ []) none);
+      reading = h.reading;
+      mail = h.mail;
+      gone_are = gone_are;
+    }
