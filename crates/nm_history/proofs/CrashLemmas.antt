@@ -1,5 +1,5 @@
 -- What a stop leaves before the first commit.
-use Rattle.std.proofs.Common.{◌≡◌, ℕ, ◌+◌, ◌≤◌, min, List, [], ◌∷◌, ◌++◌, length, refl, sym, ap, ◌∙◌, subst, arith, length-append}
+use Rattle.std.proofs.Common.{◌≡◌, ℕ, ◌+◌, ◌≤◌, min, List, [], ◌∷◌, ◌++◌, length, sym, ap, ◌∙◌, subst, arith, length-append}
 use Rattle.std.specs.List.{AllByRecursion}
 use Rattle.nm_base.specs.Limits.{max_count}
 use Rattle.nm_commit.specs.declared.change.Commit.{Commit}
@@ -16,7 +16,7 @@ use Rattle.nm_writer.specs.StoredIndex.{HoldsIndex}
 use Rattle.nm_history.specs.CrashPrefix.{HasSettled, KeepsCommits}
 
 -- where no write is pending, a stop leaves what was synced
-left-quiet : (state : DiskState) (bytes : List ℕ) → state.written ≡ [] → MayLeave state Head bytes → bytes ≡ bytes_of Head state.synced
+pub left-quiet : (state : DiskState) (bytes : List ℕ) → state.written ≡ [] → MayLeave state Head bytes → bytes ≡ bytes_of Head state.synced
 left-quiet state bytes quiet left =
     let synced : List ℕ = bytes_of Head state.synced in
     left_when_synced synced bytes (subst (λ (written : List Range). IsLeft synced (is_written written Head) (reach written Head (length synced)) bytes) quiet left)
@@ -55,7 +55,7 @@ opening-keeps before now quiet image through opening state number bytes holds mo
     }
 
 -- at a moment among these, which is no older than what went before them, a stop leaves what was acknowledged by then
-each-at : (opening : Base) (commits : List Commit) (acked : List ℕ) (states past newer : List DiskState) (state : DiskState) (older : List DiskState)
+pub each-at : (opening : Base) (commits : List Commit) (acked : List ℕ) (states past newer : List DiskState) (state : DiskState) (older : List DiskState)
     → states ++ past ≡ newer ++ state ∷ older → length past ≤ length older → EachKeeps opening commits acked (length past) states
     → KeepsAcknowledged opening commits acked (min (length older) max_count) state
 each-at opening commits acked [] past newer state older e n h = absurd (omega (arith, n, ap length e, length-append newer (state ∷ older)))

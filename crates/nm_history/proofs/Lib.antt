@@ -4,3 +4,4 @@ mod CrashLemmas
 mod LawLemmas
 mod LineLemmas
 mod MachineLemmas
+pub mod SettledLemmas

@@ -18,12 +18,21 @@ pub record Devices : Type 0 where
   pub out : ObservedStream
   pub err : ObservedStream
 
+-- the devices, by what is observed of each
+abbrev pub devices : ObservedMail → ObservedDisk → ObservedStream → ObservedStream → ObservedStream → Devices
+devices folder held source sink errors = record { mail = folder; disk = held; input = source; out = sink; err = errors }
+
+-- A call: its words and its setting, the devices at its entry and at its return, and what it answers.
 pub record Call : Type 0 where
   pub words : List (List ℕ)
   pub setting : Setting
   pub entry : Devices
   pub after : Devices
   pub done : Done
+
+-- the call of these words
+abbrev pub call_of : List (List ℕ) → Setting → Devices → Devices → Done → Call
+call_of given told old new ended = record { words = given; setting = told; entry = old; after = new; done = ended }
 
 -- How a call ends: it is refused as a whole, or it runs its script from an opening index.
 pub data Ending : Type 0 where

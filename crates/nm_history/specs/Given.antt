@@ -1,5 +1,5 @@
 -- What the lines asked the mail folder and what it gave, one line after the other.
-use Rattle.std.specs.Prelude.{◌≡◌, ◌⊎◌, ℕ, ◌≤◌, List, [], ◌∷◌}
+use Rattle.std.specs.Prelude.{◌≡◌, ℕ, ◌≤◌, List, [], ◌∷◌}
 use Rattle.nm_answer.specs.declared.request.Request.TheVariants.{New, Count}
 use Rattle.nm_base.specs.declared.facts.Facts.{Facts}
 use Rattle.nm_disk.specs.Observed.{ObservedDisk}
@@ -10,24 +10,9 @@ use Rattle.nm_log.specs.declared.line_parser.ParsedLine.TheVariants as asked
 use Rattle.nm_machine.specs.declared.step.Step.{Step}
 use Rattle.nm_maildir.specs.Observed.{ObservedMail}
 use Rattle.nm_maildir.specs.declared.given.Given.{Given}
-use Rattle.nm_maildir.specs.declared.given.Given.TheVariants as given
-use Rattle.nm_plan.specs.Plan.{to_read}
-use Rattle.nm_scan.specs.Listing.{IsListing}
-use Rattle.nm_scan.specs.Reading.{ReadsFirst}
+use Rattle.nm_scan.specs.Scanning.{AsksNew}
 use Rattle.nm_history.specs.Call.{Devices, Ending, Ran, Refused}
 use Rattle.nm_history.specs.Lines.{Before, IsIndexAt, RunLine, behind, behind_all}
-
--- The mail was listed, and of the listed paths that the index lacks the first were read, each once, in their order.
-pub record ListsAndReads (old new : ObservedMail) (files : List (List ℕ × Facts)) (noted : List Given) : Type 0 where
-  pub listed : List (List ℕ)
-  pub listing : IsListing old.tree listed
-  pub answers : List Given
-  pub noted_is : noted ≡ given.Listed listed ∷ answers
-  pub reading : ReadsFirst old new answers (to_read files listed)
-
--- What a `new` asks and notes, however it ends: a listing that is not noted, and no read; or a listing, and then reads.
-abbrev pub AsksNew : ObservedMail → ObservedMail → List (List ℕ × Facts) → List Given → Type 0
-AsksNew old new files noted = ((noted ≡ []) × (new.reads ≡ old.reads)) ⊎ ListsAndReads old new files noted
 
 -- What a request asks the folder, however its line ends: but for a `new` nothing.
 abbrev pub AsksMail : ParsedLine → ObservedMail → ObservedMail → List (List ℕ × Facts) → List Given → Type 0

@@ -3,7 +3,6 @@ use Rattle.std.specs.Prelude.{◌≡◌, ◌⊎◌, ℕ, ◌+◌, List, [], ◌�
 use Rattle.nm_answer.specs.declared.request.Request.{Request}
 use Rattle.nm_answer.specs.declared.request.Request.TheVariants.{New, Count}
 use Rattle.nm_base.specs.declared.facts.Facts.{Facts}
-use Rattle.nm_base.specs.declared.limit.Limit.{Limit}
 use Rattle.nm_commit.specs.declared.change.Commit.{Commit}
 use Rattle.nm_index.specs.Index.{folded}
 use Rattle.nm_index.specs.declared.base.Base.{Base}
@@ -14,24 +13,14 @@ use Rattle.nm_log.specs.declared.outcome.Outcome.TheVariants as outcomes
 use Rattle.nm_machine.specs.declared.step.Step.{Step}
 use Rattle.nm_maildir.specs.Tree.{Tree}
 use Rattle.nm_maildir.specs.declared.given.Given.{Given}
-use Rattle.nm_maildir.specs.declared.given.Given.TheVariants.{Listed}
-use Rattle.nm_plan.specs.Plan.{due_commits, to_read}
-use Rattle.nm_scan.specs.Listing.{IsListing}
-use Rattle.nm_scan.specs.Reading.{Reads}
+use Rattle.nm_plan.specs.Plan.{due_commits}
+use Rattle.nm_scan.specs.Scanning.{Finds}
 use Rattle.nm_writer.specs.Writing.{IsPassed}
 use Rattle.nm_history.specs.Lines.{RunLine, begun}
 
--- What a whole scan found: the listing is noted, each listed path that the index lacks was read, and these mails are new.
-pub record Finds (tree : Option Tree) (index : Base) (noted : List Given) (arrivals : List (List ℕ × Facts)) : Type 0 where
-  pub listed : List (List ℕ)
-  pub listing : IsListing tree listed
-  pub answers : List Given
-  pub noted_is : noted ≡ Listed listed ∷ answers
-  pub reading : Reads tree answers (to_read index.files listed) arrivals
-
 -- the mails that a request found, as far as it looks for any
 abbrev pub FindsFor : Request → Option Tree → Base → List Given → List (List ℕ × Facts) → Type 0
-FindsFor New tree index noted arrivals = Finds tree index noted arrivals
+FindsFor New tree index noted arrivals = Finds tree index.files noted arrivals
 FindsFor (Count ask) tree index noted arrivals = arrivals ≡ []
 
 -- The commits that are due to the line, by its request, the index before it, and what the mail folder gave.

@@ -10,7 +10,7 @@ ghost use Rattle.nm_log.specs.declared.outcome.Outcome.{Outcome};
 ghost use Rattle.nm_disk.specs.Images.{IsImage, MayLeave};
 ghost use Rattle.nm_disk.specs.Observed.{Moments, bytes_now};
 ghost use Rattle.nm_disk.specs.declared.disk.FileNo.TheVariants as heads;
-ghost use Rattle.nm_journal.specs.Moments.{GoesThrough};
+ghost use Rattle.nm_journal.specs.Moments.{GoesThrough, IsSynced, SyncsOrFails};
 ghost use Rattle.nm_writer.specs.Durable.{KeptSince};
 ghost use Rattle.nm_writer.specs.StoredIndex.{HoldsIndex};
 ghost use Rattle.nm_history.specs.Call.{Call};
@@ -61,17 +61,18 @@ pub fn a_history_is_complete()
     what_holds_an_index_is_not_bad();
 }
 
-/// A writer whose commits are kept since the entry leaves them on the disk at every moment of the call.
-pub fn a_durable_index_keeps_its_commits()
-    ensures { (opening : Base) (commits : List Commit) (acked : List ℕ) (before now : Moments) → HoldsIndex (bytes_now before heads.Head) opening
-        → KeptSince opening commits acked before now → KeepsCommits commits acked before now }
+/// A writer whose commits are kept since the opening, and since the entry where no write was pending then, leaves them on the
+/// disk at every moment of the call.
+pub fn a_session_keeps_its_commits()
+    ensures { (opening : Base) (commits : List Commit) (acked : List ℕ) (before opened now : Moments) → HoldsIndex (bytes_now before heads.Head) opening
+        → IsSynced before opened → (before.present.written ≡ [] → KeptSince opening commits acked before now) → KeptSince opening commits acked opened now
+        → KeepsCommits commits acked before now }
 {
     an_index_is_held_once();
 }
 
-/// Before the first commit a stop leaves the index that the disk held, where no write was pending when the call began and the
-/// opening left only what a stop might have left before it.
-pub fn an_opening_keeps_the_index()
-    ensures { (before now : Moments) → before.present.written ≡ [] → IsImage before.present before.present.now
+/// Where no index is opened, a stop leaves the one that the disk held.
+pub fn a_refused_opening_keeps_the_index()
+    ensures { (before now : Moments) → IsImage before.present before.present.now → SyncsOrFails before now
         → GoesThrough heads.Head (MayLeave before.present heads.Head) before now → KeepsCommits [] [] before now }
 {}

@@ -12,7 +12,7 @@ pub use going_on::{
     no_line_stands_at_the_opening, no_step_is_a_run_of_the_machine, nothing_is_given_to_no_line,
 };
 pub use laws::{
-    a_disk_fault_is_the_status, a_durable_index_keeps_its_commits, a_history_is_complete,
-    a_mail_fault_is_the_status, an_index_at_a_revision_is_one, an_opening_keeps_the_index,
+    a_disk_fault_is_the_status, a_history_is_complete, a_mail_fault_is_the_status,
+    a_refused_opening_keeps_the_index, a_session_keeps_its_commits, an_index_at_a_revision_is_one,
     no_line_is_closed_without_a_fault, what_writes_behind_a_disk_fault_is_closed,
 };
