@@ -6,7 +6,7 @@ ghost use Rattle.std.specs.Cmp.Lexicographic.{slice_cmp};
 ghost use Rattle.std.specs.Ordering.{nat_cmp};
 ghost use Rattle.std.specs.Str.{str_to_ascii_lowercase};
 ghost use Rattle.nm_base.specs.Order.{has_text};
-ghost use Rattle.nm_answer.specs.Count.{count_text, has_subject_word, ids_of, is_plain_word, is_subject, is_subject_query, is_word_byte, with_subject_word};
+ghost use Rattle.nm_answer.specs.Count.{count_text, has_subject_word, ids_of, is_plain_word, is_subject, is_subject_query, is_word_byte, wanted_word, with_subject_word};
 ghost use Rattle.std.specs.List.{list_all, list_any};
 ghost use Rattle.std.specs.Char.{is_ascii_alphanumeric};
 
@@ -30,9 +30,16 @@ pub fn count_text(
 ) -> Result<Many<u8>, NoMemory>
     ensures { IfOk result (λ text. text ≡ count_text query.now files.now) }
 {
-    let word = lowered(alloc, after_prefix(query))?;
+    let word = wanted_word(alloc, query)?;
     let number = count(alloc, word.as_slice(), files)?;
-    line_of(alloc, number)
+    number_line(alloc, number)
+}
+
+/// The word that the query looks for, in lower case.
+pub fn wanted_word(alloc: Global, query: &[u8]) -> Result<Vec<u8>, NoMemory>
+    ensures { IfOk result (λ word. word.items ≡ wanted_word query.now) }
+{
+    lowered(alloc, after_prefix(query))
 }
 
 // What follows `subject:`.
@@ -76,7 +83,8 @@ fn lowered(alloc: Global, word: &[u8]) -> Result<Vec<u8>, NoMemory>
     Ok(word.iter().map(|b| b.to_ascii_lowercase()).collect(alloc)?)
 }
 
-fn line_of(alloc: Global, number: usize) -> Result<Many<u8>, NoMemory>
+/// The number, and LF.
+pub fn number_line(alloc: Global, number: usize) -> Result<Many<u8>, NoMemory>
     ensures { IfOk result (λ line. line ≡ decimal number ++ 10 ∷ []) }
 {
     let mut buffer = Buffer::new();
@@ -106,7 +114,8 @@ fn add_if_found(ids: &mut BTreeSet<MessageId>, word: &[u8], facts: &Facts) -> Re
     Ok(())
 }
 
-fn has_subject_word(word: &[u8], facts: &Facts) -> bool
+/// Whether a list of the subject has the word.
+pub fn has_subject_word(word: &[u8], facts: &Facts) -> bool
     ensures { result ≡ has_subject_word word.now facts.now }
 {
     facts

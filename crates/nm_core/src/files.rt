@@ -46,7 +46,7 @@ fn changed_by(
     ensures { IfOk result (λ after. after ≡ changed files change.now) }
 {
     match change {
-        Change::Add { path, facts } => with_file(files, path, facts),
+        Change::Add { path, facts } => with_file(files, path, facts.get()),
         Change::Drop { path } => without(alloc, files, path),
         Change::Move { from, to } => with_moved(alloc, files, from, to),
         Change::SetTags { .. } => Ok(files),
@@ -127,7 +127,7 @@ fn fits_change(files: &[(MailPath, Facts)], change: &Change) -> bool
     ensures { IsTrue result ↔ FitsChange files.now change.now }
 {
     match change {
-        Change::Add { path, facts } => !is_there(files, path) && is_date(facts.date),
+        Change::Add { path, facts } => !is_there(files, path) && is_date(facts.get().date),
         Change::Drop { path } => is_there(files, path),
         Change::Move { from, to } => is_there(files, from) && !is_there(files, to),
         Change::SetTags { id, .. } => has_mail_of(files, id),

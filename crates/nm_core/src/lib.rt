@@ -7,5 +7,5 @@ mod files;
 mod machine;
 mod reply;
 
-pub use count::{count_text, is_subject_query};
+pub use count::{count_text, has_subject_word, is_subject_query, number_line, wanted_word};
 pub use machine::{Core, CoreError};

@@ -1,0 +1,204 @@
+-- What a line leaves: its log and its marks.
+use Rattle.std.proofs.Common.{◌≡◌, inl, inr, ℕ, ◌+◌, ◌-◌, ◌≤◌, List, [], ◌∷◌, ◌++◌, Option, None, MatchResult, Result, Ok, Err, length, map, replicate, codes, if◌then◌else◌, refl, sym, ap, ◌∙◌, subst, arith}
+use Rattle.std.proofs.lemmas.List.{length-append}
+use Rattle.std.specs.Option.{option_to_list}
+use Rattle.nm_answer.specs.declared.request.Request.{Request}
+use Rattle.nm_answer.specs.declared.request.Request.TheVariants as requests
+use Rattle.nm_base.specs.declared.facts.Facts.{Facts}
+use Rattle.nm_base.specs.declared.memory.NoMemory.{NoMemory}
+use Rattle.nm_commit.specs.declared.change.Change.{Change}
+use Rattle.nm_commit.specs.declared.change.Commit.{Commit}
+use Rattle.nm_history.specs.LineCommits.{AreDue, Makes}
+use Rattle.nm_history.specs.LineResult.{Place}
+use Rattle.nm_history.specs.Lines.{RunLine, closed_after}
+use Rattle.nm_history.specs.MachineRun.{Replied, replied_where, reply_to}
+use Rattle.nm_index.specs.declared.base.Base.{Base}
+use Rattle.nm_log.specs.ParsedLine.{parse_line}
+use Rattle.nm_log.specs.Replies.{status_of}
+use Rattle.nm_log.specs.declared.line_parser.ParsedLine.{ParsedLine}
+use Rattle.nm_log.specs.declared.line_parser.ParsedLine.TheVariants as asked
+use Rattle.nm_log.specs.declared.outcome.Outcome.{Outcome}
+use Rattle.nm_log.specs.declared.outcome.Outcome.TheVariants as outcomes
+use Rattle.nm_log.specs.declared.script.ScriptLine.{ScriptLine}
+use Rattle.nm_maildir.specs.Tree.{Tree}
+use Rattle.nm_maildir.specs.declared.given.Given.{Given}
+use Rattle.nm_plan.specs.Plan.{commit_of, due_commits}
+use Rattle.nm_session.specs.Line.{Ends, IsAnswered, IsEven, IsRun, IsSaid}
+use Rattle.nm_session.specs.Marks.{begun_mark, line_marks, made_mark, marks_for, reply_mark}
+use Rattle.nm_session.specs.Outcomes.{is_disk_fault}
+use Rattle.nm_session.specs.declared.answering.Answered.{Answered}
+use Rattle.nm_session.specs.declared.marks.Mark.{Mark}
+use Rattle.nm_session.specs.declared.marks.Mark.TheVariants as marks
+use Rattle.nm_session.proofs.MarkLemmas.{mapped}
+
+-- the answer, also where there was no memory for it
+
+abbrev without_memory : List ℕ → Answered
+without_memory spare = record { outcome = outcomes.NoMemory; text = spare; reply = None }
+
+done-by : (old new : Place) (line : List ℕ) (noted : List Given) (answered : Result Answered NoMemory) (done : Answered) (spare : List ℕ) → spare ≡ codes "notmuch: no memory\n"
+    → MatchResult answered (λ got. done ≡ got) (λ error. done ≡ record { outcome = outcomes.NoMemory; text = spare; reply = None }) → Ends old line noted answered new
+    → IsAnswered old line noted done.outcome new × IsSaid old line noted done new
+done-by old new line noted (Ok got) done spare text is h =
+    subst (λ (d : Answered). IsAnswered old line noted d.outcome new × IsSaid old line noted d new) (sym is) h
+done-by old new line noted (Err error) done spare text is h =
+    subst (λ (d : Answered). IsAnswered old line noted d.outcome new × IsSaid old line noted d new) (sym (is ∙ ap without_memory text))
+    (h, record { text = λ moment. refl; reply = λ lane revision. refl })
+
+pub is-run : (old new : Place) (line : ScriptLine) (seen : List ℕ) (noted : List Given) (answered : Result Answered NoMemory) (done : Answered) (spare : List ℕ) (shown : Base) (revision status mail disk : ℕ) → seen ≡ line.text
+    → spare ≡ codes "notmuch: no memory\n" → MatchResult answered (λ got. done ≡ got) (λ error. done ≡ record { outcome = outcomes.NoMemory; text = spare; reply = None })
+    → Ends old seen noted answered new → revision ≡ shown.revision → shown ≡ new.writer.shown → status ≡ status_of done.outcome → mail ≡ new.mail.faults → disk ≡ new.disk_faults
+    → IsRun old (line, record { phase = 0; lane = 0; line = line.number; revision = revision; status = status; outcome = done.outcome; text = done.text; given = noted; mail_faults = mail; disk_faults = disk }) done.reply new
+is-run old new line seen noted answered done spare shown revision status mail disk same text is ends at shown_is status_is mail_is disk_is =
+    let h : IsAnswered old line.text noted done.outcome new × IsSaid old line.text noted done new =
+    subst (λ (l : List ℕ). IsAnswered old l noted done.outcome new × IsSaid old l noted done new) same (done-by old new seen noted answered done spare text is ends) in
+    record {
+      answered = h.0;
+      text = h.1.text;
+      reply_is = h.1.reply 0 revision;
+      numbers = record { phase = refl; lane = refl; number = refl };
+      revision = at ∙ ap (λ (b : Base). b.revision) shown_is;
+      mail_faults = mail_is;
+      disk_faults = disk_is;
+      status = status_is;
+    }
+
+-- the marks of a line are those of its commits and of its reply
+
+made-marks : (made : List Commit) → replicate (length made) marks.Made ≡ map made_mark made
+made-marks [] = refl
+made-marks (commit ∷ made) = ap (λ (l : List Mark). marks.Made ∷ l) (made-marks made)
+
+pub flight-marks : (outcome : Outcome) (tree : Option Tree) (index : Base) (line : List ℕ) (noted : List Given) (count : ℕ) (made flight : List Commit) → Makes outcome tree index line noted count made flight
+    → (if is_disk_fault outcome then marks.Begun ∷ [] else []) ≡ map begun_mark flight
+flight-marks outcomes.Ok tree index line noted count made flight h = sym (ap (map begun_mark) h.1)
+flight-marks (outcomes.Usage word kind) tree index line noted count made flight h = sym (ap (map begun_mark) h.1)
+flight-marks outcomes.MailFault tree index line noted count made flight h = sym (ap (map begun_mark) h.1)
+flight-marks outcomes.DiskFault tree index line noted count made flight h = sym (ap (map begun_mark) h.2)
+flight-marks (outcomes.Closed fault) tree index line noted count made flight h = sym (ap (map begun_mark) h.1)
+flight-marks (outcomes.Limit limit) tree index line noted count made flight h = sym (ap (map begun_mark) h.3)
+flight-marks outcomes.NoMemory tree index line noted count made flight h = sym (ap (map begun_mark) h.1)
+
+count-made : (acked seen new clocks : List ℕ) (commits : List Commit) (made : ℕ) → made ≡ length new - length seen → seen ≡ acked → new ≡ acked ++ clocks → length clocks ≡ length commits → made ≡ length commits
+count-made acked seen new clocks commits made is same added each =
+    let more : length new ≡ length acked + length clocks = ap length added ∙ length-append acked clocks in
+    let before : length seen ≡ length acked = ap length same in
+    omega (arith, is, more, before, each)
+
+pub marks-are : (old new : Place) (ran : RunLine) (reply : Option Mark) (seen : List ℕ) (made : ℕ) (run : IsRun old ran reply new) → seen ≡ old.writer.acked → made ≡ length new.writer.acked - length seen
+    → marks_for made (is_disk_fault ran.1.outcome) (option_to_list reply) ≡ line_marks run.answered.made run.answered.flight (reply_to ran)
+marks-are old new ran reply seen made run same is =
+    let h : IsAnswered old ran.0.text ran.1.given ran.1.outcome new = run.answered in
+    let count : made ≡ length h.made = count-made old.writer.acked seen new.writer.acked h.has_made.clocks h.made made is same h.has_made.acked h.has_made.one_each in
+    let flight : (if is_disk_fault ran.1.outcome then marks.Begun ∷ [] else []) ≡ map begun_mark h.flight =
+    flight-marks ran.1.outcome old.mail.tree old.writer.shown ran.0.text ran.1.given (length old.writer.acked + length h.made) h.made h.flight h.makes in
+    ap (λ n. marks_for n (is_disk_fault ran.1.outcome) (option_to_list reply)) count
+    ∙ (ap (λ (l : List Mark). l ++ ((if is_disk_fault ran.1.outcome then marks.Begun ∷ [] else []) ++ option_to_list reply)) (made-marks h.made)
+    ∙ (ap (λ (l : List Mark). map made_mark h.made ++ (l ++ option_to_list reply)) flight
+    ∙ ap (λ (l : List Mark). map made_mark h.made ++ (map begun_mark h.flight ++ l)) run.reply_is))
+
+-- a line has two commits at most, and one reply
+
+commit-few : (changes : List Change) → length (commit_of changes) ≤ 1
+commit-few [] = omega arith
+commit-few (change ∷ changes) = omega arith
+
+due-few : (request : Request) (index : Base) (noted : List Given) (arrivals : List (List ℕ × Facts)) → length (due_commits request index noted arrivals) ≤ 2
+due-few requests.New index noted arrivals = grind (arith, length-append, commit-few)
+due-few (requests.Count ask) index noted arrivals = omega arith
+
+are-few : (tree : Option Tree) (index : Base) (line : List ℕ) (noted : List Given) (due : List Commit) → AreDue tree index line noted due → length due ≤ 2
+are-few tree index line noted due h = subst (λ (l : List Commit). length l ≤ 2) (sym h.due_are) (due-few h.request index noted h.arrivals)
+
+stop-few : (due made more : List Commit) (commit : Commit) → due ≡ made ++ commit ∷ more → length due ≤ 2 → length made + 1 ≤ 2
+stop-few due made more commit is few =
+    let all : length due ≡ length made + length (commit ∷ more) = ap length is ∙ length-append made (commit ∷ more) in
+    omega (arith, all, few)
+
+first-few : (due made more : List Commit) → due ≡ made ++ more → length due ≤ 2 → length made ≤ 2
+first-few due made more is few =
+    let all : length due ≡ length made + length more = ap length is ∙ length-append made more in
+    omega (arith, all, few)
+
+none-long : (flight : List Commit) → flight ≡ [] → length flight ≡ 0
+none-long flight is = ap length is
+
+pub few-made : (outcome : Outcome) (tree : Option Tree) (index : Base) (line : List ℕ) (noted : List Given) (count : ℕ) (made flight : List Commit) → Makes outcome tree index line noted count made flight → length made + length flight ≤ 2
+few-made outcomes.Ok tree index line noted count made flight h = omega (arith, are-few tree index line noted made h.0, none-long flight h.1)
+few-made (outcomes.Usage word kind) tree index line noted count made flight h = omega (arith, none-long made h.0, none-long flight h.1)
+few-made outcomes.MailFault tree index line noted count made flight h = omega (arith, none-long made h.0, none-long flight h.1)
+few-made outcomes.DiskFault tree index line noted count made flight h =
+    let one : length flight ≡ 1 = ap length h.2 in
+    omega (arith, stop-few h.1.due made h.1.more h.0 h.1.order (are-few tree index line noted h.1.due h.1.are_due), one)
+few-made (outcomes.Closed fault) tree index line noted count made flight h = omega (arith, none-long made h.0, none-long flight h.1)
+few-made (outcomes.Limit limit) tree index line noted count made flight h =
+    omega (arith, stop-few h.1.due made h.1.more h.0 h.1.order (are-few tree index line noted h.1.due h.1.are_due), none-long flight h.3)
+few-made outcomes.NoMemory tree index line noted count made flight h =
+    let some : length made ≤ 2 = elim (h.0) [ inl none ↦ omega (arith, none-long made none) | inr due ↦ first-few due.0 made due.1 due.3 (are-few tree index line noted due.0 due.2) ] in
+    omega (arith, some, none-long flight h.1)
+
+asked-few : (line : ParsedLine) (lane revision : ℕ) (text : List ℕ) → length (replied_where outcomes.Ok line lane revision text) ≤ 1
+asked-few (asked.Request request) lane revision text = omega arith
+asked-few (asked.Usage word kind) lane revision text = omega arith
+
+pub reply-few : (outcome : Outcome) (line : ParsedLine) (lane revision : ℕ) (text : List ℕ) → length (replied_where outcome line lane revision text) ≤ 1
+reply-few outcomes.Ok line lane revision text = asked-few line lane revision text
+reply-few (outcomes.Usage word kind) line lane revision text = omega arith
+reply-few outcomes.MailFault line lane revision text = omega arith
+reply-few outcomes.DiskFault line lane revision text = omega arith
+reply-few (outcomes.Closed fault) line lane revision text = omega arith
+reply-few (outcomes.Limit limit) line lane revision text = omega arith
+reply-few outcomes.NoMemory line lane revision text = omega arith
+
+line-marks-length : (made flight : List Commit) (replies : List Replied) → length (line_marks made flight replies) ≡ length made + (length flight + length replies)
+line-marks-length made flight replies =
+    length-append (map made_mark made) (map begun_mark flight ++ map reply_mark replies)
+    ∙ (ap (λ n. n + length (map begun_mark flight ++ map reply_mark replies)) (mapped made_mark made)
+    ∙ ap (λ n. length made + n) (length-append (map begun_mark flight) (map reply_mark replies)
+    ∙ (ap (λ n. n + length (map reply_mark replies)) (mapped begun_mark flight) ∙ ap (λ n. length flight + n) (mapped reply_mark replies))))
+
+pub marks-few : (old new : Place) (ran : RunLine) (reply : Option Mark) (run : IsRun old ran reply new) → length (line_marks run.answered.made run.answered.flight (reply_to ran)) ≤ 3
+marks-few old new ran reply run =
+    let h : IsAnswered old ran.0.text ran.1.given ran.1.outcome new = run.answered in
+    omega (
+      arith,
+      line-marks-length h.made h.flight (reply_to ran),
+      few-made ran.1.outcome old.mail.tree old.writer.shown ran.0.text ran.1.given (length old.writer.acked + length h.made) h.made h.flight h.makes,
+      reply-few ran.1.outcome (parse_line ran.0.text) ran.1.lane ran.1.revision ran.1.text,
+    )
+
+-- there is a place for each mark of a line
+pub marks-fit : (old new : Place) (ran : RunLine) (reply : Option Mark) (seen : List ℕ) (made room : ℕ) → IsRun old ran reply new → seen ≡ old.writer.acked → made ≡ length new.writer.acked - length seen → 3 ≤ room
+    → length (marks_for made (is_disk_fault ran.1.outcome) (option_to_list reply)) ≤ room
+marks-fit old new ran reply seen made room run same is spare =
+    let all : length (marks_for made (is_disk_fault ran.1.outcome) (option_to_list reply)) ≡ length (line_marks run.answered.made run.answered.flight (reply_to ran)) =
+    ap length (marks-are old new ran reply seen made run same is) in
+    omega (arith, all, marks-few old new ran reply run, spare)
+
+-- and at most three places are taken
+pub marks-left : (old new : Place) (ran : RunLine) (reply : Option Mark) (seen : List ℕ) (made room left : ℕ) → IsRun old ran reply new → seen ≡ old.writer.acked → made ≡ length new.writer.acked - length seen
+    → left + length (marks_for made (is_disk_fault ran.1.outcome) (option_to_list reply)) ≡ room → room ≤ left + 3
+marks-left old new ran reply seen made room left run same is taken =
+    let few : length (marks_for made (is_disk_fault ran.1.outcome) (option_to_list reply)) ≤ 3 = marks-fit old new ran reply seen made 3 run same is (omega arith) in
+    omega (arith, few, taken)
+
+-- an open writer has acknowledged all that it began, still
+
+still-alive : (outcome : Outcome) (closed : Option ℕ) (faults : ℕ) (tree : Option Tree) (index : Base) (line : List ℕ) (noted : List Given) (count : ℕ) (made flight : List Commit)
+    → Makes outcome tree index line noted count made flight → closed_after closed outcome faults ≡ None → (closed ≡ None) × (flight ≡ [])
+still-alive outcomes.Ok closed faults tree index line noted count made flight h e = (e, h.1)
+still-alive (outcomes.Usage word kind) closed faults tree index line noted count made flight h e = (e, h.1)
+still-alive outcomes.MailFault closed faults tree index line noted count made flight h e = (e, h.1)
+still-alive outcomes.DiskFault closed faults tree index line noted count made flight h e = absurd (cc)
+still-alive (outcomes.Closed fault) closed faults tree index line noted count made flight h e = (e, h.1)
+still-alive (outcomes.Limit limit) closed faults tree index line noted count made flight h e = (e, h.3)
+still-alive outcomes.NoMemory closed faults tree index line noted count made flight h e = (e, h.1)
+
+pub still-even : (old new : Place) (line : List ℕ) (noted : List Given) (outcome : Outcome) → IsAnswered old line noted outcome new → IsEven old.writer → IsEven new.writer
+still-even old new line noted outcome h even = λ alive.
+    let was : (old.writer.closed ≡ None) × (h.flight ≡ []) =
+    still-alive outcome old.writer.closed new.disk_faults old.mail.tree old.writer.shown line noted (length old.writer.acked + length h.made) h.made h.flight h.makes (sym h.closed ∙ alive) in
+    let begun : length new.writer.begun ≡ length old.writer.begun + length (h.made ++ h.flight) = ap length h.has_made.begun_are ∙ length-append old.writer.begun (h.made ++ h.flight) in
+    let acked : length new.writer.acked ≡ length old.writer.acked + length h.has_made.clocks = ap length h.has_made.acked ∙ length-append old.writer.acked h.has_made.clocks in
+    let none : length h.flight ≡ 0 = ap length was.1 in
+    omega (arith, begun, length-append h.made h.flight, none, acked, h.has_made.one_each, even was.0)

@@ -1,0 +1,41 @@
+use Rattle.std.proofs.Common.{ℕ, ◌+◌, List, ◌++◌, length, sym, ap, ◌∙◌, subst, arith}
+use Rattle.nm_session.specs.Line.{place_at}
+use Rattle.nm_session.specs.Rooms.{AreSpares}
+use Rattle.nm_session.specs.declared.marks.Mark.{Mark}
+use Rattle.nm_session.proofs.LineLemmas.{marks-are, marks-fit, marks-left}
+use Rattle.nm_session.proofs.line.run_line.Goals as goal
+
+pub note-requires : goal.note-requires
+note-requires g c =
+    let old = place_at c.args.writer.now (g.M.Maildir.observed c.args.mail.now) (g.D.Disk.observed c.args.disk.now) in
+    let done = c.line_log-log in
+    let new = place_at done.new.writer (g.M.Maildir.observed done.new.mail) (g.D.Disk.observed done.new.disk) in
+    record {
+      logs = omega (arith, c.requires.spare.logs);
+      marks = marks-fit old new (c.args.line.now, done.result.0) done.result.1 c.acked-before.result.now c.made_since-made.result c.args.rooms.now.marks.1 done.ensures.run c.acked-before.ensures c.made_since-made.ensures
+          (omega (arith, c.requires.spare.marks));
+    }
+
+pub returns : goal.returns
+returns g c =
+    let old = place_at c.args.writer.now (g.M.Maildir.observed c.args.mail.now) (g.D.Disk.observed c.args.disk.now) in
+    let done = c.line_log-log in
+    let new = place_at done.new.writer (g.M.Maildir.observed done.new.mail) (g.D.Disk.observed done.new.disk) in
+    let are = marks-are old new (c.args.line.now, done.result.0) done.result.1 c.acked-before.result.now c.made_since-made.result done.ensures.run c.acked-before.ensures c.made_since-made.ensures in
+    record {
+      noted = record {
+        log = done.result.0;
+        reply = done.result.1;
+        run = done.ensures.run;
+        logs = c.note.ensures.logs;
+        marks = c.note.ensures.marks ∙ ap (λ (l : List Mark). c.args.rooms.now.marks.0 ++ l) are;
+        steps = c.note.ensures.steps;
+        logs_spare = c.note.ensures.logs_spare;
+        marks_spare = marks-left old new (c.args.line.now, done.result.0) done.result.1 c.acked-before.result.now c.made_since-made.result c.args.rooms.now.marks.1 c.note.new.rooms.marks.1 done.ensures.run c.acked-before.ensures c.made_since-made.ensures
+            c.note.ensures.marks_spare;
+        spares = ap (λ (l : List (List ℕ)). length l + 1) c.note.ensures.spares ∙ c.take_spare-spare.ensures.length;
+        texts = subst AreSpares (sym c.note.ensures.spares) c.take_spare-spare.ensures.texts;
+      };
+      stands = done.ensures.stands;
+      durable = done.ensures.durable;
+    }

@@ -1,0 +1,26 @@
+use Rattle.std.proofs.Common.{◌≡◌, ℤ, None, length, take}
+use Rattle.std.specs.Prelude.{IfSome}
+use Rattle.nm_disk.specs.Observed.{ObservedDisk}
+use Rattle.nm_history.specs.Call.{Devices}
+use Rattle.nm_index.specs.declared.base.Base.{Base}
+use Rattle.nm_session.specs.Line.{place_at}
+use Rattle.nm_session.specs.Loop.{HasNoted, HasRunSome, SpareFrom}
+use Rattle.nm_writer.specs.Durable.{IsDurable}
+use Rattle.nm_writer.specs.Writer.{StandsOnIndex}
+use Rattle.nm_session.proofs.running.run_each.Given as goal
+
+-- the lines so far were run and noted
+abbrev pub invariant-lines : goal.invariant-lines
+invariant-lines g l =
+    let mail = g.M.Maildir in
+    let disk = g.D.Disk in
+    let place = place_at l.writer (mail.observed l.mail) (disk.observed l.disk) in
+    record {
+      noted : HasNoted (take l.line-index l.lines) l.rooms place;
+      spare : SpareFrom l.line-index (length l.lines) l.rooms;
+      steps : l.rooms.steps ≡ l.initial.rooms.steps;
+      ran : (moment : ℤ) (entry : Devices) → entry.mail ≡ mail.observed l.initial.mail → entry.disk.faults ≡ (disk.observed l.initial.disk).faults
+          → HasRunSome moment l.initial.writer.shown entry (take l.line-index l.lines) l.rooms place;
+      stands : l.writer.closed ≡ None → IfSome (disk.observed l.disk).told (λ moments. StandsOnIndex moments.present l.writer);
+      durable : (entry : ObservedDisk) (opening : Base) → IsDurable entry opening (disk.observed l.initial.disk) l.initial.writer → IsDurable entry opening (disk.observed l.disk) l.writer;
+    }

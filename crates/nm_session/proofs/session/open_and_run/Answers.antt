@@ -1,0 +1,31 @@
+use Rattle.std.proofs.Common.{refl, sym}
+use Rattle.nm_history.specs.Call.{devices}
+use Rattle.nm_session.proofs.SessionLemmas.{open-caused, opening-held, ran-prefix, unopened-prefix}
+use Rattle.nm_session.proofs.session.open_and_run.Goals as goal
+
+pub returns-in-Ok-clause-ran : goal.returns-in-Ok-clause-ran
+returns-in-Ok-clause-ran g c = λ input out err.
+    let old = g.D.Disk.observed c.args.disk.now in
+    let opened = g.D.Disk.observed c.open.new.disk in
+    let new = g.D.Disk.observed c.run_lines-log.new.disk in
+    let opening = c.in-Ok.writer.shown in
+    let log = c.run_lines-log.result in
+    let run = c.run_lines-log.ensures.ran (devices (g.M.Maildir.observed c.args.mail.now) old input out err) refl (sym c.in-Ok.ensures.cause) in
+    let kept = c.run_lines-log.ensures.durable opened c.in-Ok.ensures.durable in
+    record {
+      opening = opening;
+      opening_index = opening-held opening old.told opened.told c.in-Ok.ensures.index;
+      run = run;
+      crash_prefix = ran-prefix c.a_session_keeps_its_commits.ensures opening log.steps log.acked old opened new c.in-Ok.ensures.index c.in-Ok.ensures.synced
+          (λ quiet. (c.run_lines-log.ensures.durable old (c.in-Ok.ensures.durable_from_entry quiet)).kept) kept.kept run.clocks kept.clocks;
+    }
+
+pub returns-in-Err-clause-refused : goal.returns-in-Err-clause-refused
+returns-in-Err-clause-refused g c =
+    let old = g.D.Disk.observed c.args.disk.now in
+    let new = g.D.Disk.observed c.open.new.disk in
+    record {
+      mail = refl;
+      cause = open-caused old new c.in-Err.error c.in-Err.ensures.cause c.in-Err.ensures.bad c.in-Err.ensures.file;
+      crash_prefix = unopened-prefix c.a_refused_opening_keeps_the_index.ensures old new (g.D.Disk.reads_an_image c.args.disk.now) c.in-Err.ensures.syncs c.in-Err.ensures.any_moment;
+    }

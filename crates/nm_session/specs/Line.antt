@@ -1,0 +1,82 @@
+-- How one line ends: what it made, why, and what it says.
+use Rattle.std.specs.Prelude.{◌≡◌, ℕ, ℤ, ◌+◌, ◌≤◌, List, [], ◌∷◌, ◌++◌, length, map, Option, None, Result, Ok, Err}
+use Rattle.std.specs.Option.{option_to_list}
+use Rattle.nm_base.specs.declared.memory.NoMemory.{NoMemory}
+use Rattle.nm_commit.specs.declared.change.Commit.{Commit}
+use Rattle.nm_disk.specs.Observed.{ObservedDisk}
+use Rattle.nm_history.specs.Given.{AsksMail}
+use Rattle.nm_history.specs.LineAnswers.{HasCause, line_text}
+use Rattle.nm_history.specs.LineCommits.{Makes}
+use Rattle.nm_history.specs.LineResult.{HasMade, Place, before_at}
+use Rattle.nm_history.specs.Lines.{RunLine, closed_after}
+use Rattle.nm_history.specs.MachineRun.{replied_where, reply_to}
+use Rattle.nm_history.specs.PrintedOut.{IsNumbered}
+use Rattle.nm_log.specs.ParsedLine.{parse_line}
+use Rattle.nm_log.specs.Replies.{status_of}
+use Rattle.nm_log.specs.declared.log.LineLog.{LineLog}
+use Rattle.nm_log.specs.declared.outcome.Outcome.{Outcome}
+use Rattle.nm_log.specs.declared.outcome.Outcome.TheVariants as outcomes
+use Rattle.nm_log.specs.declared.script.ScriptLine.{ScriptLine}
+use Rattle.nm_maildir.specs.Observed.{ObservedMail}
+use Rattle.nm_maildir.specs.declared.given.Given.{Given}
+use Rattle.nm_session.specs.Marks.{line_marks, reply_mark}
+use Rattle.nm_session.specs.Rooms.{AreSpares}
+use Rattle.nm_session.specs.declared.answering.Answered.{Answered}
+use Rattle.nm_session.specs.declared.marks.Mark.{Mark}
+use Rattle.nm_session.specs.declared.rooms.Rooms.{Rooms}
+use Rattle.nm_writer.specs.Writer.{WriterState}
+
+-- where a session stands
+abbrev pub place_at : WriterState → ObservedMail → ObservedDisk → Place
+place_at writer mail disk = record { writer = writer; mail = mail; disk_faults = disk.faults }
+
+-- an open writer has acknowledged all that it began
+abbrev pub IsEven : WriterState → Type 0
+IsEven writer = writer.closed ≡ None → length writer.begun ≡ length writer.acked
+
+-- A line was run and ended so: what it made and asked, and why it ended so.
+pub record IsAnswered (old : Place) (line : List ℕ) (noted : List Given) (outcome : Outcome) (new : Place) : Type 0 where
+  pub made : List Commit
+  pub flight : List Commit
+  pub has_made : HasMade old.writer made flight new.writer
+  pub makes : Makes outcome old.mail.tree old.writer.shown line noted (length old.writer.acked + length made) made flight
+  pub closed : new.writer.closed ≡ closed_after old.writer.closed outcome new.disk_faults
+  pub asks : AsksMail (parse_line line) old.mail new.mail old.writer.shown.files noted
+  pub tree : new.mail.tree ≡ old.mail.tree
+  pub mail_never_falls : old.mail.faults ≤ new.mail.faults
+  pub disk_never_falls : old.disk_faults ≤ new.disk_faults
+  pub cause : HasCause outcome (parse_line line) (before_at old) new.mail.faults new.disk_faults
+
+-- What it says, and the mark of its reply where it went well.
+pub record IsSaid (old : Place) (line : List ℕ) (noted : List Given) (done : Answered) (new : Place) : Type 0 where
+  pub text : (moment : ℤ) → done.text ≡ line_text done.outcome (parse_line line) old.writer.shown new.writer.shown moment noted
+  pub reply : (lane revision : ℕ) → option_to_list done.reply ≡ map reply_mark (replied_where done.outcome (parse_line line) lane revision done.text)
+
+-- It was answered, or found no memory for it.
+abbrev pub Ends : Place → List ℕ → List Given → Result Answered NoMemory → Place → Type 0
+Ends old line noted (Ok done) new = IsAnswered old line noted done.outcome new × IsSaid old line noted done new
+Ends old line noted (Err error) new = IsAnswered old line noted outcomes.NoMemory new
+
+-- A line was run, and its log says so.
+pub record IsRun (old : Place) (ran : RunLine) (reply : Option Mark) (new : Place) : Type 0 where
+  pub answered : IsAnswered old ran.0.text ran.1.given ran.1.outcome new
+  pub text : (moment : ℤ) → ran.1.text ≡ line_text ran.1.outcome (parse_line ran.0.text) old.writer.shown new.writer.shown moment ran.1.given
+  pub reply_is : option_to_list reply ≡ map reply_mark (reply_to ran)
+  pub numbers : IsNumbered ran.0 ran.1
+  pub revision : ran.1.revision ≡ new.writer.shown.revision
+  pub mail_faults : ran.1.mail_faults ≡ new.mail.faults
+  pub disk_faults : ran.1.disk_faults ≡ new.disk_faults
+  pub status : ran.1.status ≡ status_of ran.1.outcome
+
+-- And its log and its marks are in the rooms, where the places for one line are taken.
+pub record IsNoted (old : Place) (line : ScriptLine) (before after : Rooms) (new : Place) : Type 0 where
+  pub log : LineLog
+  pub reply : Option Mark
+  pub run : IsRun old (line, log) reply new
+  pub logs : after.logs.0 ≡ before.logs.0 ++ log ∷ []
+  pub marks : after.marks.0 ≡ before.marks.0 ++ line_marks run.answered.made run.answered.flight (reply_to (line, log))
+  pub steps : after.steps ≡ before.steps
+  pub logs_spare : after.logs.1 + 1 ≡ before.logs.1
+  pub marks_spare : before.marks.1 ≤ after.marks.1 + 3
+  pub spares : length after.spares + 1 ≡ length before.spares
+  pub texts : AreSpares after.spares

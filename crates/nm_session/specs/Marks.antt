@@ -1,0 +1,64 @@
+-- How the steps of a session are told: a mark for each commit that a line made, or left on its way, and for each reply, in their
+-- order; the commits themselves are the writer's.
+use Rattle.std.specs.Prelude.{ℕ, Bool, List, [], ◌∷◌, ◌++◌, map, replicate, if◌then◌else◌}
+use Rattle.nm_commit.specs.declared.change.Commit.{Commit}
+use Rattle.nm_history.specs.LineResult.{commit_steps}
+use Rattle.nm_history.specs.MachineRun.{Replied}
+use Rattle.nm_machine.specs.declared.step.Step.{Step}
+use Rattle.nm_machine.specs.declared.step.Step.TheVariants as steps
+use Rattle.nm_session.specs.declared.marks.Mark.{Mark}
+use Rattle.nm_session.specs.declared.marks.Mark.TheVariants as marks
+
+-- the steps of the first commit
+abbrev pub steps_of_first : List Commit → List Step
+steps_of_first [] = []
+steps_of_first (commit ∷ commits) = commit_steps commit
+
+-- its begin alone
+abbrev pub begin_of_first : List Commit → List Step
+begin_of_first [] = []
+begin_of_first (commit ∷ commits) = steps.Begin commit ∷ []
+
+-- the commits behind the first
+abbrev pub behind_first : List Commit → List Commit
+behind_first [] = []
+behind_first (commit ∷ commits) = commits
+
+-- the steps that a mark stands for, where these commits come next
+abbrev pub steps_by : Mark → List Commit → List Step
+steps_by marks.Made commits = steps_of_first commits
+steps_by marks.Begun commits = begin_of_first commits
+steps_by (marks.Reply request text) commits = steps.Reply 0 request text ∷ []
+
+-- the commits that come next behind it
+abbrev pub left_by : Mark → List Commit → List Commit
+left_by marks.Made commits = behind_first commits
+left_by marks.Begun commits = behind_first commits
+left_by (marks.Reply request text) commits = commits
+
+-- the steps that the marks stand for, with these commits
+abbrev pub steps_of : List Mark → List Commit → List Step
+steps_of [] commits = []
+steps_of (mark ∷ more) commits = steps_by mark commits ++ steps_of more (left_by mark commits)
+
+-- the commits behind all of them
+abbrev pub left_of : List Mark → List Commit → List Commit
+left_of [] commits = commits
+left_of (mark ∷ more) commits = left_of more (left_by mark commits)
+
+abbrev pub made_mark : Commit → Mark
+made_mark commit = marks.Made
+
+abbrev pub begun_mark : Commit → Mark
+begun_mark commit = marks.Begun
+
+abbrev pub reply_mark : Replied → Mark
+reply_mark replied = marks.Reply replied.request replied.text
+
+-- the marks of a line that made these commits, left this one on its way, and was replied to
+abbrev pub line_marks : List Commit → List Commit → List Replied → List Mark
+line_marks made flight replies = map made_mark made ++ (map begun_mark flight ++ map reply_mark replies)
+
+-- the marks where so many were made, one is on its way or none, and these are of replies
+abbrev pub marks_for : ℕ → Bool → List Mark → List Mark
+marks_for made in_flight replies = replicate made marks.Made ++ ((if in_flight then marks.Begun ∷ [] else []) ++ replies)

@@ -1,0 +1,35 @@
+-- What running the lines of a script leaves, over the index that was opened.
+use Rattle.std.specs.Prelude.{◌≡◌, ℕ, ℤ, true, List, length}
+use Rattle.std.specs.List.{zip}
+use Rattle.nm_commit.specs.declared.change.Commit.{Commit}
+use Rattle.nm_disk.specs.Calls.{GoesOn}
+use Rattle.nm_disk.specs.Observed.{ObservedDisk}
+use Rattle.nm_history.specs.Call.{Devices}
+use Rattle.nm_history.specs.CrashPrefix.{appends}
+use Rattle.nm_history.specs.Given.{GivenAlong}
+use Rattle.nm_history.specs.LineAnswers.{LineAnswers}
+use Rattle.nm_history.specs.LineCommits.{LineCommits}
+use Rattle.nm_history.specs.Lines.{at_first, begun, behind_all}
+use Rattle.nm_history.specs.MachineRun.{MachineRun}
+use Rattle.nm_history.specs.PrintedOut.{AreLogsOf}
+use Rattle.nm_index.specs.declared.base.Base.{Base}
+use Rattle.nm_log.specs.declared.log.SessionLog.{SessionLog}
+use Rattle.nm_log.specs.declared.script.ScriptLine.{ScriptLine}
+use Rattle.nm_maildir.specs.Observed.{ObservedMail}
+use Rattle.nm_writer.specs.Durable.{KeptSince, NeverFall}
+
+-- All lines were run, from this opening index on, and what each did is what the statement of a session says.
+pub record HasRun (moment : ℤ) (opening : Base) (entry : Devices) (lines : List ScriptLine) (mail : ObservedMail) (disk_faults : ℕ) (log : SessionLog) : Type 0 where
+  pub acknowledged : List Commit
+  pub logs : AreLogsOf lines log.lines true
+  pub machine_run : MachineRun opening moment (at_first opening entry) log.steps (zip lines log.lines) acknowledged
+  pub line_commits : LineCommits opening entry.mail.tree log.steps (zip lines log.lines) acknowledged
+  pub line_answers : LineAnswers opening moment (at_first opening entry) log.steps (zip lines log.lines)
+  pub given : GivenAlong opening log.steps (at_first opening entry) (zip lines log.lines) entry.mail mail
+  pub faults : (behind_all (at_first opening entry) (zip lines log.lines)).disk_faults ≡ disk_faults
+  pub clocks : length log.acked ≡ appends log.steps
+
+-- No commit that was acknowledged is lost since the entry; the clocks never fall.
+pub record IsKept (entry : ObservedDisk) (opening : Base) (disk : ObservedDisk) (log : SessionLog) : Type 0 where
+  pub kept : GoesOn (KeptSince opening (begun log.steps) log.acked) entry.told disk.told
+  pub clocks : NeverFall 0 log.acked disk.clock

@@ -1,0 +1,35 @@
+-- What a session leaves, from the opening of the index to the last line; and what stands where no index is opened.
+use Rattle.std.specs.Prelude.{◌≡◌, ℤ, List, [], IfSome}
+use Rattle.nm_disk.specs.Observed.{ObservedDisk, bytes_now}
+use Rattle.nm_disk.specs.declared.disk.FileNo.TheVariants.{Head}
+use Rattle.nm_faults.specs.Faults.{HasRisen}
+use Rattle.nm_history.specs.Call.{Devices, Ran}
+use Rattle.nm_history.specs.CrashPrefix.{CrashPrefix}
+use Rattle.nm_history.specs.OpeningIndex.{OpeningIndex}
+use Rattle.nm_index.specs.declared.base.Base.{Base}
+use Rattle.nm_log.specs.declared.log.SessionLog.{SessionLog}
+use Rattle.nm_log.specs.declared.script.ScriptLine.{ScriptLine}
+use Rattle.nm_maildir.specs.Observed.{ObservedMail}
+use Rattle.nm_session.specs.Run.{HasRun}
+use Rattle.nm_writer.specs.StoredIndex.{HoldsNoIndex}
+use Rattle.nm_writer.specs.declared.open_error.OpenError.{OpenError}
+use Rattle.nm_writer.specs.declared.open_error.OpenError.TheVariants as errors
+
+-- The lines were run from the index that the disk held, and every moment since leaves the commits that were acknowledged.
+pub record IsSession (moment : ℤ) (entry : Devices) (lines : List ScriptLine) (mail : ObservedMail) (disk : ObservedDisk) (log : SessionLog) : Type 0 where
+  pub opening : Base
+  pub opening_index : OpeningIndex Ran entry.disk opening
+  pub run : HasRun moment opening entry lines mail disk.faults log
+  pub crash_prefix : CrashPrefix entry.disk disk log.steps log.acked
+
+-- why no index is opened
+abbrev pub HasOpenCause : ObservedDisk → ObservedDisk → OpenError → Type 0
+HasOpenCause old new errors.DiskFault = HasRisen old.faults new.faults
+HasOpenCause old new (errors.BadIndex file at) = (file ≡ Head) × IfSome old.told (λ moments. HoldsNoIndex (bytes_now moments Head) at)
+HasOpenCause old new errors.NoMemory = Unit {0}
+
+-- No index was opened: no line was run, and every moment leaves the index that the disk held.
+pub record IsUnopened (old_mail new_mail : ObservedMail) (old new : ObservedDisk) (error : OpenError) : Type 0 where
+  pub mail : new_mail ≡ old_mail
+  pub cause : HasOpenCause old new error
+  pub crash_prefix : CrashPrefix old new [] []

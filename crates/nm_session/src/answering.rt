@@ -1,0 +1,145 @@
+//! The answer to one line: what it asks for is done, and its text is made.
+
+ghost use Rattle.std.specs.Prelude.{◌≡◌, ℕ, List, [], false, None, Some, IfOk, IfSome, MatchResult};
+ghost use Rattle.nm_answer.specs.Count.{count_text};
+ghost use Rattle.nm_answer.specs.NewText.{new_text};
+ghost use Rattle.nm_disk.specs.Observed.{ObservedDisk};
+ghost use Rattle.nm_index.specs.declared.base.Base.{Base};
+ghost use Rattle.nm_log.specs.ParsedLine.{parse_line};
+ghost use Rattle.nm_log.specs.Replies.{refusal_line};
+ghost use Rattle.nm_log.specs.declared.line_parser.ParsedLine.TheVariants as asked;
+ghost use Rattle.nm_session.specs.Line.{Ends, IsEven, place_at};
+ghost use Rattle.nm_session.specs.Outcomes.{is_disk_fault, outcome_of};
+ghost use Rattle.nm_writer.specs.Durable.{IsDurable};
+ghost use Rattle.nm_writer.specs.Writer.{StandsOnIndex};
+
+use crate::counting::count;
+use crate::marks::Mark;
+use nm_answer::{NewReport, Request};
+use nm_base::{Copies, CountAsk, Many, NoMemory};
+use nm_disk::Disk;
+use nm_log::{Outcome, ParsedLine, new_reply, parse_line, refusal_text};
+use nm_maildir::{Given, Maildir};
+use nm_state::Snapshot;
+use nm_writer::{WriteError, Writer};
+use std::alloc::Global;
+
+/// What came of a line beside its commits.
+#[derive(Drop)]
+pub(crate) struct Answered {
+    pub(crate) outcome: Outcome,
+    pub(crate) text: Many<u8>,
+    /// The mark of its reply, where it went well.
+    pub(crate) reply: Option<Mark>,
+}
+
+/// Reads what the line asks for, and does it.
+pub(crate) fn answer<M: Maildir, D: Disk>(
+    alloc: Global,
+    line: &[u8],
+    writer: &mut Writer,
+    mail: &mut M,
+    disk: &mut D,
+    given: &mut Many<Given>,
+) -> Result<Answered, NoMemory>
+    requires fresh { given.old ≡ [] }
+    requires even { IsEven writer.old }
+    requires stands { writer.old.closed ≡ None → IfSome (D.observed disk.old).told (λ moments. StandsOnIndex moments.present writer.old) }
+    ensures ends { Ends (place_at writer.old (M.observed mail.old) (D.observed disk.old)) line.now given.new result (place_at writer.new (M.observed mail.new) (D.observed disk.new)) }
+    ensures stands { writer.new.closed ≡ None → IfSome (D.observed disk.new).told (λ moments. StandsOnIndex moments.present writer.new) }
+    ensures durable { (entry : ObservedDisk) (opening : Base) → IsDurable entry opening (D.observed disk.old) writer.old
+        → IsDurable entry opening (D.observed disk.new) writer.new }
+{
+    match parse_line(alloc, line)? {
+        ParsedLine::Usage { word, kind } => refuse(alloc, Outcome::Usage { word, kind }),
+        ParsedLine::Request(Request::New) => run_new(alloc, writer, mail, disk, given),
+        ParsedLine::Request(Request::Count(ask)) => run_count(alloc, writer.snapshot(), ask),
+    }
+}
+
+/// Takes in what has come and lets go what is gone. The text of a disk fault is made before, since a commit may then be on its way.
+fn run_new<M: Maildir, D: Disk>(
+    alloc: Global,
+    writer: &mut Writer,
+    mail: &mut M,
+    disk: &mut D,
+    given: &mut Many<Given>,
+) -> Result<Answered, NoMemory>
+    requires fresh { given.old ≡ [] }
+    requires even { IsEven writer.old }
+    requires stands { writer.old.closed ≡ None → IfSome (D.observed disk.old).told (λ moments. StandsOnIndex moments.present writer.old) }
+    ensures ends { (line : List ℕ) → parse_line line ≡ asked.Request Request.New
+        → Ends (place_at writer.old (M.observed mail.old) (D.observed disk.old)) line given.new result (place_at writer.new (M.observed mail.new) (D.observed disk.new)) }
+    ensures stands { writer.new.closed ≡ None → IfSome (D.observed disk.new).told (λ moments. StandsOnIndex moments.present writer.new) }
+    ensures durable { (entry : ObservedDisk) (opening : Base) → IsDurable entry opening (D.observed disk.old) writer.old
+        → IsDurable entry opening (D.observed disk.new) writer.new }
+{
+    let disk_fault = refusal_text(alloc, &Outcome::DiskFault)?;
+    match writer.new_mail(mail, disk, given) {
+        Ok(report) => reply_new(alloc, &report),
+        Err(error) => refuse_new(alloc, error, disk_fault),
+    }
+}
+
+/// The reply of a `new`.
+fn reply_new(alloc: Global, report: &NewReport) -> Result<Answered, NoMemory>
+    ensures { IfOk result (λ done. done ≡ record { outcome = Outcome.Ok; text = new_text report.now; reply = Some (Mark.Reply Request.New (new_text report.now)) }) }
+{
+    let text = new_reply(alloc, report)?;
+    replied(Request::New, text)
+}
+
+/// The refusal of a `new`; where the disk failed it wants no memory.
+fn refuse_new(alloc: Global, error: WriteError, disk_fault: Many<u8>) -> Result<Answered, NoMemory>
+    requires { disk_fault ≡ refusal_line Outcome.DiskFault }
+    ensures { MatchResult result
+        (λ done. done ≡ record { outcome = outcome_of error; text = refusal_line (outcome_of error); reply = None })
+        (λ _. is_disk_fault (outcome_of error) ≡ false) }
+{
+    match error {
+        WriteError::MailFault => refuse(alloc, Outcome::MailFault),
+        WriteError::DiskFault => Ok(Answered {
+            outcome: Outcome::DiskFault,
+            text: disk_fault,
+            reply: None,
+        }),
+        WriteError::Closed { fault } => refuse(alloc, Outcome::Closed { fault }),
+        WriteError::Limit(limit) => refuse(alloc, Outcome::Limit(limit)),
+        WriteError::NoMemory => Err(NoMemory),
+    }
+}
+
+/// Counts over the index that is shown.
+fn run_count(alloc: Global, snapshot: &Snapshot, ask: CountAsk) -> Result<Answered, NoMemory>
+    ensures { IfOk result (λ done. done ≡ record { outcome = Outcome.Ok; text = count_text ask.query snapshot.now.files; reply = Some (Mark.Reply (Request.Count ask) (count_text ask.query snapshot.now.files)) }) }
+{
+    let text = count(alloc, ask.query.as_bytes(), snapshot)?;
+    replied(Request::Count(ask), text)
+}
+
+/// The line went well.
+fn replied(request: Request, text: Many<u8>) -> Result<Answered, NoMemory>
+    ensures { IfOk result (λ done. done ≡ record { outcome = Outcome.Ok; text = text; reply = Some (Mark.Reply request text) }) }
+{
+    let copied = text.copy()?;
+    Ok(Answered {
+        outcome: Outcome::Ok,
+        text,
+        reply: Some(Mark::Reply {
+            request,
+            text: copied,
+        }),
+    })
+}
+
+/// The line is refused.
+fn refuse(alloc: Global, outcome: Outcome) -> Result<Answered, NoMemory>
+    ensures { IfOk result (λ done. done ≡ record { outcome = outcome; text = refusal_line outcome; reply = None }) }
+{
+    let text = refusal_text(alloc, &outcome)?;
+    Ok(Answered {
+        outcome,
+        text,
+        reply: None,
+    })
+}

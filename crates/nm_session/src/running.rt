@@ -1,0 +1,112 @@
+//! The lines of a script, one after the other, over the index that was opened.
+
+ghost use Rattle.std.specs.Prelude.{◌≡◌, ℤ, ◌≤◌, [], None, IfSome, length};
+ghost use Rattle.nm_disk.specs.Observed.{ObservedDisk};
+ghost use Rattle.nm_history.specs.Call.{Devices};
+ghost use Rattle.nm_index.specs.declared.base.Base.{Base};
+ghost use Rattle.nm_session.specs.Line.{place_at};
+ghost use Rattle.nm_session.specs.Loop.{HasNoted, HasRunSome};
+ghost use Rattle.nm_session.specs.Marks.{steps_of};
+ghost use Rattle.nm_session.specs.Rooms.{HasRooms};
+ghost use Rattle.nm_session.specs.Run.{HasRun, IsKept};
+ghost use Rattle.nm_writer.specs.Durable.{IsDurable};
+ghost use Rattle.nm_writer.specs.Writer.{StandsOnIndex};
+
+use crate::line::run_line;
+use crate::rooms::Rooms;
+use crate::steps::push_steps;
+use nm_disk::Disk;
+use nm_history::{
+    a_line_more_keeps_the_answers, a_line_more_keeps_the_clocks, a_line_more_keeps_the_commits,
+    a_line_more_keeps_the_given, a_line_more_keeps_the_machine_run,
+    a_line_more_keeps_where_it_stands, no_line_is_answered, no_line_makes_no_commit,
+    no_line_stands_at_the_opening, no_step_is_a_run_of_the_machine, nothing_is_given_to_no_line,
+};
+use nm_log::{ScriptLine, SessionLog, Setting};
+use nm_maildir::Maildir;
+use nm_writer::Writer;
+use std::alloc::Global;
+
+/// Runs the lines in their order over the index that was opened, and tells what each did.
+pub(crate) fn run_lines<M: Maildir, D: Disk>(
+    alloc: Global,
+    setting: &Setting,
+    lines: &[ScriptLine],
+    rooms: Rooms,
+    writer: Writer,
+    mail: &mut M,
+    disk: &mut D,
+) -> SessionLog
+    requires rooms { HasRooms (length lines.now) rooms }
+    requires fresh { (writer.begun ≡ []) × (writer.acked ≡ []) × (writer.closed ≡ None) }
+    requires stands { IfSome (D.observed disk.old).told (λ moments. StandsOnIndex moments.present writer) }
+
+    // Each line was run, and the log says what the statement of a session says.
+    ensures ran { (entry : Devices) → entry.mail ≡ M.observed mail.old → entry.disk.faults ≡ (D.observed disk.old).faults
+        → HasRun setting.now.moment writer.shown entry lines.now (M.observed mail.new) (D.observed disk.new).faults result }
+
+    // No commit that was acknowledged is lost.
+    ensures durable { (entry : ObservedDisk) → IsDurable entry writer.shown (D.observed disk.old) writer → IsKept entry writer.shown (D.observed disk.new) result }
+{
+    let mut rooms = rooms;
+    let mut writer = writer;
+    run_each(alloc, lines, &mut rooms, &mut writer, mail, disk);
+    finish(rooms, writer)
+}
+
+/// Runs the lines, and notes each in the rooms.
+fn run_each<M: Maildir, D: Disk>(
+    alloc: Global,
+    lines: &[ScriptLine],
+    rooms: &mut Rooms,
+    writer: &mut Writer,
+    mail: &mut M,
+    disk: &mut D,
+)
+    requires rooms { HasRooms (length lines.now) rooms.old }
+    requires fresh { (writer.old.begun ≡ []) × (writer.old.acked ≡ []) × (writer.old.closed ≡ None) }
+    requires stands { IfSome (D.observed disk.old).told (λ moments. StandsOnIndex moments.present writer.old) }
+    ensures noted { HasNoted lines.now rooms.new (place_at writer.new (M.observed mail.new) (D.observed disk.new)) }
+    ensures steps { rooms.new.steps ≡ rooms.old.steps }
+    ensures ran { (moment : ℤ) (entry : Devices) → entry.mail ≡ M.observed mail.old → entry.disk.faults ≡ (D.observed disk.old).faults
+        → HasRunSome moment writer.old.shown entry lines.now rooms.new (place_at writer.new (M.observed mail.new) (D.observed disk.new)) }
+    ensures durable { (entry : ObservedDisk) (opening : Base) → IsDurable entry opening (D.observed disk.old) writer.old
+        → IsDurable entry opening (D.observed disk.new) writer.new }
+{
+    no_line_stands_at_the_opening();
+    no_step_is_a_run_of_the_machine();
+    no_line_makes_no_commit();
+    no_line_is_answered();
+    nothing_is_given_to_no_line();
+    a_line_more_keeps_where_it_stands();
+    a_line_more_keeps_the_machine_run();
+    a_line_more_keeps_the_commits();
+    a_line_more_keeps_the_answers();
+    a_line_more_keeps_the_given();
+    a_line_more_keeps_the_clocks();
+    'lines: for line in lines {
+        run_line(alloc, line, rooms, writer, mail, disk);
+    }
+}
+
+/// The log of the lines that were noted; it takes no memory.
+fn finish(rooms: Rooms, writer: Writer) -> SessionLog
+    requires none { rooms.steps.0 ≡ [] }
+    requires room { length (steps_of rooms.marks.0 writer.begun) ≤ rooms.steps.1 }
+    ensures { result ≡ record { steps = steps_of rooms.marks.0 writer.begun; lines = rooms.logs.0; acked = writer.acked } }
+{
+    let Rooms {
+        logs,
+        marks,
+        steps,
+        spares: _,
+    } = rooms;
+    let mut steps = steps;
+    let (begun, acked) = writer.finish();
+    push_steps(marks.into_many(), begun, &mut steps);
+    SessionLog {
+        steps: steps.into_many(),
+        lines: logs.into_many(),
+        acked,
+    }
+}

@@ -1,0 +1,62 @@
+//! A session: the index is opened, and the lines of the script are run over it.
+
+ghost use Rattle.std.specs.Prelude.{IfErr, IfOk, length};
+ghost use Rattle.nm_history.specs.Call.{devices};
+ghost use Rattle.nm_io.specs.Observed.{ObservedStream};
+ghost use Rattle.nm_session.specs.Rooms.{HasRooms};
+ghost use Rattle.nm_session.specs.Session.{IsSession, IsUnopened};
+
+use crate::rooms::{Rooms, rooms_for};
+use crate::running::run_lines;
+use nm_base::NoMemory;
+use nm_disk::Disk;
+use nm_history::{a_refused_opening_keeps_the_index, a_session_keeps_its_commits};
+use nm_log::{ScriptLine, SessionLog, Setting};
+use nm_maildir::Maildir;
+use nm_writer::{OpenError, Writer};
+use std::alloc::Global;
+
+/// Opens the index that the disk holds, and runs the lines over it and the mail folder, one after the other. All memory of the log
+/// is taken before the index is opened; a line that wants memory says so, and the next one runs.
+pub fn run_session<M: Maildir, D: Disk>(
+    alloc: Global,
+    setting: &Setting,
+    lines: &[ScriptLine],
+    mail: &mut M,
+    disk: &mut D,
+) -> Result<SessionLog, OpenError>
+    ensures ran { IfOk result (λ log. (input out err : ObservedStream) → IsSession setting.now.moment (devices (M.observed mail.old) (D.observed disk.old) input out err)
+        lines.now (M.observed mail.new) (D.observed disk.new) log) }
+    ensures refused { IfErr result (IsUnopened (M.observed mail.old) (M.observed mail.new) (D.observed disk.old) (D.observed disk.new)) }
+{
+    a_refused_opening_keeps_the_index();
+    match rooms_for(alloc, lines.len()) {
+        Ok(rooms) => open_and_run(alloc, setting, lines, rooms, mail, disk),
+        Err(NoMemory) => Err(OpenError::NoMemory),
+    }
+}
+
+/// Opens the index, and runs the lines.
+fn open_and_run<M: Maildir, D: Disk>(
+    alloc: Global,
+    setting: &Setting,
+    lines: &[ScriptLine],
+    rooms: Rooms,
+    mail: &mut M,
+    disk: &mut D,
+) -> Result<SessionLog, OpenError>
+    requires { HasRooms (length lines.now) rooms }
+    ensures ran { IfOk result (λ log. (input out err : ObservedStream) → IsSession setting.now.moment (devices (M.observed mail.old) (D.observed disk.old) input out err)
+        lines.now (M.observed mail.new) (D.observed disk.new) log) }
+    ensures refused { IfErr result (IsUnopened (M.observed mail.old) (M.observed mail.new) (D.observed disk.old) (D.observed disk.new)) }
+{
+    a_session_keeps_its_commits();
+    a_refused_opening_keeps_the_index();
+    match Writer::open(alloc, disk) {
+        Ok(writer) => {
+            let log = run_lines(alloc, setting, lines, rooms, writer, mail, disk);
+            Ok(log)
+        }
+        Err(error) => Err(error),
+    }
+}

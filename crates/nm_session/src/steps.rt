@@ -1,0 +1,74 @@
+//! The steps of the log, made of the marks and the commits when the session ends. They take no memory.
+
+ghost use Rattle.std.specs.Prelude.{◌≡◌, ◌+◌, ◌≤◌, ◌++◌, length};
+ghost use Rattle.std.specs.Vec.Iter.{into_iter_items, into_iter_len};
+ghost use Rattle.nm_session.specs.Marks.{begin_of_first, behind_first, left_by, steps_by, steps_of, steps_of_first};
+
+use crate::marks::Mark;
+use nm_base::{Many, Room};
+use nm_commit::Commit;
+use nm_machine::Step;
+use std::alloc::Global;
+use std::vec::IntoIter;
+
+/// Pushes the steps that the marks stand for, with these commits.
+pub(crate) fn push_steps(marks: Many<Mark>, commits: Many<Commit>, steps: &mut Room<Step>)
+    requires { length (steps_of marks commits) ≤ steps.old.1 }
+    ensures { steps.new.0 ≡ steps.old.0 ++ steps_of marks commits }
+{
+    let mut marks = marks.into_vec().into_iter();
+    let mut commits = commits.into_vec().into_iter();
+    'marks: while let Some(mark) = marks.next() {
+        push_mark(mark, &mut commits, steps);
+    }
+}
+
+/// Pushes the steps of one mark.
+fn push_mark(mark: Mark, commits: &mut IntoIter<Commit, Global>, steps: &mut Room<Step>)
+    requires whole { into_iter_len commits.old ≡ length (into_iter_items commits.old) }
+    requires room { length (steps_by mark (into_iter_items commits.old)) ≤ steps.old.1 }
+    ensures list { steps.new.0 ≡ steps.old.0 ++ steps_by mark (into_iter_items commits.old) }
+    ensures spare { steps.new.1 + length (steps_by mark (into_iter_items commits.old)) ≡ steps.old.1 }
+    ensures left { into_iter_items commits.new ≡ left_by mark (into_iter_items commits.old) }
+    ensures whole { into_iter_len commits.new ≡ length (into_iter_items commits.new) }
+{
+    match mark {
+        Mark::Made => push_made(commits, steps),
+        Mark::Begun => push_begun(commits, steps),
+        Mark::Reply { request, text } => steps.push_spare(Step::Reply {
+            lane: 0,
+            request,
+            text,
+        }),
+    }
+}
+
+/// A commit was begun, is there, and is shown.
+fn push_made(commits: &mut IntoIter<Commit, Global>, steps: &mut Room<Step>)
+    requires whole { into_iter_len commits.old ≡ length (into_iter_items commits.old) }
+    requires room { length (steps_of_first (into_iter_items commits.old)) ≤ steps.old.1 }
+    ensures list { steps.new.0 ≡ steps.old.0 ++ steps_of_first (into_iter_items commits.old) }
+    ensures spare { steps.new.1 + length (steps_of_first (into_iter_items commits.old)) ≡ steps.old.1 }
+    ensures left { into_iter_items commits.new ≡ behind_first (into_iter_items commits.old) }
+    ensures whole { into_iter_len commits.new ≡ length (into_iter_items commits.new) }
+{
+    if let Some(commit) = commits.next() {
+        steps.push_spare(Step::Begin { commit });
+        steps.push_spare(Step::Append);
+        steps.push_spare(Step::Show);
+    }
+}
+
+/// A commit was begun.
+fn push_begun(commits: &mut IntoIter<Commit, Global>, steps: &mut Room<Step>)
+    requires whole { into_iter_len commits.old ≡ length (into_iter_items commits.old) }
+    requires room { length (begin_of_first (into_iter_items commits.old)) ≤ steps.old.1 }
+    ensures list { steps.new.0 ≡ steps.old.0 ++ begin_of_first (into_iter_items commits.old) }
+    ensures spare { steps.new.1 + length (begin_of_first (into_iter_items commits.old)) ≡ steps.old.1 }
+    ensures left { into_iter_items commits.new ≡ behind_first (into_iter_items commits.old) }
+    ensures whole { into_iter_len commits.new ≡ length (into_iter_items commits.new) }
+{
+    if let Some(commit) = commits.next() {
+        steps.push_spare(Step::Begin { commit });
+    }
+}
