@@ -1,10 +1,2 @@
-pub mod SetLemmas
-pub mod FoldLemmas
-pub mod FitLemmas
-pub mod LeanLemmas
-pub mod StandLemmas
-pub mod NewLemmas
-pub mod LineLemmas
-pub mod RunLemmas
-pub mod MachineLemmas
-pub mod CompleteLemmas
+pub mod HistoryLemmas
+pub mod StatusLemmas

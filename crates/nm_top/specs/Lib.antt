@@ -1,8 +1,2 @@
-pub mod Complete
-pub mod Lean
-pub mod Line
-pub mod NewLine
-pub mod RunLog
-pub mod Session
-pub mod State
-pub mod Steps
+pub mod Ending
+pub mod RefusalLaws

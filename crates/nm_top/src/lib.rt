@@ -1,15 +1,9 @@
-//! Commands and replies: the top call, which reads a script, runs its lines over a mail folder, prints the replies, and
-//! tells what it did. The types of its log stand here too.
+//! Commands and replies: the top call: reads the words and the script, runs it over the index that the disk holds and a mail folder,
+//! prints the replies, and gives the status.
 #![tactic(auto)]
 
-mod apply_scan;
 mod ending;
-mod index;
-mod lean;
-mod new;
-mod session;
-mod sets;
-mod steps;
+mod laws;
 mod top_call;
 
 pub use nm_answer::Request;

@@ -1,7 +1,0 @@
-use Rattle.std.proofs.Common.{◌≡◌, take}
-use Rattle.std.specs.List.{flat_map}
-use Rattle.nm_answer.specs.NewText.{skip_given}
-use Rattle.nm_top.proofs.apply_scan.skips.Given as goal
-
-abbrev pub invariant-noted : goal.invariant-noted
-invariant-noted l = l.skips ≡ flat_map skip_given (take l.given-index l.noted)

@@ -1,0 +1,25 @@
+-- How a call ends that ran no line.
+use Rattle.std.specs.Prelude.{◌≡◌, ℕ, [], Some}
+use Rattle.nm_history.specs.PrintedOut.{Prints}
+use Rattle.nm_io.specs.Observed.{ObservedStream}
+use Rattle.nm_log.specs.Refusals.{refused_line, refused_status}
+use Rattle.nm_log.specs.declared.log.Done.{Done}
+use Rattle.nm_log.specs.declared.refusal.Refusal.{Refusal}
+use Rattle.nm_log.specs.declared.refusal.Refusal.TheVariants as refusals
+use Rattle.nm_writer.specs.declared.open_error.OpenError.{OpenError}
+use Rattle.nm_writer.specs.declared.open_error.OpenError.TheVariants as errors
+
+-- nothing is in the log
+abbrev pub ended_with : ℕ → Done
+ended_with code = record { status = code; log = record { steps = []; lines = []; acked = [] } }
+
+-- The call has the status of the refusal and an empty log, and its line was said.
+pub record Refuses (refusal : Refusal) (old new : ObservedStream) (done : Done) : Type 0 where
+  pub ended : done ≡ ended_with (refused_status refusal)
+  pub says : Prints (Some (refused_line refusal)) old new
+
+-- an error of opening, as the session is refused for it
+abbrev pub refusal_of : OpenError → Refusal
+refusal_of errors.DiskFault = refusals.DiskFault
+refusal_of (errors.BadIndex file at) = refusals.BadIndex file at
+refusal_of errors.NoMemory = refusals.NoMemory
