@@ -1,9 +1,11 @@
-//! Commands and replies: the program `notmuch` is one run of the top call over the folder `mail`, the standard streams and the clock.
+//! Commands and replies: the program `notmuch` is one run of the top call over the folders `mail` and `index`, the standard streams and the
+//! clock.
 #![tactic(auto)]
 
 ghost use Rattle.std.specs.Prelude.{pos, ◌≤ℤ◌};
 
 use nm_base::{Many, NoMemory, Text, UsageKind};
+use nm_disk::FileDisk;
 use nm_io::{Sink, StdSink, StdSource};
 use nm_log::{print_text, print_usage};
 use nm_maildir::FolderMail;
@@ -22,17 +24,19 @@ const WORKERS: u32 = 4;
 /// The last second that a run may begin at.
 const LAST_MOMENT: u64 = 253_000_000_000;
 
-/// Why the call has no words to run.
+/// Why the top call is not made.
 #[derive(Drop)]
-enum WordsFault {
+enum StartFault {
     /// A word is not UTF-8.
     Utf8,
+    /// The folder `index` is not there and can't be made, or another process holds it.
+    CannotOpen,
     NoMemory,
 }
 
-impl From<NoMemory> for WordsFault {
-    fn from(_: NoMemory) -> WordsFault {
-        WordsFault::NoMemory
+impl From<NoMemory> for StartFault {
+    fn from(_: NoMemory) -> StartFault {
+        StartFault::NoMemory
     }
 }
 
@@ -44,7 +48,7 @@ fn main(rt: HostRuntime) -> ExitCode {
         Err(fault) => return refuse(&mut err, &fault),
     };
     let Ok(root) = Text::of(alloc, "mail") else {
-        return refuse(&mut err, &WordsFault::NoMemory);
+        return refuse(&mut err, &StartFault::NoMemory);
     };
     let setting = Setting {
         moment: present_second(&rt),
@@ -53,15 +57,19 @@ fn main(rt: HostRuntime) -> ExitCode {
     };
     let mut input = StdSource::new(rt.stdin());
     let Ok(writer) = BufWriter::new(alloc, rt.stdout()) else {
-        return refuse(&mut err, &WordsFault::NoMemory);
+        return refuse(&mut err, &StartFault::NoMemory);
     };
     let mut out = StdSink::new(writer);
+    let Ok(mut disk) = FileDisk::open(&rt, alloc, "index") else {
+        return refuse(&mut err, &StartFault::CannotOpen);
+    };
     let mut mail = FolderMail::new(rt, root);
     let done = notmuch(
         alloc,
         words.as_slice(),
         &setting,
         &mut mail,
+        &mut disk,
         &mut input,
         &mut out,
         &mut err,
@@ -72,14 +80,18 @@ fn main(rt: HostRuntime) -> ExitCode {
     ExitCode::from(status)
 }
 
-/// Ends a run that has no words: says so, and gives the status.
-fn refuse<E: Sink>(err: &mut E, fault: &WordsFault) -> ExitCode {
+/// Ends a run without the top call: says why, and gives the status.
+fn refuse<E: Sink>(err: &mut E, fault: &StartFault) -> ExitCode {
     match fault {
-        WordsFault::Utf8 => {
+        StartFault::Utf8 => {
             let _ = print_usage(err, UsageKind::Utf8, "");
             ExitCode::from(2)
         }
-        WordsFault::NoMemory => {
+        StartFault::CannotOpen => {
+            let _ = print_text(err, b"notmuch: cannot open\n");
+            ExitCode::from(4)
+        }
+        StartFault::NoMemory => {
             let _ = print_text(err, b"notmuch: no memory\n");
             ExitCode::from(7)
         }
@@ -87,12 +99,12 @@ fn refuse<E: Sink>(err: &mut E, fault: &WordsFault) -> ExitCode {
 }
 
 /// The words behind the program's own name.
-fn read_words<R: Env + AllocGlobal>(rt: &R, alloc: Global) -> Result<Many<Text>, WordsFault> {
+fn read_words<R: Env + AllocGlobal>(rt: &R, alloc: Global) -> Result<Many<Text>, StartFault> {
     let mut words = Many::new(alloc);
     let args = match env::args(rt) {
         Ok(args) => args,
-        Err(error) if error.kind() == io::ErrorKind::InvalidData => return Err(WordsFault::Utf8),
-        Err(_) => return Err(WordsFault::NoMemory),
+        Err(error) if error.kind() == io::ErrorKind::InvalidData => return Err(StartFault::Utf8),
+        Err(_) => return Err(StartFault::NoMemory),
     };
     for arg in args.skip(1) {
         words.push(Text::from_string(arg)?)?;

@@ -1,6 +1,6 @@
 //! What each kind of row asks stands in the modules beside this one.
 
-use crate::{line_rows, machine_rows, reply_rows, session_rows};
+use crate::{line_rows, machine_rows, reply_rows, session_rows, stop_rows};
 use rows::{Program, Row, RowError};
 use std::alloc::Global;
 
@@ -11,6 +11,9 @@ impl Program for Sessions {
     fn answer(&self, alloc: Global, row: &Row<'_>) -> Result<Vec<u8>, RowError> {
         if row.kind == b"session".as_slice() {
             return session_rows::answer(alloc, row);
+        }
+        if row.kind == b"stops".as_slice() {
+            return stop_rows::answer(alloc, row);
         }
         if row.kind == b"lines".as_slice() {
             return line_rows::requests(alloc, row);

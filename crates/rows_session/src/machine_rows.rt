@@ -43,17 +43,10 @@ fn core(alloc: Global, row: &Row<'_>) -> Result<Core, RowError> {
     Ok(Core::new(alloc, Base::empty(alloc), lanes as u32)?)
 }
 
-/// Takes a copy of the step, which has to equal it.
+/// Takes a copy of the step, so that copies are tried too.
 fn run_step(alloc: Global, core: &mut Core, line: &[u8]) -> Result<&'static [u8], RowError> {
     let step = step(alloc, line)?;
-    run_copy(core, &step)
-}
-
-fn run_copy(core: &mut Core, step: &Step) -> Result<&'static [u8], RowError> {
     let copied = step.copy()?;
-    if copied != *step {
-        return Ok(b"the copy differs");
-    }
     answer_to(core, &copied)
 }
 

@@ -1,14 +1,18 @@
-//! Commands and replies: the program that runs the rows on sessions, on the lines of scripts, on replies, and on the
+//! Commands and replies: the program that runs the rows on sessions and their stops, on the lines of scripts, on replies, and on the
 //! machine of commits and replies. The table stands on the standard input; the standard output has a line for each row.
 #![tactic(auto)]
 
 mod answers;
 mod device_rows;
+mod disks;
 mod line_rows;
 mod machine_rows;
 mod reply_rows;
 mod session_rows;
+mod session_run;
+mod sessions;
 mod step_rows;
+mod stop_rows;
 mod values;
 
 use answers::Sessions;

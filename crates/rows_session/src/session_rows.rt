@@ -1,102 +1,76 @@
-//! Rows on whole sessions: what the call prints and says, its status, and the steps of its log.
+//! Rows on whole sessions, one after the other over one disk: what each call prints and says, its status, and the steps of its
+//! log.
 
-use crate::device_rows::{input, mail, sink};
-use crate::values::text;
-use nm_base::{Many, NoMemory, Text};
-use nm_io::{MemSink, MemSource};
-use nm_maildir::StillTree;
-use nm_top::{Done, Setting, Step, notmuch};
-use rows::{Row, RowError};
+use crate::disks::{disk, head_of};
+use crate::session_run::{Ran, run};
+use crate::sessions::sessions;
+use nm_base::{Many, NoMemory};
+use nm_disk::MemDisk;
+use nm_top::Step;
+use rows::{Lines, Row, RowError};
 use std::alloc::Global;
 
-const SETTING: Setting = Setting {
-    moment: 1_704_110_400,
-    seed: 0,
-    workers: 1,
-};
-
-/// Runs the call that the row has.
+/// Runs the calls that the row has.
 pub fn answer(alloc: Global, row: &Row<'_>) -> Result<Vec<u8>, RowError> {
     row.has_only(&[
         b"$",
         b"file",
+        b"gone",
+        b"then",
+        b"head",
         b"mail-fails",
+        b"disk-fails",
         b"input-fails",
         b"out-fails",
         b"err-fails",
+        b"tell",
         b"|",
         b"=",
     ])?;
-    let args = args(alloc, row)?;
-    on_mail(alloc, row, args.as_slice())
+    let sessions = sessions(alloc, row)?;
+    run_all(alloc, row, sessions.as_slice())
 }
 
-/// The words of the call: those of the line `$`, or else the word `session`.
-fn args(alloc: Global, row: &Row<'_>) -> Result<Many<Text>, RowError> {
-    if !row.has(b"$") {
-        return split(alloc, b"session");
+fn run_all(alloc: Global, row: &Row<'_>, sessions: &[Row<'_>]) -> Result<Vec<u8>, RowError> {
+    let mut disk = disk(alloc, row)?;
+    let mut lines = Lines::new(alloc);
+    'sessions: for session in sessions {
+        run_one(alloc, session, &mut disk, &mut lines)?;
     }
-    let line = row.text(alloc, b"$")?;
-    split(alloc, line.as_slice())
+    Ok(lines.into_bytes())
 }
 
-fn split(alloc: Global, line: &[u8]) -> Result<Many<Text>, RowError> {
-    let mut words = Many::new(alloc);
-    'words: for word in line.split(|b| *b == b' ') {
-        add_word(alloc, &mut words, word)?;
-    }
-    Ok(words)
-}
-
-fn add_word(alloc: Global, words: &mut Many<Text>, word: &[u8]) -> Result<(), RowError> {
-    if word.is_empty() {
-        return Ok(());
-    }
-    let word = text(alloc, word)?;
-    Ok(words.push(word)?)
-}
-
-/// The call over the mail folder of the row. Each device has a function of its own, so that few paths let it go.
-fn on_mail(alloc: Global, row: &Row<'_>, args: &[Text]) -> Result<Vec<u8>, RowError> {
-    let mut mail = mail(alloc, row)?;
-    on_input(alloc, row, args, &mut mail)
-}
-
-fn on_input(
+fn run_one(
     alloc: Global,
-    row: &Row<'_>,
-    args: &[Text],
-    mail: &mut StillTree,
-) -> Result<Vec<u8>, RowError> {
-    let mut input = input(alloc, row)?;
-    on_output(alloc, row, args, mail, &mut input)
+    session: &Row<'_>,
+    disk: &mut MemDisk,
+    lines: &mut Lines,
+) -> Result<(), RowError> {
+    let ran = run(alloc, session, disk)?;
+    let told = session.text(alloc, b"tell")?;
+    let text = transcript(alloc, &ran, head_of(disk), told.as_slice())?;
+    Ok(lines.line(text.as_slice())?)
 }
 
-fn on_output(
-    alloc: Global,
-    row: &Row<'_>,
-    args: &[Text],
-    mail: &mut StillTree,
-    input: &mut MemSource,
-) -> Result<Vec<u8>, RowError> {
-    let mut out = sink(alloc, row, b"out-fails")?;
-    let mut err = sink(alloc, row, b"err-fails")?;
-    let done = notmuch(alloc, args, &SETTING, mail, input, &mut out, &mut err);
-    Ok(transcript(alloc, &done, out.bytes(), err.bytes())?)
-}
-
-/// What was printed, what was said behind `err: `, and a last line with the status and the steps.
-fn transcript(alloc: Global, done: &Done, out: &[u8], err: &[u8]) -> Result<Vec<u8>, NoMemory> {
-    let mut text = Many::from_slice(alloc, out)?;
-    if !err.is_empty() {
+/// What was printed, what was said behind `err: `, and a last line with the status, the steps, and what else is to be told.
+fn transcript(alloc: Global, ran: &Ran, head: &[u8], told: &[u8]) -> Result<Many<u8>, NoMemory> {
+    let mut text = Many::from_slice(alloc, ran.out.bytes())?;
+    if !ran.err.bytes().is_empty() {
         text.extend_from_slice(b"err: ")?;
-        text.extend_from_slice(err)?;
+        text.extend_from_slice(ran.err.bytes())?;
     }
-    let status = done.status.to_string(alloc)?;
-    text.extend_from_slice(b"status ")?;
-    text.extend_from_slice(status.as_bytes())?;
-    add_steps(&mut text, done.log.steps.as_slice())?;
-    Ok(text.into_vec())
+    text.extend_from_slice(b"status")?;
+    add_number(alloc, &mut text, u64::from(ran.done.status))?;
+    add_steps(&mut text, ran.done.log.steps.as_slice())?;
+    add_told(alloc, &mut text, ran, told)?;
+    add_head(&mut text, head, told)?;
+    Ok(text)
+}
+
+fn add_number(alloc: Global, text: &mut Many<u8>, number: u64) -> Result<(), NoMemory> {
+    let number = number.to_string(alloc)?;
+    text.extend_from_slice(b" ")?;
+    text.extend_from_slice(number.as_bytes())
 }
 
 /// A letter for each step, where there are some.
@@ -122,4 +96,38 @@ fn letter_of(step: &Step) -> u8 {
         Step::Crash { .. } => b'C',
         Step::Reopen => b'O',
     }
+}
+
+/// By `tell head` the bytes of the head file.
+fn add_head(text: &mut Many<u8>, head: &[u8], told: &[u8]) -> Result<(), NoMemory> {
+    if !told
+        .split(|b| *b == b'\n')
+        .any(|word| word == b"head".as_slice())
+    {
+        return Ok(());
+    }
+    text.extend_from_slice(b", head ")?;
+    text.extend_from_slice(head)
+}
+
+/// By `tell acked` the clocks at which commits were acknowledged, by `tell calls` the number of the disk's calls.
+fn add_told(alloc: Global, text: &mut Many<u8>, ran: &Ran, told: &[u8]) -> Result<(), NoMemory> {
+    'words: for word in told.split(|b| *b == b'\n') {
+        if word == b"acked".as_slice() {
+            add_clocks(alloc, text, ran.done.log.acked.as_slice())?;
+        }
+        if word == b"calls".as_slice() {
+            text.extend_from_slice(b", calls")?;
+            add_number(alloc, text, ran.calls)?;
+        }
+    }
+    Ok(())
+}
+
+fn add_clocks(alloc: Global, text: &mut Many<u8>, clocks: &[u64]) -> Result<(), NoMemory> {
+    text.extend_from_slice(b", acked")?;
+    'clocks: for clock in clocks {
+        add_number(alloc, text, *clock)?;
+    }
+    Ok(())
 }

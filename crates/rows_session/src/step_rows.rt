@@ -8,6 +8,7 @@ use nm_base::{
 };
 use nm_commit::{Change, Commit};
 use nm_machine::Step;
+use nm_shared::Shared;
 use rows::{RowError, cut, number_of, signed_of};
 use std::alloc::Global;
 
@@ -125,6 +126,7 @@ fn mail(alloc: Global, path: MailPath, id: MessageId, date: i64) -> Result<Chang
             encrypted: false,
         },
     };
+    let facts = Shared::new(alloc, facts)?;
     Ok(Change::Add { path, facts })
 }
 

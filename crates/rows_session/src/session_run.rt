@@ -1,0 +1,103 @@
+//! A session, run over the devices that a row has for it.
+
+use crate::device_rows::{input, mail, sink};
+use crate::disks::{calls, fail_at};
+use crate::values::text;
+use nm_base::{Many, Text};
+use nm_disk::MemDisk;
+use nm_io::{MemSink, MemSource};
+use nm_maildir::StillTree;
+use nm_top::{Done, Setting, notmuch};
+use rows::{Row, RowError};
+use std::alloc::Global;
+
+const SETTING: Setting = Setting {
+    moment: 1_704_110_400,
+    seed: 0,
+    workers: 1,
+};
+
+/// What came of a session.
+#[derive(Drop)]
+pub struct Ran {
+    pub done: Done,
+    pub out: MemSink,
+    pub err: MemSink,
+    /// How many calls the disk had.
+    pub calls: u64,
+}
+
+/// Runs the session over the disk.
+pub fn run(alloc: Global, row: &Row<'_>, disk: &mut MemDisk) -> Result<Ran, RowError> {
+    fail_at(alloc, disk, row)?;
+    let args = args(alloc, row)?;
+    on_mail(alloc, row, args.as_slice(), disk)
+}
+
+/// The words of the call: those of the line `$`, or else the word `session`.
+fn args(alloc: Global, row: &Row<'_>) -> Result<Many<Text>, RowError> {
+    if !row.has(b"$") {
+        return split(alloc, b"session");
+    }
+    let line = row.text(alloc, b"$")?;
+    split(alloc, line.as_slice())
+}
+
+fn split(alloc: Global, line: &[u8]) -> Result<Many<Text>, RowError> {
+    let mut words = Many::new(alloc);
+    'words: for word in line.split(|b| *b == b' ') {
+        add_word(alloc, &mut words, word)?;
+    }
+    Ok(words)
+}
+
+fn add_word(alloc: Global, words: &mut Many<Text>, word: &[u8]) -> Result<(), RowError> {
+    if word.is_empty() {
+        return Ok(());
+    }
+    let word = text(alloc, word)?;
+    Ok(words.push(word)?)
+}
+
+/// The call over the mail folder of the row. Each device has a function of its own, so that few paths let it go.
+fn on_mail(
+    alloc: Global,
+    row: &Row<'_>,
+    args: &[Text],
+    disk: &mut MemDisk,
+) -> Result<Ran, RowError> {
+    let mut mail = mail(alloc, row)?;
+    on_input(alloc, row, args, &mut mail, disk)
+}
+
+fn on_input(
+    alloc: Global,
+    row: &Row<'_>,
+    args: &[Text],
+    mail: &mut StillTree,
+    disk: &mut MemDisk,
+) -> Result<Ran, RowError> {
+    let mut input = input(alloc, row)?;
+    on_output(alloc, row, args, mail, disk, &mut input)
+}
+
+fn on_output(
+    alloc: Global,
+    row: &Row<'_>,
+    args: &[Text],
+    mail: &mut StillTree,
+    disk: &mut MemDisk,
+    input: &mut MemSource,
+) -> Result<Ran, RowError> {
+    let mut out = sink(alloc, row, b"out-fails")?;
+    let mut err = sink(alloc, row, b"err-fails")?;
+    let before = calls(disk);
+    let done = notmuch(alloc, args, &SETTING, mail, disk, input, &mut out, &mut err);
+    let calls = calls(disk).saturating_sub(before);
+    Ok(Ran {
+        done,
+        out,
+        err,
+        calls,
+    })
+}
