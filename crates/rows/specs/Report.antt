@@ -1,5 +1,5 @@
 -- What the report says of the rows: a line for each, and how many went right, went wrong, or could not be read.
-use Rattle.std.specs.Prelude.{ℕ, ◌+◌, List, ◌++◌, min, codes}
+use Rattle.std.specs.Prelude.{ℕ, ◌≡◌, ◌<◌, ◌+◌, List, ◌++◌, min, codes}
 use Rattle.std.specs.Fmt.{decimal}
 
 -- the lines so far, and the counts
@@ -8,6 +8,10 @@ pub record Reported : Type 0 where
   pub ok : ℕ
   pub wrong : ℕ
   pub broken : ℕ
+
+-- how many rows were told
+abbrev pub told : Reported → ℕ
+told report = report.ok + report.wrong + report.broken
 
 -- one more, in a count that stops at its type's end
 abbrev pub one_more : ℕ → ℕ
@@ -30,6 +34,10 @@ with_broken old number why = record old {
   lines = old.lines ++ codes "BROKEN ROW line " ++ decimal number ++ codes ": " ++ why ++ codes "\n";
   broken = one_more old.broken;
 }
+
+-- one row more was told; a count stops at its type's end
+abbrev pub TellsOneMore : Reported → Reported → Type 0
+TellsOneMore old new = told old < 18446744073709551615 → told new ≡ told old + 1
 
 -- the whole report: the lines, and the counts in its last line
 abbrev pub whole : Reported → List ℕ

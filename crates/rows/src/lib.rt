@@ -4,6 +4,7 @@
 
 mod escapes;
 mod lines;
+mod paragraph;
 mod report;
 mod row;
 mod row_error;
@@ -11,7 +12,8 @@ mod table;
 
 pub use escapes::{escaped, unescaped};
 pub use lines::Lines;
+pub use paragraph::{Paragraph, paragraphs};
 pub use report::Report;
-pub use row::{Paragraph, Row, RowLine, cut, number_of, paragraphs, read_row, signed_of, text_of};
+pub use row::{Row, RowLine, cut, number_of, read_row, signed_of, text_of};
 pub use row_error::RowError;
 pub use table::{Program, run_table};

@@ -2,7 +2,7 @@
 
 ghost use Rattle.std.specs.Prelude.{◌≡◌, ℕ, List, [], ◌++◌, IfErr, IfOk, OnOk, codes};
 ghost use Rattle.std.specs.Fmt.{decimal};
-ghost use Rattle.rows.specs.Report.{one_more, whole, with_broken, with_right, with_wrong};
+ghost use Rattle.rows.specs.Report.{TellsOneMore, one_more, whole, with_broken, with_right, with_wrong};
 
 use crate::{RowError, escaped};
 use nm_base::{Many, NoMemory};
@@ -53,6 +53,7 @@ impl Report {
 
         // A row that gives nothing did not go right.
         ensures none { OnOk result (IfErr got.now (λ _. self.new.ok ≡ self.old.ok)) }
+        ensures told { OnOk result (TellsOneMore self.old self.new) }
     {
         match got {
             Ok(bytes) => self.compare_bytes(name, number, wanted, bytes.as_slice()),
@@ -70,6 +71,7 @@ impl Report {
     ) -> Result<(), NoMemory>
         ensures right { OnOk result (got.now ≡ wanted.now → self.new ≡ with_right self.old name.now) }
         ensures wrong { OnOk result (¬ (got.now ≡ wanted.now) → (why : List ℕ) × (self.new ≡ with_wrong self.old name.now number why)) }
+        ensures told { OnOk result (TellsOneMore self.old self.new) }
     {
         if got == wanted {
             self.right(name)
@@ -79,7 +81,8 @@ impl Report {
     }
 
     fn right(&mut self, name: &[u8]) -> Result<(), NoMemory>
-        ensures { OnOk result (self.new ≡ with_right self.old name.now) }
+        ensures line { OnOk result (self.new ≡ with_right self.old name.now) }
+        ensures told { OnOk result (TellsOneMore self.old self.new) }
     {
         self.ok = one_more(self.ok);
         self.lines.extend_from_slice(b"ok ")?;
@@ -95,7 +98,8 @@ impl Report {
         wanted: &[u8],
         got: &[u8],
     ) -> Result<(), NoMemory>
-        ensures { OnOk result ((why : List ℕ) × (self.new ≡ with_wrong self.old name.now number why)) }
+        ensures line { OnOk result ((why : List ℕ) × (self.new ≡ with_wrong self.old name.now number why)) }
+        ensures told { OnOk result (TellsOneMore self.old self.new) }
     {
         self.wrong = one_more(self.wrong);
         let why = difference(self.alloc, wanted, got)?;
@@ -106,7 +110,8 @@ impl Report {
 
     /// Says why a row can't be read.
     pub fn broken(&mut self, number: usize, why: &str) -> Result<(), NoMemory>
-        ensures { OnOk result (self.new ≡ with_broken self.old number why.now) }
+        ensures line { OnOk result (self.new ≡ with_broken self.old number why.now) }
+        ensures told { OnOk result (TellsOneMore self.old self.new) }
     {
         self.broken = one_more(self.broken);
         self.lines.extend_from_slice(b"BROKEN ROW line ")?;

@@ -1,16 +1,7 @@
-//! A table is paragraphs, parted by empty lines; each is a row. Lines that begin with `#` are comments.
+//! A row is a paragraph of a table: a head, and marked lines.
 
-use crate::{Lines, RowError, unescaped};
+use crate::{Lines, Paragraph, RowError, unescaped};
 use std::alloc::{AllocError, Global};
-use std::mem;
-
-/// The lines of a row, as they stand in the table.
-#[derive(Drop)]
-pub struct Paragraph<'a> {
-    /// The number of the first line in the table, from 1.
-    pub number: usize,
-    pub lines: Vec<&'a [u8]>,
-}
 
 /// A row: its head `KIND: NAME`, and its marked lines.
 #[derive(Drop)]
@@ -26,41 +17,6 @@ pub struct Row<'a> {
 pub struct RowLine<'a> {
     pub mark: &'a [u8],
     pub bytes: Vec<u8>,
-}
-
-/// The paragraphs of a table.
-pub fn paragraphs<'a>(alloc: Global, table: &'a [u8]) -> Result<Vec<Paragraph<'a>>, AllocError> {
-    let mut found = Vec::new(alloc);
-    let mut open = Vec::new(alloc);
-    let mut first = 0usize;
-    let mut number = 0usize;
-    'lines: for line in table.split(|b| *b == b'\n') {
-        number = number.saturating_add(1);
-        if line.is_empty() {
-            close(alloc, &mut found, &mut open, first)?;
-        } else if line[0] != b'#' {
-            if open.is_empty() {
-                first = number;
-            }
-            open.push(line)?;
-        }
-    }
-    close(alloc, &mut found, &mut open, first)?;
-    Ok(found)
-}
-
-fn close<'a>(
-    alloc: Global,
-    found: &mut Vec<Paragraph<'a>>,
-    open: &mut Vec<&'a [u8]>,
-    number: usize,
-) -> Result<(), AllocError> {
-    if open.is_empty() {
-        return Ok(());
-    }
-    let lines = mem::replace(open, Vec::new(alloc));
-    found.push(Paragraph { number, lines })?;
-    Ok(())
 }
 
 /// Reads the row of a paragraph.

@@ -1,5 +1,9 @@
 //! A table is run row by row; a program that runs rows says what comes of each.
 
+ghost use Rattle.std.specs.Prelude.{◌≡◌, IfOk, OnOk};
+ghost use Rattle.rows.specs.Report.{Reported, TellsOneMore, told, whole};
+ghost use Rattle.rows.specs.Table.{paragraph_count};
+
 use crate::{Paragraph, Report, Row, RowError, paragraphs, read_row};
 use nm_base::{Many, NoMemory};
 use std::alloc::Global;
@@ -10,12 +14,10 @@ pub trait Program {
     fn answer(&self, alloc: Global, row: &Row<'_>) -> Result<Vec<u8>, RowError>;
 }
 
-/// Runs the rows of the table, and gives the report on them. The lines `=` of a row are what it wants.
-pub fn run_table<P: Program>(
-    alloc: Global,
-    program: &P,
-    table: &[u8],
-) -> Result<Many<u8>, NoMemory> {
+/// Runs the rows of the table, and gives the report on them, which tells each row once. The lines `=` of a row are what it wants.
+pub fn run_table<P: Program>(alloc: Global, program: &P, table: &[u8]) -> Result<Many<u8>, NoMemory>
+    ensures { IfOk result (λ report. (rows : Reported) × (report ≡ whole rows) × (told rows ≡ paragraph_count table.now)) }
+{
     let rows = paragraphs(alloc, table)?;
     let mut report = Report::new(alloc);
     'rows: for paragraph in rows.as_slice() {
@@ -29,7 +31,9 @@ fn run_paragraph<P: Program>(
     program: &P,
     paragraph: &Paragraph<'_>,
     report: &mut Report,
-) -> Result<(), NoMemory> {
+) -> Result<(), NoMemory>
+    ensures { OnOk result (TellsOneMore report.old report.new) }
+{
     match read_row(alloc, paragraph) {
         Ok(row) => run_row(alloc, program, &row, report),
         Err(RowError::Broken(why)) => report.broken(paragraph.number, why),
@@ -42,7 +46,9 @@ fn run_row<P: Program>(
     program: &P,
     row: &Row<'_>,
     report: &mut Report,
-) -> Result<(), NoMemory> {
+) -> Result<(), NoMemory>
+    ensures { OnOk result (TellsOneMore report.old report.new) }
+{
     let wanted = row.text(alloc, b"=")?;
     let got = program.answer(alloc, row);
     report.compare(row.name, row.number, wanted.as_slice(), &got)

@@ -1,7 +1,8 @@
 //! What each kind of row asks stands in the modules beside this one.
 
 use crate::{
-    commit_rows, index_rows, journal_rows, snapshot_rows, stop_rows, tag_rows, thread_rows,
+    commit_rows, index_rows, journal_rows, room_rows, snapshot_rows, stop_rows, tag_rows,
+    thread_rows,
 };
 use rows::{Program, Row, RowError};
 use std::alloc::Global;
@@ -42,6 +43,9 @@ fn journal_answer(alloc: Global, row: &Row<'_>) -> Result<Option<Vec<u8>>, RowEr
 fn index_answer(alloc: Global, row: &Row<'_>) -> Result<Option<Vec<u8>>, RowError> {
     if row.kind == b"snapshot".as_slice() {
         return Ok(Some(snapshot_rows::answered(alloc, row)?));
+    }
+    if row.kind == b"room".as_slice() {
+        return Ok(Some(room_rows::told(alloc, row)?));
     }
     if row.kind == b"index".as_slice() {
         return Ok(Some(index_rows::opened(alloc, row)?));

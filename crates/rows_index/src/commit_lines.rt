@@ -1,8 +1,10 @@
 //! Commits as lines: changes parted by `;`, each a verb and its words.
 
-use nm_base::{Facts, MailPath, Many, Marks, MessageId, Tag, Tags, Text};
+use crate::values::{id_of, path_of, tag_of};
+use nm_base::{Facts, Many, Marks, MessageId, Tags, Text};
 use nm_commit::{Change, Commit};
-use rows::{RowError, text_of};
+use nm_shared::Shared;
+use rows::RowError;
 use std::alloc::{AllocError, Global};
 
 /// The commit of a line.
@@ -32,33 +34,54 @@ fn change_of(alloc: Global, part: &[u8]) -> Result<Change, RowError> {
     let Some((first, more)) = rest.split_first() else {
         return Err(RowError::Broken("a change without a path or an id"));
     };
-    match *verb {
-        b"add" => addition(alloc, first, more),
-        b"drop" => Ok(Change::Drop {
-            path: path_of(alloc, first)?,
-        }),
-        b"move" => move_of(alloc, first, more),
-        b"tags" => tags_of(alloc, first, more),
-        _ => Err(RowError::Broken("no such change")),
+    if *verb == b"add".as_slice() {
+        return addition(alloc, first, more);
     }
+    if *verb == b"drop".as_slice() {
+        return drop_of(alloc, first);
+    }
+    if *verb == b"move".as_slice() {
+        return move_of(alloc, first, more);
+    }
+    if *verb == b"tags".as_slice() {
+        return retagging(alloc, first, more);
+    }
+    Err(RowError::Broken("no such change"))
+}
+
+/// `drop PATH`
+fn drop_of(alloc: Global, path: &[u8]) -> Result<Change, RowError> {
+    let path = path_of(alloc, path)?;
+    Ok(Change::Drop { path })
 }
 
 /// `add PATH ID LINK ..`
 fn addition(alloc: Global, path: &[u8], rest: &[&[u8]]) -> Result<Change, RowError> {
-    let Some((id, names)) = rest.split_first() else {
-        return Err(RowError::Broken("a mail without an id"));
-    };
-    let mut links = Many::new(alloc);
-    'names: for name in names {
-        links.push(id_of(alloc, name)?)?;
-    }
-    Ok(Change::Add {
-        path: path_of(alloc, path)?,
-        facts: facts_of(alloc, id_of(alloc, id)?, links),
-    })
+    let path = path_of(alloc, path)?;
+    let facts = facts_of(alloc, rest)?;
+    let facts = Shared::new(alloc, facts)?;
+    Ok(Change::Add { path, facts })
 }
 
-fn facts_of(alloc: Global, id: MessageId, links: Many<MessageId>) -> Facts {
+/// The facts of a mail with an id and links, and nothing else.
+fn facts_of(alloc: Global, words: &[&[u8]]) -> Result<Facts, RowError> {
+    let Some((id, names)) = words.split_first() else {
+        return Err(RowError::Broken("a mail without an id"));
+    };
+    let id = id_of(alloc, id)?;
+    let links = ids_of(alloc, names)?;
+    Ok(bare_facts(alloc, id, links))
+}
+
+fn ids_of(alloc: Global, names: &[&[u8]]) -> Result<Many<MessageId>, RowError> {
+    let mut ids = Many::new(alloc);
+    'names: for name in names {
+        ids.push(id_of(alloc, name)?)?;
+    }
+    Ok(ids)
+}
+
+fn bare_facts(alloc: Global, id: MessageId, links: Many<MessageId>) -> Facts {
     Facts {
         id,
         links,
@@ -81,37 +104,22 @@ fn move_of(alloc: Global, from: &[u8], rest: &[&[u8]]) -> Result<Change, RowErro
     let Some(to) = rest.first() else {
         return Err(RowError::Broken("a move without its end"));
     };
-    Ok(Change::Move {
-        from: path_of(alloc, from)?,
-        to: path_of(alloc, to)?,
-    })
+    let from = path_of(alloc, from)?;
+    let to = path_of(alloc, to)?;
+    Ok(Change::Move { from, to })
 }
 
 /// `tags ID TAG ..`
-fn tags_of(alloc: Global, id: &[u8], names: &[&[u8]]) -> Result<Change, RowError> {
+fn retagging(alloc: Global, id: &[u8], names: &[&[u8]]) -> Result<Change, RowError> {
+    let id = id_of(alloc, id)?;
+    let tags = tags_of(alloc, names)?;
+    Ok(Change::SetTags { id, tags })
+}
+
+fn tags_of(alloc: Global, names: &[&[u8]]) -> Result<Tags, RowError> {
     let mut tags = Tags::new(alloc);
     'names: for name in names {
-        match Tag::new(Text::of(alloc, text_of(name)?)?) {
-            Ok(tag) => tags.add(tag)?,
-            Err(_) => return Err(RowError::Broken("no tag")),
-        }
+        tags.add(tag_of(alloc, name)?)?;
     }
-    Ok(Change::SetTags {
-        id: id_of(alloc, id)?,
-        tags,
-    })
-}
-
-fn id_of(alloc: Global, bytes: &[u8]) -> Result<MessageId, RowError> {
-    match MessageId::new(Text::of(alloc, text_of(bytes)?)?) {
-        Ok(id) => Ok(id),
-        Err(_) => Err(RowError::Broken("no id")),
-    }
-}
-
-fn path_of(alloc: Global, bytes: &[u8]) -> Result<MailPath, RowError> {
-    match MailPath::new(Text::of(alloc, text_of(bytes)?)?) {
-        Ok(path) => Ok(path),
-        Err(_) => Err(RowError::Broken("no path")),
-    }
+    Ok(tags)
 }

@@ -3,8 +3,8 @@
 ghost use Rattle.std.specs.Prelude.{◌≡◌};
 ghost use Rattle.nm_record.specs.CommitGrammar.{commit_grammar};
 
-use crate::journal_rows::push_number;
-use nm_base::{Facts, Field, FieldWords, Mailbox, Marks, MessageId, Tags};
+use crate::values::push_number;
+use nm_base::{Facts, Field, FieldWords, Mailbox, Marks, MessageId, Tag, Tags};
 use nm_codec::ReadError;
 use nm_commit::{Change, Commit};
 use nm_record::{commit_bytes, read_commit};
@@ -25,19 +25,28 @@ pub fn commits(alloc: Global, row: &Row<'_>) -> Result<Vec<u8>, RowError> {
 
 fn push_read(alloc: Global, lines: &mut Lines, bytes: &[u8]) -> Result<(), RowError> {
     match read_commit(alloc, bytes) {
-        Ok(commit) => {
-            push_commit(alloc, lines, &commit)?;
-            if is_spelled(alloc, &commit, bytes)? {
-                return Ok(());
-            }
-            Ok(lines.push(b", spelled in another way")?)
-        }
+        Ok(commit) => push_spelled(alloc, lines, &commit, bytes),
         Err(ReadError::Bad { at }) => {
             lines.push(b"bad at ")?;
             Ok(push_number(alloc, lines, at)?)
         }
         Err(ReadError::NoMemory) => Err(RowError::NoMemory),
     }
+}
+
+fn push_spelled(
+    alloc: Global,
+    lines: &mut Lines,
+    commit: &Commit,
+    bytes: &[u8],
+) -> Result<(), RowError>
+    requires { bytes.now ≡ commit_grammar.bytes commit.now }
+{
+    push_commit(alloc, lines, commit)?;
+    if !is_spelled(alloc, commit, bytes)? {
+        lines.push(b", spelled in another way")?;
+    }
+    Ok(())
 }
 
 /// Whether the commit that was read is written by these bytes again.
@@ -66,7 +75,7 @@ fn push_change(alloc: Global, lines: &mut Lines, change: &Change) -> Result<(), 
         Change::Add { path, facts } => {
             lines.push(b"add ")?;
             lines.push(path.text().as_bytes())?;
-            push_facts(alloc, lines, facts)
+            push_facts(alloc, lines, facts.get())
         }
         Change::Drop { path } => {
             lines.push(b"drop ")?;
@@ -94,7 +103,11 @@ fn push_tags(
     let Ok(tags) = tags.to_list(alloc) else {
         return Err(AllocError);
     };
-    'tags: for tag in tags.as_slice() {
+    push_names(lines, tags.as_slice())
+}
+
+fn push_names(lines: &mut Lines, tags: &[Tag]) -> Result<(), AllocError> {
+    'tags: for tag in tags {
         lines.push(b" ")?;
         lines.push(tag.text().as_bytes())?;
     }

@@ -1,4 +1,5 @@
-//! Disks in memory for the rows. These functions say nothing of what they give, so the rows' proofs carry no model of a disk.
+//! Disks in memory for the rows. These functions say nothing of what they give, so the rows' proofs carry no model of a disk. A function
+//! that owns a disk makes one call with it and ends: each further way out would have all of the disk's drop in its proof.
 
 use nm_base::{Many, NoMemory};
 use nm_disk::{FileNo, MemDisk, Pick};
@@ -11,8 +12,13 @@ pub fn fresh(alloc: Global) -> Result<MemDisk, NoMemory> {
 }
 
 /// A disk with these bytes in `Head`.
-pub fn with_head(alloc: Global, head: Many<u8>) -> MemDisk {
-    MemDisk::of(alloc, head, Many::new(alloc), Many::new(alloc))
+pub fn with_head(alloc: Global, head: Vec<u8>) -> MemDisk {
+    MemDisk::of(
+        alloc,
+        Many::from_vec(head),
+        Many::new(alloc),
+        Many::new(alloc),
+    )
 }
 
 pub fn head_of(disk: &MemDisk) -> &[u8] {

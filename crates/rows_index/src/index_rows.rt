@@ -1,8 +1,9 @@
 //! Rows on the index that a disk holds: what is opened where these are the bodies of its records.
 
 use crate::disks::fresh;
-use crate::journal_rows::{append_all, push_number};
+use crate::journal_rows::append_all;
 use crate::snapshot_rows::told;
+use crate::values::push_number;
 use nm_disk::Disk;
 use nm_writer::{OpenError, Writer};
 use rows::{Lines, Row, RowError};
@@ -11,11 +12,11 @@ use std::alloc::Global;
 /// What the index that is opened answers to what stands behind `?`, or the place of the bad record.
 pub fn opened(alloc: Global, row: &Row<'_>) -> Result<Vec<u8>, RowError> {
     let mut disk = fresh(alloc)?;
-    append_all(alloc, &mut disk, row)?;
     found(alloc, &mut disk, row)
 }
 
 fn found<D: Disk>(alloc: Global, disk: &mut D, row: &Row<'_>) -> Result<Vec<u8>, RowError> {
+    append_all(alloc, disk, row)?;
     match Writer::open(alloc, disk) {
         Ok(writer) => answered(alloc, &writer, row),
         Err(OpenError::BadIndex { at, .. }) => bad_at(alloc, at),

@@ -4,10 +4,11 @@ ghost use Rattle.std.specs.Prelude.{◌≡◌, ℕ, List, false, IfOk, IfSome};
 ghost use Rattle.nm_journal.specs.Journal.{StandsOn};
 
 use crate::disks::{fresh, head_of, with_head};
+use crate::values::push_number;
 use nm_base::Many;
-use nm_disk::{Disk, FileNo};
+use nm_disk::{Disk, FileNo, MemDisk};
 use nm_journal::{Frame, Journal, JournalError};
-use rows::{Lines, Row, RowError, number_of};
+use rows::{Lines, Row, RowError};
 use std::alloc::{AllocError, Global};
 
 /// How an append went.
@@ -20,55 +21,50 @@ pub enum Appended {
 /// The first bytes of `Head` after an append of each body to a fresh disk, up to the last gate.
 pub fn written(alloc: Global, row: &Row<'_>) -> Result<Vec<u8>, RowError> {
     let mut disk = fresh(alloc)?;
-    let len = append_all(alloc, &mut disk, row)?;
+    written_to(alloc, &mut disk, row)
+}
+
+fn written_to(alloc: Global, disk: &mut MemDisk, row: &Row<'_>) -> Result<Vec<u8>, RowError> {
+    let len = append_all(alloc, disk, row)?;
     let mut lines = Lines::new(alloc);
-    push_front(&mut lines, head_of(&disk), len)?;
+    push_front(&mut lines, head_of(disk), len)?;
     Ok(lines.into_bytes())
 }
 
 /// Appends the body of each line `|`, and answers how many bytes the records and the last gate have.
 pub fn append_all<D: Disk>(alloc: Global, disk: &mut D, row: &Row<'_>) -> Result<usize, RowError> {
+    let bodies = bodies_of(alloc, row)?;
     let mut len = 1usize;
-    'bodies: for line in row.lines.as_slice() {
-        if line.mark == b"|".as_slice() {
-            let body = line.bytes.as_slice();
-            append(alloc, disk, body)?;
-            len = len.saturating_add(5).saturating_add(body.len());
-        }
+    'bodies: for body in bodies.as_slice() {
+        append(alloc, disk, body)?;
+        len = len.saturating_add(5).saturating_add(body.len());
     }
     Ok(len)
 }
 
-/// Appends the body of each line `|` but the last, and answers that.
-pub fn append_but_last<D: Disk>(
-    alloc: Global,
-    disk: &mut D,
-    row: &Row<'_>,
-) -> Result<Vec<u8>, RowError> {
-    let mut last: Option<Vec<u8>> = None;
-    'bodies: for line in row.lines.as_slice() {
+/// The bodies: the lines `|`.
+pub fn bodies_of<'a>(alloc: Global, row: &'a Row<'_>) -> Result<Vec<&'a [u8]>, AllocError> {
+    let mut bodies = Vec::new(alloc);
+    'lines: for line in row.lines.as_slice() {
         if line.mark == b"|".as_slice() {
-            if let Some(body) = last {
-                append(alloc, disk, body.as_slice())?;
-            }
-            last = Some(line.bytes.as_slice().to_vec(alloc)?);
+            bodies.push(line.bytes.as_slice())?;
         }
     }
-    match last {
-        Some(body) => Ok(body),
-        None => Err(RowError::Broken("no body")),
+    Ok(bodies)
+}
+
+/// Appends the bodies in their order.
+pub fn append_each<D: Disk>(alloc: Global, disk: &mut D, bodies: &[&[u8]]) -> Result<(), RowError> {
+    'bodies: for body in bodies {
+        append(alloc, disk, body)?;
     }
+    Ok(())
 }
 
 /// The bodies that are found where the lines `|` are `Head`, from the place behind `?` on.
 pub fn opened(alloc: Global, row: &Row<'_>) -> Result<Vec<u8>, RowError> {
-    let head = Many::from_vec(row.text(alloc, b"|")?);
-    let asked = row.text(alloc, b"?")?;
-    let at = if asked.is_empty() {
-        0
-    } else {
-        number_of(asked.as_slice())?
-    };
+    let at = row.number(b"?", 0)?;
+    let head = row.text(alloc, b"|")?;
     let mut disk = with_head(alloc, head);
     found(alloc, &mut disk, at)
 }
@@ -137,11 +133,6 @@ pub fn record_count<D: Disk>(alloc: Global, disk: &mut D) -> Option<u64> {
         Ok((_, bodies)) => Some(bodies.len() as u64),
         Err(_) => None,
     }
-}
-
-pub fn push_number(alloc: Global, lines: &mut Lines, number: u64) -> Result<(), AllocError> {
-    let text = number.to_string(alloc)?;
-    lines.push(text.as_bytes())
 }
 
 fn push_front(lines: &mut Lines, bytes: &[u8], len: usize) -> Result<(), AllocError> {

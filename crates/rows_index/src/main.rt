@@ -8,10 +8,12 @@ mod commit_rows;
 mod disks;
 mod index_rows;
 mod journal_rows;
+mod room_rows;
 mod snapshot_rows;
 mod stop_rows;
 mod tag_rows;
 mod thread_rows;
+mod values;
 
 use answers::Index;
 use rows::run_table;

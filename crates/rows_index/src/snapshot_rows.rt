@@ -1,8 +1,9 @@
 //! Rows on snapshots: what one answers after some commits, or before the last of them.
 
 use crate::commit_lines::commit_of;
-use crate::journal_rows::push_number;
-use nm_base::MessageId;
+use crate::journal_rows::bodies_of;
+use crate::values::push_number;
+use nm_base::{LinkRow, MessageId, Tag};
 use nm_commit::Commit;
 use nm_state::Snapshot;
 use rows::{Lines, Row, RowError, cut};
@@ -10,24 +11,64 @@ use std::alloc::Global;
 
 /// What the snapshot after the commits of the lines `|` answers to what stands behind `?`.
 pub fn answered(alloc: Global, row: &Row<'_>) -> Result<Vec<u8>, RowError> {
-    let mut before = Snapshot::empty(alloc);
-    let mut now = Snapshot::empty(alloc);
-    'commits: for line in row.lines.as_slice() {
-        if line.mark == b"|".as_slice() {
-            let commit = commit_of(alloc, line.bytes.as_slice())?;
-            let Some(next) = after(&now, &commit)? else {
-                return Ok(b"does not fit".to_vec(alloc)?);
-            };
-            before = now;
-            now = next;
-        }
-    }
+    let commits = bodies_of(alloc, row)?;
     let asked = row.text(alloc, b"?")?;
     let (what, when) = cut(asked.as_slice(), b' ');
     if when == b"before".as_slice() {
-        return told(alloc, &before, what);
+        return told_before(alloc, commits.as_slice(), what);
     }
-    told(alloc, &now, what)
+    match after_all(alloc, commits.as_slice())? {
+        Some(snapshot) => told(alloc, &snapshot, what),
+        None => does_not_fit(alloc),
+    }
+}
+
+fn does_not_fit(alloc: Global) -> Result<Vec<u8>, RowError> {
+    Ok(b"does not fit".to_vec(alloc)?)
+}
+
+/// What the snapshot before the last commit answers once that was made.
+fn told_before(alloc: Global, commits: &[&[u8]], what: &[u8]) -> Result<Vec<u8>, RowError> {
+    let Some((last, front)) = commits.split_last() else {
+        return Err(RowError::Broken("no commit"));
+    };
+    match after_all(alloc, front)? {
+        Some(before) => told_beside(alloc, &before, last, what),
+        None => does_not_fit(alloc),
+    }
+}
+
+fn told_beside(
+    alloc: Global,
+    before: &Snapshot,
+    last: &[u8],
+    what: &[u8],
+) -> Result<Vec<u8>, RowError> {
+    match after_line(alloc, before, last)? {
+        Some(_now) => told(alloc, before, what),
+        None => does_not_fit(alloc),
+    }
+}
+
+/// The snapshot after the commits, or none where one does not fit.
+fn after_all(alloc: Global, commits: &[&[u8]]) -> Result<Option<Snapshot>, RowError> {
+    let mut now = Snapshot::empty(alloc);
+    'commits: for commit in commits {
+        match after_line(alloc, &now, commit)? {
+            Some(next) => now = next,
+            None => return Ok(None),
+        }
+    }
+    Ok(Some(now))
+}
+
+fn after_line(
+    alloc: Global,
+    snapshot: &Snapshot,
+    line: &[u8],
+) -> Result<Option<Snapshot>, RowError> {
+    let commit = commit_of(alloc, line)?;
+    after(snapshot, &commit)
 }
 
 fn after(snapshot: &Snapshot, commit: &Commit) -> Result<Option<Snapshot>, RowError> {
@@ -82,7 +123,16 @@ fn push_told(
 /// A line for each id with a number, by numbers: the id, its number, the name of its thread.
 fn push_threads(alloc: Global, lines: &mut Lines, snapshot: &Snapshot) -> Result<(), RowError> {
     let base = snapshot.to_base()?;
-    'entries: for entry in base.entries.as_slice() {
+    push_entries(alloc, lines, snapshot, base.entries.as_slice())
+}
+
+fn push_entries(
+    alloc: Global,
+    lines: &mut Lines,
+    snapshot: &Snapshot,
+    entries: &[(MessageId, u64)],
+) -> Result<(), RowError> {
+    'entries: for entry in entries {
         lines.line(entry.0.text().as_bytes())?;
         lines.push(b" ")?;
         push_number(alloc, lines, entry.1)?;
@@ -97,7 +147,11 @@ fn push_threads(alloc: Global, lines: &mut Lines, snapshot: &Snapshot) -> Result
 /// A line for each kept row: the id, and those that it links to.
 fn push_kept(lines: &mut Lines, snapshot: &Snapshot) -> Result<(), RowError> {
     let base = snapshot.to_base()?;
-    'rows: for row in base.kept.as_slice() {
+    push_rows(lines, base.kept.as_slice())
+}
+
+fn push_rows(lines: &mut Lines, rows: &[LinkRow]) -> Result<(), RowError> {
+    'rows: for row in rows {
         lines.line(row.id.text().as_bytes())?;
         push_ids(lines, row.links.as_slice())?;
     }
@@ -149,7 +203,11 @@ fn push_tags_of(
         return Ok(());
     };
     let list = tags.to_list(alloc)?;
-    'tags: for tag in list.as_slice() {
+    push_names(lines, list.as_slice())
+}
+
+fn push_names(lines: &mut Lines, tags: &[Tag]) -> Result<(), RowError> {
+    'tags: for tag in tags {
         lines.push_after_blank(tag.text().as_bytes())?;
     }
     Ok(())

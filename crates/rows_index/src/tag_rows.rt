@@ -1,10 +1,9 @@
 //! Rows on tags: what operations leave of them, and how they are written.
 
-ghost use Rattle.std.specs.Prelude.{◌<◌, length};
-
-use nm_base::{Many, Tag, TagOp, Tags, Text};
+use crate::values::tag_of;
+use nm_base::{Many, Tag, TagOp, Tags};
 use nm_tags::{apply_ops, encode_tag};
-use rows::{Lines, Row, RowError, cut, text_of};
+use rows::{Lines, Row, RowError};
 use std::alloc::Global;
 
 /// The tags behind `?` after the operations of each line `|`, or from none after those of each line `clear`.
@@ -38,7 +37,11 @@ fn push_after(
     let ops = ops_of(alloc, ops)?;
     let after = apply_ops(alloc, &tags, clear, &ops)?;
     let after = after.to_list(alloc)?;
-    'tags: for (i, tag) in after.as_slice().iter().enumerate() {
+    push_tags(lines, after.as_slice())
+}
+
+fn push_tags(lines: &mut Lines, tags: &[Tag]) -> Result<(), RowError> {
+    'tags: for (i, tag) in tags.iter().enumerate() {
         if i > 0 {
             lines.push(b" ")?;
         }
@@ -50,11 +53,10 @@ fn push_after(
 /// The tags of a text, which blanks part.
 fn tags_of(alloc: Global, text: &[u8]) -> Result<Tags, RowError> {
     let mut tags = Tags::new(alloc);
-    let mut rest = text;
-    'tags: while !rest.is_empty() {
-        let (tag, more) = cut(rest, b' ');
-        tags.add(tag_of(alloc, tag)?)?;
-        rest = shorter(rest, more);
+    'words: for word in text.split(|b| *b == b' ') {
+        if !word.is_empty() {
+            tags.add(tag_of(alloc, word)?)?;
+        }
     }
     Ok(tags)
 }
@@ -62,44 +64,28 @@ fn tags_of(alloc: Global, text: &[u8]) -> Result<Tags, RowError> {
 /// The operations of a text, which blanks part: a `+` or a `-` and a tag.
 fn ops_of(alloc: Global, text: &[u8]) -> Result<Many<TagOp>, RowError> {
     let mut ops = Many::new(alloc);
-    let mut rest = text;
-    'ops: while !rest.is_empty() {
-        let (op, more) = cut(rest, b' ');
-        ops.push(op_of(alloc, op)?)?;
-        rest = shorter(rest, more);
+    'words: for word in text.split(|b| *b == b' ') {
+        if !word.is_empty() {
+            ops.push(op_of(alloc, word)?)?;
+        }
     }
     Ok(ops)
 }
 
-/// What is left of a text after a cut, where it is shorter.
-fn shorter<'a>(text: &'a [u8], more: &'a [u8]) -> &'a [u8]
-    requires { 0 < length text.now }
-    ensures { length result.now < length text.now }
-{
-    if more.len() < text.len() {
-        return more;
-    }
-    &text[text.len()..]
-}
-
 fn op_of(alloc: Global, text: &[u8]) -> Result<TagOp, RowError> {
-    match text {
-        [b'+', tag @ ..] => Ok(TagOp {
-            add: true,
-            tag: tag_of(alloc, tag)?,
-        }),
-        [b'-', tag @ ..] => Ok(TagOp {
-            add: false,
-            tag: tag_of(alloc, tag)?,
-        }),
-        _ => Err(RowError::Broken("no operation on a tag")),
-    }
+    let Some((sign, name)) = text.split_first() else {
+        return Err(RowError::Broken("no operation on a tag"));
+    };
+    let add = adds(*sign)?;
+    let tag = tag_of(alloc, name)?;
+    Ok(TagOp { add, tag })
 }
 
-fn tag_of(alloc: Global, text: &[u8]) -> Result<Tag, RowError> {
-    match Tag::new(Text::of(alloc, text_of(text)?)?) {
-        Ok(tag) => Ok(tag),
-        Err(_) => Err(RowError::Broken("no tag")),
+fn adds(sign: u8) -> Result<bool, RowError> {
+    match sign {
+        b'+' => Ok(true),
+        b'-' => Ok(false),
+        _ => Err(RowError::Broken("no operation on a tag")),
     }
 }
 

@@ -2,10 +2,11 @@
 
 ghost use Rattle.std.specs.Prelude.{◌≡◌, ◌<◌};
 
-use nm_base::{Copies, LinkRow, Many, MessageId, Steps, Text};
+use crate::values::{id_of, push_number};
+use nm_base::{Copies, LinkRow, Many, MessageId, Steps};
 use nm_threads::{Labels, numbers_rise_by_at_most_one_an_id};
-use rows::{Lines, Row, RowError, cut, number_of, text_of};
-use std::alloc::{AllocError, Global};
+use rows::{Lines, Row, RowError, cut, number_of};
+use std::alloc::Global;
 use std::marker::Brand;
 use std::sync::ledger::{Blank, Ledger};
 
@@ -24,16 +25,20 @@ fn told<L: Ledger>(alloc: Global, row: &Row<'_>, blank: Blank) -> Result<Vec<u8>
 {
     let mut steps = Steps::<L>::begin(blank);
     let mut labels = Labels::new(alloc);
+    run_all(alloc, &mut labels, row, &mut steps)
+}
+
+/// Runs the commands, and answers what they tell.
+fn run_all<L: Ledger>(
+    alloc: Global,
+    labels: &mut Labels,
+    row: &Row<'_>,
+    steps: &mut Steps<L>,
+) -> Result<Vec<u8>, RowError> {
     let mut lines = Lines::new(alloc);
     'commands: for line in row.lines.as_slice() {
         if line.mark == b"|".as_slice() {
-            run(
-                alloc,
-                &mut labels,
-                line.bytes.as_slice(),
-                &mut steps,
-                &mut lines,
-            )?;
+            run(alloc, labels, line.bytes.as_slice(), steps, &mut lines)?;
         }
     }
     Ok(lines.into_bytes())
@@ -56,6 +61,9 @@ fn run<L: Ledger>(
     }
     if word == b"drop".as_slice() {
         return Ok(labels.drop_thread(&id_of(alloc, rest)?)?);
+    }
+    if word == b"drop-in-place".as_slice() {
+        return Ok(labels.drop_thread_in_place(&id_of(alloc, rest)?)?);
     }
     if word == b"live".as_slice() {
         return Ok(labels.drop_dead(&ids_of(alloc, rest)?)?);
@@ -122,8 +130,17 @@ fn change_copy<L: Ledger>(
     rest: &[u8],
     steps: &mut Steps<L>,
 ) -> Result<(), RowError> {
+    let row = row_of(alloc, rest)?;
+    add_to_copy(labels, &row, steps)
+}
+
+fn add_to_copy<L: Ledger>(
+    labels: &Labels,
+    row: &LinkRow,
+    steps: &mut Steps<L>,
+) -> Result<(), RowError> {
     let mut copy = labels.copy()?;
-    add(&mut copy, &row_of(alloc, rest)?, steps)
+    add(&mut copy, row, steps)
 }
 
 /// Adds the rows of so many ids alone, and then rows that join threads of the same size two by two.
@@ -175,13 +192,6 @@ fn numbered_id(alloc: Global, at: u64) -> Result<MessageId, RowError> {
     id_of(alloc, at.to_string(alloc)?.as_bytes())
 }
 
-fn id_of(alloc: Global, bytes: &[u8]) -> Result<MessageId, RowError> {
-    match MessageId::new(Text::of(alloc, text_of(bytes)?)?) {
-        Ok(id) => Ok(id),
-        Err(_) => Err(RowError::Broken("no id where the row has one")),
-    }
-}
-
 /// The ids, parted by spaces.
 fn ids_of(alloc: Global, bytes: &[u8]) -> Result<Many<MessageId>, RowError> {
     let mut ids = Many::new(alloc);
@@ -215,10 +225,12 @@ fn count<L: Ledger>(
 }
 
 fn push_option(alloc: Global, lines: &mut Lines, number: Option<u64>) -> Result<(), RowError> {
+    lines.begin()?;
     match number {
-        Some(number) => Ok(lines.line(number.to_string(alloc)?.as_bytes())?),
-        None => Ok(lines.line(b"none")?),
+        Some(number) => push_number(alloc, lines, number)?,
+        None => lines.push(b"none")?,
     }
+    Ok(())
 }
 
 fn push_ids(lines: &mut Lines, ids: &[MessageId]) -> Result<(), RowError> {
