@@ -18,7 +18,7 @@ name_of path = last_part path (cut_last 47 path)
 abbrev pub is_mark : List ℕ → Bool
 is_mark tail = starts_with nat_eq tail (codes "2,") && list_all is_ascii_alphabetic (drop 2 tail)
 
--- a name as its stem, the letters behind it, and whether it has any; a name that may not be touched has none of these
+-- the letters of a name by its cut at the last `:`: those behind `2,` where a mark stands there, else none
 abbrev pub letters_at : Option (List ℕ × List ℕ) → List ℕ
 letters_at None = []
 letters_at (Some cut) = (if is_mark cut.1 then drop 2 cut.1 else [])

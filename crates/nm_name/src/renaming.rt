@@ -46,8 +46,8 @@ impl From<AllocError> for NameError {
 }
 
 /// The path under which a file carries the flags: `:2,` and the letters stand behind its name. D, F, P, R and S follow what
-/// is asked, other letters stay, and T is never set. A file in `new` that is to carry letters goes to `cur`. A file that lies in neither, or
-/// whose name has a `:` but no letters behind `:2,`, keeps its path.
+/// is asked, other letters stay, and T is never set. A file in `new` that is to carry letters goes to `cur`. A file that lies in neither
+/// keeps its path, and so does one whose name has anything but `2,` and ASCII letters behind its last `:`.
 pub fn with_flags(alloc: Global, path: &MailPath, flags: Flags) -> Result<MailPath, NameError>
     ensures ok { IfOk result (λ target. target ≡ renamed path.now flags) }
     ensures long { IfErr result (λ e. e ≡ NameError.Long → 4096 < length (renamed path.now flags)) }
