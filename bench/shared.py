@@ -272,8 +272,9 @@ def cat(above):
 
 
 def session(program, store, above):
-    """One session of the program over the store, and whether its replies are the right ones."""
+    """One session of the program over the store, with a fresh index, and whether its replies are the right ones."""
     script, replies = f"{above}/script", f"{above}/replies"
+    shutil.rmtree(f"{above}/index", ignore_errors=True)
     with open(script, "w", encoding="ascii") as file:
         file.write(f"0 new\n0 count subject:{WORD}\n")
     run = measured([program, "session"], above, script, replies)

@@ -1,9 +1,10 @@
-//! Bytes on the disk: the program that `bench/structures`, `bench/threads` and `bench/records` measure. Each line of the standard input
-//! asks for one work, as `shared scattered 1000`, and its line of the standard output tells how much there is at the end.
+//! Searching: the program that `bench/structures`, `bench/threads`, `bench/records` and `bench/snapshots` measure. Each line of
+//! the standard input asks for one work, as `shared scattered 1000`, and its line of the standard output tells how much there is at the end.
 #![tactic(auto)]
 
 mod journals;
 mod maps;
+mod snapshots;
 mod threads;
 mod work;
 

@@ -140,7 +140,7 @@ fn mail(alloc: Global, at: u64, thread: Thread, is_first: bool) -> Result<LinkRo
 }
 
 /// The id of the mail with this number; the order of the ids is not that of the numbers.
-fn id_of(alloc: Global, at: u64) -> Result<MessageId, NoMemory> {
+pub fn id_of(alloc: Global, at: u64) -> Result<MessageId, NoMemory> {
     let text = at.wrapping_mul(SCATTER).to_string(alloc)?;
     match MessageId::new(Text::of(alloc, text.as_str())?) {
         Ok(id) => Ok(id),

@@ -2,6 +2,7 @@
 
 use crate::journals;
 use crate::maps::{self, Order};
+use crate::snapshots::{self, Then};
 use crate::threads::{self, Coming, Work};
 use nm_base::NoMemory;
 use std::alloc::Global;
@@ -20,6 +21,9 @@ pub fn done(rt: &HostRuntime, alloc: Global, line: &str) -> Result<u64, NoMemory
     }
     if kind == "rows" {
         return labels(alloc, order, Coming::Alone, count);
+    }
+    if kind == "snapshots" {
+        return messages(alloc, order, count);
     }
     let order = if order == "rising" {
         Order::Rising
@@ -40,6 +44,17 @@ fn labels(alloc: Global, work: &str, coming: Coming, count: u64) -> Result<u64, 
         "many" => threads::labelled(alloc, Work::Many, coming, count),
         "one" => threads::labelled(alloc, Work::One, coming, count),
         "tenth" => threads::labelled(alloc, Work::Tenth, coming, count),
+        _ => Ok(0),
+    }
+}
+
+fn messages(alloc: Global, then: &str, count: u64) -> Result<u64, NoMemory> {
+    match then {
+        "built" => snapshots::messages(alloc, Then::Nothing, count),
+        "added" => snapshots::messages(alloc, Then::Added, count),
+        "tagged" => snapshots::messages(alloc, Then::Tagged, count),
+        "exported" => snapshots::messages(alloc, Then::Exported, count),
+        "opened" => snapshots::messages(alloc, Then::Opened, count),
         _ => Ok(0),
     }
 }
