@@ -3,12 +3,13 @@
 
     tools/checks.py          all of them; silent and 0 where all is well, else a line for each fault, and 1
 
-None proves anything. One runs the program that `rt ci` has built, over examples/."""
+None proves anything. One runs the program that `rt ci` has built, over the mail of examples/."""
 import functools
 import os
 import re
 import subprocess
 import sys
+import tempfile
 
 sys.dont_write_bytecode = True
 sys.path.insert(0, os.path.dirname(os.path.abspath(__file__)))
@@ -21,6 +22,8 @@ commands and replies""".replace("\n", " ").split("; ")
 FROM = "70802d7"
 MACHINE_PATH = re.compile(r"(?<![\w.~/])/(?:work|home|root|tmp|opt|usr|var|mnt|srv|etc|Users)/(?!bin/env\b)")
 PROGRAM = f"{ROOT}/crates/notmuch/out/notmuch"
+# The scripts of the tour, in their order.
+SCRIPTS = "session.txt", "again.txt"
 SECONDS = 60
 
 
@@ -172,34 +175,36 @@ def blocks(text):
 
 
 def tour_is_true():
-    """The tour of the README: its table has the example's files, its script is the example's, and the program prints the rest."""
+    """The tour of the README: its table has the example's files, its scripts are the examples', and over one index the program
+    prints the rest."""
     tour = section(read(f"{ROOT}/README.md"), "tour")
     named = {it for line in tour.splitlines() if line.startswith("|") for it in quoted(cells(line)[0])}
     there = {os.path.relpath(it, "examples/mail") for it in files_below("examples/mail", "")}
     if named != there:
         yield f"README.md: the tour's table differs from examples/mail: {', '.join(sorted(named ^ there))}"
     found = blocks(tour)
-    if len(found) != 2:
-        yield "README.md: the tour has not two blocks, a script and what it prints"
+    if len(found) != 2 * len(SCRIPTS):
+        yield "README.md: the tour has not two blocks for each of its scripts, the script and what it prints"
         return
-    with open(f"{ROOT}/examples/session.txt", "rb") as file:
-        script = file.read()
-    if script.decode() != found[0]:
-        yield "README.md: the tour's script is not examples/session.txt"
     if not os.path.isfile(PROGRAM):
         yield "README.md: the tour was not run: crates/notmuch/out/notmuch is not built"
         return
-    how = {"cwd": f"{ROOT}/examples", "input": script, "capture_output": True, "timeout": SECONDS, "check": False}
-    ran = subprocess.run([PROGRAM, "session"], **how)
-    if ran.returncode or ran.stdout.decode(errors="replace") != found[1]:
-        yield f"README.md: the tour does not print what it says (status {ran.returncode})"
+    with tempfile.TemporaryDirectory() as folder:
+        os.symlink(f"{ROOT}/examples/mail", f"{folder}/mail")
+        for name, script, printed in zip(SCRIPTS, found[::2], found[1::2]):
+            if read(f"{ROOT}/examples/{name}") != script:
+                yield f"README.md: a script of the tour is not examples/{name}"
+            how = {"cwd": folder, "input": script.encode(), "capture_output": True, "timeout": SECONDS, "check": False}
+            ran = subprocess.run([PROGRAM, "session"], **how)
+            if ran.returncode or ran.stdout.decode(errors="replace") != printed:
+                yield f"README.md: {name} does not print what the tour says (status {ran.returncode})"
 
 
 def rows_of_documents_are_right():
     """The example rows of docs/TESTING.md are right, by the programs that run rows."""
     text = read(f"{ROOT}/docs/TESTING.md")
     programs = {"reading one mail": "rows_mail", "queries and dates": "rows_query"}
-    programs |= {"sessions": "rows_session", "the index": "rows_index"}
+    programs |= {"sessions": "rows_session", "the index": "rows_index", "names and flags": "rows_names"}
     for title, crate in ((f"### Rows on {it}", program) for it, program in programs.items()):
         if f"\n{title}\n" not in text:
             continue
