@@ -113,3 +113,7 @@ committed index commit = with_revision (index.revision + 1) (fold applied index 
 -- the index after commits, the first of them first
 abbrev pub folded : Base → List Commit → Base
 folded index commits = fold committed index commits
+
+-- the ids of messages that have a file, by their numbers
+abbrev pub live_ids : List (List ℕ × Facts) → List (List ℕ × ℕ) → List (List ℕ)
+live_ids files entries = map (λ entry. entry.0) (filter (λ entry. has_id files entry.0) entries)

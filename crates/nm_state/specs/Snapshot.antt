@@ -1,13 +1,7 @@
 -- Words on snapshots, which are seen as the plain index.
-use Rattle.std.specs.Prelude.{ℕ, List, filter, fold, map}
-use Rattle.nm_base.specs.declared.facts.Facts.{Facts}
-use Rattle.nm_commit.specs.Files.{has_id}
+use Rattle.std.specs.Prelude.{ℕ, List, fold}
 use Rattle.nm_index.specs.Index.{with_tags}
 use Rattle.nm_index.specs.declared.base.Base.{Base}
-
--- the ids of messages that have a file, by their numbers
-abbrev pub live_ids : List (List ℕ × Facts) → List (List ℕ × ℕ) → List (List ℕ)
-live_ids files entries = map (λ entry. entry.0) (filter (λ entry. has_id files entry.0) entries)
 
 -- the index in which each of these messages has these tags and no others
 abbrev pub retagged : Base → List (List ℕ × List (List ℕ)) → Base

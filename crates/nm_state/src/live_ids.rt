@@ -4,7 +4,7 @@ ghost use Rattle.std.specs.Prelude.{◌≡◌, length};
 ghost use Rattle.std.specs.Iterator.{at_most};
 ghost use Rattle.std.specs.Map.Iter.{TakesFirst, deref};
 ghost use Rattle.nm_state.specs.Filing.{AreFiled, files_in};
-ghost use Rattle.nm_state.specs.Snapshot.{live_ids};
+ghost use Rattle.nm_index.specs.Index.{live_ids};
 
 use crate::filing::{Filing, is_live};
 use nm_base::MessageId;
@@ -21,7 +21,7 @@ pub struct LiveIds<'a> {
 impl<'a> Model for LiveIds<'a> {
     ghost use Rattle.std.specs.Prelude.{List, ℕ};
     ghost use Rattle.nm_state.specs.Filing.{AreFiled, files_in};
-    ghost use Rattle.nm_state.specs.Snapshot.{live_ids};
+    ghost use Rattle.nm_index.specs.Index.{live_ids};
 
     ghost Value = { List (List ℕ) };
 

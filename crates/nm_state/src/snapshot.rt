@@ -11,11 +11,11 @@ ghost use Rattle.nm_base.specs.Order.{IsSorted, has_text, same_text};
 ghost use Rattle.nm_base.specs.declared.limit.Limit.{Limit};
 ghost use Rattle.nm_commit.specs.Files.{Fits, has_id, has_path};
 ghost use Rattle.nm_index.specs.Fits.{ids_named};
-ghost use Rattle.nm_index.specs.Index.{committed, empty_index, has_entry, rows_of};
+ghost use Rattle.nm_index.specs.Index.{committed, empty_index, has_entry, live_ids, rows_of};
 ghost use Rattle.nm_index.specs.Valid.{IsValid};
 ghost use Rattle.nm_record.specs.Room.{limit_passed};
 ghost use Rattle.nm_threads.specs.Name.{thread_name};
-ghost use Rattle.nm_state.specs.Snapshot.{live_ids, retagged};
+ghost use Rattle.nm_state.specs.Snapshot.{retagged};
 
 use crate::applying::{apply_changes, retag};
 use crate::exporting::base_of;

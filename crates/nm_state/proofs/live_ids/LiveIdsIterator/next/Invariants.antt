@@ -1,6 +1,6 @@
 use Rattle.std.proofs.Common.{◌≡◌, length}
 use Rattle.nm_state.specs.Filing.{AreFiled, files_in}
-use Rattle.nm_state.specs.Snapshot.{live_ids}
+use Rattle.nm_index.specs.Index.{live_ids}
 use Rattle.nm_state.proofs.live_ids.LiveIdsIterator.next.Given as goal
 
 -- what is left is left still, but for ids without a file
