@@ -1,51 +1,50 @@
--- The plain answer to `count subject:W`: how many messages have the word in a subject.
-use Rattle.std.specs.Prelude.{ℕ, Bool, ◌&&◌, ◌||◌, ◌==◌, false, true, List, ◌∷◌, [], ◌++◌, length, map, filter, drop, codes, nat_eq}
-use Rattle.std.specs.List.{list_all, list_any, starts_with}
-use Rattle.std.specs.Char.{is_ascii_alphanumeric}
-use Rattle.std.specs.Str.{str_to_ascii_lowercase}
+-- The plain answer to a count: how many messages a query finds, how many threads they are of, or how many files they have.
+use Rattle.std.specs.Prelude.{ℕ, ℤ, List, [], ◌∷◌, ◌++◌, length, fold, Result, Ok, Err}
+use Rattle.std.specs.BTreeSet.{insert_key}
 use Rattle.std.specs.Fmt.{decimal}
-use Rattle.nm_base.specs.Bounds.{fits_length}
-use Rattle.nm_base.specs.Order.{has_text, in_order}
+use Rattle.std.specs.List.{filter_map, flat_map}
+use Rattle.std.specs.Ordering.{nat_cmp}
+use Rattle.nm_base.specs.declared.asks.CountAsk.{CountAsk}
 use Rattle.nm_base.specs.declared.facts.Facts.{Facts}
-use Rattle.nm_base.specs.declared.facts.Field.{Field}
-use Rattle.nm_base.specs.declared.facts.Field.TheVariants.{From, To, Subject, Body, Attachment}
+use Rattle.nm_base.specs.declared.forms.Output.{Output}
+use Rattle.nm_base.specs.declared.forms.Output.TheVariants.{Summary, Threads, Messages, Files, Tags}
+use Rattle.nm_index.specs.Index.{rows_of}
+use Rattle.nm_index.specs.declared.base.Base.{Base}
+use Rattle.nm_query.specs.Answers.{answer_of}
+use Rattle.nm_query.specs.declared.query.Query.{Query}
+use Rattle.nm_query.specs.declared.query_error.QueryError.{QueryError}
+use Rattle.nm_threads.specs.Name.{thread_name}
+use Rattle.nm_answer.specs.Matches.{matches_of}
+use Rattle.nm_answer.specs.View.{files_of}
 
--- the words of this field are those of the subject
-abbrev pub is_subject : Field → Bool
-is_subject From = false
-is_subject To = false
-is_subject Subject = true
-is_subject Body = false
-is_subject Attachment = false
+-- the numbers in rising order, each once
+abbrev pub distinct : List ℕ → List ℕ
+distinct numbers = fold (insert_key nat_cmp) [] numbers
 
--- an ASCII letter, a digit or `_`
-abbrev pub is_word_byte : ℕ → Bool
-is_word_byte b = is_ascii_alphanumeric b || b == 95
+-- the names of the threads that messages are of, each once
+abbrev pub thread_names : Base → List (List ℕ) → List ℕ
+thread_names index ids = distinct (filter_map (thread_name (rows_of index) index.entries) ids)
 
--- 1 to 200 such bytes, a letter or a digit among them
-abbrev pub is_plain_word : List ℕ → Bool
-is_plain_word word = fits_length 200 word && (list_all is_word_byte word && list_any is_ascii_alphanumeric word)
+-- the files of messages, message by message
+abbrev pub files_of_all : Base → List (List ℕ) → List (List ℕ × Facts)
+files_of_all index ids = flat_map (files_of index) ids
 
--- `subject:` and a plain word
-abbrev pub is_subject_query : List ℕ → Bool
-is_subject_query query = starts_with nat_eq query (codes "subject:") && is_plain_word (drop 8 query)
+-- how many of what is asked the messages come to; what is printed in another form is not counted
+abbrev pub counted : Output → Base → List (List ℕ) → ℕ
+counted Summary index ids = 0
+counted Threads index ids = length (thread_names index ids)
+counted Messages index ids = length ids
+counted Files index ids = length (files_of_all index ids)
+counted Tags index ids = 0
 
--- the word that is looked for, in lower case
-abbrev pub wanted_word : List ℕ → List ℕ
-wanted_word query = str_to_ascii_lowercase (drop 8 query)
+-- the number, and LF
+abbrev pub count_text : Output → Base → List (List ℕ) → List ℕ
+count_text output index ids = decimal (counted output index ids) ++ 10 ∷ []
 
--- a list of the subject has the word
-abbrev pub has_subject_word : List ℕ → Facts → Bool
-has_subject_word word facts = list_any (λ list. is_subject list.field && has_text list.words word) facts.lists
+-- the count over the messages that a query finds
+abbrev pub count_found : CountAsk → Base → ℤ → Query → List ℕ
+count_found ask index moment query = count_text ask.output index (matches_of index query moment ask.exclude)
 
--- the ids of the mails, each once
-abbrev pub ids_of : List (List ℕ × Facts) → List (List ℕ)
-ids_of files = in_order (map (λ file. file.1.id) files)
-
--- the mails whose subject has the word
-abbrev pub with_subject_word : List ℕ → List (List ℕ × Facts) → List (List ℕ × Facts)
-with_subject_word word files = filter (λ file. has_subject_word word file.1) files
-
--- the number of messages among them, and LF
-abbrev pub count_text : List ℕ → List (List ℕ × Facts) → List ℕ
-count_text query files = decimal (length (ids_of (with_subject_word (wanted_word query) files))) ++ 10 ∷ []
+-- what a count is answered; a text that is no query has no answer
+abbrev pub count_answer : CountAsk → Base → ℤ → List ℕ
+count_answer ask index moment = elim (answer_of ask.query) [ Ok query ↦ count_found ask index moment query | Err refusal ↦ [] ]

@@ -1,3 +1,9 @@
 pub mod Answer
 pub mod Count
+pub mod Matches
 pub mod NewText
+pub mod Places
+pub mod Runs
+pub mod Test
+pub mod View
+pub mod Words

@@ -1,5 +1,5 @@
 -- What `new` says: how many files and messages came and went, and which files were passed over.
-use Rattle.std.specs.Prelude.{ℕ, ◌+◌, Bool, ◌==◌, not, List, [], ◌∷◌, ◌++◌, length, filter, codes, if◌then◌else◌}
+use Rattle.std.specs.Prelude.{ℕ, ◌+◌, Bool, ◌==◌, not, List, [], ◌∷◌, ◌++◌, length, filter, map, codes, if◌then◌else◌}
 use Rattle.std.specs.List.{flat_map}
 use Rattle.std.specs.Fmt.{decimal}
 use Rattle.nm_base.specs.Order.{has_text, in_order}
@@ -11,7 +11,6 @@ use Rattle.nm_maildir.specs.declared.given.Given.{Given}
 use Rattle.nm_maildir.specs.declared.given.Given.TheVariants as given
 use Rattle.nm_maildir.specs.declared.given.ReadAnswer.{ReadAnswer}
 use Rattle.nm_maildir.specs.declared.given.ReadAnswer.TheVariants as answers
-use Rattle.nm_answer.specs.Count.{ids_of}
 use Rattle.nm_answer.specs.declared.report.NewReport.{NewReport}
 
 -- why a file was passed over
@@ -89,6 +88,10 @@ abbrev pub skip_given : Given → List (List ℕ × Skip)
 skip_given (given.Listed paths) = []
 skip_given (given.Read path answer) = skip_at path answer
 skip_given (given.Renamed from to answer) = []
+
+-- the ids of the mails, each once
+abbrev pub ids_of : List (List ℕ × Facts) → List (List ℕ)
+ids_of files = in_order (map (λ file. file.1.id) files)
 
 -- the messages of the second that the first lacks
 abbrev pub only_in : List (List ℕ × Facts) → List (List ℕ × Facts) → List (List ℕ)

@@ -1,8 +1,14 @@
 //! The plain index: what each request is answered, as definitions on the index as data; later layers compute the same texts.
 #![tactic(auto)]
 
+mod laws;
 mod report;
 mod request;
 
+pub use laws::{
+    a_tag_excludes_unless_it_is_named, a_tree_names_the_tags_of_its_queries,
+    a_tree_passes_as_its_queries_do, the_matches_are_the_live_messages_that_pass,
+    words_stand_one_behind_the_other,
+};
 pub use report::NewReport;
 pub use request::Request;

@@ -48,12 +48,14 @@ day_end year month day = if is_date year month day then Some (Day year month day
 abbrev pub from_year : List ℕ → Option End
 from_year text = option_and_then year_end (number_in 4 text)
 
+-- a month, written YYYY-MM
 abbrev pub from_month : List ℕ → Option End
 from_month text =
     if slice_index text 4 == 45
     then option_and_then (λ year. option_and_then (month_end year) (number_in 2 (part 5 2 text))) (number_in 4 (part 0 4 text))
     else None
 
+-- a day, written YYYY-MM-DD
 abbrev pub from_day : List ℕ → Option End
 from_day text =
     if (slice_index text 4 == 45) && (slice_index text 7 == 45)
@@ -68,6 +70,7 @@ calendar_end text =
     if length text == 4 then from_year text
     else (if length text == 7 then from_month text else (if length text == 10 then from_day text else None))
 
+-- `today` and `yesterday`, in any case
 abbrev pub named_end : List ℕ → Option End
 named_end text =
     if is_named (codes "today") text then Some Today else (if is_named (codes "yesterday") text then Some Yesterday else None)
@@ -76,6 +79,7 @@ named_end text =
 abbrev pub is_unit : List ℕ → List ℕ → List ℕ → Bool
 is_unit name plural text = is_named name text || is_named plural text
 
+-- the unit that the text names, by its name or the plural
 abbrev pub unit_of : List ℕ → Option DateUnit
 unit_of text =
     if is_unit (codes "hour") (codes "hours") text then Some Hours

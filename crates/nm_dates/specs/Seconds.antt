@@ -43,6 +43,7 @@ one_hour hour = record { first = hour *ℤ pos 3600; last = hour *ℤ pos 3600 +
 abbrev pub from_first : ℤ → ℤ
 from_first day = if int_lt day first_day then first_day else day
 
+-- that second; one before the year 1 stands for the first day
 abbrev pub one_second : ℤ → Seconds
 one_second second =
     if int_lt second (first_day *ℤ pos 86400) then one_day first_day else record { first = second; last = second }

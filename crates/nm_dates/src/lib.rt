@@ -16,4 +16,4 @@ pub use laws::{
     no_end_is_empty,
 };
 pub use reading::read_end;
-pub use seconds::{first_second, last_second};
+pub use seconds::{first_second, is_end, last_second};

@@ -40,6 +40,50 @@ pub fn last_second(end: End, moment: i64) -> i64
     seconds_of(end, moment).last
 }
 
+/// Says whether some text is this end.
+pub fn is_end(end: End) -> bool
+    ensures { result ≡ is_end end }
+{
+    match end {
+        End::Second(second) => is_second(second),
+        End::Year(year) => is_year(year),
+        End::Month(year, month) => is_month(year, month),
+        End::Day(year, month, day) => is_date(year, month, day),
+        End::Today => true,
+        End::Yesterday => true,
+        End::Ago(count, _) => count <= 999_999,
+    }
+}
+
+/// A number of 12 digits, which may be negative.
+fn is_second(second: i64) -> bool
+    ensures { result ≡ is_end (End.Second second) }
+{
+    second >= -999_999_999_999 && second <= 999_999_999_999
+}
+
+fn is_year(year: u16) -> bool
+    ensures { result ≡ is_year year }
+{
+    year >= 1 && year <= 9999
+}
+
+fn is_month(year: u16, month: u8) -> bool
+    ensures { result ≡ is_month year month }
+{
+    is_year(year) && (month >= 1 && month <= 12)
+}
+
+fn is_date(year: u16, month: u8, day: u8) -> bool
+    ensures { result ≡ is_date year month day }
+{
+    if !is_month(year, month) {
+        return false;
+    }
+    let last = last_of_month(year, month);
+    day >= 1 && day <= last
+}
+
 fn seconds_of(end: End, moment: i64) -> Seconds
     requires end { IsTrue (is_end end) }
     requires moment { IsMoment moment }

@@ -1,0 +1,4 @@
+mod ListLemmas
+mod MatchLemmas
+mod TreeLemmas
+mod WordLemmas

@@ -1,0 +1,36 @@
+-- The two tags that exclude, one by one.
+use Rattle.std.proofs.Common.{◌≡◌, refl, sym, ap, ◌∙◌, ℤ, Bool, true, false, not, cond, ◌&&◌, ◌||◌, [], ◌∷◌, codes}
+use Rattle.std.proofs.Math.Bool.{and-true}
+use Rattle.std.specs.List.{list_any}
+use Rattle.nm_base.specs.Tags.{has_tag}
+use Rattle.nm_query.specs.declared.query.Query.{Query}
+use Rattle.nm_answer.specs.Matches.{is_excluded, is_match, names_tag}
+use Rattle.nm_answer.specs.Test.{passes}
+use Rattle.nm_answer.specs.View.{View}
+use Rattle.nm_eval.specs.Excluding.{exclusion_of, leaves_out}
+use Rattle.nm_eval.specs.declared.exclusion.Exclusion.{Exclusion}
+
+or_false : (a : Bool) → a ≡ (a || false)
+or_false true = refl
+or_false false = refl
+
+-- what two items pass, of those that a filter keeps
+one_of_two : {X : Type 0} (asked keeps_first keeps_second : Bool) (has : X → Bool) (first second : X)
+    → (((asked && keeps_first) && has first) || ((asked && keeps_second) && has second))
+    ≡ (asked && list_any has (cond keeps_first (first ∷ cond keeps_second (second ∷ []) []) (cond keeps_second (second ∷ []) [])))
+one_of_two true true true has first second = ap (λ b. has first || b) (or_false (has second))
+one_of_two true true false has first second = refl
+one_of_two true false true has first second = or_false (has second)
+one_of_two true false false has first second = refl
+one_of_two false keeps_first keeps_second has first second = refl
+
+pub left_out : (query : Query) (exclude : Bool) (message : View) → leaves_out (exclusion_of query exclude) message ≡ (exclude && is_excluded query message)
+left_out query exclude message =
+    one_of_two exclude (not (names_tag query (codes "deleted"))) (not (names_tag query (codes "spam"))) (has_tag message.tags) (codes "deleted") (codes "spam")
+
+-- a message that is not left out is a match where it passes
+pub kept_in : (query : Query) (moment : ℤ) (exclude : Bool) (exclusion : Exclusion) (message : View) → exclusion ≡ exclusion_of query exclude → leaves_out exclusion message ≡ false
+    → is_match query moment exclude message ≡ passes query message moment
+kept_in query moment exclude exclusion message is kept =
+    ap (λ out. passes query message moment && not out) (sym (left_out query exclude message) ∙ ap (λ e. leaves_out e message) (sym is) ∙ kept)
+    ∙ and-true (passes query message moment)

@@ -1,0 +1,7 @@
+mod ExclusionLemmas
+mod FileLemmas
+mod FoundLemmas
+mod OddLemmas
+mod PlaceLemmas
+mod QuickLemmas
+mod WordLemmas

@@ -1,0 +1,69 @@
+//! The tags that keep a message out, unless the query names them. They are found once a query.
+
+ghost use Rattle.std.specs.Prelude.{◌≡◌, ◌&&◌, codes, not};
+ghost use Rattle.std.specs.List.{list_any};
+ghost use Rattle.nm_answer.specs.Matches.{names_tag};
+ghost use Rattle.nm_eval.specs.Excluding.{exclusion_of, leaves_out};
+
+use crate::message::Message;
+use nm_answer::a_tree_names_the_tags_of_its_queries;
+use nm_query::Query;
+
+const DELETED: &str = "deleted";
+
+const SPAM: &str = "spam";
+
+/// Which tags keep a message out.
+#[derive(Clone, Copy)]
+pub(crate) struct Exclusion {
+    pub deleted: bool,
+    pub spam: bool,
+}
+
+/// The tags that keep messages out of what the query finds; none where exclusion isn't asked.
+pub(crate) fn find_exclusion(query: &Query, exclude: bool) -> Exclusion
+    ensures { result ≡ exclusion_of query.now exclude }
+{
+    Exclusion {
+        deleted: exclude && !names_tag(query, DELETED),
+        spam: exclude && !names_tag(query, SPAM),
+    }
+}
+
+/// Says whether the message has such a tag.
+pub(crate) fn leaves_out(exclusion: Exclusion, message: &Message<'_>) -> bool
+    ensures { result ≡ leaves_out exclusion message.now }
+{
+    if exclusion.deleted && message.has_tag(DELETED) {
+        return true;
+    }
+    exclusion.spam && message.has_tag(SPAM)
+}
+
+/// Says whether the tag is a term of the query, wherever in it.
+#[cycle(naming)]
+fn names_tag(query: &Query, tag: &str) -> bool
+    ensures { result ≡ names_tag query.now tag.now }
+{
+    a_tree_names_the_tags_of_its_queries();
+    match query {
+        Query::Tag(named) => tag == named.as_str(),
+        Query::Not(query) => names_tag(query.get(), tag),
+        Query::And(queries) => any_names(queries.as_slice(), tag),
+        Query::Or(queries) => any_names(queries.as_slice(), tag),
+        Query::Xor(queries) => any_names(queries.as_slice(), tag),
+        _ => false,
+    }
+}
+
+#[cycle(naming)]
+fn any_names(queries: &[Query], tag: &str) -> bool
+    ensures { result ≡ list_any (λ query. names_tag query tag.now) queries.now }
+{
+    'queries: for query in queries {
+        if names_tag(query, tag) {
+            return true;
+        }
+    }
+    false
+}

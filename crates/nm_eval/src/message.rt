@@ -1,0 +1,79 @@
+//! A message of a snapshot, as the tests of a query look at it.
+
+ghost use Rattle.std.specs.Prelude.{◌≡◌, [], MatchOption};
+ghost use Rattle.nm_base.specs.Order.{has_text, same_text};
+ghost use Rattle.nm_base.specs.Tags.{has_tag};
+ghost use Rattle.nm_answer.specs.Test.{is_thread};
+ghost use Rattle.nm_answer.specs.View.{view_of};
+
+use nm_base::{MessageId, Tags};
+use nm_state::{MessageFiles, Snapshot};
+use std::marker::Model;
+
+/// A message, which a contract sees as its id, its files, its tags and its thread. Nothing is looked up before it is asked.
+#[derive(Drop)]
+pub(crate) struct Message<'a> {
+    snapshot: &'a Snapshot,
+    id: &'a MessageId,
+}
+
+impl<'a> Model for Message<'a> {
+    ghost use Rattle.nm_answer.specs.View.{View, view_of};
+
+    ghost Value = { View };
+
+    ghost view = { λ m. view_of m.snapshot.now m.id.now };
+}
+
+impl<'a> Message<'a> {
+    pub fn of(snapshot: &'a Snapshot, id: &'a MessageId) -> Message<'a>
+        ensures { result ≡ view_of snapshot.now id.now }
+    {
+        Message { snapshot, id }
+    }
+
+    /// Its files, the lead file first.
+    pub fn files(&self) -> Option<MessageFiles<'a>>
+        ensures { MatchOption result (self.now.files ≡ []) (λ files. files ≡ self.now.files) }
+    {
+        self.snapshot.files(self.id)
+    }
+
+    pub fn has_tag(&self, tag: &str) -> bool
+        ensures { result ≡ has_tag self.now.tags tag.now }
+    {
+        match self.snapshot.tags(self.id) {
+            Some(tags) => has_text(tags, tag),
+            None => false,
+        }
+    }
+
+    pub fn has_id(&self, id: &str) -> bool
+        ensures { result ≡ same_text id.now self.now.id }
+    {
+        id == self.id.text().as_str()
+    }
+
+    pub fn is_in_thread(&self, number: Option<u64>) -> bool
+        ensures { result ≡ is_thread number self.now.thread }
+    {
+        let Some(number) = number else {
+            return false;
+        };
+        match self.snapshot.thread(self.id) {
+            Some(name) => number == name,
+            None => false,
+        }
+    }
+}
+
+fn has_text(tags: &Tags, tag: &str) -> bool
+    ensures { result ≡ has_text tags.now tag.now }
+{
+    'tags: for other in tags.iter() {
+        if tag == other.text().as_str() {
+            return true;
+        }
+    }
+    false
+}
