@@ -1,1 +1,1 @@
-pub mod FileLemmas
+pub mod IndexLemmas

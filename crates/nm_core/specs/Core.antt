@@ -1,9 +1,12 @@
 -- What a Core holds, and what it answers to a step.
-use Rattle.std.specs.Prelude.{◌≡◌, ℕ, ℤ, Bool, List, Option, Result, Ok, Err}
+use Rattle.std.specs.Prelude.{◌≡◌, ℕ, ℤ, Bool, List, [], ◌∷◌, ◌++◌, map, Option, Some, None, Result, Ok, Err, IfSome}
+use Rattle.std.specs.Option.{option_map}
 use Rattle.nm_commit.specs.declared.change.Commit.{Commit}
+use Rattle.nm_index.specs.Index.{committed, folded}
 use Rattle.nm_index.specs.declared.base.Base.{Base}
 use Rattle.nm_core.specs.declared.machine.CoreError.{CoreError}
 use Rattle.nm_core.specs.declared.machine.CoreError.TheVariants.{NotNow, NoMemory}
+use Rattle.nm_core.specs.declared.machine.Made.{Made}
 use Rattle.nm_machine.specs.Laws.{met_after}
 use Rattle.nm_machine.specs.Machine.{Machine, IsAllowed, Takes}
 use Rattle.nm_machine.specs.declared.step.Step.{Step}
@@ -13,9 +16,42 @@ pub record Kept : Type 0 where
   pub machine : Machine
   pub met : ℕ
 
+-- the commits, without the indexes beside them
+abbrev pub commits_of : List Made → List Commit
+commits_of made = map (λ one. one.commit) made
+
+-- and the indexes
+abbrev pub indexes_of : List Made → List Base
+indexes_of made = map (λ one. one.index) made
+
+-- the commit that is begun
+abbrev pub begun_of : Option Made → Option Commit
+begun_of flight = option_map (λ one. one.commit) flight
+
+-- the index after each of the commits
+abbrev pub indexes_after : Base → List Commit → List Base
+indexes_after index [] = []
+indexes_after index (commit ∷ commits) = committed index commit ∷ indexes_after (committed index commit) commits
+
+-- beside each commit stands the index after it; so with the one that is begun
+pub record AreIndexes (opening : Base) (made : List Made) (flight : Option Made) : Type 0 where
+  pub kept : indexes_of made ≡ indexes_after opening (commits_of made)
+  pub next : IfSome flight (λ one. one.index ≡ committed (folded opening (commits_of made)) one.commit)
+
 -- the state with these parts
-abbrev pub machine_of : Base → List Commit → Option Commit → ℕ → List ℕ → Bool → Machine
-machine_of opening commits flight shown lanes up = record { opening = opening; commits = commits; flight = flight; shown = shown; lanes = lanes; up = up }
+abbrev pub machine_of : Base → List Made → Option Made → ℕ → List ℕ → Bool → Machine
+machine_of opening made flight shown lanes up =
+    record { opening = opening; commits = commits_of made; flight = begun_of flight; shown = shown; lanes = lanes; up = up }
+
+-- the machine once a commit is acknowledged
+abbrev pub with_commit : Machine → Commit → Machine
+with_commit m commit = record m { commits = m.commits ++ commit ∷ []; flight = None }
+
+-- The commit that is begun is acknowledged; where none is, that is not now.
+abbrev pub Acknowledges : {T : Type 0} → Kept → Result T CoreError → Kept → Type 0
+Acknowledges old (Ok done) new = (commit : Commit) × (old.machine.flight ≡ Some commit) × (new ≡ record { machine = with_commit old.machine commit; met = old.met })
+Acknowledges old (Err NotNow) new = (old.machine.flight ≡ None) × (new ≡ old)
+Acknowledges old (Err NoMemory) new = new ≡ old
 
 -- A step is taken, or refused because it is not allowed; a refusal, as want of memory, leaves all as it was.
 abbrev pub Answers : {T : Type 0} → ℤ → Kept → Step → Result T CoreError → Kept → Type 0

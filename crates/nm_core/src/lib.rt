@@ -1,11 +1,8 @@
-//! The plain index: the machine of commits and replies, run: a step is refused exactly where the machine does not allow it. Beside
-//! it the plain answers, which it judges replies by.
+//! Searching: the machine of commits and replies, run over snapshots: a step is refused exactly where the machine does not
+//! allow it, and a reply costs what its query costs.
 #![tactic(auto)]
 
-mod count;
-mod files;
 mod machine;
 mod reply;
 
-pub use count::{count_text, has_subject_word, is_subject_query, number_line, wanted_word};
 pub use machine::{Core, CoreError};

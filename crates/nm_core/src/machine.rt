@@ -1,17 +1,19 @@
 //! The machine's state and its steps; whoever steps it learns whether the step is lawful.
 
-ghost use Rattle.std.specs.Prelude.{◌≡◌, ◌↔◌, ◌<◌, ◌≤◌, ◌≤ℤ◌, ℤ, length, pos, replicate, true, IfOk, IsTrue};
-ghost use Rattle.nm_core.specs.Core.{Answers};
+ghost use Rattle.std.specs.Prelude.{◌≡◌, ◌↔◌, ◌≤◌, ◌≤ℤ◌, ◌++◌, [], ◌∷◌, length, pos, replicate, true, IfOk, IsTrue, OnErr, OnOk};
+ghost use Rattle.nm_commit.specs.Files.{Fits};
+ghost use Rattle.nm_core.specs.Core.{Acknowledges, Answers};
+ghost use Rattle.nm_dates.specs.Seconds.{IsMoment};
+ghost use Rattle.nm_index.specs.Index.{committed};
 ghost use Rattle.nm_machine.specs.Laws.{InOrder};
-ghost use Rattle.nm_machine.specs.Machine.{IsAllowed, start};
+ghost use Rattle.nm_machine.specs.Machine.{IsAllowed, index_after, last_index, start};
 
-use crate::files::{files_after, fit_changes};
 use crate::reply::may_reply;
 use nm_answer::Request;
 use nm_base::{Copies, Many, NoMemory};
 use nm_commit::Commit;
-use nm_index::{Base, files_follow_their_commits};
 use nm_machine::Step;
+use nm_state::Snapshot;
 use std::alloc::Global;
 use std::marker::Model;
 use std::mem;
@@ -37,13 +39,29 @@ impl From<NoMemory> for CoreError {
     }
 }
 
-/// The machine of commits and replies, from an index on.
+/// A commit, and the index after it.
+#[derive(Drop)]
+pub(crate) struct Made {
+    pub(crate) commit: Commit,
+    pub(crate) index: Snapshot,
+}
+
+impl Copies for Made {
+    fn copy(&self) -> Result<Made, NoMemory> {
+        Ok(Made {
+            commit: self.commit.copy()?,
+            index: self.index.copy()?,
+        })
+    }
+}
+
+/// The machine of commits and replies, from an index on. Beside each commit it keeps the index after it.
 #[derive(Drop)]
 pub struct Core {
     alloc: Global,
-    opening: Base,
-    commits: Many<Commit>,
-    flight: Option<Commit>,
+    opening: Snapshot,
+    commits: Many<Made>,
+    flight: Option<Made>,
     shown: usize,
     /// For each lane, how many commits it sees.
     lanes: Many<usize>,
@@ -54,26 +72,26 @@ pub struct Core {
 
 impl Model for Core {
     ghost use Rattle.std.specs.Prelude.{◌<◌, length};
-    ghost use Rattle.nm_core.specs.Core.{Kept, machine_of};
+    ghost use Rattle.nm_core.specs.Core.{AreIndexes, Kept, machine_of};
     ghost use Rattle.nm_machine.specs.Laws.{InOrder};
 
     ghost Value = { Kept };
 
     ghost view = { λ c. record { machine = machine_of c.opening c.commits c.flight c.shown c.lanes c.up; met = c.met } };
 
-    ghost invariant = { λ c. InOrder c.met (machine_of c.opening c.commits c.flight c.shown c.lanes c.up) × (0 < length c.lanes) };
+    ghost invariant = { λ c. InOrder c.met (machine_of c.opening c.commits c.flight c.shown c.lanes c.up) × (0 < length c.lanes) × AreIndexes c.opening c.commits c.flight };
 }
 
 impl Core {
     /// Nothing has happened yet. Lanes number 1 to 16.
-    pub fn new(alloc: Global, base: Base, lanes: u32) -> Result<Core, NoMemory>
+    pub fn new(alloc: Global, opening: Snapshot, lanes: u32) -> Result<Core, NoMemory>
         requires some { 1 ≤ lanes }
         requires most { lanes ≤ 16 }
-        ensures { IfOk result (λ core. core ≡ record { machine = start base lanes; met = 0 }) }
+        ensures { IfOk result (λ core. core ≡ record { machine = start opening lanes; met = 0 }) }
     {
         Ok(Core {
             alloc,
-            opening: base,
+            opening,
             commits: Many::new(alloc),
             flight: None,
             shown: 0,
@@ -84,7 +102,7 @@ impl Core {
     }
 
     /// Takes the step, if it may be taken now. `moment` is the second, counted from 1970-01-01 00:00:00 UTC, at
-    /// which a reply is given; no request that is answered so far asks for it.
+    /// which a reply is given. A commit for which an index has no more numbers finds no memory.
     pub fn step(&mut self, step: &Step, moment: i64) -> Result<(), CoreError>
         requires from_1970 { pos 0 ≤ℤ moment }
         requires moment { moment ≤ℤ pos 253000000000 }
@@ -121,7 +139,9 @@ impl Core {
         if !self.may_begin(commit, moment)? {
             return Err(CoreError::NotNow);
         }
-        self.flight = Some(commit.copy()?);
+        let index = index_with(self.last_index(), commit)?;
+        let commit = commit.copy()?;
+        self.flight = Some(Made { commit, index });
         Ok(())
     }
 
@@ -136,12 +156,25 @@ impl Core {
         if self.flight.is_some() {
             return Ok(false);
         }
-        if commit.changes.is_empty() {
-            return Ok(false);
+        self.last_index().fits(commit)
+    }
+
+    /// The index after all commits.
+    fn last_index(&self) -> &Snapshot
+        ensures { result.now ≡ last_index self.now.machine }
+    {
+        self.index_after(self.commits.len())
+    }
+
+    /// The index after the first commits, so many of them.
+    fn index_after(&self, seen: usize) -> &Snapshot
+        requires { seen ≤ length self.now.machine.commits }
+        ensures { result.now ≡ index_after self.now.machine seen }
+    {
+        match seen.checked_sub(1) {
+            None => &self.opening,
+            Some(last) => &self.commits.as_slice()[last].index,
         }
-        files_follow_their_commits();
-        let files = files_after(self.alloc, &self.opening.files, self.commits.as_slice())?;
-        fit_changes(self.alloc, files, commit.changes.as_slice())
     }
 
     fn append(&mut self, moment: i64) -> Result<(), CoreError>
@@ -149,11 +182,17 @@ impl Core {
         ensures answer { Answers moment self.old Step.Append result self.new }
     {
         let _ = moment;
-        let Some(commit) = &self.flight else {
+        self.acknowledge()
+    }
+
+    /// The commit on its way is there.
+    fn acknowledge(&mut self) -> Result<(), CoreError>
+        ensures { Acknowledges self.old result self.new }
+    {
+        let Some(made) = &self.flight else {
             return Err(CoreError::NotNow);
         };
-        let copied = commit.copy()?;
-        self.commits.push(copied)?;
+        push_copy(&mut self.commits, made)?;
         self.flight = None;
         Ok(())
     }
@@ -201,21 +240,16 @@ impl Core {
 
     fn reply(&self, lane: u32, request: &Request, text: &[u8], moment: i64) -> Result<(), CoreError>
         requires up { self.now.machine.up ≡ true }
+        requires moment { IsMoment moment }
         ensures answer { Answers moment self.now (Step.Reply lane request.now text.now) result self.now }
     {
-        let _ = moment;
         let lane = lane as usize;
         if lane >= self.lanes.len() {
             return Err(CoreError::NotNow);
         }
         let seen = self.lanes.as_slice()[lane];
-        files_follow_their_commits();
-        let files = files_after(
-            self.alloc,
-            &self.opening.files,
-            &self.commits.as_slice()[..seen],
-        )?;
-        if !may_reply(self.alloc, files.as_slice(), request, text)? {
+        let index = self.index_after(seen);
+        if !may_reply(self.alloc, index, request, text, moment)? {
             return Err(CoreError::NotNow);
         }
         Ok(())
@@ -227,11 +261,9 @@ impl Core {
     {
         let _ = moment;
         if kept {
-            let Some(commit) = &self.flight else {
-                return Err(CoreError::NotNow);
-            };
-            let copied = commit.copy()?;
-            self.commits.push(copied)?;
+            if let Err(error) = self.acknowledge() {
+                return Err(error);
+            }
         }
         self.flight = None;
         self.up = false;
@@ -253,6 +285,25 @@ impl Core {
         self.met = known;
         Ok(())
     }
+}
+
+/// The index with the commit.
+fn index_with(index: &Snapshot, commit: &Commit) -> Result<Snapshot, NoMemory>
+    requires { Fits index.now.files commit.now }
+    ensures { IfOk result (λ after. after ≡ committed index.now commit.now) }
+{
+    if !index.has_numbers(commit) {
+        return Err(NoMemory);
+    }
+    index.apply(commit)
+}
+
+fn push_copy(commits: &mut Many<Made>, made: &Made) -> Result<(), NoMemory>
+    ensures ok { OnOk result (commits.new ≡ commits.old ++ made.now ∷ []) }
+    ensures err { OnErr result (commits.new ≡ commits.old) }
+{
+    let copied = made.copy()?;
+    commits.push(copied)
 }
 
 fn none_seeing(alloc: Global, lanes: usize) -> Result<Many<usize>, NoMemory>

@@ -1,0 +1,150 @@
+//! The reply to a count. The machine judges replies by it, and a session answers with it.
+
+ghost use Rattle.std.specs.Prelude.{◌≡◌, ◌+◌, ◌<◌, ◌++◌, [], ◌∷◌, fold, length, IfOk, OnOk};
+ghost use Rattle.std.specs.BTreeSet.{insert_key};
+ghost use Rattle.std.specs.Fmt.{decimal};
+ghost use Rattle.std.specs.List.{filter_map};
+ghost use Rattle.std.specs.Ordering.{nat_cmp};
+ghost use Rattle.nm_answer.specs.Count.{count_found, count_text, counted, files_of_all, thread_names};
+ghost use Rattle.nm_answer.specs.Matches.{matches_of};
+ghost use Rattle.nm_answer.specs.View.{files_of};
+ghost use Rattle.nm_dates.specs.Seconds.{IsMoment};
+ghost use Rattle.nm_index.specs.Index.{rows_of};
+ghost use Rattle.nm_threads.specs.Name.{thread_name};
+
+use itoa::Buffer;
+use nm_base::{CountAsk, Many, MessageId, NoMemory, Output, Steps};
+use nm_eval::matches;
+use nm_query::Query;
+use nm_state::Snapshot;
+use std::alloc::Global;
+use std::collections::BTreeSet;
+use std::marker::Brand;
+use std::sync::ledger::{Blank, Ledger};
+
+/// The reply to a count whose query has this tree.
+pub fn count_reply(
+    alloc: Global,
+    snapshot: &Snapshot,
+    ask: &CountAsk,
+    query: &Query,
+    moment: i64,
+) -> Result<Many<u8>, NoMemory>
+    requires moment { IsMoment moment }
+    ensures { IfOk result (λ text. text ≡ count_found ask.now snapshot.now moment query.now) }
+{
+    let exclude = ask.exclude;
+    let ids = found::<Brand>(alloc, snapshot, query, moment, exclude, Blank::new(1))?;
+    count_text(alloc, snapshot, ids.as_slice(), ask.output)
+}
+
+/// The messages that the query finds, in steps that nobody counts.
+fn found<L: Ledger>(
+    alloc: Global,
+    snapshot: &Snapshot,
+    query: &Query,
+    moment: i64,
+    exclude: bool,
+    blank: Blank,
+) -> Result<Many<MessageId>, NoMemory>
+    requires name { blank.name ≡ L.name }
+    requires parts { blank.parts ≡ L.parts }
+    requires whole { 0 < L.parts }
+    requires moment { IsMoment moment }
+    ensures { IfOk result (λ ids. ids ≡ matches_of snapshot.now query.now moment exclude) }
+{
+    let mut steps = Steps::<L>::begin(blank);
+    matches(alloc, snapshot, query, moment, exclude, &mut steps)
+}
+
+/// How many of what is asked the messages come to, and LF.
+pub fn count_text(
+    alloc: Global,
+    snapshot: &Snapshot,
+    ids: &[MessageId],
+    output: Output,
+) -> Result<Many<u8>, NoMemory>
+    ensures { IfOk result (λ text. text ≡ count_text output snapshot.now ids.now) }
+{
+    let number = counted(alloc, snapshot, ids, output)?;
+    number_line(alloc, number)
+}
+
+fn counted(
+    alloc: Global,
+    snapshot: &Snapshot,
+    ids: &[MessageId],
+    output: Output,
+) -> Result<u64, NoMemory>
+    ensures { IfOk result (λ number. number ≡ counted output snapshot.now ids.now) }
+{
+    match output {
+        Output::Threads => count_threads(alloc, snapshot, ids),
+        Output::Messages => Ok(ids.len() as u64),
+        Output::Files => count_files(snapshot, ids),
+        Output::Summary | Output::Tags => Ok(0),
+    }
+}
+
+/// How many threads the messages are of.
+fn count_threads(alloc: Global, snapshot: &Snapshot, ids: &[MessageId]) -> Result<u64, NoMemory>
+    ensures { IfOk result (λ number. number ≡ length (thread_names snapshot.now ids.now)) }
+{
+    let mut names = BTreeSet::new(alloc);
+    'ids: for id in ids {
+        add_thread(&mut names, snapshot, id)?;
+    }
+    Ok(names.len() as u64)
+}
+
+fn add_thread(
+    names: &mut BTreeSet<u64>,
+    snapshot: &Snapshot,
+    id: &MessageId,
+) -> Result<(), NoMemory>
+    ensures { OnOk result (names.new.keys ≡ fold (insert_key nat_cmp) names.old.keys (filter_map (thread_name (rows_of snapshot.now) snapshot.now.entries) (id.now ∷ []))) }
+{
+    if let Some(name) = snapshot.thread(id) {
+        names.insert(name)?;
+    }
+    Ok(())
+}
+
+/// How many files the messages have.
+fn count_files(snapshot: &Snapshot, ids: &[MessageId]) -> Result<u64, NoMemory>
+    ensures { IfOk result (λ number. number ≡ length (files_of_all snapshot.now ids.now)) }
+{
+    let mut number = 0;
+    'ids: for id in ids {
+        number = add_files(number, snapshot, id)?;
+    }
+    Ok(number)
+}
+
+/// The number with the files of a message counted too. More than a number tells finds no memory.
+fn add_files(before: u64, snapshot: &Snapshot, id: &MessageId) -> Result<u64, NoMemory>
+    ensures { IfOk result (λ number. number ≡ before + length (files_of snapshot.now id.now)) }
+{
+    let mut number = before;
+    if let Some(mut rest) = snapshot.files(id) {
+        'files: while rest.next().is_some() {
+            number = one_more(number)?;
+        }
+    }
+    Ok(number)
+}
+
+fn one_more(number: u64) -> Result<u64, NoMemory>
+    ensures { IfOk result (λ next. next ≡ number + 1) }
+{
+    number.checked_add(1).ok_or(NoMemory)
+}
+
+fn number_line(alloc: Global, number: u64) -> Result<Many<u8>, NoMemory>
+    ensures { IfOk result (λ line. line ≡ decimal number ++ 10 ∷ []) }
+{
+    let mut buffer = Buffer::new();
+    let mut line = Many::from_slice(alloc, buffer.format(number).as_bytes())?;
+    line.push(b'\n')?;
+    Ok(line)
+}
