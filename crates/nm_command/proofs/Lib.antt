@@ -1,0 +1,12 @@
+mod AnswerLemmas
+mod DefaultLemmas
+mod NameLemmas
+mod NumberLemmas
+mod OptionLemmas
+mod QueryLemmas
+mod RangeLemmas
+mod ReadingLemmas
+mod RepeatLemmas
+mod RowLemmas
+mod SpellingLemmas
+mod TableLemmas

@@ -1,0 +1,169 @@
+-- A request whose every option is written out is read back.
+use Rattle.std.proofs.Common.{◌≡◌, ℕ, ◌<◌, ◌≤◌, ◌^◌, Bool, true, false, cond, ◌&&◌, List, [], ◌∷◌, length, refl, ap, ◌∙◌, arith}
+use Rattle.std.specs.Prelude.{Option, Some, None, codes, nat_le}
+use Rattle.std.specs.Char.{is_ascii_digit}
+use Rattle.std.specs.Fmt.{decimal}
+use Rattle.std.specs.List.{list_all}
+use Rattle.std.specs.Str.Parse.{digits_value}
+use Rattle.std.proofs.lemmas.Bool.Decides.{nat_tests}
+use Rattle.std.proofs.lemmas.Fmt.{decimal_nonempty, digits_decimal, digits_value-decimal, length-decimal-le}
+use Rattle.nm_base.specs.declared.asks.CountAsk.{CountAsk}
+use Rattle.nm_base.specs.declared.asks.SearchAsk.{SearchAsk}
+use Rattle.nm_base.specs.declared.asks.ShowAsk.{ShowAsk}
+use Rattle.nm_base.specs.declared.forms.Output.{Output}
+use Rattle.nm_base.specs.declared.forms.Output.TheVariants as output
+use Rattle.nm_command.specs.Grammar.{HasOptions, IsOption, IsRequest, a_batch_count, a_count, a_flag, a_new, a_number, a_search, a_session, a_show, an_option, dashes, no_words, one_of}
+use Rattle.nm_command.specs.Numbers.{are_digits, number_in}
+use Rattle.nm_command.specs.Settings.{nothing_set}
+use Rattle.nm_command.specs.Spelling.{before_limit, can_be_asked, exclude_option, fits, is_counted, lacks_query, limit_fits, option, output_word, query_words, spelled}
+use Rattle.nm_command.specs.Table.{meaning_of, options_of}
+use Rattle.nm_command.specs.declared.request.Request.{Request}
+use Rattle.nm_command.specs.declared.request.Request.TheVariants as requests
+use Rattle.nm_command.specs.declared.settings.Setting.TheVariants as sets
+use Rattle.nm_command.specs.declared.settings.Settings.{Settings}
+use Rattle.nm_command.specs.declared.table.CommandName.{CommandName}
+use Rattle.nm_command.specs.declared.table.CommandName.TheVariants.{Count, New, Search, Session, Show}
+use Rattle.nm_command.specs.declared.table.Form.TheVariants.{OneOf}
+use Rattle.nm_command.specs.declared.table.Numbered.TheVariants as numbers
+use Rattle.nm_command.specs.declared.table.Values.TheVariants as values
+use Rattle.nm_command.proofs.NumberLemmas.{own}
+use Rattle.nm_command.proofs.RowLemmas.{and-left, and-right}
+
+-- a number in decimal digits is read back
+are-digits : (text : List ℕ) → 0 < length text → length text ≤ 10 → list_all is_ascii_digit text ≡ true → are_digits text ≡ true
+are-digits text some few digits = grind (arith, nat_tests)
+
+small : (n : ℕ) → fits n ≡ true → n < 10 ^ 10
+small n h = grind (arith, nat_tests)
+
+number-back : (n : ℕ) → fits n ≡ true → number_in (decimal n) ≡ Some n
+number-back n h =
+    let few : n < 2 ^ 64 = (let below = small n h in omega (arith, below)) in
+    let digits = are-digits (decimal n) (decimal_nonempty n few) (length-decimal-le 10 n (omega arith) (small n h) few) (digits_decimal own n few) in
+    let value = digits_value-decimal own n few in
+    ap (λ v. cond (v && nat_le (digits_value 10 (decimal n)) 4294967295) (Some (digits_value 10 (decimal n))) None) digits
+    ∙ ap (λ m. cond (nat_le m 4294967295) (Some m) None) value
+    ∙ ap (λ v. cond v (Some n) None) h
+
+format-option : (json : Bool) → IsOption Search (option (codes "--format") (cond json (codes "json") (codes "text"))) (sets.Json json)
+format-option true = one_of Search (codes "--format") (codes "json") values.SearchFormat (sets.Json true) refl refl
+format-option false = one_of Search (codes "--format") (codes "text") values.SearchFormat (sets.Json false) refl refl
+
+raw-option : (raw : Bool) → IsOption Show (option (codes "--format") (cond raw (codes "raw") (codes "text"))) (sets.Raw raw)
+raw-option true = one_of Show (codes "--format") (codes "raw") values.ShowFormat (sets.Raw true) refl refl
+raw-option false = one_of Show (codes "--format") (codes "text") values.ShowFormat (sets.Raw false) refl refl
+
+output-option : (output : Output) → IsOption Search (option (codes "--output") (output_word output)) (sets.Output output)
+output-option output.Summary = one_of Search (codes "--output") (codes "summary") values.SearchOutput (sets.Output output.Summary) refl refl
+output-option output.Threads = one_of Search (codes "--output") (codes "threads") values.SearchOutput (sets.Output output.Threads) refl refl
+output-option output.Messages = one_of Search (codes "--output") (codes "messages") values.SearchOutput (sets.Output output.Messages) refl refl
+output-option output.Files = one_of Search (codes "--output") (codes "files") values.SearchOutput (sets.Output output.Files) refl refl
+output-option output.Tags = one_of Search (codes "--output") (codes "tags") values.SearchOutput (sets.Output output.Tags) refl refl
+
+counted-option : (output : Output) → is_counted output ≡ true → IsOption Count (option (codes "--output") (output_word output)) (sets.Output output)
+counted-option output.Summary h = absurd (cc)
+counted-option output.Threads h = one_of Count (codes "--output") (codes "threads") values.CountOutput (sets.Output output.Threads) refl refl
+counted-option output.Messages h = one_of Count (codes "--output") (codes "messages") values.CountOutput (sets.Output output.Messages) refl refl
+counted-option output.Files h = one_of Count (codes "--output") (codes "files") values.CountOutput (sets.Output output.Files) refl refl
+counted-option output.Tags h = absurd (cc)
+
+sort-option : (oldest : Bool) → IsOption Search (option (codes "--sort") (cond oldest (codes "oldest-first") (codes "newest-first"))) (sets.Oldest oldest)
+sort-option true = one_of Search (codes "--sort") (codes "oldest-first") values.Sort (sets.Oldest true) refl refl
+sort-option false = one_of Search (codes "--sort") (codes "newest-first") values.Sort (sets.Oldest false) refl refl
+
+offset-option : (n : ℕ) → fits n ≡ true → IsOption Search (option (codes "--offset") (decimal n)) (sets.Offset n)
+offset-option n h = a_number Search (codes "--offset") (decimal n) numbers.Offset n refl (number-back n h)
+
+limit-option : (n : ℕ) → fits n ≡ true → IsOption Search (option (codes "--limit") (decimal n)) (sets.Limit n)
+limit-option n h = a_number Search (codes "--limit") (decimal n) numbers.Limit n refl (number-back n h)
+
+-- each command but `new` and `session` takes this one
+exclude-with : (command : CommandName) → meaning_of (codes "--exclude") (options_of command) ≡ Some (OneOf values.Exclude) → (exclude : Bool) →
+    IsOption command (exclude_option exclude) (sets.Exclude exclude)
+exclude-with command found true = one_of command (codes "--exclude") (codes "true") values.Exclude (sets.Exclude true) found refl
+exclude-with command found false = one_of command (codes "--exclude") (codes "false") values.Exclude (sets.Exclude false) found refl
+
+abbrev searched : SearchAsk → Option ℕ → Option Bool → Settings
+searched ask limit exclude = record {
+  json = Some ask.json;
+  raw = None;
+  output = Some ask.output;
+  oldest = Some ask.oldest;
+  offset = Some ask.offset;
+  limit = limit;
+  exclude = exclude;
+  batch = false;
+}
+
+limit-has : (ask : SearchAsk) (limit : Option ℕ) → limit_fits limit ≡ true →
+    HasOptions Search (searched ask None None) (before_limit limit (exclude_option ask.exclude ∷ query_words false ask.query)) (searched ask limit (Some ask.exclude)) (ask.query ∷ [])
+limit-has ask None h =
+    an_option Search (searched ask None None) (searched ask None (Some ask.exclude)) (sets.Exclude ask.exclude) (exclude_option ask.exclude) (query_words false ask.query) (ask.query ∷ [])
+    (exclude-with Search refl ask.exclude) refl (dashes Search (searched ask None (Some ask.exclude)) (ask.query ∷ []))
+limit-has ask (Some n) h =
+    an_option Search (searched ask None None) (searched ask (Some n) (Some ask.exclude)) (sets.Limit n) (option (codes "--limit") (decimal n))
+    (exclude_option ask.exclude ∷ query_words false ask.query) (ask.query ∷ []) (limit-option n h) refl
+    (an_option Search (searched ask (Some n) None) (searched ask (Some n) (Some ask.exclude)) (sets.Exclude ask.exclude) (exclude_option ask.exclude) (query_words false ask.query)
+    (ask.query ∷ []) (exclude-with Search refl ask.exclude) refl (dashes Search (searched ask (Some n) (Some ask.exclude)) (ask.query ∷ [])))
+
+search-back : (ask : SearchAsk) → can_be_asked (requests.Search ask) ≡ true → IsRequest (spelled (requests.Search ask)) (requests.Search ask)
+search-back ask h =
+    let after = searched ask ask.limit (Some ask.exclude) in
+    let rest = ask.query ∷ [] in
+    let limited = before_limit ask.limit (exclude_option ask.exclude ∷ query_words false ask.query) in
+    let offset = option (codes "--offset") (decimal ask.offset) in
+    let sort = option (codes "--sort") (cond ask.oldest (codes "oldest-first") (codes "newest-first")) in
+    let output = option (codes "--output") (output_word ask.output) in
+    let format = option (codes "--format") (cond ask.json (codes "json") (codes "text")) in
+    let with_format = record nothing_set { json = Some ask.json } in
+    let with_output = record with_format { output = Some ask.output } in
+    let with_sort = record with_output { oldest = Some ask.oldest } in
+    a_search (codes "search") ask.query (format ∷ output ∷ sort ∷ offset ∷ limited) [] after refl
+    (an_option Search nothing_set after (sets.Json ask.json) format (output ∷ sort ∷ offset ∷ limited) rest (format-option ask.json) refl
+    (an_option Search with_format after (sets.Output ask.output) output (sort ∷ offset ∷ limited) rest (output-option ask.output) refl
+    (an_option Search with_output after (sets.Oldest ask.oldest) sort (offset ∷ limited) rest (sort-option ask.oldest) refl
+    (an_option Search with_sort after (sets.Offset ask.offset) offset limited rest (offset-option ask.offset (and-left (fits ask.offset) (limit_fits ask.limit) h)) refl
+    (limit-has ask ask.limit (and-right (fits ask.offset) (limit_fits ask.limit) h))))))
+
+count-back : (ask : CountAsk) → is_counted ask.output ≡ true → (batch : Bool) (query : List ℕ) → lacks_query batch query ≡ true →
+    IsRequest (spelled (requests.Count (record { output = ask.output; exclude = ask.exclude; batch = batch; query = query })))
+    (requests.Count (record { output = ask.output; exclude = ask.exclude; batch = batch; query = query }))
+count-back ask counted true [] h =
+    let output = option (codes "--output") (output_word ask.output) in
+    let with_output = record nothing_set { output = Some ask.output } in
+    let with_exclude = record with_output { exclude = Some ask.exclude } in
+    let after = record with_exclude { batch = true } in
+    a_batch_count (codes "count") (output ∷ exclude_option ask.exclude ∷ query_words true []) after refl
+    (an_option Count nothing_set after (sets.Output ask.output) output (exclude_option ask.exclude ∷ query_words true []) [] (counted-option ask.output counted) refl
+    (an_option Count with_output after (sets.Exclude ask.exclude) (exclude_option ask.exclude) (query_words true []) [] (exclude-with Count refl ask.exclude) refl
+    (an_option Count with_exclude after sets.Batch (codes "--batch") [] [] (a_flag Count (codes "--batch") sets.Batch refl) refl
+    (no_words Count after)))) refl
+count-back ask counted true (b ∷ query) h = absurd (cc)
+count-back ask counted false query h =
+    let output = option (codes "--output") (output_word ask.output) in
+    let with_output = record nothing_set { output = Some ask.output } in
+    let after = record with_output { exclude = Some ask.exclude } in
+    let rest = query ∷ [] in
+    a_count (codes "count") (output ∷ exclude_option ask.exclude ∷ query_words false query) rest after refl
+    (an_option Count nothing_set after (sets.Output ask.output) output (exclude_option ask.exclude ∷ query_words false query) rest (counted-option ask.output counted) refl
+    (an_option Count with_output after (sets.Exclude ask.exclude) (exclude_option ask.exclude) (query_words false query) rest (exclude-with Count refl ask.exclude) refl
+    (dashes Count after rest))) refl
+
+show-back : (ask : ShowAsk) → IsRequest (spelled (requests.Show ask)) (requests.Show ask)
+show-back ask =
+    let raw = option (codes "--format") (cond ask.raw (codes "raw") (codes "text")) in
+    let with_format = record nothing_set { raw = Some ask.raw } in
+    let after = record with_format { exclude = Some ask.exclude } in
+    let rest = ask.query ∷ [] in
+    a_show (codes "show") ask.query (raw ∷ exclude_option ask.exclude ∷ query_words false ask.query) [] after refl
+    (an_option Show nothing_set after (sets.Raw ask.raw) raw (exclude_option ask.exclude ∷ query_words false ask.query) rest (raw-option ask.raw) refl
+    (an_option Show with_format after (sets.Exclude ask.exclude) (exclude_option ask.exclude) (query_words false ask.query) rest (exclude-with Show refl ask.exclude) refl
+    (dashes Show after rest)))
+
+pub spelled-back : (request : Request) → can_be_asked request ≡ true → IsRequest (spelled request) request
+spelled-back requests.New h = a_new (codes "new") [] nothing_set refl (no_words New nothing_set)
+spelled-back (requests.Search ask) h = search-back ask h
+spelled-back (requests.Count ask) h =
+    count-back ask (and-left (is_counted ask.output) (lacks_query ask.batch ask.query) h) ask.batch ask.query (and-right (is_counted ask.output) (lacks_query ask.batch ask.query) h)
+spelled-back (requests.Show ask) h = show-back ask
+spelled-back requests.Session h = a_session (codes "session") [] nothing_set refl (no_words Session nothing_set)

@@ -1,0 +1,100 @@
+-- The grammar of commands, a case for each of its rules: which words ask for what, and which word is at fault.
+--   command := ("new" | "session") options   |   "count" options word*   |   ("search" | "show") options word+
+--   options := (flag | name "=" value)* "--"?
+use Rattle.std.specs.Prelude.{◌≡◌, ◌≢◌, ℕ, Bool, true, false, List, [], ◌∷◌, ◌++◌, Some, None, codes}
+use Rattle.std.specs.List.{before_first}
+use Rattle.nm_base.specs.declared.refusals.UsageKind.{UsageKind}
+use Rattle.nm_base.specs.declared.refusals.UsageKind.TheVariants as kinds
+use Rattle.nm_text.specs.Cuts.{is_byte}
+use Rattle.nm_command.specs.Numbers.{number_in}
+use Rattle.nm_command.specs.Options.{begins_with_dashes}
+use Rattle.nm_command.specs.Requests.{count_ask, search_ask, show_ask}
+use Rattle.nm_command.specs.Settings.{is_given, nothing_set, with_setting}
+use Rattle.nm_command.specs.Table.{commands, meaning_of, number_setting, options_of, values_of}
+use Rattle.nm_command.specs.declared.request.Request.{Request}
+use Rattle.nm_command.specs.declared.request.Request.TheVariants as requests
+use Rattle.nm_command.specs.declared.settings.Setting.{Setting}
+use Rattle.nm_command.specs.declared.settings.Settings.{Settings}
+use Rattle.nm_command.specs.declared.table.CommandName.{CommandName}
+use Rattle.nm_command.specs.declared.table.CommandName.TheVariants.{Count, New, Search, Session, Show}
+use Rattle.nm_command.specs.declared.table.Form.{Form}
+use Rattle.nm_command.specs.declared.table.Form.TheVariants.{Flag, Number, OneOf}
+use Rattle.nm_command.specs.declared.table.Numbered.{Numbered}
+use Rattle.nm_command.specs.declared.table.Values.{Values}
+
+-- these commands take words after their options
+abbrev pub takes_words : CommandName → Bool
+takes_words New = false
+takes_words Search = true
+takes_words Count = true
+takes_words Show = true
+takes_words Session = false
+
+-- and these need one
+abbrev pub needs_query : CommandName → Bool
+needs_query New = false
+needs_query Search = true
+needs_query Count = false
+needs_query Show = true
+needs_query Session = false
+
+-- the word is an option of the command, and sets this
+pub data IsOption : CommandName → List ℕ → Setting → Type 0 where
+  a_flag : (command : CommandName) (name : List ℕ) (setting : Setting) → meaning_of name (options_of command) ≡ Some (Flag setting) → IsOption command name setting
+  one_of : (command : CommandName) (name value : List ℕ) (which : Values) (setting : Setting) → meaning_of name (options_of command) ≡ Some (OneOf which) →
+      meaning_of value (values_of which) ≡ Some setting → IsOption command (name ++ 61 ∷ value) setting
+  a_number : (command : CommandName) (name digits : List ℕ) (which : Numbered) (number : ℕ) → meaning_of name (options_of command) ≡ Some (Number which) →
+      number_in digits ≡ Some number → IsOption command (name ++ 61 ∷ digits) (number_setting which number)
+
+-- the words are options of the command, each once, and others: after some settings they leave the settings and the words that follow
+pub data HasOptions : CommandName → Settings → List (List ℕ) → Settings → List (List ℕ) → Type 0 where
+  no_words : (command : CommandName) (settings : Settings) → HasOptions command settings [] settings []
+  dashes : (command : CommandName) (settings : Settings) (words : List (List ℕ)) → HasOptions command settings (codes "--" ∷ words) settings words
+  no_option : (command : CommandName) (settings : Settings) (word : List ℕ) (words : List (List ℕ)) → begins_with_dashes word ≡ false →
+      HasOptions command settings (word ∷ words) settings (word ∷ words)
+  an_option : (command : CommandName) (settings after : Settings) (setting : Setting) (word : List ℕ) (words rest : List (List ℕ)) → IsOption command word setting →
+      is_given settings setting ≡ false → HasOptions command (with_setting settings setting) words after rest → HasOptions command settings (word ∷ words) after rest
+
+-- the words ask for this
+pub data IsRequest : List (List ℕ) → Request → Type 0 where
+  a_new : (name : List ℕ) (words : List (List ℕ)) (settings : Settings) → meaning_of name commands ≡ Some New → HasOptions New nothing_set words settings [] →
+      IsRequest (name ∷ words) requests.New
+  a_search : (name word : List ℕ) (words query : List (List ℕ)) (settings : Settings) → meaning_of name commands ≡ Some Search →
+      HasOptions Search nothing_set words settings (word ∷ query) → IsRequest (name ∷ words) (requests.Search (search_ask settings (word ∷ query)))
+  a_count : (name : List ℕ) (words query : List (List ℕ)) (settings : Settings) → meaning_of name commands ≡ Some Count →
+      HasOptions Count nothing_set words settings query → settings.batch ≡ false → IsRequest (name ∷ words) (requests.Count (count_ask settings query))
+  a_batch_count : (name : List ℕ) (words : List (List ℕ)) (settings : Settings) → meaning_of name commands ≡ Some Count →
+      HasOptions Count nothing_set words settings [] → settings.batch ≡ true → IsRequest (name ∷ words) (requests.Count (count_ask settings []))
+  a_show : (name word : List ℕ) (words query : List (List ℕ)) (settings : Settings) → meaning_of name commands ≡ Some Show →
+      HasOptions Show nothing_set words settings (word ∷ query) → IsRequest (name ∷ words) (requests.Show (show_ask settings (word ∷ query)))
+  a_session : (name : List ℕ) (words : List (List ℕ)) (settings : Settings) → meaning_of name commands ≡ Some Session → HasOptions Session nothing_set words settings [] →
+      IsRequest (name ∷ words) requests.Session
+
+-- a word with dashes may not stand there, for this reason; a bad value is told before a repetition
+pub data IsFault : CommandName → Settings → List ℕ → UsageKind → Type 0 where
+  unknown : (command : CommandName) (settings : Settings) (word : List ℕ) → meaning_of (before_first (is_byte 61) word) (options_of command) ≡ None →
+      IsFault command settings word kinds.Option
+  bad_value : (command : CommandName) (settings : Settings) (word : List ℕ) (form : Form) → meaning_of (before_first (is_byte 61) word) (options_of command) ≡ Some form →
+      ((setting : Setting) → ¬ IsOption command word setting) → IsFault command settings word kinds.Value
+  repeated : (command : CommandName) (settings : Settings) (setting : Setting) (word : List ℕ) → IsOption command word setting → is_given settings setting ≡ true →
+      IsFault command settings word kinds.Repeat
+
+-- after options of the command a word with dashes follows that may not stand there
+pub data HasFault : CommandName → Settings → List (List ℕ) → List ℕ → UsageKind → Type 0 where
+  at_once : (command : CommandName) (settings : Settings) (word : List ℕ) (words : List (List ℕ)) (kind : UsageKind) → begins_with_dashes word ≡ true → word ≢ codes "--" →
+      IsFault command settings word kind → HasFault command settings (word ∷ words) word kind
+  later : (command : CommandName) (settings : Settings) (setting : Setting) (first word : List ℕ) (words : List (List ℕ)) (kind : UsageKind) → IsOption command first setting →
+      is_given settings setting ≡ false → HasFault command (with_setting settings setting) words word kind → HasFault command settings (first ∷ words) word kind
+
+-- this word of them is at fault, for this reason
+pub data IsRefused : List (List ℕ) → List ℕ → UsageKind → Type 0 where
+  no_command : IsRefused [] [] kinds.Command
+  unknown_command : (word : List ℕ) (words : List (List ℕ)) → meaning_of word commands ≡ None → IsRefused (word ∷ words) word kinds.Command
+  a_fault : (command : CommandName) (name word : List ℕ) (words : List (List ℕ)) (kind : UsageKind) → meaning_of name commands ≡ Some command →
+      HasFault command nothing_set words word kind → IsRefused (name ∷ words) word kind
+  no_query : (command : CommandName) (name : List ℕ) (words : List (List ℕ)) (settings : Settings) → meaning_of name commands ≡ Some command → needs_query command ≡ true →
+      HasOptions command nothing_set words settings [] → IsRefused (name ∷ words) [] kinds.Missing
+  a_word_too_many : (command : CommandName) (name word : List ℕ) (words more : List (List ℕ)) (settings : Settings) → meaning_of name commands ≡ Some command →
+      takes_words command ≡ false → HasOptions command nothing_set words settings (word ∷ more) → IsRefused (name ∷ words) word kinds.Extra
+  a_clash : (name word : List ℕ) (words more : List (List ℕ)) (settings : Settings) → meaning_of name commands ≡ Some Count → settings.batch ≡ true →
+      HasOptions Count nothing_set words settings (word ∷ more) → IsRefused (name ∷ words) word kinds.Clash

@@ -1,0 +1,7 @@
+pub mod Grammar
+pub mod Numbers
+pub mod Options
+pub mod Requests
+pub mod Settings
+pub mod Spelling
+pub mod Table

@@ -1,0 +1,41 @@
+-- What the options of a command set.
+use Rattle.std.specs.Prelude.{Bool, true, false, Option, Some, None}
+use Rattle.nm_command.specs.declared.settings.Setting.{Setting}
+use Rattle.nm_command.specs.declared.settings.Setting.TheVariants.{Batch, Exclude, Json, Limit, Offset, Oldest, Output, Raw}
+use Rattle.nm_command.specs.declared.settings.Settings.{Settings}
+
+-- before any option
+abbrev pub nothing_set : Settings
+nothing_set = record { json = None; raw = None; output = None; oldest = None; offset = None; limit = None; exclude = None; batch = false }
+
+-- a value is there
+abbrev pub is_there : {A : Type 0} → Option A → Bool
+is_there None = false
+is_there (Some value) = true
+
+-- an option that sets the same was there, whichever value it had
+abbrev pub is_given : Settings → Setting → Bool
+is_given settings (Json json) = is_there settings.json
+is_given settings (Raw raw) = is_there settings.raw
+is_given settings (Output output) = is_there settings.output
+is_given settings (Oldest oldest) = is_there settings.oldest
+is_given settings (Offset offset) = is_there settings.offset
+is_given settings (Limit limit) = is_there settings.limit
+is_given settings (Exclude exclude) = is_there settings.exclude
+is_given settings Batch = settings.batch
+
+-- the settings with one more
+abbrev pub with_setting : Settings → Setting → Settings
+with_setting settings (Json json) = record settings { json = Some json }
+with_setting settings (Raw raw) = record settings { raw = Some raw }
+with_setting settings (Output output) = record settings { output = Some output }
+with_setting settings (Oldest oldest) = record settings { oldest = Some oldest }
+with_setting settings (Offset offset) = record settings { offset = Some offset }
+with_setting settings (Limit limit) = record settings { limit = Some limit }
+with_setting settings (Exclude exclude) = record settings { exclude = Some exclude }
+with_setting settings Batch = record settings { batch = true }
+
+-- a value that was set, or the default
+abbrev pub or_default : {A : Type 0} → Option A → A → A
+or_default None default = default
+or_default (Some value) default = value

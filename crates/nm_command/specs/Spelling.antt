@@ -1,0 +1,80 @@
+-- Requests in words again, with every option written out.
+use Rattle.std.specs.Prelude.{ℕ, Bool, true, false, ◌&&◌, nat_le, List, [], ◌∷◌, ◌++◌, Option, Some, None, codes, if◌then◌else◌}
+use Rattle.std.specs.Fmt.{decimal}
+use Rattle.nm_base.specs.declared.forms.Output.{Output}
+use Rattle.nm_base.specs.declared.forms.Output.TheVariants as output
+use Rattle.nm_command.specs.declared.request.Request.{Request}
+use Rattle.nm_command.specs.declared.request.Request.TheVariants as requests
+
+-- an option with its value
+abbrev pub option : List ℕ → List ℕ → List ℕ
+option name value = name ++ 61 ∷ value
+
+-- the word of an output
+abbrev pub output_word : Output → List ℕ
+output_word output.Summary = codes "summary"
+output_word output.Threads = codes "threads"
+output_word output.Messages = codes "messages"
+output_word output.Files = codes "files"
+output_word output.Tags = codes "tags"
+
+-- whether excluded messages are left out
+abbrev pub exclude_option : Bool → List ℕ
+exclude_option exclude = option (codes "--exclude") (if exclude then codes "true" else codes "false")
+
+-- no option where there is no limit
+abbrev pub before_limit : Option ℕ → List (List ℕ) → List (List ℕ)
+before_limit None words = words
+before_limit (Some limit) words = option (codes "--limit") (decimal limit) ∷ words
+
+-- a query is one word after the options, and none where it comes from the input
+abbrev pub query_words : Bool → List ℕ → List (List ℕ)
+query_words true query = codes "--batch" ∷ []
+query_words false query = codes "--" ∷ query ∷ []
+
+-- the words of a request
+abbrev pub spelled : Request → List (List ℕ)
+spelled requests.New = codes "new" ∷ []
+spelled (requests.Search ask) =
+    codes "search"
+    ∷ option (codes "--format") (if ask.json then codes "json" else codes "text")
+    ∷ option (codes "--output") (output_word ask.output)
+    ∷ option (codes "--sort") (if ask.oldest then codes "oldest-first" else codes "newest-first")
+    ∷ option (codes "--offset") (decimal ask.offset)
+    ∷ before_limit ask.limit (exclude_option ask.exclude ∷ query_words false ask.query)
+spelled (requests.Count ask) =
+    codes "count" ∷ option (codes "--output") (output_word ask.output) ∷ exclude_option ask.exclude ∷ query_words ask.batch ask.query
+spelled (requests.Show ask) =
+    codes "show" ∷ option (codes "--format") (if ask.raw then codes "raw" else codes "text") ∷ exclude_option ask.exclude ∷ query_words false ask.query
+spelled requests.Session = codes "session" ∷ []
+
+-- a number fits 32 bits
+abbrev pub fits : ℕ → Bool
+fits number = nat_le number 4294967295
+
+-- a limit fits, where there is one
+abbrev pub limit_fits : Option ℕ → Bool
+limit_fits None = true
+limit_fits (Some limit) = fits limit
+
+-- what `count` counts
+abbrev pub is_counted : Output → Bool
+is_counted output.Summary = false
+is_counted output.Threads = true
+is_counted output.Messages = true
+is_counted output.Files = true
+is_counted output.Tags = false
+
+-- no query is asked where the queries come from the input
+abbrev pub lacks_query : Bool → List ℕ → Bool
+lacks_query true [] = true
+lacks_query true (b ∷ query) = false
+lacks_query false query = true
+
+-- words can ask for this
+abbrev pub can_be_asked : Request → Bool
+can_be_asked requests.New = true
+can_be_asked (requests.Search ask) = fits ask.offset && limit_fits ask.limit
+can_be_asked (requests.Count ask) = is_counted ask.output && lacks_query ask.batch ask.query
+can_be_asked (requests.Show ask) = true
+can_be_asked requests.Session = true

@@ -1,0 +1,20 @@
+//! Commands and replies: the words of a command line to what they ask for, or to the one refusal with its word and kind.
+#![tactic(auto)]
+
+mod command_error;
+mod laws;
+mod number;
+mod options;
+mod reading;
+mod request;
+mod settings;
+mod table;
+
+pub use command_error::CommandError;
+pub use laws::{
+    a_query_keeps_its_words, a_request_that_is_written_out_is_read_back, an_option_stands_once,
+    options_may_change_places, the_first_value_is_the_default, words_are_read_as_the_grammar_says,
+    words_have_one_answer,
+};
+pub use reading::command;
+pub use request::Request;

@@ -1,0 +1,34 @@
+//! What the words of a command ask for.
+
+use nm_base::{Copies, CountAsk, NoMemory, SearchAsk, ShowAsk};
+
+/// What a command asks for.
+#[derive(Debug, Drop, PartialEq, Eq)]
+pub enum Request {
+    New,
+    Search(SearchAsk),
+    Count(CountAsk),
+    Show(ShowAsk),
+    Session,
+}
+
+impl Copies for Request {
+    fn copy(&self) -> Result<Request, NoMemory> {
+        match self {
+            Request::New => Ok(Request::New),
+            Request::Search(ask) => {
+                let ask = ask.copy()?;
+                Ok(Request::Search(ask))
+            }
+            Request::Count(ask) => {
+                let ask = ask.copy()?;
+                Ok(Request::Count(ask))
+            }
+            Request::Show(ask) => {
+                let ask = ask.copy()?;
+                Ok(Request::Show(ask))
+            }
+            Request::Session => Ok(Request::Session),
+        }
+    }
+}

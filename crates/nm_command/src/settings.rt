@@ -1,0 +1,89 @@
+//! What the options of a command set.
+
+ghost use Rattle.std.specs.Prelude.{◌≡◌, true};
+ghost use Rattle.nm_command.specs.Settings.{is_given, nothing_set, or_default, with_setting};
+
+use nm_base::Output;
+
+/// What one option sets.
+#[derive(Clone, Copy, Debug, PartialEq, Eq)]
+pub(crate) enum Setting {
+    Json(bool),
+    Raw(bool),
+    Output(Output),
+    Oldest(bool),
+    Offset(u32),
+    Limit(u32),
+    Exclude(bool),
+    Batch,
+}
+
+/// What the options up to a word have set, as far as they were there.
+#[derive(Clone, Copy, Debug, PartialEq, Eq)]
+pub(crate) struct Settings {
+    pub json: Option<bool>,
+    pub raw: Option<bool>,
+    pub output: Option<Output>,
+    pub oldest: Option<bool>,
+    pub offset: Option<u32>,
+    pub limit: Option<u32>,
+    pub exclude: Option<bool>,
+    pub batch: bool,
+}
+
+/// Before any option.
+pub(crate) fn nothing_set() -> Settings
+    ensures { result ≡ nothing_set }
+{
+    Settings {
+        json: None,
+        raw: None,
+        output: None,
+        oldest: None,
+        offset: None,
+        limit: None,
+        exclude: None,
+        batch: false,
+    }
+}
+
+/// Whether an option that sets the same was there, whichever value it had.
+pub(crate) fn is_given(settings: Settings, setting: Setting) -> bool
+    ensures { result ≡ is_given settings setting }
+{
+    match setting {
+        Setting::Json(_) => settings.json.is_some(),
+        Setting::Raw(_) => settings.raw.is_some(),
+        Setting::Output(_) => settings.output.is_some(),
+        Setting::Oldest(_) => settings.oldest.is_some(),
+        Setting::Offset(_) => settings.offset.is_some(),
+        Setting::Limit(_) => settings.limit.is_some(),
+        Setting::Exclude(_) => settings.exclude.is_some(),
+        Setting::Batch => settings.batch,
+    }
+}
+
+/// The settings with one more.
+pub(crate) fn with_setting(settings: Settings, setting: Setting) -> Settings
+    ensures { result ≡ with_setting settings setting }
+{
+    let mut settings = settings;
+    match setting {
+        Setting::Json(json) => settings.json = Some(json),
+        Setting::Raw(raw) => settings.raw = Some(raw),
+        Setting::Output(output) => settings.output = Some(output),
+        Setting::Oldest(oldest) => settings.oldest = Some(oldest),
+        Setting::Offset(offset) => settings.offset = Some(offset),
+        Setting::Limit(limit) => settings.limit = Some(limit),
+        Setting::Exclude(exclude) => settings.exclude = Some(exclude),
+        Setting::Batch => settings.batch = true,
+    }
+    settings
+}
+
+/// Whether messages with an excluded tag are left out.
+pub(crate) fn excludes(settings: Settings) -> bool
+    ensures { result ≡ or_default settings.exclude true }
+{
+    settings.exclude.unwrap_or(true)
+}

@@ -1,0 +1,197 @@
+//! The commands, the options of each, and the values of those: three tables that drive the reading.
+
+ghost use Rattle.std.specs.Prelude.{◌≡◌, map};
+ghost use Rattle.nm_command.specs.Table.{commands, flag_setting, meaning_of, number_setting, options_of, value_setting, values_of};
+
+use crate::number::number;
+use crate::settings::Setting;
+use nm_base::Output;
+
+/// The commands that there are.
+#[derive(Clone, Copy, Debug, PartialEq, Eq)]
+pub(crate) enum CommandName {
+    New,
+    Search,
+    Count,
+    Show,
+    Session,
+}
+
+/// What the value of an option may be.
+#[derive(Clone, Copy, Debug, PartialEq, Eq)]
+pub(crate) enum Form {
+    /// It has none.
+    Flag(Setting),
+    /// One of these words.
+    OneOf(Values),
+    Number(Numbered),
+}
+
+/// The options whose value is one of a few words.
+#[derive(Clone, Copy, Debug, PartialEq, Eq)]
+pub(crate) enum Values {
+    SearchFormat,
+    ShowFormat,
+    SearchOutput,
+    CountOutput,
+    Sort,
+    Exclude,
+}
+
+/// The options whose value is a number.
+#[derive(Clone, Copy, Debug, PartialEq, Eq)]
+pub(crate) enum Numbered {
+    Offset,
+    Limit,
+}
+
+/// A word, and what it stands for.
+type Row<T> = (&'static str, T);
+
+const COMMANDS: &[Row<CommandName>] = &[
+    ("new", CommandName::New),
+    ("search", CommandName::Search),
+    ("count", CommandName::Count),
+    ("show", CommandName::Show),
+    ("session", CommandName::Session),
+];
+
+const SEARCH_OPTIONS: &[Row<Form>] = &[
+    ("--format", Form::OneOf(Values::SearchFormat)),
+    ("--output", Form::OneOf(Values::SearchOutput)),
+    ("--sort", Form::OneOf(Values::Sort)),
+    ("--offset", Form::Number(Numbered::Offset)),
+    ("--limit", Form::Number(Numbered::Limit)),
+    ("--exclude", Form::OneOf(Values::Exclude)),
+];
+
+const COUNT_OPTIONS: &[Row<Form>] = &[
+    ("--output", Form::OneOf(Values::CountOutput)),
+    ("--exclude", Form::OneOf(Values::Exclude)),
+    ("--batch", Form::Flag(Setting::Batch)),
+];
+
+const SHOW_OPTIONS: &[Row<Form>] = &[
+    ("--format", Form::OneOf(Values::ShowFormat)),
+    ("--exclude", Form::OneOf(Values::Exclude)),
+];
+
+const SEARCH_FORMATS: &[Row<Setting>] = &[
+    ("text", Setting::Json(false)),
+    ("json", Setting::Json(true)),
+];
+
+const SHOW_FORMATS: &[Row<Setting>] = &[("text", Setting::Raw(false)), ("raw", Setting::Raw(true))];
+
+const SEARCH_OUTPUTS: &[Row<Setting>] = &[
+    ("summary", Setting::Output(Output::Summary)),
+    ("threads", Setting::Output(Output::Threads)),
+    ("messages", Setting::Output(Output::Messages)),
+    ("files", Setting::Output(Output::Files)),
+    ("tags", Setting::Output(Output::Tags)),
+];
+
+const COUNT_OUTPUTS: &[Row<Setting>] = &[
+    ("messages", Setting::Output(Output::Messages)),
+    ("threads", Setting::Output(Output::Threads)),
+    ("files", Setting::Output(Output::Files)),
+];
+
+const SORTS: &[Row<Setting>] = &[
+    ("newest-first", Setting::Oldest(false)),
+    ("oldest-first", Setting::Oldest(true)),
+];
+
+const EXCLUSIONS: &[Row<Setting>] = &[
+    ("true", Setting::Exclude(true)),
+    ("false", Setting::Exclude(false)),
+];
+
+/// The command that a word names.
+pub(crate) fn command_named(word: &str) -> Option<CommandName>
+    ensures { result ≡ meaning_of word.now commands }
+{
+    meaning_of(commands(), word)
+}
+
+/// What the value of an option of the command may be.
+pub(crate) fn option_form(command: CommandName, option: &str) -> Option<Form>
+    ensures { result ≡ meaning_of option.now (options_of command) }
+{
+    meaning_of(options(command), option)
+}
+
+/// What an option with a value sets.
+pub(crate) fn value_setting(form: Form, value: &str) -> Option<Setting>
+    ensures { result ≡ value_setting form value.now }
+{
+    match form {
+        Form::Flag(_) => None,
+        Form::OneOf(which) => meaning_of(values_of(which), value),
+        Form::Number(which) => match number(value) {
+            Some(number) => Some(number_setting(which, number)),
+            None => None,
+        },
+    }
+}
+
+/// What an option without a value sets.
+pub(crate) fn flag_setting(form: Form) -> Option<Setting>
+    ensures { result ≡ flag_setting form }
+{
+    match form {
+        Form::Flag(setting) => Some(setting),
+        Form::OneOf(_) | Form::Number(_) => None,
+    }
+}
+
+fn number_setting(which: Numbered, number: u32) -> Setting
+    ensures { result ≡ number_setting which number }
+{
+    match which {
+        Numbered::Offset => Setting::Offset(number),
+        Numbered::Limit => Setting::Limit(number),
+    }
+}
+
+/// What the word stands for in the first row that has it.
+fn meaning_of<T: Copy>(rows: &[Row<T>], word: &str) -> Option<T>
+    ensures { result ≡ meaning_of word.now (map (λ row. (row.0.now, row.1)) rows.now) }
+{
+    'rows: for (name, stands_for) in rows {
+        if *name == word {
+            return Some(*stands_for);
+        }
+    }
+    None
+}
+
+fn commands() -> &'static [Row<CommandName>]
+    ensures { map (λ row. (row.0.now, row.1)) result.now ≡ commands }
+{
+    COMMANDS
+}
+
+fn options(command: CommandName) -> &'static [Row<Form>]
+    ensures { map (λ row. (row.0.now, row.1)) result.now ≡ options_of command }
+{
+    match command {
+        CommandName::New | CommandName::Session => &[],
+        CommandName::Search => SEARCH_OPTIONS,
+        CommandName::Count => COUNT_OPTIONS,
+        CommandName::Show => SHOW_OPTIONS,
+    }
+}
+
+fn values_of(which: Values) -> &'static [Row<Setting>]
+    ensures { map (λ row. (row.0.now, row.1)) result.now ≡ values_of which }
+{
+    match which {
+        Values::SearchFormat => SEARCH_FORMATS,
+        Values::ShowFormat => SHOW_FORMATS,
+        Values::SearchOutput => SEARCH_OUTPUTS,
+        Values::CountOutput => COUNT_OUTPUTS,
+        Values::Sort => SORTS,
+        Values::Exclude => EXCLUSIONS,
+    }
+}

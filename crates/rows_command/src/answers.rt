@@ -1,0 +1,166 @@
+//! What comes of a row: what the words of a command ask for, or how they are refused.
+
+use nm_base::{Copies, CountAsk, Many, Output, SearchAsk, ShowAsk, Text, UsageKind};
+use nm_command::{CommandError, Request, command};
+use rows::{Lines, Program, Row, RowError, text_of};
+use std::alloc::Global;
+
+/// The rows on the words of commands.
+pub struct Commands;
+
+impl Program for Commands {
+    /// A line for each command.
+    fn answer(&self, alloc: Global, row: &Row<'_>) -> Result<Vec<u8>, RowError> {
+        let mut lines = Lines::new(alloc);
+        match row.kind {
+            b"command" => push_commands(alloc, &mut lines, row)?,
+            b"words" => push_words(alloc, &mut lines, row)?,
+            _ => return Err(RowError::Broken("no such kind of row")),
+        }
+        Ok(lines.into_bytes())
+    }
+}
+
+/// Each line `|` is a command, whose words stand between blanks; an empty line has none.
+fn push_commands(alloc: Global, lines: &mut Lines, row: &Row<'_>) -> Result<(), RowError> {
+    'lines: for line in row.lines.as_slice() {
+        if line.mark == b"|".as_slice() {
+            let words = words_of(alloc, line.bytes.as_slice())?;
+            push_answer(alloc, lines, &words)?;
+        }
+    }
+    Ok(())
+}
+
+fn words_of(alloc: Global, text: &[u8]) -> Result<Many<Text>, RowError> {
+    let mut words = Many::new(alloc);
+    if text.is_empty() {
+        return Ok(words);
+    }
+    'words: for word in text.split(|b| *b == b' ') {
+        words.push(word_of(alloc, word)?)?;
+    }
+    Ok(words)
+}
+
+fn word_of(alloc: Global, bytes: &[u8]) -> Result<Text, RowError> {
+    let text = text_of(bytes)?;
+    Ok(Text::of(alloc, text)?)
+}
+
+/// All lines `|` are the words of one command.
+fn push_words(alloc: Global, lines: &mut Lines, row: &Row<'_>) -> Result<(), RowError> {
+    let mut words = Many::new(alloc);
+    'lines: for line in row.lines.as_slice() {
+        if line.mark == b"|".as_slice() {
+            words.push(word_of(alloc, line.bytes.as_slice())?)?;
+        }
+    }
+    push_answer(alloc, lines, &words)
+}
+
+fn push_answer(alloc: Global, lines: &mut Lines, words: &Many<Text>) -> Result<(), RowError> {
+    lines.begin()?;
+    match command(alloc, words.as_slice()) {
+        // The request is shown from a copy, which has to equal its source.
+        Ok(request) => push_request(alloc, lines, &request.copy()?),
+        Err(CommandError::Usage { word, kind }) => push_refusal(lines, &word, kind),
+        Err(CommandError::NoMemory) => Err(RowError::NoMemory),
+    }
+}
+
+/// `KIND WORD`, or the kind alone where the word is empty.
+fn push_refusal(lines: &mut Lines, word: &Text, kind: UsageKind) -> Result<(), RowError> {
+    lines.push(kind_name(kind))?;
+    lines.push_after_blank(word.as_bytes())?;
+    Ok(())
+}
+
+fn kind_name(kind: UsageKind) -> &'static [u8] {
+    match kind {
+        UsageKind::Command => b"COMMAND",
+        UsageKind::Option => b"OPTION",
+        UsageKind::Value => b"VALUE",
+        UsageKind::Repeat => b"REPEAT",
+        UsageKind::Missing => b"MISSING",
+        UsageKind::Extra => b"EXTRA",
+        UsageKind::Clash => b"CLASH",
+        _ => b"ANOTHER KIND",
+    }
+}
+
+fn push_request(alloc: Global, lines: &mut Lines, request: &Request) -> Result<(), RowError> {
+    match request {
+        Request::New => Ok(lines.push(b"new")?),
+        Request::Search(ask) => push_search(alloc, lines, ask),
+        Request::Count(ask) => push_count(lines, ask),
+        Request::Show(ask) => push_show(lines, ask),
+        Request::Session => Ok(lines.push(b"session")?),
+    }
+}
+
+/// `search FORMAT OUTPUT SORT, offset N, limit N, exclude true: QUERY`
+fn push_search(alloc: Global, lines: &mut Lines, ask: &SearchAsk) -> Result<(), RowError> {
+    lines.push(if ask.json {
+        b"search json ".as_slice()
+    } else {
+        b"search text "
+    })?;
+    lines.push(output_name(ask.output))?;
+    lines.push(if ask.oldest {
+        b" oldest-first".as_slice()
+    } else {
+        b" newest-first"
+    })?;
+    push_number(alloc, lines, b", offset ", ask.offset)?;
+    match ask.limit {
+        Some(limit) => push_number(alloc, lines, b", limit ", limit)?,
+        None => lines.push(b", no limit")?,
+    }
+    push_query(lines, ask.exclude, &ask.query)
+}
+
+fn push_count(lines: &mut Lines, ask: &CountAsk) -> Result<(), RowError> {
+    lines.push(b"count ")?;
+    lines.push(output_name(ask.output))?;
+    if ask.batch {
+        lines.push(b", batch")?;
+    }
+    push_query(lines, ask.exclude, &ask.query)
+}
+
+fn push_show(lines: &mut Lines, ask: &ShowAsk) -> Result<(), RowError> {
+    lines.push(if ask.raw {
+        b"show raw".as_slice()
+    } else {
+        b"show text"
+    })?;
+    push_query(lines, ask.exclude, &ask.query)
+}
+
+fn output_name(output: Output) -> &'static [u8] {
+    match output {
+        Output::Summary => b"summary",
+        Output::Threads => b"threads",
+        Output::Messages => b"messages",
+        Output::Files => b"files",
+        Output::Tags => b"tags",
+    }
+}
+
+fn push_number(alloc: Global, lines: &mut Lines, what: &[u8], number: u32) -> Result<(), RowError> {
+    let digits = number.to_string(alloc)?;
+    lines.push(what)?;
+    lines.push(digits.as_bytes())?;
+    Ok(())
+}
+
+fn push_query(lines: &mut Lines, exclude: bool, query: &Text) -> Result<(), RowError> {
+    lines.push(if exclude {
+        b", exclude true:".as_slice()
+    } else {
+        b", exclude false:"
+    })?;
+    lines.push_after_blank(query.as_bytes())?;
+    Ok(())
+}
