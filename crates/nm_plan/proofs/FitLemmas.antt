@@ -1,22 +1,23 @@
 -- The commits of a `new` fit: what has come lies where none lay, and what is gone lay there.
-use Rattle.std.proofs.Common.{◌≡◌, ℕ, Bool, true, false, ◌||◌, ◌&&◌, not, cond, List, [], ◌∷◌, ◌++◌, map, filter, refl, sym, ap, ◌∙◌, subst, arith, IsTrue}
+use Rattle.std.proofs.Common.{◌≡◌, ℕ, Bool, true, false, ◌||◌, ◌&&◌, not, cond, List, [], ◌∷◌, ◌++◌, fold, map, filter, refl, sym, ap, ◌∙◌, subst, arith, IsTrue}
 use Rattle.std.specs.List.{AllByRecursion, IsDistinct}
 use Rattle.std.specs.Cmp.Lexicographic.{slice_cmp, texts_ties, nat_list_eq_equiv}
 use Rattle.std.specs.Ordering.{eq_by_cmp, nat_cmp}
+use Rattle.std.proofs.lemmas.List.{map-append}
 use Rattle.std.proofs.lemmas.Map.Keys.{IsDistinct-from_sorted, IsDistinct-head, IsDistinct-tail}
 use Rattle.nm_base.specs.Order.{has_text, in_order, same_text}
 use Rattle.nm_base.specs.declared.facts.Facts.{Facts}
 use Rattle.nm_base.specs.Limits.{IsDate}
-use Rattle.nm_commit.specs.Files.{FitChanges, files_after, has_path, paths_of, without_path}
+use Rattle.nm_commit.specs.Files.{FitChanges, changed, files_after, has_path, paths_of, without_path}
 use Rattle.nm_commit.specs.declared.change.Change.{Change}
 use Rattle.nm_commit.specs.declared.change.Commit.{Commit}
 use Rattle.nm_index.specs.Index.{committed, folded}
 use Rattle.nm_index.specs.declared.base.Base.{Base}
 use Rattle.nm_answer.specs.NewText.{gone}
 use Rattle.nm_index.specs.Fits.{FitInTurn}
-use Rattle.nm_plan.specs.Plan.{AreArrivals, add_of, commit_of, drop_of, new_commits}
+use Rattle.nm_plan.specs.Plan.{AreArrivals, add_of, all_arrivals, batch_commits, commit_of, drop_of, new_commits}
 use Rattle.std.specs.List.Sorted.{IsStrictlySortedBy}
-use Rattle.nm_plan.proofs.FoldLemmas.{commit_of-files, fold-adds, new-files}
+use Rattle.nm_plan.proofs.FoldLemmas.{batch-files, commit_of-files, new-files}
 use Rattle.nm_plan.proofs.OrderLemmas.{in_order-sorted}
 use Rattle.nm_plan.proofs.SetLemmas.{bytes_same, has_text-filter, has_text-in_order}
 
@@ -151,22 +152,43 @@ fit-append : (index : Base) (commits more : List Commit) → FitInTurn index com
 fit-append index [] more h k = k
 fit-append index (commit ∷ commits) more h k = (h.0, fit-append (committed index commit) commits more h.1 k)
 
--- the commits of a `new` fit, one after the other
-pub fit-new : (follow : (index : Base) (commits : List Commit) → (folded index commits).files ≡ files_after index.files commits) (index : Base) (listed : List (List ℕ)) (arrivals : List (List ℕ × Facts))
-    → AreArrivals index.files arrivals → FitInTurn index (new_commits index.files listed arrivals)
-fit-new follow index listed arrivals are =
+-- the first of changes that fit do, and the others fit what they leave
+fit-front : (files : List (List ℕ × Facts)) (changes more : List Change) → FitChanges files (changes ++ more) → FitChanges files changes
+fit-front files [] more h = tt
+fit-front files (change ∷ changes) more h = (h.0, fit-front (changed files change) changes more h.1)
+
+fit-back : (files : List (List ℕ × Facts)) (changes more : List Change) → FitChanges files (changes ++ more) → FitChanges (fold changed files changes) more
+fit-back files [] more h = h
+fit-back files (change ∷ changes) more h = fit-back (changed files change) changes more h.1
+
+-- so the commits of batches fit where all their mails do
+fit-batches : (follow : (index : Base) (commits : List Commit) → (folded index commits).files ≡ files_after index.files commits) (index : Base) (batches : List (List (List ℕ × Facts)))
+    → FitChanges index.files (map add_of (all_arrivals batches)) → FitInTurn index (batch_commits batches)
+fit-batches follow index [] h = tt
+fit-batches follow index (arrivals ∷ batches) h =
     let adds : List Change = map add_of arrivals in
+    let more : List Change = map add_of (all_arrivals batches) in
+    let both : FitChanges index.files (adds ++ more) = subst (FitChanges index.files) (map-append add_of arrivals (all_arrivals batches)) h in
+    fit-append index (commit_of adds) (batch_commits batches) (fit-commit index adds (fit-front index.files adds more both))
+    (fit-batches follow (folded index (commit_of adds)) batches
+    (subst (λ (files : List (List ℕ × Facts)). FitChanges files more) (sym (follow index (commit_of adds) ∙ commit_of-files index.files adds)) (fit-back index.files adds more both)))
+
+-- the commits of a `new` fit, one after the other
+pub fit-new : (follow : (index : Base) (commits : List Commit) → (folded index commits).files ≡ files_after index.files commits) (index : Base) (listed : List (List ℕ)) (batches : List (List (List ℕ × Facts)))
+    → AreArrivals index.files (all_arrivals batches) → FitInTurn index (new_commits index.files listed batches)
+fit-new follow index listed batches are =
+    let arrivals : List (List ℕ × Facts) = all_arrivals batches in
     let paths : List (List ℕ) = in_order (paths_of index.files) in
-    let adds_fit : FitChanges index.files adds = fit-adds index.files arrivals (apart-once (paths_of arrivals) are.once) are.fresh are.dated in
+    let adds_fit : FitChanges index.files (map add_of arrivals) = fit-adds index.files arrivals (apart-once (paths_of arrivals) are.once) are.fresh are.dated in
     let there : (path : List ℕ) → has_text paths path ≡ true → has_path (index.files ++ arrivals) path ≡ true =
     λ path h. ap (λ (l : List (List ℕ)). has_text l path) (paths-append index.files arrivals) ∙ (has_text-append (paths_of index.files) (paths_of arrivals) path
     ∙ ap (λ b. b || has_text (paths_of arrivals) path) (sym (has_text-in_order (paths_of index.files) path) ∙ h)) in
     let drops_fit : FitChanges (index.files ++ arrivals) (map drop_of (gone index.files listed)) = fit-drops (index.files ++ arrivals) (gone index.files listed)
     (apart-filter (λ path. not (has_text listed path)) paths (apart-rising paths (in_order-sorted (paths_of index.files))))
     (every-filter _ (λ path. not (has_text listed path)) paths (every-map (λ path. has_text paths path ≡ true) (λ path. has_path (index.files ++ arrivals) path ≡ true) paths there (every-in paths))) in
-    fit-append index (commit_of adds) (commit_of (map drop_of (gone index.files listed))) (fit-commit index adds adds_fit)
-    (fit-commit (folded index (commit_of adds)) (map drop_of (gone index.files listed))
-    (subst (λ (files : List (List ℕ × Facts)). FitChanges files (map drop_of (gone index.files listed))) (sym (follow index (commit_of adds) ∙ (commit_of-files index.files adds ∙ fold-adds index.files arrivals))) drops_fit))
+    fit-append index (batch_commits batches) (commit_of (map drop_of (gone index.files listed))) (fit-batches follow index batches adds_fit)
+    (fit-commit (folded index (batch_commits batches)) (map drop_of (gone index.files listed))
+    (subst (λ (files : List (List ℕ × Facts)). FitChanges files (map drop_of (gone index.files listed))) (sym (follow index (batch_commits batches) ∙ batch-files index.files batches)) drops_fit))
 
 -- one of the texts that are all listed is listed
 listed-case : (listed : List (List ℕ)) (arrived : List ℕ) (paths : List (List ℕ)) (path : List ℕ) (b : Bool) → same_text path arrived ≡ b → AllByRecursion (λ other. IsTrue (has_text listed other)) (arrived ∷ paths)
@@ -188,12 +210,13 @@ truth-table false false true h = absurd (cc (h refl))
 truth-table false false false h = refl
 
 -- after a `new` a file is there where it was listed, and was there before or has come
-pub left-listed : (follow : (index : Base) (commits : List Commit) → (folded index commits).files ≡ files_after index.files commits) (index : Base) (listed : List (List ℕ)) (arrivals : List (List ℕ × Facts)) (path : List ℕ)
-    → AllByRecursion (λ arrived. IsTrue (has_text listed arrived)) (paths_of arrivals)
-    → has_path (folded index (new_commits index.files listed arrivals)).files path ≡ (has_text listed path && (has_path index.files path || has_path arrivals path))
-left-listed follow index listed arrivals path all =
+pub left-listed : (follow : (index : Base) (commits : List Commit) → (folded index commits).files ≡ files_after index.files commits) (index : Base) (listed : List (List ℕ)) (batches : List (List (List ℕ × Facts))) (path : List ℕ)
+    → AllByRecursion (λ arrived. IsTrue (has_text listed arrived)) (paths_of (all_arrivals batches))
+    → has_path (folded index (new_commits index.files listed batches)).files path ≡ (has_text listed path && (has_path index.files path || has_path (all_arrivals batches) path))
+left-listed follow index listed batches path all =
+    let arrivals : List (List ℕ × Facts) = all_arrivals batches in
     let gone_paths : List (List ℕ) = gone index.files listed in
-    ap (λ (files : List (List ℕ × Facts)). has_path files path) (follow index (new_commits index.files listed arrivals) ∙ new-files index.files listed arrivals)
+    ap (λ (files : List (List ℕ × Facts)). has_path files path) (follow index (new_commits index.files listed batches) ∙ new-files index.files listed batches)
     ∙ (ap (λ (l : List (List ℕ)). has_text l path) (paths-filter (λ p. not (has_text gone_paths p)) (index.files ++ arrivals))
     ∙ (has_text-filter (λ p. not (has_text gone_paths p)) (paths_of (index.files ++ arrivals)) path
     ∙ (ap (λ b. b && not (has_text gone_paths path)) (ap (λ (l : List (List ℕ)). has_text l path) (paths-append index.files arrivals) ∙ has_text-append (paths_of index.files) (paths_of arrivals) path)

@@ -6,7 +6,7 @@ use Rattle.nm_base.specs.declared.facts.Facts.{Facts}
 use Rattle.nm_commit.specs.Files.{changed, files_after, files_with, without_path}
 use Rattle.nm_commit.specs.declared.change.Change.{Change}
 use Rattle.nm_answer.specs.NewText.{gone}
-use Rattle.nm_plan.specs.Plan.{add_of, commit_of, drop_of, files_after_new, new_commits}
+use Rattle.nm_plan.specs.Plan.{add_of, all_arrivals, batch_commits, commit_of, drop_of, files_after_new, new_commits}
 
 -- what has come, one by one
 pub fold-adds : (files arrivals : List (List ℕ × Facts)) → fold changed files (map add_of arrivals) ≡ files ++ arrivals
@@ -50,12 +50,19 @@ pub fold-append : {A B : Type 0} (f : A → B → A) (a : A) (xs ys : List B) �
 fold-append f a [] ys = refl
 fold-append f a (x ∷ xs) ys = fold-append f (f a x) xs ys
 
+-- the files after the commits of the batches
+pub batch-files : (files : List (List ℕ × Facts)) (batches : List (List (List ℕ × Facts))) → files_after files (batch_commits batches) ≡ files ++ all_arrivals batches
+batch-files files [] = sym (append-nil files)
+batch-files files (arrivals ∷ batches) =
+    fold-append files_with files (commit_of (map add_of arrivals)) (batch_commits batches)
+    ∙ (ap (λ (l : List (List ℕ × Facts)). files_after l (batch_commits batches)) (commit_of-files files (map add_of arrivals) ∙ fold-adds files arrivals)
+    ∙ (batch-files (files ++ arrivals) batches ∙ append_assoc files arrivals (all_arrivals batches)))
+
 -- the files after a `new`
-pub new-files : (files : List (List ℕ × Facts)) (listed : List (List ℕ)) (arrivals : List (List ℕ × Facts)) → files_after files (new_commits files listed arrivals) ≡ files_after_new files listed arrivals
-new-files files listed arrivals =
-    let adds = map add_of arrivals in
+pub new-files : (files : List (List ℕ × Facts)) (listed : List (List ℕ)) (batches : List (List (List ℕ × Facts))) → files_after files (new_commits files listed batches) ≡ files_after_new files listed (all_arrivals batches)
+new-files files listed batches =
     let drops = map drop_of (gone files listed) in
-    fold-append files_with files (commit_of adds) (commit_of drops)
-    ∙ (commit_of-files (files_after files (commit_of adds)) drops
-    ∙ (ap (λ (l : List (List ℕ × Facts)). fold changed l drops) (commit_of-files files adds ∙ fold-adds files arrivals)
-    ∙ fold-drops (files ++ arrivals) (gone files listed)))
+    fold-append files_with files (batch_commits batches) (commit_of drops)
+    ∙ (commit_of-files (files_after files (batch_commits batches)) drops
+    ∙ (ap (λ (l : List (List ℕ × Facts)). fold changed l drops) (batch-files files batches)
+    ∙ fold-drops (files ++ all_arrivals batches) (gone files listed)))

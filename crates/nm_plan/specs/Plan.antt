@@ -1,6 +1,6 @@
--- The commits of a command: first those of what has come, then that of what is gone.
+-- The commits of a command: first those of what has come, one for each batch of files that was read, then that of what is gone.
 use Rattle.std.specs.Prelude.{◌≡◌, ℕ, false, not, List, [], ◌∷◌, ◌++◌, map, filter}
-use Rattle.std.specs.List.{AllByRecursion, IsDistinct}
+use Rattle.std.specs.List.{AllByRecursion, IsDistinct, flat_map}
 use Rattle.nm_base.specs.Limits.{IsDate}
 use Rattle.nm_base.specs.Order.{has_text, same_text}
 use Rattle.nm_base.specs.declared.facts.Facts.{Facts}
@@ -29,14 +29,27 @@ abbrev pub commit_of : List Change → List Commit
 commit_of [] = []
 commit_of (change ∷ changes) = record { changes = change ∷ changes } ∷ []
 
--- the commits of what was listed and of the mails among what was read
-abbrev pub new_commits : List (List ℕ × Facts) → List (List ℕ) → List (List ℕ × Facts) → List Commit
-new_commits files listed arrivals = commit_of (map add_of arrivals) ++ commit_of (map drop_of (gone files listed))
+-- one commit for each batch in which mails were found
+abbrev pub batch_commits : List (List (List ℕ × Facts)) → List Commit
+batch_commits batches = flat_map (λ arrivals. commit_of (map add_of arrivals)) batches
 
--- the commits that a request makes of an index; a count makes none
-abbrev pub due_commits : Request → Base → List Given → List (List ℕ × Facts) → List Commit
-due_commits New index noted arrivals = new_commits index.files (listed_in noted) arrivals
-due_commits (Count ask) index noted arrivals = []
+-- the mails of all batches
+abbrev pub all_arrivals : List (List (List ℕ × Facts)) → List (List ℕ × Facts)
+all_arrivals batches = flat_map (λ arrivals. arrivals) batches
+
+-- the commits of the mails that were found, batch by batch, and of what isn't listed any more
+abbrev pub new_commits : List (List ℕ × Facts) → List (List ℕ) → List (List (List ℕ × Facts)) → List Commit
+new_commits files listed batches = batch_commits batches ++ commit_of (map drop_of (gone files listed))
+
+-- The commits that are due while these paths are left to read: nothing is removed before all are read.
+abbrev pub commits_so_far : List (List ℕ × Facts) → List (List ℕ) → List (List (List ℕ × Facts)) → List (List ℕ) → List Commit
+commits_so_far files listed batches [] = new_commits files listed batches
+commits_so_far files listed batches (path ∷ left) = batch_commits batches
+
+-- the commits that are due to a request on an index, with what it has found so far; a count makes none
+abbrev pub due_commits : Request → Base → List Given → List (List (List ℕ × Facts)) → List (List ℕ) → List Commit
+due_commits New index noted batches left = commits_so_far index.files (listed_in noted) batches left
+due_commits (Count ask) index noted batches left = []
 
 -- the files after a `new`: what has come stands behind what was there, and what is gone is away
 abbrev pub files_after_new : List (List ℕ × Facts) → List (List ℕ) → List (List ℕ × Facts) → List (List ℕ × Facts)

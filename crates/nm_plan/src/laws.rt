@@ -1,6 +1,6 @@
 //! What the commits of `new` do. These functions run no code: their clauses are the laws.
 
-ghost use Rattle.std.specs.Prelude.{◌≡◌, ◌&&◌, ◌||◌, ℕ, IsTrue, List};
+ghost use Rattle.std.specs.Prelude.{◌≡◌, ◌&&◌, ◌||◌, ◌++◌, ℕ, IsTrue, List};
 ghost use Rattle.std.specs.List.{AllByRecursion};
 ghost use Rattle.nm_base.specs.Order.{has_text};
 ghost use Rattle.nm_base.specs.declared.facts.Facts.{Facts};
@@ -8,32 +8,40 @@ ghost use Rattle.nm_commit.specs.Files.{has_path, paths_of};
 ghost use Rattle.nm_index.specs.Index.{folded};
 ghost use Rattle.nm_index.specs.declared.base.Base.{Base};
 ghost use Rattle.nm_index.specs.Fits.{FitInTurn};
-ghost use Rattle.nm_plan.specs.Plan.{AreArrivals, files_after_new, new_commits};
+ghost use Rattle.nm_plan.specs.Plan.{AreArrivals, all_arrivals, batch_commits, files_after_new, new_commits};
 
 use nm_index::files_follow_their_commits;
 
 /// The commits of `new` fit the index, one after the other.
 pub fn new_commits_fit()
-    ensures { (index : Base) (listed : List (List ℕ)) (arrivals : List (List ℕ × Facts))
-        → AreArrivals index.files arrivals → FitInTurn index (new_commits index.files listed arrivals) }
+    ensures { (index : Base) (listed : List (List ℕ)) (batches : List (List (List ℕ × Facts)))
+        → AreArrivals index.files (all_arrivals batches) → FitInTurn index (new_commits index.files listed batches) }
 {
     files_follow_their_commits();
 }
 
-/// What has come stands behind what was there, and what is gone is away.
+/// However the mails are parted into batches, what has come stands behind what was there, and what is gone is away.
 pub fn the_files_after_new()
-    ensures { (index : Base) (listed : List (List ℕ)) (arrivals : List (List ℕ × Facts))
-        → (folded index (new_commits index.files listed arrivals)).files ≡ files_after_new index.files listed arrivals }
+    ensures { (index : Base) (listed : List (List ℕ)) (batches : List (List (List ℕ × Facts)))
+        → (folded index (new_commits index.files listed batches)).files ≡ files_after_new index.files listed (all_arrivals batches) }
+{
+    files_follow_their_commits();
+}
+
+/// And before what is gone is away, the files are those that were there and those of the batches.
+pub fn the_files_after_batches()
+    ensures { (index : Base) (batches : List (List (List ℕ × Facts)))
+        → (folded index (batch_commits batches)).files ≡ index.files ++ all_arrivals batches }
 {
     files_follow_their_commits();
 }
 
 /// After a `new` a file is in the index where it was listed and either was there or has come.
 pub fn new_leaves_what_is_listed()
-    ensures { (index : Base) (listed : List (List ℕ)) (arrivals : List (List ℕ × Facts)) (path : List ℕ)
-        → AllByRecursion (λ arrived. IsTrue (has_text listed arrived)) (paths_of arrivals)
-        → has_path (folded index (new_commits index.files listed arrivals)).files path
-        ≡ (has_text listed path && (has_path index.files path || has_path arrivals path)) }
+    ensures { (index : Base) (listed : List (List ℕ)) (batches : List (List (List ℕ × Facts))) (path : List ℕ)
+        → AllByRecursion (λ arrived. IsTrue (has_text listed arrived)) (paths_of (all_arrivals batches))
+        → has_path (folded index (new_commits index.files listed batches)).files path
+        ≡ (has_text listed path && (has_path index.files path || has_path (all_arrivals batches) path)) }
 {
     files_follow_their_commits();
 }

@@ -3,4 +3,6 @@
 
 mod laws;
 
-pub use laws::{new_commits_fit, new_leaves_what_is_listed, the_files_after_new};
+pub use laws::{
+    new_commits_fit, new_leaves_what_is_listed, the_files_after_batches, the_files_after_new,
+};

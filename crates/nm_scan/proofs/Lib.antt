@@ -1,1 +1,6 @@
+pub mod BatchLemmas
+pub mod LawLemmas
 pub mod ReadLemmas
+pub mod WalkLemmas
+pub mod MailLemmas
+pub mod CompleteLemmas

@@ -1,9 +1,9 @@
 -- One read after another: what is noted, what has come, and which paths were read.
-use Rattle.std.proofs.Common.{◌≡◌, ℕ, ◌+◌, ◌<◌, ◌≤◌, List, [], ◌∷◌, ◌++◌, Option, None, Some, IfSome, is_some, Result, Ok, Err, length, map, take, get_or, zero, suc, refl, sym, ap, ◌∙◌, subst, append-nil, append_assoc, cond, arith}
+use Rattle.std.proofs.Common.{◌≡◌, ℕ, List, [], ◌∷◌, ◌++◌, Option, None, Some, IfErr, IfSome, is_some, Result, Ok, Err, map, refl, sym, ap, ◌∙◌, subst, append-nil, append_assoc, cond, arith}
 use Rattle.std.specs.List.{AllByRecursion, flat_map}
 use Rattle.std.specs.Option.{option_map}
 use Rattle.std.proofs.lemmas.Grind.{flat_map-append}
-use Rattle.std.proofs.lemmas.List.{length-append, map-append, take_all, take_more}
+use Rattle.std.proofs.lemmas.List.{map-append}
 use Rattle.nm_base.specs.declared.facts.Facts.{Facts}
 use Rattle.nm_base.specs.Limits.{IsDate, max_mail_bytes}
 use Rattle.nm_commit.specs.Files.{paths_of}
@@ -22,7 +22,7 @@ use Rattle.nm_maildir.specs.Observed.{ObservedMail}
 use Rattle.nm_answer.specs.NewText.{mail_at}
 use Rattle.nm_scan.specs.Reading.{NotesReads, Reads, answer_at, answers_at, answer_of, arrival, arrival_at, arrival_of, mail_in, read_of}
 use Rattle.nm_scan.specs.Reading.{after_reads, read_with}
-use Rattle.nm_scan.specs.Reading.{HasRead, HasReadAll, Classifies, found_in}
+use Rattle.nm_scan.specs.Reading.{AsksOnce, HasReadAll, Classifies, found_in}
 
 -- nothing more is read
 pub read_with-none : (r : Option (List (List ℕ))) → r ≡ read_with r []
@@ -30,7 +30,7 @@ read_with-none None = refl
 read_with-none (Some paths) = ap Some (sym (append-nil paths))
 
 -- some paths are read, and then some more
-read_with-more : (r : Option (List (List ℕ))) (ps qs : List (List ℕ)) → read_with (read_with r ps) qs ≡ read_with r (ps ++ qs)
+pub read_with-more : (r : Option (List (List ℕ))) (ps qs : List (List ℕ)) → read_with (read_with r ps) qs ≡ read_with r (ps ++ qs)
 read_with-more None ps qs = refl
 read_with-more (Some paths) ps qs = ap Some (append_assoc paths ps qs)
 
@@ -53,28 +53,11 @@ no_answers (Some t) = refl
 abbrev pub notes-none : (tree : Option Tree) → NotesReads tree [] []
 notes-none tree = record { reads = []; noted_is = refl; each = refl; told = no_answers tree }
 
--- nothing is read and nothing more is noted
-pub read_none : (mail : ObservedMail) (noted : List Given) (paths : List (List ℕ)) → HasRead mail mail noted noted paths
-read_none mail noted paths = record {
-  noted = [];
-  noted_is = sym (append-nil noted);
-  reading = record { answered = 0; asked = 0; within = omega arith; last = (omega arith, omega arith); notes = notes-none mail.tree; read = read_with-none mail.reads };
-  tree = refl;
-}
-
--- a call that read one path at most, and of which nothing is noted
-unanswered : (old new : ObservedMail) (noted : List Given) (path : List ℕ) (asked : ℕ) → asked ≤ 1 → new.tree ≡ old.tree → new.reads ≡ read_with old.reads (take asked (path ∷ [])) → HasRead old new noted noted (path ∷ [])
-unanswered old new noted path asked few tree read = record {
-  noted = [];
-  noted_is = sym (append-nil noted);
-  reading = record { answered = 0; asked = asked; within = few; last = (omega arith, omega arith); notes = notes-none old.tree; read = read };
-  tree = tree;
-}
-
-pub after_read : {T : Type 0} (old new : ObservedMail) (noted : List Given) (path : List ℕ) (result : Result T MailError) → new.tree ≡ old.tree → new.reads ≡ reads_after old.reads path result → HasRead old new noted noted (path ∷ [])
-after_read old new noted path (Ok x) tree is = unanswered old new noted path 1 (omega arith) tree is
-after_read old new noted path (Err error.Failed) tree is = unanswered old new noted path 1 (omega arith) tree is
-after_read old new noted path (Err error.NoMemory) tree is = unanswered old new noted path 0 (omega arith) tree (is ∙ same_reads old.reads)
+-- a call that read the path, or found no memory before
+pub asked_once : {T : Type 0} (old new : ObservedMail) (path : List ℕ) (result : Result T MailError) → new.tree ≡ old.tree → new.reads ≡ reads_after old.reads path result → AsksOnce old new path
+asked_once old new path (Ok x) tree is = record { asked = 1; once = omega arith; read = is; tree = tree }
+asked_once old new path (Err error.Failed) tree is = record { asked = 1; once = omega arith; read = is; tree = tree }
+asked_once old new path (Err error.NoMemory) tree is = record { asked = 0; once = omega arith; read = is ∙ same_reads old.reads; tree = tree }
 
 -- what is mail is an arrival
 found_mail : (path : List ℕ) (found : Option Facts) → paths_of (arrival path found) ≡ mail_at path (cond (is_some found) answers.Mail answers.NotMail)
@@ -138,7 +121,7 @@ arrivals_both : (tree : Option Tree) (xs ys : List (List ℕ × Facts)) (ps qs :
 arrivals_both None xs ys ps qs h k = tt
 arrivals_both (Some t) xs ys ps qs h k = ap (λ l. l ++ ys) h ∙ (ap (λ l. flat_map (arrival_at t) ps ++ l) k ∙ sym (flat_map-append (arrival_at t) ps qs))
 
-abbrev NotesReads-append : (tree : Option Tree) (g k : List Given) (ps qs : List (List ℕ)) → NotesReads tree g ps → NotesReads tree k qs → NotesReads tree (g ++ k) (ps ++ qs)
+pub NotesReads-append : (tree : Option Tree) (g k : List Given) (ps qs : List (List ℕ)) → NotesReads tree g ps → NotesReads tree k qs → NotesReads tree (g ++ k) (ps ++ qs)
 NotesReads-append tree g k ps qs h j = record {
   reads = h.reads ++ j.reads;
   noted_is = ap (λ l. l ++ k) h.noted_is ∙ (ap (λ l. map read_of h.reads ++ l) j.noted_is ∙ sym (map-append read_of h.reads j.reads));
@@ -146,7 +129,8 @@ NotesReads-append tree g k ps qs h j = record {
   told = answers_both tree h.reads j.reads ps qs h.told j.told;
 }
 
-Reads-append : (tree : Option Tree) (g k : List Given) (ps qs : List (List ℕ)) (xs ys : List (List ℕ × Facts)) → Reads tree g ps xs → Reads tree k qs ys → Reads tree (g ++ k) (ps ++ qs) (xs ++ ys)
+pub Reads-append : (tree : Option Tree) (g k : List Given) (ps qs : List (List ℕ)) (xs ys : List (List ℕ × Facts)) → Reads tree g ps xs → Reads tree k qs ys → Reads tree (g ++ k) (ps ++ qs) (xs ++ ys)
+unfolding NotesReads-append
 Reads-append tree g k ps qs xs ys h j = record {
   notes = NotesReads-append tree g k ps qs h.notes j.notes;
   mails = map-append (λ file. file.0) xs ys ∙ (ap (λ l. l ++ paths_of ys) h.mails ∙ (ap (λ l. flat_map mail_in h.notes.reads ++ l) j.mails ∙ sym (flat_map-append mail_in h.notes.reads j.notes.reads)));
@@ -154,12 +138,12 @@ Reads-append tree g k ps qs xs ys h j = record {
   told = arrivals_both tree xs ys ps qs h.told j.told;
 }
 
-no_arrivals : (tree : Option Tree) → IfSome tree (λ t. [] ≡ flat_map (arrival_at t) [])
+pub no_arrivals : (tree : Option Tree) → IfSome tree (λ t. [] ≡ flat_map (arrival_at t) [])
 no_arrivals None = tt
 no_arrivals (Some t) = refl
 
 -- the loop has begun
-pub begun_read : (mail : ObservedMail) (noted : List Given) (arrivals : List (List ℕ × Facts)) → arrivals ≡ [] → HasReadAll mail mail noted noted [] arrivals
+abbrev pub begun_read : (mail : ObservedMail) (noted : List Given) (arrivals : List (List ℕ × Facts)) → arrivals ≡ [] → HasReadAll mail mail noted noted [] arrivals
 begun_read mail noted arrivals none = record {
   noted = [];
   noted_is = sym (append-nil noted);
@@ -168,7 +152,7 @@ begun_read mail noted arrivals none = record {
 }
 
 -- the first paths were read, and then one more
-pub more_read : (m0 m1 m2 : ObservedMail) (n0 n1 n2 : List Given) (ps qs : List (List ℕ)) (xs ys : List (List ℕ × Facts)) → HasReadAll m0 m1 n0 n1 ps xs → HasReadAll m1 m2 n1 n2 qs ys → HasReadAll m0 m2 n0 n2 (ps ++ qs) (xs ++ ys)
+abbrev pub more_read : (m0 m1 m2 : ObservedMail) (n0 n1 n2 : List Given) (ps qs : List (List ℕ)) (xs ys : List (List ℕ × Facts)) → HasReadAll m0 m1 n0 n1 ps xs → HasReadAll m1 m2 n1 n2 qs ys → HasReadAll m0 m2 n0 n2 (ps ++ qs) (xs ++ ys)
 more_read m0 m1 m2 n0 n1 n2 ps qs xs ys h k =
     let tree : m1.tree ≡ m0.tree = ap (λ (m : ObservedMail). m.tree) h.mail in
     record {
@@ -184,55 +168,7 @@ pub next_read : (m0 m1 m2 : ObservedMail) (n0 n1 n2 : List Given) (ps : List (Li
 next_read m0 m1 m2 n0 n1 n2 ps path before after h k =
     subst (λ (l : List (List ℕ × Facts)). HasReadAll m0 m2 n0 n2 (ps ++ path ∷ []) l) (sym k.1) (more_read m0 m1 m2 n0 n1 n2 ps (path ∷ []) before k.0 h k.2)
 
--- all were read
-pub all_read : (old new : ObservedMail) (n0 n1 : List Given) (ps : List (List ℕ)) (xs : List (List ℕ × Facts)) → HasReadAll old new n0 n1 ps xs → HasRead old new n0 n1 ps
-all_read old new n0 n1 ps xs h =
-    let whole : ps ≡ take (length ps) ps = sym (take_all (length ps) ps (omega arith)) in
-    record {
-      noted = h.noted;
-      noted_is = h.noted_is;
-      reading = record {
-        answered = length ps;
-        asked = length ps;
-        within = omega arith;
-        last = (omega arith, omega arith);
-        notes = subst (λ (l : List (List ℕ)). NotesReads old.tree h.noted l) whole h.reading.notes;
-        read = ap (λ (m : ObservedMail). m.reads) h.mail ∙ ap (read_with old.reads) whole;
-      };
-      tree = ap (λ (m : ObservedMail). m.tree) h.mail;
-    }
-
--- the first so many, and one more
-pub front_more : (all ys : List (List ℕ)) (x : List ℕ) → ys ≡ take (length ys) all → length ys < length all → x ≡ get_or all (length ys) x → ys ++ x ∷ [] ≡ take (length (ys ++ x ∷ [])) all
-front_more all ys x front within is =
-    ap (λ l. l ++ x ∷ []) front ∙ (ap (λ y. take (length ys) all ++ y ∷ []) is ∙ (sym (take_more all (length ys) x within) ∙ ap (λ n. take n all) (sym (length-append ys (x ∷ [])))))
-
--- the first so many, and perhaps one more
-take_at : (all ys : List (List ℕ)) (x : List ℕ) (n : ℕ) → n ≤ 1 → ys ≡ take (length ys) all → length ys < length all → x ≡ get_or all (length ys) x → ys ++ take n (x ∷ []) ≡ take (length ys + n) all
-take_at all ys x zero few front within is = append-nil ys ∙ (front ∙ ap (λ n. take n all) (omega arith))
-take_at all ys x (suc zero) few front within is = front_more all ys x front within is ∙ ap (λ n. take n all) (length-append ys (x ∷ []))
-take_at all ys x (suc (suc n)) few front within is = absurd (omega arith)
-
--- the loop stops at a path
-pub stops_read : (m0 m1 m2 : ObservedMail) (n0 n1 n2 : List Given) (all ys : List (List ℕ)) (path : List ℕ) (before : List (List ℕ × Facts)) → ys ≡ take (length ys) all → length ys < length all → path ≡ get_or all (length ys) path
-    → HasReadAll m0 m1 n0 n1 ys before → HasRead m1 m2 n1 n2 (path ∷ []) → HasRead m0 m2 n0 n2 all
-stops_read m0 m1 m2 n0 n1 n2 all ys path before front inside is h k =
-    let tree : m1.tree ≡ m0.tree = ap (λ (m : ObservedMail). m.tree) h.mail in
-    let answered = k.reading.answered in
-    let asked = k.reading.asked in
-    let few : asked ≤ 1 = k.reading.within in
-    let last = k.reading.last in
-    record {
-      noted = h.noted ++ k.noted;
-      noted_is = k.noted_is ∙ (ap (λ l. l ++ k.noted) h.noted_is ∙ append_assoc n0 h.noted k.noted);
-      reading = record {
-        answered = length ys + answered;
-        asked = length ys + asked;
-        within = omega arith;
-        last = (omega (arith, last.0), omega (arith, last.1));
-        notes = subst (λ (l : List (List ℕ)). NotesReads m0.tree (h.noted ++ k.noted) l) (take_at all ys path answered (omega (arith, last.0)) front inside is)
-            (NotesReads-append m0.tree h.noted k.noted ys (take answered (path ∷ [])) h.reading.notes (subst (λ (t : Option Tree). NotesReads t k.noted (take answered (path ∷ []))) tree k.reading.notes));
-        read = k.reading.read ∙ (ap (λ (m : ObservedMail). read_with m.reads (take asked (path ∷ []))) h.mail ∙ (read_with-more m0.reads ys (take asked (path ∷ [])) ∙ ap (read_with m0.reads) (take_at all ys path asked few front inside is)));
-      };
-      tree = k.tree ∙ tree;
-    }
+-- what is so of every error
+pub if_err : {T E : Type 0} (P : Type 0) (result : Result T E) → P → IfErr result (λ error. P)
+if_err P (Ok x) p = tt
+if_err P (Err error) p = p

@@ -1,3 +1,6 @@
+pub mod Batches
 pub mod Listing
 pub mod Reading
 pub mod Scanning
+pub mod Walking
+pub mod Mail

@@ -1,25 +1,11 @@
--- Which files of a mail folder are listed: those of `new` and `cur` whose names do not begin with a dot.
-use Rattle.std.specs.Prelude.{◌≡◌, ℕ, Bool, false, not, ◌==◌, List, [], ◌∷◌, ◌++◌, map, filter, codes, Option, IfSome}
+-- What a listing of a mail folder tells.
+use Rattle.std.specs.Prelude.{◌≡◌, ℕ, List, Option, Ok, Err, IfSome}
 use Rattle.std.specs.Cmp.Lexicographic.{slice_cmp}
 use Rattle.std.specs.List.Sorted.{IsStrictlySortedBy}
 use Rattle.std.specs.Ordering.{nat_cmp}
-use Rattle.nm_base.specs.MailPath.{is_mail_path}
-use Rattle.nm_base.specs.Order.{in_order}
-use Rattle.nm_maildir.specs.Tree.{Tree, listing_of}
-
--- a file counts where its name does not begin with a dot
-abbrev pub counts : List ℕ → Bool
-counts [] = false
-counts (first ∷ more) = not (first == 46)
-
--- the paths of the files that count, where they are paths
-abbrev pub paths_in : List ℕ → List (List ℕ) → List (List ℕ)
-paths_in folder names = filter is_mail_path (map (λ name. folder ++ 47 ∷ name) (filter counts names))
-
--- the mail of a tree lies in `new` and `cur`
-abbrev pub listed_of : Tree → List (List ℕ)
-listed_of tree =
-    in_order (paths_in (codes "new") (listing_of tree (codes "new")).files ++ paths_in (codes "cur") (listing_of tree (codes "cur")).files)
+use Rattle.nm_base.specs.declared.limit.Limit.{Limit}
+use Rattle.nm_maildir.specs.Tree.{Tree}
+use Rattle.nm_scan.specs.Walking.{scanned}
 
 -- strictly rising by their bytes
 abbrev pub IsRising : List (List ℕ) → Type 0
@@ -28,4 +14,8 @@ IsRising paths = IsStrictlySortedBy (slice_cmp nat_cmp) paths
 -- What was listed: the paths rise, and a tree that is told says which they are.
 pub record IsListing (tree : Option Tree) (listed : List (List ℕ)) : Type 0 where
   pub rising : IsRising listed
-  pub told : IfSome tree (λ t. listed ≡ listed_of t)
+  pub told : IfSome tree (λ t. scanned t ≡ Ok listed)
+
+-- the tree has more folders or files than are listed, or folders that lie deeper; one that is told says so
+abbrev pub PassesListing : Option Tree → Limit → Type 0
+PassesListing tree limit = IfSome tree (λ t. scanned t ≡ Err limit)

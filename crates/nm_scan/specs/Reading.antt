@@ -99,6 +99,13 @@ pub record Classifies (got : Got) (classified : ReadAnswer × Option Facts) : Ty
   pub facts : classified.1 ≡ found_in got
   pub dated : IfSome classified.1 (λ facts. IsDate facts.date)
 
+-- A read that is not noted: the path was asked for, or not even that.
+pub record AsksOnce (old new : ObservedMail) (path : List ℕ) : Type 0 where
+  pub asked : ℕ
+  pub once : asked ≤ 1
+  pub read : new.reads ≡ read_with old.reads (take asked (path ∷ []))
+  pub tree : new.tree ≡ old.tree
+
 -- Of the paths the first were read, and that is noted behind what was noted before.
 pub record HasRead (old new : ObservedMail) (old_noted new_noted : List Given) (paths : List (List ℕ)) : Type 0 where
   pub noted : List Given

@@ -1,21 +1,25 @@
 -- What a `new` asks a mail folder and finds there, for an index with these files.
-use Rattle.std.specs.Prelude.{◌≡◌, ◌⊎◌, ℕ, List, [], ◌∷◌, Option}
+use Rattle.std.specs.Prelude.{◌≡◌, ◌⊎◌, ℕ, List, [], ◌∷◌, ◌++◌, Option}
 use Rattle.nm_base.specs.declared.facts.Facts.{Facts}
 use Rattle.nm_maildir.specs.Observed.{ObservedMail}
 use Rattle.nm_maildir.specs.Tree.{Tree}
 use Rattle.nm_maildir.specs.declared.given.Given.{Given}
 use Rattle.nm_maildir.specs.declared.given.Given.TheVariants.{Listed}
 use Rattle.nm_plan.specs.Plan.{to_read}
+use Rattle.nm_scan.specs.Batches.{IsUnfinished, ReadsBatches}
 use Rattle.nm_scan.specs.Listing.{IsListing}
-use Rattle.nm_scan.specs.Reading.{Reads, ReadsFirst}
+use Rattle.nm_scan.specs.Reading.{ReadsFirst}
 
--- What a whole scan found: the listing is noted, each listed path that the index lacks was read, and these mails are new.
-pub record Finds (tree : Option Tree) (files : List (List ℕ × Facts)) (noted : List Given) (arrivals : List (List ℕ × Facts)) : Type 0 where
+-- What a `new` has found so far: the listing is noted; of the listed paths that the index lacks the first were read in batches,
+-- these mails were found in each, and these paths are left, of which an unfinished batch has read the first perhaps.
+pub record FindsBatches (tree : Option Tree) (files : List (List ℕ × Facts)) (noted : List Given) (batches : List (List (List ℕ × Facts))) (left : List (List ℕ)) : Type 0 where
   pub listed : List (List ℕ)
   pub listing : IsListing tree listed
   pub answers : List Given
-  pub noted_is : noted ≡ Listed listed ∷ answers
-  pub reading : Reads tree answers (to_read files listed) arrivals
+  pub further : List Given
+  pub noted_is : noted ≡ Listed listed ∷ (answers ++ further)
+  pub reading : ReadsBatches tree answers (to_read files listed) batches left
+  pub unfinished : IsUnfinished tree further left
 
 -- The mail was listed, and of the listed paths that the index lacks the first were read, each once, in their order.
 pub record ListsAndReads (old new : ObservedMail) (files : List (List ℕ × Facts)) (noted : List Given) : Type 0 where

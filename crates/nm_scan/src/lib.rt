@@ -1,8 +1,17 @@
-//! Committing and publishing: what is learned from a mail folder: which files are listed, and which of those that are read are mail.
+//! Committing and publishing: what is learned from a mail folder: which files are listed, which of those that are read are mail,
+//! and in which batches they are read.
 #![tactic(auto)]
 
-mod listing;
+mod laws;
 mod reading;
+mod scan_error;
+mod walking;
 
-pub use listing::list_paths;
-pub use reading::{Mail, read_all};
+pub use laws::{
+    a_batch_more_is_read, a_batch_that_stops_is_unfinished, a_walk_lists_the_mail_of_the_tree,
+    batches_are_finished, batches_are_what_was_read, few_small_files_are_one_batch,
+    no_batch_is_read_at_first,
+};
+pub use reading::{Mail, read_batch};
+pub use scan_error::ScanError;
+pub use walking::list_paths;

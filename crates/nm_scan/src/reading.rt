@@ -1,15 +1,18 @@
-//! Reading files of a mail folder, and noting what is answered; `new` reads what the index lacks.
+//! Reading files of a mail folder, and noting what is answered; `new` reads what the index lacks, batch by batch.
 
-ghost use Rattle.std.specs.Prelude.{◌≡◌, ℕ, List, ◌∷◌, [], ◌++◌, IfOk};
+ghost use Rattle.std.specs.Prelude.{◌≡◌, ◌⊎◌, ℕ, List, ◌∷◌, [], ◌++◌, ◌<◌, ◌-◌, length, IfErr, IfOk, IfSome, MatchOption, OnErr, OnOk};
+ghost use Rattle.std.specs.Vec.Iter.{into_iter_items, into_iter_len};
 ghost use Rattle.nm_base.specs.declared.facts.Facts.{Facts};
 ghost use Rattle.nm_maildir.specs.Observed.{HasMailCause};
+ghost use Rattle.nm_scan.specs.Batches.{HasReadBatch, StopsInBatch, found_len, len_at};
 ghost use Rattle.nm_scan.specs.Reading.{arrival};
-ghost use Rattle.nm_scan.specs.Reading.{HasRead, HasReadAll, Classifies};
+ghost use Rattle.nm_scan.specs.Reading.{AsksOnce, HasReadAll, Classifies};
 
 use nm_base::{Copies, Facts, MailPath, Many, NoMemory};
 use nm_extract::{ExtractError, extract};
 use nm_maildir::{Given, Got, MailError, Maildir, ReadAnswer};
 use std::alloc::Global;
+use std::vec::IntoIter;
 
 /// A mail of the index: where it lies, and its facts.
 pub type Mail = (MailPath, Facts);
@@ -17,60 +20,104 @@ pub type Mail = (MailPath, Facts);
 /// The most bytes of a mail file.
 const MAX_BYTES: u64 = 67_108_864;
 
-/// Reads the files, notes what is answered of each, and gives those that are mail.
-pub fn read_all<M: Maildir>(
+/// The answers that close a batch.
+const FULL_ANSWERS: usize = 256;
+
+/// The bytes that close a batch.
+const FULL_BYTES: u64 = 67_108_864;
+
+/// Reads the next batch of the files, notes what is answered of each, and gives those that are mail.
+pub fn read_batch<M: Maildir>(
     alloc: Global,
     mail: &mut M,
-    paths: Many<MailPath>,
+    paths: &mut IntoIter<MailPath, Global>,
     noted: &mut Many<Given>,
 ) -> Result<Many<Mail>, MailError>
-    ensures ok { IfOk result (λ arrivals. HasReadAll (M.observed mail.old) (M.observed mail.new) noted.old noted.new paths arrivals) }
-    ensures so_far { HasRead (M.observed mail.old) (M.observed mail.new) noted.old noted.new paths }
+    requires whole { into_iter_len paths.old ≡ length (into_iter_items paths.old) }
+    requires some { 0 < length (into_iter_items paths.old) }
+    ensures ok { IfOk result (λ arrivals. HasReadBatch (M.observed mail.old) (M.observed mail.new) noted.old noted.new
+        (into_iter_items paths.old) (into_iter_items paths.new) arrivals) }
+    ensures err { IfErr result (λ _. StopsInBatch (M.observed mail.old) (M.observed mail.new) noted.old noted.new (into_iter_items paths.old)) }
+    ensures whole { into_iter_len paths.new ≡ length (into_iter_items paths.new) }
     ensures cause { HasMailCause (M.observed mail.old).faults (M.observed mail.new).faults result }
 {
     let mut arrivals = Many::new(alloc);
-    'files: for path in paths.into_vec() {
-        read_next(alloc, mail, path, noted, &mut arrivals)?;
+    let mut answers = FULL_ANSWERS;
+    let mut bytes = FULL_BYTES;
+    'files: while let Some(path) = next_path(paths, answers, bytes) {
+        let found = read_next(alloc, mail, path, noted, &mut arrivals)?;
+        answers = answers.saturating_sub(1);
+        bytes = bytes.saturating_sub(found);
     }
     Ok(arrivals)
 }
 
-/// Reads one file more. Where it is mail it joins the arrivals.
+/// The next path of a batch that lacks so many answers and bytes until it is full.
+fn next_path(paths: &mut IntoIter<MailPath, Global>, answers: usize, bytes: u64) -> Option<MailPath>
+    requires whole { into_iter_len paths.old ≡ length (into_iter_items paths.old) }
+    ensures next { MatchOption result
+        ((into_iter_items paths.new ≡ into_iter_items paths.old) × ((into_iter_items paths.old ≡ []) ⊎ ((answers ≡ 0) ⊎ (bytes ≡ 0))))
+        (λ path. (into_iter_items paths.old ≡ path ∷ into_iter_items paths.new) × (0 < answers) × (0 < bytes)) }
+    ensures whole { into_iter_len paths.new ≡ length (into_iter_items paths.new) }
+{
+    if answers == 0 || bytes == 0 {
+        return None;
+    }
+    paths.next()
+}
+
+/// Reads one file more, and notes what is answered of it. Where it is mail it joins the arrivals. Says how many bytes were found.
 fn read_next<M: Maildir>(
     alloc: Global,
     mail: &mut M,
     path: MailPath,
     noted: &mut Many<Given>,
     arrivals: &mut Many<Mail>,
-) -> Result<(), MailError>
+) -> Result<u64, MailError>
     ensures ok { IfOk result (λ _. (found : List (List ℕ × Facts)) × (arrivals.new ≡ arrivals.old ++ found)
         × HasReadAll (M.observed mail.old) (M.observed mail.new) noted.old noted.new (path ∷ []) found) }
-    ensures so_far { HasRead (M.observed mail.old) (M.observed mail.new) noted.old noted.new (path ∷ []) }
+    ensures bytes { IfOk result (λ len. IfSome (M.observed mail.old).tree (λ t. len ≡ len_at t path)) }
+    ensures err { IfErr result (λ _. AsksOnce (M.observed mail.old) (M.observed mail.new) path) }
+    ensures unnoted { OnErr result (noted.new ≡ noted.old) }
     ensures cause { HasMailCause (M.observed mail.old).faults (M.observed mail.new).faults result }
 {
-    let found = read_one(alloc, mail, &path, noted)?;
+    let got = mail.read(&path, MAX_BYTES)?;
+    let len = found_len(&got);
+    let (answer, found) = classify(alloc, got)?;
+    note(path, answer, found, noted, arrivals)?;
+    Ok(len)
+}
+
+/// How many bytes a read found.
+fn found_len(got: &Got) -> u64
+    ensures { result ≡ found_len got.now }
+{
+    match got {
+        Got::Missing | Got::TooLong => 0,
+        Got::Found(bytes) => bytes.len() as u64,
+    }
+}
+
+/// Notes an answer. Where it is mail, it joins the arrivals.
+fn note(
+    path: MailPath,
+    answer: ReadAnswer,
+    found: Option<Facts>,
+    noted: &mut Many<Given>,
+    arrivals: &mut Many<Mail>,
+) -> Result<(), NoMemory>
+    ensures ok { OnOk result ((noted.new ≡ noted.old ++ Given.Read path answer ∷ []) × (arrivals.new ≡ arrivals.old ++ arrival path found)) }
+    ensures err { OnErr result (noted.new ≡ noted.old) }
+{
+    let copied = path.copy()?;
     if let Some(facts) = found {
         arrivals.push((path, facts))?;
     }
+    noted.push(Given::Read {
+        path: copied,
+        answer,
+    })?;
     Ok(())
-}
-
-/// Reads one file and notes what is answered of it.
-fn read_one<M: Maildir>(
-    alloc: Global,
-    mail: &mut M,
-    path: &MailPath,
-    noted: &mut Many<Given>,
-) -> Result<Option<Facts>, MailError>
-    ensures ok { IfOk result (λ found. HasReadAll (M.observed mail.old) (M.observed mail.new) noted.old noted.new (path.now ∷ []) (arrival path.now found)) }
-    ensures so_far { HasRead (M.observed mail.old) (M.observed mail.new) noted.old noted.new (path.now ∷ []) }
-    ensures cause { HasMailCause (M.observed mail.old).faults (M.observed mail.new).faults result }
-{
-    let got = mail.read(path, MAX_BYTES)?;
-    let (answer, found) = classify(alloc, got)?;
-    let path = path.copy()?;
-    noted.push(Given::Read { path, answer })?;
-    Ok(found)
 }
 
 /// What a read tells, and the facts where it found mail.

@@ -1,0 +1,61 @@
+//! What follows from the definitions of batches, and how a reading goes on batch by batch. These functions run no code: their
+//! clauses are the laws.
+
+ghost use Rattle.std.specs.Prelude.{◌≡◌, ℕ, ◌<◌, IsTrue, List, [], ◌∷◌, ◌++◌, Ok, Option, Some, length};
+ghost use Rattle.nm_base.specs.declared.facts.Facts.{Facts};
+ghost use Rattle.nm_maildir.specs.Observed.{ObservedMail};
+ghost use Rattle.nm_maildir.specs.Tree.{Tree};
+ghost use Rattle.nm_maildir.specs.declared.given.Given.{Given};
+ghost use Rattle.nm_plan.specs.Plan.{all_arrivals};
+ghost use Rattle.nm_scan.specs.Batches.{HasReadBatch, HasReadBatches, HasReadSome, ReadsBatches, StopsInBatch, full_answers, full_bytes, len_at_all};
+ghost use Rattle.nm_base.specs.Order.{has_text, in_order};
+ghost use Rattle.nm_scan.specs.Walking.{scanned};
+ghost use Rattle.nm_scan.specs.Mail.{IsMailAt, mail_of};
+ghost use Rattle.nm_scan.specs.Reading.{Reads};
+
+/// Batches are the reads of their paths in one: none is read twice, none is passed over, and no mail of one is lost.
+pub fn batches_are_what_was_read()
+    ensures { (tree : Option Tree) (noted : List Given) (paths : List (List ℕ)) (batches : List (List (List ℕ × Facts))) (left : List (List ℕ))
+        → ReadsBatches tree noted paths batches left
+        → (read : List (List ℕ)) × (paths ≡ read ++ left) × Reads tree noted read (all_arrivals batches) }
+{}
+
+/// Fewer than 256 paths with less than 67,108,864 bytes are read in one batch.
+pub fn few_small_files_are_one_batch()
+    ensures { (tree : Tree) (noted : List Given) (paths : List (List ℕ)) (batches : List (List (List ℕ × Facts))) → 0 < length paths
+        → length paths < full_answers → len_at_all tree paths < full_bytes → ReadsBatches (Some tree) noted paths batches [] → length batches ≡ 1 }
+{}
+
+/// Before the first batch nothing is read.
+pub fn no_batch_is_read_at_first()
+    ensures { (mail : ObservedMail) (noted : List Given) (paths : List (List ℕ)) → HasReadBatches mail mail noted noted paths [] paths }
+{}
+
+/// One batch more is read of the paths that are left.
+pub fn a_batch_more_is_read()
+    ensures { (old mid new : ObservedMail) (old_noted mid_noted new_noted : List Given) (paths : List (List ℕ)) (batches : List (List (List ℕ × Facts)))
+        (left rest : List (List ℕ)) (arrivals : List (List ℕ × Facts)) → HasReadBatches old mid old_noted mid_noted paths batches left
+        → HasReadBatch mid new mid_noted new_noted left rest arrivals
+        → HasReadBatches old new old_noted new_noted paths (batches ++ arrivals ∷ []) rest }
+{}
+
+/// Between two batches no batch is unfinished.
+pub fn batches_are_finished()
+    ensures { (old new : ObservedMail) (old_noted new_noted : List Given) (paths : List (List ℕ)) (batches : List (List (List ℕ × Facts)))
+        (left : List (List ℕ)) → HasReadBatches old new old_noted new_noted paths batches left
+        → HasReadSome old new old_noted new_noted paths batches left }
+{}
+
+/// Where the reading stops in a batch, those before it stay.
+pub fn a_batch_that_stops_is_unfinished()
+    ensures { (old mid new : ObservedMail) (old_noted mid_noted new_noted : List Given) (paths : List (List ℕ)) (batches : List (List (List ℕ × Facts)))
+        (left : List (List ℕ)) → HasReadBatches old mid old_noted mid_noted paths batches left → StopsInBatch mid new mid_noted new_noted left
+        → HasReadSome old new old_noted new_noted paths batches left }
+{}
+
+/// A walk that passes no limit lists what it met, each path once, and that is the mail of the tree: all of it, and nothing else.
+pub fn a_walk_lists_the_mail_of_the_tree()
+    ensures met { (tree : Tree) (listed : List (List ℕ)) → scanned tree ≡ Ok listed → listed ≡ in_order (mail_of tree) }
+    ensures mail { (tree : Tree) (path : List ℕ) → IsTrue (has_text (mail_of tree) path) → IsMailAt tree path }
+    ensures all { (tree : Tree) (listed : List (List ℕ)) (path : List ℕ) → scanned tree ≡ Ok listed → IsMailAt tree path → IsTrue (has_text (mail_of tree) path) }
+{}
