@@ -1,5 +1,5 @@
 -- The mails that a `new` has read come to an index that lacks them, each path once.
-use Rattle.std.proofs.Common.{◌≡◌, ℕ, Bool, true, false, ◌||◌, not, cond, List, [], ◌∷◌, map, filter, refl, sym, ap, ◌∙◌, subst}
+use Rattle.std.proofs.Common.{◌≡◌, ℕ, Bool, true, false, ◌||◌, not, cond, List, [], ◌∷◌, ◌++◌, map, filter, refl, sym, ap, ◌∙◌, subst}
 use Rattle.std.specs.List.{AllByRecursion, flat_map, IsDistinct}
 use Rattle.std.specs.Cmp.Lexicographic.{slice_cmp, texts_ties, nat_list_eq_equiv}
 use Rattle.std.specs.Ordering.{eq_by_cmp, nat_cmp}
@@ -13,6 +13,7 @@ use Rattle.nm_maildir.specs.declared.given.ReadAnswer.TheVariants as answers
 use Rattle.nm_plan.specs.Plan.{AreArrivals, to_read}
 use Rattle.nm_scan.specs.Listing.{IsRising}
 use Rattle.nm_scan.specs.Reading.{mail_in}
+use Rattle.nm_writer.specs.Batch.{AreUnknown}
 
 -- each text passes the test, or none does
 abbrev pub Every : (List ℕ → Bool) → Bool → List (List ℕ) → Type 0
@@ -99,14 +100,30 @@ not-true : (b : Bool) → not b ≡ true → b ≡ false
 not-true true h = sym h
 not-true false h = refl
 
--- the mails that were read are arrivals
-pub are-arrivals : (files : List (List ℕ × Facts)) (listed : List (List ℕ)) (arrivals : List (List ℕ × Facts)) (reads : List (List ℕ × ReadAnswer))
-    → IsRising listed → map (λ read. read.0) reads ≡ to_read files listed → paths_of arrivals ≡ flat_map mail_in reads → AllByRecursion (λ arrival. IsDate arrival.1.date) arrivals → AreArrivals files arrivals
-are-arrivals files listed arrivals reads rising each mails dated =
-    let once : IsDistinct same_text (map (λ read. read.0) reads) = subst (IsDistinct same_text) (sym each) (distinct-filter (λ path. not (has_path files path)) listed (distinct-rising listed rising)) in
+-- the listed paths that an index lacks are unknown to it, each once
+pub are-unknown : (files : List (List ℕ × Facts)) (listed : List (List ℕ)) → IsRising listed → AreUnknown files (to_read files listed)
+are-unknown files listed rising = record {
+  once = distinct-filter (λ path. not (has_path files path)) listed (distinct-rising listed rising);
+  fresh = every-map (λ path. not (has_path files path) ≡ true) (λ path. has_path files path ≡ false) (to_read files listed) (λ path h. not-true (has_path files path) h) (every-kept (λ path. not (has_path files path)) listed);
+}
+
+-- and so are the first of them
+every-front : (P : List ℕ → Type 0) (texts more : List (List ℕ)) → AllByRecursion P (texts ++ more) → AllByRecursion P texts
+every-front P [] more h = tt
+every-front P (text ∷ texts) more h = (h.0, every-front P texts more h.1)
+
+distinct-front : (texts more : List (List ℕ)) → IsDistinct same_text (texts ++ more) → IsDistinct same_text texts
+unfolding IsDistinct
+distinct-front [] more h = tt
+distinct-front (text ∷ texts) more h = (every-front _ texts more h.0, distinct-front texts more h.1)
+
+-- the mails that were read at the first of the paths are arrivals
+pub are-arrivals : (files : List (List ℕ × Facts)) (paths read left : List (List ℕ)) (arrivals : List (List ℕ × Facts)) (reads : List (List ℕ × ReadAnswer))
+    → AreUnknown files paths → paths ≡ read ++ left → map (λ read. read.0) reads ≡ read → paths_of arrivals ≡ flat_map mail_in reads → AllByRecursion (λ arrival. IsDate arrival.1.date) arrivals → AreArrivals files arrivals
+are-arrivals files paths read left arrivals reads unknown paths_are each mails dated =
+    let once : IsDistinct same_text (map (λ read. read.0) reads) = subst (IsDistinct same_text) (sym each) (distinct-front read left (subst (IsDistinct same_text) paths_are unknown.once)) in
     let fresh : AllByRecursion (λ path. has_path files path ≡ false) (map (λ read. read.0) reads) =
-    subst (AllByRecursion (λ path. has_path files path ≡ false)) (sym each)
-    (every-map (λ path. not (has_path files path) ≡ true) (λ path. has_path files path ≡ false) (to_read files listed) (λ path h. not-true (has_path files path) h) (every-kept (λ path. not (has_path files path)) listed)) in
+    subst (AllByRecursion (λ path. has_path files path ≡ false)) (sym each) (every-front (λ path. has_path files path ≡ false) read left (subst (AllByRecursion (λ path. has_path files path ≡ false)) paths_are unknown.fresh)) in
     record {
       once = subst (IsDistinct same_text) (sym mails) (distinct-mail reads once);
       fresh = subst (AllByRecursion (λ path. has_path files path ≡ false)) (sym mails) (every-mail _ reads fresh);

@@ -38,7 +38,7 @@ one-made old new commit clock faults (Err (errors.Limit limit)) h = record {
 one-made old new commit clock faults (Err errors.NoMemory) h = subst (λ (w : WriterState). StopsWithin old (commit ∷ []) w) (sym h) (none-stopped old (commit ∷ []))
 
 -- commits, and then others
-made-made : (old mid new : WriterState) (first second : List Commit) → HasCommitted old first mid → HasCommitted mid second new → HasCommitted old (first ++ second) new
+pub made-made : (old mid new : WriterState) (first second : List Commit) → HasCommitted old first mid → HasCommitted mid second new → HasCommitted old (first ++ second) new
 made-made old mid new first second h k = record {
   shown = k.shown ∙ (ap (λ (b : Base). folded b second) h.shown ∙ sym (fold-append committed old.shown first second));
   begun = k.begun ∙ (ap (λ (l : List Commit). l ++ second) h.begun ∙ append_assoc old.begun first second);

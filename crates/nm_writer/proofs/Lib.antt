@@ -1,4 +1,5 @@
 pub mod ArrivalLemmas
+pub mod BatchLemmas
 pub mod CommitLemmas
 pub mod DoneLemmas
 pub mod DurableLemmas
@@ -7,6 +8,7 @@ pub mod LawLemmas
 pub mod NewLemmas
 pub mod OrderLemmas
 pub mod ReplayLemmas
+pub mod ReportLemmas
 pub mod SameLemmas
 pub mod ScanLemmas
 pub mod SetLemmas

@@ -1,94 +1,128 @@
--- What a `new` leaves, from what it scanned and from what the commits left.
-use Rattle.std.proofs.Common.{◌≡◌, inr, ℕ, List, [], ◌∷◌, ◌++◌, suc, IfOk, Result, Ok, Err, length, map, refl, sym, ap, ◌∙◌, subst}
-use Rattle.std.specs.List.{flat_map}
-use Rattle.nm_answer.specs.NewText.{gone, listed_in, mail_given, report_of}
+-- What a `new` leaves, from what was listed, what the batches left, and what the commit of what is gone left.
+use Rattle.std.proofs.Common.{◌≡◌, inr, ℕ, List, [], ◌∷◌, ◌++◌, Option, IfOk, Result, Ok, Err, length, map, refl, sym, ap, ◌∙◌, subst}
+use Rattle.nm_answer.specs.NewText.{gone, listed_in, report_of}
 use Rattle.nm_answer.specs.declared.report.NewReport.{NewReport}
 use Rattle.nm_base.specs.declared.facts.Facts.{Facts}
-use Rattle.nm_commit.specs.Files.{paths_of}
 use Rattle.nm_commit.specs.declared.change.Commit.{Commit}
 use Rattle.nm_index.specs.Fits.{FitInTurn}
 use Rattle.nm_index.specs.declared.base.Base.{Base}
-use Rattle.nm_maildir.specs.Observed.{ObservedMail}
+use Rattle.nm_maildir.specs.Tree.{Tree}
 use Rattle.nm_maildir.specs.declared.given.Given.{Given}
-use Rattle.nm_maildir.specs.declared.given.Given.TheVariants.{Listed}
-use Rattle.nm_maildir.specs.declared.given.ReadAnswer.{ReadAnswer}
-use Rattle.nm_plan.specs.Plan.{AreArrivals, add_of, commit_of, drop_of, new_commits}
-use Rattle.nm_scan.specs.Reading.{mail_in, read_of}
-use Rattle.nm_writer.proofs.ArrivalLemmas.{are-arrivals}
-use Rattle.nm_writer.specs.New.{AreNewCommits, IsAfterNew, Scans}
+use Rattle.nm_plan.specs.Plan.{AreArrivals, all_arrivals, batch_commits, commit_of, commits_so_far, drop_of, new_commits}
+use Rattle.nm_scan.specs.Batches.{HasReadSome, ReadsBatches}
+use Rattle.nm_scan.specs.Reading.{Reads}
+use Rattle.nm_scan.specs.Scanning.{FindsBatches}
+use Rattle.nm_writer.proofs.ArrivalLemmas.{are-arrivals, are-unknown}
+use Rattle.nm_writer.proofs.DoneLemmas.{fit-first, fit-second, refused-more, then-made}
+use Rattle.nm_writer.specs.Batch.{AreUnknown, IsAfterBatches, Reading}
+use Rattle.nm_writer.specs.New.{AreNewCommits, HasListed, IsAfterNew}
 use Rattle.nm_writer.specs.Report.{report_with}
 use Rattle.nm_writer.specs.Writer.{WriterState}
-use Rattle.nm_writer.specs.Writing.{IsAfterCommits}
-use Rattle.nm_writer.specs.declared.scanning.Scanned.{Scanned}
+use Rattle.nm_writer.specs.Writing.{HasCommitted, IsAfterCommits}
+use Rattle.nm_writer.specs.declared.scanning.Compared.{Compared}
 use Rattle.nm_writer.specs.declared.write_error.WriteError.{WriteError}
 use Rattle.nm_writer.specs.declared.write_error.WriteError.TheVariants as errors
 
--- the mails that were found, of what is noted
-mails-are : (reads : List (List ℕ × ReadAnswer)) → flat_map mail_given (map read_of reads) ≡ flat_map mail_in reads
-mails-are [] = refl
-mails-are (read ∷ reads) = ap (λ l. mail_in read ++ l) (mails-are reads)
+abbrev Batches : Type 0
+Batches = List (List (List ℕ × Facts))
 
-paths-length : (files : List (List ℕ × Facts)) → length (paths_of files) ≡ length files
-paths-length [] = refl
-paths-length (file ∷ files) = ap suc (paths-length files)
+-- the laws on batches that were read
+pub record Laws : Type 0 where
+  pub fits : (index : Base) (listed : List (List ℕ)) (batches : Batches) → AreArrivals index.files (all_arrivals batches) → FitInTurn index (new_commits index.files listed batches)
+  pub in_one : (tree : Option Tree) (noted : List Given) (paths : List (List ℕ)) (batches : Batches) (left : List (List ℕ)) → ReadsBatches tree noted paths batches left
+      → (read : List (List ℕ)) × (paths ≡ read ++ left) × Reads tree noted read (all_arrivals batches)
 
-module _ (fits : (index : Base) (listed : List (List ℕ)) (arrivals : List (List ℕ × Facts)) → AreArrivals index.files arrivals → FitInTurn index (new_commits index.files listed arrivals))
-    (old_mail new_mail : ObservedMail) (shown : Base) (noted : List Given) (scanned : Scanned) (scan : Scans old_mail new_mail shown.files noted scanned) where
-  abbrev due : List Commit
-  due = commit_of (map add_of scanned.arrivals) ++ commit_of (map drop_of scanned.gone)
+-- what is unknown was listed
+pub unknown-listed : (tree : Option Tree) (files : List (List ℕ × Facts)) (noted : List Given) (compared : Compared) → HasListed tree files noted compared → AreUnknown files compared.unknown
+unknown-listed tree files noted compared h = subst (AreUnknown files) (sym h.unknown_are) (are-unknown files h.listed h.listing.rising)
 
-  listed-are : listed_in noted ≡ scan.listed
-  listed-are = ap listed_in scan.noted_is
-
-  -- the commits that are due after a scan
-  due-are : due ≡ new_commits shown.files scan.listed scanned.arrivals
-  due-are = ap (λ (l : List (List ℕ)). commit_of (map add_of scanned.arrivals) ++ commit_of (map drop_of l)) scan.gone_are
-
-  pub scanned-fit : FitInTurn shown (commit_of (map add_of scanned.arrivals) ++ commit_of (map drop_of scanned.gone))
-  scanned-fit = subst (FitInTurn shown) (sym due-are)
-      (fits shown scan.listed scanned.arrivals (are-arrivals shown.files scan.listed scanned.arrivals scan.reading.notes.reads scan.listing.rising scan.reading.notes.each scan.reading.mails scan.reading.dated))
-
-  are-new : AreNewCommits old_mail.tree shown noted due
-  are-new = record {
-    arrivals = scanned.arrivals;
-    found = record { listed = scan.listed; listing = scan.listing; answers = scan.answers; noted_is = scan.noted_is; reading = scan.reading };
-    due_are = due-are ∙ ap (λ (l : List (List ℕ)). new_commits shown.files l scanned.arrivals) (sym listed-are);
-    fit = scanned-fit;
+module _ (laws : Laws) (before now : Reading) (compared : Compared) (old : WriterState) (h : HasListed before.mail.tree old.shown.files before.noted compared) where
+  -- what was found so far
+  found : (batches : Batches) (left : List (List ℕ)) → HasReadSome before.mail now.mail before.noted now.noted compared.unknown batches left → FindsBatches before.mail.tree old.shown.files now.noted batches left
+  found batches left some = record {
+    listed = h.listed;
+    listing = h.listing;
+    answers = some.answers;
+    further = some.further;
+    noted_is = some.noted_is ∙ ap (λ (l : List Given). l ++ (some.answers ++ some.further)) h.noted_is;
+    reading = subst (λ (l : List (List ℕ)). ReadsBatches before.mail.tree some.answers l batches left) h.unknown_are some.reading;
+    unfinished = some.unfinished;
   }
 
-  -- the report of what was scanned is that of the index before and after
-  report-is : (after : List (List ℕ × Facts)) → report_with (length scanned.arrivals) (length scanned.gone) shown.files after noted ≡ report_of shown.files after noted
-  report-is after =
-      let notes : noted ≡ Listed scan.listed ∷ map read_of scan.reading.notes.reads = scan.noted_is ∙ ap (λ l. Listed scan.listed ∷ l) scan.reading.notes.noted_is in
-      let added : length scanned.arrivals ≡ length (flat_map mail_given noted) =
-      sym (paths-length scanned.arrivals) ∙ (ap length (scan.reading.mails ∙ sym (mails-are scan.reading.notes.reads)) ∙ ap (λ (l : List Given). length (flat_map mail_given l)) (sym notes)) in
-      let removed : length scanned.gone ≡ length (gone shown.files (listed_in noted)) =
-      ap length scan.gone_are ∙ ap (λ (l : List (List ℕ)). length (gone shown.files l)) (sym listed-are) in
-      ap (λ n. report_with n (length scanned.gone) shown.files after noted) added
-      ∙ ap (λ n. report_with (length (flat_map mail_given noted)) n shown.files after noted) removed
+  all-fit : (batches : Batches) (left : List (List ℕ)) → HasReadSome before.mail now.mail before.noted now.noted compared.unknown batches left → (listed : List (List ℕ)) → FitInTurn old.shown (new_commits old.shown.files listed batches)
+  all-fit batches left some listed =
+      let all = laws.in_one before.mail.tree some.answers compared.unknown batches left some.reading in
+      laws.fits old.shown listed batches
+      (are-arrivals old.shown.files compared.unknown all.0 left (all_arrivals batches) all.2.notes.reads (unknown-listed before.mail.tree old.shown.files before.noted compared h) all.1 all.2.notes.each all.2.mails all.2.dated)
 
--- the same scan, where the files were lent
-pub scan-of : (old_mail new_mail : ObservedMail) (files lent : List (List ℕ × Facts)) (noted : List Given) (scanned : Scanned) → lent ≡ files → Scans old_mail new_mail lent noted scanned → Scans old_mail new_mail files noted scanned
-scan-of old_mail new_mail files lent noted scanned same scan = subst (λ (l : List (List ℕ × Facts)). Scans old_mail new_mail l noted scanned) same scan
+  so_far-fit : (batches : Batches) (left listed : List (List ℕ)) → FitInTurn old.shown (new_commits old.shown.files listed batches) → FitInTurn old.shown (commits_so_far old.shown.files listed batches left)
+  so_far-fit batches [] listed fit = fit
+  so_far-fit batches (path ∷ left) listed fit = fit-first old.shown (batch_commits batches) (commit_of (map drop_of (gone old.shown.files listed))) fit
 
--- the same report, where what is noted was lent
-pub reported-of : (result : Result NewReport WriteError) (added removed : ℕ) (before after : List (List ℕ × Facts)) (noted lent : List Given) → lent ≡ noted → IfOk result (λ report. report ≡ report_with added removed before after lent)
-    → IfOk result (λ report. report ≡ report_with added removed before after noted)
-reported-of result added removed before after noted lent same h = subst (λ (l : List Given). IfOk result (λ report. report ≡ report_with added removed before after l)) same h
+  -- the commits that are due of it
+  are-new : (batches : Batches) (left : List (List ℕ)) → HasReadSome before.mail now.mail before.noted now.noted compared.unknown batches left
+      → AreNewCommits before.mail.tree old.shown now.noted left (commits_so_far old.shown.files (listed_in now.noted) batches left)
+  are-new batches left some = record {
+    batches = batches;
+    found = found batches left some;
+    due_are = refl;
+    fit = so_far-fit batches left (listed_in now.noted) (all-fit batches left some (listed_in now.noted));
+  }
 
--- and so what the commits leave is what a `new` leaves
-pub after-new : (fits : (index : Base) (listed : List (List ℕ)) (arrivals : List (List ℕ × Facts)) → AreArrivals index.files arrivals → FitInTurn index (new_commits index.files listed arrivals))
-    (old_mail new_mail : ObservedMail) (noted : List Given) (scanned : Scanned) (old new : WriterState) (faults : ℕ) (result : Result NewReport WriteError) → Scans old_mail new_mail old.shown.files noted scanned
-    → IsAfterCommits old (commit_of (map add_of scanned.arrivals) ++ commit_of (map drop_of scanned.gone)) faults result new
-    → IfOk result (λ report. report ≡ report_with (length scanned.arrivals) (length scanned.gone) old.shown.files new.shown.files noted)
-    → IsAfterNew old_mail.tree noted old faults result new
-after-new fits old_mail new_mail noted scanned old new faults (Ok report) scan after reported =
-    ((due fits old_mail new_mail old.shown noted scanned scan, are-new fits old_mail new_mail old.shown noted scanned scan, after), reported ∙ report-is fits old_mail new_mail old.shown noted scanned scan new.shown.files)
-after-new fits old_mail new_mail noted scanned old new faults (Err errors.MailFault) scan after reported = absurd after
-after-new fits old_mail new_mail noted scanned old new faults (Err errors.DiskFault) scan after reported =
-    (due fits old_mail new_mail old.shown noted scanned scan, are-new fits old_mail new_mail old.shown noted scanned scan, after)
-after-new fits old_mail new_mail noted scanned old new faults (Err (errors.Closed fault)) scan after reported = absurd after
-after-new fits old_mail new_mail noted scanned old new faults (Err (errors.Limit limit)) scan after reported =
-    (due fits old_mail new_mail old.shown noted scanned scan, are-new fits old_mail new_mail old.shown noted scanned scan, after)
-after-new fits old_mail new_mail noted scanned old new faults (Err errors.NoMemory) scan after reported =
-    inr (due fits old_mail new_mail old.shown noted scanned scan, are-new fits old_mail new_mail old.shown noted scanned scan, after)
+  so_far-refused : (batches : Batches) (left listed : List (List ℕ)) (new : WriterState) (faults : ℕ) (error : WriteError) → IsAfterCommits {T = Unit {0}} old (batch_commits batches) faults (Err error) new
+      → IsAfterCommits {T = Unit {0}} old (commits_so_far old.shown.files listed batches left) faults (Err error) new
+  so_far-refused batches [] listed new faults error after = refused-more (Unit {0}) (Unit {0}) old new (batch_commits batches) (commit_of (map drop_of (gone old.shown.files listed))) faults error after
+  so_far-refused batches (path ∷ left) listed new faults error after = after
+
+  -- the batches were not all read, or not all their commits made
+  pub after-refused : (new : WriterState) (faults : ℕ) (error : WriteError) → IsAfterBatches {T = Unit {0}} before now compared.unknown old faults (Err error) new → IsAfterNew before.mail.tree now.noted old faults (Err error) new
+  after-refused new faults errors.MailFault (batches, path, left, some, made) = inr (path, left, batch_commits batches, are-new batches (path ∷ left) some, made)
+  after-refused new faults errors.DiskFault (batches, left, some, fails) =
+      (left, commits_so_far old.shown.files (listed_in now.noted) batches left, are-new batches left some, so_far-refused batches left (listed_in now.noted) new faults errors.DiskFault fails)
+  after-refused new faults (errors.Closed fault) after = absurd after
+  after-refused new faults (errors.Limit limit) (batches, left, some, passes) =
+      inr (left, commits_so_far old.shown.files (listed_in now.noted) batches left, are-new batches left some, so_far-refused batches left (listed_in now.noted) new faults (errors.Limit limit) passes)
+  after-refused new faults errors.NoMemory (batches, left, some, stops) =
+      inr (left, commits_so_far old.shown.files (listed_in now.noted) batches left, are-new batches left some, so_far-refused batches left (listed_in now.noted) new faults errors.NoMemory stops)
+
+  -- they were
+  module _ (mid : WriterState) (batches : Batches) (some : HasReadSome before.mail now.mail before.noted now.noted compared.unknown batches []) (made : HasCommitted old (batch_commits batches) mid) where
+    gone-are : compared.gone ≡ gone old.shown.files (listed_in now.noted)
+    gone-are = h.gone_are ∙ ap (λ (l : List Given). gone old.shown.files (listed_in l)) (sym (some.noted_is ∙ ap (λ (l : List Given). l ++ (some.answers ++ some.further)) h.noted_is))
+
+    due : List Commit
+    due = new_commits old.shown.files (listed_in now.noted) batches
+
+    pub gone-fit : FitInTurn mid.shown (commit_of (map drop_of compared.gone))
+    gone-fit =
+        subst (λ (l : List (List ℕ)). FitInTurn mid.shown (commit_of (map drop_of l))) (sym gone-are)
+        (subst (λ (b : Base). FitInTurn b (commit_of (map drop_of (gone old.shown.files (listed_in now.noted))))) (sym made.shown)
+        (fit-second old.shown (batch_commits batches) (commit_of (map drop_of (gone old.shown.files (listed_in now.noted)))) (all-fit batches [] some (listed_in now.noted))))
+
+    all-made : (new : WriterState) (faults : ℕ) (result : Result NewReport WriteError) → IsAfterCommits mid (commit_of (map drop_of compared.gone)) faults result new
+        → IsAfterCommits old (new_commits old.shown.files (listed_in now.noted) batches) faults result new
+    all-made new faults result after =
+        then-made old mid new (batch_commits batches) (commit_of (map drop_of (gone old.shown.files (listed_in now.noted)))) faults result made
+        (subst (λ (l : List (List ℕ)). IsAfterCommits mid (commit_of (map drop_of l)) faults result new) gone-are after)
+
+    after-all : (new : WriterState) (faults : ℕ) (result : Result NewReport WriteError) → IsAfterCommits old (new_commits old.shown.files (listed_in now.noted) batches) faults result new
+        → IfOk result (λ report. report ≡ report_of old.shown.files new.shown.files now.noted) → IsAfterNew before.mail.tree now.noted old faults result new
+    after-all new faults (Ok report) after reported = ((new_commits old.shown.files (listed_in now.noted) batches, are-new batches [] some, after), reported)
+    after-all new faults (Err errors.MailFault) after reported = absurd after
+    after-all new faults (Err errors.DiskFault) after reported = ([], new_commits old.shown.files (listed_in now.noted) batches, are-new batches [] some, after)
+    after-all new faults (Err (errors.Closed fault)) after reported = absurd after
+    after-all new faults (Err (errors.Limit limit)) after reported = inr ([], new_commits old.shown.files (listed_in now.noted) batches, are-new batches [] some, after)
+    after-all new faults (Err errors.NoMemory) after reported = inr ([], new_commits old.shown.files (listed_in now.noted) batches, are-new batches [] some, after)
+
+    report-of : (new : WriterState) (result : Result NewReport WriteError) (removed : ℕ) (was : Base) (lent : List Given) → removed ≡ length compared.gone → was ≡ old.shown → lent ≡ now.noted
+        → IfOk result (λ report. report ≡ report_with removed was.files new.shown.files lent) → IfOk result (λ report. report ≡ report_of old.shown.files new.shown.files now.noted)
+    report-of new (Err error) removed was lent count same noted said = tt
+    report-of new (Ok report) removed was lent count same noted said =
+        said
+        ∙ (ap (λ n. report_with n was.files new.shown.files lent) (count ∙ ap length gone-are)
+        ∙ (ap (λ (b : Base). report_with (length (gone old.shown.files (listed_in now.noted))) b.files new.shown.files lent) same
+        ∙ ap (λ (l : List Given). report_with (length (gone old.shown.files (listed_in now.noted))) old.shown.files new.shown.files l) noted))
+
+    pub after-let_go : (new : WriterState) (faults : ℕ) (result : Result NewReport WriteError) (removed : ℕ) (was : Base) (lent : List Given) → removed ≡ length compared.gone → was ≡ old.shown → lent ≡ now.noted
+        → IsAfterCommits mid (commit_of (map drop_of compared.gone)) faults result new → IfOk result (λ report. report ≡ report_with removed was.files new.shown.files lent) → IsAfterNew before.mail.tree now.noted old faults result new
+    after-let_go new faults result removed was lent count same noted after said = after-all new faults result (all-made new faults result after) (report-of new result removed was lent count same noted said)

@@ -11,8 +11,7 @@ use Rattle.std.specs.declared.cmp.Ordering.TheVariants.{Less, Equal, Greater}
 use Rattle.std.proofs.lemmas.List.Kept.{IsStrictlySortedBy-filter}
 use Rattle.nm_base.specs.Order.{IsSorted, has_text, in_order, same_text}
 use Rattle.nm_base.specs.declared.facts.Facts.{Facts}
-use Rattle.nm_answer.specs.Count.{ids_of}
-use Rattle.nm_answer.specs.NewText.{only_in}
+use Rattle.nm_answer.specs.NewText.{ids_of, only_in}
 use Rattle.nm_commit.specs.Files.{has_id, has_path, paths_of}
 use Rattle.nm_writer.proofs.OrderLemmas.{above_all, in_order-sorted, turned}
 use Rattle.nm_writer.proofs.SetLemmas.{bytes_same, has_text-filter, has_text-in_order}

@@ -1,5 +1,5 @@
 -- What a scan asks, notes and finds, from its parts.
-use Rattle.std.proofs.Common.{◌≡◌, inr, ℕ, not, List, [], ◌∷◌, ◌++◌, Option, None, Some, IfSome, filter, take, refl, sym, ap, ◌∙◌, subst, append-nil, arith}
+use Rattle.std.proofs.Common.{◌≡◌, inr, ℕ, not, List, [], ◌∷◌, ◌++◌, Option, None, Some, Ok, IfSome, filter, take, refl, sym, ap, ◌∙◌, subst, append-nil, arith}
 use Rattle.nm_answer.specs.NewText.{gone}
 use Rattle.nm_base.specs.Order.{IsSorted, has_text}
 use Rattle.nm_base.specs.declared.facts.Facts.{Facts}
@@ -9,15 +9,16 @@ use Rattle.nm_maildir.specs.Tree.{Tree}
 use Rattle.nm_maildir.specs.declared.given.Given.{Given}
 use Rattle.nm_maildir.specs.declared.given.Given.TheVariants as given
 use Rattle.nm_plan.specs.Plan.{to_read}
-use Rattle.nm_scan.specs.Listing.{IsRising, listed_of}
-use Rattle.nm_scan.specs.Reading.{HasRead, HasReadAll, NotesReads, answers_at, read_with}
+use Rattle.nm_scan.specs.Listing.{IsRising}
+use Rattle.nm_scan.specs.Walking.{scanned}
+use Rattle.nm_scan.specs.Reading.{HasRead, NotesReads, answers_at, read_with}
 use Rattle.nm_scan.specs.Scanning.{AsksNew}
 use Rattle.nm_writer.proofs.SameLemmas.{paths-are}
-use Rattle.nm_writer.specs.New.{Scans}
-use Rattle.nm_writer.specs.declared.scanning.Scanned.{Scanned}
+use Rattle.nm_writer.specs.New.{HasListed}
+use Rattle.nm_writer.specs.declared.scanning.Compared.{Compared}
 
 -- the mail folder that tells the same
-same_mail : (a b : ObservedMail) → a.tree ≡ b.tree → a.reads ≡ b.reads → a.faults ≡ b.faults → a ≡ b
+pub same_mail : (a b : ObservedMail) → a.tree ≡ b.tree → a.reads ≡ b.reads → a.faults ≡ b.faults → a ≡ b
 same_mail a b tree reads faults =
     ap (λ (t : Option Tree). record { tree = t; reads = a.reads; faults = a.faults }) tree
     ∙ (ap (λ (r : Option (List (List ℕ))). record { tree = b.tree; reads = r; faults = a.faults }) reads
@@ -56,7 +57,7 @@ gone-end files listed paths start rest found sorted same begins none so_far =
 
 -- the listing and the first of the paths were asked
 pub asked_reading : (old mid new : ObservedMail) (files : List (List ℕ × Facts)) (before noted0 noted : List Given) (listed paths : List (List ℕ)) → mid.tree ≡ old.tree → mid.reads ≡ old.reads → before ≡ [] → noted0 ≡ before ++ given.Listed listed ∷ []
-    → IsRising listed → IfSome old.tree (λ t. listed ≡ listed_of t) → paths ≡ to_read files listed → HasRead mid new noted0 noted paths → AsksNew old new files noted
+    → IsRising listed → IfSome old.tree (λ t. scanned t ≡ Ok listed) → paths ≡ to_read files listed → HasRead mid new noted0 noted paths → AsksNew old new files noted
 asked_reading old mid new files before noted0 noted listed paths same_tree same none is rising told paths_are h' =
     let h : HasRead mid new noted0 noted (to_read files listed) = subst (λ (l : List (List ℕ)). HasRead mid new noted0 noted l) paths_are h' in
     let reading = h.reading in
@@ -77,25 +78,22 @@ asked_reading old mid new files before noted0 noted listed paths same_tree same 
 
 -- the listing alone was asked
 pub asked_listing : (old mid : ObservedMail) (files : List (List ℕ × Facts)) (before noted : List Given) (listed : List (List ℕ)) → mid.tree ≡ old.tree → mid.reads ≡ old.reads → before ≡ [] → noted ≡ before ++ given.Listed listed ∷ []
-    → IsRising listed → IfSome old.tree (λ t. listed ≡ listed_of t) → AsksNew old mid files noted
+    → IsRising listed → IfSome old.tree (λ t. scanned t ≡ Ok listed) → AsksNew old mid files noted
 asked_listing old mid files before noted listed same_tree same none is rising told =
     asked_reading old mid mid files before noted noted listed (to_read files listed) same_tree same none is rising told refl (read_none mid noted (to_read files listed))
 
--- all was scanned
-pub scanned_all : (old mid new : ObservedMail) (files : List (List ℕ × Facts)) (before noted0 noted : List Given) (listed paths : List (List ℕ)) (scanned : Scanned) → mid.tree ≡ old.tree → mid.reads ≡ old.reads → mid.faults ≡ old.faults
-    → before ≡ [] → noted0 ≡ before ++ given.Listed listed ∷ []
-    → IsRising listed → IfSome old.tree (λ t. listed ≡ listed_of t) → paths ≡ to_read files listed → HasReadAll mid new noted0 noted paths scanned.arrivals → scanned.gone ≡ gone files listed
-    → Scans old new files noted scanned
-scanned_all old mid new files before noted0 noted listed paths scanned same_tree same_reads same_faults none is rising told paths_are h' gone_are =
-    let h : HasReadAll old new noted0 noted (to_read files listed) scanned.arrivals =
-    subst (λ (m : ObservedMail). HasReadAll m new noted0 noted (to_read files listed) scanned.arrivals) (same_mail mid old same_tree same_reads same_faults)
-    (subst (λ (l : List (List ℕ)). HasReadAll mid new noted0 noted l scanned.arrivals) paths_are h') in
-    record {
-      listed = listed;
-      listing = record { rising = rising; told = told };
-      answers = h.noted;
-      noted_is = h.noted_is ∙ ap (λ l. l ++ h.noted) (is ∙ ap (λ l. l ++ given.Listed listed ∷ []) none);
-      reading = h.reading;
-      mail = h.mail;
-      gone_are = gone_are;
-    }
+-- what was listed is compared with the index
+pub has_listed : (tree : Option Tree) (files : List (List ℕ × Facts)) (before noted : List Given) (listed unknown away : List (List ℕ)) → before ≡ [] → noted ≡ before ++ given.Listed listed ∷ [] → IsRising listed
+    → IfSome tree (λ t. scanned t ≡ Ok listed) → unknown ≡ to_read files listed → away ≡ gone files listed → HasListed tree files noted (record { unknown = unknown; gone = away })
+has_listed tree files before noted listed unknown away none is rising told unknown_are gone_are = record {
+  listed = listed;
+  listing = record { rising = rising; told = told };
+  noted_is = is ∙ ap (λ (l : List Given). l ++ given.Listed listed ∷ []) none;
+  unknown_are = unknown_are;
+  gone_are = gone_are;
+}
+
+-- and of what is unknown the first paths were read
+pub asks-some : (old new : ObservedMail) (files : List (List ℕ × Facts)) (noted0 noted : List Given) (compared : Compared) → HasListed old.tree files noted0 compared → HasRead old new noted0 noted compared.unknown → AsksNew old new files noted
+asks-some old new files noted0 noted compared h read =
+    asked_reading old old new files [] noted0 noted h.listed compared.unknown refl refl refl h.noted_is h.listing.rising h.listing.told h.unknown_are read

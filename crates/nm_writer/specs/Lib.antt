@@ -1,3 +1,4 @@
+pub mod Batch
 pub mod Durable
 pub mod Errors
 pub mod New

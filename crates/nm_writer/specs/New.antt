@@ -6,45 +6,48 @@ use Rattle.nm_base.specs.declared.facts.Facts.{Facts}
 use Rattle.nm_commit.specs.declared.change.Commit.{Commit}
 use Rattle.nm_index.specs.Fits.{FitInTurn}
 use Rattle.nm_index.specs.declared.base.Base.{Base}
-use Rattle.nm_maildir.specs.Observed.{ObservedMail}
 use Rattle.nm_maildir.specs.Tree.{Tree}
 use Rattle.nm_maildir.specs.declared.given.Given.{Given}
 use Rattle.nm_maildir.specs.declared.given.Given.TheVariants.{Listed}
-use Rattle.nm_plan.specs.Plan.{new_commits, to_read}
-use Rattle.nm_scan.specs.Listing.{IsListing}
-use Rattle.nm_scan.specs.Reading.{Reads, after_reads}
-use Rattle.nm_scan.specs.Scanning.{Finds}
+use Rattle.nm_plan.specs.Plan.{commits_so_far, to_read}
+use Rattle.nm_scan.specs.Listing.{IsListing, PassesListing}
+use Rattle.nm_scan.specs.Scanning.{FindsBatches}
 use Rattle.nm_writer.specs.Writer.{WriterState}
 use Rattle.nm_writer.specs.Writing.{FailsWithin, HasCommitted, PassesWithin, StopsWithin}
-use Rattle.nm_writer.specs.declared.scanning.Scanned.{Scanned}
+use Rattle.nm_writer.specs.declared.scanning.Compared.{Compared}
 use Rattle.nm_writer.specs.declared.write_error.WriteError.{WriteError}
 use Rattle.nm_writer.specs.declared.write_error.WriteError.TheVariants as errors
 
--- A whole scan: the folder was listed, each listed path that the index lacks was read, and none of this failed.
-pub record Scans (old new : ObservedMail) (files : List (List ℕ × Facts)) (noted : List Given) (scanned : Scanned) : Type 0 where
+-- The folder was listed, which is noted: these of the listed paths the index lacks, and these of its own are gone.
+pub record HasListed (tree : Option Tree) (files : List (List ℕ × Facts)) (noted : List Given) (compared : Compared) : Type 0 where
   pub listed : List (List ℕ)
-  pub listing : IsListing old.tree listed
-  pub answers : List Given
-  pub noted_is : noted ≡ Listed listed ∷ answers
-  pub reading : Reads old.tree answers (to_read files listed) scanned.arrivals
-  pub mail : new ≡ after_reads old (to_read files listed)
-  pub gone_are : scanned.gone ≡ gone files listed
+  pub listing : IsListing tree listed
+  pub noted_is : noted ≡ Listed listed ∷ []
+  pub unknown_are : compared.unknown ≡ to_read files listed
+  pub gone_are : compared.gone ≡ gone files listed
 
--- The commits that are due after a whole scan; they fit the index one after the other.
-pub record AreNewCommits (tree : Option Tree) (shown : Base) (noted : List Given) (due : List Commit) : Type 0 where
-  pub arrivals : List (List ℕ × Facts)
-  pub found : Finds tree shown.files noted arrivals
-  pub due_are : due ≡ new_commits shown.files (listed_in noted) arrivals
+-- The commits that are due while these paths are left to read; they fit the index one after the other.
+pub record AreNewCommits (tree : Option Tree) (shown : Base) (noted : List Given) (left : List (List ℕ)) (due : List Commit) : Type 0 where
+  pub batches : List (List (List ℕ × Facts))
+  pub found : FindsBatches tree shown.files noted batches left
+  pub due_are : due ≡ commits_so_far shown.files (listed_in noted) batches left
   pub fit : FitInTurn shown due
 
--- What a `new` leaves: all commits due are made, and the report is that of the index before and after; or by its error nothing,
--- or the first of them.
+-- What a `new` leaves. All paths are read, all commits due are made, and the report is that of the index before and after; or by its
+-- error: the folder failed or passed a limit as it was listed, or it failed in a batch, and the commits of the batches before it stay;
+-- the commit at which the disk failed, or that would pass a limit, is of the last batch read or of what is gone; memory may be wanting
+-- anywhere.
 abbrev pub IsAfterNew : Option Tree → List Given → WriterState → ℕ → Result NewReport WriteError → WriterState → Type 0
 IsAfterNew tree noted old faults (Ok report) new =
-    ((due : List Commit) × AreNewCommits tree old.shown noted due × HasCommitted old due new) × (report ≡ report_of old.shown.files new.shown.files noted)
-IsAfterNew tree noted old faults (Err errors.MailFault) new = new ≡ old
-IsAfterNew tree noted old faults (Err errors.DiskFault) new = (due : List Commit) × AreNewCommits tree old.shown noted due × FailsWithin old due faults new
+    ((due : List Commit) × AreNewCommits tree old.shown noted [] due × HasCommitted old due new) × (report ≡ report_of old.shown.files new.shown.files noted)
+IsAfterNew tree noted old faults (Err errors.MailFault) new =
+    ((noted ≡ []) × (new ≡ old))
+    ⊎ ((path : List ℕ) × (left : List (List ℕ)) × (due : List Commit) × AreNewCommits tree old.shown noted (path ∷ left) due × HasCommitted old due new)
+IsAfterNew tree noted old faults (Err errors.DiskFault) new =
+    (left : List (List ℕ)) × (due : List Commit) × AreNewCommits tree old.shown noted left due × FailsWithin old due faults new
 IsAfterNew tree noted old faults (Err (errors.Closed fault)) new = (old.closed ≡ Some fault) × (noted ≡ []) × (new ≡ old)
-IsAfterNew tree noted old faults (Err (errors.Limit limit)) new = (due : List Commit) × AreNewCommits tree old.shown noted due × PassesWithin old due limit new
+IsAfterNew tree noted old faults (Err (errors.Limit limit)) new =
+    ((noted ≡ []) × PassesListing tree limit × (new ≡ old))
+    ⊎ ((left : List (List ℕ)) × (due : List Commit) × AreNewCommits tree old.shown noted left due × PassesWithin old due limit new)
 IsAfterNew tree noted old faults (Err errors.NoMemory) new =
-    (new ≡ old) ⊎ ((due : List Commit) × AreNewCommits tree old.shown noted due × StopsWithin old due new)
+    (new ≡ old) ⊎ ((left : List (List ℕ)) × (due : List Commit) × AreNewCommits tree old.shown noted left due × StopsWithin old due new)

@@ -1,33 +1,43 @@
-//! The command `new`: it scans the mail folder, takes in what has come and lets go what is gone.
+//! The command `new`: it lists the mail folder, takes in what has come, batch by batch, and lets go what is gone.
 
-ghost use Rattle.std.specs.Prelude.{◌≡◌, ◌++◌, [], Err, IfOk, IfSome, None, length, map};
+ghost use Rattle.std.specs.Prelude.{◌≡◌, ◌<◌, List, [], Err, IfOk, IfSome, None, length, map};
+ghost use Rattle.std.specs.Vec.Iter.{into_iter_items, into_iter_len};
+ghost use Rattle.nm_commit.specs.declared.change.Commit.{Commit};
 ghost use Rattle.nm_disk.specs.Observed.{ObservedDisk};
 ghost use Rattle.nm_faults.specs.Faults.{HasCauseOf};
 ghost use Rattle.nm_index.specs.Fits.{FitInTurn};
+ghost use Rattle.nm_index.specs.Index.{folded};
 ghost use Rattle.nm_index.specs.declared.base.Base.{Base};
 ghost use Rattle.nm_plan.specs.Plan.{add_of, commit_of, drop_of};
 ghost use Rattle.nm_scan.specs.Scanning.{AsksNew};
+ghost use Rattle.nm_writer.specs.Batch.{AreUnknown, BatchFits, IsAfterBatch, IsAfterBatches};
 ghost use Rattle.nm_writer.specs.Durable.{IsDurable};
-ghost use Rattle.nm_writer.specs.New.{IsAfterNew};
+ghost use Rattle.nm_writer.specs.New.{HasListed, IsAfterNew};
 ghost use Rattle.nm_writer.specs.Report.{report_with};
 ghost use Rattle.nm_writer.specs.Writer.{StandsOnIndex};
 ghost use Rattle.nm_writer.specs.Writing.{IsAfterCommits, is_read_fault, is_write_fault};
 
 use crate::reporting::report;
-use crate::scanning::scan;
+use crate::scanning::{Compared, compare};
 use crate::{WriteError, Writer};
 use nm_answer::NewReport;
-use nm_base::{Copies, Facts, MailPath, Many, NoMemory};
+use nm_base::{Copies, MailPath, Many, NoMemory};
 use nm_commit::{Change, Commit};
 use nm_disk::Disk;
 use nm_maildir::{Given, MailError, Maildir};
 use nm_plan::new_commits_fit;
+use nm_scan::{
+    Mail, ScanError, a_batch_more_is_read, a_batch_that_stops_is_unfinished, batches_are_finished,
+    batches_are_what_was_read, no_batch_is_read_at_first, read_batch,
+};
 use nm_shared::Shared;
+use nm_state::Snapshot;
 use std::alloc::Global;
+use std::vec::IntoIter;
 
 impl Writer {
-    /// Reads what has come to the mail folder, and makes a commit of it and one of what is gone, each where there is something.
-    /// What the folder answered is noted. A closed writer asks nothing.
+    /// Reads what has come to the mail folder, batch by batch, and makes a commit of each batch that has mail; then one of what is
+    /// gone, where there is something. What the folder answered is noted. A closed writer asks nothing.
     pub fn new_mail<M: Maildir, D: Disk>(
         &mut self,
         mail: &mut M,
@@ -38,6 +48,7 @@ impl Writer {
         requires stands { self.old.closed ≡ None → IfSome (D.observed disk.old).told (λ moments. StandsOnIndex moments.present self.old) }
 
         // All commits that are due are made, or by the error the first of them; the report is that of the index before and after.
+        // Whatever the error, the commits of the batches before it stay.
         ensures after { IsAfterNew (M.observed mail.old).tree noted.new self.old (D.observed disk.new).faults result self.new }
 
         // A writer that is closed says so, and no device is asked.
@@ -59,7 +70,7 @@ impl Writer {
         }
     }
 
-    /// Scans the folder and takes in what it found.
+    /// Lists the folder, and takes in what it found.
     fn scan_and_take_in<M: Maildir, D: Disk>(
         &mut self,
         mail: &mut M,
@@ -78,66 +89,155 @@ impl Writer {
         ensures durable { (entry : ObservedDisk) (opening : Base) → IsDurable entry opening (D.observed disk.old) self.old
             → IsDurable entry opening (D.observed disk.new) self.new }
     {
+        match compare(self.alloc, &self.shown, mail, noted) {
+            Ok(compared) => self.take_in(mail, disk, compared, noted),
+            Err(ScanError::MailFault) => Err(WriteError::MailFault),
+            Err(ScanError::Limit(limit)) => Err(WriteError::Limit(limit)),
+            Err(ScanError::NoMemory) => Err(WriteError::NoMemory),
+        }
+    }
+
+    /// Takes in what has come, lets go what is gone, and reports both.
+    fn take_in<M: Maildir, D: Disk>(
+        &mut self,
+        mail: &mut M,
+        disk: &mut D,
+        compared: Compared,
+        noted: &mut Many<Given>,
+    ) -> Result<NewReport, WriteError>
+        requires alive { self.old.closed ≡ None }
+        requires listed { HasListed (M.observed mail.old).tree self.old.shown.files noted.old compared }
+        requires stands { IfSome (D.observed disk.old).told (λ moments. StandsOnIndex moments.present self.old) }
+        ensures after { IsAfterNew (M.observed mail.old).tree noted.new self.old (D.observed disk.new).faults result self.new }
+        ensures asks { AsksNew (M.observed mail.old) (M.observed mail.new) self.old.shown.files noted.new }
+        ensures tree { (M.observed mail.new).tree ≡ (M.observed mail.old).tree }
+        ensures mail_cause { HasCauseOf is_read_fault (M.observed mail.old).faults (M.observed mail.new).faults result }
+        ensures disk_cause { HasCauseOf is_write_fault (D.observed disk.old).faults (D.observed disk.new).faults result }
+        ensures stands { self.new.closed ≡ None → IfSome (D.observed disk.new).told (λ moments. StandsOnIndex moments.present self.new) }
+        ensures durable { (entry : ObservedDisk) (opening : Base) → IsDurable entry opening (D.observed disk.old) self.old
+            → IsDurable entry opening (D.observed disk.new) self.new }
+    {
         new_commits_fit();
-        match scan(self.alloc, &self.shown, mail, noted) {
-            Ok(scanned) => self.take_in(disk, scanned.arrivals, scanned.gone, noted.as_slice()),
+        batches_are_what_was_read();
+        let before = self.shown.copy()?;
+        let Compared { unknown, gone } = compared;
+        let removed = gone.len() as u64;
+        let went = drops(self.alloc, gone)?;
+        match self.take_in_batches(mail, disk, unknown, noted) {
+            Ok(()) => self.let_go(disk, &before, went, removed, noted.as_slice()),
+            Err(error) => Err(error),
+        }
+    }
+
+    /// Reads the paths batch by batch. A commit is made of the mails of a batch before the next one is read.
+    fn take_in_batches<M: Maildir, D: Disk>(
+        &mut self,
+        mail: &mut M,
+        disk: &mut D,
+        unknown: Many<MailPath>,
+        noted: &mut Many<Given>,
+    ) -> Result<(), WriteError>
+        requires alive { self.old.closed ≡ None }
+        requires unknown { AreUnknown self.old.shown.files unknown }
+        requires stands { IfSome (D.observed disk.old).told (λ moments. StandsOnIndex moments.present self.old) }
+        ensures after { IsAfterBatches (record { mail = M.observed mail.old; noted = noted.old }) (record { mail = M.observed mail.new; noted = noted.new })
+            unknown self.old (D.observed disk.new).faults result self.new }
+        ensures mail_cause { HasCauseOf is_read_fault (M.observed mail.old).faults (M.observed mail.new).faults result }
+        ensures disk_cause { HasCauseOf is_write_fault (D.observed disk.old).faults (D.observed disk.new).faults result }
+        ensures stands { self.new.closed ≡ None → IfSome (D.observed disk.new).told (λ moments. StandsOnIndex moments.present self.new) }
+        ensures durable { (entry : ObservedDisk) (opening : Base) → IsDurable entry opening (D.observed disk.old) self.old
+            → IsDurable entry opening (D.observed disk.new) self.new }
+    {
+        new_commits_fit();
+        no_batch_is_read_at_first();
+        a_batch_more_is_read();
+        batches_are_finished();
+        a_batch_that_stops_is_unfinished();
+        let mut paths = unknown.into_vec().into_iter();
+        'batches: while paths.len() > 0 {
+            match self.take_in_batch(mail, disk, &mut paths, noted) {
+                Ok(()) => {}
+                Err(error) => return Err(error),
+            }
+        }
+        Ok(())
+    }
+
+    /// Reads the next batch of the paths, and makes a commit of its mails, where it found some.
+    fn take_in_batch<M: Maildir, D: Disk>(
+        &mut self,
+        mail: &mut M,
+        disk: &mut D,
+        paths: &mut IntoIter<MailPath, Global>,
+        noted: &mut Many<Given>,
+    ) -> Result<(), WriteError>
+        requires alive { self.old.closed ≡ None }
+        requires whole { into_iter_len paths.old ≡ length (into_iter_items paths.old) }
+        requires some { 0 < length (into_iter_items paths.old) }
+        requires fit { BatchFits self.old.shown (record { mail = M.observed mail.old; noted = noted.old }) (into_iter_items paths.old) }
+        requires stands { IfSome (D.observed disk.old).told (λ moments. StandsOnIndex moments.present self.old) }
+        ensures after { IsAfterBatch (record { mail = M.observed mail.old; noted = noted.old }) (record { mail = M.observed mail.new; noted = noted.new })
+            (into_iter_items paths.old) (into_iter_items paths.new) self.old (D.observed disk.new).faults result self.new }
+        ensures whole { into_iter_len paths.new ≡ length (into_iter_items paths.new) }
+        ensures mail_cause { HasCauseOf is_read_fault (M.observed mail.old).faults (M.observed mail.new).faults result }
+        ensures disk_cause { HasCauseOf is_write_fault (D.observed disk.old).faults (D.observed disk.new).faults result }
+        ensures stands { self.new.closed ≡ None → IfSome (D.observed disk.new).told (λ moments. StandsOnIndex moments.present self.new) }
+        ensures durable { (entry : ObservedDisk) (opening : Base) → IsDurable entry opening (D.observed disk.old) self.old
+            → IsDurable entry opening (D.observed disk.new) self.new }
+    {
+        match read_batch(self.alloc, mail, paths, noted) {
+            Ok(arrivals) => self.commit_arrivals(disk, arrivals),
             Err(MailError::Failed) => Err(WriteError::MailFault),
             Err(MailError::NoMemory) => Err(WriteError::NoMemory),
         }
     }
 
-    /// Makes a commit of what has come and one of what is gone, each where there is something, and reports them with what was
-    /// noted of the mail folder.
+    /// Makes a commit of the mails, where there are some.
     #[tactic(auto, using(crate::proofs::DoneLemmas::stops))]
-    pub fn take_in<D: Disk>(
+    fn commit_arrivals<D: Disk>(
         &mut self,
         disk: &mut D,
-        arrivals: Many<(MailPath, Facts)>,
-        gone: Many<MailPath>,
+        arrivals: Many<Mail>,
+    ) -> Result<(), WriteError>
+        requires alive { self.old.closed ≡ None }
+        requires fit { FitInTurn self.old.shown (commit_of (map add_of arrivals)) }
+        requires stands { IfSome (D.observed disk.old).told (λ moments. StandsOnIndex moments.present self.old) }
+        ensures after { IsAfterCommits self.old (commit_of (map add_of arrivals)) (D.observed disk.new).faults result self.new }
+        ensures cause { HasCauseOf is_write_fault (D.observed disk.old).faults (D.observed disk.new).faults result }
+        ensures stands { self.new.closed ≡ None → IfSome (D.observed disk.new).told (λ moments. StandsOnIndex moments.present self.new) }
+        ensures durable { (entry : ObservedDisk) (opening : Base) → IsDurable entry opening (D.observed disk.old) self.old
+            → IsDurable entry opening (D.observed disk.new) self.new }
+    {
+        let came = adds(self.alloc, arrivals)?;
+        self.commit_some(disk, came)
+    }
+
+    /// Makes a commit of what is gone, where there is something, and reports what the `new` did.
+    #[tactic(auto, using(crate::proofs::DoneLemmas::stops))]
+    fn let_go<D: Disk>(
+        &mut self,
+        disk: &mut D,
+        before: &Snapshot,
+        went: Many<Change>,
+        removed: u64,
         noted: &[Given],
     ) -> Result<NewReport, WriteError>
         requires alive { self.old.closed ≡ None }
-        requires fit { FitInTurn self.old.shown (commit_of (map add_of arrivals) ++ commit_of (map drop_of gone)) }
+        requires before { (commits : List Commit) × (self.old.shown ≡ folded before.now commits) }
+        requires fit { FitInTurn self.old.shown (commit_of went) }
         requires stands { IfSome (D.observed disk.old).told (λ moments. StandsOnIndex moments.present self.old) }
-        ensures after { IsAfterCommits self.old (commit_of (map add_of arrivals) ++ commit_of (map drop_of gone)) (D.observed disk.new).faults result self.new }
-        ensures report { IfOk result (λ report. report ≡ report_with (length arrivals) (length gone) self.old.shown.files self.new.shown.files noted.now) }
+        ensures after { IsAfterCommits self.old (commit_of went) (D.observed disk.new).faults result self.new }
+        ensures report { IfOk result (λ report. report ≡ report_with removed before.now.files self.new.shown.files noted.now) }
         ensures cause { HasCauseOf is_write_fault (D.observed disk.old).faults (D.observed disk.new).faults result }
         ensures stands { self.new.closed ≡ None → IfSome (D.observed disk.new).told (λ moments. StandsOnIndex moments.present self.new) }
         ensures durable { (entry : ObservedDisk) (opening : Base) → IsDurable entry opening (D.observed disk.old) self.old
             → IsDurable entry opening (D.observed disk.new) self.new }
     {
-        let before = self.shown.copy()?;
-        let added = arrivals.len() as u64;
-        let removed = gone.len() as u64;
-        let came = adds(self.alloc, arrivals)?;
-        let went = drops(self.alloc, gone)?;
-        match self.commit_both(disk, came, went) {
+        match self.commit_some(disk, went) {
             Ok(()) => {
-                let report = report(self.alloc, &before, &self.shown, added, removed, noted)?;
+                let report = report(self.alloc, before, &self.shown, removed, noted)?;
                 Ok(report)
             }
-            Err(error) => Err(error),
-        }
-    }
-
-    /// Makes a commit of the first changes and then one of the second, each where there are some.
-    fn commit_both<D: Disk>(
-        &mut self,
-        disk: &mut D,
-        first: Many<Change>,
-        second: Many<Change>,
-    ) -> Result<(), WriteError>
-        requires alive { self.old.closed ≡ None }
-        requires fit { FitInTurn self.old.shown (commit_of first ++ commit_of second) }
-        requires stands { IfSome (D.observed disk.old).told (λ moments. StandsOnIndex moments.present self.old) }
-        ensures after { IsAfterCommits self.old (commit_of first ++ commit_of second) (D.observed disk.new).faults result self.new }
-        ensures cause { HasCauseOf is_write_fault (D.observed disk.old).faults (D.observed disk.new).faults result }
-        ensures stands { self.new.closed ≡ None → IfSome (D.observed disk.new).told (λ moments. StandsOnIndex moments.present self.new) }
-        ensures durable { (entry : ObservedDisk) (opening : Base) → IsDurable entry opening (D.observed disk.old) self.old
-            → IsDurable entry opening (D.observed disk.new) self.new }
-    {
-        match self.commit_some(disk, first) {
-            Ok(()) => self.commit_some(disk, second),
             Err(error) => Err(error),
         }
     }
@@ -164,7 +264,7 @@ impl Writer {
     }
 }
 
-fn adds(alloc: Global, arrivals: Many<(MailPath, Facts)>) -> Result<Many<Change>, NoMemory>
+fn adds(alloc: Global, arrivals: Many<Mail>) -> Result<Many<Change>, NoMemory>
     ensures { IfOk result (λ changes. changes ≡ map add_of arrivals) }
 {
     let mut changes = Many::new(alloc);

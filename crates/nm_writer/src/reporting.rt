@@ -1,12 +1,14 @@
 //! What a `new` reports, from the snapshots before and after it and from what was noted.
 
-ghost use Rattle.std.specs.Prelude.{◌≡◌, ◌++◌, IfOk, OnOk, fold, length};
+ghost use Rattle.std.specs.Prelude.{◌≡◌, ◌++◌, List, IfOk, OnOk, fold, length, if◌then◌else◌};
 ghost use Rattle.std.specs.BTreeSet.{insert_key};
 ghost use Rattle.std.specs.Cmp.Lexicographic.{slice_cmp};
 ghost use Rattle.std.specs.List.{flat_map};
 ghost use Rattle.std.specs.Ordering.{nat_cmp};
-ghost use Rattle.nm_answer.specs.NewText.{only_in, skip_at, skip_given};
+ghost use Rattle.nm_answer.specs.NewText.{mail_given, only_in, skip_at, skip_given};
 ghost use Rattle.nm_commit.specs.Files.{has_id};
+ghost use Rattle.nm_commit.specs.declared.change.Commit.{Commit};
+ghost use Rattle.nm_index.specs.Index.{folded};
 ghost use Rattle.nm_writer.specs.Report.{lacking, report_with};
 
 use nm_answer::NewReport;
@@ -15,19 +17,19 @@ use nm_maildir::{Given, ReadAnswer};
 use nm_state::Snapshot;
 use std::alloc::Global;
 
-/// The report of a `new` that added and removed so many files.
+/// The report of a `new` that removed so many files.
 pub(crate) fn report(
     alloc: Global,
     before: &Snapshot,
     after: &Snapshot,
-    added: u64,
     removed: u64,
     noted: &[Given],
 ) -> Result<NewReport, NoMemory>
-    ensures { IfOk result (λ report. report ≡ report_with added removed before.now.files after.now.files noted.now) }
+    requires { (commits : List Commit) × (after.now ≡ folded before.now commits) }
+    ensures { IfOk result (λ report. report ≡ report_with removed before.now.files after.now.files noted.now) }
 {
-    let born = ids_only_in(alloc, before, after)?;
-    let died = ids_only_in(alloc, after, before)?;
+    let added = count_mails(noted);
+    let (born, died) = messages_changed(alloc, before, after)?;
     let skipped = skips(alloc, noted)?;
     Ok(NewReport {
         added,
@@ -36,6 +38,46 @@ pub(crate) fn report(
         died,
         skipped,
     })
+}
+
+/// How many files were read and found to be mail.
+fn count_mails(noted: &[Given]) -> u64
+    ensures { result ≡ length (flat_map mail_given noted.now) }
+{
+    let mut count: usize = 0;
+    'noted: for given in noted {
+        if is_mail(given) {
+            count += 1;
+        }
+    }
+    count as u64
+}
+
+fn is_mail(given: &Given) -> bool
+    ensures { (if result then 1 else 0) ≡ length (mail_given given.now) }
+{
+    match given {
+        Given::Read { path: _, answer } => matches!(answer, ReadAnswer::Mail),
+        Given::Listed(_) | Given::Renamed { .. } => false,
+    }
+}
+
+/// How many messages each snapshot lacks of the other, of the first one first. Where no commit lies between them none is looked at.
+fn messages_changed(
+    alloc: Global,
+    before: &Snapshot,
+    after: &Snapshot,
+) -> Result<(u64, u64), NoMemory>
+    requires { (commits : List Commit) × (after.now ≡ folded before.now commits) }
+    ensures born { IfOk result (λ counts. counts.0 ≡ length (only_in before.now.files after.now.files)) }
+    ensures died { IfOk result (λ counts. counts.1 ≡ length (only_in after.now.files before.now.files)) }
+{
+    if before.revision() == after.revision() {
+        return Ok((0, 0));
+    }
+    let born = ids_only_in(alloc, before, after)?;
+    let died = ids_only_in(alloc, after, before)?;
+    Ok((born, died))
 }
 
 /// How many messages of the second snapshot the first one lacks; no other ids are copied.

@@ -1,45 +1,52 @@
 //! What a mail folder has that an index lacks, and what an index has that is not listed any more; `new` begins with it.
 
-ghost use Rattle.std.specs.Prelude.{◌≡◌, ◌∷◌, ◌++◌, [], IfOk, OnErr, OnOk};
+ghost use Rattle.std.specs.Prelude.{◌≡◌, ◌∷◌, ◌++◌, [], Err, IfErr, IfOk, OnErr, OnOk};
 ghost use Rattle.nm_answer.specs.NewText.{gone};
-ghost use Rattle.nm_maildir.specs.Observed.{HasMailCause};
 ghost use Rattle.nm_plan.specs.Plan.{to_read};
-ghost use Rattle.nm_scan.specs.Listing.{IsRising};
+ghost use Rattle.nm_scan.specs.Listing.{IsRising, PassesListing};
+ghost use Rattle.nm_scan.specs.Walking.{is_scan_fault};
+ghost use Rattle.nm_base.specs.declared.limit.Limit.{Limit};
+ghost use Rattle.nm_faults.specs.Faults.{HasCauseOf};
 ghost use Rattle.nm_scan.specs.Scanning.{AsksNew};
-ghost use Rattle.nm_writer.specs.New.{Scans};
+ghost use Rattle.nm_writer.specs.New.{HasListed};
 
-use nm_base::{Copies, Facts, MailPath, Many, NoMemory, TextSet};
-use nm_maildir::{Given, MailError, Maildir};
-use nm_scan::{list_paths, read_all};
+use nm_base::{Copies, MailPath, Many, NoMemory, TextSet};
+use nm_maildir::{Given, Maildir};
+use nm_scan::{ScanError, list_paths};
 use nm_state::Snapshot;
 use std::alloc::Global;
 
-/// What a scan found: the mails that have come, and the paths of those that are gone.
+/// What a listing tells of an index: the listed paths that it lacks, and those of its own that are gone.
 #[derive(Drop)]
-pub(crate) struct Scanned {
-    pub arrivals: Many<(MailPath, Facts)>,
+pub(crate) struct Compared {
+    pub unknown: Many<MailPath>,
     pub gone: Many<MailPath>,
 }
 
-/// Lists the mail, and reads what the index lacks.
-pub(crate) fn scan<M: Maildir>(
+/// Lists the mail, notes the listing, and compares it with the index.
+pub(crate) fn compare<M: Maildir>(
     alloc: Global,
     shown: &Snapshot,
     mail: &mut M,
     noted: &mut Many<Given>,
-) -> Result<Scanned, MailError>
+) -> Result<Compared, ScanError>
     requires { noted.old ≡ [] }
-    ensures ok { IfOk result (Scans (M.observed mail.old) (M.observed mail.new) shown.now.files noted.new) }
+    ensures ok { IfOk result (HasListed (M.observed mail.old).tree shown.now.files noted.new) }
+    ensures mail { IfOk result (λ _. M.observed mail.new ≡ M.observed mail.old) }
+    ensures unlisted { IfErr result (λ error. error ≡ ScanError.MailFault → noted.new ≡ []) }
+    ensures limit { (limit : Limit) → result ≡ Err (ScanError.Limit limit) → (noted.new ≡ []) × PassesListing (M.observed mail.old).tree limit }
     ensures asked { AsksNew (M.observed mail.old) (M.observed mail.new) shown.now.files noted.new }
     ensures tree { (M.observed mail.new).tree ≡ (M.observed mail.old).tree }
-    ensures cause { HasMailCause (M.observed mail.old).faults (M.observed mail.new).faults result }
+    ensures cause { HasCauseOf is_scan_fault (M.observed mail.old).faults (M.observed mail.new).faults result }
 {
-    let listed = list_paths(alloc, mail)?;
+    let listed = match list_paths(alloc, mail) {
+        Ok(listed) => listed,
+        Err(error) => return Err(error),
+    };
     note_listed(alloc, &listed, noted)?;
     let unknown = unknown_paths(alloc, shown, &listed)?;
     let gone = gone_paths(alloc, shown, &listed)?;
-    let arrivals = read_all(alloc, mail, unknown, noted)?;
-    Ok(Scanned { arrivals, gone })
+    Ok(Compared { unknown, gone })
 }
 
 fn note_listed(

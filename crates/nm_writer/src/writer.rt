@@ -1,7 +1,7 @@
 //! The writer of an index on a disk.
 
-ghost use Rattle.std.specs.Prelude.{◌≡◌, ◌≤◌, [], false, IfErr, IfOk, IfSome, None};
-ghost use Rattle.nm_base.specs.Limits.{max_count};
+ghost use Rattle.std.specs.Prelude.{◌≡◌, ◌≤◌, [], false, length, IfErr, IfOk, IfSome, None};
+ghost use Rattle.nm_base.specs.Limits.{max_commits, max_count};
 ghost use Rattle.nm_disk.specs.Calls.{GoesOn};
 ghost use Rattle.nm_disk.specs.Images.{MayLeave};
 ghost use Rattle.nm_disk.specs.Observed.{bytes_now};
@@ -36,14 +36,15 @@ pub struct Writer {
 }
 
 impl Model for Writer {
-    ghost use Rattle.std.specs.Prelude.{◌≡◌, None, false};
+    ghost use Rattle.std.specs.Prelude.{◌≡◌, ◌≤◌, None, false, length};
+    ghost use Rattle.nm_base.specs.Limits.{max_commits};
     ghost use Rattle.nm_writer.specs.Writer.{WriterState};
 
     ghost Value = { WriterState };
 
     ghost view = { λ w. record { journal = w.journal; shown = w.shown; begun = w.begun.0; acked = w.acked.0; closed = w.closed } };
 
-    ghost invariant = { λ w. w.closed ≡ None → w.journal.failed ≡ false };
+    ghost invariant = { λ w. (w.closed ≡ None → w.journal.failed ≡ false) × (length w.begun.0 ≤ max_commits) };
 }
 
 impl Drop for Writer {
@@ -138,7 +139,10 @@ impl Writer {
 
     /// For each commit that was acknowledged since the opening, in order, the clock of the disk at that moment.
     pub fn acked(&self) -> &[u64]
-        ensures { result.now ≡ self.now.acked }
+        ensures acked { result.now ≡ self.now.acked }
+
+        // No more commits are begun than a session may make.
+        ensures few { length self.now.begun ≤ max_commits }
     {
         self.acked.as_slice()
     }

@@ -1,0 +1,41 @@
+-- A report where no commit lies between the index before and the one after.
+use Rattle.std.proofs.Common.{◌≡◌, ℕ, ◌+◌, true, not, cond, List, [], ◌∷◌, filter, length, refl, sym, ap, ◌∙◌, arith}
+use Rattle.std.specs.List.{AllByRecursion}
+use Rattle.nm_base.specs.Order.{has_text}
+use Rattle.nm_base.specs.declared.facts.Facts.{Facts}
+use Rattle.nm_answer.specs.NewText.{ids_of, only_in}
+use Rattle.nm_commit.specs.declared.change.Commit.{Commit}
+use Rattle.nm_index.specs.Index.{committed, folded}
+use Rattle.nm_index.specs.declared.base.Base.{Base}
+use Rattle.nm_writer.proofs.ArrivalLemmas.{every-in}
+
+none_kept : (texts others : List (List ℕ)) → AllByRecursion (λ text. has_text others text ≡ true) texts → filter (λ text. not (has_text others text)) texts ≡ []
+none_kept [] others all = refl
+none_kept (text ∷ texts) others all =
+    ap (λ b. cond (not b) (text ∷ filter (λ other. not (has_text others other)) texts) (filter (λ other. not (has_text others other)) texts)) all.0 ∙ none_kept texts others all.1
+
+-- no message is in one alone of two that are the same
+none_only : (files : List (List ℕ × Facts)) → only_in files files ≡ []
+none_only files = none_kept (ids_of files) (ids_of files) (every-in (ids_of files))
+
+revision-more : (index : Base) (commits : List Commit) → (folded index commits).revision ≡ index.revision + length commits
+revision-more index [] = omega arith
+revision-more index (commit ∷ commits) = revision-more (committed index commit) commits ∙ omega arith
+
+no_commits : (commits : List Commit) → length commits ≡ 0 → commits ≡ []
+no_commits [] none = refl
+no_commits (commit ∷ commits) none = absurd (omega (arith, none))
+
+-- at one revision they are the same
+pub same_index : (before after : Base) (commits : List Commit) → after ≡ folded before commits → before.revision ≡ after.revision → after ≡ before
+same_index before after commits is same =
+    let none : commits ≡ [] = no_commits commits (omega (arith, same, ap (λ (b : Base). b.revision) is ∙ revision-more before commits)) in
+    is ∙ ap (folded before) none
+
+pub none_born : (before after : Base) (commits : List Commit) → after ≡ folded before commits → before.revision ≡ after.revision → 0 ≡ length (only_in before.files after.files)
+none_born before after commits is same =
+    ap length (sym (none_only before.files)) ∙ ap (λ (b : Base). length (only_in before.files b.files)) (sym (same_index before after commits is same))
+
+pub none_died : (before after : Base) (commits : List Commit) → after ≡ folded before commits → before.revision ≡ after.revision → 0 ≡ length (only_in after.files before.files)
+none_died before after commits is same =
+    ap length (sym (none_only before.files)) ∙ ap (λ (b : Base). length (only_in b.files before.files)) (sym (same_index before after commits is same))

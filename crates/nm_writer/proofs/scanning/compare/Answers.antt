@@ -1,0 +1,35 @@
+use Rattle.std.proofs.Common.{◌∙◌, inl}
+use Rattle.nm_writer.proofs.ScanLemmas.{asked_listing, has_listed, same_mail}
+use Rattle.nm_writer.proofs.scanning.compare.Goals as goal
+
+pub returns-in-Err-clause-asked : goal.returns-in-Err-clause-asked
+returns-in-Err-clause-asked g c = inl (c.requires, c.list_paths.ensures.reads)
+
+pub returns-in_err-note_listed-clause-asked : goal.returns-in_err-note_listed-clause-asked
+returns-in_err-note_listed-clause-asked g c = inl (c.in_err-note_listed.ensures.err ∙ c.requires, c.list_paths.ensures.reads)
+
+pub returns-in_err-unknown-clause-asked : goal.returns-in_err-unknown-clause-asked
+returns-in_err-unknown-clause-asked g c =
+    let mail = g.M.Maildir in
+    asked_listing _ (mail.observed c.list_paths.new.mail) c.args.shown.now.files c.args.noted.now c.note_listed.new.noted c.in-Ok.listed
+    c.list_paths.ensures.tree c.list_paths.ensures.reads c.requires c.in_ok-note_listed.ensures.ok c.in_ok-note_listed.ensures.rising c.in-Ok.ensures.listed
+
+pub returns-in_err-gone-clause-asked : goal.returns-in_err-gone-clause-asked
+returns-in_err-gone-clause-asked g c =
+    let mail = g.M.Maildir in
+    asked_listing _ (mail.observed c.list_paths.new.mail) c.args.shown.now.files c.args.noted.now c.note_listed.new.noted c.in-Ok.listed
+    c.list_paths.ensures.tree c.list_paths.ensures.reads c.requires c.in_ok-note_listed.ensures.ok c.in_ok-note_listed.ensures.rising c.in-Ok.ensures.listed
+
+pub returns-clause-ok : goal.returns-clause-ok
+returns-clause-ok g c =
+    has_listed (g.M.Maildir.observed c.args.mail.now).tree c.args.shown.now.files c.args.noted.now c.note_listed.new.noted c.in-Ok.listed _ _
+    c.requires c.in_ok-note_listed.ensures.ok c.in_ok-note_listed.ensures.rising c.in-Ok.ensures.listed c.in_ok-unknown.ensures c.in_ok-gone.ensures
+
+pub returns-clause-mail : goal.returns-clause-mail
+returns-clause-mail g c = same_mail _ _ c.list_paths.ensures.tree c.list_paths.ensures.reads c.in-Ok.ensures.cause
+
+pub returns-clause-asked : goal.returns-clause-asked
+returns-clause-asked g c =
+    let mail = g.M.Maildir in
+    asked_listing _ (mail.observed c.list_paths.new.mail) c.args.shown.now.files c.args.noted.now c.note_listed.new.noted c.in-Ok.listed
+    c.list_paths.ensures.tree c.list_paths.ensures.reads c.requires c.in_ok-note_listed.ensures.ok c.in_ok-note_listed.ensures.rising c.in-Ok.ensures.listed
