@@ -31,9 +31,9 @@ use Rattle.nm_history.specs.Refusals.{IsInputPassed}
 use Rattle.nm_history.specs.Status.{Status, any_wants_memory, fault_of, fault_or, first_fault, session_status, status_of_fault, write_fault}
 
 -- each line has its log
-logs-length : (script : List ScriptLine) (logs : List LineLog) → AreLogsOf script logs true → length logs ≡ length script
+logs-length : (script : List ScriptLine) (logs : List LineLog) → AreLogsOf script logs → length logs ≡ length script
 logs-length [] [] h = refl
-logs-length (line ∷ script) [] h = absurd (cc)
+logs-length (line ∷ script) [] h = absurd h
 logs-length [] (log ∷ logs) h = absurd h
 logs-length (line ∷ script) (log ∷ logs) h = ap suc (logs-length script logs h.1)
 
@@ -53,6 +53,8 @@ quiet-line : (outcome : Outcome) (line : ParsedLine) (before : Before) (mail dis
     → mail ≤ before.mail_faults → before.mail_faults < max_count → disk ≤ before.disk_faults → before.disk_faults < max_count → fault_of outcome ≡ None
 quiet-line outcomes.Ok line before mail disk h m room d space = refl
 quiet-line (outcomes.Usage word kind) line before mail disk h m room d space = refl
+quiet-line (outcomes.BadQuery at kind) line before mail disk h m room d space = refl
+quiet-line (outcomes.BadDate at) line before mail disk h m room d space = refl
 quiet-line outcomes.MailFault line before mail disk h m room d space = let rose = h.2.1 room in absurd (omega arith)
 quiet-line outcomes.DiskFault line before mail disk h m room d space = let rose = h.2.1 space in absurd (omega arith)
 quiet-line (outcomes.Closed fault) line before mail disk h m room d space = refl
@@ -121,50 +123,48 @@ left-status : (wanted : Bool) → (status_of_fault None wanted ≡ 0) ⊎ (statu
 left-status true = inr refl
 left-status false = inl refl
 
-left-whole : (whole : Bool) (logs : List LineLog) (out_failed : Bool) → (whole ≡ true → first_fault logs ≡ None) → out_failed ≡ false
-    → ((whole ≡ true) × (session_status whole logs out_failed ≡ 0)) ⊎ (session_status whole logs out_failed ≡ 7)
-left-whole false logs out_failed none quiet = inr refl
-left-whole true logs out_failed none quiet =
-    let is : session_status true logs out_failed ≡ status_of_fault None (any_wants_memory logs) =
-    ap (λ (f : Option ℕ). status_of_fault (fault_or f (write_fault out_failed)) (any_wants_memory logs)) (none refl)
+quiet-status : (logs : List LineLog) (out_failed : Bool) → first_fault logs ≡ None → out_failed ≡ false → (session_status logs out_failed ≡ 0) ⊎ (session_status logs out_failed ≡ 7)
+quiet-status logs out_failed none quiet =
+    let is : session_status logs out_failed ≡ status_of_fault None (any_wants_memory logs) =
+    ap (λ (f : Option ℕ). status_of_fault (fault_or f (write_fault out_failed)) (any_wants_memory logs)) none
     ∙ ap (λ (b : Bool). status_of_fault (write_fault b) (any_wants_memory logs)) quiet in
     elim (left-status (any_wants_memory logs)) [
-      | inl zero ↦ inl (refl, is ∙ zero)
+      | inl zero ↦ inl (is ∙ zero)
       | inr seven ↦ inr (is ∙ seven)
     ]
 
 module _ (not_bad : (bytes : List ℕ) (index : Base) (at : ℕ) → HoldsIndex bytes index → HoldsNoIndex bytes at → ⊥) where
-  by-ending : (ending : Ending) (opening : Base) (read : List ℕ) (whole out_failed : Bool) (call : Call) (input : List ℕ)
+  by-ending : (ending : Ending) (opening : Base) (read : List ℕ) (out_failed : Bool) (call : Call) (input : List ℕ)
       → words_fault call.words ≡ None → NoFault call → IsWithin input call → Opens call
-      → PrintedOut ending read whole out_failed call → Status ending whole out_failed call
+      → PrintedOut ending read out_failed call → Status ending out_failed call
       → LineAnswers opening call.setting.moment (at_first opening call.entry) call.done.log.steps (lines_run read call.done)
       → IsGiven opening call.done.log.steps (at_first opening call.entry) (lines_run read call.done) ending call.entry call.after
       → IsFinished input call ⊎ (call.done.status ≡ 7)
-  by-ending (Refused (refusals.Usage word kind)) opening read whole out_failed call input right quiet within opens said status answers given =
+  by-ending (Refused (refusals.Usage word kind)) opening read out_failed call input right quiet within opens said status answers given =
       let wrong = said.0.0 in absurd (cc)
-  by-ending (Refused refusals.ReadFault) opening read whole out_failed call input right quiet within opens said status answers given =
+  by-ending (Refused refusals.ReadFault) opening read out_failed call input right quiet within opens said status answers given =
       let rose = said.0.1.1 quiet.input.room in let same = quiet.input.same in absurd (omega arith)
-  by-ending (Refused (refusals.Limit limit)) opening read whole out_failed call input right quiet within opens said status answers given =
+  by-ending (Refused (refusals.Limit limit)) opening read out_failed call input right quiet within opens said status answers given =
       absurd (within-limits limit read input call said.0.1 within)
-  by-ending (Refused refusals.DiskFault) opening read whole out_failed call input right quiet within opens said status answers given =
+  by-ending (Refused refusals.DiskFault) opening read out_failed call input right quiet within opens said status answers given =
       let rose = said.0.1.1 quiet.disk.room in let same = quiet.disk.same in absurd (omega arith)
-  by-ending (Refused (refusals.BadIndex file at)) opening read whole out_failed call input right quiet within opens said status answers given =
+  by-ending (Refused (refusals.BadIndex file at)) opening read out_failed call input right quiet within opens said status answers given =
       absurd (clash-told call.entry.disk.told _ _ opens.told opens.holds said.0.2 (λ moments holds bad. not_bad (bytes_now moments Head) opens.index at holds bad))
-  by-ending (Refused refusals.NoMemory) opening read whole out_failed call input right quiet within opens said status answers given = inr status
-  by-ending Ran opening read whole out_failed call input right quiet within opens said status answers given =
+  by-ending (Refused refusals.NoMemory) opening read out_failed call input right quiet within opens said status answers given = inr status
+  by-ending Ran opening read out_failed call input right quiet within opens said status answers given =
       let logs : List LineLog = call.done.log.lines in
       let same : read ≡ input = read-is call.entry.input.bytes call.after.input.bytes input read within.told said.0.read.bytes said.0.read.end in
       let no_out : out_failed ≡ false = quiet-out out_failed call.entry.out call.after.out _ quiet.out.same quiet.out.room said.1.out in
-      let each : whole ≡ true → length logs ≡ length (script_lines read) = λ all. logs-length (script_lines read) logs (subst (λ (b : Bool). AreLogsOf (script_lines read) logs b) all said.1.lines) in
-      let none : whole ≡ true → first_fault logs ≡ None = λ all.
-      subst (λ (l : List LineLog). first_fault l ≡ None) (seconds-zip (script_lines read) logs (each all))
+      let each : length logs ≡ length (script_lines read) = logs-length (script_lines read) logs said.1.lines in
+      let none : first_fault logs ≡ None =
+      subst (λ (l : List LineLog). first_fault l ≡ None) (seconds-zip (script_lines read) logs each)
       (quiet-lines opening call.setting.moment call.done.log.steps (at_first opening call.entry) (lines_run read call.done) call.entry.mail call.after.mail given.along answers refl
       (omega (arith, quiet.mail.same)) quiet.mail.room (omega (arith, quiet.disk.same, given.disk)) quiet.disk.room) in
-      elim (left-whole whole logs out_failed none no_out) [
-        | inl w ↦ inl (record { status = status ∙ w.1; each = each w.0 ∙ ap (λ (l : List ℕ). length (script_lines l)) same })
-        | inr w ↦ inr (status ∙ w)
+      elim (quiet-status logs out_failed none no_out) [
+        | inl zero ↦ inl (record { status = status ∙ zero; each = each ∙ ap (λ (l : List ℕ). length (script_lines l)) same })
+        | inr seven ↦ inr (status ∙ seven)
       ]
 
   pub complete : (call : Call) → History call → IsComplete call
   complete call h input right quiet within opens =
-      by-ending h.2.ending h.0 h.1 h.2.whole h.2.out_failed call input right quiet within opens h.2.printed_out h.2.status h.2.line_answers h.2.given
+      by-ending h.2.ending h.0 h.1 h.2.out_failed call input right quiet within opens h.2.printed_out h.2.status h.2.line_answers h.2.given

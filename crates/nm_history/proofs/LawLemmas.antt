@@ -1,5 +1,5 @@
 -- The laws of single lines and of the status.
-use Rattle.std.proofs.Common.{◌≡◌, ◌⊎◌, ℕ, Bool, true, List, [], ◌∷◌, ◌++◌, Option, None, Some, length, refl, sym, ap, ◌∙◌, arith, inl, inr}
+use Rattle.std.proofs.Common.{◌≡◌, ◌⊎◌, ℕ, Bool, true, List, [], ◌∷◌, ◌++◌, Option, None, Some, Result, Ok, Err, length, refl, sym, ap, ◌∙◌, arith, inl, inr}
 use Rattle.nm_answer.specs.declared.request.Request.TheVariants as requests
 use Rattle.nm_commit.specs.declared.change.Commit.{Commit}
 use Rattle.nm_index.specs.Index.{folded}
@@ -12,7 +12,11 @@ use Rattle.nm_log.specs.declared.outcome.Outcome.TheVariants as outcomes
 use Rattle.nm_machine.specs.declared.step.Step.{Step}
 use Rattle.nm_history.specs.LineAnswers.{HasCause}
 use Rattle.nm_history.specs.Lines.{Before, IsIndexAt}
-use Rattle.nm_history.specs.Requests.{asks_to_write, refused_unasked}
+use Rattle.nm_history.specs.Requests.{asks_to_write, first_refusal, refused_text, refused_unasked}
+use Rattle.nm_query.specs.Answers.{answer_of}
+use Rattle.nm_query.specs.declared.query.Query.{Query}
+use Rattle.nm_query.specs.declared.query_error.QueryError.{QueryError}
+use Rattle.nm_query.specs.declared.query_error.QueryError.TheVariants as query_errors
 use Rattle.nm_history.specs.Status.{any_wants_memory, fault_of, fault_or, first_fault, session_status, status_of_fault, write_fault}
 
 -- beginnings of one list with one length are one
@@ -48,15 +52,30 @@ pub closed-behind : (outcome : Outcome) (line : ParsedLine) (before : Before) (m
 closed-behind outcomes.Ok line before mail disk fault e writes h = absurd (clash _ _ h.0 (refused-is line before.closed fault e writes))
 closed-behind (outcomes.Usage word kind) line before mail disk fault e writes h =
     let other : Some (outcomes.Usage word kind) ≡ Some (outcomes.Closed fault) = sym h.0 ∙ refused-is line before.closed fault e writes in absurd (cc)
+closed-behind (outcomes.BadQuery at kind) line before mail disk fault e writes h =
+    let other : Some (outcomes.BadQuery at kind) ≡ Some (outcomes.Closed fault) = sym h.0 ∙ refused-is line before.closed fault e writes in absurd (cc)
+closed-behind (outcomes.BadDate at) line before mail disk fault e writes h =
+    let other : Some (outcomes.BadDate at) ≡ Some (outcomes.Closed fault) = sym h.0 ∙ refused-is line before.closed fault e writes in absurd (cc)
 closed-behind outcomes.MailFault line before mail disk fault e writes h = absurd (clash _ _ h.0 (refused-is line before.closed fault e writes))
 closed-behind outcomes.DiskFault line before mail disk fault e writes h = absurd (clash _ _ h.0 (refused-is line before.closed fault e writes))
 closed-behind (outcomes.Closed other) line before mail disk fault e writes h =
     let same : Some (outcomes.Closed other) ≡ Some (outcomes.Closed fault) = sym h.0 ∙ refused-is line before.closed fault e writes in inl (cc)
-closed-behind (outcomes.Limit limit) line before mail disk fault e writes h = absurd (clash _ _ h.0 (refused-is line before.closed fault e writes))
+closed-behind (outcomes.Limit limit) line before mail disk fault e writes (inl refused, h) =
+    let other : Some (outcomes.Limit limit) ≡ Some (outcomes.Closed fault) = sym refused ∙ refused-is line before.closed fault e writes in absurd (cc)
+closed-behind (outcomes.Limit limit) line before mail disk fault e writes (inr unrefused, h) = absurd (clash _ _ unrefused.0 (refused-is line before.closed fault e writes))
 closed-behind outcomes.NoMemory line before mail disk fault e writes h = inr refl
 
+-- a query is never refused as closed
+query-not-closed : (answered : Result Query QueryError) (fault : ℕ) → first_refusal (refused_text answered) None ≡ Some (outcomes.Closed fault) → ⊥
+query-not-closed (Ok query) fault e = absurd (cc)
+query-not-closed (Err (query_errors.BadQuery at kind)) fault e = absurd (cc)
+query-not-closed (Err (query_errors.BadDate at)) fault e = absurd (cc)
+query-not-closed (Err (query_errors.Limit limit)) fault e = absurd (cc)
+query-not-closed (Err query_errors.NoMemory) fault e = absurd (cc)
+
 never-closed : (line : ParsedLine) (fault : ℕ) → refused_unasked line None ≡ Some (outcomes.Closed fault) → ⊥
-never-closed (asked.Request request) fault e = absurd (cc)
+never-closed (asked.Request requests.New) fault e = absurd (cc)
+never-closed (asked.Request (requests.Count ask)) fault e = query-not-closed (answer_of ask.query) fault e
 never-closed (asked.Usage word kind) fault e = absurd (cc)
 
 pub open-not-closed : (line : ParsedLine) (before : Before) (mail disk fault : ℕ) → before.closed ≡ None → HasCause (outcomes.Closed fault) line before mail disk → ⊥
@@ -73,7 +92,7 @@ first-append [] more = refl
 first-append (log ∷ front) more = fault-assoc (fault_of log.outcome) (first_fault front) (first_fault more) (first_fault (front ++ more)) (first-append front more)
 
 status-is : (front back : List LineLog) (log : LineLog) (out_failed : Bool) (status : ℕ) → first_fault front ≡ None → fault_of log.outcome ≡ Some status
-    → session_status true (front ++ log ∷ back) out_failed ≡ status
+    → session_status (front ++ log ∷ back) out_failed ≡ status
 status-is front back log out_failed status none is =
     let first : first_fault (front ++ log ∷ back) ≡ Some status =
     first-append front (log ∷ back) ∙ ap (λ (f : Option ℕ). fault_or f (fault_or (fault_of log.outcome) (first_fault back))) none
@@ -81,9 +100,9 @@ status-is front back log out_failed status none is =
     ap (λ (f : Option ℕ). status_of_fault (fault_or f (write_fault out_failed)) (any_wants_memory (front ++ log ∷ back))) first
 
 pub disk-status : (front back : List LineLog) (log : LineLog) (out_failed : Bool) → first_fault front ≡ None → log.outcome ≡ outcomes.DiskFault
-    → session_status true (front ++ log ∷ back) out_failed ≡ 4
+    → session_status (front ++ log ∷ back) out_failed ≡ 4
 disk-status front back log out_failed none is = status-is front back log out_failed 4 none (ap fault_of is)
 
 pub mail-status : (front back : List LineLog) (log : LineLog) (out_failed : Bool) → first_fault front ≡ None → log.outcome ≡ outcomes.MailFault
-    → session_status true (front ++ log ∷ back) out_failed ≡ 3
+    → session_status (front ++ log ∷ back) out_failed ≡ 3
 mail-status front back log out_failed none is = status-is front back log out_failed 3 none (ap fault_of is)

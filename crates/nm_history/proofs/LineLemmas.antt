@@ -88,10 +88,12 @@ pub one-on-way : (outcome : Outcome) (tree : Option Tree) (index : Base) (line :
     → Makes outcome tree index line noted count made flight → (flight ≡ []) ⊎ ((commit : Commit) × (flight ≡ commit ∷ []))
 one-on-way outcomes.Ok tree index line noted count made flight h = inl h.1
 one-on-way (outcomes.Usage word kind) tree index line noted count made flight h = inl h.1
+one-on-way (outcomes.BadQuery at kind) tree index line noted count made flight h = inl h.1
+one-on-way (outcomes.BadDate at) tree index line noted count made flight h = inl h.1
 one-on-way outcomes.MailFault tree index line noted count made flight h = inl h.1
 one-on-way outcomes.DiskFault tree index line noted count made flight h = inr (h.0, h.2)
 one-on-way (outcomes.Closed fault) tree index line noted count made flight h = inl h.1
-one-on-way (outcomes.Limit limit) tree index line noted count made flight h = inl h.3
+one-on-way (outcomes.Limit limit) tree index line noted count made flight h = inl h.1
 one-on-way outcomes.NoMemory tree index line noted count made flight h = inl h.1
 
 -- the writer that is open behind a line was open before it, and the line left nothing on its way
@@ -99,10 +101,12 @@ still-open : (outcome : Outcome) (closed : Option ℕ) (faults : ℕ) (tree : Op
     → Makes outcome tree index line noted count made flight → closed_after closed outcome faults ≡ None → (closed ≡ None) × (flight ≡ [])
 still-open outcomes.Ok closed faults tree index line noted count made flight h e = (e, h.1)
 still-open (outcomes.Usage word kind) closed faults tree index line noted count made flight h e = (e, h.1)
+still-open (outcomes.BadQuery at kind) closed faults tree index line noted count made flight h e = (e, h.1)
+still-open (outcomes.BadDate at) closed faults tree index line noted count made flight h e = (e, h.1)
 still-open outcomes.MailFault closed faults tree index line noted count made flight h e = (e, h.1)
 still-open outcomes.DiskFault closed faults tree index line noted count made flight h e = absurd (cc)
 still-open (outcomes.Closed fault) closed faults tree index line noted count made flight h e = (e, h.1)
-still-open (outcomes.Limit limit) closed faults tree index line noted count made flight h e = (e, h.3)
+still-open (outcomes.Limit limit) closed faults tree index line noted count made flight h e = (e, h.1)
 still-open outcomes.NoMemory closed faults tree index line noted count made flight h e = (e, h.1)
 
 apart-by : (closed : Option ℕ) (way made flight : List Commit) → (closed ≡ None → way ≡ []) → (IsSome closed → made ++ flight ≡ []) → Apart way made flight

@@ -1,16 +1,14 @@
 -- The steps of a line go on with the run of the machine.
-use Rattle.std.proofs.Common.{◌≡◌, ◌⊎◌, ℕ, ℤ, ◌+◌, Bool, true, false, ◌&&◌, ◌||◌, not, cond, codes, List, [], ◌∷◌, ◌++◌, Option, None, Some, length, map, fold, slice_index, slice_set, refl, sym, ap, ◌∙◌, subst, arith, inl, inr, append-nil, append_assoc}
+use Rattle.std.proofs.Common.{◌≡◌, ◌⊎◌, ℕ, ℤ, ◌+◌, Bool, true, false, ◌&&◌, ◌||◌, not, List, [], ◌∷◌, ◌++◌, Option, None, Some, Result, Ok, Err, is_ok, length, map, fold, slice_index, slice_set, refl, sym, ap, ◌∙◌, subst, arith, inl, inr, append-nil, append_assoc}
 use Rattle.std.specs.List.{flat_map}
 use Rattle.std.specs.Cmp.Lexicographic.{nat_list_eq_equiv}
-use Rattle.std.specs.Str.{is_utf8}
 use Rattle.std.proofs.lemmas.Grind.{flat_map-append}
 use Rattle.std.proofs.lemmas.List.{length-append, length-replicate, take_all, get_or-set_same, length-set}
 use Rattle.nm_base.specs.Order.{same_text}
-use Rattle.nm_base.specs.declared.refusals.UsageKind.TheVariants as kinds
 use Rattle.nm_answer.specs.declared.request.Request.{Request}
 use Rattle.nm_answer.specs.declared.request.Request.TheVariants as requests
-use Rattle.nm_answer.specs.Answer.{answer, is_of_index, is_plain_count, is_reply}
-use Rattle.nm_answer.specs.Count.{count_text, is_subject_query}
+use Rattle.nm_answer.specs.Answer.{answer, is_of_index, is_reply}
+use Rattle.nm_answer.specs.Count.{count_answer}
 use Rattle.nm_commit.specs.Files.{Fits}
 use Rattle.nm_commit.specs.declared.change.Commit.{Commit}
 use Rattle.nm_index.specs.Fits.{FitInTurn}
@@ -21,17 +19,20 @@ use Rattle.nm_machine.specs.Machine.{Machine, in_flight, index_after}
 use Rattle.nm_machine.specs.declared.step.Step.{Step}
 use Rattle.nm_machine.specs.declared.step.Step.TheVariants as steps
 use Rattle.nm_maildir.specs.declared.given.Given.{Given}
-use Rattle.nm_log.specs.ParsedLine.{parse_line, parse_command, parse_count, count_of, parse_new, refused, parse_words}
-use Rattle.nm_log.specs.Words.{words_of}
+use Rattle.nm_log.specs.ParsedLine.{parse_line}
 use Rattle.nm_log.specs.declared.line_parser.ParsedLine.{ParsedLine}
 use Rattle.nm_log.specs.declared.line_parser.ParsedLine.TheVariants as asked
 use Rattle.nm_log.specs.declared.outcome.Outcome.{Outcome}
 use Rattle.nm_log.specs.declared.outcome.Outcome.TheVariants as outcomes
 use Rattle.nm_history.specs.Call.{Devices}
-use Rattle.nm_history.specs.LineAnswers.{line_text}
-use Rattle.nm_history.specs.LineResult.{IsLineResult, Place, StandsAt, begin_step, commit_steps, line_steps, reply_step}
+use Rattle.nm_history.specs.LineAnswers.{HasCause, line_text}
+use Rattle.nm_history.specs.LineResult.{IsLineResult, Place, StandsAt, before_at, begin_step, commit_steps, line_steps, reply_step}
 use Rattle.nm_history.specs.Lines.{Before, RunLine, at_first}
 use Rattle.nm_history.specs.MachineRun.{IsAtRest, MachineRun, NeverStops, Replied, is_stop, lane_count, next, replied_where, replies_from, reply_by, reply_to}
+use Rattle.nm_history.specs.Requests.{first_refusal, refused_closed, refused_text, refused_unasked}
+use Rattle.nm_query.specs.Answers.{answer_of}
+use Rattle.nm_query.specs.declared.query.Query.{Query}
+use Rattle.nm_query.specs.declared.query_error.QueryError.{QueryError}
 use Rattle.nm_history.proofs.LineLemmas.{apart, before-next, begun-all, fold-append, one-on-way, revision-after, shown-all}
 
 or-true : (b : Bool) → (b || true) ≡ true
@@ -231,64 +232,38 @@ module _ (moment : ℤ) where
               ∙ ap (λ n. opening.revision + n) (rest.sees ∙ ap length rest.commits) ∙ sym at);
         }
 
-  -- a count that is asked for is a plain one
-  abbrev IsPlainAsked : ParsedLine → Type 0
-  IsPlainAsked (asked.Usage word kind) = Unit {0}
-  IsPlainAsked (asked.Request requests.New) = Unit {0}
-  IsPlainAsked (asked.Request (requests.Count ask)) = is_plain_count ask ≡ true
-
-  plain-either : (b : Bool) (first second : ParsedLine) → IsPlainAsked first → IsPlainAsked second → IsPlainAsked (cond b first second)
-  plain-either true first second h k = h
-  plain-either false first second h k = k
-
-  plain-query : (b : Bool) (word : List ℕ) → is_subject_query word ≡ b → IsPlainAsked (cond b (count_of word) (refused kinds.Value word))
-  plain-query true word e = e
-  plain-query false word e = tt
-
-  plain-new : (words : List (List ℕ)) → IsPlainAsked (parse_new words)
-  plain-new [] = tt
-  plain-new (word ∷ more) = tt
-
-  plain-count : (words : List (List ℕ)) → IsPlainAsked (parse_count words)
-  plain-count [] = tt
-  plain-count (word ∷ []) = plain-query (is_subject_query word) word refl
-  plain-count (word ∷ other ∷ more) = tt
-
-  plain-command : (words : List (List ℕ)) → IsPlainAsked (parse_command words)
-  plain-command [] = tt
-  plain-command (name ∷ words) = plain-either (same_text name (codes "new")) _ _ (plain-new words) (plain-either (same_text name (codes "count")) _ _ (plain-count words) tt)
-
-  plain-words : (words : List (List ℕ)) → IsPlainAsked (parse_words words)
-  plain-words [] = tt
-  plain-words (lane ∷ words) = plain-either (same_text lane (codes "0")) _ _ (plain-command words) tt
-
-  plain-asked : (line : List ℕ) → IsPlainAsked (parse_line line)
-  plain-asked line = plain-either (is_utf8 line) _ _ (plain-words (words_of line)) tt
+  -- a query that is not refused has a tree
+  read-well : (answered : Result Query QueryError) (other : Option Outcome) → first_refusal (refused_text answered) other ≡ None → is_ok answered ≡ true
+  read-well (Ok query) other e = refl
+  read-well (Err refusal) other e = absurd (cc)
 
   -- the answer to a line is a reply that the machine takes
-  right-reply : (request : Request) (line : List ℕ) (before index : Base) (noted : List Given) (text : List ℕ) → parse_line line ≡ asked.Request request
+  right-reply : (request : Request) (closed : Option ℕ) (before index : Base) (noted : List Given) (text : List ℕ) → refused_unasked (asked.Request request) closed ≡ None
       → text ≡ answer request [] before index moment noted → is_reply index moment request text ≡ true
-  right-reply requests.New line before index noted text e is = refl
-  right-reply (requests.Count ask) line before index noted text e is =
-      let plain : is_plain_count ask ≡ true = subst IsPlainAsked e (plain-asked line) in
+  right-reply requests.New closed before index noted text e is = refl
+  right-reply (requests.Count ask) closed before index noted text e is =
+      let read : is_ok (answer_of ask.query) ≡ true = read-well (answer_of ask.query) (refused_closed closed false) e in
       let either : Bool = not (is_of_index (requests.Count ask)) in
-      ap (λ (b : Bool). either || (b && same_text text (count_text ask.query index.files))) plain
-      ∙ (ap (λ (b : Bool). either || b) (ap (λ (t : List ℕ). same_text t (count_text ask.query index.files)) is ∙ nat_list_eq_equiv.refl (count_text ask.query index.files)) ∙ or-true either)
+      let said : List ℕ = count_answer ask index moment in
+      ap (λ (b : Bool). either || (b && same_text text said)) read
+      ∙ (ap (λ (b : Bool). either || b) (ap (λ (t : List ℕ). same_text t said) is ∙ nat_list_eq_equiv.refl said) ∙ or-true either)
 
   -- the reply to a line, by its outcome
-  answer-goes : (opening : Base) (m : Machine) (acknowledged way : List Commit) (outcome : Outcome) (line : List ℕ) (parsed : ParsedLine) (revision : ℕ) (text : List ℕ) (before : Base) (noted : List Given)
-      → parse_line line ≡ parsed → IsAtRest opening acknowledged m → in_flight m.flight ≡ way → revision ≡ opening.revision + length acknowledged
+  answer-goes : (opening : Base) (m : Machine) (acknowledged way : List Commit) (outcome : Outcome) (parsed : ParsedLine) (first : Before) (mail disk revision : ℕ) (text : List ℕ) (before : Base) (noted : List Given)
+      → HasCause outcome parsed first mail disk → IsAtRest opening acknowledged m → in_flight m.flight ≡ way → revision ≡ opening.revision + length acknowledged
       → text ≡ line_text outcome parsed before (folded opening acknowledged) moment noted
       → Goes opening m (map reply_step (replied_where outcome parsed 0 revision text)) acknowledged way (replied_where outcome parsed 0 revision text)
-  answer-goes opening m acknowledged way outcomes.Ok line (asked.Request request) revision text before noted e rest on at is =
-      reply-goes opening m acknowledged way revision request text rest on at (right-reply request line before (folded opening acknowledged) noted text e is)
-  answer-goes opening m acknowledged way outcomes.Ok line (asked.Usage word kind) revision text before noted e rest on at is = stays opening m acknowledged way rest on
-  answer-goes opening m acknowledged way (outcomes.Usage word kind) line parsed revision text before noted e rest on at is = stays opening m acknowledged way rest on
-  answer-goes opening m acknowledged way outcomes.MailFault line parsed revision text before noted e rest on at is = stays opening m acknowledged way rest on
-  answer-goes opening m acknowledged way outcomes.DiskFault line parsed revision text before noted e rest on at is = stays opening m acknowledged way rest on
-  answer-goes opening m acknowledged way (outcomes.Closed fault) line parsed revision text before noted e rest on at is = stays opening m acknowledged way rest on
-  answer-goes opening m acknowledged way (outcomes.Limit limit) line parsed revision text before noted e rest on at is = stays opening m acknowledged way rest on
-  answer-goes opening m acknowledged way outcomes.NoMemory line parsed revision text before noted e rest on at is = stays opening m acknowledged way rest on
+  answer-goes opening m acknowledged way outcomes.Ok (asked.Request request) first mail disk revision text before noted cause rest on at is =
+      reply-goes opening m acknowledged way revision request text rest on at (right-reply request first.closed before (folded opening acknowledged) noted text cause.0 is)
+  answer-goes opening m acknowledged way outcomes.Ok (asked.Usage word kind) first mail disk revision text before noted cause rest on at is = stays opening m acknowledged way rest on
+  answer-goes opening m acknowledged way (outcomes.Usage word kind) parsed first mail disk revision text before noted cause rest on at is = stays opening m acknowledged way rest on
+  answer-goes opening m acknowledged way (outcomes.BadQuery place kind) parsed first mail disk revision text before noted cause rest on at is = stays opening m acknowledged way rest on
+  answer-goes opening m acknowledged way (outcomes.BadDate place) parsed first mail disk revision text before noted cause rest on at is = stays opening m acknowledged way rest on
+  answer-goes opening m acknowledged way outcomes.MailFault parsed first mail disk revision text before noted cause rest on at is = stays opening m acknowledged way rest on
+  answer-goes opening m acknowledged way outcomes.DiskFault parsed first mail disk revision text before noted cause rest on at is = stays opening m acknowledged way rest on
+  answer-goes opening m acknowledged way (outcomes.Closed fault) parsed first mail disk revision text before noted cause rest on at is = stays opening m acknowledged way rest on
+  answer-goes opening m acknowledged way (outcomes.Limit limit) parsed first mail disk revision text before noted cause rest on at is = stays opening m acknowledged way rest on
+  answer-goes opening m acknowledged way outcomes.NoMemory parsed first mail disk revision text before noted cause rest on at is = stays opening m acknowledged way rest on
 
   cancel : (xs ys zs : List Commit) → xs ++ ys ≡ xs ++ zs → ys ≡ zs
   cancel [] ys zs e = e
@@ -319,8 +294,8 @@ module _ (moment : ℤ) where
         let said : ran.1.text ≡ line_text ran.1.outcome (parse_line ran.0.text) old.writer.shown (folded opening (acknowledged ++ result.made)) moment ran.1.given =
         subst (λ (i : Base). ran.1.text ≡ line_text ran.1.outcome (parse_line ran.0.text) old.writer.shown i moment ran.1.given) shown result.text in
         let answers =
-        answer-goes opening writes.last (acknowledged ++ result.made) (at.flight ++ result.flight) ran.1.outcome ran.0.text (parse_line ran.0.text) ran.1.revision ran.1.text old.writer.shown ran.1.given
-        refl writes.rest writes.on_way (revision-after opening moment entry before taken lines acknowledged old new ran at result) said in
+        answer-goes opening writes.last (acknowledged ++ result.made) (at.flight ++ result.flight) ran.1.outcome (parse_line ran.0.text) (before_at old) new.mail.faults new.disk_faults ran.1.revision ran.1.text old.writer.shown ran.1.given
+        result.cause writes.rest writes.on_way (revision-after opening moment entry before taken lines acknowledged old new ran at result) said in
         let replies : List Replied = replied_where ran.1.outcome (parse_line ran.0.text) 0 ran.1.revision ran.1.text in
         let all =
         goes-on opening h.last (flat_map commit_steps result.made ++ map begin_step result.flight) (map reply_step replies) (acknowledged ++ result.made) (at.flight ++ result.flight)

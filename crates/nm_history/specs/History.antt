@@ -13,11 +13,10 @@ use Rattle.nm_history.specs.OpeningIndex.{OpeningIndex}
 use Rattle.nm_history.specs.PrintedOut.{PrintedOut}
 use Rattle.nm_history.specs.Status.{Status}
 
--- How the call ended, whether every line was run, whether the output failed, which commits were acknowledged; and of these: the opening index, the run of the
+-- How the call ended, whether the output failed, which commits were acknowledged; and of these: the opening index, the run of the
 -- machine, the commits of each line, its answer, what is printed, what a stop leaves, the status; and what the folder gave.
 pub record IsHistory (opening : Base) (input : List ℕ) (call : Call) : Type 0 where
   pub ending : Ending
-  pub whole : Bool
   pub out_failed : Bool
   pub acknowledged : List Commit
   pub opening_index : OpeningIndex ending call.entry.disk opening
@@ -25,9 +24,9 @@ pub record IsHistory (opening : Base) (input : List ℕ) (call : Call) : Type 0 
   pub line_commits : LineCommits opening call.entry.mail.tree call.done.log.steps (lines_run input call.done) acknowledged
   pub line_answers : LineAnswers opening call.setting.moment (at_first opening call.entry) call.done.log.steps (lines_run input call.done)
   pub given : IsGiven opening call.done.log.steps (at_first opening call.entry) (lines_run input call.done) ending call.entry call.after
-  pub printed_out : PrintedOut ending input whole out_failed call
+  pub printed_out : PrintedOut ending input out_failed call
   pub crash_prefix : CrashPrefix call.entry.disk call.after.disk call.done.log.steps call.done.log.acked
-  pub status : Status ending whole out_failed call
+  pub status : Status ending out_failed call
 
 -- There are one opening index and one list of input bytes, of which all hold.
 abbrev pub History : Call → Type 0

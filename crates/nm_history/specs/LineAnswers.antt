@@ -1,5 +1,5 @@
 -- The outcome and the text of each line: those of the plain index at the revision before it and at its own.
-use Rattle.std.specs.Prelude.{◌≡◌, ℕ, ℤ, true, List, [], None, Some}
+use Rattle.std.specs.Prelude.{◌≡◌, ◌⊎◌, ℕ, ℤ, true, List, [], None, Some}
 use Rattle.nm_answer.specs.Answer.{answer}
 use Rattle.nm_faults.specs.Faults.{HasRisen}
 use Rattle.nm_index.specs.declared.base.Base.{Base}
@@ -23,6 +23,8 @@ reply_text (asked.Usage word kind) before index moment noted = []
 abbrev pub line_text : Outcome → ParsedLine → Base → Base → ℤ → List Given → List ℕ
 line_text outcomes.Ok line before index moment noted = reply_text line before index moment noted
 line_text (outcomes.Usage word kind) line before index moment noted = refusal_line (outcomes.Usage word kind)
+line_text (outcomes.BadQuery at kind) line before index moment noted = refusal_line (outcomes.BadQuery at kind)
+line_text (outcomes.BadDate at) line before index moment noted = refusal_line (outcomes.BadDate at)
 line_text outcomes.MailFault line before index moment noted = refusal_line outcomes.MailFault
 line_text outcomes.DiskFault line before index moment noted = refusal_line outcomes.DiskFault
 line_text (outcomes.Closed fault) line before index moment noted = refusal_line (outcomes.Closed fault)
@@ -34,18 +36,25 @@ pub record NoneFailed (mail disk mail_after disk_after : ℕ) : Type 0 where
   pub mail_same : mail_after ≡ mail
   pub disk_same : disk_after ≡ disk
 
--- Why a line ends so, with the counts of faults of the mail folder and the disk before and after it. Want of memory alone is free.
+-- Why a line ends so, with the counts of faults of the mail folder and the disk before and after it: the device that it names failed, and
+-- the other did not. Want of memory alone is free.
 abbrev pub HasCause : Outcome → ParsedLine → Before → ℕ → ℕ → Type 0
 HasCause outcomes.Ok line before mail disk = (refused_unasked line before.closed ≡ None) × NoneFailed before.mail_faults before.disk_faults mail disk
 HasCause (outcomes.Usage word kind) line before mail disk =
     (refused_unasked line before.closed ≡ Some (outcomes.Usage word kind)) × NoneFailed before.mail_faults before.disk_faults mail disk
+HasCause (outcomes.BadQuery at kind) line before mail disk =
+    (refused_unasked line before.closed ≡ Some (outcomes.BadQuery at kind)) × NoneFailed before.mail_faults before.disk_faults mail disk
+HasCause (outcomes.BadDate at) line before mail disk =
+    (refused_unasked line before.closed ≡ Some (outcomes.BadDate at)) × NoneFailed before.mail_faults before.disk_faults mail disk
 HasCause outcomes.MailFault line before mail disk =
-    (refused_unasked line before.closed ≡ None) × (asks_to_write line ≡ true) × HasRisen before.mail_faults mail
+    (refused_unasked line before.closed ≡ None) × (asks_to_write line ≡ true) × HasRisen before.mail_faults mail × (disk ≡ before.disk_faults)
 HasCause outcomes.DiskFault line before mail disk =
-    (refused_unasked line before.closed ≡ None) × (asks_to_write line ≡ true) × HasRisen before.disk_faults disk
+    (refused_unasked line before.closed ≡ None) × (asks_to_write line ≡ true) × HasRisen before.disk_faults disk × (mail ≡ before.mail_faults)
 HasCause (outcomes.Closed fault) line before mail disk =
     (refused_unasked line before.closed ≡ Some (outcomes.Closed fault)) × NoneFailed before.mail_faults before.disk_faults mail disk
-HasCause (outcomes.Limit limit) line before mail disk = (refused_unasked line before.closed ≡ None) × (asks_to_write line ≡ true)
+HasCause (outcomes.Limit limit) line before mail disk =
+    ((refused_unasked line before.closed ≡ Some (outcomes.Limit limit)) ⊎ ((refused_unasked line before.closed ≡ None) × (asks_to_write line ≡ true)))
+    × NoneFailed before.mail_faults before.disk_faults mail disk
 HasCause outcomes.NoMemory line before mail disk = Unit {0}
 
 -- A line's outcome has its cause, its status is that of the outcome, and its text is said on the index before it and the one that it leaves.

@@ -1,8 +1,9 @@
 -- Which commits a line makes: all that are due, or by its outcome the first of them.
-use Rattle.std.specs.Prelude.{◌≡◌, ◌⊎◌, ℕ, ◌+◌, List, [], ◌∷◌, ◌++◌, length, Option}
+use Rattle.std.specs.Prelude.{◌≡◌, ◌⊎◌, ℕ, ◌+◌, List, [], ◌∷◌, ◌++◌, length, Option, None, Some}
 use Rattle.nm_answer.specs.declared.request.Request.{Request}
 use Rattle.nm_answer.specs.declared.request.Request.TheVariants.{New, Count}
 use Rattle.nm_base.specs.declared.facts.Facts.{Facts}
+use Rattle.nm_base.specs.declared.limit.Limit.{Limit}
 use Rattle.nm_commit.specs.declared.change.Commit.{Commit}
 use Rattle.nm_index.specs.Index.{folded}
 use Rattle.nm_index.specs.declared.base.Base.{Base}
@@ -14,47 +15,64 @@ use Rattle.nm_machine.specs.declared.step.Step.{Step}
 use Rattle.nm_maildir.specs.Tree.{Tree}
 use Rattle.nm_maildir.specs.declared.given.Given.{Given}
 use Rattle.nm_plan.specs.Plan.{due_commits}
-use Rattle.nm_scan.specs.Scanning.{Finds}
+use Rattle.nm_scan.specs.Listing.{PassesListing}
+use Rattle.nm_scan.specs.Scanning.{FindsBatches}
 use Rattle.nm_writer.specs.Writing.{IsPassed}
 use Rattle.nm_history.specs.Lines.{RunLine, begun}
+use Rattle.nm_history.specs.Requests.{refused_unasked}
 
--- the mails that a request found, as far as it looks for any
-abbrev pub FindsFor : Request → Option Tree → Base → List Given → List (List ℕ × Facts) → Type 0
-FindsFor New tree index noted arrivals = Finds tree index.files noted arrivals
-FindsFor (Count ask) tree index noted arrivals = arrivals ≡ []
+-- the mails that a request found in each batch, as far as it looks for any, and the paths that are left to read
+abbrev pub FindsFor : Request → Option Tree → Base → List Given → List (List (List ℕ × Facts)) → List (List ℕ) → Type 0
+FindsFor New tree index noted batches left = FindsBatches tree index.files noted batches left
+FindsFor (Count ask) tree index noted batches left = (batches ≡ []) × (left ≡ [])
 
--- The commits that are due to the line, by its request, the index before it, and what the mail folder gave.
-pub record AreDue (tree : Option Tree) (index : Base) (line : List ℕ) (noted : List Given) (due : List Commit) : Type 0 where
+-- The commits that are due to the line while these paths are left to read, by its request, the index before it, and what the mail folder gave.
+pub record AreDue (tree : Option Tree) (index : Base) (line : List ℕ) (noted : List Given) (left : List (List ℕ)) (due : List Commit) : Type 0 where
   pub request : Request
   pub asked_for : parse_line line ≡ asked.Request request
-  pub arrivals : List (List ℕ × Facts)
-  pub found : FindsFor request tree index noted arrivals
-  pub due_are : due ≡ due_commits request index noted arrivals
+  pub batches : List (List (List ℕ × Facts))
+  pub found : FindsFor request tree index noted batches left
+  pub due_are : due ≡ due_commits request index noted batches left
 
 -- due are the commits made, then this one, and perhaps more
 pub record StopsAt (tree : Option Tree) (index : Base) (line : List ℕ) (noted : List Given) (made : List Commit) (commit : Commit) : Type 0 where
+  pub left : List (List ℕ)
   pub due : List Commit
-  pub are_due : AreDue tree index line noted due
+  pub are_due : AreDue tree index line noted left due
   pub more : List Commit
   pub order : due ≡ made ++ commit ∷ more
 
 -- the first of the commits due were made, all of them perhaps; or none
 abbrev pub MakesFirst : Option Tree → Base → List ℕ → List Given → List Commit → Type 0
 MakesFirst tree index line noted made =
-    (made ≡ []) ⊎ ((due more : List Commit) × AreDue tree index line noted due × (due ≡ made ++ more))
+    (made ≡ []) ⊎ ((left : List (List ℕ)) × (due more : List Commit) × AreDue tree index line noted left due × (due ≡ made ++ more))
 
--- The commits that a line makes, and the one that it leaves on its way, by its outcome. `count` is how many the session has then made.
+-- The folder failed at its listing, and nothing was made; or while a path was left to read, and all that was due before it was made.
+abbrev pub MakesBefore : Option Tree → Base → List ℕ → List Given → List Commit → Type 0
+MakesBefore tree index line noted made =
+    ((noted ≡ []) × (made ≡ [])) ⊎ ((path : List ℕ) × (left : List (List ℕ)) × AreDue tree index line noted (path ∷ left) made)
+
+-- the query of the line passes the limit, or the mail folder passed it as it was listed
+abbrev pub PassesUnmade : Option Tree → List ℕ → Limit → Type 0
+PassesUnmade tree line limit = (refused_unasked (parse_line line) None ≡ Some (outcomes.Limit limit)) ⊎ PassesListing tree limit
+
+-- The limit was passed before anything was noted, and nothing was made; or the next commit would pass it.
+abbrev pub MakesToLimit : Option Tree → Base → List ℕ → List Given → ℕ → List Commit → Limit → Type 0
+MakesToLimit tree index line noted count made limit =
+    ((noted ≡ []) × (made ≡ []) × PassesUnmade tree line limit)
+    ⊎ ((commit : Commit) × StopsAt tree index line noted made commit × IsPassed count (folded index made) commit limit)
+
+-- The commits that a line makes, and the one that it leaves on its way, by its outcome: the disk may hold that one where it failed;
+-- where a limit is told, the next one would pass it. `count` is how many the session has then made.
 abbrev pub Makes : Outcome → Option Tree → Base → List ℕ → List Given → ℕ → List Commit → List Commit → Type 0
-Makes outcomes.Ok tree index line noted count made flight = AreDue tree index line noted made × (flight ≡ [])
+Makes outcomes.Ok tree index line noted count made flight = AreDue tree index line noted [] made × (flight ≡ [])
 Makes (outcomes.Usage word kind) tree index line noted count made flight = (made ≡ []) × (flight ≡ [])
--- the folder failed before the first commit
-Makes outcomes.MailFault tree index line noted count made flight = (made ≡ []) × (flight ≡ [])
--- the disk may hold the commit that was on its way
+Makes (outcomes.BadQuery at kind) tree index line noted count made flight = (made ≡ []) × (flight ≡ [])
+Makes (outcomes.BadDate at) tree index line noted count made flight = (made ≡ []) × (flight ≡ [])
+Makes outcomes.MailFault tree index line noted count made flight = MakesBefore tree index line noted made × (flight ≡ [])
 Makes outcomes.DiskFault tree index line noted count made flight = (commit : Commit) × StopsAt tree index line noted made commit × (flight ≡ commit ∷ [])
 Makes (outcomes.Closed fault) tree index line noted count made flight = (made ≡ []) × (flight ≡ [])
--- the next one would pass the limit
-Makes (outcomes.Limit limit) tree index line noted count made flight =
-    (commit : Commit) × StopsAt tree index line noted made commit × IsPassed count (folded index made) commit limit × (flight ≡ [])
+Makes (outcomes.Limit limit) tree index line noted count made flight = MakesToLimit tree index line noted count made limit × (flight ≡ [])
 Makes outcomes.NoMemory tree index line noted count made flight = MakesFirst tree index line noted made × (flight ≡ [])
 
 -- What a line makes of the commits before it, and the revision that it leaves.

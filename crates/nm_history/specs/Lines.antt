@@ -60,6 +60,8 @@ at_first opening entry = record { revision = opening.revision; mail_faults = ent
 abbrev pub closed_after : Option ℕ → Outcome → ℕ → Option ℕ
 closed_after closed outcomes.Ok faults = closed
 closed_after closed (outcomes.Usage word kind) faults = closed
+closed_after closed (outcomes.BadQuery at kind) faults = closed
+closed_after closed (outcomes.BadDate at) faults = closed
 closed_after closed outcomes.MailFault faults = closed
 closed_after closed outcomes.DiskFault faults = Some faults
 closed_after closed (outcomes.Closed fault) faults = closed

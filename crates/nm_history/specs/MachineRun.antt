@@ -63,6 +63,8 @@ replied_to (asked.Usage word kind) lane revision text = []
 abbrev pub replied_where : Outcome → ParsedLine → ℕ → ℕ → List ℕ → List Replied
 replied_where outcomes.Ok line lane revision text = replied_to line lane revision text
 replied_where (outcomes.Usage word kind) line lane revision text = []
+replied_where (outcomes.BadQuery at kind) line lane revision text = []
+replied_where (outcomes.BadDate at) line lane revision text = []
 replied_where outcomes.MailFault line lane revision text = []
 replied_where outcomes.DiskFault line lane revision text = []
 replied_where (outcomes.Closed fault) line lane revision text = []

@@ -22,9 +22,8 @@ Prints None old new = new ≡ old
 Prints (Some line) old new = (failed : Bool) × StreamAppends failed old new line
 
 -- what a session says besides its replies
-abbrev pub final_message : Bool → Bool → Option (List ℕ)
-final_message whole out_failed =
-    if out_failed then Some (codes "notmuch: write fault\n") else (if whole then None else Some (codes "notmuch: no memory\n"))
+abbrev pub final_message : Bool → Option (List ℕ)
+final_message out_failed = if out_failed then Some (codes "notmuch: write fault\n") else None
 
 -- the log's numbers of a line: all are of the first phase and of lane 0 for now
 pub record IsNumbered (line : ScriptLine) (log : LineLog) : Type 0 where
@@ -32,16 +31,12 @@ pub record IsNumbered (line : ScriptLine) (log : LineLog) : Type 0 where
   pub lane : log.lane ≡ 0
   pub number : log.line ≡ line.number
 
--- no line is left
-abbrev pub is_over : List ScriptLine → Bool
-is_over [] = true
-is_over (line ∷ script) = false
-
--- Each log is that of its line of the script, from the first on, and where all were run there is one for each.
-abbrev pub AreLogsOf : List ScriptLine → List LineLog → Bool → Type 0
-AreLogsOf script [] whole = whole ≡ is_over script
-AreLogsOf [] (log ∷ logs) whole = ⊥
-AreLogsOf (line ∷ script) (log ∷ logs) whole = IsNumbered line log × AreLogsOf script logs whole
+-- Each line of the script has its log, in their order, and there are no others.
+abbrev pub AreLogsOf : List ScriptLine → List LineLog → Type 0
+AreLogsOf [] [] = Unit {0}
+AreLogsOf [] (log ∷ logs) = ⊥
+AreLogsOf (line ∷ script) [] = ⊥
+AreLogsOf (line ∷ script) (log ∷ logs) = IsNumbered line log × AreLogsOf script logs
 
 -- The call was refused before it did a thing: one line says why, and nothing is in the log.
 pub record PrintsRefusal (line : List ℕ) (call : Call) : Type 0 where
@@ -52,13 +47,13 @@ pub record PrintsRefusal (line : List ℕ) (call : Call) : Type 0 where
   pub out : call.after.out ≡ call.entry.out
   pub says : Prints (Some line) call.entry.err call.after.err
 
--- The replies were printed, and what ended the session.
-pub record PrintsReplies (input : List ℕ) (whole out_failed : Bool) (call : Call) : Type 0 where
-  pub lines : AreLogsOf (script_lines input) call.done.log.lines whole
+-- Every line was run, the replies were printed, and what ended the session.
+pub record PrintsReplies (input : List ℕ) (out_failed : Bool) (call : Call) : Type 0 where
+  pub lines : AreLogsOf (script_lines input) call.done.log.lines
   pub out : StreamAppends out_failed call.entry.out call.after.out (printed call.done.log.lines)
-  pub says : Prints (final_message whole out_failed) call.entry.err call.after.err
+  pub says : Prints (final_message out_failed) call.entry.err call.after.err
 
 -- What the outputs gained, and why.
-abbrev pub PrintedOut : Ending → List ℕ → Bool → Bool → Call → Type 0
-PrintedOut (Refused refusal) input whole out_failed call = IsRefusedFor refusal input call × PrintsRefusal (refused_line refusal) call
-PrintedOut Ran input whole out_failed call = ReadsScript input call × PrintsReplies input whole out_failed call
+abbrev pub PrintedOut : Ending → List ℕ → Bool → Call → Type 0
+PrintedOut (Refused refusal) input out_failed call = IsRefusedFor refusal input call × PrintsRefusal (refused_line refusal) call
+PrintedOut Ran input out_failed call = ReadsScript input call × PrintsReplies input out_failed call

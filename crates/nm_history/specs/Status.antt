@@ -1,5 +1,5 @@
 -- The status of a call.
-use Rattle.std.specs.Prelude.{◌≡◌, ℕ, Bool, true, false, not, List, [], ◌∷◌, Option, None, Some, if◌then◌else◌}
+use Rattle.std.specs.Prelude.{◌≡◌, ℕ, Bool, true, false, List, [], ◌∷◌, Option, None, Some, if◌then◌else◌}
 use Rattle.std.specs.List.{list_any}
 use Rattle.nm_log.specs.Refusals.{refused_status}
 use Rattle.nm_log.specs.declared.log.LineLog.{LineLog}
@@ -11,6 +11,8 @@ use Rattle.nm_history.specs.Call.{Call, Ending, Ran, Refused}
 abbrev pub fault_of : Outcome → Option ℕ
 fault_of outcomes.Ok = None
 fault_of (outcomes.Usage word kind) = None
+fault_of (outcomes.BadQuery at kind) = None
+fault_of (outcomes.BadDate at) = None
 fault_of outcomes.MailFault = Some 3
 fault_of outcomes.DiskFault = Some 4
 fault_of (outcomes.Closed fault) = None
@@ -35,6 +37,8 @@ write_fault out_failed = if out_failed then Some 6 else None
 abbrev pub wants_memory : Outcome → Bool
 wants_memory outcomes.Ok = false
 wants_memory (outcomes.Usage word kind) = false
+wants_memory (outcomes.BadQuery at kind) = false
+wants_memory (outcomes.BadDate at) = false
 wants_memory outcomes.MailFault = false
 wants_memory outcomes.DiskFault = false
 wants_memory (outcomes.Closed fault) = false
@@ -49,12 +53,11 @@ abbrev pub status_of_fault : Option ℕ → Bool → ℕ
 status_of_fault (Some status) wanted = status
 status_of_fault None wanted = if wanted then 7 else 0
 
--- Want of memory before the end of the script; else the first fault of a device; else a line's want of memory.
-abbrev pub session_status : Bool → List LineLog → Bool → ℕ
-session_status whole logs out_failed =
-    if not whole then 7 else status_of_fault (fault_or (first_fault logs) (write_fault out_failed)) (any_wants_memory logs)
+-- The first fault of a device, else a line's want of memory.
+abbrev pub session_status : List LineLog → Bool → ℕ
+session_status logs out_failed = status_of_fault (fault_or (first_fault logs) (write_fault out_failed)) (any_wants_memory logs)
 
 -- What the process exits with.
-abbrev pub Status : Ending → Bool → Bool → Call → Type 0
-Status (Refused refusal) whole out_failed call = call.done.status ≡ refused_status refusal
-Status Ran whole out_failed call = call.done.status ≡ session_status whole call.done.log.lines out_failed
+abbrev pub Status : Ending → Bool → Call → Type 0
+Status (Refused refusal) out_failed call = call.done.status ≡ refused_status refusal
+Status Ran out_failed call = call.done.status ≡ session_status call.done.log.lines out_failed

@@ -42,16 +42,16 @@ pub fn no_line_is_closed_without_a_fault()
         → HasCause (Outcome.Closed fault) line before mail disk → ⊥ }
 {}
 
-/// A script that is run to its end has status 4 where the disk is the first device to fail, whatever the lines behind it answer.
+/// A script has status 4 where the disk is the first device to fail, whatever the lines behind it answer.
 pub fn a_disk_fault_is_the_status()
     ensures { (front back : List LineLog) (log : LineLog) (out_failed : Bool) → first_fault front ≡ None → log.outcome ≡ Outcome.DiskFault
-        → session_status true (front ++ log ∷ back) out_failed ≡ 4 }
+        → session_status (front ++ log ∷ back) out_failed ≡ 4 }
 {}
 
 /// And 3 where it is the mail folder.
 pub fn a_mail_fault_is_the_status()
     ensures { (front back : List LineLog) (log : LineLog) (out_failed : Bool) → first_fault front ≡ None → log.outcome ≡ Outcome.MailFault
-        → session_status true (front ++ log ∷ back) out_failed ≡ 3 }
+        → session_status (front ++ log ∷ back) out_failed ≡ 3 }
 {}
 
 /// A session with such a history is complete.

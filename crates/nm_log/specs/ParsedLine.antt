@@ -1,12 +1,12 @@
 -- What a line of a script asks for, or the first fault of its words.
 use Rattle.std.specs.Prelude.{ℕ, true, false, List, [], ◌∷◌, codes, if◌then◌else◌}
+use Rattle.std.specs.List.{join_with_byte}
 use Rattle.std.specs.Str.{is_utf8}
 use Rattle.nm_base.specs.Order.{same_text}
 use Rattle.nm_base.specs.declared.refusals.UsageKind.{UsageKind}
 use Rattle.nm_base.specs.declared.refusals.UsageKind.TheVariants as kinds
 use Rattle.nm_base.specs.declared.forms.Output.TheVariants as outputs
 use Rattle.nm_answer.specs.declared.request.Request.TheVariants as requests
-use Rattle.nm_answer.specs.Count.{is_subject_query}
 use Rattle.nm_log.specs.declared.line_parser.ParsedLine.{ParsedLine}
 use Rattle.nm_log.specs.declared.line_parser.ParsedLine.TheVariants.{Request, Usage}
 use Rattle.nm_log.specs.Words.{words_of}
@@ -14,24 +14,22 @@ use Rattle.nm_log.specs.Words.{words_of}
 abbrev pub refused : UsageKind → List ℕ → ParsedLine
 refused kind word = Usage word kind
 
--- a count of the messages with the word of this query
+-- a count of the messages that this query finds
 abbrev pub count_of : List ℕ → ParsedLine
 count_of query = Request (requests.Count (record { output = outputs.Messages; exclude = true; batch = false; query = query }))
 
--- a query that is read is counted
-abbrev pub parse_query : List ℕ → ParsedLine
-parse_query query = if is_subject_query query then count_of query else refused kinds.Value query
+-- the words of a query, with one space between each two
+abbrev pub query_of : List (List ℕ) → List ℕ
+query_of words = join_with_byte 32 words
 
 -- what stands behind `new`
 abbrev pub parse_new : List (List ℕ) → ParsedLine
 parse_new [] = Request requests.New
 parse_new (word ∷ more) = refused kinds.Extra word
 
--- what stands behind `count`
+-- what stands behind `count` is a query; where nothing does, all messages are counted
 abbrev pub parse_count : List (List ℕ) → ParsedLine
-parse_count [] = refused kinds.Missing []
-parse_count (word ∷ []) = parse_query word
-parse_count (word ∷ other ∷ more) = refused kinds.Value word
+parse_count words = count_of (query_of words)
 
 -- what stands behind the lane
 abbrev pub parse_command : List (List ℕ) → ParsedLine

@@ -1,11 +1,14 @@
 -- The texts of replies and refusals, and how a log is printed.
 use Rattle.std.specs.Prelude.{ℕ, List, [], ◌++◌, length, codes}
+use Rattle.std.specs.Fmt.{decimal}
 use Rattle.std.specs.List.{flat_map}
 use Rattle.nm_base.specs.declared.limit.Limit.{Limit}
 use Rattle.nm_base.specs.declared.limit.Limit.TheVariants as limits
 use Rattle.nm_base.specs.declared.refusals.UsageKind.{UsageKind}
 use Rattle.nm_base.specs.declared.refusals.UsageKind.TheVariants as kinds
 use Rattle.nm_answer.specs.NewText.{number_after}
+use Rattle.nm_query.specs.declared.query_error.QueryKind.{QueryKind}
+use Rattle.nm_query.specs.declared.query_error.QueryKind.TheVariants as query_kinds
 use Rattle.nm_log.specs.declared.outcome.Outcome.{Outcome}
 use Rattle.nm_log.specs.declared.outcome.Outcome.TheVariants as outcomes
 use Rattle.nm_log.specs.declared.log.LineLog.{LineLog}
@@ -26,6 +29,22 @@ kind_name kinds.Utf8 = codes "utf8"
 
 abbrev pub usage_line : UsageKind → List ℕ → List ℕ
 usage_line kind word = codes "notmuch: usage: " ++ (kind_name kind ++ (codes ": " ++ (word ++ codes "\n")))
+
+-- what is wrong with a query, in lower case
+abbrev pub query_kind_name : QueryKind → List ℕ
+query_kind_name query_kinds.Quote = codes "quote"
+query_kind_name query_kinds.Paren = codes "paren"
+query_kind_name query_kinds.Operand = codes "operand"
+query_kind_name query_kinds.Value = codes "value"
+query_kind_name query_kinds.NotHere = codes "nothere"
+
+-- what is wrong with a query, and the byte of its text at fault
+abbrev pub query_line : QueryKind → ℕ → List ℕ
+query_line kind at = codes "notmuch: query: " ++ (query_kind_name kind ++ (codes " at " ++ (decimal at ++ codes "\n")))
+
+-- the byte at which a date of a query should begin
+abbrev pub date_line : ℕ → List ℕ
+date_line at = codes "notmuch: date: at " ++ (decimal at ++ codes "\n")
 
 -- the bound that was passed, in lower case
 abbrev pub limit_name : Limit → List ℕ
@@ -49,6 +68,8 @@ limit_line limit = codes "notmuch: limit: " ++ (limit_name limit ++ codes "\n")
 abbrev pub refusal_line : Outcome → List ℕ
 refusal_line outcomes.Ok = []
 refusal_line (outcomes.Usage word kind) = usage_line kind word
+refusal_line (outcomes.BadQuery at kind) = query_line kind at
+refusal_line (outcomes.BadDate at) = date_line at
 refusal_line outcomes.MailFault = codes "notmuch: mail fault\n"
 refusal_line outcomes.DiskFault = codes "notmuch: disk fault\n"
 refusal_line (outcomes.Closed fault) = codes "notmuch: closed by a disk fault\n"
@@ -59,6 +80,8 @@ refusal_line outcomes.NoMemory = codes "notmuch: no memory\n"
 abbrev pub status_of : Outcome → ℕ
 status_of outcomes.Ok = 0
 status_of (outcomes.Usage word kind) = 2
+status_of (outcomes.BadQuery at kind) = 1
+status_of (outcomes.BadDate at) = 1
 status_of outcomes.MailFault = 3
 status_of outcomes.DiskFault = 4
 status_of (outcomes.Closed fault) = 4

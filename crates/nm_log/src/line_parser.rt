@@ -1,13 +1,12 @@
 //! What a line of a script asks for; the session reads each line with it.
 
-ghost use Rattle.std.specs.Prelude.{◌≡◌, [], ◌∷◌, IfOk};
-ghost use Rattle.nm_log.specs.ParsedLine.{parse_line, parse_command, parse_count, parse_new, parse_query, parse_words};
+ghost use Rattle.std.specs.Prelude.{◌≡◌, ◌++◌, [], ◌∷◌, IfOk, OnOk, string_bytes};
+ghost use Rattle.nm_log.specs.ParsedLine.{parse_line, parse_command, parse_count, parse_new, parse_words, query_of};
 ghost use Rattle.nm_log.specs.Words.{words_of};
 
 use crate::words::next_word;
 use nm_answer::Request;
 use nm_base::{CountAsk, NoMemory, Output, Text, UsageKind};
-use nm_core::is_subject_query;
 use std::alloc::Global;
 
 /// What a line asks for, or what is wrong with it.
@@ -77,29 +76,42 @@ fn read_new(alloc: Global, text: &str) -> Result<ParsedLine, NoMemory>
 fn read_count(alloc: Global, text: &str) -> Result<ParsedLine, NoMemory>
     ensures { IfOk result (λ asked. asked ≡ parse_count (words_of text.now)) }
 {
-    match next_word(text) {
-        None => refuse(alloc, UsageKind::Missing, ""),
-        Some((word, words)) => {
-            if next_word(words).is_some() {
-                return refuse(alloc, UsageKind::Value, word);
-            }
-            read_query(alloc, word)
-        }
-    }
-}
-
-/// A count of one query, where it is read.
-fn read_query(alloc: Global, word: &str) -> Result<ParsedLine, NoMemory>
-    ensures { IfOk result (λ asked. asked ≡ parse_query word.now) }
-{
-    if !is_subject_query(word.as_bytes()) {
-        return refuse(alloc, UsageKind::Value, word);
-    }
-    let query = Text::of(alloc, word)?;
+    let query = query_of(alloc, text)?;
     Ok(ParsedLine::Request(Request::Count(CountAsk {
         output: Output::Messages,
         exclude: true,
         batch: false,
         query,
     })))
+}
+
+/// The words of a query, with one space between each two.
+fn query_of(alloc: Global, text: &str) -> Result<Text, NoMemory>
+    ensures { IfOk result (λ query. query ≡ query_of (words_of text.now)) }
+{
+    match next_word(text) {
+        None => Text::of(alloc, ""),
+        Some((first, words)) => joined(alloc, first, words),
+    }
+}
+
+#[tactic(auto, using(crate::proofs::QueryWords::joined_word))]
+fn joined(alloc: Global, first: &str, words: &str) -> Result<Text, NoMemory>
+    ensures { IfOk result (λ query. query ≡ query_of (first.now ∷ words_of words.now)) }
+{
+    let mut query = String::from_str(alloc, first)?;
+    let mut rest = words;
+    'words: while let Some((word, more)) = next_word(rest) {
+        add_word(&mut query, word)?;
+        rest = more;
+    }
+    Text::from_string(query)
+}
+
+fn add_word(query: &mut String, word: &str) -> Result<(), NoMemory>
+    ensures { OnOk result (string_bytes query.new ≡ string_bytes query.old ++ 32 ∷ word.now) }
+{
+    query.push(' ')?;
+    query.push_str(word)?;
+    Ok(())
 }

@@ -1,6 +1,7 @@
 //! How a line ends.
 
 use nm_base::{Limit, Text, UsageKind};
+use nm_query::QueryKind;
 
 /// How a line of a session, or a single command, ended.
 #[derive(Clone, Debug, Drop, PartialEq, Eq)]
@@ -8,6 +9,10 @@ pub enum Outcome {
     Ok,
     /// The words are outside the grammar; `word` is the one at fault.
     Usage { word: Text, kind: UsageKind },
+    /// The query has no tree; `at` is the byte of its text at fault.
+    BadQuery { at: u32, kind: QueryKind },
+    /// An end of a range of dates in the query is no date.
+    BadDate { at: u32 },
     MailFault,
     DiskFault,
     /// The disk failed in an earlier line, when it had failed so often.

@@ -4,12 +4,13 @@ ghost use Rattle.std.specs.Prelude.{◌≡◌, ◌++◌, IfOk, OnOk};
 ghost use Rattle.std.specs.Fmt.{decimal};
 ghost use Rattle.std.specs.List.{flat_map};
 ghost use Rattle.nm_answer.specs.NewText.{is_quiet, new_text, number_after, skip_line, skip_name, summary_line};
-ghost use Rattle.nm_log.specs.Replies.{kind_name, limit_line, limit_name, refusal_line, status_of, usage_line};
+ghost use Rattle.nm_log.specs.Replies.{date_line, kind_name, limit_line, limit_name, query_kind_name, query_line, refusal_line, status_of, usage_line};
 
 use crate::Outcome;
 use itoa::Buffer;
 use nm_answer::NewReport;
 use nm_base::{Limit, MailPath, Many, NoMemory, Skip, Text, UsageKind};
+use nm_query::QueryKind;
 use std::alloc::Global;
 
 /// The status of a line that ended so.
@@ -18,6 +19,7 @@ pub fn line_status(outcome: &Outcome) -> u8
 {
     match outcome {
         Outcome::Ok => 0,
+        Outcome::BadQuery { .. } | Outcome::BadDate { .. } => 1,
         Outcome::Usage { .. } => 2,
         Outcome::MailFault => 3,
         Outcome::DiskFault | Outcome::Closed { .. } => 4,
@@ -54,6 +56,40 @@ pub fn usage_text(alloc: Global, kind: UsageKind, word: &Text) -> Result<Many<u8
     text.extend_from_slice(kind.as_bytes())?;
     text.extend_from_slice(b": ")?;
     text.extend_from_slice(word.as_bytes())?;
+    text.extend_from_slice(b"\n")?;
+    Ok(text)
+}
+
+/// What is wrong with a query, as it is printed.
+fn printed_query_kind(kind: QueryKind) -> &'static str
+    ensures { result.now ≡ query_kind_name kind }
+{
+    match kind {
+        QueryKind::Quote => "quote",
+        QueryKind::Paren => "paren",
+        QueryKind::Operand => "operand",
+        QueryKind::Value => "value",
+        QueryKind::NotHere => "nothere",
+    }
+}
+
+fn query_text(alloc: Global, kind: QueryKind, at: u32) -> Result<Many<u8>, NoMemory>
+    ensures { IfOk result (λ text. text ≡ query_line kind at) }
+{
+    let kind = printed_query_kind(kind);
+    let mut text = Many::from_slice(alloc, b"notmuch: query: ")?;
+    text.extend_from_slice(kind.as_bytes())?;
+    text.extend_from_slice(b" at ")?;
+    add_number(&mut text, u64::from(at))?;
+    text.extend_from_slice(b"\n")?;
+    Ok(text)
+}
+
+fn date_text(alloc: Global, at: u32) -> Result<Many<u8>, NoMemory>
+    ensures { IfOk result (λ text. text ≡ date_line at) }
+{
+    let mut text = Many::from_slice(alloc, b"notmuch: date: at ")?;
+    add_number(&mut text, u64::from(at))?;
     text.extend_from_slice(b"\n")?;
     Ok(text)
 }
@@ -95,6 +131,8 @@ pub fn refusal_text(alloc: Global, outcome: &Outcome) -> Result<Many<u8>, NoMemo
     match outcome {
         Outcome::Ok => Ok(Many::new(alloc)),
         Outcome::Usage { word, kind } => usage_text(alloc, *kind, word),
+        Outcome::BadQuery { at, kind } => query_text(alloc, *kind, *at),
+        Outcome::BadDate { at } => date_text(alloc, *at),
         Outcome::MailFault => Many::from_slice(alloc, b"notmuch: mail fault\n"),
         Outcome::DiskFault => Many::from_slice(alloc, b"notmuch: disk fault\n"),
         Outcome::Closed { .. } => Many::from_slice(alloc, b"notmuch: closed by a disk fault\n"),

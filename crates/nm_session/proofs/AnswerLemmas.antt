@@ -3,7 +3,7 @@ use Rattle.std.proofs.Common.{◌≡◌, inl, inr, ℕ, ℤ, ◌+◌, ◌≤◌,
 use Rattle.std.proofs.lemmas.List.{length-append}
 use Rattle.std.specs.Option.{option_to_list}
 use Rattle.std.specs.Result.{IsErr}
-use Rattle.nm_answer.specs.Count.{count_text}
+use Rattle.nm_answer.specs.Count.{count_answer, count_found}
 use Rattle.nm_answer.specs.NewText.{new_text, report_of}
 use Rattle.nm_answer.specs.declared.report.NewReport.{NewReport}
 use Rattle.nm_answer.specs.declared.request.Request.TheVariants as requests
@@ -15,12 +15,12 @@ use Rattle.nm_base.specs.declared.refusals.UsageKind.{UsageKind}
 use Rattle.nm_commit.specs.declared.change.Commit.{Commit}
 use Rattle.nm_faults.specs.Faults.{HasCauseOf}
 use Rattle.nm_history.specs.Given.{AsksMail}
-use Rattle.nm_history.specs.LineAnswers.{HasCause, line_text}
+use Rattle.nm_history.specs.LineAnswers.{HasCause, NoneFailed, line_text}
 use Rattle.nm_history.specs.LineCommits.{AreDue, Makes}
 use Rattle.nm_history.specs.LineResult.{HasMade, Place, before_at}
 use Rattle.nm_history.specs.Lines.{closed_after}
 use Rattle.nm_history.specs.MachineRun.{replied_where}
-use Rattle.nm_history.specs.Requests.{refused_closed, refused_unasked}
+use Rattle.nm_history.specs.Requests.{first_refusal, query_outcome, refused_closed, refused_text, refused_unasked}
 use Rattle.nm_index.specs.Fits.{FitInTurn}
 use Rattle.nm_index.specs.Index.{committed, folded}
 use Rattle.nm_index.specs.declared.base.Base.{Base}
@@ -33,8 +33,12 @@ use Rattle.nm_log.specs.declared.outcome.Outcome.TheVariants as outcomes
 use Rattle.nm_maildir.specs.Observed.{ObservedMail}
 use Rattle.nm_maildir.specs.Tree.{Tree}
 use Rattle.nm_maildir.specs.declared.given.Given.{Given}
+use Rattle.nm_query.specs.Answers.{answer_of}
+use Rattle.nm_query.specs.declared.query.Query.{Query}
+use Rattle.nm_query.specs.declared.query_error.QueryError.{QueryError}
+use Rattle.nm_query.specs.declared.query_error.QueryError.TheVariants as query_errors
 use Rattle.nm_scan.specs.Scanning.{AsksNew}
-use Rattle.nm_session.specs.Line.{Ends, IsAnswered, IsEven}
+use Rattle.nm_session.specs.Line.{Ends, IsAnswered, IsCounted, IsCountedBy, IsEven}
 use Rattle.nm_session.specs.Marks.{reply_mark}
 use Rattle.nm_session.specs.Outcomes.{is_disk_fault, outcome_of}
 use Rattle.nm_session.specs.declared.answering.Answered.{Answered}
@@ -82,45 +86,77 @@ idle place line outcome makes closed cause = record {
 pub found-no-memory : (place : Place) (line : List ℕ) (noted : List Given) → noted ≡ [] → IsAnswered place line noted outcomes.NoMemory place
 found-no-memory place line noted none = subst (λ (l : List Given). IsAnswered place line l outcomes.NoMemory place) (sym none) (idle place line outcomes.NoMemory (inl refl, refl) refl tt)
 
-pub failed-ends : (place : Place) (line : List ℕ) (noted : List Given) (result : Result Answered NoMemory) → IsErr result → noted ≡ [] → Ends place line noted result place
-failed-ends place line noted (Ok done) failed none = absurd (cc)
-failed-ends place line noted (Err error) failed none = found-no-memory place line noted none
+pub failed-ends : (moment : ℤ) (place : Place) (line : List ℕ) (noted : List Given) (result : Result Answered NoMemory) → IsErr result → noted ≡ [] → Ends moment place line noted result place
+failed-ends moment place line noted (Ok done) failed none = absurd (cc)
+failed-ends moment place line noted (Err error) failed none = found-no-memory place line noted none
 
 -- words outside the grammar
 
-pub usage-ends : (place : Place) (line : List ℕ) (noted : List Given) (word : List ℕ) (kind : UsageKind) (result : Result Answered NoMemory) → noted ≡ [] → parse_line line ≡ asked.Usage word kind
+pub usage-ends : (moment : ℤ) (place : Place) (line : List ℕ) (noted : List Given) (word : List ℕ) (kind : UsageKind) (result : Result Answered NoMemory) → noted ≡ [] → parse_line line ≡ asked.Usage word kind
     → IfOk result (λ done. done ≡ record { outcome = outcomes.Usage word kind; text = refusal_line (outcomes.Usage word kind); reply = None })
-    → Ends place line noted result place
-usage-ends place line noted word kind (Err error) none is said = found-no-memory place line noted none
-usage-ends place line noted word kind (Ok done) none is said =
-    subst (λ (l : List Given). Ends place line l (Ok done) place) (sym none) (subst (λ (d : Answered). Ends place line [] (Ok d) place) (sym said) (
+    → Ends moment place line noted result place
+usage-ends moment place line noted word kind (Err error) none is said = found-no-memory place line noted none
+usage-ends moment place line noted word kind (Ok done) none is said =
+    subst (λ (l : List Given). Ends moment place line l (Ok done) place) (sym none) (subst (λ (d : Answered). Ends moment place line [] (Ok d) place) (sym said) (
       idle place line (outcomes.Usage word kind) (refl, refl) refl (
           subst (λ (p : ParsedLine). HasCause (outcomes.Usage word kind) p (before_at place) place.mail.faults place.disk_faults) (sym is) (refl, record { mail_same = refl; disk_same = refl })),
-      record { text = λ moment. refl; reply = λ lane revision. refl },
+      record { text = refl; reply = λ lane revision. refl },
     ))
 
 -- a count
 
-count-alive : (ask : CountAsk) (closed : Option ℕ) → refused_unasked (asked.Request (requests.Count ask)) closed ≡ None
-count-alive ask None = refl
-count-alive ask (Some fault) = refl
+closed-alive : (closed : Option ℕ) → refused_closed closed false ≡ None
+closed-alive None = refl
+closed-alive (Some fault) = refl
 
-pub count-ends : (place : Place) (line : List ℕ) (noted : List Given) (ask : CountAsk) (shown : Base) (result : Result Answered NoMemory) → noted ≡ [] → parse_line line ≡ asked.Request (requests.Count ask) → shown ≡ place.writer.shown
-    → IfOk result (λ done. done ≡ record { outcome = outcomes.Ok; text = count_text ask.query shown.files; reply = Some (marks.Reply (requests.Count ask) (count_text ask.query shown.files)) })
-    → Ends place line noted result place
-count-ends place line noted ask shown (Err error) none is same said = found-no-memory place line noted none
-count-ends place line noted ask shown (Ok done) none is same said =
-    let text : List ℕ = count_text ask.query place.writer.shown.files in
-    let answer : Answered = record { outcome = outcomes.Ok; text = text; reply = Some (marks.Reply (requests.Count ask) text) } in
-    let done-is : done ≡ answer = said ∙ ap (λ (b : Base). record { outcome = outcomes.Ok; text = count_text ask.query b.files; reply = Some (marks.Reply (requests.Count ask) (count_text ask.query b.files)) }) same in
-    subst (λ (l : List Given). Ends place line l (Ok done) place) (sym none) (subst (λ (d : Answered). Ends place line [] (Ok d) place) (sym done-is) (
-      idle place line outcomes.Ok (record { request = requests.Count ask; asked_for = is; arrivals = []; found = refl; due_are = refl }, refl) refl (
-          subst (λ (p : ParsedLine). HasCause outcomes.Ok p (before_at place) place.mail.faults place.disk_faults) (sym is) (count-alive ask place.writer.closed, record { mail_same = refl; disk_same = refl })),
-      record {
-        text = λ moment. subst (λ (p : ParsedLine). text ≡ line_text outcomes.Ok p place.writer.shown place.writer.shown moment []) (sym is) refl;
-        reply = λ lane revision. subst (λ (p : ParsedLine). option_to_list answer.reply ≡ map reply_mark (replied_where outcomes.Ok p lane revision text)) (sym is) refl;
-      },
-    ))
+module _ (moment : ℤ) (place : Place) (line : List ℕ) (ask : CountAsk) (is : parse_line line ≡ asked.Request (requests.Count ask)) where
+  -- what refuses the line
+  count-refused : (closed : Option ℕ) (answered : Result Query QueryError) → answer_of ask.query ≡ answered → refused_unasked (parse_line line) closed ≡ first_refusal (refused_text answered) (refused_closed closed false)
+  count-refused closed answered e = ap (λ (p : ParsedLine). refused_unasked p closed) is ∙ ap (λ (r : Result Query QueryError). first_refusal (refused_text r) (refused_closed closed false)) e
+
+  none-failed : NoneFailed (before_at place).mail_faults (before_at place).disk_faults place.mail.faults place.disk_faults
+  none-failed = record { mail_same = refl; disk_same = refl }
+
+  -- a query that has a tree is answered
+  count-answered : (query : Query) → answer_of ask.query ≡ Ok query
+      → Ends moment place line [] (Ok (record { outcome = outcomes.Ok; text = count_found ask place.writer.shown moment query; reply = Some (marks.Reply (requests.Count ask) (count_found ask place.writer.shown moment query)) })) place
+  count-answered query e =
+      let text : List ℕ = count_found ask place.writer.shown moment query in
+      let said : text ≡ count_answer ask place.writer.shown moment = sym (ap (λ (r : Result Query QueryError). elim r [ Ok query ↦ count_found ask place.writer.shown moment query | Err refusal ↦ [] ]) e) in (
+        idle place line outcomes.Ok (record { request = requests.Count ask; asked_for = is; batches = []; found = (refl, refl); due_are = refl }, refl) refl (
+          count-refused place.writer.closed (Ok query) e ∙ closed-alive place.writer.closed,
+          none-failed,
+        ),
+        record {
+          text = subst (λ (p : ParsedLine). text ≡ line_text outcomes.Ok p place.writer.shown place.writer.shown moment []) (sym is) said;
+          reply = λ lane revision. subst (λ (p : ParsedLine). option_to_list (Some (marks.Reply (requests.Count ask) text)) ≡ map reply_mark (replied_where outcomes.Ok p lane revision text)) (sym is) refl;
+        },
+      )
+
+  -- one that has none is refused
+  count-none : (refusal : QueryError) → answer_of ask.query ≡ Err refusal → Ends moment place line [] (Ok (record { outcome = query_outcome refusal; text = refusal_line (query_outcome refusal); reply = None })) place
+  count-none (query_errors.BadQuery at kind) e =
+      (idle place line (outcomes.BadQuery at kind) (refl, refl) refl (count-refused place.writer.closed (Err (query_errors.BadQuery at kind)) e, none-failed), record { text = refl; reply = λ lane revision. refl })
+  count-none (query_errors.BadDate at) e =
+      (idle place line (outcomes.BadDate at) (refl, refl) refl (count-refused place.writer.closed (Err (query_errors.BadDate at)) e, none-failed), record { text = refl; reply = λ lane revision. refl })
+  count-none (query_errors.Limit limit) e = (
+    idle place line (outcomes.Limit limit) (inl (refl, refl, inl (count-refused None (Err (query_errors.Limit limit)) e)), refl) refl (inl (count-refused place.writer.closed (Err (query_errors.Limit limit)) e), none-failed),
+    record { text = refl; reply = λ lane revision. refl },
+  )
+  count-none query_errors.NoMemory e = (idle place line outcomes.NoMemory (inl refl, refl) refl tt, record { text = refl; reply = λ lane revision. refl })
+
+  count-ended : (done : Answered) (answered : Result Query QueryError) → answer_of ask.query ≡ answered
+      → IsCountedBy moment place.writer.shown ask answered done
+      → Ends moment place line [] (Ok done) place
+  count-ended done (Ok query) e said = subst (λ (d : Answered). Ends moment place line [] (Ok d) place) (sym said) (count-answered query e)
+  count-ended done (Err refusal) e said = subst (λ (d : Answered). Ends moment place line [] (Ok d) place) (sym said) (count-none refusal e)
+
+pub count-ends : (moment : ℤ) (place : Place) (line : List ℕ) (noted : List Given) (ask : CountAsk) (shown : Base) (result : Result Answered NoMemory) → noted ≡ [] → parse_line line ≡ asked.Request (requests.Count ask) → shown ≡ place.writer.shown
+    → IfOk result (IsCounted moment shown ask) → Ends moment place line noted result place
+count-ends moment place line noted ask shown (Err error) none is same said = found-no-memory place line noted none
+count-ends moment place line noted ask shown (Ok done) none is same said =
+    subst (λ (l : List Given). Ends moment place line l (Ok done) place) (sym none)
+    (count-ended moment place line ask is done (answer_of ask.query) refl (subst (λ (b : Base). IsCounted moment b ask done) same said))
 
 -- what is due fits, and so do the first of it
 
@@ -157,11 +193,8 @@ some-none None P none some = absurd (cc)
 some-none (Some fault) P none some = absurd (cc)
 
 module _ (old new : Place) (line : List ℕ) (noted : List Given) (is : parse_line line ≡ asked.Request requests.New) (asks : AsksNew old.mail new.mail old.writer.shown.files noted) (tree : new.mail.tree ≡ old.mail.tree) where
-  abbrev Due : List Commit → Type 0
-  Due due = AreNewCommits old.mail.tree old.writer.shown noted due
-
-  are-due : (due : List Commit) → Due due → AreDue old.mail.tree old.writer.shown line noted due
-  are-due due h = record { request = requests.New; asked_for = is; arrivals = h.arrivals; found = h.found; due_are = h.due_are }
+  are-due : (left : List (List ℕ)) (due : List Commit) → AreNewCommits old.mail.tree old.writer.shown noted left due → AreDue old.mail.tree old.writer.shown line noted left due
+  are-due left due h = record { request = requests.New; asked_for = is; batches = h.batches; found = h.found; due_are = h.due_are }
 
   answered-with : (outcome : Outcome) (made flight : List Commit) → HasMade old.writer made flight new.writer → Makes outcome old.mail.tree old.writer.shown line noted (length old.writer.acked + length made) made flight
       → new.writer.closed ≡ closed_after old.writer.closed outcome new.disk_faults → old.mail.faults ≤ new.mail.faults → old.disk_faults ≤ new.disk_faults
@@ -210,16 +243,19 @@ module _ (old new : Place) (line : List ℕ) (noted : List Given) (is : parse_li
       → IsAnswered old line noted (outcome_by result) new
   new-answered P Q (Ok report) after shut mail disk even =
       let alive : old.writer.closed ≡ None = alive-by old.writer.closed (Ok report) P Q shut refl in
-      answered-with outcomes.Ok after.0.0 [] (made-some after.0.0 after.0.2 alive after.0.1.fit) (are-due after.0.0 after.0.1, refl) after.0.2.closed (omega (arith, mail)) (omega (arith, disk))
+      answered-with outcomes.Ok after.0.0 [] (made-some after.0.0 after.0.2 alive after.0.1.fit) (are-due [] after.0.0 after.0.1, refl) after.0.2.closed (omega (arith, mail)) (omega (arith, disk))
       (alive-asks alive, record { mail_same = mail; disk_same = disk })
-  new-answered P Q (Err errors.MailFault) after shut mail disk even =
+  new-answered P Q (Err errors.MailFault) (inl (none, same)) shut mail disk even =
       let alive : old.writer.closed ≡ None = alive-by old.writer.closed (Err errors.MailFault) P Q shut refl in
-      answered-with outcomes.MailFault [] [] (made-none after) (refl, refl) (ap (λ (w : WriterState). w.closed) after) mail.0 (omega (arith, disk)) (alive-asks alive, refl, mail)
+      answered-with outcomes.MailFault [] [] (made-none same) (inl (none, refl), refl) (ap (λ (w : WriterState). w.closed) same) mail.0 (omega (arith, disk)) (alive-asks alive, refl, mail, disk)
+  new-answered P Q (Err errors.MailFault) (inr (path, left, due, are, made)) shut mail disk even =
+      let alive : old.writer.closed ≡ None = alive-by old.writer.closed (Err errors.MailFault) P Q shut refl in
+      answered-with outcomes.MailFault due [] (made-some due made alive are.fit) (inr (path, left, are-due (path ∷ left) due are), refl) made.closed mail.0 (omega (arith, disk)) (alive-asks alive, refl, mail, disk)
   new-answered P Q (Err errors.DiskFault) after shut mail disk even =
       let alive : old.writer.closed ≡ None = alive-by old.writer.closed (Err errors.DiskFault) P Q shut refl in
-      let fails : FailsWithin old.writer after.0 new.disk_faults new.writer = after.2 in
+      let fails : FailsWithin old.writer after.1 new.disk_faults new.writer = after.3 in
       let fit : FitInTurn old.writer.shown ((fails.done ++ fails.commit ∷ []) ++ fails.more) =
-      subst (FitInTurn old.writer.shown) (fails.due_are ∙ sym (append_assoc fails.done (fails.commit ∷ []) fails.more)) after.1.fit in
+      subst (FitInTurn old.writer.shown) (fails.due_are ∙ sym (append_assoc fails.done (fails.commit ∷ []) fails.more)) after.2.fit in
       answered-with outcomes.DiskFault fails.done (fails.commit ∷ []) (record {
         fit = fit-front old.writer.shown (fails.done ++ fails.commit ∷ []) fails.more fit;
         idle = λ some. some-none old.writer.closed (fails.done ++ fails.commit ∷ [] ≡ []) alive some;
@@ -228,39 +264,49 @@ module _ (old new : Place) (line : List ℕ) (noted : List Given) (is : parse_li
         clocks = fails.clocks;
         acked = fails.acked;
         one_each = fails.each;
-      }) (fails.commit, record { due = after.0; are_due = are-due after.0 after.1; more = fails.more; order = fails.due_are }, refl) fails.closed (omega (arith, mail)) disk.0 (alive-asks alive, refl, disk)
+      }) (fails.commit, record { left = after.0; due = after.1; are_due = are-due after.0 after.1 after.2; more = fails.more; order = fails.due_are }, refl) fails.closed (omega (arith, mail)) disk.0 (alive-asks alive, refl, disk, mail)
   new-answered P Q (Err (errors.Closed fault)) after shut mail disk even =
       answered-with (outcomes.Closed fault) [] [] (made-none after.2) (refl, refl) (ap (λ (w : WriterState). w.closed) after.2) (omega (arith, mail)) (omega (arith, disk))
       (ap (λ (c : Option ℕ). refused_closed c true) after.0, record { mail_same = mail; disk_same = disk })
-  new-answered P Q (Err (errors.Limit limit)) after shut mail disk even =
+  new-answered P Q (Err (errors.Limit limit)) (inl (none, passes, same)) shut mail disk even =
       let alive : old.writer.closed ≡ None = alive-by old.writer.closed (Err (errors.Limit limit)) P Q shut refl in
-      let passes : PassesWithin old.writer after.0 limit new.writer = after.2 in
-      answered-with (outcomes.Limit limit) passes.done [] (made-some passes.done passes.made alive (fit-front old.writer.shown passes.done (passes.commit ∷ passes.more) (subst (FitInTurn old.writer.shown) passes.due_are after.1.fit)))
-      (passes.commit, record { due = after.0; are_due = are-due after.0 after.1; more = passes.more; order = passes.due_are }, passed-by passes.done passes.commit limit passes.made alive even passes.passed, refl)
-      passes.made.closed (omega (arith, mail)) (omega (arith, disk)) (alive-asks alive, refl)
+      answered-with (outcomes.Limit limit) [] [] (made-none same) (inl (none, refl, inr passes), refl) (ap (λ (w : WriterState). w.closed) same) (omega (arith, mail)) (omega (arith, disk))
+      (inr (alive-asks alive, refl), record { mail_same = mail; disk_same = disk })
+  new-answered P Q (Err (errors.Limit limit)) (inr after) shut mail disk even =
+      let alive : old.writer.closed ≡ None = alive-by old.writer.closed (Err (errors.Limit limit)) P Q shut refl in
+      let passes : PassesWithin old.writer after.1 limit new.writer = after.3 in
+      answered-with (outcomes.Limit limit) passes.done [] (made-some passes.done passes.made alive (fit-front old.writer.shown passes.done (passes.commit ∷ passes.more) (subst (FitInTurn old.writer.shown) passes.due_are after.2.fit)))
+      (inr (passes.commit, record { left = after.0; due = after.1; are_due = are-due after.0 after.1 after.2; more = passes.more; order = passes.due_are }, passed-by passes.done passes.commit limit passes.made alive even passes.passed), refl)
+      passes.made.closed (omega (arith, mail)) (omega (arith, disk)) (inr (alive-asks alive, refl), record { mail_same = mail; disk_same = disk })
   new-answered P Q (Err errors.NoMemory) (inl same) shut mail disk even =
       answered-with outcomes.NoMemory [] [] (made-none same) (inl refl, refl) (ap (λ (w : WriterState). w.closed) same) (omega (arith, mail)) (omega (arith, disk)) tt
   new-answered P Q (Err errors.NoMemory) (inr after) shut mail disk even =
       let alive : old.writer.closed ≡ None = alive-by old.writer.closed (Err errors.NoMemory) P Q shut refl in
-      let stops : StopsWithin old.writer after.0 new.writer = after.2 in
-      answered-with outcomes.NoMemory stops.done [] (made-some stops.done stops.made alive (fit-front old.writer.shown stops.done stops.more (subst (FitInTurn old.writer.shown) stops.due_are after.1.fit)))
-      (inr (after.0, stops.more, are-due after.0 after.1, stops.due_are), refl) stops.made.closed (omega (arith, mail)) (omega (arith, disk)) tt
+      let stops : StopsWithin old.writer after.1 new.writer = after.3 in
+      answered-with outcomes.NoMemory stops.done [] (made-some stops.done stops.made alive (fit-front old.writer.shown stops.done stops.more (subst (FitInTurn old.writer.shown) stops.due_are after.2.fit)))
+      (inr (after.0, after.1, stops.more, are-due after.0 after.1 after.2, stops.due_are), refl) stops.made.closed (omega (arith, mail)) (omega (arith, disk)) tt
 
 -- a line that finds no memory for its text
 
 makes-first : (outcome : Outcome) (tree : Option Tree) (index : Base) (line : List ℕ) (noted : List Given) (count : ℕ) (made flight : List Commit) → is_disk_fault outcome ≡ false
     → Makes outcome tree index line noted count made flight → Makes outcomes.NoMemory tree index line noted count made flight
-makes-first outcomes.Ok tree index line noted count made flight sound h = (inr (made, [], h.0, sym (append-nil made)), h.1)
+makes-first outcomes.Ok tree index line noted count made flight sound h = (inr ([], made, [], h.0, sym (append-nil made)), h.1)
 makes-first (outcomes.Usage word kind) tree index line noted count made flight sound h = (inl h.0, h.1)
-makes-first outcomes.MailFault tree index line noted count made flight sound h = (inl h.0, h.1)
+makes-first (outcomes.BadQuery at kind) tree index line noted count made flight sound h = (inl h.0, h.1)
+makes-first (outcomes.BadDate at) tree index line noted count made flight sound h = (inl h.0, h.1)
+makes-first outcomes.MailFault tree index line noted count made flight sound (inl (none, nothing), h) = (inl nothing, h)
+makes-first outcomes.MailFault tree index line noted count made flight sound (inr (path, left, due), h) = (inr (path ∷ left, made, [], due, sym (append-nil made)), h)
 makes-first outcomes.DiskFault tree index line noted count made flight sound h = absurd (cc)
 makes-first (outcomes.Closed fault) tree index line noted count made flight sound h = (inl h.0, h.1)
-makes-first (outcomes.Limit limit) tree index line noted count made flight sound h = (inr (h.1.due, h.0 ∷ h.1.more, h.1.are_due, h.1.order), h.3)
+makes-first (outcomes.Limit limit) tree index line noted count made flight sound (inl passes, h) = (inl passes.1, h)
+makes-first (outcomes.Limit limit) tree index line noted count made flight sound (inr (commit, stops, passed), h) = (inr (stops.left, stops.due, commit ∷ stops.more, stops.are_due, stops.order), h)
 makes-first outcomes.NoMemory tree index line noted count made flight sound h = h
 
 still-closed : (outcome : Outcome) (closed : Option ℕ) (faults : ℕ) → is_disk_fault outcome ≡ false → closed_after closed outcome faults ≡ closed
 still-closed outcomes.Ok closed faults sound = refl
 still-closed (outcomes.Usage word kind) closed faults sound = refl
+still-closed (outcomes.BadQuery at kind) closed faults sound = refl
+still-closed (outcomes.BadDate at) closed faults sound = refl
 still-closed outcomes.MailFault closed faults sound = refl
 still-closed outcomes.DiskFault closed faults sound = absurd (cc)
 still-closed (outcomes.Closed fault) closed faults sound = refl
@@ -297,32 +343,32 @@ refusal-unreplied (errors.Closed fault) line lane revision text = refl
 refusal-unreplied (errors.Limit limit) line lane revision text = refl
 refusal-unreplied errors.NoMemory line lane revision text = refl
 
-pub refused-ends : (old new : Place) (line : List ℕ) (noted : List Given) (error : WriteError) (result : Result Answered NoMemory) → IsAnswered old line noted (outcome_of error) new
+pub refused-ends : (moment : ℤ) (old new : Place) (line : List ℕ) (noted : List Given) (error : WriteError) (result : Result Answered NoMemory) → IsAnswered old line noted (outcome_of error) new
     → MatchResult result (λ done. done ≡ record { outcome = outcome_of error; text = refusal_line (outcome_of error); reply = None }) (λ _. is_disk_fault (outcome_of error) ≡ false)
-    → Ends old line noted result new
-refused-ends old new line noted error (Err wanted) h said = wants-memory old new line noted (outcome_of error) said h
-refused-ends old new line noted error (Ok done) h said =
-    subst (λ (d : Answered). Ends old line noted (Ok d) new) (sym said) (
+    → Ends moment old line noted result new
+refused-ends moment old new line noted error (Err wanted) h said = wants-memory old new line noted (outcome_of error) said h
+refused-ends moment old new line noted error (Ok done) h said =
+    subst (λ (d : Answered). Ends moment old line noted (Ok d) new) (sym said) (
       h,
       record {
-        text = λ moment. refusal-said error (parse_line line) old.writer.shown new.writer.shown moment noted;
+        text = refusal-said error (parse_line line) old.writer.shown new.writer.shown moment noted;
         reply = λ lane revision. refusal-unreplied error (parse_line line) lane revision (refusal_line (outcome_of error));
       },
     )
 
-pub replied-ends : (old new : Place) (line : List ℕ) (noted : List Given) (report lent : NewReport) (result : Result Answered NoMemory) → parse_line line ≡ asked.Request requests.New → IsAnswered old line noted outcomes.Ok new
+pub replied-ends : (moment : ℤ) (old new : Place) (line : List ℕ) (noted : List Given) (report lent : NewReport) (result : Result Answered NoMemory) → parse_line line ≡ asked.Request requests.New → IsAnswered old line noted outcomes.Ok new
     → lent ≡ report → report ≡ report_of old.writer.shown.files new.writer.shown.files noted
     → IfOk result (λ done. done ≡ record { outcome = outcomes.Ok; text = new_text lent; reply = Some (marks.Reply requests.New (new_text lent)) })
-    → Ends old line noted result new
-replied-ends old new line noted report lent (Err wanted) is h same reported said = wants-memory old new line noted outcomes.Ok refl h
-replied-ends old new line noted report lent (Ok done) is h same reported said =
+    → Ends moment old line noted result new
+replied-ends moment old new line noted report lent (Err wanted) is h same reported said = wants-memory old new line noted outcomes.Ok refl h
+replied-ends moment old new line noted report lent (Ok done) is h same reported said =
     let text : List ℕ = new_text (report_of old.writer.shown.files new.writer.shown.files noted) in
     let answer : Answered = record { outcome = outcomes.Ok; text = text; reply = Some (marks.Reply requests.New text) } in
     let done-is : done ≡ answer = said ∙ ap (λ (r : NewReport). record { outcome = outcomes.Ok; text = new_text r; reply = Some (marks.Reply requests.New (new_text r)) }) (same ∙ reported) in
-    subst (λ (d : Answered). Ends old line noted (Ok d) new) (sym done-is) (
+    subst (λ (d : Answered). Ends moment old line noted (Ok d) new) (sym done-is) (
       h,
       record {
-        text = λ moment. subst (λ (p : ParsedLine). text ≡ line_text outcomes.Ok p old.writer.shown new.writer.shown moment noted) (sym is) refl;
+        text = subst (λ (p : ParsedLine). text ≡ line_text outcomes.Ok p old.writer.shown new.writer.shown moment noted) (sym is) refl;
         reply = λ lane revision. subst (λ (p : ParsedLine). option_to_list answer.reply ≡ map reply_mark (replied_where outcomes.Ok p lane revision text)) (sym is) refl;
       },
     )

@@ -1,14 +1,11 @@
 -- What a line leaves: its log and its marks.
-use Rattle.std.proofs.Common.{◌≡◌, inl, inr, ℕ, ◌+◌, ◌-◌, ◌≤◌, List, [], ◌∷◌, ◌++◌, Option, None, MatchResult, Result, Ok, Err, length, map, replicate, codes, if◌then◌else◌, refl, sym, ap, ◌∙◌, subst, arith}
+use Rattle.std.proofs.Common.{◌≡◌, ℕ, ℤ, ◌+◌, ◌-◌, ◌≤◌, List, [], ◌∷◌, ◌++◌, Option, None, MatchResult, Result, Ok, Err, length, map, replicate, codes, if◌then◌else◌, refl, sym, ap, ◌∙◌, subst, arith}
 use Rattle.std.proofs.lemmas.List.{length-append}
 use Rattle.std.specs.Option.{option_to_list}
-use Rattle.nm_answer.specs.declared.request.Request.{Request}
-use Rattle.nm_answer.specs.declared.request.Request.TheVariants as requests
-use Rattle.nm_base.specs.declared.facts.Facts.{Facts}
+use Rattle.nm_base.specs.Limits.{max_commits}
 use Rattle.nm_base.specs.declared.memory.NoMemory.{NoMemory}
-use Rattle.nm_commit.specs.declared.change.Change.{Change}
 use Rattle.nm_commit.specs.declared.change.Commit.{Commit}
-use Rattle.nm_history.specs.LineCommits.{AreDue, Makes}
+use Rattle.nm_history.specs.LineCommits.{Makes}
 use Rattle.nm_history.specs.LineResult.{Place}
 use Rattle.nm_history.specs.Lines.{RunLine, closed_after}
 use Rattle.nm_history.specs.MachineRun.{Replied, replied_where, reply_to}
@@ -22,7 +19,6 @@ use Rattle.nm_log.specs.declared.outcome.Outcome.TheVariants as outcomes
 use Rattle.nm_log.specs.declared.script.ScriptLine.{ScriptLine}
 use Rattle.nm_maildir.specs.Tree.{Tree}
 use Rattle.nm_maildir.specs.declared.given.Given.{Given}
-use Rattle.nm_plan.specs.Plan.{commit_of, due_commits}
 use Rattle.nm_session.specs.Line.{Ends, IsAnswered, IsEven, IsRun, IsSaid}
 use Rattle.nm_session.specs.Marks.{begun_mark, line_marks, made_mark, marks_for, reply_mark}
 use Rattle.nm_session.specs.Outcomes.{is_disk_fault}
@@ -36,22 +32,22 @@ use Rattle.nm_session.proofs.MarkLemmas.{mapped}
 abbrev without_memory : List ℕ → Answered
 without_memory spare = record { outcome = outcomes.NoMemory; text = spare; reply = None }
 
-done-by : (old new : Place) (line : List ℕ) (noted : List Given) (answered : Result Answered NoMemory) (done : Answered) (spare : List ℕ) → spare ≡ codes "notmuch: no memory\n"
-    → MatchResult answered (λ got. done ≡ got) (λ error. done ≡ record { outcome = outcomes.NoMemory; text = spare; reply = None }) → Ends old line noted answered new
-    → IsAnswered old line noted done.outcome new × IsSaid old line noted done new
-done-by old new line noted (Ok got) done spare text is h =
-    subst (λ (d : Answered). IsAnswered old line noted d.outcome new × IsSaid old line noted d new) (sym is) h
-done-by old new line noted (Err error) done spare text is h =
-    subst (λ (d : Answered). IsAnswered old line noted d.outcome new × IsSaid old line noted d new) (sym (is ∙ ap without_memory text))
-    (h, record { text = λ moment. refl; reply = λ lane revision. refl })
+done-by : (moment : ℤ) (old new : Place) (line : List ℕ) (noted : List Given) (answered : Result Answered NoMemory) (done : Answered) (spare : List ℕ) → spare ≡ codes "notmuch: no memory\n"
+    → MatchResult answered (λ got. done ≡ got) (λ error. done ≡ record { outcome = outcomes.NoMemory; text = spare; reply = None }) → Ends moment old line noted answered new
+    → IsAnswered old line noted done.outcome new × IsSaid moment old line noted done new
+done-by moment old new line noted (Ok got) done spare text is h =
+    subst (λ (d : Answered). IsAnswered old line noted d.outcome new × IsSaid moment old line noted d new) (sym is) h
+done-by moment old new line noted (Err error) done spare text is h =
+    subst (λ (d : Answered). IsAnswered old line noted d.outcome new × IsSaid moment old line noted d new) (sym (is ∙ ap without_memory text))
+    (h, record { text = refl; reply = λ lane revision. refl })
 
-pub is-run : (old new : Place) (line : ScriptLine) (seen : List ℕ) (noted : List Given) (answered : Result Answered NoMemory) (done : Answered) (spare : List ℕ) (shown : Base) (revision status mail disk : ℕ) → seen ≡ line.text
+pub is-run : (moment : ℤ) (old new : Place) (line : ScriptLine) (seen : List ℕ) (noted : List Given) (answered : Result Answered NoMemory) (done : Answered) (spare : List ℕ) (shown : Base) (revision status mail disk : ℕ) → seen ≡ line.text
     → spare ≡ codes "notmuch: no memory\n" → MatchResult answered (λ got. done ≡ got) (λ error. done ≡ record { outcome = outcomes.NoMemory; text = spare; reply = None })
-    → Ends old seen noted answered new → revision ≡ shown.revision → shown ≡ new.writer.shown → status ≡ status_of done.outcome → mail ≡ new.mail.faults → disk ≡ new.disk_faults
-    → IsRun old (line, record { phase = 0; lane = 0; line = line.number; revision = revision; status = status; outcome = done.outcome; text = done.text; given = noted; mail_faults = mail; disk_faults = disk }) done.reply new
-is-run old new line seen noted answered done spare shown revision status mail disk same text is ends at shown_is status_is mail_is disk_is =
-    let h : IsAnswered old line.text noted done.outcome new × IsSaid old line.text noted done new =
-    subst (λ (l : List ℕ). IsAnswered old l noted done.outcome new × IsSaid old l noted done new) same (done-by old new seen noted answered done spare text is ends) in
+    → Ends moment old seen noted answered new → revision ≡ shown.revision → shown ≡ new.writer.shown → status ≡ status_of done.outcome → mail ≡ new.mail.faults → disk ≡ new.disk_faults
+    → IsRun moment old (line, record { phase = 0; lane = 0; line = line.number; revision = revision; status = status; outcome = done.outcome; text = done.text; given = noted; mail_faults = mail; disk_faults = disk }) done.reply new
+is-run moment old new line seen noted answered done spare shown revision status mail disk same text is ends at shown_is status_is mail_is disk_is =
+    let h : IsAnswered old line.text noted done.outcome new × IsSaid moment old line.text noted done new =
+    subst (λ (l : List ℕ). IsAnswered old l noted done.outcome new × IsSaid moment old l noted done new) same (done-by moment old new seen noted answered done spare text is ends) in
     record {
       answered = h.0;
       text = h.1.text;
@@ -73,10 +69,12 @@ pub flight-marks : (outcome : Outcome) (tree : Option Tree) (index : Base) (line
     → (if is_disk_fault outcome then marks.Begun ∷ [] else []) ≡ map begun_mark flight
 flight-marks outcomes.Ok tree index line noted count made flight h = sym (ap (map begun_mark) h.1)
 flight-marks (outcomes.Usage word kind) tree index line noted count made flight h = sym (ap (map begun_mark) h.1)
+flight-marks (outcomes.BadQuery at kind) tree index line noted count made flight h = sym (ap (map begun_mark) h.1)
+flight-marks (outcomes.BadDate at) tree index line noted count made flight h = sym (ap (map begun_mark) h.1)
 flight-marks outcomes.MailFault tree index line noted count made flight h = sym (ap (map begun_mark) h.1)
 flight-marks outcomes.DiskFault tree index line noted count made flight h = sym (ap (map begun_mark) h.2)
 flight-marks (outcomes.Closed fault) tree index line noted count made flight h = sym (ap (map begun_mark) h.1)
-flight-marks (outcomes.Limit limit) tree index line noted count made flight h = sym (ap (map begun_mark) h.3)
+flight-marks (outcomes.Limit limit) tree index line noted count made flight h = sym (ap (map begun_mark) h.1)
 flight-marks outcomes.NoMemory tree index line noted count made flight h = sym (ap (map begun_mark) h.1)
 
 count-made : (acked seen new clocks : List ℕ) (commits : List Commit) (made : ℕ) → made ≡ length new - length seen → seen ≡ acked → new ≡ acked ++ clocks → length clocks ≡ length commits → made ≡ length commits
@@ -85,9 +83,9 @@ count-made acked seen new clocks commits made is same added each =
     let before : length seen ≡ length acked = ap length same in
     omega (arith, is, more, before, each)
 
-pub marks-are : (old new : Place) (ran : RunLine) (reply : Option Mark) (seen : List ℕ) (made : ℕ) (run : IsRun old ran reply new) → seen ≡ old.writer.acked → made ≡ length new.writer.acked - length seen
+pub marks-are : (moment : ℤ) (old new : Place) (ran : RunLine) (reply : Option Mark) (seen : List ℕ) (made : ℕ) (run : IsRun moment old ran reply new) → seen ≡ old.writer.acked → made ≡ length new.writer.acked - length seen
     → marks_for made (is_disk_fault ran.1.outcome) (option_to_list reply) ≡ line_marks run.answered.made run.answered.flight (reply_to ran)
-marks-are old new ran reply seen made run same is =
+marks-are moment old new ran reply seen made run same is =
     let h : IsAnswered old ran.0.text ran.1.given ran.1.outcome new = run.answered in
     let count : made ≡ length h.made = count-made old.writer.acked seen new.writer.acked h.has_made.clocks h.made made is same h.has_made.acked h.has_made.one_each in
     let flight : (if is_disk_fault ran.1.outcome then marks.Begun ∷ [] else []) ≡ map begun_mark h.flight =
@@ -97,45 +95,7 @@ marks-are old new ran reply seen made run same is =
     ∙ (ap (λ (l : List Mark). map made_mark h.made ++ (l ++ option_to_list reply)) flight
     ∙ ap (λ (l : List Mark). map made_mark h.made ++ (map begun_mark h.flight ++ l)) run.reply_is))
 
--- a line has two commits at most, and one reply
-
-commit-few : (changes : List Change) → length (commit_of changes) ≤ 1
-commit-few [] = omega arith
-commit-few (change ∷ changes) = omega arith
-
-due-few : (request : Request) (index : Base) (noted : List Given) (arrivals : List (List ℕ × Facts)) → length (due_commits request index noted arrivals) ≤ 2
-due-few requests.New index noted arrivals = grind (arith, length-append, commit-few)
-due-few (requests.Count ask) index noted arrivals = omega arith
-
-are-few : (tree : Option Tree) (index : Base) (line : List ℕ) (noted : List Given) (due : List Commit) → AreDue tree index line noted due → length due ≤ 2
-are-few tree index line noted due h = subst (λ (l : List Commit). length l ≤ 2) (sym h.due_are) (due-few h.request index noted h.arrivals)
-
-stop-few : (due made more : List Commit) (commit : Commit) → due ≡ made ++ commit ∷ more → length due ≤ 2 → length made + 1 ≤ 2
-stop-few due made more commit is few =
-    let all : length due ≡ length made + length (commit ∷ more) = ap length is ∙ length-append made (commit ∷ more) in
-    omega (arith, all, few)
-
-first-few : (due made more : List Commit) → due ≡ made ++ more → length due ≤ 2 → length made ≤ 2
-first-few due made more is few =
-    let all : length due ≡ length made + length more = ap length is ∙ length-append made more in
-    omega (arith, all, few)
-
-none-long : (flight : List Commit) → flight ≡ [] → length flight ≡ 0
-none-long flight is = ap length is
-
-pub few-made : (outcome : Outcome) (tree : Option Tree) (index : Base) (line : List ℕ) (noted : List Given) (count : ℕ) (made flight : List Commit) → Makes outcome tree index line noted count made flight → length made + length flight ≤ 2
-few-made outcomes.Ok tree index line noted count made flight h = omega (arith, are-few tree index line noted made h.0, none-long flight h.1)
-few-made (outcomes.Usage word kind) tree index line noted count made flight h = omega (arith, none-long made h.0, none-long flight h.1)
-few-made outcomes.MailFault tree index line noted count made flight h = omega (arith, none-long made h.0, none-long flight h.1)
-few-made outcomes.DiskFault tree index line noted count made flight h =
-    let one : length flight ≡ 1 = ap length h.2 in
-    omega (arith, stop-few h.1.due made h.1.more h.0 h.1.order (are-few tree index line noted h.1.due h.1.are_due), one)
-few-made (outcomes.Closed fault) tree index line noted count made flight h = omega (arith, none-long made h.0, none-long flight h.1)
-few-made (outcomes.Limit limit) tree index line noted count made flight h =
-    omega (arith, stop-few h.1.due made h.1.more h.0 h.1.order (are-few tree index line noted h.1.due h.1.are_due), none-long flight h.3)
-few-made outcomes.NoMemory tree index line noted count made flight h =
-    let some : length made ≤ 2 = elim (h.0) [ inl none ↦ omega (arith, none-long made none) | inr due ↦ first-few due.0 made due.1 due.3 (are-few tree index line noted due.0 due.2) ] in
-    omega (arith, some, none-long flight h.1)
+-- a line has one reply at most
 
 asked-few : (line : ParsedLine) (lane revision : ℕ) (text : List ℕ) → length (replied_where outcomes.Ok line lane revision text) ≤ 1
 asked-few (asked.Request request) lane revision text = omega arith
@@ -144,6 +104,8 @@ asked-few (asked.Usage word kind) lane revision text = omega arith
 pub reply-few : (outcome : Outcome) (line : ParsedLine) (lane revision : ℕ) (text : List ℕ) → length (replied_where outcome line lane revision text) ≤ 1
 reply-few outcomes.Ok line lane revision text = asked-few line lane revision text
 reply-few (outcomes.Usage word kind) line lane revision text = omega arith
+reply-few (outcomes.BadQuery at kind) line lane revision text = omega arith
+reply-few (outcomes.BadDate at) line lane revision text = omega arith
 reply-few outcomes.MailFault line lane revision text = omega arith
 reply-few outcomes.DiskFault line lane revision text = omega arith
 reply-few (outcomes.Closed fault) line lane revision text = omega arith
@@ -157,30 +119,31 @@ line-marks-length made flight replies =
     ∙ ap (λ n. length made + n) (length-append (map begun_mark flight) (map reply_mark replies)
     ∙ (ap (λ n. n + length (map reply_mark replies)) (mapped begun_mark flight) ∙ ap (λ n. length flight + n) (mapped reply_mark replies))))
 
-pub marks-few : (old new : Place) (ran : RunLine) (reply : Option Mark) (run : IsRun old ran reply new) → length (line_marks run.answered.made run.answered.flight (reply_to ran)) ≤ 3
-marks-few old new ran reply run =
+-- the marks of a line are those of the commits that it began, and at most one more
+pub marks-few : (moment : ℤ) (old new : Place) (ran : RunLine) (reply : Option Mark) (seen : List ℕ) (made : ℕ) → IsRun moment old ran reply new → seen ≡ old.writer.acked → made ≡ length new.writer.acked - length seen
+    → length (marks_for made (is_disk_fault ran.1.outcome) (option_to_list reply)) + length old.writer.begun ≤ length new.writer.begun + 1
+marks-few moment old new ran reply seen made run same is =
     let h : IsAnswered old ran.0.text ran.1.given ran.1.outcome new = run.answered in
+    let begun : length new.writer.begun ≡ length old.writer.begun + length (h.made ++ h.flight) = ap length h.has_made.begun_are ∙ length-append old.writer.begun (h.made ++ h.flight) in
     omega (
       arith,
+      ap length (marks-are moment old new ran reply seen made run same is),
       line-marks-length h.made h.flight (reply_to ran),
-      few-made ran.1.outcome old.mail.tree old.writer.shown ran.0.text ran.1.given (length old.writer.acked + length h.made) h.made h.flight h.makes,
       reply-few ran.1.outcome (parse_line ran.0.text) ran.1.lane ran.1.revision ran.1.text,
+      begun,
+      length-append h.made h.flight,
     )
 
--- there is a place for each mark of a line
-pub marks-fit : (old new : Place) (ran : RunLine) (reply : Option Mark) (seen : List ℕ) (made room : ℕ) → IsRun old ran reply new → seen ≡ old.writer.acked → made ≡ length new.writer.acked - length seen → 3 ≤ room
+-- there is a place for each
+pub marks-fit : (moment : ℤ) (old new : Place) (ran : RunLine) (reply : Option Mark) (seen : List ℕ) (made room : ℕ) → IsRun moment old ran reply new → seen ≡ old.writer.acked → made ≡ length new.writer.acked - length seen
+    → 1 + max_commits ≤ room + length old.writer.begun → length new.writer.begun ≤ max_commits
     → length (marks_for made (is_disk_fault ran.1.outcome) (option_to_list reply)) ≤ room
-marks-fit old new ran reply seen made room run same is spare =
-    let all : length (marks_for made (is_disk_fault ran.1.outcome) (option_to_list reply)) ≡ length (line_marks run.answered.made run.answered.flight (reply_to ran)) =
-    ap length (marks-are old new ran reply seen made run same is) in
-    omega (arith, all, marks-few old new ran reply run, spare)
+marks-fit moment old new ran reply seen made room run same is spare within = omega (arith, marks-few moment old new ran reply seen made run same is, spare, within)
 
--- and at most three places are taken
-pub marks-left : (old new : Place) (ran : RunLine) (reply : Option Mark) (seen : List ℕ) (made room left : ℕ) → IsRun old ran reply new → seen ≡ old.writer.acked → made ≡ length new.writer.acked - length seen
-    → left + length (marks_for made (is_disk_fault ran.1.outcome) (option_to_list reply)) ≡ room → room ≤ left + 3
-marks-left old new ran reply seen made room left run same is taken =
-    let few : length (marks_for made (is_disk_fault ran.1.outcome) (option_to_list reply)) ≤ 3 = marks-fit old new ran reply seen made 3 run same is (omega arith) in
-    omega (arith, few, taken)
+-- and no more places are taken
+pub marks-left : (moment : ℤ) (old new : Place) (ran : RunLine) (reply : Option Mark) (seen : List ℕ) (made room left : ℕ) → IsRun moment old ran reply new → seen ≡ old.writer.acked → made ≡ length new.writer.acked - length seen
+    → left + length (marks_for made (is_disk_fault ran.1.outcome) (option_to_list reply)) ≡ room → room + length old.writer.begun ≤ left + length new.writer.begun + 1
+marks-left moment old new ran reply seen made room left run same is taken = omega (arith, marks-few moment old new ran reply seen made run same is, taken)
 
 -- an open writer has acknowledged all that it began, still
 
@@ -188,10 +151,12 @@ still-alive : (outcome : Outcome) (closed : Option ℕ) (faults : ℕ) (tree : O
     → Makes outcome tree index line noted count made flight → closed_after closed outcome faults ≡ None → (closed ≡ None) × (flight ≡ [])
 still-alive outcomes.Ok closed faults tree index line noted count made flight h e = (e, h.1)
 still-alive (outcomes.Usage word kind) closed faults tree index line noted count made flight h e = (e, h.1)
+still-alive (outcomes.BadQuery at kind) closed faults tree index line noted count made flight h e = (e, h.1)
+still-alive (outcomes.BadDate at) closed faults tree index line noted count made flight h e = (e, h.1)
 still-alive outcomes.MailFault closed faults tree index line noted count made flight h e = (e, h.1)
 still-alive outcomes.DiskFault closed faults tree index line noted count made flight h e = absurd (cc)
 still-alive (outcomes.Closed fault) closed faults tree index line noted count made flight h e = (e, h.1)
-still-alive (outcomes.Limit limit) closed faults tree index line noted count made flight h e = (e, h.3)
+still-alive (outcomes.Limit limit) closed faults tree index line noted count made flight h e = (e, h.1)
 still-alive outcomes.NoMemory closed faults tree index line noted count made flight h e = (e, h.1)
 
 pub still-even : (old new : Place) (line : List ℕ) (noted : List Given) (outcome : Outcome) → IsAnswered old line noted outcome new → IsEven old.writer → IsEven new.writer

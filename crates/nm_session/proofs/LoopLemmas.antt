@@ -1,5 +1,5 @@
 -- A line more keeps what is so of the lines before it; and what all lines leave.
-use Rattle.std.proofs.Common.{◌≡◌, ℕ, ℤ, ◌+◌, ◌*◌, ◌<◌, ◌≤◌, true, List, [], ◌∷◌, ◌++◌, None, length, take, get_or, refl, sym, ap, ◌∙◌, subst, arith}
+use Rattle.std.proofs.Common.{◌≡◌, ℕ, ℤ, ◌+◌, ◌*◌, ◌<◌, ◌≤◌, List, [], ◌∷◌, ◌++◌, None, length, take, get_or, refl, sym, ap, ◌∙◌, subst, arith}
 use Rattle.std.proofs.lemmas.List.{length-append, take_more}
 use Rattle.std.specs.List.{zip}
 use Rattle.nm_commit.specs.declared.change.Commit.{Commit}
@@ -28,27 +28,27 @@ use Rattle.nm_session.specs.Rooms.{HasRooms, HasSpare}
 use Rattle.nm_session.specs.Run.{HasRun, IsKept}
 use Rattle.nm_session.specs.declared.marks.Mark.{Mark}
 use Rattle.nm_session.specs.declared.rooms.Rooms.{Rooms}
-use Rattle.nm_session.proofs.LineLemmas.{few-made, reply-few, still-even}
+use Rattle.nm_session.proofs.LineLemmas.{reply-few, still-even}
 use Rattle.nm_session.proofs.MarkLemmas.{begun-are, line-length, line-stands, line-steps, reply-lane, stand-append, steps-append}
 use Rattle.nm_writer.specs.Durable.{IsDurable, KeptSince}
 
 -- logs, one for each line
 
-logs-more : (lines : List ScriptLine) (logs : List LineLog) (line : ScriptLine) (log : LineLog) → AreLogsOf lines logs true → IsNumbered line log → AreLogsOf (lines ++ line ∷ []) (logs ++ log ∷ []) true
-logs-more [] [] line log h numbers = (numbers, refl)
+logs-more : (lines : List ScriptLine) (logs : List LineLog) (line : ScriptLine) (log : LineLog) → AreLogsOf lines logs → IsNumbered line log → AreLogsOf (lines ++ line ∷ []) (logs ++ log ∷ [])
+logs-more [] [] line log h numbers = (numbers, tt)
 logs-more [] (other ∷ logs) line log h numbers = absurd h
-logs-more (first ∷ lines) [] line log h numbers = absurd (cc)
+logs-more (first ∷ lines) [] line log h numbers = absurd h
 logs-more (first ∷ lines) (other ∷ logs) line log h numbers = (h.0, logs-more lines logs line log h.1 numbers)
 
-zip-more : (lines : List ScriptLine) (logs : List LineLog) (line : ScriptLine) (log : LineLog) → AreLogsOf lines logs true → zip (lines ++ line ∷ []) (logs ++ log ∷ []) ≡ zip lines logs ++ (line, log) ∷ []
+zip-more : (lines : List ScriptLine) (logs : List LineLog) (line : ScriptLine) (log : LineLog) → AreLogsOf lines logs → zip (lines ++ line ∷ []) (logs ++ log ∷ []) ≡ zip lines logs ++ (line, log) ∷ []
 zip-more [] [] line log h = refl
 zip-more [] (other ∷ logs) line log h = absurd h
-zip-more (first ∷ lines) [] line log h = absurd (cc)
+zip-more (first ∷ lines) [] line log h = absurd h
 zip-more (first ∷ lines) (other ∷ logs) line log h = ap (λ (l : List RunLine). (first, other) ∷ l) (zip-more lines logs line log h.1)
 
-module _ (lines : List ScriptLine) (line : ScriptLine) (before after : Rooms) (old new : Place) (noted : HasNoted lines before old) (h : IsNoted old line before after new) where
-  pub is-result : (moment : ℤ) → IsLineResult moment old (line, h.log) (line_steps h.run.answered.made h.run.answered.flight (reply_to (line, h.log))) new
-  is-result moment = record {
+module _ (moment : ℤ) (lines : List ScriptLine) (line : ScriptLine) (before after : Rooms) (old new : Place) (noted : HasNoted lines before old) (h : IsNoted moment old line before after new) where
+  pub is-result : IsLineResult moment old (line, h.log) (line_steps h.run.answered.made h.run.answered.flight (reply_to (line, h.log))) new
+  is-result = record {
     made = h.run.answered.made;
     flight = h.run.answered.flight;
     has_made = h.run.answered.has_made;
@@ -64,7 +64,7 @@ module _ (lines : List ScriptLine) (line : ScriptLine) (before after : Rooms) (o
     disk_faults = h.run.disk_faults;
     cause = h.run.answered.cause;
     status = h.run.status;
-    text = h.run.text moment;
+    text = h.run.text;
     steps = refl;
   }
 
@@ -79,29 +79,32 @@ module _ (lines : List ScriptLine) (line : ScriptLine) (before after : Rooms) (o
   lines-are : lines_at (lines ++ line ∷ []) after ≡ lines_at lines before ++ (line, h.log) ∷ []
   lines-are = ap (λ (l : List LineLog). zip (lines ++ line ∷ []) l) h.logs ∙ zip-more lines before.logs.0 line h.log noted.logs
 
-  few-taken : length (line_steps h.run.answered.made h.run.answered.flight (reply_to (line, h.log))) ≤ 7
+  few-taken : length (line_steps h.run.answered.made h.run.answered.flight (reply_to (line, h.log))) ≤ 3 * length (h.run.answered.made ++ h.run.answered.flight) + 1
   few-taken = omega (
     arith,
     line-length h.run.answered.made h.run.answered.flight (reply_to (line, h.log)),
-    few-made h.log.outcome old.mail.tree old.writer.shown line.text h.log.given (length old.writer.acked + length h.run.answered.made) h.run.answered.made h.run.answered.flight h.run.answered.makes,
+    length-append h.run.answered.made h.run.answered.flight,
     reply-few h.log.outcome (parse_line line.text) h.log.lane h.log.revision h.log.text,
   )
 
-  few-steps : length (steps_at after new) ≤ length (lines ++ line ∷ []) * 7
+  few-steps : length (steps_at after new) ≤ length (lines ++ line ∷ []) + 3 * length new.writer.begun
   few-steps =
       let all : length (steps_at after new) ≡ length (steps_at before old) + length (line_steps h.run.answered.made h.run.answered.flight (reply_to (line, h.log))) =
       ap length steps-are ∙ length-append (steps_at before old) (line_steps h.run.answered.made h.run.answered.flight (reply_to (line, h.log))) in
       let longer : length (lines ++ line ∷ []) ≡ length lines + 1 = length-append lines (line ∷ []) in
-      omega (arith, all, longer, noted.few, few-taken)
+      let more : length new.writer.begun ≡ length old.writer.begun + length (h.run.answered.made ++ h.run.answered.flight) =
+      ap length h.run.answered.has_made.begun_are ∙ length-append old.writer.begun (h.run.answered.made ++ h.run.answered.flight) in
+      omega (arith, all, longer, more, noted.few, few-taken)
 
   pub noted-more : HasNoted (lines ++ line ∷ []) after new
   noted-more = record {
-    logs = subst (λ (l : List LineLog). AreLogsOf (lines ++ line ∷ []) l true) (sym h.logs) (logs-more lines before.logs.0 line h.log noted.logs h.run.numbers);
+    logs = subst (λ (l : List LineLog). AreLogsOf (lines ++ line ∷ []) l) (sym h.logs) (logs-more lines before.logs.0 line h.log noted.logs h.run.numbers);
     stand = subst (λ (l : List Mark). StandFor l new.writer.begun) (sym h.marks)
         (subst (λ (l : List Commit). StandFor (before.marks.0 ++ line_marks h.run.answered.made h.run.answered.flight (reply_to (line, h.log))) l) (sym h.run.answered.has_made.begun_are)
         (stand-append before.marks.0 (line_marks h.run.answered.made h.run.answered.flight (reply_to (line, h.log))) old.writer.begun (h.run.answered.made ++ h.run.answered.flight) noted.stand
         (line-stands h.run.answered.made h.run.answered.flight (reply_to (line, h.log)))));
     few = few-steps;
+    within = h.within;
     even = still-even old new line.text h.log.given h.log.outcome h.run.answered noted.even;
   }
 
@@ -129,7 +132,7 @@ pub record Laws : Type 0 where
       → IsLineResult moment old ran taken new → length old.writer.acked ≡ appends steps → length new.writer.acked ≡ appends (steps ++ taken)
 
 module _ (laws : Laws) (moment : ℤ) (opening : Base) (entry : Devices) (lines : List ScriptLine) (line : ScriptLine) (before after : Rooms) (old new : Place)
-    (noted : HasNoted lines before old) (h : IsNoted old line before after new) (some : HasRunSome moment opening entry lines before old) where
+    (noted : HasNoted lines before old) (h : IsNoted moment old line before after new) (some : HasRunSome moment opening entry lines before old) where
   abbrev taken : List Step
   taken = line_steps h.run.answered.made h.run.answered.flight (reply_to (line, h.log))
 
@@ -137,18 +140,18 @@ module _ (laws : Laws) (moment : ℤ) (opening : Base) (entry : Devices) (lines 
   unfolding is-result
   some-more = record {
     acknowledged = some.acknowledged ++ h.run.answered.made;
-    at = both lines line before after old new noted h (λ steps ran. StandsAt opening entry steps ran (some.acknowledged ++ h.run.answered.made) new)
-        (laws.stands opening moment entry (steps_at before old) taken (lines_at lines before) some.acknowledged old new (line, h.log) some.at (is-result lines line before after old new noted h moment));
-    machine_run = both lines line before after old new noted h (λ steps ran. MachineRun opening moment (at_first opening entry) steps ran (some.acknowledged ++ h.run.answered.made))
-        (laws.machine_run opening moment entry (steps_at before old) taken (lines_at lines before) some.acknowledged old new (line, h.log) some.at (is-result lines line before after old new noted h moment) some.machine_run);
-    line_commits = both lines line before after old new noted h (λ steps ran. LineCommits opening entry.mail.tree steps ran (some.acknowledged ++ h.run.answered.made))
-        (laws.commits opening moment entry (steps_at before old) taken (lines_at lines before) some.acknowledged old new (line, h.log) some.at (is-result lines line before after old new noted h moment) some.line_commits);
-    line_answers = both lines line before after old new noted h (λ steps ran. LineAnswers opening moment (at_first opening entry) steps ran)
-        (laws.answers opening moment entry (steps_at before old) taken (lines_at lines before) some.acknowledged old new (line, h.log) some.at (is-result lines line before after old new noted h moment) some.line_answers);
-    given = both lines line before after old new noted h (λ steps ran. GivenAlong opening steps (at_first opening entry) ran entry.mail new.mail)
-        (laws.given opening moment entry (steps_at before old) taken (lines_at lines before) some.acknowledged old new (line, h.log) some.at (is-result lines line before after old new noted h moment) some.given);
-    clocks = both lines line before after old new noted h (λ steps ran. length new.writer.acked ≡ appends steps)
-        (laws.clocks opening moment entry (steps_at before old) taken (lines_at lines before) some.acknowledged old new (line, h.log) some.at (is-result lines line before after old new noted h moment) some.clocks);
+    at = both moment lines line before after old new noted h (λ steps ran. StandsAt opening entry steps ran (some.acknowledged ++ h.run.answered.made) new)
+        (laws.stands opening moment entry (steps_at before old) taken (lines_at lines before) some.acknowledged old new (line, h.log) some.at (is-result moment lines line before after old new noted h));
+    machine_run = both moment lines line before after old new noted h (λ steps ran. MachineRun opening moment (at_first opening entry) steps ran (some.acknowledged ++ h.run.answered.made))
+        (laws.machine_run opening moment entry (steps_at before old) taken (lines_at lines before) some.acknowledged old new (line, h.log) some.at (is-result moment lines line before after old new noted h) some.machine_run);
+    line_commits = both moment lines line before after old new noted h (λ steps ran. LineCommits opening entry.mail.tree steps ran (some.acknowledged ++ h.run.answered.made))
+        (laws.commits opening moment entry (steps_at before old) taken (lines_at lines before) some.acknowledged old new (line, h.log) some.at (is-result moment lines line before after old new noted h) some.line_commits);
+    line_answers = both moment lines line before after old new noted h (λ steps ran. LineAnswers opening moment (at_first opening entry) steps ran)
+        (laws.answers opening moment entry (steps_at before old) taken (lines_at lines before) some.acknowledged old new (line, h.log) some.at (is-result moment lines line before after old new noted h) some.line_answers);
+    given = both moment lines line before after old new noted h (λ steps ran. GivenAlong opening steps (at_first opening entry) ran entry.mail new.mail)
+        (laws.given opening moment entry (steps_at before old) taken (lines_at lines before) some.acknowledged old new (line, h.log) some.at (is-result moment lines line before after old new noted h) some.given);
+    clocks = both moment lines line before after old new noted h (λ steps ran. length new.writer.acked ≡ appends steps)
+        (laws.clocks opening moment entry (steps_at before old) taken (lines_at lines before) some.acknowledged old new (line, h.log) some.at (is-result moment lines line before after old new noted h) some.clocks);
   }
 
 -- the next line of a script
@@ -157,14 +160,17 @@ front-more lines i line within is = ap (λ (l : ScriptLine). take i lines ++ l �
 
 -- places
 
-pub spare-first : (lines : ℕ) (rooms : Rooms) → HasSpare lines rooms → SpareFrom 0 lines rooms
-spare-first lines rooms h = record { logs = omega (arith, h.logs); marks = omega (arith, h.marks); spares = omega (arith, h.spares); texts = h.texts }
+pub spare-first : (lines : ℕ) (rooms : Rooms) (begun : List Commit) → begun ≡ [] → HasSpare lines 0 rooms → SpareFrom 0 lines (length begun) rooms
+spare-first lines rooms begun none h =
+    record { logs = omega (arith, h.logs); marks = omega (arith, h.marks); spares = omega (arith, h.spares); texts = h.texts }
 
-pub spare-next : (done all : ℕ) (rooms : Rooms) → done < all → SpareFrom done all rooms → HasSpare 1 rooms
-spare-next done all rooms within h = record { logs = omega (arith, h.logs, within); marks = omega (arith, h.marks, within); spares = omega (arith, h.spares, within); texts = h.texts }
+pub spare-next : (done all begun : ℕ) (rooms : Rooms) → done < all → SpareFrom done all begun rooms → HasSpare 1 begun rooms
+spare-next done all begun rooms within h =
+    record { logs = omega (arith, h.logs, within); marks = omega (arith, h.marks, within); spares = omega (arith, h.spares, within); texts = h.texts }
 
-pub spare-more : (done all : ℕ) (line : ScriptLine) (before after : Rooms) (old new : Place) → SpareFrom done all before → IsNoted old line before after new → SpareFrom (done + 1) all after
-spare-more done all line before after old new h noted = record {
+pub spare-more : (moment : ℤ) (done all : ℕ) (line : ScriptLine) (before after : Rooms) (old new : Place) → SpareFrom done all (length old.writer.begun) before → IsNoted moment old line before after new
+    → SpareFrom (done + 1) all (length new.writer.begun) after
+spare-more moment done all line before after old new h noted = record {
   logs = omega (arith, h.logs, noted.logs_spare);
   marks = omega (arith, h.marks, noted.marks_spare);
   spares = omega (arith, h.spares, noted.spares);
@@ -178,9 +184,10 @@ nothing-of commits ms none = ap (λ (l : List Mark). steps_of l commits) none
 
 pub noted-none : (rooms : Rooms) (place : Place) (lines : ℕ) → HasRooms lines rooms → place.writer.begun ≡ [] → place.writer.acked ≡ [] → HasNoted [] rooms place
 noted-none rooms place lines h begun_none acked_none = record {
-  logs = subst (λ (l : List LineLog). AreLogsOf [] l true) (sym h.logs) refl;
+  logs = subst (λ (l : List LineLog). AreLogsOf [] l) (sym h.logs) tt;
   stand = subst (λ (l : List Mark). StandFor l place.writer.begun) (sym h.marks) (subst (λ (l : List Commit). StandFor [] l) (sym begun_none) tt);
   few = omega (arith, ap length (nothing-of place.writer.begun rooms.marks.0 h.marks));
+  within = omega (arith, ap length begun_none);
   even = λ alive. ap length begun_none ∙ sym (ap length acked_none);
 }
 
@@ -239,4 +246,4 @@ pub steps-fit : (lines : List ScriptLine) (before after : Rooms) (place : Place)
 steps-fit lines before after place h noted same =
     let list : after.steps.0 ≡ before.steps.0 = ap (λ (r : List Step × ℕ). r.0) same in
     let spare : after.steps.1 ≡ before.steps.1 = ap (λ (r : List Step × ℕ). r.1) same in
-    (list ∙ h.steps, omega (arith, noted.few, h.steps_spare, spare))
+    (list ∙ h.steps, omega (arith, noted.few, noted.within, h.steps_spare, spare))

@@ -75,6 +75,8 @@ asked-lane (asked.Usage word kind) revision text = tt
 zero-lane : (outcome : Outcome) (line : ParsedLine) (revision : ℕ) (text : List ℕ) → OfLaneZero (replied_where outcome line 0 revision text)
 zero-lane outcomes.Ok line revision text = asked-lane line revision text
 zero-lane (outcomes.Usage word kind) line revision text = tt
+zero-lane (outcomes.BadQuery at kind) line revision text = tt
+zero-lane (outcomes.BadDate at) line revision text = tt
 zero-lane outcomes.MailFault line revision text = tt
 zero-lane outcomes.DiskFault line revision text = tt
 zero-lane (outcomes.Closed fault) line revision text = tt

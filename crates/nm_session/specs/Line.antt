@@ -1,6 +1,10 @@
 -- How one line ends: what it made, why, and what it says.
-use Rattle.std.specs.Prelude.{◌≡◌, ℕ, ℤ, ◌+◌, ◌≤◌, List, [], ◌∷◌, ◌++◌, length, map, Option, None, Result, Ok, Err}
+use Rattle.std.specs.Prelude.{◌≡◌, ℕ, ℤ, ◌+◌, ◌≤◌, List, [], ◌∷◌, ◌++◌, length, map, Option, None, Some, Result, Ok, Err}
 use Rattle.std.specs.Option.{option_to_list}
+use Rattle.nm_answer.specs.Count.{count_found}
+use Rattle.nm_answer.specs.declared.request.Request.TheVariants as requests
+use Rattle.nm_base.specs.Limits.{max_commits}
+use Rattle.nm_base.specs.declared.asks.CountAsk.{CountAsk}
 use Rattle.nm_base.specs.declared.memory.NoMemory.{NoMemory}
 use Rattle.nm_commit.specs.declared.change.Commit.{Commit}
 use Rattle.nm_disk.specs.Observed.{ObservedDisk}
@@ -11,18 +15,24 @@ use Rattle.nm_history.specs.LineResult.{HasMade, Place, before_at}
 use Rattle.nm_history.specs.Lines.{RunLine, closed_after}
 use Rattle.nm_history.specs.MachineRun.{replied_where, reply_to}
 use Rattle.nm_history.specs.PrintedOut.{IsNumbered}
+use Rattle.nm_history.specs.Requests.{query_outcome}
+use Rattle.nm_index.specs.declared.base.Base.{Base}
 use Rattle.nm_log.specs.ParsedLine.{parse_line}
-use Rattle.nm_log.specs.Replies.{status_of}
+use Rattle.nm_log.specs.Replies.{refusal_line, status_of}
 use Rattle.nm_log.specs.declared.log.LineLog.{LineLog}
 use Rattle.nm_log.specs.declared.outcome.Outcome.{Outcome}
 use Rattle.nm_log.specs.declared.outcome.Outcome.TheVariants as outcomes
 use Rattle.nm_log.specs.declared.script.ScriptLine.{ScriptLine}
 use Rattle.nm_maildir.specs.Observed.{ObservedMail}
 use Rattle.nm_maildir.specs.declared.given.Given.{Given}
+use Rattle.nm_query.specs.Answers.{answer_of}
+use Rattle.nm_query.specs.declared.query.Query.{Query}
+use Rattle.nm_query.specs.declared.query_error.QueryError.{QueryError}
 use Rattle.nm_session.specs.Marks.{line_marks, reply_mark}
 use Rattle.nm_session.specs.Rooms.{AreSpares}
 use Rattle.nm_session.specs.declared.answering.Answered.{Answered}
 use Rattle.nm_session.specs.declared.marks.Mark.{Mark}
+use Rattle.nm_session.specs.declared.marks.Mark.TheVariants as marks
 use Rattle.nm_session.specs.declared.rooms.Rooms.{Rooms}
 use Rattle.nm_writer.specs.Writer.{WriterState}
 
@@ -48,19 +58,19 @@ pub record IsAnswered (old : Place) (line : List ℕ) (noted : List Given) (outc
   pub cause : HasCause outcome (parse_line line) (before_at old) new.mail.faults new.disk_faults
 
 -- What it says, and the mark of its reply where it went well.
-pub record IsSaid (old : Place) (line : List ℕ) (noted : List Given) (done : Answered) (new : Place) : Type 0 where
-  pub text : (moment : ℤ) → done.text ≡ line_text done.outcome (parse_line line) old.writer.shown new.writer.shown moment noted
+pub record IsSaid (moment : ℤ) (old : Place) (line : List ℕ) (noted : List Given) (done : Answered) (new : Place) : Type 0 where
+  pub text : done.text ≡ line_text done.outcome (parse_line line) old.writer.shown new.writer.shown moment noted
   pub reply : (lane revision : ℕ) → option_to_list done.reply ≡ map reply_mark (replied_where done.outcome (parse_line line) lane revision done.text)
 
 -- It was answered, or found no memory for it.
-abbrev pub Ends : Place → List ℕ → List Given → Result Answered NoMemory → Place → Type 0
-Ends old line noted (Ok done) new = IsAnswered old line noted done.outcome new × IsSaid old line noted done new
-Ends old line noted (Err error) new = IsAnswered old line noted outcomes.NoMemory new
+abbrev pub Ends : ℤ → Place → List ℕ → List Given → Result Answered NoMemory → Place → Type 0
+Ends moment old line noted (Ok done) new = IsAnswered old line noted done.outcome new × IsSaid moment old line noted done new
+Ends moment old line noted (Err error) new = IsAnswered old line noted outcomes.NoMemory new
 
 -- A line was run, and its log says so.
-pub record IsRun (old : Place) (ran : RunLine) (reply : Option Mark) (new : Place) : Type 0 where
+pub record IsRun (moment : ℤ) (old : Place) (ran : RunLine) (reply : Option Mark) (new : Place) : Type 0 where
   pub answered : IsAnswered old ran.0.text ran.1.given ran.1.outcome new
-  pub text : (moment : ℤ) → ran.1.text ≡ line_text ran.1.outcome (parse_line ran.0.text) old.writer.shown new.writer.shown moment ran.1.given
+  pub text : ran.1.text ≡ line_text ran.1.outcome (parse_line ran.0.text) old.writer.shown new.writer.shown moment ran.1.given
   pub reply_is : option_to_list reply ≡ map reply_mark (reply_to ran)
   pub numbers : IsNumbered ran.0 ran.1
   pub revision : ran.1.revision ≡ new.writer.shown.revision
@@ -69,14 +79,25 @@ pub record IsRun (old : Place) (ran : RunLine) (reply : Option Mark) (new : Plac
   pub status : ran.1.status ≡ status_of ran.1.outcome
 
 -- And its log and its marks are in the rooms, where the places for one line are taken.
-pub record IsNoted (old : Place) (line : ScriptLine) (before after : Rooms) (new : Place) : Type 0 where
+pub record IsNoted (moment : ℤ) (old : Place) (line : ScriptLine) (before after : Rooms) (new : Place) : Type 0 where
   pub log : LineLog
   pub reply : Option Mark
-  pub run : IsRun old (line, log) reply new
+  pub run : IsRun moment old (line, log) reply new
   pub logs : after.logs.0 ≡ before.logs.0 ++ log ∷ []
   pub marks : after.marks.0 ≡ before.marks.0 ++ line_marks run.answered.made run.answered.flight (reply_to (line, log))
   pub steps : after.steps ≡ before.steps
   pub logs_spare : after.logs.1 + 1 ≡ before.logs.1
-  pub marks_spare : before.marks.1 ≤ after.marks.1 + 3
+  pub marks_spare : before.marks.1 + length old.writer.begun ≤ after.marks.1 + length new.writer.begun + 1
   pub spares : length after.spares + 1 ≡ length before.spares
   pub texts : AreSpares after.spares
+  pub within : length new.writer.begun ≤ max_commits
+
+-- What a count is answered, from what its query is read as: its text where there is a tree, or else the refusal.
+abbrev pub IsCountedBy : ℤ → Base → CountAsk → Result Query QueryError → Answered → Type 0
+IsCountedBy moment index ask (Ok query) done =
+    done ≡ record { outcome = outcomes.Ok; text = count_found ask index moment query; reply = Some (marks.Reply (requests.Count ask) (count_found ask index moment query)) }
+IsCountedBy moment index ask (Err refusal) done = done ≡ record { outcome = query_outcome refusal; text = refusal_line (query_outcome refusal); reply = None }
+
+-- what a count is answered
+abbrev pub IsCounted : ℤ → Base → CountAsk → Answered → Type 0
+IsCounted moment index ask done = IsCountedBy moment index ask (answer_of ask.query) done

@@ -1,6 +1,7 @@
 -- Where a session stands behind its first lines.
-use Rattle.std.specs.Prelude.{◌≡◌, ℕ, ℤ, ◌+◌, ◌*◌, ◌≤◌, true, List, [], ◌∷◌, length}
+use Rattle.std.specs.Prelude.{◌≡◌, ℕ, ℤ, ◌+◌, ◌*◌, ◌≤◌, List, [], ◌∷◌, length}
 use Rattle.std.specs.List.{zip}
+use Rattle.nm_base.specs.Limits.{max_commits}
 use Rattle.nm_commit.specs.declared.change.Commit.{Commit}
 use Rattle.nm_history.specs.Call.{Devices}
 use Rattle.nm_history.specs.CrashPrefix.{appends}
@@ -41,15 +42,16 @@ lines_at lines rooms = zip lines rooms.logs.0
 
 -- These lines were run and noted.
 pub record HasNoted (lines : List ScriptLine) (rooms : Rooms) (place : Place) : Type 0 where
-  pub logs : AreLogsOf lines rooms.logs.0 true
+  pub logs : AreLogsOf lines rooms.logs.0
   pub stand : StandFor rooms.marks.0 place.writer.begun
-  pub few : length (steps_at rooms place) ≤ length lines * 7
+  pub few : length (steps_at rooms place) ≤ length lines + 3 * length place.writer.begun
+  pub within : length place.writer.begun ≤ max_commits
   pub even : IsEven place.writer
 
--- Of so many lines so many were run, and for the others places are spare.
-pub record SpareFrom (done all : ℕ) (rooms : Rooms) : Type 0 where
+-- Of so many lines so many were run, so many commits were begun, and for the others places are spare.
+pub record SpareFrom (done all begun : ℕ) (rooms : Rooms) : Type 0 where
   pub logs : all ≤ rooms.logs.1 + done
-  pub marks : all * 3 ≤ rooms.marks.1 + done * 3
+  pub marks : all + max_commits ≤ rooms.marks.1 + (done + begun)
   pub spares : all ≤ length rooms.spares + done
   pub texts : AreSpares rooms.spares
 

@@ -16,6 +16,8 @@ outcome_of errors.NoMemory = outcomes.NoMemory
 abbrev pub is_disk_fault : Outcome → Bool
 is_disk_fault outcomes.Ok = false
 is_disk_fault (outcomes.Usage word kind) = false
+is_disk_fault (outcomes.BadQuery at kind) = false
+is_disk_fault (outcomes.BadDate at) = false
 is_disk_fault outcomes.MailFault = false
 is_disk_fault outcomes.DiskFault = true
 is_disk_fault (outcomes.Closed fault) = false

@@ -1,5 +1,5 @@
 -- What running the lines of a script leaves, over the index that was opened.
-use Rattle.std.specs.Prelude.{◌≡◌, ℕ, ℤ, true, List, length}
+use Rattle.std.specs.Prelude.{◌≡◌, ℕ, ℤ, List, length}
 use Rattle.std.specs.List.{zip}
 use Rattle.nm_commit.specs.declared.change.Commit.{Commit}
 use Rattle.nm_disk.specs.Calls.{GoesOn}
@@ -21,7 +21,7 @@ use Rattle.nm_writer.specs.Durable.{KeptSince, NeverFall}
 -- All lines were run, from this opening index on, and what each did is what the statement of a session says.
 pub record HasRun (moment : ℤ) (opening : Base) (entry : Devices) (lines : List ScriptLine) (mail : ObservedMail) (disk_faults : ℕ) (log : SessionLog) : Type 0 where
   pub acknowledged : List Commit
-  pub logs : AreLogsOf lines log.lines true
+  pub logs : AreLogsOf lines log.lines
   pub machine_run : MachineRun opening moment (at_first opening entry) log.steps (zip lines log.lines) acknowledged
   pub line_commits : LineCommits opening entry.mail.tree log.steps (zip lines log.lines) acknowledged
   pub line_answers : LineAnswers opening moment (at_first opening entry) log.steps (zip lines log.lines)

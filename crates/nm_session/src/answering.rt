@@ -1,25 +1,27 @@
 //! The answer to one line: what it asks for is done, and its text is made.
 
-ghost use Rattle.std.specs.Prelude.{◌≡◌, ℕ, List, [], false, None, Some, IfOk, IfSome, MatchResult};
-ghost use Rattle.nm_answer.specs.Count.{count_text};
+ghost use Rattle.std.specs.Prelude.{◌≡◌, ◌≢◌, ℕ, ℤ, List, [], false, None, Some, IfOk, IfSome, MatchResult};
 ghost use Rattle.nm_answer.specs.NewText.{new_text};
+ghost use Rattle.nm_dates.specs.Seconds.{IsMoment};
 ghost use Rattle.nm_disk.specs.Observed.{ObservedDisk};
+ghost use Rattle.nm_history.specs.Requests.{query_outcome};
 ghost use Rattle.nm_index.specs.declared.base.Base.{Base};
 ghost use Rattle.nm_log.specs.ParsedLine.{parse_line};
 ghost use Rattle.nm_log.specs.Replies.{refusal_line};
 ghost use Rattle.nm_log.specs.declared.line_parser.ParsedLine.TheVariants as asked;
-ghost use Rattle.nm_session.specs.Line.{Ends, IsEven, place_at};
+ghost use Rattle.nm_session.specs.Line.{Ends, IsCounted, IsEven, place_at};
 ghost use Rattle.nm_session.specs.Outcomes.{is_disk_fault, outcome_of};
 ghost use Rattle.nm_writer.specs.Durable.{IsDurable};
 ghost use Rattle.nm_writer.specs.Writer.{StandsOnIndex};
 
-use crate::counting::count;
 use crate::marks::Mark;
 use nm_answer::{NewReport, Request};
 use nm_base::{Copies, CountAsk, Many, NoMemory};
 use nm_disk::Disk;
-use nm_log::{Outcome, ParsedLine, new_reply, parse_line, refusal_text};
+use nm_log::{Outcome, ParsedLine, Setting, new_reply, parse_line, refusal_text};
 use nm_maildir::{Given, Maildir};
+use nm_query::{QueryError, parse};
+use nm_render::count_reply;
 use nm_state::Snapshot;
 use nm_writer::{WriteError, Writer};
 use std::alloc::Global;
@@ -36,16 +38,18 @@ pub(crate) struct Answered {
 /// Reads what the line asks for, and does it.
 pub(crate) fn answer<M: Maildir, D: Disk>(
     alloc: Global,
+    setting: &Setting,
     line: &[u8],
     writer: &mut Writer,
     mail: &mut M,
     disk: &mut D,
     given: &mut Many<Given>,
 ) -> Result<Answered, NoMemory>
+    requires moment { IsMoment setting.now.moment }
     requires fresh { given.old ≡ [] }
     requires even { IsEven writer.old }
     requires stands { writer.old.closed ≡ None → IfSome (D.observed disk.old).told (λ moments. StandsOnIndex moments.present writer.old) }
-    ensures ends { Ends (place_at writer.old (M.observed mail.old) (D.observed disk.old)) line.now given.new result (place_at writer.new (M.observed mail.new) (D.observed disk.new)) }
+    ensures ends { Ends setting.now.moment (place_at writer.old (M.observed mail.old) (D.observed disk.old)) line.now given.new result (place_at writer.new (M.observed mail.new) (D.observed disk.new)) }
     ensures stands { writer.new.closed ≡ None → IfSome (D.observed disk.new).told (λ moments. StandsOnIndex moments.present writer.new) }
     ensures durable { (entry : ObservedDisk) (opening : Base) → IsDurable entry opening (D.observed disk.old) writer.old
         → IsDurable entry opening (D.observed disk.new) writer.new }
@@ -53,7 +57,12 @@ pub(crate) fn answer<M: Maildir, D: Disk>(
     match parse_line(alloc, line)? {
         ParsedLine::Usage { word, kind } => refuse(alloc, Outcome::Usage { word, kind }),
         ParsedLine::Request(Request::New) => run_new(alloc, writer, mail, disk, given),
-        ParsedLine::Request(Request::Count(ask)) => run_count(alloc, writer.snapshot(), ask),
+        ParsedLine::Request(Request::Count(ask)) => run_count(
+            alloc,
+            setting,
+            writer.snapshot(),
+            ask,
+        ),
     }
 }
 
@@ -68,8 +77,8 @@ fn run_new<M: Maildir, D: Disk>(
     requires fresh { given.old ≡ [] }
     requires even { IsEven writer.old }
     requires stands { writer.old.closed ≡ None → IfSome (D.observed disk.old).told (λ moments. StandsOnIndex moments.present writer.old) }
-    ensures ends { (line : List ℕ) → parse_line line ≡ asked.Request Request.New
-        → Ends (place_at writer.old (M.observed mail.old) (D.observed disk.old)) line given.new result (place_at writer.new (M.observed mail.new) (D.observed disk.new)) }
+    ensures ends { (moment : ℤ) (line : List ℕ) → parse_line line ≡ asked.Request Request.New
+        → Ends moment (place_at writer.old (M.observed mail.old) (D.observed disk.old)) line given.new result (place_at writer.new (M.observed mail.new) (D.observed disk.new)) }
     ensures stands { writer.new.closed ≡ None → IfSome (D.observed disk.new).told (λ moments. StandsOnIndex moments.present writer.new) }
     ensures durable { (entry : ObservedDisk) (opening : Base) → IsDurable entry opening (D.observed disk.old) writer.old
         → IsDurable entry opening (D.observed disk.new) writer.new }
@@ -109,12 +118,36 @@ fn refuse_new(alloc: Global, error: WriteError, disk_fault: Many<u8>) -> Result<
     }
 }
 
-/// Counts over the index that is shown.
-fn run_count(alloc: Global, snapshot: &Snapshot, ask: CountAsk) -> Result<Answered, NoMemory>
-    ensures { IfOk result (λ done. done ≡ record { outcome = Outcome.Ok; text = count_text ask.query snapshot.now.files; reply = Some (Mark.Reply (Request.Count ask) (count_text ask.query snapshot.now.files)) }) }
+/// Counts over the index that is shown, where the query has a tree.
+fn run_count(
+    alloc: Global,
+    setting: &Setting,
+    snapshot: &Snapshot,
+    ask: CountAsk,
+) -> Result<Answered, NoMemory>
+    requires moment { IsMoment setting.now.moment }
+    ensures { IfOk result (IsCounted setting.now.moment snapshot.now ask) }
 {
-    let text = count(alloc, ask.query.as_bytes(), snapshot)?;
-    replied(Request::Count(ask), text)
+    match parse(alloc, ask.query.as_str()) {
+        Ok(query) => {
+            let text = count_reply(alloc, snapshot, &ask, &query, setting.moment)?;
+            replied(Request::Count(ask), text)
+        }
+        Err(error) => refuse_query(alloc, error),
+    }
+}
+
+/// The refusal of a text that is no query.
+fn refuse_query(alloc: Global, error: QueryError) -> Result<Answered, NoMemory>
+    ensures some { IfOk result (λ _. error ≢ QueryError.NoMemory) }
+    ensures refused { IfOk result (λ done. done ≡ record { outcome = query_outcome error; text = refusal_line (query_outcome error); reply = None }) }
+{
+    match error {
+        QueryError::BadQuery { at, kind } => refuse(alloc, Outcome::BadQuery { at, kind }),
+        QueryError::BadDate { at } => refuse(alloc, Outcome::BadDate { at }),
+        QueryError::Limit(limit) => refuse(alloc, Outcome::Limit(limit)),
+        QueryError::NoMemory => Err(NoMemory),
+    }
 }
 
 /// The line went well.

@@ -3,7 +3,6 @@
 #![tactic(auto)]
 
 mod answering;
-mod counting;
 mod line;
 mod marks;
 mod rooms;

@@ -1,6 +1,8 @@
 //! One line of a script: it is run, and its log is put into the rooms.
 
-ghost use Rattle.std.specs.Prelude.{◌≡◌, ◌-◌, ◌∷◌, [], None, IfSome, MatchResult, codes, length};
+ghost use Rattle.std.specs.Prelude.{◌≡◌, ◌-◌, ◌≤◌, ◌∷◌, [], None, IfSome, MatchResult, codes, length};
+ghost use Rattle.nm_base.specs.Limits.{max_commits};
+ghost use Rattle.nm_dates.specs.Seconds.{IsMoment};
 ghost use Rattle.nm_disk.specs.Observed.{ObservedDisk};
 ghost use Rattle.nm_index.specs.declared.base.Base.{Base};
 ghost use Rattle.nm_session.specs.Line.{Ends, IsEven, IsNoted, IsRun, place_at};
@@ -13,7 +15,7 @@ use crate::marks::Mark;
 use crate::rooms::{Rooms, note, take_spare};
 use nm_base::{Many, NoMemory};
 use nm_disk::Disk;
-use nm_log::{LineLog, Outcome, ScriptLine, line_status};
+use nm_log::{LineLog, Outcome, ScriptLine, Setting, line_status};
 use nm_maildir::Maildir;
 use nm_writer::Writer;
 use std::alloc::Global;
@@ -21,30 +23,33 @@ use std::alloc::Global;
 /// Runs one line, and notes it in places that are spare.
 pub(crate) fn run_line<M: Maildir, D: Disk>(
     alloc: Global,
+    setting: &Setting,
     line: &ScriptLine,
     rooms: &mut Rooms,
     writer: &mut Writer,
     mail: &mut M,
     disk: &mut D,
 )
-    requires spare { HasSpare 1 rooms.old }
+    requires moment { IsMoment setting.now.moment }
+    requires spare { HasSpare 1 (length writer.old.begun) rooms.old }
     requires even { IsEven writer.old }
     requires stands { writer.old.closed ≡ None → IfSome (D.observed disk.old).told (λ moments. StandsOnIndex moments.present writer.old) }
-    ensures noted { IsNoted (place_at writer.old (M.observed mail.old) (D.observed disk.old)) line.now rooms.old rooms.new (place_at writer.new (M.observed mail.new) (D.observed disk.new)) }
+    ensures noted { IsNoted setting.now.moment (place_at writer.old (M.observed mail.old) (D.observed disk.old)) line.now rooms.old rooms.new (place_at writer.new (M.observed mail.new) (D.observed disk.new)) }
     ensures stands { writer.new.closed ≡ None → IfSome (D.observed disk.new).told (λ moments. StandsOnIndex moments.present writer.new) }
     ensures durable { (entry : ObservedDisk) (opening : Base) → IsDurable entry opening (D.observed disk.old) writer.old
         → IsDurable entry opening (D.observed disk.new) writer.new }
 {
     let spare = take_spare(&mut rooms.spares);
     let before = writer.acked().len();
-    let (log, reply) = line_log(alloc, line, writer, mail, disk, spare);
+    let (log, reply) = line_log(alloc, setting, line, writer, mail, disk, spare);
     let made = made_since(before, writer);
     note(rooms, log, made, reply);
 }
 
 /// How many commits were acknowledged since there were so many.
 fn made_since(before: usize, writer: &Writer) -> usize
-    ensures { result ≡ length writer.now.acked - before }
+    ensures count { result ≡ length writer.now.acked - before }
+    ensures few { length writer.now.begun ≤ max_commits }
 {
     writer.acked().len().saturating_sub(before)
 }
@@ -52,22 +57,32 @@ fn made_since(before: usize, writer: &Writer) -> usize
 /// Runs the line. `spare` is its text where it finds no memory.
 fn line_log<M: Maildir, D: Disk>(
     alloc: Global,
+    setting: &Setting,
     line: &ScriptLine,
     writer: &mut Writer,
     mail: &mut M,
     disk: &mut D,
     spare: Many<u8>,
 ) -> (LineLog, Option<Mark>)
+    requires moment { IsMoment setting.now.moment }
     requires spare { spare ≡ codes "notmuch: no memory\n" }
     requires even { IsEven writer.old }
     requires stands { writer.old.closed ≡ None → IfSome (D.observed disk.old).told (λ moments. StandsOnIndex moments.present writer.old) }
-    ensures run { IsRun (place_at writer.old (M.observed mail.old) (D.observed disk.old)) (line.now, result.0) result.1 (place_at writer.new (M.observed mail.new) (D.observed disk.new)) }
+    ensures run { IsRun setting.now.moment (place_at writer.old (M.observed mail.old) (D.observed disk.old)) (line.now, result.0) result.1 (place_at writer.new (M.observed mail.new) (D.observed disk.new)) }
     ensures stands { writer.new.closed ≡ None → IfSome (D.observed disk.new).told (λ moments. StandsOnIndex moments.present writer.new) }
     ensures durable { (entry : ObservedDisk) (opening : Base) → IsDurable entry opening (D.observed disk.old) writer.old
         → IsDurable entry opening (D.observed disk.new) writer.new }
 {
     let mut given = Many::new(alloc);
-    let answered = answer(alloc, line.text.as_slice(), writer, mail, disk, &mut given);
+    let answered = answer(
+        alloc,
+        setting,
+        line.text.as_slice(),
+        writer,
+        mail,
+        disk,
+        &mut given,
+    );
     let Answered {
         outcome,
         text,

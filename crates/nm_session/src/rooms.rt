@@ -1,7 +1,7 @@
 //! Room for the log of a session, made before the index is opened: behind a commit that was acknowledged no step of the log may
 //! want memory.
 
-ghost use Rattle.std.specs.Prelude.{◌≡◌, ◌+◌, ◌*◌, ◌<◌, ◌≤◌, ◌++◌, ◌∷◌, [], codes, length, replicate, IfOk, if◌then◌else◌};
+ghost use Rattle.std.specs.Prelude.{◌≡◌, ◌+◌, ◌<◌, ◌≤◌, ◌++◌, ◌∷◌, [], codes, length, replicate, IfOk, if◌then◌else◌};
 ghost use Rattle.std.specs.Option.{option_to_list};
 ghost use Rattle.nm_session.specs.Marks.{marks_for};
 ghost use Rattle.nm_session.specs.Outcomes.{is_disk_fault};
@@ -23,22 +23,22 @@ pub(crate) struct Rooms {
     pub(crate) spares: Many<Many<u8>>,
 }
 
-/// The most marks of a line: those of two commits and a reply.
-const MAX_MARKS: usize = 3;
+/// The most commits of a session, each with one mark.
+const MAX_COMMITS: usize = 65_536;
 
-/// The most steps of a line: those of two commits and a reply.
-const MAX_STEPS: usize = 7;
+/// The most steps of its commits: each is begun, is there, and is shown.
+const MAX_COMMIT_STEPS: usize = 196_608;
 
-/// Room for the log of so many lines.
+/// Room for the log of so many lines: each has one reply at most, and all of them share the commits of a session.
 pub(crate) fn rooms_for(alloc: Global, lines: usize) -> Result<Rooms, NoMemory>
     ensures { IfOk result (λ rooms. HasRooms lines rooms) }
 {
     let mut logs = Room::new(alloc);
     logs.reserve(lines)?;
     let mut marks = Room::new(alloc);
-    marks.reserve(times(lines, MAX_MARKS)?)?;
+    marks.reserve(plus(lines, MAX_COMMITS)?)?;
     let mut steps = Room::new(alloc);
-    steps.reserve(times(lines, MAX_STEPS)?)?;
+    steps.reserve(plus(lines, MAX_COMMIT_STEPS)?)?;
     let spares = spares_for(alloc, lines)?;
     Ok(Rooms {
         logs,
@@ -48,11 +48,11 @@ pub(crate) fn rooms_for(alloc: Global, lines: usize) -> Result<Rooms, NoMemory>
     })
 }
 
-/// So many times as many; what no number holds finds no memory either.
-fn times(lines: usize, most: usize) -> Result<usize, NoMemory>
-    ensures { IfOk result (λ places. places ≡ lines * most) }
+/// Both together; what no number holds finds no memory either.
+fn plus(lines: usize, more: usize) -> Result<usize, NoMemory>
+    ensures { IfOk result (λ places. places ≡ lines + more) }
 {
-    match lines.checked_mul(most) {
+    match lines.checked_add(more) {
         Some(places) => Ok(places),
         None => Err(NoMemory),
     }
@@ -107,6 +107,8 @@ fn is_disk_fault(outcome: &Outcome) -> bool
         Outcome::DiskFault => true,
         Outcome::Ok
         | Outcome::Usage { .. }
+        | Outcome::BadQuery { .. }
+        | Outcome::BadDate { .. }
         | Outcome::MailFault
         | Outcome::Closed { .. }
         | Outcome::Limit(_)

@@ -1,6 +1,7 @@
 //! The lines of a script, one after the other, over the index that was opened.
 
-ghost use Rattle.std.specs.Prelude.{◌≡◌, ℤ, ◌≤◌, [], None, IfSome, length};
+ghost use Rattle.std.specs.Prelude.{◌≡◌, ◌≤◌, [], None, IfSome, length};
+ghost use Rattle.nm_dates.specs.Seconds.{IsMoment};
 ghost use Rattle.nm_disk.specs.Observed.{ObservedDisk};
 ghost use Rattle.nm_history.specs.Call.{Devices};
 ghost use Rattle.nm_index.specs.declared.base.Base.{Base};
@@ -37,6 +38,7 @@ pub(crate) fn run_lines<M: Maildir, D: Disk>(
     mail: &mut M,
     disk: &mut D,
 ) -> SessionLog
+    requires moment { IsMoment setting.now.moment }
     requires rooms { HasRooms (length lines.now) rooms }
     requires fresh { (writer.begun ≡ []) × (writer.acked ≡ []) × (writer.closed ≡ None) }
     requires stands { IfSome (D.observed disk.old).told (λ moments. StandsOnIndex moments.present writer) }
@@ -50,26 +52,28 @@ pub(crate) fn run_lines<M: Maildir, D: Disk>(
 {
     let mut rooms = rooms;
     let mut writer = writer;
-    run_each(alloc, lines, &mut rooms, &mut writer, mail, disk);
+    run_each(alloc, setting, lines, &mut rooms, &mut writer, mail, disk);
     finish(rooms, writer)
 }
 
 /// Runs the lines, and notes each in the rooms.
 fn run_each<M: Maildir, D: Disk>(
     alloc: Global,
+    setting: &Setting,
     lines: &[ScriptLine],
     rooms: &mut Rooms,
     writer: &mut Writer,
     mail: &mut M,
     disk: &mut D,
 )
+    requires moment { IsMoment setting.now.moment }
     requires rooms { HasRooms (length lines.now) rooms.old }
     requires fresh { (writer.old.begun ≡ []) × (writer.old.acked ≡ []) × (writer.old.closed ≡ None) }
     requires stands { IfSome (D.observed disk.old).told (λ moments. StandsOnIndex moments.present writer.old) }
     ensures noted { HasNoted lines.now rooms.new (place_at writer.new (M.observed mail.new) (D.observed disk.new)) }
     ensures steps { rooms.new.steps ≡ rooms.old.steps }
-    ensures ran { (moment : ℤ) (entry : Devices) → entry.mail ≡ M.observed mail.old → entry.disk.faults ≡ (D.observed disk.old).faults
-        → HasRunSome moment writer.old.shown entry lines.now rooms.new (place_at writer.new (M.observed mail.new) (D.observed disk.new)) }
+    ensures ran { (entry : Devices) → entry.mail ≡ M.observed mail.old → entry.disk.faults ≡ (D.observed disk.old).faults
+        → HasRunSome setting.now.moment writer.old.shown entry lines.now rooms.new (place_at writer.new (M.observed mail.new) (D.observed disk.new)) }
     ensures durable { (entry : ObservedDisk) (opening : Base) → IsDurable entry opening (D.observed disk.old) writer.old
         → IsDurable entry opening (D.observed disk.new) writer.new }
 {
@@ -85,7 +89,7 @@ fn run_each<M: Maildir, D: Disk>(
     a_line_more_keeps_the_given();
     a_line_more_keeps_the_clocks();
     'lines: for line in lines {
-        run_line(alloc, line, rooms, writer, mail, disk);
+        run_line(alloc, setting, line, rooms, writer, mail, disk);
     }
 }
 

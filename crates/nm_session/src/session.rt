@@ -1,6 +1,7 @@
 //! A session: the index is opened, and the lines of the script are run over it.
 
 ghost use Rattle.std.specs.Prelude.{IfErr, IfOk, length};
+ghost use Rattle.nm_dates.specs.Seconds.{IsMoment};
 ghost use Rattle.nm_history.specs.Call.{devices};
 ghost use Rattle.nm_io.specs.Observed.{ObservedStream};
 ghost use Rattle.nm_session.specs.Rooms.{HasRooms};
@@ -25,6 +26,7 @@ pub fn run_session<M: Maildir, D: Disk>(
     mail: &mut M,
     disk: &mut D,
 ) -> Result<SessionLog, OpenError>
+    requires moment { IsMoment setting.now.moment }
     ensures ran { IfOk result (λ log. (input out err : ObservedStream) → IsSession setting.now.moment (devices (M.observed mail.old) (D.observed disk.old) input out err)
         lines.now (M.observed mail.new) (D.observed disk.new) log) }
     ensures refused { IfErr result (IsUnopened (M.observed mail.old) (M.observed mail.new) (D.observed disk.old) (D.observed disk.new)) }
@@ -45,7 +47,8 @@ fn open_and_run<M: Maildir, D: Disk>(
     mail: &mut M,
     disk: &mut D,
 ) -> Result<SessionLog, OpenError>
-    requires { HasRooms (length lines.now) rooms }
+    requires moment { IsMoment setting.now.moment }
+    requires rooms { HasRooms (length lines.now) rooms }
     ensures ran { IfOk result (λ log. (input out err : ObservedStream) → IsSession setting.now.moment (devices (M.observed mail.old) (D.observed disk.old) input out err)
         lines.now (M.observed mail.new) (D.observed disk.new) log) }
     ensures refused { IfErr result (IsUnopened (M.observed mail.old) (M.observed mail.new) (D.observed disk.old) (D.observed disk.new)) }

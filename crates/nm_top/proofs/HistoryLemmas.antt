@@ -1,5 +1,5 @@
 -- The whole statement of a session, from its parts.
-use Rattle.std.proofs.Common.{◌≡◌, inl, ℕ, ◌≤◌, Bool, true, false, List, [], ◌∷◌, Option, None, Some, IfSome, Err, length, refl, sym, arith, subst}
+use Rattle.std.proofs.Common.{◌≡◌, inl, ℕ, ◌≤◌, Bool, false, List, [], ◌∷◌, Option, None, Some, IfSome, Err, length, refl, sym, arith, subst}
 use Rattle.std.specs.List.{zip}
 use Rattle.std.specs.Str.Lines.{lines}
 use Rattle.nm_base.specs.Limits.{max_lines}
@@ -68,7 +68,6 @@ module _ (laws : RefusalLaws) (refusal : Refusal) (input : List ℕ) (words : Li
     input,
     record {
       ending = Refused refusal;
-      whole = true;
       out_failed = false;
       acknowledged = [];
       opening_index = tt;
@@ -117,8 +116,8 @@ unopened-history laws error refusal input words setting mail new_mail disk new_d
 -- a call that runs its script
 pub ran-history : (input : List ℕ) (words : List (List ℕ)) (setting : Setting) (entry after : Devices) (script : List ScriptLine) (status : ℕ) (log : SessionLog) (out_failed : Bool)
     → words_fault words ≡ None → IsRead input entry.input after.input → length (lines input) ≤ max_lines → script ≡ script_lines input
-    → IsSession setting.moment entry script after.mail after.disk log → StreamAppends out_failed entry.out after.out (printed log.lines) → Prints (final_message true out_failed) entry.err after.err
-    → status ≡ session_status true log.lines out_failed → History (call_of words setting entry after (record { status = status; log = log }))
+    → IsSession setting.moment entry script after.mail after.disk log → StreamAppends out_failed entry.out after.out (printed log.lines) → Prints (final_message out_failed) entry.err after.err
+    → status ≡ session_status log.lines out_failed → History (call_of words setting entry after (record { status = status; log = log }))
 ran-history input words setting entry after script status log out_failed sound read few same session out says is =
     let run : HasRun setting.moment session.opening entry (script_lines input) after.mail after.disk.faults log =
     subst (λ (ls : List ScriptLine). HasRun setting.moment session.opening entry ls after.mail after.disk.faults log) same session.run in (
@@ -126,7 +125,6 @@ ran-history input words setting entry after script status log out_failed sound r
       input,
       record {
         ending = Ran;
-        whole = true;
         out_failed = out_failed;
         acknowledged = run.acknowledged;
         opening_index = session.opening_index;

@@ -23,7 +23,7 @@ pub(crate) fn print_all<O: Sink>(out: &mut O, logs: &[LineLog]) -> bool
 
 /// What a session that was run says in the end besides its replies.
 pub(crate) fn say_last<E: Sink>(err: &mut E, out_failed: bool)
-    ensures { Prints (final_message true out_failed) (E.observed err.old) (E.observed err.new) }
+    ensures { Prints (final_message out_failed) (E.observed err.old) (E.observed err.new) }
 {
     if out_failed {
         say_write_fault(err);
@@ -31,7 +31,7 @@ pub(crate) fn say_last<E: Sink>(err: &mut E, out_failed: bool)
 }
 
 fn say_write_fault<E: Sink>(err: &mut E)
-    ensures { Prints (final_message true true) (E.observed err.old) (E.observed err.new) }
+    ensures { Prints (final_message true) (E.observed err.old) (E.observed err.new) }
 {
     let _ = print_text(err, b"notmuch: write fault\n");
 }
@@ -67,7 +67,7 @@ fn ended(alloc: Global, status: u8) -> Done
 
 /// The status of a session that was run to its end.
 pub(crate) fn status_of_run(logs: &[LineLog], out_failed: bool) -> u8
-    ensures { result ≡ session_status true logs.now out_failed }
+    ensures { result ≡ session_status logs.now out_failed }
 {
     if let Some(status) = first_fault(logs) {
         return status;
@@ -112,6 +112,8 @@ fn fault_of(outcome: &Outcome) -> Option<u8>
         Outcome::DiskFault => Some(4),
         Outcome::Ok
         | Outcome::Usage { .. }
+        | Outcome::BadQuery { .. }
+        | Outcome::BadDate { .. }
         | Outcome::Closed { .. }
         | Outcome::Limit(_)
         | Outcome::NoMemory => None,
@@ -131,6 +133,8 @@ fn wants_memory(outcome: &Outcome) -> bool
         Outcome::NoMemory => true,
         Outcome::Ok
         | Outcome::Usage { .. }
+        | Outcome::BadQuery { .. }
+        | Outcome::BadDate { .. }
         | Outcome::MailFault
         | Outcome::DiskFault
         | Outcome::Closed { .. }

@@ -3,6 +3,7 @@
 ghost use Rattle.std.specs.Prelude.{◌≡◌, ℕ, List, [], ◌∷◌, ◌≤◌, None, Some, MatchOption, length, pos, ◌≤ℤ◌};
 ghost use Rattle.std.specs.Str.Lines.{lines};
 ghost use Rattle.nm_base.specs.Limits.{max_lines};
+ghost use Rattle.nm_dates.specs.Seconds.{IsMoment};
 ghost use Rattle.nm_history.specs.Call.{call_of, devices, words_fault};
 ghost use Rattle.nm_history.specs.Complete.{IsComplete};
 ghost use Rattle.nm_history.specs.History.{History};
@@ -69,6 +70,7 @@ fn answered<M: Maildir, D: Disk, I: Source, O: Sink, E: Sink>(
     out: &mut O,
     err: &mut E,
 ) -> Done
+    requires moment { IsMoment setting.now.moment }
     ensures { History (call_of words.now setting.now
         (devices (M.observed mail.old) (D.observed disk.old) (I.observed input.old) (O.observed out.old) (E.observed err.old))
         (devices (M.observed mail.new) (D.observed disk.new) (I.observed input.new) (O.observed out.new) (E.observed err.new)) result) }
@@ -119,6 +121,7 @@ fn read_and_run<M: Maildir, D: Disk, I: Source, O: Sink, E: Sink>(
     out: &mut O,
     err: &mut E,
 ) -> Done
+    requires moment { IsMoment setting.now.moment }
     ensures { (words : List (List ℕ)) → words_fault words ≡ None → History (call_of words setting.now
         (devices (M.observed mail.old) (D.observed disk.old) (I.observed input.old) (O.observed out.old) (E.observed err.old))
         (devices (M.observed mail.new) (D.observed disk.new) (I.observed input.new) (O.observed out.new) (E.observed err.new)) result) }
@@ -146,6 +149,7 @@ fn run_script<M: Maildir, D: Disk, O: Sink, E: Sink>(
     out: &mut O,
     err: &mut E,
 ) -> Done
+    requires moment { IsMoment setting.now.moment }
     ensures { (words : List (List ℕ)) (input : List ℕ) (old new : ObservedStream) → words_fault words ≡ None → IsRead input old new → length (lines input) ≤ max_lines
         → script.now ≡ script_lines input → History (call_of words setting.now
         (devices (M.observed mail.old) (D.observed disk.old) old (O.observed out.old) (E.observed err.old))

@@ -6,14 +6,14 @@ use Rattle.nm_session.proofs.answering.answer.Goals as goal
 
 pub returns-in_err-word : goal.returns-in_err-word
 returns-in_err-word g c = record {
-  ends = failed-ends (place_at c.args.writer.now (g.M.Maildir.observed c.args.mail.now) (g.D.Disk.observed c.args.disk.now)) c.args.line.now c.args.given.now c.from_residual.result c.from_residual.ensures.0 c.requires.fresh;
+  ends = failed-ends c.args.setting.now.moment (place_at c.args.writer.now (g.M.Maildir.observed c.args.mail.now) (g.D.Disk.observed c.args.disk.now)) c.args.line.now c.args.given.now c.from_residual.result c.from_residual.ensures.0 c.requires.fresh;
   stands = c.requires.stands;
   durable = λ entry opening h. h;
 }
 
 pub returns-in-Usage : goal.returns-in-Usage
 returns-in-Usage g c = record {
-  ends = usage-ends (place_at c.args.writer.now (g.M.Maildir.observed c.args.mail.now) (g.D.Disk.observed c.args.disk.now)) c.args.line.now c.args.given.now c.in-Usage.word c.in-Usage.kind c.refuse.result
+  ends = usage-ends c.args.setting.now.moment (place_at c.args.writer.now (g.M.Maildir.observed c.args.mail.now) (g.D.Disk.observed c.args.disk.now)) c.args.line.now c.args.given.now c.in-Usage.word c.in-Usage.kind c.refuse.result
       c.requires.fresh (sym c.in_ok-word.ensures ∙ c.in-Usage.is) c.refuse.ensures;
   stands = c.requires.stands;
   durable = λ entry opening h. h;
@@ -21,14 +21,14 @@ returns-in-Usage g c = record {
 
 pub returns-in-Request-New : goal.returns-in-Request-New
 returns-in-Request-New g c = record {
-  ends = c.run_new.ensures.ends c.args.line.now (sym c.in_ok-word.ensures ∙ (c.in-Request-New.is ∙ ap asked.Request c.in-Request-New.field-0-is));
+  ends = c.run_new.ensures.ends c.args.setting.now.moment c.args.line.now (sym c.in_ok-word.ensures ∙ (c.in-Request-New.is ∙ ap asked.Request c.in-Request-New.field-0-is));
   stands = c.run_new.ensures.stands;
   durable = c.run_new.ensures.durable;
 }
 
 pub returns-in-Request-Count : goal.returns-in-Request-Count
 returns-in-Request-Count g c = record {
-  ends = count-ends (place_at c.args.writer.now (g.M.Maildir.observed c.args.mail.now) (g.D.Disk.observed c.args.disk.now)) c.args.line.now c.args.given.now c.in-Request-Count.ask c.snapshot.result.now c.run_count.result
+  ends = count-ends c.args.setting.now.moment (place_at c.args.writer.now (g.M.Maildir.observed c.args.mail.now) (g.D.Disk.observed c.args.disk.now)) c.args.line.now c.args.given.now c.in-Request-Count.ask c.snapshot.result.now c.run_count.result
       c.requires.fresh (sym c.in_ok-word.ensures ∙ (c.in-Request-Count.is ∙ ap asked.Request c.in-Request-Count.field-0-is)) c.snapshot.ensures c.run_count.ensures;
   stands = c.requires.stands;
   durable = λ entry opening h. h;

@@ -12,8 +12,8 @@ note-requires g c =
     let new = place_at done.new.writer (g.M.Maildir.observed done.new.mail) (g.D.Disk.observed done.new.disk) in
     record {
       logs = omega (arith, c.requires.spare.logs);
-      marks = marks-fit old new (c.args.line.now, done.result.0) done.result.1 c.acked-before.result.now c.made_since-made.result c.args.rooms.now.marks.1 done.ensures.run c.acked-before.ensures c.made_since-made.ensures
-          (omega (arith, c.requires.spare.marks));
+      marks = marks-fit c.args.setting.now.moment old new (c.args.line.now, done.result.0) done.result.1 c.acked-before.result.now c.made_since-made.result c.args.rooms.now.marks.1 done.ensures.run c.acked-before.ensures.acked c.made_since-made.ensures.count
+          (omega (arith, c.requires.spare.marks)) c.made_since-made.ensures.few;
     }
 
 pub returns : goal.returns
@@ -21,7 +21,7 @@ returns g c =
     let old = place_at c.args.writer.now (g.M.Maildir.observed c.args.mail.now) (g.D.Disk.observed c.args.disk.now) in
     let done = c.line_log-log in
     let new = place_at done.new.writer (g.M.Maildir.observed done.new.mail) (g.D.Disk.observed done.new.disk) in
-    let are = marks-are old new (c.args.line.now, done.result.0) done.result.1 c.acked-before.result.now c.made_since-made.result done.ensures.run c.acked-before.ensures c.made_since-made.ensures in
+    let are = marks-are c.args.setting.now.moment old new (c.args.line.now, done.result.0) done.result.1 c.acked-before.result.now c.made_since-made.result done.ensures.run c.acked-before.ensures.acked c.made_since-made.ensures.count in
     record {
       noted = record {
         log = done.result.0;
@@ -31,10 +31,11 @@ returns g c =
         marks = c.note.ensures.marks ∙ ap (λ (l : List Mark). c.args.rooms.now.marks.0 ++ l) are;
         steps = c.note.ensures.steps;
         logs_spare = c.note.ensures.logs_spare;
-        marks_spare = marks-left old new (c.args.line.now, done.result.0) done.result.1 c.acked-before.result.now c.made_since-made.result c.args.rooms.now.marks.1 c.note.new.rooms.marks.1 done.ensures.run c.acked-before.ensures c.made_since-made.ensures
+        marks_spare = marks-left c.args.setting.now.moment old new (c.args.line.now, done.result.0) done.result.1 c.acked-before.result.now c.made_since-made.result c.args.rooms.now.marks.1 c.note.new.rooms.marks.1 done.ensures.run c.acked-before.ensures.acked c.made_since-made.ensures.count
             c.note.ensures.marks_spare;
         spares = ap (λ (l : List (List ℕ)). length l + 1) c.note.ensures.spares ∙ c.take_spare-spare.ensures.length;
         texts = subst AreSpares (sym c.note.ensures.spares) c.take_spare-spare.ensures.texts;
+        within = c.made_since-made.ensures.few;
       };
       stands = done.ensures.stands;
       durable = done.ensures.durable;

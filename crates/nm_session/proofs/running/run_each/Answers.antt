@@ -15,7 +15,7 @@ returns g c =
     record {
       noted = subst (λ (l : List ScriptLine). HasNoted l c.lines.rooms place) all c.lines.invariant.noted;
       steps = c.lines.invariant.steps;
-      ran = λ moment entry mail_is disk_is. subst (λ (l : List ScriptLine). HasRunSome moment c.args.writer.now.shown entry l c.lines.rooms place) all (c.lines.invariant.ran moment entry mail_is disk_is);
+      ran = λ entry mail_is disk_is. subst (λ (l : List ScriptLine). HasRunSome c.args.setting.now.moment c.args.writer.now.shown entry l c.lines.rooms place) all (c.lines.invariant.ran entry mail_is disk_is);
       durable = c.lines.invariant.durable;
     }
 
@@ -28,15 +28,15 @@ lines-init g c =
     let fresh = c.requires.fresh in
     record {
       noted = noted-none c.args.rooms.now place (length c.args.lines.now) rooms fresh.0 fresh.1;
-      spare = spare-first (length c.args.lines.now) c.args.rooms.now rooms.spare;
+      spare = spare-first (length c.args.lines.now) c.args.rooms.now c.args.writer.now.begun fresh.0 rooms.spare;
       steps = refl;
-      ran = λ moment entry mail_is disk_is. some-none (record {
+      ran = λ entry mail_is disk_is. some-none (record {
         stands = c.no_line_stands_at_the_opening.ensures;
         machine_run = c.no_step_is_a_run_of_the_machine.ensures;
         commits = c.no_line_makes_no_commit.ensures;
         answers = c.no_line_is_answered.ensures;
         given = c.nothing_is_given_to_no_line.ensures;
-      }) moment entry c.args.rooms.now place (length c.args.lines.now) rooms fresh.0 fresh.1 fresh.2 mail_is disk_is;
+      }) c.args.setting.now.moment entry c.args.rooms.now place (length c.args.lines.now) rooms fresh.0 fresh.1 fresh.2 mail_is disk_is;
       stands = λ alive. c.requires.stands;
       durable = λ entry opening h. h;
     }
@@ -53,24 +53,25 @@ lines-preserved g c =
     let so_far = c.lines.invariant in
     let front = front-more c.args.lines.now c.lines.line-index line c.lines-test.true c.line-item.is in
     record {
-      noted = subst (λ (l : List ScriptLine). HasNoted l done.new.rooms new) front (noted-more before line c.lines.rooms done.new.rooms old new so_far.noted done.ensures.noted);
-      spare = spare-more c.lines.line-index (length c.args.lines.now) line c.lines.rooms done.new.rooms old new so_far.spare done.ensures.noted;
+      noted = subst (λ (l : List ScriptLine). HasNoted l done.new.rooms new) front (noted-more c.args.setting.now.moment before line c.lines.rooms done.new.rooms old new so_far.noted done.ensures.noted);
+      spare = spare-more c.args.setting.now.moment c.lines.line-index (length c.args.lines.now) line c.lines.rooms done.new.rooms old new so_far.spare done.ensures.noted;
       steps = done.ensures.noted.steps ∙ so_far.steps;
-      ran = λ moment entry mail_is disk_is. subst (λ (l : List ScriptLine). HasRunSome moment c.args.writer.now.shown entry l done.new.rooms new) front (some-more (record {
+      ran = λ entry mail_is disk_is. subst (λ (l : List ScriptLine). HasRunSome c.args.setting.now.moment c.args.writer.now.shown entry l done.new.rooms new) front (some-more (record {
         stands = c.a_line_more_keeps_where_it_stands.ensures;
         machine_run = c.a_line_more_keeps_the_machine_run.ensures;
         commits = c.a_line_more_keeps_the_commits.ensures;
         answers = c.a_line_more_keeps_the_answers.ensures;
         given = c.a_line_more_keeps_the_given.ensures;
         clocks = c.a_line_more_keeps_the_clocks.ensures;
-      }) moment c.args.writer.now.shown entry before line c.lines.rooms done.new.rooms old new so_far.noted done.ensures.noted (so_far.ran moment entry mail_is disk_is));
+      }) c.args.setting.now.moment c.args.writer.now.shown entry before line c.lines.rooms done.new.rooms old new so_far.noted done.ensures.noted (so_far.ran entry mail_is disk_is));
       stands = done.ensures.stands;
       durable = λ entry opening h. done.ensures.durable entry opening (so_far.durable entry opening h);
     }
 
 pub run_line-requires : goal.run_line-requires
 run_line-requires g c = record {
-  spare = spare-next c.lines.line-index (length c.args.lines.now) c.lines.rooms c.lines-test.true c.lines.invariant.spare;
+  moment = c.requires.moment;
+  spare = spare-next c.lines.line-index (length c.args.lines.now) (length c.lines.writer.begun) c.lines.rooms c.lines-test.true c.lines.invariant.spare;
   even = c.lines.invariant.noted.even;
   stands = c.lines.invariant.stands;
 }

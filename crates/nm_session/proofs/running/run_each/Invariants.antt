@@ -1,4 +1,4 @@
-use Rattle.std.proofs.Common.{◌≡◌, ℤ, None, length, take}
+use Rattle.std.proofs.Common.{◌≡◌, None, length, take}
 use Rattle.std.specs.Prelude.{IfSome}
 use Rattle.nm_disk.specs.Observed.{ObservedDisk}
 use Rattle.nm_history.specs.Call.{Devices}
@@ -17,10 +17,10 @@ invariant-lines g l =
     let place = place_at l.writer (mail.observed l.mail) (disk.observed l.disk) in
     record {
       noted : HasNoted (take l.line-index l.lines) l.rooms place;
-      spare : SpareFrom l.line-index (length l.lines) l.rooms;
+      spare : SpareFrom l.line-index (length l.lines) (length l.writer.begun) l.rooms;
       steps : l.rooms.steps ≡ l.initial.rooms.steps;
-      ran : (moment : ℤ) (entry : Devices) → entry.mail ≡ mail.observed l.initial.mail → entry.disk.faults ≡ (disk.observed l.initial.disk).faults
-          → HasRunSome moment l.initial.writer.shown entry (take l.line-index l.lines) l.rooms place;
+      ran : (entry : Devices) → entry.mail ≡ mail.observed l.initial.mail → entry.disk.faults ≡ (disk.observed l.initial.disk).faults
+          → HasRunSome l.setting.moment l.initial.writer.shown entry (take l.line-index l.lines) l.rooms place;
       stands : l.writer.closed ≡ None → IfSome (disk.observed l.disk).told (λ moments. StandsOnIndex moments.present l.writer);
       durable : (entry : ObservedDisk) (opening : Base) → IsDurable entry opening (disk.observed l.initial.disk) l.initial.writer → IsDurable entry opening (disk.observed l.disk) l.writer;
     }

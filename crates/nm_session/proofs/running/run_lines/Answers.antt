@@ -10,7 +10,7 @@ returns g c =
     let place = place_at done.new.writer (mail.observed done.new.mail) (disk.observed done.new.disk) in
     record {
       ran = λ entry mail_is disk_is. has-run c.args.setting.now.moment c.args.writer.shown entry c.args.lines.now done.new.rooms place c.finish.result done.ensures.noted
-          (done.ensures.ran c.args.setting.now.moment entry mail_is disk_is) c.finish.ensures;
+          (done.ensures.ran entry mail_is disk_is) c.finish.ensures;
       durable = λ entry h. is-kept entry (disk.observed done.new.disk) c.args.writer.shown c.args.lines.now done.new.rooms place c.finish.result done.ensures.noted (done.ensures.durable entry c.args.writer.shown h) c.finish.ensures;
     }
 

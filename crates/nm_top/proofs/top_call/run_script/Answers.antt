@@ -1,4 +1,4 @@
-use Rattle.std.proofs.Common.{true, List, ap, ◌∙◌, subst}
+use Rattle.std.proofs.Common.{List, ap, ◌∙◌, subst}
 use Rattle.nm_history.specs.PrintedOut.{StreamAppends}
 use Rattle.nm_history.specs.Status.{session_status}
 use Rattle.nm_log.specs.Replies.{printed}
@@ -16,7 +16,7 @@ returns-in-Ok g c = λ words input old new sound read few same.
     (devices (g.M.Maildir.observed c.run_session.new.mail) (g.D.Disk.observed c.run_session.new.disk) new printed_out (g.E.Sink.observed c.say_last.new.err)) c.args.script.now c.status_of_run-status.result c.in-Ok.log c.print_all-out_failed.result
     sound read few same (c.in-Ok.ensures.ran old out err)
     (subst (λ (logs : List LineLog). StreamAppends c.print_all-out_failed.result out printed_out (printed logs)) c.as_slice.ensures c.print_all-out_failed.ensures)
-    c.say_last.ensures (c.status_of_run-status.ensures ∙ ap (λ (logs : List LineLog). session_status true logs c.print_all-out_failed.result) c.as_slice-in-Ok.ensures)
+    c.say_last.ensures (c.status_of_run-status.ensures ∙ ap (λ (logs : List LineLog). session_status logs c.print_all-out_failed.result) c.as_slice-in-Ok.ensures)
 
 pub returns-in-Err : goal.returns-in-Err
 returns-in-Err g c = λ words input old new sound read few same.
