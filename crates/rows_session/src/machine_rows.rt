@@ -3,8 +3,8 @@
 use crate::step_rows::step;
 use nm_base::Copies;
 use nm_core::{Core, CoreError};
-use nm_index::Base;
 use nm_machine::Step;
+use nm_state::Snapshot;
 use rows::{Lines, Row, RowError};
 use std::alloc::Global;
 
@@ -40,7 +40,7 @@ fn core(alloc: Global, row: &Row<'_>) -> Result<Core, RowError> {
     if lanes < 1 || lanes > 16 {
         return Err(RowError::Broken("there are 1 to 16 lanes"));
     }
-    Ok(Core::new(alloc, Base::empty(alloc), lanes as u32)?)
+    Ok(Core::new(alloc, Snapshot::empty(alloc), lanes as u32)?)
 }
 
 /// Takes a copy of the step, so that copies are tried too.

@@ -7,6 +7,7 @@ mod device_rows;
 mod disks;
 mod line_rows;
 mod machine_rows;
+mod many_files;
 mod reply_rows;
 mod session_rows;
 mod session_run;

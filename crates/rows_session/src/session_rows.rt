@@ -15,6 +15,7 @@ pub fn answer(alloc: Global, row: &Row<'_>) -> Result<Vec<u8>, RowError> {
     row.has_only(&[
         b"$",
         b"file",
+        b"many",
         b"gone",
         b"then",
         b"head",

@@ -1,5 +1,5 @@
 //! The sessions of a row: a line `then` begins the next one, over the same disk. It has the mail files of the one before
-//! it, with those that come by a line `file`, and without those that go by a line `gone`.
+//! it, with those that come by a line `file` or `many`, and without those that go by a line `gone`.
 
 use rows::{Row, RowError, RowLine, cut};
 use std::alloc::{AllocError, Global};
@@ -36,7 +36,7 @@ fn row_of<'a>(row: &Row<'a>, lines: Vec<RowLine<'a>>) -> Row<'a> {
 fn files_of<'a>(alloc: Global, lines: &[RowLine<'a>]) -> Result<Vec<RowLine<'a>>, AllocError> {
     let mut files = Vec::new(alloc);
     'lines: for line in lines {
-        if line.mark == b"file".as_slice() {
+        if line.mark == b"file".as_slice() || line.mark == b"many".as_slice() {
             files.push(copy_of(alloc, line)?)?;
         }
     }

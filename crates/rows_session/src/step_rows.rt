@@ -1,10 +1,10 @@
 //! Steps of the machine, as rows write them: `begin`, `append`, `show`, `see`, `meet`, `crash`, `reopen`, and replies.
 
-use crate::values::{id, path, text};
+use crate::values::{id, path, tag, text};
 use nm_answer::Request;
 use nm_base::{
-    CountAsk, Facts, Field, FieldWords, MailPath, Many, Marks, MessageId, NoMemory, Output, Text,
-    Word,
+    CountAsk, Facts, Field, FieldWords, MailPath, Many, Marks, MessageId, NoMemory, Output, Tags,
+    Text, Word,
 };
 use nm_commit::{Change, Commit};
 use nm_machine::Step;
@@ -75,7 +75,7 @@ fn add_change(alloc: Global, changes: &mut Many<Change>, part: &[u8]) -> Result<
     Ok(changes.push(change)?)
 }
 
-/// `add PATH ID DATE`, `drop PATH`, or `move FROM TO`.
+/// `add PATH ID DATE`, `drop PATH`, `move FROM TO`, or `tag ID TAG`, after which the message has no other tag.
 fn change(alloc: Global, part: &[u8]) -> Result<Change, RowError> {
     let (name, rest) = cut(part, b' ');
     if name == b"add".as_slice() {
@@ -89,7 +89,18 @@ fn change(alloc: Global, part: &[u8]) -> Result<Change, RowError> {
     if name == b"move".as_slice() {
         return moved(alloc, rest);
     }
+    if name == b"tag".as_slice() {
+        return tagged(alloc, rest);
+    }
     Err(RowError::Broken("no such change"))
+}
+
+fn tagged(alloc: Global, line: &[u8]) -> Result<Change, RowError> {
+    let (message, name) = cut(line, b' ');
+    let id = id(alloc, message)?;
+    let mut tags = Tags::new(alloc);
+    tags.add(tag(alloc, name)?)?;
+    Ok(Change::SetTags { id, tags })
 }
 
 fn moved(alloc: Global, line: &[u8]) -> Result<Change, RowError> {
@@ -149,13 +160,13 @@ fn add_word(alloc: Global, words: &mut Many<Word>, word: &str) -> Result<(), NoM
     }
 }
 
-/// `REQUEST LANE QUERY TEXT`: a reply of the lane. A query that is absent is written `-`.
+/// `REQUEST LANE QUERY TEXT`: a reply of the lane. What is absent is written `-`.
 fn reply(alloc: Global, name: &[u8], line: &[u8]) -> Result<Step, RowError> {
     let (number, rest) = cut(line, b' ');
     let (query, reply) = cut(rest, b' ');
     let lane = lane(number)?;
     let request = request(alloc, name, query)?;
-    let text = Many::from_slice(alloc, reply)?;
+    let text = Many::from_slice(alloc, said(reply))?;
     Ok(Step::Reply {
         lane,
         request,
@@ -163,26 +174,49 @@ fn reply(alloc: Global, name: &[u8], line: &[u8]) -> Result<Step, RowError> {
     })
 }
 
+fn said(word: &[u8]) -> &[u8] {
+    if word == b"-".as_slice() {
+        return b"";
+    }
+    word
+}
+
 fn request(alloc: Global, name: &[u8], query: &[u8]) -> Result<Request, RowError> {
     if name == b"new".as_slice() {
         return Ok(Request::New);
     }
-    if name == b"count".as_slice() {
-        return count(alloc, Output::Messages, false, query);
+    if name == b"count-input".as_slice() {
+        return count(alloc, Output::Messages, true, true, b"");
+    }
+    let exclude = name != b"count-all".as_slice();
+    let output = counted(name)?;
+    count(alloc, output, exclude, false, query)
+}
+
+/// What a request counts; `count-all` does not leave out what is deleted.
+fn counted(name: &[u8]) -> Result<Output, RowError> {
+    if name == b"count".as_slice() || name == b"count-all".as_slice() {
+        return Ok(Output::Messages);
+    }
+    if name == b"count-threads".as_slice() {
+        return Ok(Output::Threads);
     }
     if name == b"count-files".as_slice() {
-        return count(alloc, Output::Files, false, query);
-    }
-    if name == b"count-input".as_slice() {
-        return count(alloc, Output::Messages, true, b"");
+        return Ok(Output::Files);
     }
     Err(RowError::Broken("no such step"))
 }
 
-fn count(alloc: Global, output: Output, batch: bool, query: &[u8]) -> Result<Request, RowError> {
+fn count(
+    alloc: Global,
+    output: Output,
+    exclude: bool,
+    batch: bool,
+    query: &[u8],
+) -> Result<Request, RowError> {
     Ok(Request::Count(CountAsk {
         output,
-        exclude: true,
+        exclude,
         batch,
         query: text(alloc, query)?,
     }))

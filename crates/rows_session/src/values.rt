@@ -1,6 +1,6 @@
 //! Values as rows write them.
 
-use nm_base::{MailPath, MessageId, Text};
+use nm_base::{MailPath, MessageId, Tag, Text};
 use rows::{RowError, text_of};
 use std::alloc::Global;
 
@@ -19,5 +19,12 @@ pub fn id(alloc: Global, bytes: &[u8]) -> Result<MessageId, RowError> {
     match MessageId::new(text(alloc, bytes)?) {
         Ok(id) => Ok(id),
         Err(_) => Err(RowError::Broken("no id where the row has one")),
+    }
+}
+
+pub fn tag(alloc: Global, bytes: &[u8]) -> Result<Tag, RowError> {
+    match Tag::new(text(alloc, bytes)?) {
+        Ok(tag) => Ok(tag),
+        Err(_) => Err(RowError::Broken("no tag where the row has one")),
     }
 }
