@@ -23,6 +23,9 @@ HOST = "bench.example"
 ATTACHED = 100_000
 LARGE = 60_000_000
 FIELDS = 300
+# The most files of a batch of `new`, and the bytes that close one before.
+BATCH = 256
+BATCH_BYTES = 67_108_864
 SECONDS_BETWEEN = 1_000
 
 SYLLABLES = """ba be bi bo da de di do fa fe ga go ka ke ki la le li lo ma me mi mo na ne no pa pe po ra re ri ro sa se
@@ -45,6 +48,7 @@ class Store:
     files: int = 0
     size: int = 0
     found: int = 0
+    sizes: dict = dataclasses.field(default_factory=dict)
 
     def __post_init__(self):
         for part in ("new", "cur", "tmp"):
@@ -56,7 +60,17 @@ class Store:
         path = f"new/{at:07}.bench" if at % 2 else f"cur/{at:07}.bench:2,S"
         with open(f"{self.folder}/{path}", "wb") as file:
             file.write(content)
+        self.sizes[path] = len(content)
         self.files, self.size, self.found = at + 1, self.size + len(content), self.found + has_word
+
+    def batches(self):
+        """How many commits a first `new` makes of it, and so its revision."""
+        batches = answers = length = 0
+        for path in sorted(self.sizes):
+            answers, length = answers + 1, length + self.sizes[path]
+            if answers == BATCH or length >= BATCH_BYTES:
+                batches, answers, length = batches + 1, 0, 0
+        return batches + (answers > 0)
 
 
 class Texts:
@@ -279,6 +293,6 @@ def session(program, store, above):
         file.write(f"0 new\n0 count subject:{WORD}\n")
     run = measured([program, "session"], above, script, replies)
     wanted = f"Files: +{store.files} -0, skipped 0. Messages: +{store.files} -0.\n", f"{store.found}\n"
-    whole = "".join(f"@0 {at} 1 0 {len(it)}\n{it}" for at, it in enumerate(wanted, 1))
+    whole = "".join(f"@0 {at} {store.batches()} 0 {len(it)}\n{it}" for at, it in enumerate(wanted, 1))
     with open(replies, "rb") as file:
         return run, run.status == 0 and file.read() == whole.encode()
