@@ -119,6 +119,27 @@ is_scan_fault scan_errors.MailFault = true
 is_scan_fault (scan_errors.Limit limit) = false
 is_scan_fault scan_errors.NoMemory = false
 
+-- the limits that a walk may pass: of files, of folders, of their depth
+abbrev pub is_walk_limit : Limit → Bool
+is_walk_limit limits.Files = true
+is_walk_limit limits.Dirs = true
+is_walk_limit limits.Depth = true
+is_walk_limit limits.IndexBytes = false
+is_walk_limit limits.CommitBytes = false
+is_walk_limit limits.InputBytes = false
+is_walk_limit limits.Lines = false
+is_walk_limit limits.Commits = false
+is_walk_limit limits.QueryBytes = false
+is_walk_limit limits.QueryDepth = false
+is_walk_limit limits.ShowBytes = false
+is_walk_limit limits.Numbers = false
+
+-- an error that a walk may give: of the limits only those that it may pass
+abbrev pub is_walk_error : ScanError → Bool
+is_walk_error scan_errors.MailFault = true
+is_walk_error (scan_errors.Limit limit) = is_walk_limit limit
+is_walk_error scan_errors.NoMemory = true
+
 -- What a step of a walk leaves is what was expected; a limit is told exactly where it was expected. Of a step that failed nothing is said.
 abbrev pub Walks : {T : Type 0} → Result Walk Limit → Result T ScanError → Walk → Type 0
 Walks expected (Ok done) walk = expected ≡ Ok walk

@@ -1,11 +1,11 @@
 //! The walk through a tree of Maildirs; `new` begins with it. A folder's listing is let go once its names are taken.
 
-ghost use Rattle.std.specs.Prelude.{◌≡◌, ◌-◌, ◌<◌, ◌≤◌, ◌++◌, ◌∷◌, [], false, IfErr, IfOk, IfSome, OnErr, OnOk, filter, map, Ok, Err, reverse};
+ghost use Rattle.std.specs.Prelude.{IsTrue, ◌≡◌, ◌-◌, ◌<◌, ◌≤◌, ◌++◌, ◌∷◌, [], false, IfErr, IfOk, IfSome, OnErr, OnOk, filter, map, Ok, Err, reverse};
 ghost use Rattle.nm_base.specs.Order.{has_text};
 ghost use Rattle.nm_base.specs.declared.limit.Limit.{Limit};
 ghost use Rattle.nm_faults.specs.Faults.{HasCauseOf};
 ghost use Rattle.nm_maildir.specs.Tree.{listing_of};
-ghost use Rattle.nm_scan.specs.Walking.{Walks, counts, file, folder_inside, inside, is_scan_fault, is_walked, mail_met, max_folders, met_in, part_met, paths_in, scanned, to_come, walked, with_folder};
+ghost use Rattle.nm_scan.specs.Walking.{Walks, counts, file, folder_inside, inside, is_scan_fault, is_walk_error, is_walked, mail_met, max_folders, met_in, part_met, paths_in, scanned, to_come, walked, with_folder};
 
 use crate::ScanError;
 use nm_base::{Limit, MailPath, Many, NoMemory, Text, TextSet};
@@ -43,6 +43,7 @@ pub fn list_paths<M: Maildir>(alloc: Global, mail: &mut M) -> Result<TextSet<Mai
     ensures limit { (limit : Limit) → result ≡ Err (ScanError.Limit limit) → IfSome (M.observed mail.old).tree (λ t. scanned t ≡ Err limit) }
     ensures tree { (M.observed mail.new).tree ≡ (M.observed mail.old).tree }
     ensures reads { (M.observed mail.new).reads ≡ (M.observed mail.old).reads }
+    ensures kind { IfErr result (λ error. IsTrue (is_walk_error error)) }
     ensures cause { HasCauseOf is_scan_fault (M.observed mail.old).faults (M.observed mail.new).faults result }
 {
     let mut walk = Walk {
@@ -84,6 +85,7 @@ fn walk_folder<M: Maildir>(
     ensures few { walk.old.folders ≤ max_folders → walk.new.folders ≤ max_folders }
     ensures tree { (M.observed mail.new).tree ≡ (M.observed mail.old).tree }
     ensures reads { (M.observed mail.new).reads ≡ (M.observed mail.old).reads }
+    ensures kind { IfErr result (λ error. IsTrue (is_walk_error error)) }
     ensures cause { HasCauseOf is_scan_fault (M.observed mail.old).faults (M.observed mail.new).faults result }
 {
     match enter(walk, folder.levels) {
@@ -117,6 +119,7 @@ fn enter(walk: &mut Walk, levels: u32) -> Result<(), ScanError>
     ensures some { OnOk result (0 < levels) }
     ensures few { walk.old.folders ≤ max_folders → walk.new.folders ≤ max_folders }
     ensures err { OnErr result (walk.new ≡ walk.old) }
+    ensures kind { IfErr result (λ error. IsTrue (is_walk_error error)) }
     ensures cause { IfErr result (λ error. is_scan_fault error ≡ false) }
 {
     if walk.folders >= MAX_FOLDERS {
@@ -145,6 +148,7 @@ fn walk_part<M: Maildir>(
     ensures few { walk.old.folders ≤ max_folders → walk.new.folders ≤ max_folders }
     ensures tree { (M.observed mail.new).tree ≡ (M.observed mail.old).tree }
     ensures reads { (M.observed mail.new).reads ≡ (M.observed mail.old).reads }
+    ensures kind { IfErr result (λ error. IsTrue (is_walk_error error)) }
     ensures cause { HasCauseOf is_scan_fault (M.observed mail.old).faults (M.observed mail.new).faults result }
 {
     if !has_name(listing.dirs.as_slice(), name) {
@@ -167,6 +171,7 @@ fn walk_mail<M: Maildir>(
     ensures few { walk.old.folders ≤ max_folders → walk.new.folders ≤ max_folders }
     ensures tree { (M.observed mail.new).tree ≡ (M.observed mail.old).tree }
     ensures reads { (M.observed mail.new).reads ≡ (M.observed mail.old).reads }
+    ensures kind { IfErr result (λ error. IsTrue (is_walk_error error)) }
     ensures cause { HasCauseOf is_scan_fault (M.observed mail.old).faults (M.observed mail.new).faults result }
 {
     match enter(walk, folder.levels - 1) {
@@ -188,6 +193,7 @@ fn has_name(names: &[Text], name: &str) -> bool
 fn add_files(alloc: Global, dir: &str, names: &[Text], walk: &mut Walk) -> Result<(), ScanError>
     ensures walks { Walks (walked walk.old (map file (paths_in dir.now names.now))) result walk.new }
     ensures folders { walk.new.folders ≡ walk.old.folders }
+    ensures kind { IfErr result (λ error. IsTrue (is_walk_error error)) }
     ensures cause { IfErr result (λ error. is_scan_fault error ≡ false) }
 {
     'names: for name in names {
@@ -203,6 +209,7 @@ fn add_files(alloc: Global, dir: &str, names: &[Text], walk: &mut Walk) -> Resul
 fn add_file(alloc: Global, dir: &str, name: &Text, walk: &mut Walk) -> Result<(), ScanError>
     ensures walks { Walks (walked walk.old (map file (paths_in dir.now (name.now ∷ [])))) result walk.new }
     ensures folders { walk.new.folders ≡ walk.old.folders }
+    ensures kind { IfErr result (λ error. IsTrue (is_walk_error error)) }
     ensures cause { IfErr result (λ error. is_scan_fault error ≡ false) }
 {
     if !is_counted(name.as_bytes()) {
