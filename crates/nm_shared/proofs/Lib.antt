@@ -2,3 +2,4 @@ pub mod EntryLemmas
 pub mod SpotLemmas
 pub mod MapLemmas
 pub mod BlockLemmas
+pub mod HashedLemmas

@@ -3,3 +3,5 @@ pub mod Search
 pub mod Spot
 pub mod Map
 pub mod Blocks
+pub mod Hashed
+pub mod TextHash

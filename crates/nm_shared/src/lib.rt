@@ -1,8 +1,9 @@
-//! Values: lists, ordered maps and big values that snapshots share.
+//! Values: lists, ordered maps, maps by hashes and big values that snapshots share.
 //! A second handle copies no item, and a change of one never shows in the other.
 #![tactic(auto)]
 
 mod across;
+mod hashed_map;
 mod items;
 mod room;
 mod run;
@@ -11,8 +12,10 @@ mod search;
 mod shared;
 mod shared_list;
 mod shared_map;
+mod text_hash;
 
 pub use across::{list_may_cross, map_may_cross, value_may_cross};
+pub use hashed_map::{Hashed, HashedMap};
 pub use items::Items;
 pub use shared::Shared;
 pub use shared_list::SharedList;

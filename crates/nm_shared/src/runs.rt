@@ -8,7 +8,7 @@ use nm_base::{Copies, NoMemory};
 use std::alloc::Global;
 
 /// A run with this many items is cut in two before another goes into it.
-const MAX_RUN: usize = 128;
+const MAX_RUN: usize = 64;
 
 /// So long may the last one of many runs become. Items that rise fill it, and a second handle counts fewer runs then.
 const MAX_LAST: usize = 512;

@@ -126,7 +126,7 @@ kept_same kept row found key are key_is found_is at = (
 
 -- ---- rows that a test finds the same
 
-same_links : (xs ys : List (List ℕ)) → pointwise same_text xs ys ≡ true → xs ≡ ys
+pub same_links : (xs ys : List (List ℕ)) → pointwise same_text xs ys ≡ true → xs ≡ ys
 same_links [] [] is = refl
 same_links [] (y ∷ ys) is = absurd (true≢false (sym is))
 same_links (x ∷ xs) [] is = absurd (true≢false (sym is))

@@ -13,14 +13,14 @@ use crate::measured_map::MeasuredMap;
 use crate::places::{add_place, remove_place};
 use crate::reading::{MessageFiles, Paths};
 use nm_base::{Copies, Facts, MailPath, Many, MessageId, NoMemory};
-use nm_shared::{Shared, SharedMap};
+use nm_shared::{HashedMap, Shared, SharedMap};
 use std::alloc::Global;
 
 /// The files, each at its place: the number of files that had come before it.
 pub struct Filing {
     pub files: MeasuredMap<u64, (MailPath, Shared<Facts>)>,
     pub places: SharedMap<MailPath, u64>,
-    pub of_id: SharedMap<MessageId, Shared<Many<u64>>>,
+    pub of_id: HashedMap<MessageId, Shared<Many<u64>>>,
     pub next: u64,
 }
 
@@ -43,7 +43,7 @@ impl Filing {
         Filing {
             files: MeasuredMap::new(alloc),
             places: SharedMap::new(alloc),
-            of_id: SharedMap::new(alloc),
+            of_id: HashedMap::new(alloc),
             next: 0,
         }
     }
@@ -121,7 +121,7 @@ pub fn add_file(
 /// A file of the message stands at the place, behind its other ones.
 fn place_file(
     alloc: Global,
-    of_id: &mut SharedMap<MessageId, Shared<Many<u64>>>,
+    of_id: &mut HashedMap<MessageId, Shared<Many<u64>>>,
     facts: &Shared<Facts>,
     place: u64,
 ) -> Result<(), NoMemory>

@@ -6,13 +6,13 @@ ghost use Rattle.std.specs.Ordering.{is_eq, nat_cmp};
 ghost use Rattle.nm_state.specs.Filing.{at_text, told, told_places, without_place};
 
 use nm_base::{Copies, Many, MessageId, NoMemory};
-use nm_shared::{Shared, SharedMap};
+use nm_shared::{HashedMap, Shared};
 use std::alloc::Global;
 
 /// The places of a message's files, as a list of one's own.
 fn places_of(
     alloc: Global,
-    of_id: &SharedMap<MessageId, Shared<Many<u64>>>,
+    of_id: &HashedMap<MessageId, Shared<Many<u64>>>,
     id: &MessageId,
 ) -> Result<Many<u64>, NoMemory>
     ensures { IfOk result (λ places. places ≡ told_places of_id.now id.now) }
@@ -26,7 +26,7 @@ fn places_of(
 /// A file of the message stands at the place, behind its other ones.
 pub fn add_place(
     alloc: Global,
-    of_id: &mut SharedMap<MessageId, Shared<Many<u64>>>,
+    of_id: &mut HashedMap<MessageId, Shared<Many<u64>>>,
     id: &MessageId,
     place: u64,
 ) -> Result<(), NoMemory>
@@ -52,7 +52,7 @@ fn without(alloc: Global, places: &[u64], place: u64) -> Result<Many<u64>, NoMem
 /// No file of the message stands at the place any more.
 pub fn remove_place(
     alloc: Global,
-    of_id: &mut SharedMap<MessageId, Shared<Many<u64>>>,
+    of_id: &mut HashedMap<MessageId, Shared<Many<u64>>>,
     id: &MessageId,
     place: u64,
 ) -> Result<(), NoMemory>

@@ -51,6 +51,23 @@ pub fn first_tags(alloc: Global, marks: Marks) -> Result<Tags, NoMemory>
     Ok(tags)
 }
 
+/// These tags: the handle of the first message's where that has the same, so that most messages share one set.
+fn shared_tags(
+    alloc: Global,
+    all: &MeasuredMap<MessageId, Shared<Tags>>,
+    tags: Tags,
+) -> Result<Shared<Tags>, NoMemory>
+    ensures { IfOk result (λ shared. shared ≡ tags) }
+{
+    let Some(first) = all.pairs().first() else {
+        return Shared::new(alloc, tags);
+    };
+    if *first.1.get() == tags {
+        return first.1.copy();
+    }
+    Shared::new(alloc, tags)
+}
+
 /// Gives a message these tags and no others.
 pub fn set_tags(
     alloc: Global,
@@ -64,6 +81,7 @@ pub fn set_tags(
 {
     // No code needs them one by one; that they are in order comes with it.
     let _ = tags.iter();
-    all.insert(id.copy()?, Shared::new(alloc, tags)?)?;
+    let shared = shared_tags(alloc, all, tags)?;
+    all.insert(id.copy()?, shared)?;
     Ok(())
 }

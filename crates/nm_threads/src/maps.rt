@@ -3,7 +3,7 @@
 ghost use Rattle.std.specs.Prelude.{◌≡◌, [], IfOk};
 
 use nm_base::{Copies, MessageId, NoMemory};
-use nm_shared::SharedMap;
+use nm_shared::{HashedMap, SharedMap};
 use std::alloc::Global;
 
 /// The name of a thread, and how many ids it has, which says on which side less is to be relabelled.
@@ -33,7 +33,7 @@ impl Copies for Member {
 #[derive(Drop)]
 pub struct Maps {
     pub ids: SharedMap<u64, MessageId>,
-    pub numbers: SharedMap<MessageId, u64>,
+    pub numbers: HashedMap<MessageId, u64>,
     /// The group of each number.
     pub groups: SharedMap<u64, u64>,
     /// The thread of each group.
@@ -54,7 +54,7 @@ impl Maps {
     {
         Maps {
             ids: SharedMap::new(alloc),
-            numbers: SharedMap::new(alloc),
+            numbers: HashedMap::new(alloc),
             groups: SharedMap::new(alloc),
             threads: SharedMap::new(alloc),
             members: SharedMap::new(alloc),

@@ -1,0 +1,33 @@
+use Rattle.std.proofs.Common.{ap, ◌∙◌, cond, Some}
+use Rattle.std.specs.BTreeMap.{is_at}
+use Rattle.std.specs.Map.{lookup}
+use Rattle.std.specs.Ordering.{is_eq}
+use Rattle.nm_shared.proofs.HashedLemmas.{crowded_are, replaced_hashed, replaced_are, last_hashed, last_are}
+use Rattle.nm_shared.proofs.hashed_map.HashedMap.insert.Goals as goal
+
+pub invariant_of-self-in-Some : goal.invariant_of-self-in-Some
+invariant_of-self-in-Some g c =
+    replaced_hashed g.K.Ord.cmp g.K.Hashed.hash g.met.K.Hashed.same c.self.inside.places c.self.inside.slots c.insert.new.self c.self.inside.crowded c.self.inside.next c.self.invariant c.args.key c.args.value c.in-Some.slot _
+    c.in-Some.ensures.0 c.in-Some.ensures.1 c.in-Some.ensures.2 c.len.ensures.sorted c.in_ok-insert.ensures.found
+
+pub returns-in-Some-clause-found : goal.returns-in-Some-clause-found
+returns-in-Some-clause-found g c = λ other.
+    replaced_are g.K.Ord.cmp g.K.Hashed.hash g.met.K.Hashed.same c.self.inside.places c.self.inside.slots c.insert.new.self c.self.inside.crowded c.self.inside.next c.self.invariant c.args.key c.args.value c.in-Some.slot _
+    c.in-Some.ensures.0 c.in-Some.ensures.1 c.in-Some.ensures.2 c.len.ensures.sorted c.in_ok-insert.ensures.found other
+    ∙ ap (λ all. cond (is_eq (g.K.Ord.cmp other c.args.key)) (Some c.args.value) (lookup (is_at (g.K.Ord.cmp other)) all)) c.self.view_is
+
+pub returns-then-is_crowded-clause-found : goal.returns-then-is_crowded-clause-found
+returns-then-is_crowded-clause-found g c = λ other.
+    crowded_are g.K.Ord.cmp g.K.Hashed.hash g.met.K.Hashed.same c.self.inside.places c.self.inside.slots c.self.inside.crowded c.insert-then-is_crowded.new.self c.self.inside.next c.self.invariant c.args.key (Some c.args.value) c.in_default.ensures c.in_ok-insert-2.ensures.found other
+    ∙ ap (λ all. cond (is_eq (g.K.Ord.cmp other c.args.key)) (Some c.args.value) (lookup (is_at (g.K.Ord.cmp other)) all)) c.self.view_is
+
+pub invariant_of-self-2 : goal.invariant_of-self-2
+invariant_of-self-2 g c =
+    last_hashed g.K.Ord.cmp g.K.Hashed.hash g.met.K.Hashed.same c.self.inside.places c.insert-2.new.self c.self.inside.slots c.insert-3.new.self c.self.inside.crowded c.self.inside.next c.self.invariant c.args.key c.args.value c.hash_code.result
+    c.hash_code.ensures (c.is_crowded.ensures.place c.if-is_crowded.false) (c.is_crowded.ensures.apart c.if-is_crowded.false) c.in_ok-insert-3.ensures.found c.len-2.ensures.sorted c.in_ok-insert-4.ensures.found
+
+pub returns-clause-found : goal.returns-clause-found
+returns-clause-found g c = λ other.
+    last_are g.K.Ord.cmp g.K.Hashed.hash g.met.K.Hashed.same c.self.inside.places c.insert-2.new.self c.self.inside.slots c.insert-3.new.self c.self.inside.crowded c.self.inside.next c.self.invariant c.args.key c.args.value c.hash_code.result
+    c.hash_code.ensures (c.is_crowded.ensures.place c.if-is_crowded.false) (c.is_crowded.ensures.apart c.if-is_crowded.false) c.in_ok-insert-3.ensures.found c.len-2.ensures.sorted c.in_ok-insert-4.ensures.found other
+    ∙ ap (λ all. cond (is_eq (g.K.Ord.cmp other c.args.key)) (Some c.args.value) (lookup (is_at (g.K.Ord.cmp other)) all)) c.self.view_is

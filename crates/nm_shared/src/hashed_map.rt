@@ -1,0 +1,178 @@
+//! A map that snapshots share, in which keys are found by their hashes. Labels and snapshots look up ids in such maps.
+
+ghost use Rattle.std.specs.Prelude.{◌≡◌, [], ℕ, true, false, IfOk, MatchOption, OnOk, OnErr, Some, None, if◌then◌else◌};
+ghost use Rattle.std.specs.BTreeMap.{is_at};
+ghost use Rattle.std.specs.Map.{lookup};
+ghost use Rattle.std.specs.Option.{option_copied};
+ghost use Rattle.std.specs.Ordering.{is_eq};
+ghost use Rattle.nm_shared.specs.Hashed.{at, slot_value};
+
+use crate::SharedMap;
+use nm_base::{Copies, NoMemory};
+use std::alloc::Global;
+use std::cmp::Ordering;
+use std::marker::Model;
+
+/// A key with a hash: a number that depends on the key alone, and that few keys should have in common.
+pub trait Hashed: Ord {
+    ghost hash: { Self → ℕ };
+
+    fn hash_code(&self) -> u64
+        ensures { result ≡ hash self.now };
+
+    ghost same: { (a b : Self) → is_eq (Self.cmp a b) ≡ true → a ≡ b };
+}
+
+/// Pairs, each key once, in no order that is told. A contract sees it as a list of its pairs.
+#[derive(Drop)]
+pub struct HashedMap<K: Hashed, V> {
+    /// The slot to which a hash leads.
+    places: SharedMap<u64, u64>,
+    /// Pairs by slots, in the order in which they came. They are copied far less often than places are.
+    slots: SharedMap<u64, (K, V)>,
+    /// Pairs whose hash leads to the slot of another key, so that many keys with one hash cost no more than keys in order.
+    crowded: SharedMap<K, V>,
+    next: u64,
+}
+
+impl<K: Hashed, V> Model for HashedMap<K, V> {
+    ghost use Rattle.std.specs.Prelude.{List, ◌++◌};
+    ghost use Rattle.std.specs.Coded.{coded_list, coded×};
+    ghost use Rattle.std.specs.Map.{values_of};
+    ghost use Rattle.nm_shared.specs.Hashed.{IsHashed};
+
+    ghost Value = { List (K × V) };
+
+    ghost coded = { coded_list (coded× K.code V.code) };
+
+    ghost view = { λ m. values_of m.slots ++ m.crowded };
+
+    ghost invariant = { λ m. IsHashed K.cmp K.hash m.places m.slots m.crowded m.next };
+}
+
+/// The slot of a key, and the pair in it.
+fn found<'a, K: Hashed, V>(
+    places: &SharedMap<u64, u64>,
+    slots: &'a SharedMap<u64, (K, V)>,
+    key: &K,
+) -> Option<(u64, &'a (K, V))>
+    ensures { MatchOption result (slot_value K.cmp K.hash places.now slots.now key.now ≡ None) (λ found. (at (K.hash key.now) places.now ≡ Some found.0) × (at found.0 slots.now ≡ Some found.1.now) × (is_eq (K.cmp key.now found.1.now.0) ≡ true)) }
+{
+    let slot = *places.get(&key.hash_code())?;
+    let pair = slots.get(&slot)?;
+    if key.cmp(&pair.0) == Ordering::Equal {
+        Some((slot, pair))
+    } else {
+        None
+    }
+}
+
+/// Says whether a key without a slot can have none: it is crowded already, or its hash leads elsewhere.
+fn is_crowded<K: Hashed, V>(
+    places: &SharedMap<u64, u64>,
+    crowded: &SharedMap<K, V>,
+    key: &K,
+) -> bool
+    ensures place { result ≡ false → at (K.hash key.now) places.now ≡ None }
+    ensures apart { result ≡ false → lookup (is_at (K.cmp key.now)) crowded.now ≡ None }
+{
+    if places.get(&key.hash_code()).is_some() {
+        return true;
+    }
+    crowded.get(key).is_some()
+}
+
+impl<K: Hashed, V> HashedMap<K, V> {
+    /// An empty map, which takes no memory.
+    pub fn new(alloc: Global) -> HashedMap<K, V>
+        ensures { result ≡ [] }
+    {
+        HashedMap {
+            places: SharedMap::new(alloc),
+            slots: SharedMap::new(alloc),
+            crowded: SharedMap::new(alloc),
+            next: 0,
+        }
+    }
+
+    pub fn get(&self, key: &K) -> Option<&V>
+        ensures { option_copied result ≡ lookup (is_at (K.cmp key.now)) self.now }
+    {
+        let Some((_, pair)) = found(&self.places, &self.slots, key) else {
+            return self.crowded.get(key);
+        };
+        Some(&pair.1)
+    }
+}
+
+impl<K: Hashed + Drop, V: Drop> HashedMap<K, V> {
+    /// A second handle, for far less than a copy. No change of one shows in the other.
+    pub fn share(&self) -> Result<HashedMap<K, V>, NoMemory>
+        ensures { IfOk result (λ map. map ≡ self.now) }
+    {
+        Ok(HashedMap {
+            places: self.places.share()?,
+            slots: self.slots.share()?,
+            crowded: self.crowded.share()?,
+            next: self.next,
+        })
+    }
+}
+
+impl<K: Hashed + Copies, V: Copies> HashedMap<K, V> {
+    /// Puts `value` beside `key`.
+    pub fn insert(&mut self, key: K, value: V) -> Result<(), NoMemory>
+        ensures found { OnOk result ((other : K) → lookup (is_at (K.cmp other)) self.new ≡ (if is_eq (K.cmp other key) then Some value else lookup (is_at (K.cmp other)) self.old)) }
+        ensures err { OnErr result (self.new ≡ self.old) }
+    {
+        if let Some((slot, _)) = found(&self.places, &self.slots, &key) {
+            self.slots.insert(slot, (key, value))?;
+            // No code needs the number; that slots rise comes with it.
+            let _ = self.slots.len();
+            return Ok(());
+        }
+        if is_crowded(&self.places, &self.crowded, &key) {
+            self.crowded.insert(key, value)?;
+            return Ok(());
+        }
+        let slot = self.next;
+        if slot == u64::MAX {
+            return Err(NoMemory);
+        }
+        self.places.insert(key.hash_code(), slot)?;
+        self.slots.insert(slot, (key, value))?;
+        let _ = self.slots.len();
+        self.next = slot + 1;
+        Ok(())
+    }
+
+    pub fn remove(&mut self, key: &K) -> Result<(), NoMemory>
+        ensures found { OnOk result ((other : K) → lookup (is_at (K.cmp other)) self.new ≡ (if is_eq (K.cmp other key.now) then None else lookup (is_at (K.cmp other)) self.old)) }
+        ensures err { OnErr result (self.new ≡ self.old) }
+    {
+        let Some((slot, _)) = found(&self.places, &self.slots, key) else {
+            self.crowded.remove(key)?;
+            return Ok(());
+        };
+        self.slots.remove(&slot)?;
+        // No code needs the number; that slots rise comes with it.
+        let _ = self.slots.len();
+        self.leave(key.hash_code());
+        Ok(())
+    }
+
+    /// Forgets where a hash leads, if no pair is there any more. Without memory for that it stays.
+    fn leave(&mut self, hash: u64)
+        ensures { self.new ≡ self.old }
+    {
+        let Some(place) = self.places.get(&hash) else {
+            return;
+        };
+        if self.slots.get(place).is_some() {
+            return;
+        }
+        if self.places.remove(&hash).is_err() {
+            return;
+        }
+    }
+}
