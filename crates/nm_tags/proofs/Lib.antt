@@ -1,1 +1,4 @@
+pub mod DecodeLemmas
+pub mod LineLemmas
+pub mod SpaceLemmas
 pub mod TagLemmas
