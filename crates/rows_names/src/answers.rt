@@ -1,17 +1,24 @@
 //! What comes of a row, by its kind.
 
 use crate::read::{flags_of, paths_of, tags_of};
+use crate::tag_lines::{answer_to_dump, answer_to_lines};
 use nm_base::{MailPath, Many, Tag, Tags};
 use nm_flags::{Rename, rename_plan, tags_from_names};
 use nm_name::{Flags, NameError, parse_name, with_flags};
 use rows::{Lines, Program, Row, RowError};
 use std::alloc::{AllocError, Global};
 
-/// The program that runs the rows on names and flags.
+/// The program that runs the rows on names, flags, lines of tag changes and dumps.
 pub struct Names;
 
 impl Program for Names {
     fn answer(&self, alloc: Global, row: &Row<'_>) -> Result<Vec<u8>, RowError> {
+        if row.kind == b"tag lines".as_slice() {
+            return answer_to_lines(alloc, row);
+        }
+        if row.kind == b"dump".as_slice() {
+            return answer_to_dump(alloc, row);
+        }
         let asked = row.text(alloc, b"?")?;
         let paths = paths_of(alloc, row)?;
         answer_of(alloc, row.kind, asked.as_slice(), &paths)

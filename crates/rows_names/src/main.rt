@@ -1,9 +1,10 @@
-//! Committing and publishing: the program that runs the rows on names and flags. The table stands on the standard input, and
-//! the standard output has a line for each row.
+//! Commands and replies: the program that runs the rows on names, flags, lines of tag changes and dumps. The table stands on
+//! the standard input, and the standard output has a line for each row.
 #![tactic(auto)]
 
 mod answers;
 mod read;
+mod tag_lines;
 
 use answers::Names;
 use rows::run_table;

@@ -1,0 +1,10 @@
+pub mod ByteLemmas
+pub mod DumpLemmas
+pub mod IdLemmas
+pub mod InsideLemmas
+pub mod QuoteLemmas
+pub mod RestoreLemmas
+pub mod SupLineLemmas
+pub mod TagLineLemmas
+pub mod WholeLemmas
+pub mod SupWholeLemmas

@@ -1,0 +1,16 @@
+//! Commands and replies: dumps of tags, written and read line by line in either form.
+#![tactic(auto)]
+
+mod dumping;
+mod ids;
+mod laws;
+mod reading;
+mod sup;
+mod writing;
+
+pub use dumping::dump;
+pub use laws::{
+    a_written_dump_is_read_back, a_written_id_is_read_back, a_written_line_is_read_back,
+    a_written_sup_dump_is_read_back, written_tags_are_restored,
+};
+pub use reading::read_dump;
