@@ -1,0 +1,56 @@
+//! One worker: it takes the next input that nobody has taken, until none is left.
+
+ghost use Rattle.std.specs.Prelude.{◌<◌, ◌≤◌, IfOk};
+ghost use Rattle.nm_workers.specs.Results.{AreGiven};
+
+use crate::{Gate, Job};
+use nm_base::NoMemory;
+use std::alloc::Global;
+use std::sync::Wait;
+use std::sync::atomic::AtomicUsize;
+use std::sync::atomic::Ordering::SeqCst;
+use std::thread::Threads;
+
+/// A result, and the place of its input.
+#[derive(Drop)]
+pub struct Placed<T> {
+    pub at: usize,
+    pub value: T,
+}
+
+/// Passes the gate and then does what is left, beside the others who count in `taken`.
+pub fn work<R: Threads + Wait + Sync, J: Job, G: Gate>(
+    rt: &R,
+    alloc: Global,
+    job: &J,
+    inputs: &[J::In],
+    taken: &AtomicUsize,
+    gate: &G,
+    seat: u32,
+) -> Result<Vec<Placed<J::Out>>, NoMemory>
+    requires seat { (0 < seat) × (seat ≤ 16) }
+    ensures { IfOk result (λ done. AreGiven (J.gives job.now) inputs.now done.items) }
+{
+    gate.pass(rt, seat);
+    run_left(alloc, job, inputs, taken)
+}
+
+fn run_left<J: Job>(
+    alloc: Global,
+    job: &J,
+    inputs: &[J::In],
+    taken: &AtomicUsize,
+) -> Result<Vec<Placed<J::Out>>, NoMemory>
+    ensures { IfOk result (λ done. AreGiven (J.gives job.now) inputs.now done.items) }
+{
+    let mut done = Vec::new(alloc);
+    'turns: for _ in 0..inputs.len() {
+        let at = taken.fetch_add(1, SeqCst);
+        if at >= inputs.len() {
+            break;
+        }
+        let value = job.run(&inputs[at])?;
+        done.push(Placed { at, value })?;
+    }
+    Ok(done)
+}
