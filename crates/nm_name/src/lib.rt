@@ -1,4 +1,4 @@
-//! Committing and publishing: the flags that the name of a mail file carries (maildir(5)), read and written.
+//! The plain index: the flags that the name of a mail file carries (maildir(5)), read and written.
 #![tactic(auto)]
 
 mod cuts;

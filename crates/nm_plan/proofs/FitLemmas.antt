@@ -1,23 +1,25 @@
 -- The commits of a `new` fit: what has come lies where none lay, and what is gone lay there.
 use Rattle.std.proofs.Common.{◌≡◌, ℕ, Bool, true, false, ◌||◌, ◌&&◌, not, cond, List, [], ◌∷◌, ◌++◌, fold, map, filter, refl, sym, ap, ◌∙◌, subst, arith, IsTrue}
-use Rattle.std.specs.List.{AllByRecursion, IsDistinct}
-use Rattle.std.specs.Cmp.Lexicographic.{slice_cmp, texts_ties, nat_list_eq_equiv}
+use Rattle.std.specs.List.{AllByRecursion, IsDistinct, flat_map}
+use Rattle.std.specs.Cmp.Lexicographic.{pointwise, slice_cmp, texts_ties, nat_list_eq_equiv}
 use Rattle.std.specs.Ordering.{eq_by_cmp, nat_cmp}
 use Rattle.std.proofs.lemmas.List.{map-append}
 use Rattle.std.proofs.lemmas.Map.Keys.{IsDistinct-from_sorted, IsDistinct-head, IsDistinct-tail}
 use Rattle.nm_base.specs.Order.{has_text, in_order, same_text}
 use Rattle.nm_base.specs.declared.facts.Facts.{Facts}
 use Rattle.nm_base.specs.Limits.{IsDate}
-use Rattle.nm_commit.specs.Files.{FitChanges, changed, files_after, has_path, paths_of, without_path}
+use Rattle.nm_commit.specs.Files.{FitChanges, changed, files_after, has_id, has_path, paths_of, without_path}
 use Rattle.nm_commit.specs.declared.change.Change.{Change}
+use Rattle.nm_commit.specs.declared.change.Change.TheVariants.{SetTags}
 use Rattle.nm_commit.specs.declared.change.Commit.{Commit}
-use Rattle.nm_index.specs.Index.{committed, folded}
+use Rattle.nm_index.specs.Index.{applied, committed, folded, live_ids}
 use Rattle.nm_index.specs.declared.base.Base.{Base}
 use Rattle.nm_answer.specs.NewText.{gone}
 use Rattle.nm_index.specs.Fits.{FitInTurn}
-use Rattle.nm_plan.specs.Plan.{AreArrivals, add_of, all_arrivals, batch_commits, commit_of, drop_of, new_commits}
+use Rattle.nm_plan.specs.NameTags.{commit_of, follow_names, live_of, message_tags, named_tags, set_tags}
+use Rattle.nm_plan.specs.Plan.{AreArrivals, add_of, all_arrivals, batch_commit, batch_commits, drop_of, gone_commit, gone_files, message_ids, new_commits}
 use Rattle.std.specs.List.Sorted.{IsStrictlySortedBy}
-use Rattle.nm_plan.proofs.FoldLemmas.{batch-files, commit_of-files, new-files}
+use Rattle.nm_plan.proofs.FoldLemmas.{batch-files, new-files, next-files}
 use Rattle.nm_plan.proofs.OrderLemmas.{in_order-sorted}
 use Rattle.nm_plan.proofs.SetLemmas.{bytes_same, has_text-filter, has_text-in_order}
 
@@ -60,7 +62,7 @@ apart-cond : (b : Bool) (text : List ℕ) (texts : List (List ℕ)) → AllByRec
 apart-cond true text texts first rest = (first, rest)
 apart-cond false text texts first rest = rest
 
-apart-filter : (keep : List ℕ → Bool) (texts : List (List ℕ)) → IsApart texts → IsApart (filter keep texts)
+pub apart-filter : (keep : List ℕ → Bool) (texts : List (List ℕ)) → IsApart texts → IsApart (filter keep texts)
 apart-filter keep [] h = tt
 apart-filter keep (text ∷ texts) h = apart-cond (keep text) text (filter keep texts) (every-filter _ keep texts h.0) (apart-filter keep texts h.1)
 
@@ -143,10 +145,44 @@ not-true : (b : Bool) → not b ≡ true → b ≡ false
 not-true true h = sym h
 not-true false h = refl
 
+-- tags are set of messages that have a file
+set-cond : (files : List (List ℕ × Facts)) (b : Bool) (id : List ℕ) (tags : List (List ℕ)) (more : List Change) → has_id files id ≡ true → FitChanges files more → FitChanges files (cond b [] (SetTags id tags ∷ []) ++ more)
+set-cond files true id tags more here rest = rest
+set-cond files false id tags more here rest = (here, rest)
+
+fit-sets : (files : List (List ℕ × Facts)) (old new : List ℕ → List (List ℕ)) (ids : List (List ℕ)) → AllByRecursion (λ id. has_id files id ≡ true) ids → FitChanges files (flat_map (λ id. set_tags id (old id) (new id)) ids)
+fit-sets files old new [] h = tt
+fit-sets files old new (id ∷ ids) h =
+    set-cond files (pointwise same_text (old id) (new id)) id (new id) (flat_map (λ other. set_tags other (old other) (new other)) ids) h.0 (fit-sets files old new ids h.1)
+
+live-cond : (files : List (List ℕ × Facts)) (b : Bool) (entry : List ℕ × ℕ) (entries : List (List ℕ × ℕ)) → has_id files entry.0 ≡ b → AllByRecursion (λ id. has_id files id ≡ true) (map (λ e. e.0) entries)
+    → AllByRecursion (λ id. has_id files id ≡ true) (map (λ e. e.0) (cond b (entry ∷ entries) entries))
+live-cond files true entry entries is h = (is, h)
+live-cond files false entry entries is h = h
+
+all-live : (files : List (List ℕ × Facts)) (entries : List (List ℕ × ℕ)) → AllByRecursion (λ id. has_id files id ≡ true) (live_ids files entries)
+all-live files [] = tt
+all-live files (entry ∷ entries) = live-cond files (has_id files entry.0) entry (filter (λ e. has_id files e.0) entries) refl (all-live files entries)
+
+fit-more : (files : List (List ℕ × Facts)) (changes more : List Change) → FitChanges files changes → FitChanges (fold changed files changes) more → FitChanges files (changes ++ more)
+fit-more files [] more h k = k
+fit-more files (change ∷ changes) more h k = (h.0, fit-more (changed files change) changes more h.1 k)
+
 -- one commit of changes that fit, if there are any
-fit-commit : (index : Base) (changes : List Change) → FitChanges index.files changes → FitInTurn index (commit_of changes)
-fit-commit index [] h = tt
-fit-commit index (change ∷ changes) h = (record { some = omega arith; each = h }, tt)
+fit-commit : (follow : (index : Base) (commits : List Commit) → (folded index commits).files ≡ files_after index.files commits) (index : Base) (changes : List Change) (ids : List (List ℕ))
+    → FitChanges index.files changes → FitInTurn index (commit_of index changes ids)
+fit-commit follow index [] ids h = tt
+fit-commit follow index (change ∷ changes) ids h =
+    let after : Base = fold applied index (change ∷ changes) in
+    let sets : FitChanges after.files (follow_names after ids) =
+    fit-sets after.files (message_tags after) (named_tags after) (live_of after ids) (every-filter _ (has_text ids) (live_ids after.files after.entries) (all-live after.files after.entries)) in (
+      record {
+        some = omega arith;
+        each = fit-more index.files (change ∷ changes) (follow_names after ids) h
+            (subst (λ (files : List (List ℕ × Facts)). FitChanges files (follow_names after ids)) (follow index (record { changes = change ∷ changes } ∷ [])) sets);
+      },
+      tt,
+    )
 
 fit-append : (index : Base) (commits more : List Commit) → FitInTurn index commits → FitInTurn (folded index commits) more → FitInTurn index (commits ++ more)
 fit-append index [] more h k = k
@@ -163,22 +199,23 @@ fit-back files (change ∷ changes) more h = fit-back (changed files change) cha
 
 -- so the commits of batches fit where all their mails do
 fit-batches : (follow : (index : Base) (commits : List Commit) → (folded index commits).files ≡ files_after index.files commits) (index : Base) (batches : List (List (List ℕ × Facts)))
-    → FitChanges index.files (map add_of (all_arrivals batches)) → FitInTurn index (batch_commits batches)
+    → FitChanges index.files (map add_of (all_arrivals batches)) → FitInTurn index (batch_commits index batches)
 fit-batches follow index [] h = tt
 fit-batches follow index (arrivals ∷ batches) h =
     let adds : List Change = map add_of arrivals in
     let more : List Change = map add_of (all_arrivals batches) in
+    let next : Base = folded index (batch_commit index arrivals) in
     let both : FitChanges index.files (adds ++ more) = subst (FitChanges index.files) (map-append add_of arrivals (all_arrivals batches)) h in
-    fit-append index (commit_of adds) (batch_commits batches) (fit-commit index adds (fit-front index.files adds more both))
-    (fit-batches follow (folded index (commit_of adds)) batches
-    (subst (λ (files : List (List ℕ × Facts)). FitChanges files more) (sym (follow index (commit_of adds) ∙ commit_of-files index.files adds)) (fit-back index.files adds more both)))
+    fit-append index (batch_commit index arrivals) (batch_commits next batches) (fit-commit follow index adds (message_ids arrivals) (fit-front index.files adds more both))
+    (fit-batches follow next batches (subst (λ (files : List (List ℕ × Facts)). FitChanges files more) (sym (next-files follow index arrivals)) (fit-back index.files adds more both)))
 
 -- the commits of a `new` fit, one after the other
 pub fit-new : (follow : (index : Base) (commits : List Commit) → (folded index commits).files ≡ files_after index.files commits) (index : Base) (listed : List (List ℕ)) (batches : List (List (List ℕ × Facts)))
-    → AreArrivals index.files (all_arrivals batches) → FitInTurn index (new_commits index.files listed batches)
+    → AreArrivals index.files (all_arrivals batches) → FitInTurn index (new_commits index listed batches)
 fit-new follow index listed batches are =
     let arrivals : List (List ℕ × Facts) = all_arrivals batches in
     let paths : List (List ℕ) = in_order (paths_of index.files) in
+    let made : Base = folded index (batch_commits index batches) in
     let adds_fit : FitChanges index.files (map add_of arrivals) = fit-adds index.files arrivals (apart-once (paths_of arrivals) are.once) are.fresh are.dated in
     let there : (path : List ℕ) → has_text paths path ≡ true → has_path (index.files ++ arrivals) path ≡ true =
     λ path h. ap (λ (l : List (List ℕ)). has_text l path) (paths-append index.files arrivals) ∙ (has_text-append (paths_of index.files) (paths_of arrivals) path
@@ -186,9 +223,9 @@ fit-new follow index listed batches are =
     let drops_fit : FitChanges (index.files ++ arrivals) (map drop_of (gone index.files listed)) = fit-drops (index.files ++ arrivals) (gone index.files listed)
     (apart-filter (λ path. not (has_text listed path)) paths (apart-rising paths (in_order-sorted (paths_of index.files))))
     (every-filter _ (λ path. not (has_text listed path)) paths (every-map (λ path. has_text paths path ≡ true) (λ path. has_path (index.files ++ arrivals) path ≡ true) paths there (every-in paths))) in
-    fit-append index (batch_commits batches) (commit_of (map drop_of (gone index.files listed))) (fit-batches follow index batches adds_fit)
-    (fit-commit (folded index (batch_commits batches)) (map drop_of (gone index.files listed))
-    (subst (λ (files : List (List ℕ × Facts)). FitChanges files (map drop_of (gone index.files listed))) (sym (follow index (batch_commits batches) ∙ batch-files index.files batches)) drops_fit))
+    fit-append index (batch_commits index batches) (gone_commit made index.files listed) (fit-batches follow index batches adds_fit)
+    (fit-commit follow made (map drop_of (gone index.files listed)) (message_ids (gone_files index.files listed))
+    (subst (λ (files : List (List ℕ × Facts)). FitChanges files (map drop_of (gone index.files listed))) (sym (follow index (batch_commits index batches) ∙ batch-files follow index batches)) drops_fit))
 
 -- one of the texts that are all listed is listed
 listed-case : (listed : List (List ℕ)) (arrived : List ℕ) (paths : List (List ℕ)) (path : List ℕ) (b : Bool) → same_text path arrived ≡ b → AllByRecursion (λ other. IsTrue (has_text listed other)) (arrived ∷ paths)
@@ -212,11 +249,11 @@ truth-table false false false h = refl
 -- after a `new` a file is there where it was listed, and was there before or has come
 pub left-listed : (follow : (index : Base) (commits : List Commit) → (folded index commits).files ≡ files_after index.files commits) (index : Base) (listed : List (List ℕ)) (batches : List (List (List ℕ × Facts))) (path : List ℕ)
     → AllByRecursion (λ arrived. IsTrue (has_text listed arrived)) (paths_of (all_arrivals batches))
-    → has_path (folded index (new_commits index.files listed batches)).files path ≡ (has_text listed path && (has_path index.files path || has_path (all_arrivals batches) path))
+    → has_path (folded index (new_commits index listed batches)).files path ≡ (has_text listed path && (has_path index.files path || has_path (all_arrivals batches) path))
 left-listed follow index listed batches path all =
     let arrivals : List (List ℕ × Facts) = all_arrivals batches in
     let gone_paths : List (List ℕ) = gone index.files listed in
-    ap (λ (files : List (List ℕ × Facts)). has_path files path) (follow index (new_commits index.files listed batches) ∙ new-files index.files listed batches)
+    ap (λ (files : List (List ℕ × Facts)). has_path files path) (follow index (new_commits index listed batches) ∙ new-files follow index listed batches)
     ∙ (ap (λ (l : List (List ℕ)). has_text l path) (paths-filter (λ p. not (has_text gone_paths p)) (index.files ++ arrivals))
     ∙ (has_text-filter (λ p. not (has_text gone_paths p)) (paths_of (index.files ++ arrivals)) path
     ∙ (ap (λ b. b && not (has_text gone_paths path)) (ap (λ (l : List (List ℕ)). has_text l path) (paths-append index.files arrivals) ∙ has_text-append (paths_of index.files) (paths_of arrivals) path)

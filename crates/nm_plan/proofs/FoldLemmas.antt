@@ -1,12 +1,18 @@
 -- The files after the commits of a `new`: what has come stands behind what was there, and what is gone is away.
 use Rattle.std.proofs.Common.{◌≡◌, ℕ, Bool, true, false, ◌||◌, ◌&&◌, not, cond, List, [], ◌∷◌, ◌++◌, map, filter, fold, refl, sym, ap, ◌∙◌, append-nil, append_assoc}
-use Rattle.std.specs.Cmp.Lexicographic.{nat_list_eq_equiv}
+use Rattle.std.specs.Cmp.Lexicographic.{nat_list_eq_equiv, pointwise}
+use Rattle.std.specs.List.{flat_map}
 use Rattle.nm_base.specs.Order.{has_text, same_text}
 use Rattle.nm_base.specs.declared.facts.Facts.{Facts}
 use Rattle.nm_commit.specs.Files.{changed, files_after, files_with, without_path}
 use Rattle.nm_commit.specs.declared.change.Change.{Change}
 use Rattle.nm_answer.specs.NewText.{gone}
-use Rattle.nm_plan.specs.Plan.{add_of, all_arrivals, batch_commits, commit_of, drop_of, files_after_new, new_commits}
+use Rattle.nm_commit.specs.declared.change.Change.TheVariants.{SetTags}
+use Rattle.nm_commit.specs.declared.change.Commit.{Commit}
+use Rattle.nm_index.specs.Index.{applied, folded}
+use Rattle.nm_index.specs.declared.base.Base.{Base}
+use Rattle.nm_plan.specs.NameTags.{commit_of, follow_names, live_of, message_tags, named_tags, set_tags}
+use Rattle.nm_plan.specs.Plan.{add_of, all_arrivals, batch_commit, batch_commits, drop_of, files_after_new, gone_commit, gone_files, message_ids, new_commits}
 
 -- what has come, one by one
 pub fold-adds : (files arrivals : List (List ℕ × Facts)) → fold changed files (map add_of arrivals) ≡ files ++ arrivals
@@ -41,28 +47,49 @@ fold-drops : (files : List (List ℕ × Facts)) (paths : List (List ℕ)) → fo
 fold-drops files [] = sym (filter-all files)
 fold-drops files (path ∷ paths) = fold-drops (without_path files path) paths ∙ (filter-filter (λ file. not (same_text path file.0)) (λ file. not (has_text paths file.0)) files ∙ filter-same _ _ (λ file. not-or (same_text path file.0) (has_text paths file.0) ∙ ap (λ b. not (b || has_text paths file.0)) (nat_list_eq_equiv.symm path file.0)) files)
 
--- the files after the commits of these changes
-pub commit_of-files : (files : List (List ℕ × Facts)) (changes : List Change) → files_after files (commit_of changes) ≡ fold changed files changes
-commit_of-files files [] = refl
-commit_of-files files (change ∷ changes) = refl
-
 pub fold-append : {A B : Type 0} (f : A → B → A) (a : A) (xs ys : List B) → fold f a (xs ++ ys) ≡ fold f (fold f a xs) ys
 fold-append f a [] ys = refl
 fold-append f a (x ∷ xs) ys = fold-append f (f a x) xs ys
 
--- the files after the commits of the batches
-pub batch-files : (files : List (List ℕ × Facts)) (batches : List (List (List ℕ × Facts))) → files_after files (batch_commits batches) ≡ files ++ all_arrivals batches
-batch-files files [] = sym (append-nil files)
-batch-files files (arrivals ∷ batches) =
-    fold-append files_with files (commit_of (map add_of arrivals)) (batch_commits batches)
-    ∙ (ap (λ (l : List (List ℕ × Facts)). files_after l (batch_commits batches)) (commit_of-files files (map add_of arrivals) ∙ fold-adds files arrivals)
-    ∙ (batch-files (files ++ arrivals) batches ∙ append_assoc files arrivals (all_arrivals batches)))
+-- tags that are set change no file
+silent-cond : (files : List (List ℕ × Facts)) (b : Bool) (id : List ℕ) (tags : List (List ℕ)) (more : List Change) → fold changed files (cond b [] (SetTags id tags ∷ []) ++ more) ≡ fold changed files more
+silent-cond files true id tags more = refl
+silent-cond files false id tags more = refl
 
--- the files after a `new`
-pub new-files : (files : List (List ℕ × Facts)) (listed : List (List ℕ)) (batches : List (List (List ℕ × Facts))) → files_after files (new_commits files listed batches) ≡ files_after_new files listed (all_arrivals batches)
-new-files files listed batches =
-    let drops = map drop_of (gone files listed) in
-    fold-append files_with files (batch_commits batches) (commit_of drops)
-    ∙ (commit_of-files (files_after files (batch_commits batches)) drops
-    ∙ (ap (λ (l : List (List ℕ × Facts)). fold changed l drops) (batch-files files batches)
-    ∙ fold-drops (files ++ all_arrivals batches) (gone files listed)))
+silent : (files : List (List ℕ × Facts)) (old new : List ℕ → List (List ℕ)) (ids : List (List ℕ)) → fold changed files (flat_map (λ id. set_tags id (old id) (new id)) ids) ≡ files
+silent files old new [] = refl
+silent files old new (id ∷ ids) =
+    silent-cond files (pointwise same_text (old id) (new id)) id (new id) (flat_map (λ other. set_tags other (old other) (new other)) ids) ∙ silent files old new ids
+
+-- the files after the commit of these changes
+pub commit_of-files : (index : Base) (changes : List Change) (ids : List (List ℕ)) → files_after index.files (commit_of index changes ids) ≡ fold changed index.files changes
+commit_of-files index [] ids = refl
+commit_of-files index (change ∷ changes) ids =
+    let after : Base = fold applied index (change ∷ changes) in
+    fold-append changed index.files (change ∷ changes) (follow_names after ids) ∙ silent (fold changed index.files (change ∷ changes)) (message_tags after) (named_tags after) (live_of after ids)
+
+module _ (follow : (index : Base) (commits : List Commit) → (folded index commits).files ≡ files_after index.files commits) where
+  -- the files after the commit of a batch
+  pub next-files : (index : Base) (arrivals : List (List ℕ × Facts)) → (folded index (batch_commit index arrivals)).files ≡ fold changed index.files (map add_of arrivals)
+  next-files index arrivals = follow index (batch_commit index arrivals) ∙ commit_of-files index (map add_of arrivals) (message_ids arrivals)
+
+  -- the files after the commits of the batches
+  pub batch-files : (index : Base) (batches : List (List (List ℕ × Facts))) → files_after index.files (batch_commits index batches) ≡ index.files ++ all_arrivals batches
+  batch-files index [] = sym (append-nil index.files)
+  batch-files index (arrivals ∷ batches) =
+      let next : Base = folded index (batch_commit index arrivals) in
+      fold-append files_with index.files (batch_commit index arrivals) (batch_commits next batches)
+      ∙ (ap (λ (l : List (List ℕ × Facts)). files_after l (batch_commits next batches)) (sym (follow index (batch_commit index arrivals)))
+      ∙ (batch-files next batches
+      ∙ (ap (λ (l : List (List ℕ × Facts)). l ++ all_arrivals batches) (next-files index arrivals ∙ fold-adds index.files arrivals) ∙ append_assoc index.files arrivals (all_arrivals batches))))
+
+  -- the files after a `new`
+  pub new-files : (index : Base) (listed : List (List ℕ)) (batches : List (List (List ℕ × Facts))) → files_after index.files (new_commits index listed batches) ≡ files_after_new index.files listed (all_arrivals batches)
+  new-files index listed batches =
+      let drops = map drop_of (gone index.files listed) in
+      let made : Base = folded index (batch_commits index batches) in
+      fold-append files_with index.files (batch_commits index batches) (gone_commit made index.files listed)
+      ∙ (ap (λ (l : List (List ℕ × Facts)). files_after l (gone_commit made index.files listed)) (sym (follow index (batch_commits index batches)))
+      ∙ (commit_of-files made drops (message_ids (gone_files index.files listed))
+      ∙ (ap (λ (l : List (List ℕ × Facts)). fold changed l drops) (follow index (batch_commits index batches) ∙ batch-files index batches)
+      ∙ fold-drops (index.files ++ all_arrivals batches) (gone index.files listed))))

@@ -1,1 +1,3 @@
+pub mod NameTags
+pub mod Numbering
 pub mod Plan

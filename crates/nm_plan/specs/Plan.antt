@@ -1,4 +1,5 @@
 -- The commits of a command: first those of what has come, one for each batch of files that was read, then that of what is gone.
+-- Each is made on the index that those before it leave.
 use Rattle.std.specs.Prelude.{◌≡◌, ℕ, false, not, List, [], ◌∷◌, ◌++◌, map, filter}
 use Rattle.std.specs.List.{AllByRecursion, IsDistinct, flat_map}
 use Rattle.nm_base.specs.Limits.{IsDate}
@@ -11,8 +12,10 @@ use Rattle.nm_commit.specs.Files.{has_path, paths_of}
 use Rattle.nm_commit.specs.declared.change.Change.{Change}
 use Rattle.nm_commit.specs.declared.change.Change.TheVariants.{Add, Drop}
 use Rattle.nm_commit.specs.declared.change.Commit.{Commit}
+use Rattle.nm_index.specs.Index.{folded}
 use Rattle.nm_index.specs.declared.base.Base.{Base}
 use Rattle.nm_maildir.specs.declared.given.Given.{Given}
+use Rattle.nm_plan.specs.NameTags.{commit_of}
 
 -- the listed paths that the index lacks
 abbrev pub to_read : List (List ℕ × Facts) → List (List ℕ) → List (List ℕ)
@@ -24,31 +27,43 @@ add_of arrival = Add arrival.0 arrival.1
 abbrev pub drop_of : List ℕ → Change
 drop_of path = Drop path
 
--- one commit of the changes, or none where there is none
-abbrev pub commit_of : List Change → List Commit
-commit_of [] = []
-commit_of (change ∷ changes) = record { changes = change ∷ changes } ∷ []
+-- the messages of some files
+abbrev pub message_ids : List (List ℕ × Facts) → List (List ℕ)
+message_ids files = map (λ file. file.1.id) files
 
--- one commit for each batch in which mails were found
-abbrev pub batch_commits : List (List (List ℕ × Facts)) → List Commit
-batch_commits batches = flat_map (λ arrivals. commit_of (map add_of arrivals)) batches
+-- the files that are not listed any more
+abbrev pub gone_files : List (List ℕ × Facts) → List (List ℕ) → List (List ℕ × Facts)
+gone_files files listed = filter (λ file. not (has_text listed file.0)) files
+
+-- The commit of the mails that a batch found, where it found some: they come, and their messages get the tags that names say.
+abbrev pub batch_commit : Base → List (List ℕ × Facts) → List Commit
+batch_commit index arrivals = commit_of index (map add_of arrivals) (message_ids arrivals)
+
+-- The commit of what isn't listed any more of these files, where there is something: it goes, and so do tags by names.
+abbrev pub gone_commit : Base → List (List ℕ × Facts) → List (List ℕ) → List Commit
+gone_commit index files listed = commit_of index (map drop_of (gone files listed)) (message_ids (gone_files files listed))
+
+-- one commit after the other for each batch in which mails were found
+abbrev pub batch_commits : Base → List (List (List ℕ × Facts)) → List Commit
+batch_commits index [] = []
+batch_commits index (arrivals ∷ batches) = batch_commit index arrivals ++ batch_commits (folded index (batch_commit index arrivals)) batches
 
 -- the mails of all batches
 abbrev pub all_arrivals : List (List (List ℕ × Facts)) → List (List ℕ × Facts)
 all_arrivals batches = flat_map (λ arrivals. arrivals) batches
 
--- the commits of the mails that were found, batch by batch, and of what isn't listed any more
-abbrev pub new_commits : List (List ℕ × Facts) → List (List ℕ) → List (List (List ℕ × Facts)) → List Commit
-new_commits files listed batches = batch_commits batches ++ commit_of (map drop_of (gone files listed))
+-- the commits of the mails that were found, batch by batch, and then that of what isn't listed any more
+abbrev pub new_commits : Base → List (List ℕ) → List (List (List ℕ × Facts)) → List Commit
+new_commits index listed batches = batch_commits index batches ++ gone_commit (folded index (batch_commits index batches)) index.files listed
 
 -- The commits that are due while these paths are left to read: nothing is removed before all are read.
-abbrev pub commits_so_far : List (List ℕ × Facts) → List (List ℕ) → List (List (List ℕ × Facts)) → List (List ℕ) → List Commit
-commits_so_far files listed batches [] = new_commits files listed batches
-commits_so_far files listed batches (path ∷ left) = batch_commits batches
+abbrev pub commits_so_far : Base → List (List ℕ) → List (List (List ℕ × Facts)) → List (List ℕ) → List Commit
+commits_so_far index listed batches [] = new_commits index listed batches
+commits_so_far index listed batches (path ∷ left) = batch_commits index batches
 
 -- the commits that are due to a request on an index, with what it has found so far; a count makes none
 abbrev pub due_commits : Request → Base → List Given → List (List (List ℕ × Facts)) → List (List ℕ) → List Commit
-due_commits New index noted batches left = commits_so_far index.files (listed_in noted) batches left
+due_commits New index noted batches left = commits_so_far index (listed_in noted) batches left
 due_commits (Count ask) index noted batches left = []
 
 -- the files after a `new`: what has come stands behind what was there, and what is gone is away

@@ -1,21 +1,25 @@
 //! What the commits of `new` do. These functions run no code: their clauses are the laws.
 
-ghost use Rattle.std.specs.Prelude.{◌≡◌, ◌&&◌, ◌||◌, ◌++◌, ℕ, IsTrue, List};
+ghost use Rattle.std.specs.Prelude.{◌≡◌, ◌&&◌, ◌||◌, ◌++◌, ◌∷◌, ℕ, IsTrue, List, false, fold};
 ghost use Rattle.std.specs.List.{AllByRecursion};
 ghost use Rattle.nm_base.specs.Order.{has_text};
 ghost use Rattle.nm_base.specs.declared.facts.Facts.{Facts};
-ghost use Rattle.nm_commit.specs.Files.{has_path, paths_of};
-ghost use Rattle.nm_index.specs.Index.{folded};
+ghost use Rattle.nm_commit.specs.Files.{has_id, has_path, paths_of};
+ghost use Rattle.nm_commit.specs.declared.change.Change.{Change};
+ghost use Rattle.nm_commit.specs.declared.change.Commit.{Commit};
+ghost use Rattle.nm_index.specs.Index.{applied, empty_index, folded};
 ghost use Rattle.nm_index.specs.declared.base.Base.{Base};
 ghost use Rattle.nm_index.specs.Fits.{FitInTurn};
-ghost use Rattle.nm_plan.specs.Plan.{AreArrivals, all_arrivals, batch_commits, files_after_new, new_commits};
+ghost use Rattle.nm_plan.specs.Numbering.{AreNumbered};
+ghost use Rattle.nm_plan.specs.NameTags.{commit_of, live_of, message_tags, named_tags};
+ghost use Rattle.nm_plan.specs.Plan.{AreArrivals, all_arrivals, batch_commit, batch_commits, files_after_new, new_commits};
 
-use nm_index::files_follow_their_commits;
+use nm_index::{files_follow_their_commits, tags_of_others_stay};
 
 /// The commits of `new` fit the index, one after the other.
 pub fn new_commits_fit()
     ensures { (index : Base) (listed : List (List ℕ)) (batches : List (List (List ℕ × Facts)))
-        → AreArrivals index.files (all_arrivals batches) → FitInTurn index (new_commits index.files listed batches) }
+        → AreArrivals index.files (all_arrivals batches) → FitInTurn index (new_commits index listed batches) }
 {
     files_follow_their_commits();
 }
@@ -23,7 +27,7 @@ pub fn new_commits_fit()
 /// However the mails are parted into batches, what has come stands behind what was there, and what is gone is away.
 pub fn the_files_after_new()
     ensures { (index : Base) (listed : List (List ℕ)) (batches : List (List (List ℕ × Facts)))
-        → (folded index (new_commits index.files listed batches)).files ≡ files_after_new index.files listed (all_arrivals batches) }
+        → (folded index (new_commits index listed batches)).files ≡ files_after_new index.files listed (all_arrivals batches) }
 {
     files_follow_their_commits();
 }
@@ -31,7 +35,7 @@ pub fn the_files_after_new()
 /// And before what is gone is away, the files are those that were there and those of the batches.
 pub fn the_files_after_batches()
     ensures { (index : Base) (batches : List (List (List ℕ × Facts)))
-        → (folded index (batch_commits batches)).files ≡ index.files ++ all_arrivals batches }
+        → (folded index (batch_commits index batches)).files ≡ index.files ++ all_arrivals batches }
 {
     files_follow_their_commits();
 }
@@ -40,8 +44,28 @@ pub fn the_files_after_batches()
 pub fn new_leaves_what_is_listed()
     ensures { (index : Base) (listed : List (List ℕ)) (batches : List (List (List ℕ × Facts))) (path : List ℕ)
         → AllByRecursion (λ arrived. IsTrue (has_text listed arrived)) (paths_of (all_arrivals batches))
-        → has_path (folded index (new_commits index.files listed batches)).files path
+        → has_path (folded index (new_commits index listed batches)).files path
         ≡ (has_text listed path && (has_path index.files path || has_path (all_arrivals batches) path)) }
 {
     files_follow_their_commits();
+}
+
+/// No id gets a second number, and numbers rise, whatever the commits.
+pub fn numbers_stay_in_order()
+    ensures empty { AreNumbered empty_index }
+    ensures kept { (index : Base) (commits : List Commit) → AreNumbered index → AreNumbered (folded index commits) }
+{}
+
+/// A commit gives each message that it is about, and that has a file, the tags that the names of its files say; it sets no tags of
+/// any other message. So what has come leaves the tags of all messages that none of it is of.
+pub fn tags_follow_the_names()
+    ensures followed { (index : Base) (change : Change) (changes : List Change) (ids : List (List ℕ)) (id : List ℕ) → AreNumbered index
+        → IsTrue (has_text (live_of (fold applied index (change ∷ changes)) ids) id)
+        → message_tags (folded index (commit_of index (change ∷ changes) ids)) id ≡ named_tags (fold applied index (change ∷ changes)) id }
+    ensures others { (index : Base) (change : Change) (changes : List Change) (ids : List (List ℕ)) (id : List ℕ) → has_text ids id ≡ false
+        → message_tags (folded index (commit_of index (change ∷ changes) ids)) id ≡ message_tags (fold applied index (change ∷ changes)) id }
+    ensures arrivals { (index : Base) (arrivals : List (List ℕ × Facts)) (id : List ℕ) → has_id arrivals id ≡ false
+        → message_tags (folded index (batch_commit index arrivals)) id ≡ message_tags index id }
+{
+    tags_of_others_stay();
 }

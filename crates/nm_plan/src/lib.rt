@@ -4,5 +4,6 @@
 mod laws;
 
 pub use laws::{
-    new_commits_fit, new_leaves_what_is_listed, the_files_after_batches, the_files_after_new,
+    new_commits_fit, new_leaves_what_is_listed, numbers_stay_in_order, tags_follow_the_names,
+    the_files_after_batches, the_files_after_new,
 };

@@ -1,14 +1,15 @@
 -- Batches one after the other: what is read, and the commits that are made of it.
-use Rattle.std.proofs.Common.{◌≡◌, inl, inr, ℕ, ◌<◌, List, [], ◌∷◌, ◌++◌, Result, Ok, Err, length, map, refl, sym, ap, ◌∙◌, subst, append-nil, length-append, arith}
-use Rattle.std.proofs.lemmas.Grind.{flat_map-append}
+use Rattle.std.proofs.Common.{◌≡◌, inl, inr, ℕ, ◌<◌, List, [], ◌∷◌, ◌++◌, Result, Ok, Err, length, refl, sym, ap, ◌∙◌, subst, append-nil, append_assoc, length-append, arith}
+use Rattle.std.proofs.lemmas.List.Sums.{fold-append}
 use Rattle.nm_base.specs.declared.facts.Facts.{Facts}
 use Rattle.nm_commit.specs.declared.change.Commit.{Commit}
 use Rattle.nm_faults.specs.Faults.{HasCauseOf}
 use Rattle.nm_index.specs.Fits.{FitInTurn}
+use Rattle.nm_index.specs.Index.{committed, folded}
 use Rattle.nm_index.specs.declared.base.Base.{Base}
 use Rattle.nm_maildir.specs.Observed.{ObservedMail}
 use Rattle.nm_maildir.specs.declared.given.Given.{Given}
-use Rattle.nm_plan.specs.Plan.{AreArrivals, add_of, all_arrivals, batch_commits, commit_of, new_commits}
+use Rattle.nm_plan.specs.Plan.{AreArrivals, all_arrivals, batch_commit, batch_commits, new_commits}
 use Rattle.nm_scan.specs.Batches.{HasReadBatch, HasReadBatches, HasReadSome, StopsInBatch}
 use Rattle.nm_scan.specs.Reading.{HasRead}
 use Rattle.nm_writer.proofs.ArrivalLemmas.{are-arrivals}
@@ -34,7 +35,7 @@ unread old new due faults before now (Err errors.NoMemory) after same = same
 -- one batch
 
 pub after-batch : (before now : Reading) (paths rest : List (List ℕ)) (arrivals : List (List ℕ × Facts)) (old new : WriterState) (faults : ℕ) (result : Result (Unit {0}) WriteError)
-    → HasReadBatch before.mail now.mail before.noted now.noted paths rest arrivals → IsAfterCommits old (commit_of (map add_of arrivals)) faults result new → IsAfterBatch before now paths rest old faults result new
+    → HasReadBatch before.mail now.mail before.noted now.noted paths rest arrivals → IsAfterCommits old (batch_commit old.shown arrivals) faults result new → IsAfterBatch before now paths rest old faults result new
 after-batch before now paths rest arrivals old new faults (Ok done) read after = (arrivals, read, after)
 after-batch before now paths rest arrivals old new faults (Err errors.MailFault) read after = absurd after
 after-batch before now paths rest arrivals old new faults (Err errors.DiskFault) read after = (arrivals, read, after)
@@ -43,19 +44,25 @@ after-batch before now paths rest arrivals old new faults (Err (errors.Limit lim
 after-batch before now paths rest arrivals old new faults (Err errors.NoMemory) read after = inr (arrivals, read, after)
 
 -- the commits of one batch more
-commits-more : (batches : Batches) (arrivals : List (List ℕ × Facts)) → batch_commits (batches ++ arrivals ∷ []) ≡ batch_commits batches ++ commit_of (map add_of arrivals)
-commits-more batches arrivals =
-    flat_map-append (λ (l : List (List ℕ × Facts)). commit_of (map add_of l)) batches (arrivals ∷ []) ∙ ap (λ (l : List Commit). batch_commits batches ++ l) (append-nil (commit_of (map add_of arrivals)))
+commits-more : (index : Base) (batches : Batches) (arrivals : List (List ℕ × Facts))
+    → batch_commits index (batches ++ arrivals ∷ []) ≡ batch_commits index batches ++ batch_commit (folded index (batch_commits index batches)) arrivals
+commits-more index [] arrivals = append-nil (batch_commit index arrivals)
+commits-more index (first ∷ batches) arrivals =
+    let here : List Commit = batch_commit index first in
+    let next : Base = folded index here in
+    ap (λ (l : List Commit). here ++ l) (commits-more next batches arrivals)
+    ∙ (sym (append_assoc here (batch_commits next batches) (batch_commit (folded next (batch_commits next batches)) arrivals))
+    ∙ ap (λ (b : Base). (here ++ batch_commits next batches) ++ batch_commit b arrivals) (sym (fold-append committed index here (batch_commits next batches))))
 
 -- Batches go on: the first of the paths were read, and a commit was made of each batch with mail.
 pub record InBatches (before now : Reading) (paths left : List (List ℕ)) (old new : WriterState) : Type 0 where
   pub batches : Batches
   pub read : HasReadBatches before.mail now.mail before.noted now.noted paths batches left
-  pub made : HasCommitted old (batch_commits batches) new
+  pub made : HasCommitted old (batch_commits old.shown batches) new
 
 -- the laws by which they go on
 pub record Laws : Type 0 where
-  pub fits : (index : Base) (listed : List (List ℕ)) (batches : Batches) → AreArrivals index.files (all_arrivals batches) → FitInTurn index (new_commits index.files listed batches)
+  pub fits : (index : Base) (listed : List (List ℕ)) (batches : Batches) → AreArrivals index.files (all_arrivals batches) → FitInTurn index (new_commits index listed batches)
   pub first : (mail : ObservedMail) (noted : List Given) (paths : List (List ℕ)) → HasReadBatches mail mail noted noted paths [] paths
   pub more : (old mid new : ObservedMail) (old_noted mid_noted new_noted : List Given) (paths : List (List ℕ)) (batches : Batches) (left rest : List (List ℕ)) (arrivals : List (List ℕ × Facts))
       → HasReadBatches old mid old_noted mid_noted paths batches left → HasReadBatch mid new mid_noted new_noted left rest arrivals → HasReadBatches old new old_noted new_noted paths (batches ++ arrivals ∷ []) rest
@@ -70,22 +77,25 @@ module _ (laws : Laws) where
       subst (λ (l : List (List ℕ)). InBatches before before paths l old old) (sym same) (record { batches = []; read = laws.first before.mail before.noted paths; made = none-made old })
 
   module _ (before mid : Reading) (paths left : List (List ℕ)) (old w : WriterState) (h : InBatches before mid paths left old w) where
+    more-are : (arrivals : List (List ℕ × Facts)) → batch_commits old.shown (h.batches ++ arrivals ∷ []) ≡ batch_commits old.shown h.batches ++ batch_commit w.shown arrivals
+    more-are arrivals = commits-more old.shown h.batches arrivals ∙ ap (λ (b : Base). batch_commits old.shown h.batches ++ batch_commit b arrivals) (sym h.made.shown)
+
     -- the commits of one batch more fit
     pub next_fits : AreUnknown old.shown.files paths → BatchFits w.shown mid left
     next_fits unknown new rest arrivals k =
         let all = laws.more before.mail mid.mail new.mail before.noted mid.noted new.noted paths h.batches left rest arrivals h.read k in
         let are : AreArrivals old.shown.files (all_arrivals (h.batches ++ arrivals ∷ [])) =
         are-arrivals old.shown.files paths all.read rest (all_arrivals (h.batches ++ arrivals ∷ [])) all.all.reading.notes.reads unknown all.paths_are all.all.reading.notes.each all.all.reading.mails all.all.reading.dated in
-        let fit : FitInTurn old.shown (batch_commits h.batches ++ commit_of (map add_of arrivals)) =
-        subst (FitInTurn old.shown) (commits-more h.batches arrivals) (fit-first old.shown (batch_commits (h.batches ++ arrivals ∷ [])) _ (laws.fits old.shown [] (h.batches ++ arrivals ∷ []) are)) in
-        subst (λ (b : Base). FitInTurn b (commit_of (map add_of arrivals))) (sym h.made.shown) (fit-second old.shown (batch_commits h.batches) (commit_of (map add_of arrivals)) fit)
+        let fit : FitInTurn old.shown (batch_commits old.shown h.batches ++ batch_commit w.shown arrivals) =
+        subst (FitInTurn old.shown) (more-are arrivals) (fit-first old.shown (batch_commits old.shown (h.batches ++ arrivals ∷ [])) _ (laws.fits old.shown [] (h.batches ++ arrivals ∷ []) are)) in
+        subst (λ (b : Base). FitInTurn b (batch_commit w.shown arrivals)) (sym h.made.shown) (fit-second old.shown (batch_commits old.shown h.batches) (batch_commit w.shown arrivals) fit)
 
     -- one batch more
     pub next_in_batches : (now : Reading) (rest : List (List ℕ)) (new : WriterState) (faults : ℕ) (done : Unit {0}) → IsAfterBatch {T = Unit {0}} mid now left rest w faults (Ok done) new → InBatches before now paths rest old new
     next_in_batches now rest new faults done (arrivals, k, made) = record {
       batches = h.batches ++ arrivals ∷ [];
       read = laws.more before.mail mid.mail now.mail before.noted mid.noted now.noted paths h.batches left rest arrivals h.read k;
-      made = subst (λ (l : List Commit). HasCommitted old l new) (sym (commits-more h.batches arrivals)) (made-made old w new (batch_commits h.batches) (commit_of (map add_of arrivals)) h.made made);
+      made = subst (λ (l : List Commit). HasCommitted old l new) (sym (more-are arrivals)) (made-made old w new (batch_commits old.shown h.batches) (batch_commit w.shown arrivals) h.made made);
     }
 
     -- no path is left
@@ -105,14 +115,14 @@ module _ (laws : Laws) where
     some-unfinished : (now : Reading) → StopsInBatch mid.mail now.mail mid.noted now.noted left → HasReadSome before.mail now.mail before.noted now.noted paths h.batches left
     some-unfinished now k = laws.unfinished before.mail mid.mail now.mail before.noted mid.noted now.noted paths h.batches left h.read k
 
-    refused : (new : WriterState) (arrivals : List (List ℕ × Facts)) (faults : ℕ) (error : WriteError) → IsAfterCommits {T = Unit {0}} w (commit_of (map add_of arrivals)) faults (Err error) new
-        → IsAfterCommits {T = Unit {0}} old (batch_commits (h.batches ++ arrivals ∷ [])) faults (Err error) new
+    refused : (new : WriterState) (arrivals : List (List ℕ × Facts)) (faults : ℕ) (error : WriteError) → IsAfterCommits {T = Unit {0}} w (batch_commit w.shown arrivals) faults (Err error) new
+        → IsAfterCommits {T = Unit {0}} old (batch_commits old.shown (h.batches ++ arrivals ∷ [])) faults (Err error) new
     refused new arrivals faults error after =
-        subst (λ (l : List Commit). IsAfterCommits {T = Unit {0}} old l faults (Err error) new) (sym (commits-more h.batches arrivals))
-        (then-made {T = Unit {0}} old w new (batch_commits h.batches) (commit_of (map add_of arrivals)) faults (Err error) h.made after)
+        subst (λ (l : List Commit). IsAfterCommits {T = Unit {0}} old l faults (Err error) new) (sym (more-are arrivals))
+        (then-made {T = Unit {0}} old w new (batch_commits old.shown h.batches) (batch_commit w.shown arrivals) faults (Err error) h.made after)
 
-    none-stopped : (new : WriterState) → new ≡ w → HasCommitted old (batch_commits h.batches) new
-    none-stopped new same = subst (λ (x : WriterState). HasCommitted old (batch_commits h.batches) x) (sym same) h.made
+    none-stopped : (new : WriterState) → new ≡ w → HasCommitted old (batch_commits old.shown h.batches) new
+    none-stopped new same = subst (λ (x : WriterState). HasCommitted old (batch_commits old.shown h.batches) x) (sym same) h.made
 
     stopped-in : (now : Reading) (new : WriterState) (faults : ℕ) (l : List (List ℕ)) → left ≡ l → 0 < length l → StopsInBatch mid.mail now.mail mid.noted now.noted left → new ≡ w
         → IsAfterBatches {T = Unit {0}} before now paths old faults (Err errors.MailFault) new
@@ -128,7 +138,7 @@ module _ (laws : Laws) where
     refused_batches now rest new faults (errors.Closed fault) some after = absurd after
     refused_batches now rest new faults (errors.Limit limit) some (arrivals, k, passes) = (h.batches ++ arrivals ∷ [], rest, some-finished now rest arrivals k, refused new arrivals faults (errors.Limit limit) passes)
     refused_batches now rest new faults errors.NoMemory some (inl (k, same)) =
-        (h.batches, left, some-unfinished now k, record { done = batch_commits h.batches; more = []; due_are = sym (append-nil (batch_commits h.batches)); made = none-stopped new same })
+        (h.batches, left, some-unfinished now k, record { done = batch_commits old.shown h.batches; more = []; due_are = sym (append-nil (batch_commits old.shown h.batches)); made = none-stopped new same })
     refused_batches now rest new faults errors.NoMemory some (inr (arrivals, k, stops)) = (h.batches ++ arrivals ∷ [], rest, some-finished now rest arrivals k, refused new arrivals faults errors.NoMemory stops)
 
 -- fewer paths are left

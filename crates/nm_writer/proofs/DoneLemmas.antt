@@ -1,13 +1,15 @@
 -- Commits made one after the other.
-use Rattle.std.proofs.Common.{◌≡◌, ℕ, List, [], ◌∷◌, ◌++◌, length, Result, Ok, Err, refl, sym, ap, ◌∙◌, subst, append_assoc, append-nil, length-append, arith}
+use Rattle.std.proofs.Common.{◌≡◌, ℕ, ◌<◌, List, [], ◌∷◌, ◌++◌, fold, length, Result, Ok, Err, refl, sym, ap, ◌∙◌, subst, append_assoc, append-nil, length-append, arith}
 use Rattle.std.proofs.lemmas.List.Sums.{fold-append}
 use Rattle.nm_faults.specs.Faults.{HasCauseOf}
+use Rattle.nm_base.specs.declared.facts.Facts.{Facts}
+use Rattle.nm_commit.specs.Files.{FitChanges, Fits, changed}
 use Rattle.nm_commit.specs.declared.change.Change.{Change}
 use Rattle.nm_commit.specs.declared.change.Commit.{Commit}
 use Rattle.nm_index.specs.Fits.{FitInTurn}
-use Rattle.nm_index.specs.Index.{committed, folded}
+use Rattle.nm_index.specs.Index.{applied, committed, folded}
 use Rattle.nm_index.specs.declared.base.Base.{Base}
-use Rattle.nm_plan.specs.Plan.{commit_of}
+use Rattle.nm_plan.specs.NameTags.{commit_of, follow_names, with_names}
 use Rattle.nm_writer.specs.Writer.{WriterState}
 use Rattle.nm_writer.specs.Writing.{HasCommitted, IsAfterCommit, IsAfterCommits, IsPassed, StopsWithin, is_write_fault}
 use Rattle.nm_writer.specs.declared.write_error.WriteError.{WriteError}
@@ -132,13 +134,35 @@ fit-second index [] second fit = fit
 fit-second index (commit ∷ first) second fit = fit-second (committed index commit) first second fit.1
 
 -- some changes make one commit
-pub one-commit : (changes : List Change) → (length changes ≡ 0 → ⊥) → commit_of changes ≡ record { changes = changes } ∷ []
-one-commit [] some = absurd (some refl)
-one-commit (change ∷ changes) some = refl
+pub one-commit : (index : Base) (changes : List Change) (ids : List (List ℕ)) → (length changes ≡ 0 → ⊥) → commit_of index changes ids ≡ record { changes = with_names index changes ids } ∷ []
+one-commit index [] ids some = absurd (some refl)
+one-commit index (change ∷ changes) ids some = refl
 
-pub no-commit : (changes : List Change) → length changes ≡ 0 → commit_of changes ≡ []
-no-commit [] none = refl
-no-commit (change ∷ changes) none = absurd (omega (arith, none))
+abbrev one_of : List Change → List Commit
+one_of changes = record { changes = changes } ∷ []
+
+-- it is that of these changes, where they are those with the tags that follow
+pub commit-is : (index : Base) (changes all : List Change) (ids : List (List ℕ)) → (length changes ≡ 0 → ⊥) → all ≡ with_names index changes ids → one_of all ≡ commit_of index changes ids
+commit-is index changes all ids some is = ap one_of is ∙ sym (one-commit index changes ids some)
+
+pub no-commit : (index : Base) (changes : List Change) (ids : List (List ℕ)) → length changes ≡ 0 → commit_of index changes ids ≡ []
+no-commit index [] ids none = refl
+no-commit index (change ∷ changes) ids none = absurd (omega (arith, none))
+
+-- the changes alone fit, where they do with the tags that follow
+fit-front : (files : List (List ℕ × Facts)) (changes more : List Change) → FitChanges files (changes ++ more) → FitChanges files changes
+fit-front files [] more h = tt
+fit-front files (change ∷ changes) more h = (h.0, fit-front (changed files change) changes more h.1)
+
+some-length : (changes : List Change) → (length changes ≡ 0 → ⊥) → 0 < length changes
+some-length [] some = absurd (some refl)
+some-length (change ∷ changes) some = omega arith
+
+pub front-fits : (index : Base) (changes : List Change) (ids : List (List ℕ)) → (length changes ≡ 0 → ⊥) → FitInTurn index (commit_of index changes ids) → Fits index.files (record { changes = changes })
+front-fits index changes ids some fit = record {
+  some = some-length changes some;
+  each = fit-front index.files changes (follow_names (fold applied index changes) ids) (subst (FitInTurn index) (one-commit index changes ids some) fit).0.each;
+}
 
 -- a fault behind what had none
 pub cause-then : {T : Type 0} (before mid now : ℕ) (result : Result T WriteError) → mid ≡ before → HasCauseOf is_write_fault mid now result → HasCauseOf is_write_fault before now result

@@ -8,7 +8,9 @@ use Rattle.nm_index.specs.Fits.{FitInTurn}
 use Rattle.nm_index.specs.declared.base.Base.{Base}
 use Rattle.nm_maildir.specs.Tree.{Tree}
 use Rattle.nm_maildir.specs.declared.given.Given.{Given}
-use Rattle.nm_plan.specs.Plan.{AreArrivals, all_arrivals, batch_commits, commit_of, commits_so_far, drop_of, new_commits}
+use Rattle.nm_index.specs.Index.{folded}
+use Rattle.nm_plan.specs.NameTags.{commit_of}
+use Rattle.nm_plan.specs.Plan.{AreArrivals, all_arrivals, batch_commits, commits_so_far, drop_of, gone_commit, gone_files, message_ids, new_commits}
 use Rattle.nm_scan.specs.Batches.{HasReadSome, ReadsBatches}
 use Rattle.nm_scan.specs.Reading.{Reads}
 use Rattle.nm_scan.specs.Scanning.{FindsBatches}
@@ -28,7 +30,7 @@ Batches = List (List (List ℕ × Facts))
 
 -- the laws on batches that were read
 pub record Laws : Type 0 where
-  pub fits : (index : Base) (listed : List (List ℕ)) (batches : Batches) → AreArrivals index.files (all_arrivals batches) → FitInTurn index (new_commits index.files listed batches)
+  pub fits : (index : Base) (listed : List (List ℕ)) (batches : Batches) → AreArrivals index.files (all_arrivals batches) → FitInTurn index (new_commits index listed batches)
   pub in_one : (tree : Option Tree) (noted : List Given) (paths : List (List ℕ)) (batches : Batches) (left : List (List ℕ)) → ReadsBatches tree noted paths batches left
       → (read : List (List ℕ)) × (paths ≡ read ++ left) × Reads tree noted read (all_arrivals batches)
 
@@ -49,19 +51,19 @@ module _ (laws : Laws) (before now : Reading) (compared : Compared) (old : Write
     unfinished = some.unfinished;
   }
 
-  all-fit : (batches : Batches) (left : List (List ℕ)) → HasReadSome before.mail now.mail before.noted now.noted compared.unknown batches left → (listed : List (List ℕ)) → FitInTurn old.shown (new_commits old.shown.files listed batches)
+  all-fit : (batches : Batches) (left : List (List ℕ)) → HasReadSome before.mail now.mail before.noted now.noted compared.unknown batches left → (listed : List (List ℕ)) → FitInTurn old.shown (new_commits old.shown listed batches)
   all-fit batches left some listed =
       let all = laws.in_one before.mail.tree some.answers compared.unknown batches left some.reading in
       laws.fits old.shown listed batches
       (are-arrivals old.shown.files compared.unknown all.0 left (all_arrivals batches) all.2.notes.reads (unknown-listed before.mail.tree old.shown.files before.noted compared h) all.1 all.2.notes.each all.2.mails all.2.dated)
 
-  so_far-fit : (batches : Batches) (left listed : List (List ℕ)) → FitInTurn old.shown (new_commits old.shown.files listed batches) → FitInTurn old.shown (commits_so_far old.shown.files listed batches left)
+  so_far-fit : (batches : Batches) (left listed : List (List ℕ)) → FitInTurn old.shown (new_commits old.shown listed batches) → FitInTurn old.shown (commits_so_far old.shown listed batches left)
   so_far-fit batches [] listed fit = fit
-  so_far-fit batches (path ∷ left) listed fit = fit-first old.shown (batch_commits batches) (commit_of (map drop_of (gone old.shown.files listed))) fit
+  so_far-fit batches (path ∷ left) listed fit = fit-first old.shown (batch_commits old.shown batches) (gone_commit (folded old.shown (batch_commits old.shown batches)) old.shown.files listed) fit
 
   -- the commits that are due of it
   are-new : (batches : Batches) (left : List (List ℕ)) → HasReadSome before.mail now.mail before.noted now.noted compared.unknown batches left
-      → AreNewCommits before.mail.tree old.shown now.noted left (commits_so_far old.shown.files (listed_in now.noted) batches left)
+      → AreNewCommits before.mail.tree old.shown now.noted left (commits_so_far old.shown (listed_in now.noted) batches left)
   are-new batches left some = record {
     batches = batches;
     found = found batches left some;
@@ -69,50 +71,57 @@ module _ (laws : Laws) (before now : Reading) (compared : Compared) (old : Write
     fit = so_far-fit batches left (listed_in now.noted) (all-fit batches left some (listed_in now.noted));
   }
 
-  so_far-refused : (batches : Batches) (left listed : List (List ℕ)) (new : WriterState) (faults : ℕ) (error : WriteError) → IsAfterCommits {T = Unit {0}} old (batch_commits batches) faults (Err error) new
-      → IsAfterCommits {T = Unit {0}} old (commits_so_far old.shown.files listed batches left) faults (Err error) new
-  so_far-refused batches [] listed new faults error after = refused-more (Unit {0}) (Unit {0}) old new (batch_commits batches) (commit_of (map drop_of (gone old.shown.files listed))) faults error after
+  so_far-refused : (batches : Batches) (left listed : List (List ℕ)) (new : WriterState) (faults : ℕ) (error : WriteError) → IsAfterCommits {T = Unit {0}} old (batch_commits old.shown batches) faults (Err error) new
+      → IsAfterCommits {T = Unit {0}} old (commits_so_far old.shown listed batches left) faults (Err error) new
+  so_far-refused batches [] listed new faults error after = refused-more (Unit {0}) (Unit {0}) old new (batch_commits old.shown batches) (gone_commit (folded old.shown (batch_commits old.shown batches)) old.shown.files listed) faults error after
   so_far-refused batches (path ∷ left) listed new faults error after = after
 
   -- the batches were not all read, or not all their commits made
   pub after-refused : (new : WriterState) (faults : ℕ) (error : WriteError) → IsAfterBatches {T = Unit {0}} before now compared.unknown old faults (Err error) new → IsAfterNew before.mail.tree now.noted old faults (Err error) new
-  after-refused new faults errors.MailFault (batches, path, left, some, made) = inr (path, left, batch_commits batches, are-new batches (path ∷ left) some, made)
+  after-refused new faults errors.MailFault (batches, path, left, some, made) = inr (path, left, batch_commits old.shown batches, are-new batches (path ∷ left) some, made)
   after-refused new faults errors.DiskFault (batches, left, some, fails) =
-      (left, commits_so_far old.shown.files (listed_in now.noted) batches left, are-new batches left some, so_far-refused batches left (listed_in now.noted) new faults errors.DiskFault fails)
+      (left, commits_so_far old.shown (listed_in now.noted) batches left, are-new batches left some, so_far-refused batches left (listed_in now.noted) new faults errors.DiskFault fails)
   after-refused new faults (errors.Closed fault) after = absurd after
   after-refused new faults (errors.Limit limit) (batches, left, some, passes) =
-      inr (left, commits_so_far old.shown.files (listed_in now.noted) batches left, are-new batches left some, so_far-refused batches left (listed_in now.noted) new faults (errors.Limit limit) passes)
+      inr (left, commits_so_far old.shown (listed_in now.noted) batches left, are-new batches left some, so_far-refused batches left (listed_in now.noted) new faults (errors.Limit limit) passes)
   after-refused new faults errors.NoMemory (batches, left, some, stops) =
-      inr (left, commits_so_far old.shown.files (listed_in now.noted) batches left, are-new batches left some, so_far-refused batches left (listed_in now.noted) new faults errors.NoMemory stops)
+      inr (left, commits_so_far old.shown (listed_in now.noted) batches left, are-new batches left some, so_far-refused batches left (listed_in now.noted) new faults errors.NoMemory stops)
 
   -- they were
-  module _ (mid : WriterState) (batches : Batches) (some : HasReadSome before.mail now.mail before.noted now.noted compared.unknown batches []) (made : HasCommitted old (batch_commits batches) mid) where
+  module _ (mid : WriterState) (batches : Batches) (some : HasReadSome before.mail now.mail before.noted now.noted compared.unknown batches []) (made : HasCommitted old (batch_commits old.shown batches) mid) where
     gone-are : compared.gone ≡ gone old.shown.files (listed_in now.noted)
     gone-are = h.gone_are ∙ ap (λ (l : List Given). gone old.shown.files (listed_in l)) (sym (some.noted_is ∙ ap (λ (l : List Given). l ++ (some.answers ++ some.further)) h.noted_is))
 
-    due : List Commit
-    due = new_commits old.shown.files (listed_in now.noted) batches
+    ids-are : compared.gone_ids ≡ message_ids (gone_files old.shown.files (listed_in now.noted))
+    ids-are = h.ids_are ∙ ap (λ (l : List Given). message_ids (gone_files old.shown.files (listed_in l))) (sym (some.noted_is ∙ ap (λ (l : List Given). l ++ (some.answers ++ some.further)) h.noted_is))
 
-    pub gone-fit : FitInTurn mid.shown (commit_of (map drop_of compared.gone))
+    -- the commit of what is gone, on the index that the batches leave
+    abbrev last : List Commit
+    last = gone_commit (folded old.shown (batch_commits old.shown batches)) old.shown.files (listed_in now.noted)
+
+    last-is : commit_of mid.shown (map drop_of compared.gone) compared.gone_ids ≡ last
+    last-is =
+        ap (λ (b : Base). commit_of b (map drop_of compared.gone) compared.gone_ids) made.shown
+        ∙ (ap (λ (l : List (List ℕ)). commit_of (folded old.shown (batch_commits old.shown batches)) (map drop_of l) compared.gone_ids) gone-are
+        ∙ ap (λ (l : List (List ℕ)). commit_of (folded old.shown (batch_commits old.shown batches)) (map drop_of (gone old.shown.files (listed_in now.noted))) l) ids-are)
+
+    pub gone-fit : FitInTurn mid.shown (commit_of mid.shown (map drop_of compared.gone) compared.gone_ids)
     gone-fit =
-        subst (λ (l : List (List ℕ)). FitInTurn mid.shown (commit_of (map drop_of l))) (sym gone-are)
-        (subst (λ (b : Base). FitInTurn b (commit_of (map drop_of (gone old.shown.files (listed_in now.noted))))) (sym made.shown)
-        (fit-second old.shown (batch_commits batches) (commit_of (map drop_of (gone old.shown.files (listed_in now.noted)))) (all-fit batches [] some (listed_in now.noted))))
+        subst (FitInTurn mid.shown) (sym last-is)
+        (subst (λ (b : Base). FitInTurn b last) (sym made.shown) (fit-second old.shown (batch_commits old.shown batches) last (all-fit batches [] some (listed_in now.noted))))
 
-    all-made : (new : WriterState) (faults : ℕ) (result : Result NewReport WriteError) → IsAfterCommits mid (commit_of (map drop_of compared.gone)) faults result new
-        → IsAfterCommits old (new_commits old.shown.files (listed_in now.noted) batches) faults result new
-    all-made new faults result after =
-        then-made old mid new (batch_commits batches) (commit_of (map drop_of (gone old.shown.files (listed_in now.noted)))) faults result made
-        (subst (λ (l : List (List ℕ)). IsAfterCommits mid (commit_of (map drop_of l)) faults result new) gone-are after)
+    all-made : (new : WriterState) (faults : ℕ) (result : Result NewReport WriteError) → IsAfterCommits mid (commit_of mid.shown (map drop_of compared.gone) compared.gone_ids) faults result new
+        → IsAfterCommits old (new_commits old.shown (listed_in now.noted) batches) faults result new
+    all-made new faults result after = then-made old mid new (batch_commits old.shown batches) last faults result made (subst (λ (l : List Commit). IsAfterCommits mid l faults result new) last-is after)
 
-    after-all : (new : WriterState) (faults : ℕ) (result : Result NewReport WriteError) → IsAfterCommits old (new_commits old.shown.files (listed_in now.noted) batches) faults result new
+    after-all : (new : WriterState) (faults : ℕ) (result : Result NewReport WriteError) → IsAfterCommits old (new_commits old.shown (listed_in now.noted) batches) faults result new
         → IfOk result (λ report. report ≡ report_of old.shown.files new.shown.files now.noted) → IsAfterNew before.mail.tree now.noted old faults result new
-    after-all new faults (Ok report) after reported = ((new_commits old.shown.files (listed_in now.noted) batches, are-new batches [] some, after), reported)
+    after-all new faults (Ok report) after reported = ((new_commits old.shown (listed_in now.noted) batches, are-new batches [] some, after), reported)
     after-all new faults (Err errors.MailFault) after reported = absurd after
-    after-all new faults (Err errors.DiskFault) after reported = ([], new_commits old.shown.files (listed_in now.noted) batches, are-new batches [] some, after)
+    after-all new faults (Err errors.DiskFault) after reported = ([], new_commits old.shown (listed_in now.noted) batches, are-new batches [] some, after)
     after-all new faults (Err (errors.Closed fault)) after reported = absurd after
-    after-all new faults (Err (errors.Limit limit)) after reported = inr ([], new_commits old.shown.files (listed_in now.noted) batches, are-new batches [] some, after)
-    after-all new faults (Err errors.NoMemory) after reported = inr ([], new_commits old.shown.files (listed_in now.noted) batches, are-new batches [] some, after)
+    after-all new faults (Err (errors.Limit limit)) after reported = inr ([], new_commits old.shown (listed_in now.noted) batches, are-new batches [] some, after)
+    after-all new faults (Err errors.NoMemory) after reported = inr ([], new_commits old.shown (listed_in now.noted) batches, are-new batches [] some, after)
 
     report-of : (new : WriterState) (result : Result NewReport WriteError) (removed : ℕ) (was : Base) (lent : List Given) → removed ≡ length compared.gone → was ≡ old.shown → lent ≡ now.noted
         → IfOk result (λ report. report ≡ report_with removed was.files new.shown.files lent) → IfOk result (λ report. report ≡ report_of old.shown.files new.shown.files now.noted)
@@ -124,5 +133,5 @@ module _ (laws : Laws) (before now : Reading) (compared : Compared) (old : Write
         ∙ ap (λ (l : List Given). report_with (length (gone old.shown.files (listed_in now.noted))) old.shown.files new.shown.files l) noted))
 
     pub after-let_go : (new : WriterState) (faults : ℕ) (result : Result NewReport WriteError) (removed : ℕ) (was : Base) (lent : List Given) → removed ≡ length compared.gone → was ≡ old.shown → lent ≡ now.noted
-        → IsAfterCommits mid (commit_of (map drop_of compared.gone)) faults result new → IfOk result (λ report. report ≡ report_with removed was.files new.shown.files lent) → IsAfterNew before.mail.tree now.noted old faults result new
+        → IsAfterCommits mid (commit_of mid.shown (map drop_of compared.gone) compared.gone_ids) faults result new → IfOk result (λ report. report ≡ report_with removed was.files new.shown.files lent) → IsAfterNew before.mail.tree now.noted old faults result new
     after-let_go new faults result removed was lent count same noted after said = after-all new faults result (all-made new faults result after) (report-of new result removed was lent count same noted said)

@@ -1,5 +1,5 @@
 -- What the batches of a `new` leave: one batch, and all of them.
-use Rattle.std.specs.Prelude.{◌≡◌, ◌⊎◌, ℕ, false, List, [], ◌∷◌, map, Result, Ok, Err}
+use Rattle.std.specs.Prelude.{◌≡◌, ◌⊎◌, ℕ, false, List, [], ◌∷◌, Result, Ok, Err}
 use Rattle.std.specs.List.{AllByRecursion, IsDistinct}
 use Rattle.nm_base.specs.Order.{same_text}
 use Rattle.nm_base.specs.declared.facts.Facts.{Facts}
@@ -8,7 +8,7 @@ use Rattle.nm_index.specs.Fits.{FitInTurn}
 use Rattle.nm_index.specs.declared.base.Base.{Base}
 use Rattle.nm_maildir.specs.Observed.{ObservedMail}
 use Rattle.nm_maildir.specs.declared.given.Given.{Given}
-use Rattle.nm_plan.specs.Plan.{add_of, batch_commits, commit_of}
+use Rattle.nm_plan.specs.Plan.{batch_commit, batch_commits}
 use Rattle.nm_scan.specs.Batches.{HasReadBatch, HasReadSome, StopsInBatch}
 use Rattle.nm_writer.specs.Writer.{WriterState}
 use Rattle.nm_writer.specs.Writing.{FailsWithin, HasCommitted, PassesWithin, StopsWithin}
@@ -29,33 +29,33 @@ pub record Reading : Type 0 where
 abbrev pub BatchFits : Base → Reading → List (List ℕ) → Type 0
 BatchFits shown old paths =
     (new : Reading) (rest : List (List ℕ)) (arrivals : List (List ℕ × Facts)) → HasReadBatch old.mail new.mail old.noted new.noted paths rest arrivals
-    → FitInTurn shown (commit_of (map add_of arrivals))
+    → FitInTurn shown (batch_commit shown arrivals)
 
 -- What one batch leaves: it is read, and its commit is made where it found mail; or by the error the reading stops in it, or its commit is refused.
 abbrev pub IsAfterBatch : {T : Type 0} → Reading → Reading → List (List ℕ) → List (List ℕ) → WriterState → ℕ → Result T WriteError → WriterState → Type 0
 IsAfterBatch before now paths rest old faults (Ok done) new =
-    (arrivals : List (List ℕ × Facts)) × HasReadBatch before.mail now.mail before.noted now.noted paths rest arrivals × HasCommitted old (commit_of (map add_of arrivals)) new
+    (arrivals : List (List ℕ × Facts)) × HasReadBatch before.mail now.mail before.noted now.noted paths rest arrivals × HasCommitted old (batch_commit old.shown arrivals) new
 IsAfterBatch before now paths rest old faults (Err errors.MailFault) new = StopsInBatch before.mail now.mail before.noted now.noted paths × (new ≡ old)
 IsAfterBatch before now paths rest old faults (Err errors.DiskFault) new =
-    (arrivals : List (List ℕ × Facts)) × HasReadBatch before.mail now.mail before.noted now.noted paths rest arrivals × FailsWithin old (commit_of (map add_of arrivals)) faults new
+    (arrivals : List (List ℕ × Facts)) × HasReadBatch before.mail now.mail before.noted now.noted paths rest arrivals × FailsWithin old (batch_commit old.shown arrivals) faults new
 IsAfterBatch before now paths rest old faults (Err (errors.Closed fault)) new = ⊥
 IsAfterBatch before now paths rest old faults (Err (errors.Limit limit)) new =
-    (arrivals : List (List ℕ × Facts)) × HasReadBatch before.mail now.mail before.noted now.noted paths rest arrivals × PassesWithin old (commit_of (map add_of arrivals)) limit new
+    (arrivals : List (List ℕ × Facts)) × HasReadBatch before.mail now.mail before.noted now.noted paths rest arrivals × PassesWithin old (batch_commit old.shown arrivals) limit new
 IsAfterBatch before now paths rest old faults (Err errors.NoMemory) new =
     (StopsInBatch before.mail now.mail before.noted now.noted paths × (new ≡ old))
-    ⊎ ((arrivals : List (List ℕ × Facts)) × HasReadBatch before.mail now.mail before.noted now.noted paths rest arrivals × StopsWithin old (commit_of (map add_of arrivals)) new)
+    ⊎ ((arrivals : List (List ℕ × Facts)) × HasReadBatch before.mail now.mail before.noted now.noted paths rest arrivals × StopsWithin old (batch_commit old.shown arrivals) new)
 
 -- What all batches of these paths leave: a commit for each that found mail; or by the error those of the first.
 abbrev pub IsAfterBatches : {T : Type 0} → Reading → Reading → List (List ℕ) → WriterState → ℕ → Result T WriteError → WriterState → Type 0
 IsAfterBatches before now paths old faults (Ok done) new =
-    (batches : List (List (List ℕ × Facts))) × HasReadSome before.mail now.mail before.noted now.noted paths batches [] × HasCommitted old (batch_commits batches) new
+    (batches : List (List (List ℕ × Facts))) × HasReadSome before.mail now.mail before.noted now.noted paths batches [] × HasCommitted old (batch_commits old.shown batches) new
 IsAfterBatches before now paths old faults (Err errors.MailFault) new =
     (batches : List (List (List ℕ × Facts))) × (path : List ℕ) × (left : List (List ℕ)) × HasReadSome before.mail now.mail before.noted now.noted paths batches (path ∷ left)
-    × HasCommitted old (batch_commits batches) new
+    × HasCommitted old (batch_commits old.shown batches) new
 IsAfterBatches before now paths old faults (Err errors.DiskFault) new =
-    (batches : List (List (List ℕ × Facts))) × (left : List (List ℕ)) × HasReadSome before.mail now.mail before.noted now.noted paths batches left × FailsWithin old (batch_commits batches) faults new
+    (batches : List (List (List ℕ × Facts))) × (left : List (List ℕ)) × HasReadSome before.mail now.mail before.noted now.noted paths batches left × FailsWithin old (batch_commits old.shown batches) faults new
 IsAfterBatches before now paths old faults (Err (errors.Closed fault)) new = ⊥
 IsAfterBatches before now paths old faults (Err (errors.Limit limit)) new =
-    (batches : List (List (List ℕ × Facts))) × (left : List (List ℕ)) × HasReadSome before.mail now.mail before.noted now.noted paths batches left × PassesWithin old (batch_commits batches) limit new
+    (batches : List (List (List ℕ × Facts))) × (left : List (List ℕ)) × HasReadSome before.mail now.mail before.noted now.noted paths batches left × PassesWithin old (batch_commits old.shown batches) limit new
 IsAfterBatches before now paths old faults (Err errors.NoMemory) new =
-    (batches : List (List (List ℕ × Facts))) × (left : List (List ℕ)) × HasReadSome before.mail now.mail before.noted now.noted paths batches left × StopsWithin old (batch_commits batches) new
+    (batches : List (List (List ℕ × Facts))) × (left : List (List ℕ)) × HasReadSome before.mail now.mail before.noted now.noted paths batches left × StopsWithin old (batch_commits old.shown batches) new

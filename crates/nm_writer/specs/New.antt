@@ -9,7 +9,7 @@ use Rattle.nm_index.specs.declared.base.Base.{Base}
 use Rattle.nm_maildir.specs.Tree.{Tree}
 use Rattle.nm_maildir.specs.declared.given.Given.{Given}
 use Rattle.nm_maildir.specs.declared.given.Given.TheVariants.{Listed}
-use Rattle.nm_plan.specs.Plan.{commits_so_far, to_read}
+use Rattle.nm_plan.specs.Plan.{commits_so_far, gone_files, message_ids, to_read}
 use Rattle.nm_scan.specs.Listing.{IsListing, PassesListing}
 use Rattle.nm_scan.specs.Scanning.{FindsBatches}
 use Rattle.nm_writer.specs.Writer.{WriterState}
@@ -18,19 +18,21 @@ use Rattle.nm_writer.specs.declared.scanning.Compared.{Compared}
 use Rattle.nm_writer.specs.declared.write_error.WriteError.{WriteError}
 use Rattle.nm_writer.specs.declared.write_error.WriteError.TheVariants as errors
 
--- The folder was listed, which is noted: these of the listed paths the index lacks, and these of its own are gone.
+-- The folder was listed, which is noted: these of the listed paths the index lacks, these of its own are gone, and those are of
+-- these messages.
 pub record HasListed (tree : Option Tree) (files : List (List ℕ × Facts)) (noted : List Given) (compared : Compared) : Type 0 where
   pub listed : List (List ℕ)
   pub listing : IsListing tree listed
   pub noted_is : noted ≡ Listed listed ∷ []
   pub unknown_are : compared.unknown ≡ to_read files listed
   pub gone_are : compared.gone ≡ gone files listed
+  pub ids_are : compared.gone_ids ≡ message_ids (gone_files files listed)
 
 -- The commits that are due while these paths are left to read; they fit the index one after the other.
 pub record AreNewCommits (tree : Option Tree) (shown : Base) (noted : List Given) (left : List (List ℕ)) (due : List Commit) : Type 0 where
   pub batches : List (List (List ℕ × Facts))
   pub found : FindsBatches tree shown.files noted batches left
-  pub due_are : due ≡ commits_so_far shown.files (listed_in noted) batches left
+  pub due_are : due ≡ commits_so_far shown (listed_in noted) batches left
   pub fit : FitInTurn shown due
 
 -- What a `new` leaves. All paths are read, all commits due are made, and the report is that of the index before and after; or by its

@@ -3,6 +3,7 @@
 
 mod committing;
 mod laws;
+mod naming;
 mod new;
 mod open_error;
 mod replaying;

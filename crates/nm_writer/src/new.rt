@@ -8,7 +8,8 @@ ghost use Rattle.nm_faults.specs.Faults.{HasCauseOf};
 ghost use Rattle.nm_index.specs.Fits.{FitInTurn};
 ghost use Rattle.nm_index.specs.Index.{folded};
 ghost use Rattle.nm_index.specs.declared.base.Base.{Base};
-ghost use Rattle.nm_plan.specs.Plan.{add_of, commit_of, drop_of};
+ghost use Rattle.nm_plan.specs.NameTags.{commit_of};
+ghost use Rattle.nm_plan.specs.Plan.{add_of, batch_commit, drop_of, message_ids};
 ghost use Rattle.nm_scan.specs.Scanning.{AsksNew};
 ghost use Rattle.nm_writer.specs.Batch.{AreUnknown, BatchFits, IsAfterBatch, IsAfterBatches};
 ghost use Rattle.nm_writer.specs.Durable.{IsDurable};
@@ -17,11 +18,12 @@ ghost use Rattle.nm_writer.specs.Report.{report_with};
 ghost use Rattle.nm_writer.specs.Writer.{StandsOnIndex};
 ghost use Rattle.nm_writer.specs.Writing.{IsAfterCommits, is_read_fault, is_write_fault};
 
+use crate::naming::with_names;
 use crate::reporting::report;
 use crate::scanning::{Compared, compare};
 use crate::{WriteError, Writer};
 use nm_answer::NewReport;
-use nm_base::{Copies, MailPath, Many, NoMemory};
+use nm_base::{Copies, MailPath, Many, MessageId, NoMemory};
 use nm_commit::{Change, Commit};
 use nm_disk::Disk;
 use nm_maildir::{Given, MailError, Maildir};
@@ -34,6 +36,13 @@ use nm_shared::Shared;
 use nm_state::Snapshot;
 use std::alloc::Global;
 use std::vec::IntoIter;
+
+/// What is gone: the changes that remove it, and the messages of its files.
+#[derive(Drop)]
+struct Gone {
+    changes: Many<Change>,
+    ids: Many<MessageId>,
+}
 
 impl Writer {
     /// Reads what has come to the mail folder, batch by batch, and makes a commit of each batch that has mail; then one of what is
@@ -120,11 +129,21 @@ impl Writer {
         new_commits_fit();
         batches_are_what_was_read();
         let before = self.shown.copy()?;
-        let Compared { unknown, gone } = compared;
+        let Compared {
+            unknown,
+            gone,
+            gone_ids,
+        } = compared;
         let removed = gone.len() as u64;
         let went = drops(self.alloc, gone)?;
         match self.take_in_batches(mail, disk, unknown, noted) {
-            Ok(()) => self.let_go(disk, &before, went, removed, noted.as_slice()),
+            Ok(()) => {
+                let gone = Gone {
+                    changes: went,
+                    ids: gone_ids,
+                };
+                self.let_go(disk, &before, gone, removed, noted.as_slice())
+            },
             Err(error) => Err(error),
         }
     }
@@ -200,16 +219,17 @@ impl Writer {
         arrivals: Many<Mail>,
     ) -> Result<(), WriteError>
         requires alive { self.old.closed ≡ None }
-        requires fit { FitInTurn self.old.shown (commit_of (map add_of arrivals)) }
+        requires fit { FitInTurn self.old.shown (batch_commit self.old.shown arrivals) }
         requires stands { IfSome (D.observed disk.old).told (λ moments. StandsOnIndex moments.present self.old) }
-        ensures after { IsAfterCommits self.old (commit_of (map add_of arrivals)) (D.observed disk.new).faults result self.new }
+        ensures after { IsAfterCommits self.old (batch_commit self.old.shown arrivals) (D.observed disk.new).faults result self.new }
         ensures cause { HasCauseOf is_write_fault (D.observed disk.old).faults (D.observed disk.new).faults result }
         ensures stands { self.new.closed ≡ None → IfSome (D.observed disk.new).told (λ moments. StandsOnIndex moments.present self.new) }
         ensures durable { (entry : ObservedDisk) (opening : Base) → IsDurable entry opening (D.observed disk.old) self.old
             → IsDurable entry opening (D.observed disk.new) self.new }
     {
+        let ids = ids_of(self.alloc, arrivals.as_slice())?;
         let came = adds(self.alloc, arrivals)?;
-        self.commit_some(disk, came)
+        self.commit_some(disk, came, &ids)
     }
 
     /// Makes a commit of what is gone, where there is something, and reports what the `new` did.
@@ -218,22 +238,23 @@ impl Writer {
         &mut self,
         disk: &mut D,
         before: &Snapshot,
-        went: Many<Change>,
+        gone: Gone,
         removed: u64,
         noted: &[Given],
     ) -> Result<NewReport, WriteError>
         requires alive { self.old.closed ≡ None }
         requires before { (commits : List Commit) × (self.old.shown ≡ folded before.now commits) }
-        requires fit { FitInTurn self.old.shown (commit_of went) }
+        requires fit { FitInTurn self.old.shown (commit_of self.old.shown gone.changes gone.ids) }
         requires stands { IfSome (D.observed disk.old).told (λ moments. StandsOnIndex moments.present self.old) }
-        ensures after { IsAfterCommits self.old (commit_of went) (D.observed disk.new).faults result self.new }
+        ensures after { IsAfterCommits self.old (commit_of self.old.shown gone.changes gone.ids) (D.observed disk.new).faults result self.new }
         ensures report { IfOk result (λ report. report ≡ report_with removed before.now.files self.new.shown.files noted.now) }
         ensures cause { HasCauseOf is_write_fault (D.observed disk.old).faults (D.observed disk.new).faults result }
         ensures stands { self.new.closed ≡ None → IfSome (D.observed disk.new).told (λ moments. StandsOnIndex moments.present self.new) }
         ensures durable { (entry : ObservedDisk) (opening : Base) → IsDurable entry opening (D.observed disk.old) self.old
             → IsDurable entry opening (D.observed disk.new) self.new }
     {
-        match self.commit_some(disk, went) {
+        let Gone { changes, ids } = gone;
+        match self.commit_some(disk, changes, &ids) {
             Ok(()) => {
                 let report = report(self.alloc, before, &self.shown, removed, noted)?;
                 Ok(report)
@@ -242,16 +263,18 @@ impl Writer {
         }
     }
 
-    /// Makes a commit of the changes, where there are some.
+    /// Makes a commit of the changes of these messages' files, where there are some; it ends with the tags that follow the names.
+    #[tactic(auto, using(crate::proofs::DoneLemmas::stops))]
     fn commit_some<D: Disk>(
         &mut self,
         disk: &mut D,
         changes: Many<Change>,
+        ids: &Many<MessageId>,
     ) -> Result<(), WriteError>
         requires alive { self.old.closed ≡ None }
-        requires fit { FitInTurn self.old.shown (commit_of changes) }
+        requires fit { FitInTurn self.old.shown (commit_of self.old.shown changes ids.now) }
         requires stands { IfSome (D.observed disk.old).told (λ moments. StandsOnIndex moments.present self.old) }
-        ensures after { IsAfterCommits self.old (commit_of changes) (D.observed disk.new).faults result self.new }
+        ensures after { IsAfterCommits self.old (commit_of self.old.shown changes ids.now) (D.observed disk.new).faults result self.new }
         ensures cause { HasCauseOf is_write_fault (D.observed disk.old).faults (D.observed disk.new).faults result }
         ensures stands { self.new.closed ≡ None → IfSome (D.observed disk.new).told (λ moments. StandsOnIndex moments.present self.new) }
         ensures durable { (entry : ObservedDisk) (opening : Base) → IsDurable entry opening (D.observed disk.old) self.old
@@ -260,8 +283,20 @@ impl Writer {
         if changes.is_empty() {
             return Ok(());
         }
+        let changes = with_names(self.alloc, &self.shown, changes, ids.as_slice())?;
         self.commit(disk, Commit { changes })
     }
+}
+
+/// The ids of the mails, in order.
+fn ids_of(alloc: Global, arrivals: &[Mail]) -> Result<Many<MessageId>, NoMemory>
+    ensures { IfOk result (λ ids. ids ≡ message_ids arrivals.now) }
+{
+    let mut ids = Many::new(alloc);
+    'arrivals: for arrival in arrivals {
+        ids.push(arrival.1.id.copy()?)?;
+    }
+    Ok(ids)
 }
 
 fn adds(alloc: Global, arrivals: Many<Mail>) -> Result<Many<Change>, NoMemory>

@@ -107,7 +107,7 @@ fn add_if_lacking(
 }
 
 /// Says whether the snapshot has a file of the message.
-fn has_message(snapshot: &Snapshot, id: &MessageId) -> bool
+pub(crate) fn has_message(snapshot: &Snapshot, id: &MessageId) -> bool
     ensures { result ≡ has_id snapshot.now.files id.now }
 {
     match snapshot.files(id) {

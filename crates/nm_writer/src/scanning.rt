@@ -2,7 +2,7 @@
 
 ghost use Rattle.std.specs.Prelude.{◌≡◌, ◌∷◌, ◌++◌, [], Err, IfErr, IfOk, OnErr, OnOk};
 ghost use Rattle.nm_answer.specs.NewText.{gone};
-ghost use Rattle.nm_plan.specs.Plan.{to_read};
+ghost use Rattle.nm_plan.specs.Plan.{gone_files, message_ids, to_read};
 ghost use Rattle.nm_scan.specs.Listing.{IsRising, PassesListing};
 ghost use Rattle.nm_scan.specs.Walking.{is_scan_fault};
 ghost use Rattle.nm_base.specs.declared.limit.Limit.{Limit};
@@ -10,7 +10,7 @@ ghost use Rattle.nm_faults.specs.Faults.{HasCauseOf};
 ghost use Rattle.nm_scan.specs.Scanning.{AsksNew};
 ghost use Rattle.nm_writer.specs.New.{HasListed};
 
-use nm_base::{Copies, MailPath, Many, NoMemory, TextSet};
+use nm_base::{Copies, MailPath, Many, MessageId, NoMemory, TextSet};
 use nm_maildir::{Given, Maildir};
 use nm_scan::{ScanError, list_paths};
 use nm_state::Snapshot;
@@ -21,6 +21,8 @@ use std::alloc::Global;
 pub(crate) struct Compared {
     pub unknown: Many<MailPath>,
     pub gone: Many<MailPath>,
+    /// The messages whose files are gone, one for each of these files.
+    pub gone_ids: Many<MessageId>,
 }
 
 /// Lists the mail, notes the listing, and compares it with the index.
@@ -46,7 +48,12 @@ pub(crate) fn compare<M: Maildir>(
     note_listed(alloc, &listed, noted)?;
     let unknown = unknown_paths(alloc, shown, &listed)?;
     let gone = gone_paths(alloc, shown, &listed)?;
-    Ok(Compared { unknown, gone })
+    let gone_ids = gone_ids(alloc, shown, &listed)?;
+    Ok(Compared {
+        unknown,
+        gone,
+        gone_ids,
+    })
 }
 
 fn note_listed(
@@ -78,6 +85,23 @@ fn unknown_paths(
         }
     }
     Ok(unknown)
+}
+
+/// The messages of the files that are not listed, in the order of their arrival.
+fn gone_ids(
+    alloc: Global,
+    shown: &Snapshot,
+    listed: &TextSet<MailPath>,
+) -> Result<Many<MessageId>, NoMemory>
+    ensures { IfOk result (λ ids. ids ≡ message_ids (gone_files shown.now.files listed.now)) }
+{
+    let mut ids = Many::new(alloc);
+    'files: for file in shown.files_in_order() {
+        if !listed.contains(file.0) {
+            ids.push(file.1.id.copy()?)?;
+        }
+    }
+    Ok(ids)
 }
 
 /// The paths of the index that are not listed.

@@ -18,6 +18,7 @@ use nm_base::{Many, Room};
 use nm_commit::Commit;
 use nm_disk::{Disk, FileNo};
 use nm_journal::Journal;
+use nm_plan::numbers_stay_in_order;
 use nm_state::Snapshot;
 use std::alloc::Global;
 use std::marker::Model;
@@ -38,13 +39,14 @@ pub struct Writer {
 impl Model for Writer {
     ghost use Rattle.std.specs.Prelude.{◌≡◌, ◌≤◌, None, false, length};
     ghost use Rattle.nm_base.specs.Limits.{max_commits};
+    ghost use Rattle.nm_plan.specs.Numbering.{AreNumbered};
     ghost use Rattle.nm_writer.specs.Writer.{WriterState};
 
     ghost Value = { WriterState };
 
     ghost view = { λ w. record { journal = w.journal; shown = w.shown; begun = w.begun.0; acked = w.acked.0; closed = w.closed } };
 
-    ghost invariant = { λ w. (w.closed ≡ None → w.journal.failed ≡ false) × (length w.begun.0 ≤ max_commits) };
+    ghost invariant = { λ w. (w.closed ≡ None → w.journal.failed ≡ false) × (length w.begun.0 ≤ max_commits) × AreNumbered w.shown };
 }
 
 impl Drop for Writer {
@@ -117,6 +119,7 @@ impl Writer {
         ensures cause { HasCauseOf is_disk_fault (D.observed disk.old).faults (D.observed disk.new).faults result }
     {
         let (journal, bodies) = Journal::open(alloc, disk, FileNo::Head, 0)?;
+        numbers_stay_in_order();
         let shown = replayed(alloc, bodies.as_slice())?;
         // A clock is a number of 64 bits, which the contract tells of the disk as well.
         let _ = disk.clock();

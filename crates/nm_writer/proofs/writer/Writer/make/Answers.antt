@@ -1,9 +1,27 @@
-use Rattle.std.proofs.Common.{sym, ap, ◌∙◌}
+use Rattle.std.proofs.Common.{rules, ◌≡◌, ◌≤◌, false, List, [], ◌∷◌, None, length, sym, ap, ◌∙◌, subst, arith}
+use Rattle.std.proofs.lemmas.List.{length_push}
+use Rattle.nm_base.specs.Limits.{max_commits}
+use Rattle.nm_plan.specs.Numbering.{AreNumbered}
+use Rattle.nm_commit.specs.declared.change.Commit.{Commit}
 use Rattle.nm_index.specs.Index.{committed}
 use Rattle.nm_journal.specs.Journal.{JournalState}
 use Rattle.nm_writer.specs.Writer.{WriterState}
 use Rattle.nm_writer.proofs.CommitLemmas.{any-moment, stands-after}
 use Rattle.nm_writer.proofs.writer.Writer.make.Goals as goal
+
+pub invariant_of-self-in-Ok : goal.invariant_of-self-in-Ok
+invariant_of-self-in-Ok g c =
+    let alive : c.self.inside.closed ≡ None → c.append.new.self.failed ≡ false = search rules in
+    let few : length c.push_spare.new.self.0 ≤ max_commits =
+    omega (
+      arith,
+      c.in_ok-frame.ensures.within.0,
+      ap (λ (l : List Commit). length l) c.push_spare.ensures.list,
+      length_push c.reserve.new.self.0 c.args.commit,
+      ap (λ (l : List Commit). length l) c.reserve.ensures.list,
+      ap (λ (l : List Commit). length l) c.as_slice-made.ensures,
+    ) in
+    (alive, few, subst AreNumbered (sym c.in_ok-frame.ensures.next) (c.numbers_stay_in_order.ensures.kept c.self.inside.shown (c.args.commit ∷ []) c.self.invariant.2))
 
 pub returns-in-Ok-clause-stands : goal.returns-in-Ok-clause-stands
 returns-in-Ok-clause-stands g c =

@@ -1,0 +1,11 @@
+use Rattle.nm_plan.proofs.TagLemmas.{batch-tags, tags-followed, tags-stay}
+use Rattle.nm_plan.proofs.laws.tags_follow_the_names.Goals as goal
+
+pub returns-clause-followed : goal.returns-clause-followed
+returns-clause-followed c = tags-followed c.tags_of_others_stay.ensures
+
+pub returns-clause-others : goal.returns-clause-others
+returns-clause-others c = tags-stay c.tags_of_others_stay.ensures
+
+pub returns-clause-arrivals : goal.returns-clause-arrivals
+returns-clause-arrivals c = batch-tags c.tags_of_others_stay.ensures

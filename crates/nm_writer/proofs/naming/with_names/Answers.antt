@@ -1,0 +1,16 @@
+use Rattle.std.proofs.Common.{rules, ◌≡◌, List, [], ◌∷◌, ◌++◌, sym, subst}
+use Rattle.std.specs.List.{flat_map}
+use Rattle.nm_plan.specs.NameTags.{live_of, message_tags, named_tags, set_tags}
+use Rattle.nm_plan.specs.Numbering.{AreNumbered}
+use Rattle.nm_writer.proofs.NamingLemmas.{named-are}
+use Rattle.nm_writer.proofs.naming.with_names.Goals as goal
+
+pub by_numbers-requires : goal.by_numbers-requires
+by_numbers-requires c =
+    record { numbered = subst AreNumbered (sym c.in_ok-after.ensures) (c.numbers_stay_in_order.ensures.kept c.args.shown.now (record { changes = c.args.changes } ∷ []) c.requires.numbered) }
+
+pub returns : goal.returns
+returns c =
+    let live : c.as_slice.result.now ≡ live_of c.in_ok-after.after c.args.ids.now = search rules in
+    let set : c.add_all_tags.new.changes ≡ c.args.changes ++ flat_map (λ id. set_tags id (message_tags c.in_ok-after.after id) (named_tags c.in_ok-after.after id)) c.as_slice.result.now = search rules in
+    named-are c.args.shown.now c.in_ok-after.after c.args.changes c.add_all_tags.new.changes c.args.ids.now c.as_slice.result.now c.in_ok-after.ensures live set

@@ -1,0 +1,144 @@
+//! The tags that the names of files give the messages of a commit; each commit of a `new` ends with them.
+
+ghost use Rattle.std.specs.Prelude.{◌≡◌, ◌++◌, ◌∷◌, [], ℕ, List, IfOk, OnOk, map};
+ghost use Rattle.std.specs.List.{flat_map};
+ghost use Rattle.nm_commit.specs.Files.{Fits};
+ghost use Rattle.nm_flags.specs.Following.{tags_by_names};
+ghost use Rattle.nm_plan.specs.NameTags.{follow_names, live_of, message_paths, message_tags, named_tags, set_tags, with_names};
+ghost use Rattle.nm_plan.specs.Numbering.{AreNumbered};
+ghost use Rattle.nm_writer.specs.Naming.{live_at_numbers};
+
+use crate::replaying::apply;
+use crate::reporting::has_message;
+use nm_base::{Copies, MailPath, Many, MessageId, NoMemory, Tags};
+use nm_commit::{Change, Commit};
+use nm_flags::tags_from_names;
+use nm_plan::numbers_stay_in_order;
+use nm_state::Snapshot;
+use std::alloc::Global;
+use std::collections::BTreeMap;
+
+/// The changes, and behind them the tags that the messages with these ids then have by the names of their files, where they have
+/// others.
+pub(crate) fn with_names(
+    alloc: Global,
+    shown: &Snapshot,
+    changes: Many<Change>,
+    ids: &[MessageId],
+) -> Result<Many<Change>, NoMemory>
+    requires numbered { AreNumbered shown.now }
+    requires fits { Fits shown.now.files (record { changes = changes }) }
+    ensures { IfOk result (λ all. all ≡ with_names shown.now changes ids.now) }
+{
+    numbers_stay_in_order();
+    let commit = Commit { changes };
+    let after = apply(shown, &commit)?;
+    let ids = by_numbers(alloc, &after, ids)?;
+    let Commit { mut changes } = commit;
+    add_all_tags(alloc, &after, ids.as_slice(), &mut changes)?;
+    Ok(changes)
+}
+
+/// Of the messages those that have a file, by their numbers.
+fn by_numbers(
+    alloc: Global,
+    after: &Snapshot,
+    ids: &[MessageId],
+) -> Result<Many<MessageId>, NoMemory>
+    requires numbered { AreNumbered after.now }
+    ensures { IfOk result (λ live. live ≡ live_of after.now ids.now) }
+{
+    let mut numbered: BTreeMap<u64, MessageId> = BTreeMap::new(alloc);
+    'ids: for id in ids {
+        add_numbered(after, id, &mut numbered)?;
+    }
+    let live: Vec<MessageId> = numbered.into_values().collect(alloc)?;
+    Ok(Many::from_vec(live))
+}
+
+/// Puts the message at its number, where it has a file.
+fn add_numbered(
+    after: &Snapshot,
+    id: &MessageId,
+    numbered: &mut BTreeMap<u64, MessageId>,
+) -> Result<(), NoMemory>
+    requires numbered { AreNumbered after.now }
+    ensures { OnOk result ((ids : List (List ℕ)) → numbered.old.entries ≡ live_at_numbers after.now ids
+        → numbered.new.entries ≡ live_at_numbers after.now (ids ++ id.now ∷ [])) }
+{
+    if !has_message(after, id) {
+        return Ok(());
+    }
+    let Some(number) = after.number(id) else {
+        return Ok(());
+    };
+    let id = id.copy()?;
+    numbered.insert(number, id)?;
+    Ok(())
+}
+
+/// Sets the tags of the messages, where the names of their files say others.
+fn add_all_tags(
+    alloc: Global,
+    after: &Snapshot,
+    ids: &[MessageId],
+    changes: &mut Many<Change>,
+) -> Result<(), NoMemory>
+    ensures { OnOk result (changes.new ≡ changes.old ++ flat_map (λ id. set_tags id (message_tags after.now id) (named_tags after.now id)) ids.now) }
+{
+    'ids: for id in ids {
+        add_tags(alloc, after, id, changes)?;
+    }
+    Ok(())
+}
+
+fn add_tags(
+    alloc: Global,
+    after: &Snapshot,
+    id: &MessageId,
+    changes: &mut Many<Change>,
+) -> Result<(), NoMemory>
+    ensures { OnOk result (changes.new ≡ changes.old ++ set_tags id.now (message_tags after.now id.now) (named_tags after.now id.now)) }
+{
+    let paths = message_paths(alloc, after, id)?;
+    match after.tags(id) {
+        Some(tags) => add_set(alloc, id, tags, &paths, changes),
+        None => add_set(alloc, id, &Tags::new(alloc), &paths, changes),
+    }
+}
+
+fn add_set(
+    alloc: Global,
+    id: &MessageId,
+    tags: &Tags,
+    paths: &Many<MailPath>,
+    changes: &mut Many<Change>,
+) -> Result<(), NoMemory>
+    ensures { OnOk result (changes.new ≡ changes.old ++ set_tags id.now tags.now (tags_by_names tags.now paths.now)) }
+{
+    let named = tags_from_names(alloc, tags, paths)?;
+    if *tags == named {
+        return Ok(());
+    }
+    let id = id.copy()?;
+    changes.push(Change::SetTags { id, tags: named })?;
+    Ok(())
+}
+
+/// The paths of a message's files, in the order of their arrival.
+fn message_paths(
+    alloc: Global,
+    after: &Snapshot,
+    id: &MessageId,
+) -> Result<Many<MailPath>, NoMemory>
+    ensures { IfOk result (λ paths. paths ≡ message_paths after.now.files id.now) }
+{
+    let mut paths = Many::new(alloc);
+    let Some(files) = after.files(id) else {
+        return Ok(paths);
+    };
+    'files: for file in files {
+        paths.push(file.0.copy()?)?;
+    }
+    Ok(paths)
+}
