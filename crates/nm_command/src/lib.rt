@@ -18,3 +18,4 @@ pub use laws::{
 };
 pub use reading::command;
 pub use request::Request;
+pub use table::{CommandName, command_named};

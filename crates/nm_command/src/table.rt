@@ -9,7 +9,7 @@ use nm_base::Output;
 
 /// The commands that there are.
 #[derive(Clone, Copy, Debug, PartialEq, Eq)]
-pub(crate) enum CommandName {
+pub enum CommandName {
     New,
     Search,
     Count,
@@ -107,8 +107,8 @@ const EXCLUSIONS: &[Row<Setting>] = &[
     ("false", Setting::Exclude(false)),
 ];
 
-/// The command that a word names.
-pub(crate) fn command_named(word: &str) -> Option<CommandName>
+/// The command that a word names, if it names one.
+pub fn command_named(word: &str) -> Option<CommandName>
     ensures { result ≡ meaning_of word.now commands }
 {
     meaning_of(commands(), word)

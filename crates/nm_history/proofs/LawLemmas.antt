@@ -12,7 +12,7 @@ use Rattle.nm_log.specs.declared.outcome.Outcome.TheVariants as outcomes
 use Rattle.nm_machine.specs.declared.step.Step.{Step}
 use Rattle.nm_history.specs.LineAnswers.{HasCause}
 use Rattle.nm_history.specs.Lines.{Before, IsIndexAt}
-use Rattle.nm_history.specs.Requests.{asks_to_write, first_refusal, refused_text, refused_unasked}
+use Rattle.nm_history.specs.Requests.{asks_to_write, first_refusal, own_query, refused_query, refused_text, refused_unasked}
 use Rattle.nm_query.specs.Answers.{answer_of}
 use Rattle.nm_query.specs.declared.query.Query.{Query}
 use Rattle.nm_query.specs.declared.query_error.QueryError.{QueryError}
@@ -66,16 +66,19 @@ closed-behind (outcomes.Limit limit) line before mail disk fault e writes (inr u
 closed-behind outcomes.NoMemory line before mail disk fault e writes h = inr refl
 
 -- a query is never refused as closed
-query-not-closed : (answered : Result Query QueryError) (fault : ℕ) → first_refusal (refused_text answered) None ≡ Some (outcomes.Closed fault) → ⊥
-query-not-closed (Ok query) fault e = absurd (cc)
-query-not-closed (Err (query_errors.BadQuery at kind)) fault e = absurd (cc)
-query-not-closed (Err (query_errors.BadDate at)) fault e = absurd (cc)
-query-not-closed (Err (query_errors.Limit limit)) fault e = absurd (cc)
-query-not-closed (Err query_errors.NoMemory) fault e = absurd (cc)
+text-not-closed : (answered : Result Query QueryError) (fault : ℕ) → first_refusal (refused_text answered) None ≡ Some (outcomes.Closed fault) → ⊥
+text-not-closed (Ok query) fault e = absurd (cc)
+text-not-closed (Err (query_errors.BadQuery at kind)) fault e = absurd (cc)
+text-not-closed (Err (query_errors.BadDate at)) fault e = absurd (cc)
+text-not-closed (Err (query_errors.Limit limit)) fault e = absurd (cc)
+text-not-closed (Err query_errors.NoMemory) fault e = absurd (cc)
+
+query-not-closed : (own : Option (List ℕ)) (fault : ℕ) → first_refusal (refused_query own) None ≡ Some (outcomes.Closed fault) → ⊥
+query-not-closed None fault e = absurd (cc)
+query-not-closed (Some text) fault e = text-not-closed (answer_of text) fault e
 
 never-closed : (line : ParsedLine) (fault : ℕ) → refused_unasked line None ≡ Some (outcomes.Closed fault) → ⊥
-never-closed (asked.Request requests.New) fault e = absurd (cc)
-never-closed (asked.Request (requests.Count ask)) fault e = query-not-closed (answer_of ask.query) fault e
+never-closed (asked.Request request) fault e = query-not-closed (own_query request) fault e
 never-closed (asked.Usage word kind) fault e = absurd (cc)
 
 pub open-not-closed : (line : ParsedLine) (before : Before) (mail disk fault : ℕ) → before.closed ≡ None → HasCause (outcomes.Closed fault) line before mail disk → ⊥

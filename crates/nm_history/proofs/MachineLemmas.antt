@@ -1,5 +1,5 @@
 -- The steps of a line go on with the run of the machine.
-use Rattle.std.proofs.Common.{◌≡◌, ◌⊎◌, ℕ, ℤ, ◌+◌, Bool, true, false, ◌&&◌, ◌||◌, not, List, [], ◌∷◌, ◌++◌, Option, None, Some, Result, Ok, Err, is_ok, length, map, fold, slice_index, slice_set, refl, sym, ap, ◌∙◌, subst, arith, inl, inr, append-nil, append_assoc}
+use Rattle.std.proofs.Common.{◌≡◌, ◌⊎◌, ℕ, ℤ, ◌+◌, Bool, true, false, ◌&&◌, ◌||◌, not, List, [], ◌∷◌, ◌++◌, Option, None, Some, Result, Ok, Err, is_ok, if◌then◌else◌, length, map, fold, slice_index, slice_set, refl, sym, ap, ◌∙◌, subst, arith, inl, inr, append-nil, append_assoc}
 use Rattle.std.specs.List.{flat_map}
 use Rattle.std.specs.Cmp.Lexicographic.{nat_list_eq_equiv}
 use Rattle.std.proofs.lemmas.Grind.{flat_map-append}
@@ -7,7 +7,7 @@ use Rattle.std.proofs.lemmas.List.{length-append, length-replicate, take_all, ge
 use Rattle.nm_base.specs.Order.{same_text}
 use Rattle.nm_answer.specs.declared.request.Request.{Request}
 use Rattle.nm_answer.specs.declared.request.Request.TheVariants as requests
-use Rattle.nm_answer.specs.Answer.{answer, is_of_index, is_reply}
+use Rattle.nm_answer.specs.Answer.{is_reply}
 use Rattle.nm_answer.specs.Count.{count_answer}
 use Rattle.nm_commit.specs.Files.{Fits}
 use Rattle.nm_commit.specs.declared.change.Commit.{Commit}
@@ -25,19 +25,15 @@ use Rattle.nm_log.specs.declared.line_parser.ParsedLine.TheVariants as asked
 use Rattle.nm_log.specs.declared.outcome.Outcome.{Outcome}
 use Rattle.nm_log.specs.declared.outcome.Outcome.TheVariants as outcomes
 use Rattle.nm_history.specs.Call.{Devices}
-use Rattle.nm_history.specs.LineAnswers.{HasCause, line_text}
+use Rattle.nm_history.specs.LineAnswers.{HasCause, line_text, script_answer}
 use Rattle.nm_history.specs.LineResult.{IsLineResult, Place, StandsAt, before_at, begin_step, commit_steps, line_steps, reply_step}
 use Rattle.nm_history.specs.Lines.{Before, RunLine, at_first}
 use Rattle.nm_history.specs.MachineRun.{IsAtRest, MachineRun, NeverStops, Replied, is_stop, lane_count, next, replied_where, replies_from, reply_by, reply_to}
-use Rattle.nm_history.specs.Requests.{first_refusal, refused_closed, refused_text, refused_unasked}
+use Rattle.nm_history.specs.Requests.{first_refusal, refused_closed, refused_query, refused_text, refused_unasked}
 use Rattle.nm_query.specs.Answers.{answer_of}
 use Rattle.nm_query.specs.declared.query.Query.{Query}
 use Rattle.nm_query.specs.declared.query_error.QueryError.{QueryError}
 use Rattle.nm_history.proofs.LineLemmas.{apart, before-next, begun-all, fold-append, one-on-way, revision-after, shown-all}
-
-or-true : (b : Bool) → (b || true) ≡ true
-or-true true = refl
-or-true false = refl
 
 -- commits that fit one after the other, cut in two
 fit-append : (index : Base) (commits more : List Commit) → FitInTurn index (commits ++ more) → FitInTurn index commits × FitInTurn (folded index commits) more
@@ -233,20 +229,23 @@ module _ (moment : ℤ) where
         }
 
   -- a query that is not refused has a tree
-  read-well : (answered : Result Query QueryError) (other : Option Outcome) → first_refusal (refused_text answered) other ≡ None → is_ok answered ≡ true
-  read-well (Ok query) other e = refl
-  read-well (Err refusal) other e = absurd (cc)
+  read-well : (answered : Result Query QueryError) (other : Option Outcome) (text said : List ℕ) → first_refusal (refused_text answered) other ≡ None → text ≡ said
+      → (is_ok answered && same_text text said) ≡ true
+  read-well (Ok query) other text said e is = ap (λ (t : List ℕ). same_text t said) is ∙ nat_list_eq_equiv.refl said
+  read-well (Err refusal) other text said e is = absurd (cc)
+
+  -- and where it is read from an input, the machine takes any text
+  own-well : (batch : Bool) (query : List ℕ) (other : Option Outcome) (text said : List ℕ) → first_refusal (refused_query (if batch then None else Some query)) other ≡ None
+      → text ≡ (if batch then [] else said) → (not (not batch) || (is_ok (answer_of query) && same_text text said)) ≡ true
+  own-well true query other text said e is = refl
+  own-well false query other text said e is = read-well (answer_of query) other text said e is
 
   -- the answer to a line is a reply that the machine takes
   right-reply : (request : Request) (closed : Option ℕ) (before index : Base) (noted : List Given) (text : List ℕ) → refused_unasked (asked.Request request) closed ≡ None
-      → text ≡ answer request [] before index moment noted → is_reply index moment request text ≡ true
+      → text ≡ script_answer request before index moment noted → is_reply index moment request text ≡ true
   right-reply requests.New closed before index noted text e is = refl
   right-reply (requests.Count ask) closed before index noted text e is =
-      let read : is_ok (answer_of ask.query) ≡ true = read-well (answer_of ask.query) (refused_closed closed false) e in
-      let either : Bool = not (is_of_index (requests.Count ask)) in
-      let said : List ℕ = count_answer ask index moment in
-      ap (λ (b : Bool). either || (b && same_text text said)) read
-      ∙ (ap (λ (b : Bool). either || b) (ap (λ (t : List ℕ). same_text t said) is ∙ nat_list_eq_equiv.refl said) ∙ or-true either)
+      own-well ask.batch ask.query (refused_closed closed false) text (count_answer ask index moment) e is
 
   -- the reply to a line, by its outcome
   answer-goes : (opening : Base) (m : Machine) (acknowledged way : List Commit) (outcome : Outcome) (parsed : ParsedLine) (first : Before) (mail disk revision : ℕ) (text : List ℕ) (before : Base) (noted : List Given)

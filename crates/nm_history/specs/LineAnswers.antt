@@ -1,6 +1,7 @@
 -- The outcome and the text of each line: those of the plain index at the revision before it and at its own.
-use Rattle.std.specs.Prelude.{◌≡◌, ◌⊎◌, ℕ, ℤ, true, List, [], None, Some}
+use Rattle.std.specs.Prelude.{◌≡◌, ◌⊎◌, ℕ, ℤ, true, List, [], None, Some, if◌then◌else◌}
 use Rattle.nm_answer.specs.Answer.{answer}
+use Rattle.nm_answer.specs.declared.request.Request.{Request}
 use Rattle.nm_faults.specs.Faults.{HasRisen}
 use Rattle.nm_index.specs.declared.base.Base.{Base}
 use Rattle.nm_log.specs.ParsedLine.{parse_line}
@@ -12,11 +13,15 @@ use Rattle.nm_log.specs.declared.outcome.Outcome.TheVariants as outcomes
 use Rattle.nm_machine.specs.declared.step.Step.{Step}
 use Rattle.nm_maildir.specs.declared.given.Given.{Given}
 use Rattle.nm_history.specs.Lines.{Along, Before, IsIndexAt, RunLine}
-use Rattle.nm_history.specs.Requests.{asks_to_write, refused_unasked}
+use Rattle.nm_history.specs.Requests.{asks_to_write, reads_input, refused_unasked}
+
+-- what a request is answered in a script, which gives it no input: a count that reads its queries there has none to answer
+abbrev pub script_answer : Request → Base → Base → ℤ → List Given → List ℕ
+script_answer request before index moment noted = if reads_input request then [] else answer request [] before index moment noted
 
 -- the text of a line that went well
 abbrev pub reply_text : ParsedLine → Base → Base → ℤ → List Given → List ℕ
-reply_text (asked.Request request) before index moment noted = answer request [] before index moment noted
+reply_text (asked.Request request) before index moment noted = script_answer request before index moment noted
 reply_text (asked.Usage word kind) before index moment noted = []
 
 -- the text of a line: the answer, or the line of its refusal

@@ -1,5 +1,5 @@
 -- What a line asks for, and what refuses it before any device is touched.
-use Rattle.std.specs.Prelude.{ℕ, Bool, true, false, Option, None, Some, Result, Ok, Err, if◌then◌else◌}
+use Rattle.std.specs.Prelude.{ℕ, List, Bool, true, false, Option, None, Some, Result, Ok, Err, if◌then◌else◌}
 use Rattle.nm_answer.specs.declared.request.Request.{Request}
 use Rattle.nm_answer.specs.declared.request.Request.TheVariants.{New, Count}
 use Rattle.nm_log.specs.declared.line_parser.ParsedLine.{ParsedLine}
@@ -21,6 +21,16 @@ abbrev pub asks_to_write : ParsedLine → Bool
 asks_to_write (asked.Request request) = is_writing request
 asks_to_write (asked.Usage word kind) = false
 
+-- the request reads lines from its input
+abbrev pub reads_input : Request → Bool
+reads_input New = false
+reads_input (Count ask) = ask.batch
+
+-- the text of its own query, where it has one: a count that reads its queries from an input has none
+abbrev pub own_query : Request → Option (List ℕ)
+own_query New = None
+own_query (Count ask) = if ask.batch then None else Some ask.query
+
 -- how a line ends whose query has no tree
 abbrev pub query_outcome : QueryError → Outcome
 query_outcome (errors.BadQuery at kind) = BadQuery at kind
@@ -32,10 +42,10 @@ query_outcome errors.NoMemory = NoMemory
 abbrev pub refused_text : Result Query QueryError → Option Outcome
 refused_text answered = elim answered [ Ok query ↦ None | Err refusal ↦ Some (query_outcome refusal) ]
 
--- a request whose query is none
-abbrev pub refused_query : Request → Option Outcome
-refused_query New = None
-refused_query (Count ask) = refused_text (answer_of ask.query)
+-- a request is refused whose own query is none
+abbrev pub refused_query : Option (List ℕ) → Option Outcome
+refused_query None = None
+refused_query (Some text) = refused_text (answer_of text)
 
 -- behind a fault of the disk what would change the index is refused
 abbrev pub refused_closed : Option ℕ → Bool → Option Outcome
@@ -51,4 +61,4 @@ first_refusal (Some outcome) other = Some outcome
 -- closed to it
 abbrev pub refused_unasked : ParsedLine → Option ℕ → Option Outcome
 refused_unasked (asked.Usage word kind) closed = Some (Usage word kind)
-refused_unasked (asked.Request request) closed = first_refusal (refused_query request) (refused_closed closed (is_writing request))
+refused_unasked (asked.Request request) closed = first_refusal (refused_query (own_query request)) (refused_closed closed (is_writing request))

@@ -1,4 +1,4 @@
 pub mod Cuts
+pub mod GrammarLemmas
 pub mod Puts
 pub mod Printed
-pub mod QueryWords

@@ -1,3 +1,4 @@
+pub mod LineGrammar
 pub mod ParsedLine
 pub mod Refusals
 pub mod Replies

@@ -1,12 +1,18 @@
--- What a line of a script asks for, or the first fault of its words.
-use Rattle.std.specs.Prelude.{ℕ, true, false, List, [], ◌∷◌, codes, if◌then◌else◌}
-use Rattle.std.specs.List.{join_with_byte}
+-- What a line of a script asks for, or the first fault of its words: the lane comes first, then the command, then the words of the command.
+use Rattle.std.specs.Prelude.{ℕ, true, List, [], ◌∷◌, Option, None, Some, Result, Ok, Err, codes, if◌then◌else◌}
 use Rattle.std.specs.Str.{is_utf8}
 use Rattle.nm_base.specs.Order.{same_text}
 use Rattle.nm_base.specs.declared.refusals.UsageKind.{UsageKind}
 use Rattle.nm_base.specs.declared.refusals.UsageKind.TheVariants as kinds
-use Rattle.nm_base.specs.declared.forms.Output.TheVariants as outputs
 use Rattle.nm_answer.specs.declared.request.Request.TheVariants as requests
+use Rattle.nm_command.specs.Requests.{request_of}
+use Rattle.nm_command.specs.Table.{commands, meaning_of}
+use Rattle.nm_command.specs.declared.command_error.CommandError.{CommandError}
+use Rattle.nm_command.specs.declared.command_error.CommandError.TheVariants as errors
+use Rattle.nm_command.specs.declared.request.Request as asks
+use Rattle.nm_command.specs.declared.request.Request.TheVariants as asked
+use Rattle.nm_command.specs.declared.table.CommandName.{CommandName}
+use Rattle.nm_command.specs.declared.table.CommandName.TheVariants as names
 use Rattle.nm_log.specs.declared.line_parser.ParsedLine.{ParsedLine}
 use Rattle.nm_log.specs.declared.line_parser.ParsedLine.TheVariants.{Request, Usage}
 use Rattle.nm_log.specs.Words.{words_of}
@@ -14,30 +20,42 @@ use Rattle.nm_log.specs.Words.{words_of}
 abbrev pub refused : UsageKind → List ℕ → ParsedLine
 refused kind word = Usage word kind
 
--- a count of the messages that this query finds
-abbrev pub count_of : List ℕ → ParsedLine
-count_of query = Request (requests.Count (record { output = outputs.Messages; exclude = true; batch = false; query = query }))
+-- what is wrong with a command in a line, whatever follows it: a session does not answer these yet, and begins no session
+abbrev pub command_fault : CommandName → Option UsageKind
+command_fault names.New = None
+command_fault names.Search = Some kinds.Command
+command_fault names.Count = None
+command_fault names.Show = Some kinds.Command
+command_fault names.Session = Some kinds.Lane
 
--- the words of a query, with one space between each two
-abbrev pub query_of : List (List ℕ) → List ℕ
-query_of words = join_with_byte 32 words
+-- a word that names no command is at fault as the command of any words is
+abbrev pub fault_of_named : Option CommandName → Option UsageKind
+fault_of_named None = None
+fault_of_named (Some command) = command_fault command
 
--- what stands behind `new`
-abbrev pub parse_new : List (List ℕ) → ParsedLine
-parse_new [] = Request requests.New
-parse_new (word ∷ more) = refused kinds.Extra word
+-- what is wrong with the first word of a command in a line, beside what is wrong with it anywhere
+abbrev pub name_fault : List ℕ → Option UsageKind
+name_fault name = fault_of_named (meaning_of name commands)
 
--- what stands behind `count` is a query; where nothing does, all messages are counted
-abbrev pub parse_count : List (List ℕ) → ParsedLine
-parse_count words = count_of (query_of words)
+-- what words ask for that begin with this name, where a session answers it
+abbrev pub line_request : List ℕ → asks.Request → ParsedLine
+line_request name asked.New = Request requests.New
+line_request name (asked.Search ask) = refused kinds.Command name
+line_request name (asked.Count ask) = Request (requests.Count ask)
+line_request name (asked.Show ask) = refused kinds.Command name
+line_request name asked.Session = refused kinds.Lane name
+
+-- or the word of them that is at fault; want of memory is no fault of words
+abbrev pub parse_answer : List ℕ → Result asks.Request CommandError → ParsedLine
+parse_answer name (Ok request) = line_request name request
+parse_answer name (Err (errors.Usage word kind)) = refused kind word
+parse_answer name (Err errors.NoMemory) = refused kinds.Command name
 
 -- what stands behind the lane
 abbrev pub parse_command : List (List ℕ) → ParsedLine
 parse_command [] = refused kinds.Command []
 parse_command (name ∷ words) =
-    if same_text name (codes "new") then parse_new words
-    else (if same_text name (codes "count") then parse_count words
-    else refused kinds.Command name)
+    elim (name_fault name) [ Some kind ↦ refused kind name | None ↦ parse_answer name (request_of (name ∷ words)) ]
 
 -- the lane comes first, and it is 0
 abbrev pub parse_words : List (List ℕ) → ParsedLine

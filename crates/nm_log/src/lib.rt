@@ -3,6 +3,7 @@
 #![tactic(auto)]
 
 mod header;
+mod laws;
 mod line_parser;
 mod log;
 mod outcome;
@@ -12,6 +13,7 @@ mod replies;
 mod script;
 mod words;
 
+pub use laws::lines_are_read_as_the_grammar_says;
 pub use line_parser::{ParsedLine, parse_line};
 pub use log::{Done, LineLog, SessionLog, Setting};
 pub use outcome::Outcome;

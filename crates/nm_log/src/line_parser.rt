@@ -1,12 +1,14 @@
 //! What a line of a script asks for; the session reads each line with it.
 
-ghost use Rattle.std.specs.Prelude.{◌≡◌, ◌++◌, [], ◌∷◌, IfOk, OnOk, string_bytes};
-ghost use Rattle.nm_log.specs.ParsedLine.{parse_line, parse_command, parse_count, parse_new, parse_words, query_of};
+ghost use Rattle.std.specs.Prelude.{◌≡◌, IfOk};
+ghost use Rattle.nm_command.specs.Requests.{request_of};
+ghost use Rattle.nm_log.specs.ParsedLine.{command_fault, line_request, name_fault, parse_answer, parse_command, parse_line, parse_words};
 ghost use Rattle.nm_log.specs.Words.{words_of};
 
-use crate::words::next_word;
+use crate::words::words;
 use nm_answer::Request;
-use nm_base::{CountAsk, NoMemory, Output, Text, UsageKind};
+use nm_base::{NoMemory, Text, UsageKind};
+use nm_command::{CommandError, CommandName, command, command_named};
 use std::alloc::Global;
 
 /// What a line asks for, or what is wrong with it.
@@ -16,12 +18,12 @@ pub enum ParsedLine {
     Usage { word: Text, kind: UsageKind },
 }
 
-/// Reads what a line of a script asks for.
+/// Reads what a line of a script asks for: its lane, which is 0, and a command.
 pub fn parse_line(alloc: Global, line: &[u8]) -> Result<ParsedLine, NoMemory>
     ensures { IfOk result (λ asked. asked ≡ parse_line line.now) }
 {
     match str::from_utf8(line) {
-        Ok(text) => read_lane(alloc, text),
+        Ok(text) => read_text(alloc, text),
         Err(_) => refuse(alloc, UsageKind::Utf8, ""),
     }
 }
@@ -33,85 +35,83 @@ fn refuse(alloc: Global, kind: UsageKind, word: &str) -> Result<ParsedLine, NoMe
     Ok(ParsedLine::Usage { word, kind })
 }
 
-fn read_lane(alloc: Global, text: &str) -> Result<ParsedLine, NoMemory>
+fn read_text(alloc: Global, text: &str) -> Result<ParsedLine, NoMemory>
     ensures { IfOk result (λ asked. asked ≡ parse_words (words_of text.now)) }
 {
-    match next_word(text) {
-        None => refuse(alloc, UsageKind::Command, ""),
-        Some((lane, words)) => {
-            if lane != "0" {
-                return refuse(alloc, UsageKind::Lane, lane);
+    let words = words(alloc, text)?;
+    read_lane(alloc, words.as_slice())
+}
+
+fn read_lane(alloc: Global, words: &[Text]) -> Result<ParsedLine, NoMemory>
+    ensures { IfOk result (λ asked. asked ≡ parse_words words.now) }
+{
+    match words {
+        [] => refuse(alloc, UsageKind::Command, ""),
+        [lane, words @ ..] => {
+            if lane.as_str() != "0" {
+                return refuse(alloc, UsageKind::Lane, lane.as_str());
             }
             read_command(alloc, words)
         }
     }
 }
 
-fn read_command(alloc: Global, text: &str) -> Result<ParsedLine, NoMemory>
-    ensures { IfOk result (λ asked. asked ≡ parse_command (words_of text.now)) }
+fn read_command(alloc: Global, words: &[Text]) -> Result<ParsedLine, NoMemory>
+    ensures { IfOk result (λ asked. asked ≡ parse_command words.now) }
 {
-    match next_word(text) {
-        None => refuse(alloc, UsageKind::Command, ""),
-        Some((name, words)) => {
-            if name == "new" {
-                return read_new(alloc, words);
-            }
-            if name == "count" {
-                return read_count(alloc, words);
-            }
+    match words {
+        [] => refuse(alloc, UsageKind::Command, ""),
+        [name, ..] => match name_fault(name.as_str()) {
+            Some(kind) => refuse(alloc, kind, name.as_str()),
+            None => read_request(alloc, name.as_str(), words),
+        },
+    }
+}
+
+/// What keeps a command from a line, whatever follows its name.
+fn name_fault(name: &str) -> Option<UsageKind>
+    ensures { result ≡ name_fault name.now }
+{
+    match command_named(name) {
+        Some(command) => command_fault(command),
+        None => None,
+    }
+}
+
+fn command_fault(command: CommandName) -> Option<UsageKind>
+    ensures { result ≡ command_fault command }
+{
+    match command {
+        CommandName::New | CommandName::Count => None,
+        CommandName::Search | CommandName::Show => Some(UsageKind::Command),
+        CommandName::Session => Some(UsageKind::Lane),
+    }
+}
+
+/// What the words ask for, which begin with this name, or the one at fault.
+fn read_request(alloc: Global, name: &str, words: &[Text]) -> Result<ParsedLine, NoMemory>
+    ensures { IfOk result (λ asked. asked ≡ parse_answer name.now (request_of words.now)) }
+{
+    match command(alloc, words) {
+        Ok(request) => line_request(alloc, name, request),
+        Err(CommandError::Usage { word, kind }) => Ok(ParsedLine::Usage { word, kind }),
+        Err(CommandError::NoMemory) => Err(NoMemory),
+    }
+}
+
+fn line_request(
+    alloc: Global,
+    name: &str,
+    request: nm_command::Request,
+) -> Result<ParsedLine, NoMemory>
+    ensures { IfOk result (λ asked. asked ≡ line_request name.now request) }
+{
+    match request {
+        nm_command::Request::New => Ok(ParsedLine::Request(Request::New)),
+        nm_command::Request::Count(ask) => Ok(ParsedLine::Request(Request::Count(ask))),
+        nm_command::Request::Search(_) | nm_command::Request::Show(_) => {
             refuse(alloc, UsageKind::Command, name)
         }
+        nm_command::Request::Session => refuse(alloc, UsageKind::Lane, name),
     }
-}
-
-fn read_new(alloc: Global, text: &str) -> Result<ParsedLine, NoMemory>
-    ensures { IfOk result (λ asked. asked ≡ parse_new (words_of text.now)) }
-{
-    match next_word(text) {
-        None => Ok(ParsedLine::Request(Request::New)),
-        Some((word, _)) => refuse(alloc, UsageKind::Extra, word),
-    }
-}
-
-fn read_count(alloc: Global, text: &str) -> Result<ParsedLine, NoMemory>
-    ensures { IfOk result (λ asked. asked ≡ parse_count (words_of text.now)) }
-{
-    let query = query_of(alloc, text)?;
-    Ok(ParsedLine::Request(Request::Count(CountAsk {
-        output: Output::Messages,
-        exclude: true,
-        batch: false,
-        query,
-    })))
-}
-
-/// The words of a query, with one space between each two.
-fn query_of(alloc: Global, text: &str) -> Result<Text, NoMemory>
-    ensures { IfOk result (λ query. query ≡ query_of (words_of text.now)) }
-{
-    match next_word(text) {
-        None => Text::of(alloc, ""),
-        Some((first, words)) => joined(alloc, first, words),
-    }
-}
-
-#[tactic(auto, using(crate::proofs::QueryWords::joined_word))]
-fn joined(alloc: Global, first: &str, words: &str) -> Result<Text, NoMemory>
-    ensures { IfOk result (λ query. query ≡ query_of (first.now ∷ words_of words.now)) }
-{
-    let mut query = String::from_str(alloc, first)?;
-    let mut rest = words;
-    'words: while let Some((word, more)) = next_word(rest) {
-        add_word(&mut query, word)?;
-        rest = more;
-    }
-    Text::from_string(query)
-}
-
-fn add_word(query: &mut String, word: &str) -> Result<(), NoMemory>
-    ensures { OnOk result (string_bytes query.new ≡ string_bytes query.old ++ 32 ∷ word.now) }
-{
-    query.push(' ')?;
-    query.push_str(word)?;
-    Ok(())
 }

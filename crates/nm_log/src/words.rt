@@ -1,14 +1,29 @@
-//! The next word of a line, for the reading of a line.
+//! The words of a line, for the reading of a line.
 
-ghost use Rattle.std.specs.Prelude.{◌≡◌, ◌<◌, ◌≤◌, [], ◌∷◌, length, MatchOption, false};
+ghost use Rattle.std.specs.Prelude.{◌≡◌, ◌<◌, ◌≤◌, [], ◌∷◌, length, IfOk, MatchOption, false};
 ghost use Rattle.std.specs.List.{position_or_len};
 ghost use Rattle.nm_log.specs.Words.{begins_blank, words_of};
 ghost use Rattle.nm_text.specs.WhiteSpace.{is_blank};
 
+use nm_base::{Many, NoMemory, Text};
 use nm_text::is_blank;
+use std::alloc::Global;
+
+/// The words of a text, in their order.
+pub(crate) fn words(alloc: Global, text: &str) -> Result<Many<Text>, NoMemory>
+    ensures { IfOk result (λ words. words ≡ words_of text.now) }
+{
+    let mut words = Many::new(alloc);
+    let mut rest = text;
+    'words: while let Some((word, more)) = next_word(rest) {
+        words.push(Text::of(alloc, word)?)?;
+        rest = more;
+    }
+    Ok(words)
+}
 
 /// The first word of a text, and the text behind it.
-pub(crate) fn next_word(text: &str) -> Option<(&str, &str)>
+fn next_word(text: &str) -> Option<(&str, &str)>
     ensures { MatchOption result (words_of text.now ≡ []) (λ split. words_of text.now ≡ split.0.now ∷ words_of split.1.now) }
 {
     let rest = without_blanks(text);

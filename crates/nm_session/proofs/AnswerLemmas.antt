@@ -3,11 +3,10 @@ use Rattle.std.proofs.Common.{◌≡◌, inl, inr, ℕ, ℤ, ◌+◌, ◌≤◌,
 use Rattle.std.proofs.lemmas.List.{length-append}
 use Rattle.std.specs.Option.{option_to_list}
 use Rattle.std.specs.Result.{IsErr}
-use Rattle.nm_answer.specs.Count.{count_answer, count_found}
 use Rattle.nm_answer.specs.NewText.{new_text, report_of}
 use Rattle.nm_answer.specs.declared.report.NewReport.{NewReport}
+use Rattle.nm_answer.specs.declared.request.Request.{Request}
 use Rattle.nm_answer.specs.declared.request.Request.TheVariants as requests
-use Rattle.nm_base.specs.declared.asks.CountAsk.{CountAsk}
 use Rattle.nm_base.specs.declared.facts.Facts.{Facts}
 use Rattle.nm_base.specs.declared.limit.Limit.{Limit}
 use Rattle.nm_base.specs.declared.memory.NoMemory.{NoMemory}
@@ -15,12 +14,12 @@ use Rattle.nm_base.specs.declared.refusals.UsageKind.{UsageKind}
 use Rattle.nm_commit.specs.declared.change.Commit.{Commit}
 use Rattle.nm_faults.specs.Faults.{HasCauseOf}
 use Rattle.nm_history.specs.Given.{AsksMail}
-use Rattle.nm_history.specs.LineAnswers.{HasCause, NoneFailed, line_text}
-use Rattle.nm_history.specs.LineCommits.{AreDue, Makes}
+use Rattle.nm_history.specs.LineAnswers.{HasCause, NoneFailed, line_text, script_answer}
+use Rattle.nm_history.specs.LineCommits.{AreDue, FindsFor, Makes}
 use Rattle.nm_history.specs.LineResult.{HasMade, Place, before_at}
 use Rattle.nm_history.specs.Lines.{closed_after}
 use Rattle.nm_history.specs.MachineRun.{replied_where}
-use Rattle.nm_history.specs.Requests.{first_refusal, query_outcome, refused_closed, refused_text, refused_unasked}
+use Rattle.nm_history.specs.Requests.{first_refusal, is_writing, own_query, query_outcome, refused_closed, refused_query, refused_text, refused_unasked}
 use Rattle.nm_index.specs.Fits.{FitInTurn}
 use Rattle.nm_index.specs.Index.{committed, folded}
 use Rattle.nm_index.specs.declared.base.Base.{Base}
@@ -33,12 +32,13 @@ use Rattle.nm_log.specs.declared.outcome.Outcome.TheVariants as outcomes
 use Rattle.nm_maildir.specs.Observed.{ObservedMail}
 use Rattle.nm_maildir.specs.Tree.{Tree}
 use Rattle.nm_maildir.specs.declared.given.Given.{Given}
+use Rattle.nm_plan.specs.Plan.{due_commits}
 use Rattle.nm_query.specs.Answers.{answer_of}
 use Rattle.nm_query.specs.declared.query.Query.{Query}
 use Rattle.nm_query.specs.declared.query_error.QueryError.{QueryError}
 use Rattle.nm_query.specs.declared.query_error.QueryError.TheVariants as query_errors
 use Rattle.nm_scan.specs.Scanning.{AsksNew}
-use Rattle.nm_session.specs.Line.{Ends, IsAnswered, IsCounted, IsCountedBy, IsEven}
+use Rattle.nm_session.specs.Line.{Ends, IsAnswered, IsEven, IsReadOff, refused_or, refused_with, replied_with}
 use Rattle.nm_session.specs.Marks.{reply_mark}
 use Rattle.nm_session.specs.Outcomes.{is_disk_fault, outcome_of}
 use Rattle.nm_session.specs.declared.answering.Answered.{Answered}
@@ -103,60 +103,74 @@ usage-ends moment place line noted word kind (Ok done) none is said =
       record { text = refl; reply = λ lane revision. refl },
     ))
 
--- a count
+-- a request that changes nothing
 
 closed-alive : (closed : Option ℕ) → refused_closed closed false ≡ None
 closed-alive None = refl
 closed-alive (Some fault) = refl
 
-module _ (moment : ℤ) (place : Place) (line : List ℕ) (ask : CountAsk) (is : parse_line line ≡ asked.Request (requests.Count ask)) where
+-- it looks for no mails, and no commits are due to it
+finds-nothing : (request : Request) (tree : Option Tree) (index : Base) → is_writing request ≡ false → FindsFor request tree index [] [] []
+finds-nothing requests.New tree index reading = absurd (cc)
+finds-nothing (requests.Count ask) tree index reading = (refl, refl)
+
+due-nothing : (request : Request) (index : Base) → is_writing request ≡ false → [] ≡ due_commits request index [] [] []
+due-nothing requests.New index reading = absurd (cc)
+due-nothing (requests.Count ask) index reading = refl
+
+module _ (moment : ℤ) (place : Place) (line : List ℕ) (request : Request) (is : parse_line line ≡ asked.Request request) (reading : is_writing request ≡ false) where
   -- what refuses the line
-  count-refused : (closed : Option ℕ) (answered : Result Query QueryError) → answer_of ask.query ≡ answered → refused_unasked (parse_line line) closed ≡ first_refusal (refused_text answered) (refused_closed closed false)
-  count-refused closed answered e = ap (λ (p : ParsedLine). refused_unasked p closed) is ∙ ap (λ (r : Result Query QueryError). first_refusal (refused_text r) (refused_closed closed false)) e
+  refused-as : (closed : Option ℕ) (refused : Option Outcome) → refused_query (own_query request) ≡ refused → refused_unasked (parse_line line) closed ≡ first_refusal refused (refused_closed closed false)
+  refused-as closed refused e =
+      ap (λ (p : ParsedLine). refused_unasked p closed) is
+      ∙ (ap (λ (r : Option Outcome). first_refusal r (refused_closed closed (is_writing request))) e ∙ ap (λ (b : Bool). first_refusal refused (refused_closed closed b)) reading)
 
   none-failed : NoneFailed (before_at place).mail_faults (before_at place).disk_faults place.mail.faults place.disk_faults
   none-failed = record { mail_same = refl; disk_same = refl }
 
-  -- a query that has a tree is answered
-  count-answered : (query : Query) → answer_of ask.query ≡ Ok query
-      → Ends moment place line [] (Ok (record { outcome = outcomes.Ok; text = count_found ask place.writer.shown moment query; reply = Some (marks.Reply (requests.Count ask) (count_found ask place.writer.shown moment query)) })) place
-  count-answered query e =
-      let text : List ℕ = count_found ask place.writer.shown moment query in
-      let said : text ≡ count_answer ask place.writer.shown moment = sym (ap (λ (r : Result Query QueryError). elim r [ Ok query ↦ count_found ask place.writer.shown moment query | Err refusal ↦ [] ]) e) in (
-        idle place line outcomes.Ok (record { request = requests.Count ask; asked_for = is; batches = []; found = (refl, refl); due_are = refl }, refl) refl (
-          count-refused place.writer.closed (Ok query) e ∙ closed-alive place.writer.closed,
-          none-failed,
-        ),
+  -- where no query refuses it, it is answered
+  read-well : refused_query (own_query request) ≡ None → Ends moment place line [] (Ok (replied_with request (script_answer request place.writer.shown place.writer.shown moment []))) place
+  read-well e =
+      let text : List ℕ = script_answer request place.writer.shown place.writer.shown moment [] in (
+        idle place line outcomes.Ok (
+          record { request = request; asked_for = is; batches = []; found = finds-nothing request place.mail.tree place.writer.shown reading; due_are = due-nothing request place.writer.shown reading },
+          refl,
+        ) refl (refused-as place.writer.closed None e ∙ closed-alive place.writer.closed, none-failed),
         record {
-          text = subst (λ (p : ParsedLine). text ≡ line_text outcomes.Ok p place.writer.shown place.writer.shown moment []) (sym is) said;
-          reply = λ lane revision. subst (λ (p : ParsedLine). option_to_list (Some (marks.Reply (requests.Count ask) text)) ≡ map reply_mark (replied_where outcomes.Ok p lane revision text)) (sym is) refl;
+          text = subst (λ (p : ParsedLine). text ≡ line_text outcomes.Ok p place.writer.shown place.writer.shown moment []) (sym is) refl;
+          reply = λ lane revision. subst (λ (p : ParsedLine). option_to_list (Some (marks.Reply request text)) ≡ map reply_mark (replied_where outcomes.Ok p lane revision text)) (sym is) refl;
         },
       )
 
-  -- one that has none is refused
-  count-none : (refusal : QueryError) → answer_of ask.query ≡ Err refusal → Ends moment place line [] (Ok (record { outcome = query_outcome refusal; text = refusal_line (query_outcome refusal); reply = None })) place
-  count-none (query_errors.BadQuery at kind) e =
-      (idle place line (outcomes.BadQuery at kind) (refl, refl) refl (count-refused place.writer.closed (Err (query_errors.BadQuery at kind)) e, none-failed), record { text = refl; reply = λ lane revision. refl })
-  count-none (query_errors.BadDate at) e =
-      (idle place line (outcomes.BadDate at) (refl, refl) refl (count-refused place.writer.closed (Err (query_errors.BadDate at)) e, none-failed), record { text = refl; reply = λ lane revision. refl })
-  count-none (query_errors.Limit limit) e = (
-    idle place line (outcomes.Limit limit) (inl (refl, refl, inl (count-refused None (Err (query_errors.Limit limit)) e)), refl) refl (inl (count-refused place.writer.closed (Err (query_errors.Limit limit)) e), none-failed),
+  -- and else refused
+  read-refused : (refusal : QueryError) → refused_query (own_query request) ≡ Some (query_outcome refusal) → Ends moment place line [] (Ok (refused_with (query_outcome refusal))) place
+  read-refused (query_errors.BadQuery at kind) e =
+      (idle place line (outcomes.BadQuery at kind) (refl, refl) refl (refused-as place.writer.closed (Some (outcomes.BadQuery at kind)) e, none-failed), record { text = refl; reply = λ lane revision. refl })
+  read-refused (query_errors.BadDate at) e =
+      (idle place line (outcomes.BadDate at) (refl, refl) refl (refused-as place.writer.closed (Some (outcomes.BadDate at)) e, none-failed), record { text = refl; reply = λ lane revision. refl })
+  read-refused (query_errors.Limit limit) e = (
+    idle place line (outcomes.Limit limit) (inl (refl, refl, inl (refused-as None (Some (outcomes.Limit limit)) e)), refl) refl (inl (refused-as place.writer.closed (Some (outcomes.Limit limit)) e), none-failed),
     record { text = refl; reply = λ lane revision. refl },
   )
-  count-none query_errors.NoMemory e = (idle place line outcomes.NoMemory (inl refl, refl) refl tt, record { text = refl; reply = λ lane revision. refl })
+  read-refused query_errors.NoMemory e = (idle place line outcomes.NoMemory (inl refl, refl) refl tt, record { text = refl; reply = λ lane revision. refl })
 
-  count-ended : (done : Answered) (answered : Result Query QueryError) → answer_of ask.query ≡ answered
-      → IsCountedBy moment place.writer.shown ask answered done
-      → Ends moment place line [] (Ok done) place
-  count-ended done (Ok query) e said = subst (λ (d : Answered). Ends moment place line [] (Ok d) place) (sym said) (count-answered query e)
-  count-ended done (Err refusal) e said = subst (λ (d : Answered). Ends moment place line [] (Ok d) place) (sym said) (count-none refusal e)
+  read-text : (answered : Result Query QueryError) → refused_query (own_query request) ≡ refused_text answered
+      → Ends moment place line [] (Ok (refused_or request (script_answer request place.writer.shown place.writer.shown moment []) (refused_text answered))) place
+  read-text (Ok query) e = read-well e
+  read-text (Err refusal) e = read-refused refusal e
 
-pub count-ends : (moment : ℤ) (place : Place) (line : List ℕ) (noted : List Given) (ask : CountAsk) (shown : Base) (result : Result Answered NoMemory) → noted ≡ [] → parse_line line ≡ asked.Request (requests.Count ask) → shown ≡ place.writer.shown
-    → IfOk result (IsCounted moment shown ask) → Ends moment place line noted result place
-count-ends moment place line noted ask shown (Err error) none is same said = found-no-memory place line noted none
-count-ends moment place line noted ask shown (Ok done) none is same said =
+  read-by : (own : Option (List ℕ)) → own_query request ≡ own
+      → Ends moment place line [] (Ok (refused_or request (script_answer request place.writer.shown place.writer.shown moment []) (refused_query own))) place
+  read-by None e = read-well (ap refused_query e)
+  read-by (Some text) e = read-text (answer_of text) (ap refused_query e)
+
+pub reading-ends : (moment : ℤ) (place : Place) (line : List ℕ) (noted : List Given) (request : Request) (shown : Base) (result : Result Answered NoMemory) → noted ≡ [] → parse_line line ≡ asked.Request request
+    → is_writing request ≡ false → shown ≡ place.writer.shown → IfOk result (IsReadOff moment shown request) → Ends moment place line noted result place
+reading-ends moment place line noted request shown (Err error) none is reading same said = found-no-memory place line noted none
+reading-ends moment place line noted request shown (Ok done) none is reading same said =
+    let done_is : IsReadOff moment place.writer.shown request done = subst (λ (b : Base). IsReadOff moment b request done) same said in
     subst (λ (l : List Given). Ends moment place line l (Ok done) place) (sym none)
-    (count-ended moment place line ask is done (answer_of ask.query) refl (subst (λ (b : Base). IsCounted moment b ask done) same said))
+    (subst (λ (d : Answered). Ends moment place line [] (Ok d) place) (sym done_is) (read-by moment place line request is reading (own_query request) refl))
 
 -- what is due fits, and so do the first of it
 

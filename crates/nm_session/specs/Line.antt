@@ -1,21 +1,19 @@
 -- How one line ends: what it made, why, and what it says.
 use Rattle.std.specs.Prelude.{◌≡◌, ℕ, ℤ, ◌+◌, ◌≤◌, List, [], ◌∷◌, ◌++◌, length, map, Option, None, Some, Result, Ok, Err}
 use Rattle.std.specs.Option.{option_to_list}
-use Rattle.nm_answer.specs.Count.{count_found}
-use Rattle.nm_answer.specs.declared.request.Request.TheVariants as requests
+use Rattle.nm_answer.specs.declared.request.Request.{Request}
 use Rattle.nm_base.specs.Limits.{max_commits}
-use Rattle.nm_base.specs.declared.asks.CountAsk.{CountAsk}
 use Rattle.nm_base.specs.declared.memory.NoMemory.{NoMemory}
 use Rattle.nm_commit.specs.declared.change.Commit.{Commit}
 use Rattle.nm_disk.specs.Observed.{ObservedDisk}
 use Rattle.nm_history.specs.Given.{AsksMail}
-use Rattle.nm_history.specs.LineAnswers.{HasCause, line_text}
+use Rattle.nm_history.specs.LineAnswers.{HasCause, line_text, script_answer}
 use Rattle.nm_history.specs.LineCommits.{Makes}
 use Rattle.nm_history.specs.LineResult.{HasMade, Place, before_at}
 use Rattle.nm_history.specs.Lines.{RunLine, closed_after}
 use Rattle.nm_history.specs.MachineRun.{replied_where, reply_to}
 use Rattle.nm_history.specs.PrintedOut.{IsNumbered}
-use Rattle.nm_history.specs.Requests.{query_outcome}
+use Rattle.nm_history.specs.Requests.{own_query, refused_query}
 use Rattle.nm_index.specs.declared.base.Base.{Base}
 use Rattle.nm_log.specs.ParsedLine.{parse_line}
 use Rattle.nm_log.specs.Replies.{refusal_line, status_of}
@@ -25,9 +23,6 @@ use Rattle.nm_log.specs.declared.outcome.Outcome.TheVariants as outcomes
 use Rattle.nm_log.specs.declared.script.ScriptLine.{ScriptLine}
 use Rattle.nm_maildir.specs.Observed.{ObservedMail}
 use Rattle.nm_maildir.specs.declared.given.Given.{Given}
-use Rattle.nm_query.specs.Answers.{answer_of}
-use Rattle.nm_query.specs.declared.query.Query.{Query}
-use Rattle.nm_query.specs.declared.query_error.QueryError.{QueryError}
 use Rattle.nm_session.specs.Marks.{line_marks, reply_mark}
 use Rattle.nm_session.specs.Rooms.{AreSpares}
 use Rattle.nm_session.specs.declared.answering.Answered.{Answered}
@@ -92,12 +87,19 @@ pub record IsNoted (moment : ℤ) (old : Place) (line : ScriptLine) (before afte
   pub texts : AreSpares after.spares
   pub within : length new.writer.begun ≤ max_commits
 
--- What a count is answered, from what its query is read as: its text where there is a tree, or else the refusal.
-abbrev pub IsCountedBy : ℤ → Base → CountAsk → Result Query QueryError → Answered → Type 0
-IsCountedBy moment index ask (Ok query) done =
-    done ≡ record { outcome = outcomes.Ok; text = count_found ask index moment query; reply = Some (marks.Reply (requests.Count ask) (count_found ask index moment query)) }
-IsCountedBy moment index ask (Err refusal) done = done ≡ record { outcome = query_outcome refusal; text = refusal_line (query_outcome refusal); reply = None }
+-- it went well, with this text
+abbrev pub replied_with : Request → List ℕ → Answered
+replied_with request text = record { outcome = outcomes.Ok; text = text; reply = Some (marks.Reply request text) }
 
--- what a count is answered
-abbrev pub IsCounted : ℤ → Base → CountAsk → Answered → Type 0
-IsCounted moment index ask done = IsCountedBy moment index ask (answer_of ask.query) done
+-- it is refused
+abbrev pub refused_with : Outcome → Answered
+refused_with outcome = record { outcome = outcome; text = refusal_line outcome; reply = None }
+
+-- the refusal of its query, if there is one, or else the text
+abbrev pub refused_or : Request → List ℕ → Option Outcome → Answered
+refused_or request text None = replied_with request text
+refused_or request text (Some outcome) = refused_with outcome
+
+-- what a request is answered that changes nothing, on this index
+abbrev pub IsReadOff : ℤ → Base → Request → Answered → Type 0
+IsReadOff moment index request done = done ≡ refused_or request (script_answer request index index moment []) (refused_query (own_query request))

@@ -1,6 +1,6 @@
 //! The answer to one line: what it asks for is done, and its text is made.
 
-ghost use Rattle.std.specs.Prelude.{◌≡◌, ◌≢◌, ℕ, ℤ, List, [], false, None, Some, IfOk, IfSome, MatchResult};
+ghost use Rattle.std.specs.Prelude.{◌≡◌, ◌≢◌, ℕ, ℤ, List, [], false, None, IfOk, IfSome, MatchResult};
 ghost use Rattle.nm_answer.specs.NewText.{new_text};
 ghost use Rattle.nm_dates.specs.Seconds.{IsMoment};
 ghost use Rattle.nm_disk.specs.Observed.{ObservedDisk};
@@ -9,7 +9,7 @@ ghost use Rattle.nm_index.specs.declared.base.Base.{Base};
 ghost use Rattle.nm_log.specs.ParsedLine.{parse_line};
 ghost use Rattle.nm_log.specs.Replies.{refusal_line};
 ghost use Rattle.nm_log.specs.declared.line_parser.ParsedLine.TheVariants as asked;
-ghost use Rattle.nm_session.specs.Line.{Ends, IsCounted, IsEven, place_at};
+ghost use Rattle.nm_session.specs.Line.{Ends, IsEven, IsReadOff, place_at, refused_with, replied_with};
 ghost use Rattle.nm_session.specs.Outcomes.{is_disk_fault, outcome_of};
 ghost use Rattle.nm_writer.specs.Durable.{IsDurable};
 ghost use Rattle.nm_writer.specs.Writer.{StandsOnIndex};
@@ -92,7 +92,7 @@ fn run_new<M: Maildir, D: Disk>(
 
 /// The reply of a `new`.
 fn reply_new(alloc: Global, report: &NewReport) -> Result<Answered, NoMemory>
-    ensures { IfOk result (λ done. done ≡ record { outcome = Outcome.Ok; text = new_text report.now; reply = Some (Mark.Reply Request.New (new_text report.now)) }) }
+    ensures { IfOk result (λ done. done ≡ replied_with Request.New (new_text report.now)) }
 {
     let text = new_reply(alloc, report)?;
     replied(Request::New, text)
@@ -102,7 +102,7 @@ fn reply_new(alloc: Global, report: &NewReport) -> Result<Answered, NoMemory>
 fn refuse_new(alloc: Global, error: WriteError, disk_fault: Many<u8>) -> Result<Answered, NoMemory>
     requires { disk_fault ≡ refusal_line Outcome.DiskFault }
     ensures { MatchResult result
-        (λ done. done ≡ record { outcome = outcome_of error; text = refusal_line (outcome_of error); reply = None })
+        (λ done. done ≡ refused_with (outcome_of error))
         (λ _. is_disk_fault (outcome_of error) ≡ false) }
 {
     match error {
@@ -118,7 +118,8 @@ fn refuse_new(alloc: Global, error: WriteError, disk_fault: Many<u8>) -> Result<
     }
 }
 
-/// Counts over the index that is shown, where the query has a tree.
+/// Counts over the index that is shown, where the query has a tree. A script has no input for a count with batch, so there is
+/// nothing for it to count.
 fn run_count(
     alloc: Global,
     setting: &Setting,
@@ -126,8 +127,11 @@ fn run_count(
     ask: CountAsk,
 ) -> Result<Answered, NoMemory>
     requires moment { IsMoment setting.now.moment }
-    ensures { IfOk result (IsCounted setting.now.moment snapshot.now ask) }
+    ensures { IfOk result (IsReadOff setting.now.moment snapshot.now (Request.Count ask)) }
 {
+    if ask.batch {
+        return replied(Request::Count(ask), Many::new(alloc));
+    }
     match parse(alloc, ask.query.as_str()) {
         Ok(query) => {
             let text = count_reply(alloc, snapshot, &ask, &query, setting.moment)?;
@@ -140,7 +144,7 @@ fn run_count(
 /// The refusal of a text that is no query.
 fn refuse_query(alloc: Global, error: QueryError) -> Result<Answered, NoMemory>
     ensures some { IfOk result (λ _. error ≢ QueryError.NoMemory) }
-    ensures refused { IfOk result (λ done. done ≡ record { outcome = query_outcome error; text = refusal_line (query_outcome error); reply = None }) }
+    ensures refused { IfOk result (λ done. done ≡ refused_with (query_outcome error)) }
 {
     match error {
         QueryError::BadQuery { at, kind } => refuse(alloc, Outcome::BadQuery { at, kind }),
@@ -152,7 +156,7 @@ fn refuse_query(alloc: Global, error: QueryError) -> Result<Answered, NoMemory>
 
 /// The line went well.
 fn replied(request: Request, text: Many<u8>) -> Result<Answered, NoMemory>
-    ensures { IfOk result (λ done. done ≡ record { outcome = Outcome.Ok; text = text; reply = Some (Mark.Reply request text) }) }
+    ensures { IfOk result (λ done. done ≡ replied_with request text) }
 {
     let copied = text.copy()?;
     Ok(Answered {
@@ -167,7 +171,7 @@ fn replied(request: Request, text: Many<u8>) -> Result<Answered, NoMemory>
 
 /// The line is refused.
 fn refuse(alloc: Global, outcome: Outcome) -> Result<Answered, NoMemory>
-    ensures { IfOk result (λ done. done ≡ record { outcome = outcome; text = refusal_line outcome; reply = None }) }
+    ensures { IfOk result (λ done. done ≡ refused_with outcome) }
 {
     let text = refusal_text(alloc, &outcome)?;
     Ok(Answered {

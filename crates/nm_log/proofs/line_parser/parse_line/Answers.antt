@@ -14,8 +14,8 @@ is_false false h = refl
 pub returns-in-Ok : goal.returns-in-Ok
 returns-in-Ok c =
     let text = is_utf8-from_IsUtf8 c.args.line.now c.in-Ok.ensures.cases.1 in
-    IfOk-weaker c.read_lane.result _ _
-    (λ asked is. is ∙ (ap (λ t. parse_words (words_of t)) c.in-Ok.ensures.cases.0 ∙ sym (ap (λ b. cond b (parse_words (words_of c.args.line.now)) (refused kinds.Utf8 [])) text))) c.read_lane.ensures
+    IfOk-weaker c.read_text.result _ _
+    (λ asked is. is ∙ (ap (λ t. parse_words (words_of t)) c.in-Ok.ensures.cases.0 ∙ sym (ap (λ b. cond b (parse_words (words_of c.args.line.now)) (refused kinds.Utf8 [])) text))) c.read_text.ensures
 
 pub returns-in-Err : goal.returns-in-Err
 returns-in-Err c =

@@ -1,7 +1,8 @@
-use Rattle.std.proofs.Common.{sym, ap, ◌∙◌}
+use Rattle.std.proofs.Common.{refl, sym, ap, ◌∙◌}
+use Rattle.nm_answer.specs.declared.request.Request.TheVariants as requests
 use Rattle.nm_log.specs.declared.line_parser.ParsedLine.TheVariants as asked
 use Rattle.nm_session.specs.Line.{place_at}
-use Rattle.nm_session.proofs.AnswerLemmas.{count-ends, failed-ends, usage-ends}
+use Rattle.nm_session.proofs.AnswerLemmas.{failed-ends, reading-ends, usage-ends}
 use Rattle.nm_session.proofs.answering.answer.Goals as goal
 
 pub returns-in_err-word : goal.returns-in_err-word
@@ -28,8 +29,8 @@ returns-in-Request-New g c = record {
 
 pub returns-in-Request-Count : goal.returns-in-Request-Count
 returns-in-Request-Count g c = record {
-  ends = count-ends c.args.setting.now.moment (place_at c.args.writer.now (g.M.Maildir.observed c.args.mail.now) (g.D.Disk.observed c.args.disk.now)) c.args.line.now c.args.given.now c.in-Request-Count.ask c.snapshot.result.now c.run_count.result
-      c.requires.fresh (sym c.in_ok-word.ensures ∙ (c.in-Request-Count.is ∙ ap asked.Request c.in-Request-Count.field-0-is)) c.snapshot.ensures c.run_count.ensures;
+  ends = reading-ends c.args.setting.now.moment (place_at c.args.writer.now (g.M.Maildir.observed c.args.mail.now) (g.D.Disk.observed c.args.disk.now)) c.args.line.now c.args.given.now (requests.Count c.in-Request-Count.ask) c.snapshot.result.now c.run_count.result
+      c.requires.fresh (sym c.in_ok-word.ensures ∙ (c.in-Request-Count.is ∙ ap asked.Request c.in-Request-Count.field-0-is)) refl c.snapshot.ensures c.run_count.ensures;
   stands = c.requires.stands;
   durable = λ entry opening h. h;
 }
