@@ -34,11 +34,35 @@ fn add_parsed(alloc: Global, answers: &mut Lines, parsed: &ParsedLine) -> Result
     }
 }
 
-/// The query, where the messages that are not excluded are counted, of one query.
+/// `count QUERY` where no option says otherwise, and else all of them before the query.
 fn add_count(answers: &mut Lines, ask: &CountAsk) -> Result<(), AllocError> {
-    let is_usual = ask.output == Output::Messages && ask.exclude && !ask.batch;
-    answers.line(if is_usual { b"count" } else { b"another count" })?;
+    answers.line(b"count")?;
+    if ask.output != Output::Messages || !ask.exclude || ask.batch {
+        add_options(answers, ask)?;
+    }
     answers.push_after_blank(ask.query.as_bytes())
+}
+
+fn add_options(answers: &mut Lines, ask: &CountAsk) -> Result<(), AllocError> {
+    answers.push_after_blank(output_name(ask.output))?;
+    if ask.batch {
+        answers.push(b", batch")?;
+    }
+    answers.push(if ask.exclude {
+        b", exclude true:".as_slice()
+    } else {
+        b", exclude false:"
+    })
+}
+
+fn output_name(output: Output) -> &'static [u8] {
+    match output {
+        Output::Summary => b"summary",
+        Output::Threads => b"threads",
+        Output::Messages => b"messages",
+        Output::Files => b"files",
+        Output::Tags => b"tags",
+    }
 }
 
 /// The text of the refusal, which has to be what is printed where there is no memory for a text.
