@@ -1,4 +1,6 @@
 mod ListLemmas
 mod MatchLemmas
+mod OrderLemmas
+mod PartLemmas
 mod TreeLemmas
 mod WordLemmas

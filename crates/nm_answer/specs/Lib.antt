@@ -1,9 +1,14 @@
 pub mod Answer
 pub mod Count
+pub mod Json
+pub mod Listing
 pub mod Matches
 pub mod NewText
+pub mod Orders
 pub mod Places
 pub mod Runs
+pub mod Search
+pub mod Summary
 pub mod Test
 pub mod View
 pub mod Words

@@ -4,6 +4,8 @@
 mod laws;
 mod report;
 mod request;
+mod search_laws;
+mod summary;
 
 pub use laws::{
     a_tag_excludes_unless_it_is_named, a_tree_names_the_tags_of_its_queries,
@@ -12,3 +14,8 @@ pub use laws::{
 };
 pub use report::NewReport;
 pub use request::Request;
+pub use search_laws::{
+    an_offset_and_a_limit_cut_a_part, each_thread_is_told_once,
+    items_of_one_rank_stay_in_their_order,
+};
+pub use summary::ThreadSummary;

@@ -1,26 +1,23 @@
 //! The reply to a count. The machine judges replies by it, and a session answers with it.
 
-ghost use Rattle.std.specs.Prelude.{◌≡◌, ◌+◌, ◌<◌, ◌++◌, [], ◌∷◌, fold, length, IfOk, OnOk};
+ghost use Rattle.std.specs.Prelude.{◌≡◌, ◌+◌, ◌++◌, [], ◌∷◌, fold, length, IfOk, OnOk};
 ghost use Rattle.std.specs.BTreeSet.{insert_key};
 ghost use Rattle.std.specs.Fmt.{decimal};
 ghost use Rattle.std.specs.List.{filter_map};
 ghost use Rattle.std.specs.Ordering.{nat_cmp};
 ghost use Rattle.nm_answer.specs.Count.{count_found, count_text, counted, files_of_all, thread_names};
-ghost use Rattle.nm_answer.specs.Matches.{matches_of};
 ghost use Rattle.nm_answer.specs.View.{files_of};
 ghost use Rattle.nm_dates.specs.Seconds.{IsMoment};
 ghost use Rattle.nm_index.specs.Index.{rows_of};
 ghost use Rattle.nm_threads.specs.Name.{thread_name};
 
+use crate::matching::found;
 use itoa::Buffer;
-use nm_base::{CountAsk, Many, MessageId, NoMemory, Output, Steps};
-use nm_eval::matches;
+use nm_base::{CountAsk, Many, MessageId, NoMemory, Output};
 use nm_query::Query;
 use nm_state::Snapshot;
 use std::alloc::Global;
 use std::collections::BTreeSet;
-use std::marker::Brand;
-use std::sync::ledger::{Blank, Ledger};
 
 /// The reply to a count whose query has this tree.
 pub fn count_reply(
@@ -34,27 +31,8 @@ pub fn count_reply(
     ensures { IfOk result (λ text. text ≡ count_found ask.now snapshot.now moment query.now) }
 {
     let exclude = ask.exclude;
-    let ids = found::<Brand>(alloc, snapshot, query, moment, exclude, Blank::new(1))?;
+    let ids = found(alloc, snapshot, query, moment, exclude)?;
     count_text(alloc, snapshot, ids.as_slice(), ask.output)
-}
-
-/// The messages that the query finds, in steps that nobody counts.
-fn found<L: Ledger>(
-    alloc: Global,
-    snapshot: &Snapshot,
-    query: &Query,
-    moment: i64,
-    exclude: bool,
-    blank: Blank,
-) -> Result<Many<MessageId>, NoMemory>
-    requires name { blank.name ≡ L.name }
-    requires parts { blank.parts ≡ L.parts }
-    requires whole { 0 < L.parts }
-    requires moment { IsMoment moment }
-    ensures { IfOk result (λ ids. ids ≡ matches_of snapshot.now query.now moment exclude) }
-{
-    let mut steps = Steps::<L>::begin(blank);
-    matches(alloc, snapshot, query, moment, exclude, &mut steps)
 }
 
 /// How many of what is asked the messages come to, and LF.
@@ -111,7 +89,7 @@ fn add_thread(
 }
 
 /// How many files the messages have.
-fn count_files(snapshot: &Snapshot, ids: &[MessageId]) -> Result<u64, NoMemory>
+pub(crate) fn count_files(snapshot: &Snapshot, ids: &[MessageId]) -> Result<u64, NoMemory>
     ensures { IfOk result (λ number. number ≡ length (files_of_all snapshot.now ids.now)) }
 {
     let mut number = 0;

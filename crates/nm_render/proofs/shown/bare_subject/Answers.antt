@@ -1,0 +1,17 @@
+use Rattle.std.proofs.Common.{sym, ◌∙◌}
+use Rattle.nm_answer.specs.Summary.{bare_subject}
+use Rattle.nm_render.proofs.SubjectLemmas.{no_more, one_less, shorter}
+use Rattle.nm_render.proofs.shown.bare_subject.Goals as goal
+
+pub replies-smaller : goal.replies-smaller
+replies-smaller c = search (shorter c.replies.rest.now (sym c.is_reply.ensures ∙ c.replies-test.true), c.behind_reply-rest.ensures.value)
+
+pub replies-preserved : goal.replies-preserved
+replies-preserved c =
+    let so_far = c.replies.invariant in
+    search (one_less so_far.0 c.replies.rest.now (bare_subject c.args.subject.now) so_far.1 (sym c.is_reply.ensures ∙ c.replies-test.true) so_far.2, c.behind_reply-rest.ensures.value)
+
+pub returns : goal.returns
+returns c =
+    let so_far = c.replies.invariant in
+    sym (no_more so_far.0 c.replies.rest.now (sym c.is_reply.ensures ∙ c.replies-test.false)) ∙ so_far.2

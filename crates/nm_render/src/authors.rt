@@ -1,0 +1,112 @@
+//! Who wrote the messages of a thread.
+
+ghost use Rattle.std.specs.Prelude.{◌≡◌, ◌++◌, [], ◌∷◌, map, IfOk, OnOk};
+ghost use Rattle.std.specs.List.{filter};
+ghost use Rattle.nm_answer.specs.Summary.{author_of, authors_of, authors_text, first_author, is_some_text, mailbox_author, others_of, with_others};
+
+use crate::lists::{each_once, others_of};
+use crate::order::ordered;
+use crate::shown::{push_joined, shown};
+use nm_base::{Copies, Mailbox, Many, MessageId, NoMemory, Text};
+use nm_state::Snapshot;
+use std::alloc::Global;
+
+/// The authors of messages, and of others that are left, as they are shown.
+pub(crate) fn authors_text(
+    alloc: Global,
+    snapshot: &Snapshot,
+    matched: &[MessageId],
+    others: &[MessageId],
+) -> Result<Many<u8>, NoMemory>
+    ensures { IfOk result (λ text. text ≡ authors_text snapshot.now matched.now others.now) }
+{
+    let authors = authors_of(alloc, snapshot, matched)?;
+    let left = left_authors(alloc, snapshot, authors.as_slice(), others)?;
+    let text = with_others(alloc, authors.as_slice(), left.as_slice())?;
+    let text = shown(alloc, text.as_slice())?;
+    Ok(text)
+}
+
+/// The authors of other messages who are none of these.
+fn left_authors(
+    alloc: Global,
+    snapshot: &Snapshot,
+    authors: &[Text],
+    others: &[MessageId],
+) -> Result<Many<Text>, NoMemory>
+    ensures { IfOk result (λ left. left ≡ others_of authors.now (authors_of snapshot.now others.now)) }
+{
+    let more = authors_of(alloc, snapshot, others)?;
+    let left = others_of(alloc, authors, more.as_slice())?;
+    Ok(left)
+}
+
+fn with_others(alloc: Global, authors: &[Text], others: &[Text]) -> Result<Many<u8>, NoMemory>
+    ensures { IfOk result (λ text. text ≡ with_others authors.now others.now) }
+{
+    let mut text = Many::new(alloc);
+    push_joined(&mut text, b", ", authors)?;
+    if others.is_empty() {
+        return Ok(text);
+    }
+    text.extend_from_slice(b"| ")?;
+    push_joined(&mut text, b", ", others)?;
+    Ok(text)
+}
+
+/// The authors of messages, by date, each once.
+fn authors_of(alloc: Global, snapshot: &Snapshot, ids: &[MessageId]) -> Result<Many<Text>, NoMemory>
+    ensures { IfOk result (λ authors. authors ≡ authors_of snapshot.now ids.now) }
+{
+    let ids = ordered(alloc, snapshot, true, ids)?;
+    let named = named_authors(alloc, snapshot, ids.as_slice())?;
+    each_once(alloc, named.as_slice())
+}
+
+fn named_authors(
+    alloc: Global,
+    snapshot: &Snapshot,
+    ids: &[MessageId],
+) -> Result<Many<Text>, NoMemory>
+    ensures { IfOk result (λ authors. authors ≡ filter is_some_text (map (author_of snapshot.now) ids.now)) }
+{
+    let mut authors = Many::new(alloc);
+    'ids: for id in ids {
+        let author = author_of(alloc, snapshot, id)?;
+        if !author.as_bytes().is_empty() {
+            authors.push(author)?;
+        }
+    }
+    Ok(authors)
+}
+
+/// The author of a message, by its lead file.
+fn author_of(alloc: Global, snapshot: &Snapshot, id: &MessageId) -> Result<Text, NoMemory>
+    ensures { IfOk result (λ author. author ≡ author_of snapshot.now id.now) }
+{
+    let Some(mut files) = snapshot.files(id) else {
+        return Ok(Text::new(alloc));
+    };
+    match files.next() {
+        Some((_, facts)) => first_author(alloc, facts.from.as_slice()),
+        None => Ok(Text::new(alloc)),
+    }
+}
+
+fn first_author(alloc: Global, mailboxes: &[Mailbox]) -> Result<Text, NoMemory>
+    ensures { IfOk result (λ author. author ≡ first_author mailboxes.now) }
+{
+    match mailboxes.first() {
+        Some(mailbox) => mailbox_author(mailbox),
+        None => Ok(Text::new(alloc)),
+    }
+}
+
+fn mailbox_author(mailbox: &Mailbox) -> Result<Text, NoMemory>
+    ensures { IfOk result (λ author. author ≡ mailbox_author mailbox.now) }
+{
+    if mailbox.name.as_bytes().is_empty() {
+        return mailbox.address.copy();
+    }
+    mailbox.name.copy()
+}

@@ -1,0 +1,150 @@
+//! The reply to a search for threads, messages, files or tags.
+
+ghost use Rattle.std.specs.Prelude.{◌≡◌, ◌++◌, [], ◌∷◌, codes, map, IfOk, OnOk};
+ghost use Rattle.nm_answer.specs.Search.{found_in_order, items_text, part_asked, paths_of_all, tags_of_all, texts_printed, thread_digits, threads_of};
+ghost use Rattle.nm_dates.specs.Seconds.{IsMoment};
+
+use crate::lists::{part_of, paths_of_all, tags_of_all, threads_of};
+use crate::matching::found;
+use crate::order::ordered;
+use crate::printing::texts_printed;
+use nm_base::{Copies, Many, MessageId, NoMemory, Output, SearchAsk, Tag, Text};
+use nm_query::Query;
+use nm_state::Snapshot;
+use std::alloc::Global;
+
+/// The reply to a search for threads, messages, files or tags whose query has this tree, as lines or as a JSON array.
+pub fn items_reply(
+    alloc: Global,
+    snapshot: &Snapshot,
+    ask: &SearchAsk,
+    query: &Query,
+    moment: i64,
+) -> Result<Many<u8>, NoMemory>
+    requires moment { IsMoment moment }
+    ensures { IfOk result (λ text. text ≡ items_text ask.now.output ask.now snapshot.now (found_in_order ask.now snapshot.now moment query.now)) }
+{
+    let ids = found_in_order(alloc, snapshot, ask, query, moment)?;
+    items_text(alloc, snapshot, ask, ids.as_slice())
+}
+
+/// The messages that a search finds, in its order.
+pub(crate) fn found_in_order(
+    alloc: Global,
+    snapshot: &Snapshot,
+    ask: &SearchAsk,
+    query: &Query,
+    moment: i64,
+) -> Result<Many<MessageId>, NoMemory>
+    requires moment { IsMoment moment }
+    ensures { IfOk result (λ ids. ids ≡ found_in_order ask.now snapshot.now moment query.now) }
+{
+    let ids = found(alloc, snapshot, query, moment, ask.exclude)?;
+    ordered(alloc, snapshot, ask.oldest, ids.as_slice())
+}
+
+/// What is asked of messages that stand in order: their threads, their ids, their files or their tags.
+pub fn items_text(
+    alloc: Global,
+    snapshot: &Snapshot,
+    ask: &SearchAsk,
+    ids: &[MessageId],
+) -> Result<Many<u8>, NoMemory>
+    ensures { IfOk result (λ text. text ≡ items_text ask.now.output ask.now snapshot.now ids.now) }
+{
+    match ask.output {
+        Output::Summary => Ok(Many::new(alloc)),
+        Output::Threads => threads_text(alloc, snapshot, ask, ids),
+        Output::Messages => messages_text(alloc, ask, ids),
+        Output::Files => files_text(alloc, snapshot, ask, ids),
+        Output::Tags => tags_text(alloc, snapshot, ask, ids),
+    }
+}
+
+fn threads_text(
+    alloc: Global,
+    snapshot: &Snapshot,
+    ask: &SearchAsk,
+    ids: &[MessageId],
+) -> Result<Many<u8>, NoMemory>
+    ensures { IfOk result (λ text. text ≡ texts_printed ask.now.json (codes "thread:") (map thread_digits (part_asked ask.now (threads_of snapshot.now ids.now)))) }
+{
+    let names = threads_of(alloc, snapshot, ids)?;
+    let asked = part_of(names.as_slice(), ask.offset, ask.limit);
+    let digits = digits_of(alloc, asked)?;
+    texts_printed(alloc, ask.json, b"thread:", digits.as_slice())
+}
+
+/// The names of threads in digits.
+fn digits_of(alloc: Global, names: &[u64]) -> Result<Many<Text>, NoMemory>
+    ensures { IfOk result (λ texts. texts ≡ map thread_digits names.now) }
+{
+    let mut texts = Many::new(alloc);
+    'names: for name in names {
+        texts.push(thread_digits(alloc, *name)?)?;
+    }
+    Ok(texts)
+}
+
+/// The name of a thread, in 16 hex digits.
+pub(crate) fn thread_digits(alloc: Global, name: u64) -> Result<Text, NoMemory>
+    ensures { IfOk result (λ digits. digits ≡ thread_digits name) }
+{
+    let digits = hex::encode(alloc, name.to_be_bytes())?;
+    Text::from_string(digits)
+}
+
+fn messages_text(alloc: Global, ask: &SearchAsk, ids: &[MessageId]) -> Result<Many<u8>, NoMemory>
+    ensures { IfOk result (λ text. text ≡ texts_printed ask.now.json (codes "id:") (part_asked ask.now ids.now)) }
+{
+    let asked = part_of(ids, ask.offset, ask.limit);
+    let texts = texts_of_ids(alloc, asked)?;
+    texts_printed(alloc, ask.json, b"id:", texts.as_slice())
+}
+
+fn texts_of_ids(alloc: Global, ids: &[MessageId]) -> Result<Many<Text>, NoMemory>
+    ensures { IfOk result (λ texts. texts ≡ ids.now) }
+{
+    let mut texts = Many::new(alloc);
+    'ids: for id in ids {
+        texts.push(id.text().copy()?)?;
+    }
+    Ok(texts)
+}
+
+fn files_text(
+    alloc: Global,
+    snapshot: &Snapshot,
+    ask: &SearchAsk,
+    ids: &[MessageId],
+) -> Result<Many<u8>, NoMemory>
+    ensures { IfOk result (λ text. text ≡ texts_printed ask.now.json [] (part_asked ask.now (paths_of_all snapshot.now ids.now))) }
+{
+    let paths = paths_of_all(alloc, snapshot, ids)?;
+    let asked = part_of(paths.as_slice(), ask.offset, ask.limit);
+    texts_printed(alloc, ask.json, b"", asked)
+}
+
+fn tags_text(
+    alloc: Global,
+    snapshot: &Snapshot,
+    ask: &SearchAsk,
+    ids: &[MessageId],
+) -> Result<Many<u8>, NoMemory>
+    ensures { IfOk result (λ text. text ≡ texts_printed ask.now.json [] (part_asked ask.now (tags_of_all snapshot.now ids.now))) }
+{
+    let tags = tags_of_all(alloc, snapshot, ids)?.to_list(alloc)?;
+    let texts = texts_of_tags(alloc, tags.as_slice())?;
+    let asked = part_of(texts.as_slice(), ask.offset, ask.limit);
+    texts_printed(alloc, ask.json, b"", asked)
+}
+
+pub(crate) fn texts_of_tags(alloc: Global, tags: &[Tag]) -> Result<Many<Text>, NoMemory>
+    ensures { IfOk result (λ texts. texts ≡ tags.now) }
+{
+    let mut texts = Many::new(alloc);
+    'tags: for tag in tags {
+        texts.push(tag.text().copy()?)?;
+    }
+    Ok(texts)
+}
