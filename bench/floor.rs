@@ -121,10 +121,19 @@ fn main() {
         let length = left.length();
         let mut body = Reader(left.take(length));
         for _ in 0..body.length() {
-            assert_eq!(body.byte(), 1, "only mails that come are read here");
-            let path = body.text();
-            let facts = body.facts();
-            index.add(path, facts);
+            match body.byte() {
+                1 => {
+                    let path = body.text();
+                    let facts = body.facts();
+                    index.add(path, facts);
+                }
+                4 => {
+                    let id = body.text();
+                    let tags = (0..body.length()).map(|_| body.text()).collect();
+                    index.tags.insert(id, tags);
+                }
+                kind => panic!("only mails that come and tags are read here, not a change {kind}"),
+            }
         }
     }
     println!("{} {} {}", index.files.len(), index.messages.len(), index.members.len());

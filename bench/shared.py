@@ -42,22 +42,28 @@ signal.signal(signal.SIGTERM, lambda number, _: sys.exit(128 + number))
 
 @dataclasses.dataclass
 class Store:
-    """A Maildir, and the counts of what stands in it."""
+    """A Maildir, or a tree of them, and the counts of what stands in it."""
 
     folder: str
+    folders: int = 1
     files: int = 0
     size: int = 0
     found: int = 0
     sizes: dict = dataclasses.field(default_factory=dict)
 
     def __post_init__(self):
-        for part in ("new", "cur", "tmp"):
-            os.makedirs(f"{self.folder}/{part}")
+        for at in range(self.folders):
+            for part in ("new", "cur", "tmp"):
+                os.makedirs(f"{self.folder}/{self.place(at)}{part}")
+
+    def place(self, at):
+        """The Maildir of a mail, or of a number of a Maildir: a single one is the folder itself."""
+        return f"box{at % self.folders:02}/" if self.folders > 1 else ""
 
     def add(self, content, has_word):
         """Writes one mail; every second one is read already."""
         at = self.files
-        path = f"new/{at:07}.bench" if at % 2 else f"cur/{at:07}.bench:2,S"
+        path = self.place(at) + (f"new/{at:07}.bench" if at % 2 else f"cur/{at:07}.bench:2,S")
         with open(f"{self.folder}/{path}", "wb") as file:
             file.write(content)
         self.sizes[path] = len(content)
@@ -156,9 +162,9 @@ def multipart(kind, boundary, parts):
     return head + b"".join(front + part + b"\n" for part in parts) + last
 
 
-def content_of(texts, at):
-    """Text of 2 to 20 KB; one mail in ten has HTML beside it, one in twenty an attachment."""
-    text = texts.body(texts.chance.randint(2_000, 20_000))
+def content_of(texts, at, sizes):
+    """Text of 2 to 20 KB, or of other sizes; one mail in ten has HTML beside it, one in twenty an attachment."""
+    text = texts.body(texts.chance.randint(*sizes))
     part = text_part(texts, "plain", text)
     if at % 10 == 3:
         part = multipart("alternative", f"=_alternative_{at}", [part, text_part(texts, "html", page(text))])
@@ -187,12 +193,12 @@ def header_of(texts, at, known, subject):
     return "".join(f"{it}\n" for it in lines).encode()
 
 
-def realistic(folder, count, letters=None):
+def realistic(folder, count, letters=None, folders=1, sizes=(2_000, 20_000)):
     """So many mails as people get them. The first mails of a larger store are those of a smaller one."""
-    store, texts, known = Store(folder), Texts(letters), []
+    store, texts, known = Store(folder, folders), Texts(letters), []
     for at in range(count):
         subject, has_word = texts.subject()
-        store.add(header_of(texts, at, known, subject) + content_of(texts, at), has_word)
+        store.add(header_of(texts, at, known, subject) + content_of(texts, at, sizes), has_word)
     return store
 
 
@@ -285,14 +291,17 @@ def cat(above):
     return measured(["sh", "-c", "find mail -type f -print0 | xargs -0 cat"], above)
 
 
-def session(program, store, above):
-    """One session of the program over the store, with a fresh index, and whether its replies are the right ones."""
+def session(program, store, above, again=False):
+    """One session of the program over the store, with a fresh index or `again` with that of the last, and whether its replies are the
+    right ones."""
     script, replies = f"{above}/script", f"{above}/replies"
-    shutil.rmtree(f"{above}/index", ignore_errors=True)
+    if not again:
+        shutil.rmtree(f"{above}/index", ignore_errors=True)
     with open(script, "w", encoding="ascii") as file:
         file.write(f"0 new\n0 count subject:{WORD}\n")
     run = measured([program, "session"], above, script, replies)
-    wanted = f"Files: +{store.files} -0, skipped 0. Messages: +{store.files} -0.\n", f"{store.found}\n"
+    fresh = f"Files: +{store.files} -0, skipped 0. Messages: +{store.files} -0.\n"
+    wanted = "No new mail.\n" if again else fresh, f"{store.found}\n"
     whole = "".join(f"@0 {at} {store.batches()} 0 {len(it)}\n{it}" for at, it in enumerate(wanted, 1))
     with open(replies, "rb") as file:
         return run, run.status == 0 and file.read() == whole.encode()
