@@ -204,8 +204,8 @@ def rows_of_documents_are_right():
     """The example rows of docs/TESTING.md are right, by the programs that run rows."""
     text = read(f"{ROOT}/docs/TESTING.md")
     programs = {"reading one mail": "rows_mail", "queries and dates": "rows_query", "what queries find": "rows_eval"}
-    programs |= {"sessions": "rows_session", "the index": "rows_index", "names and flags": "rows_names"}
-    programs |= {"words of commands": "rows_command"}
+    programs |= {"sessions": "rows_session", "the index": "rows_index", "names, flags, lines of tag changes and dumps": "rows_names"}
+    programs |= {"words of commands": "rows_command", "what searches are answered and how dumps are written": "rows_render"}
     for title, crate in ((f"### Rows on {it}", program) for it, program in programs.items()):
         if f"\n{title}\n" not in text:
             continue
