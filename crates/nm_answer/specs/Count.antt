@@ -1,5 +1,5 @@
 -- The plain answer to a count: how many messages a query finds, how many threads they are of, or how many files they have.
-use Rattle.std.specs.Prelude.{ℕ, ℤ, List, [], ◌∷◌, ◌++◌, length, fold, Result, Ok, Err}
+use Rattle.std.specs.Prelude.{ℕ, ℤ, List, [], ◌∷◌, ◌++◌, length, fold, Ok, Err}
 use Rattle.std.specs.BTreeSet.{insert_key}
 use Rattle.std.specs.Fmt.{decimal}
 use Rattle.std.specs.List.{filter_map, flat_map}
@@ -12,7 +12,6 @@ use Rattle.nm_index.specs.Index.{rows_of}
 use Rattle.nm_index.specs.declared.base.Base.{Base}
 use Rattle.nm_query.specs.Answers.{answer_of}
 use Rattle.nm_query.specs.declared.query.Query.{Query}
-use Rattle.nm_query.specs.declared.query_error.QueryError.{QueryError}
 use Rattle.nm_threads.specs.Name.{thread_name}
 use Rattle.nm_answer.specs.Matches.{matches_of}
 use Rattle.nm_answer.specs.View.{files_of}

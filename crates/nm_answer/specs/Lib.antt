@@ -1,5 +1,7 @@
 pub mod Answer
 pub mod Count
+pub mod Dump
+pub mod Found
 pub mod Json
 pub mod Listing
 pub mod Matches
@@ -8,7 +10,9 @@ pub mod Orders
 pub mod Places
 pub mod Runs
 pub mod Search
+pub mod Show
 pub mod Summary
+pub mod SummaryJson
 pub mod Test
 pub mod View
 pub mod Words

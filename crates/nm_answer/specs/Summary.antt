@@ -107,6 +107,7 @@ without_replies (suc n) subject = if is_reply subject then without_replies n (be
 abbrev pub bare_subject : List ℕ → List ℕ
 bare_subject subject = without_replies (length subject) subject
 
+-- that of the lead file
 abbrev pub lead_subject : List (List ℕ × Facts) → List ℕ
 lead_subject [] = []
 lead_subject (lead ∷ others) = lead.1.subject
@@ -121,6 +122,7 @@ abbrev pub first_date : Base → List (List ℕ) → ℤ
 first_date index [] = pos 0
 first_date index (id ∷ more) = message_date index id
 
+-- and its subject, as it is shown
 abbrev pub first_subject : Base → List (List ℕ) → List ℕ
 first_subject index [] = []
 first_subject index (id ∷ more) = subject_of index id
@@ -156,9 +158,11 @@ name_told summary = codes "thread:" ++ (thread_digits summary.thread ++ codes " 
 abbrev pub thread_told : ThreadSummary → List ℕ
 thread_told summary = name_told summary ++ shown_day summary.date
 
+-- how many messages match, how many there are, and how many files where there are more
 abbrev pub counts_told : ThreadSummary → List ℕ
 counts_told summary = codes " [" ++ (decimal summary.matched ++ (codes "/" ++ (decimal summary.total ++ (files_told summary ++ codes "] "))))
 
+-- who wrote, the subject, and the tags
 abbrev pub mail_told : ThreadSummary → List ℕ
 mail_told summary = summary.authors ++ (codes "; " ++ (summary.subject ++ (codes " (" ++ (joined (codes " ") summary.tags ++ codes ")\n"))))
 

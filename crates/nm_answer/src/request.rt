@@ -1,6 +1,6 @@
 //! What a command asks for; a line of a script is read as one, and the machine judges its reply.
 
-use nm_base::{Copies, CountAsk, NoMemory};
+use nm_base::{Copies, CountAsk, DumpAsk, NoMemory, SearchAsk};
 
 /// What a command asks for.
 #[derive(Clone, Debug, Drop, PartialEq, Eq)]
@@ -8,6 +8,8 @@ pub enum Request {
     /// Add the mail that the folder holds anew, and remove what it lacks.
     New,
     Count(CountAsk),
+    Search(SearchAsk),
+    Dump(DumpAsk),
 }
 
 impl Copies for Request {
@@ -17,6 +19,14 @@ impl Copies for Request {
             Request::Count(ask) => {
                 let ask = ask.copy()?;
                 Ok(Request::Count(ask))
+            }
+            Request::Search(ask) => {
+                let ask = ask.copy()?;
+                Ok(Request::Search(ask))
+            }
+            Request::Dump(ask) => {
+                let ask = ask.copy()?;
+                Ok(Request::Dump(ask))
             }
         }
     }

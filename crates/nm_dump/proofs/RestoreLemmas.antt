@@ -8,7 +8,7 @@ use Rattle.std.specs.declared.cmp.Ordering.TheVariants.{Less}
 use Rattle.nm_base.specs.Order.{IsSorted}
 use Rattle.nm_base.specs.Tags.{with_tag}
 use Rattle.nm_tags.specs.Operations.{after_op, after_ops}
-use Rattle.nm_dump.specs.Dump.{set_tag}
+use Rattle.nm_dump.specs.Tags.{set_tag}
 
 -- a text above all others comes last
 above_last : (front : List (List ℕ)) (key : List ℕ) → AllByRecursion (λ y. slice_cmp nat_cmp y key ≡ Less) front → with_tag front key ≡ front ++ key ∷ []

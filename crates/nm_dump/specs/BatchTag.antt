@@ -1,9 +1,10 @@
 -- Lines of a dump in the form of tag changes: `+tag -tag -- id:ID`, the id as it is or in double quotes.
-use Rattle.std.specs.Prelude.{ℕ, Bool, ◌==◌, ◌&&◌, List, [], ◌∷◌, drop, nat_eq, Option, Some, None, Result, Ok, Err, codes, if◌then◌else◌}
-use Rattle.std.specs.List.{list_any, starts_with}
+use Rattle.std.specs.Prelude.{ℕ, ◌==◌, ◌&&◌, List, [], ◌∷◌, drop, nat_eq, Option, Some, None, Result, Ok, Err, codes, if◌then◌else◌}
+use Rattle.std.specs.List.{starts_with}
 use Rattle.std.specs.Str.{is_utf8}
 use Rattle.nm_base.specs.MessageId.{is_message_id}
 use Rattle.nm_base.specs.declared.tag_op.TagOp.{TagOp}
+use Rattle.nm_answer.specs.Dump.{has_parenthesis}
 use Rattle.nm_tags.specs.TagLines.{asked_in}
 use Rattle.nm_tags.specs.declared.line_error.LineKind.{LineKind}
 use Rattle.nm_tags.specs.declared.line_error.LineKind.TheVariants as kinds
@@ -19,10 +20,6 @@ unquoted [] = None
 unquoted (byte ∷ []) = if byte == 34 then Some [] else None
 unquoted (byte ∷ next ∷ more) =
     if byte == 34 then (if next == 34 then with_byte 34 (unquoted more) else None) else with_byte byte (unquoted (next ∷ more))
-
--- a `)` stands in the text
-abbrev pub has_parenthesis : List ℕ → Bool
-has_parenthesis text = list_any (λ byte. byte == 41) text
 
 -- the text as it is, unless it has a `)`
 abbrev pub plain : List ℕ → Option (List ℕ)

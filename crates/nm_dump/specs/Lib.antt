@@ -1,5 +1,5 @@
 pub mod BatchTag
-pub mod Dump
 pub mod ReadBack
 pub mod Reading
 pub mod Sup
+pub mod Tags

@@ -4,7 +4,7 @@ use Rattle.std.specs.List.{AllByRecursion, list_all}
 use Rattle.std.specs.Str.{is_utf8}
 use Rattle.nm_base.specs.Bounds.{is_white_space}
 use Rattle.nm_base.specs.MessageId.{is_message_id}
-use Rattle.nm_dump.specs.Dump.{set_tag, AreTags}
+use Rattle.nm_dump.specs.Tags.{set_tag, AreTags}
 use Rattle.nm_tags.specs.TagLines.{begins_comment}
 use Rattle.nm_tags.specs.declared.wanted.Wanted.{Wanted}
 

@@ -3,7 +3,7 @@
 ghost use Rattle.std.specs.Prelude.{◌≡◌, ◌++◌, [], ◌∷◌, IfOk, OnOk, Ok};
 ghost use Rattle.nm_base.specs.Order.{sorted};
 ghost use Rattle.nm_answer.specs.View.{tags_of};
-ghost use Rattle.nm_dump.specs.Dump.{dump, dump_text, first_line, message_line, tagged};
+ghost use Rattle.nm_answer.specs.Dump.{dump, dump_text, first_line, message_line, tagged};
 ghost use Rattle.nm_dump.specs.ReadBack.{wanted_from, AreFitForSup, AreMessages, IsMessage};
 ghost use Rattle.nm_dump.specs.Reading.{read_dump};
 

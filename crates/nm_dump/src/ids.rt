@@ -1,7 +1,8 @@
 //! Ids in the lines of a dump.
 
 ghost use Rattle.std.specs.Prelude.{◌≡◌, ◌<◌, [], length, IfOk, IfSome, MatchOption, None, Some};
-ghost use Rattle.nm_dump.specs.BatchTag.{checked_id, has_parenthesis, id_of_query, id_text, plain, unquoted, with_byte};
+ghost use Rattle.nm_answer.specs.Dump.{has_parenthesis};
+ghost use Rattle.nm_dump.specs.BatchTag.{checked_id, id_of_query, id_text, plain, unquoted, with_byte};
 
 use nm_base::{Many, MessageId, NoMemory, Text};
 use nm_tags::text_of;

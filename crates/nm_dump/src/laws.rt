@@ -6,7 +6,8 @@ ghost use Rattle.nm_base.specs.MessageId.{is_message_id};
 ghost use Rattle.nm_base.specs.Order.{IsSorted};
 ghost use Rattle.nm_tags.specs.Operations.{after_ops, begun_with};
 ghost use Rattle.nm_dump.specs.BatchTag.{id_of_query, read_batch_tag};
-ghost use Rattle.nm_dump.specs.Dump.{changes_line, dump_text, set_tag, written_id, AreTags};
+ghost use Rattle.nm_answer.specs.Dump.{changes_line, dump_text, written_id};
+ghost use Rattle.nm_dump.specs.Tags.{set_tag, AreTags};
 ghost use Rattle.nm_dump.specs.ReadBack.{wanted_from, AreFitForSup, AreMessages};
 ghost use Rattle.nm_dump.specs.Reading.{read_dump};
 

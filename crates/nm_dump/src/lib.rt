@@ -5,6 +5,7 @@ mod dumping;
 mod ids;
 mod laws;
 mod reading;
+mod reply;
 mod sup;
 mod writing;
 
@@ -14,3 +15,4 @@ pub use laws::{
     a_written_sup_dump_is_read_back, written_tags_are_restored,
 };
 pub use reading::read_dump;
+pub use reply::dump_reply;

@@ -1,6 +1,6 @@
 use Rattle.std.proofs.Common.{rules, ◌≡◌, ◌∷◌, ◌++◌, ap, ◌∙◌, sym, subst}
 use Rattle.std.specs.List.{flat_map}
-use Rattle.nm_dump.specs.Dump.{AreTags, IsTagOfBytes}
+use Rattle.nm_dump.specs.Tags.{AreTags, IsTagOfBytes}
 use Rattle.nm_dump.proofs.SupLineLemmas.{joined_start}
 use Rattle.nm_dump.proofs.writing.push_plain_tags.Goals as goal
 

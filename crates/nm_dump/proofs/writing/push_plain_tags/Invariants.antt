@@ -1,6 +1,6 @@
 use Rattle.std.proofs.Common.{◌≡◌, ◌++◌, ◌∷◌, length}
 use Rattle.std.specs.List.{flat_map, join_with_byte}
-use Rattle.nm_dump.specs.Dump.{AreTags}
+use Rattle.nm_dump.specs.Tags.{AreTags}
 use Rattle.nm_dump.proofs.writing.push_plain_tags.Given as goal
 
 -- the text so far, and the tags that are left with a space before each, are all; and all are tags where those that are left are

@@ -1,6 +1,7 @@
 use Rattle.std.proofs.Common.{◌≡◌, ◌++◌, length}
 use Rattle.std.specs.List.{flat_map}
-use Rattle.nm_dump.specs.Dump.{written_tag, AreTags}
+use Rattle.nm_answer.specs.Dump.{written_tag}
+use Rattle.nm_dump.specs.Tags.{AreTags}
 use Rattle.nm_dump.proofs.writing.push_tags.Given as goal
 
 -- the text so far, and the tags that are left, are all; and all are tags where those that are left are

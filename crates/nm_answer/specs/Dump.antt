@@ -1,19 +1,22 @@
--- The text of a dump: a line for each message, in byte order of the ids.
+-- The plain answer to a dump: a line for each message that its query finds, in byte order of the ids.
 --   form of tag changes:  "#notmuch-dump batch-tag:3 tags" LF, then for each message ("+" tag " ")* "-- id:" id LF
 --   form of sup:          for each message id " (" tag (" " tag)* ")" LF, the tags as they are
-use Rattle.std.specs.Prelude.{◌≡◌, ℕ, Bool, true, ◌==◌, ◌||◌, List, [], ◌∷◌, ◌++◌, map, nat_eq, codes, if◌then◌else◌}
-use Rattle.std.specs.List.{AllByRecursion, flat_map, join_with_byte, starts_with}
-use Rattle.std.specs.Str.{is_utf8}
-use Rattle.hex.specs.Hex.{IsBytes}
+use Rattle.std.specs.Prelude.{ℕ, ℤ, Bool, false, ◌==◌, ◌||◌, List, [], ◌∷◌, ◌++◌, map, nat_eq, codes, Ok, Err, if◌then◌else◌}
+use Rattle.std.specs.List.{flat_map, join_with_byte, list_any, starts_with}
 use Rattle.nm_base.specs.Order.{sorted}
-use Rattle.nm_base.specs.Tag.{is_tag}
+use Rattle.nm_base.specs.declared.asks.DumpAsk.{DumpAsk}
 use Rattle.nm_base.specs.declared.forms.DumpForm.{DumpForm}
 use Rattle.nm_base.specs.declared.forms.DumpForm.TheVariants.{BatchTag, Sup}
-use Rattle.nm_base.specs.declared.tag_op.TagOp.{TagOp}
 use Rattle.nm_index.specs.declared.base.Base.{Base}
-use Rattle.nm_answer.specs.View.{tags_of}
+use Rattle.nm_query.specs.Answers.{answer_of}
+use Rattle.nm_query.specs.declared.query.Query.{Query}
 use Rattle.nm_tags.specs.Encoding.{encoded_tag}
-use Rattle.nm_dump.specs.BatchTag.{has_parenthesis}
+use Rattle.nm_answer.specs.Matches.{matches_of}
+use Rattle.nm_answer.specs.View.{tags_of}
+
+-- a `)` stands in the text
+abbrev pub has_parenthesis : List ℕ → Bool
+has_parenthesis text = list_any (λ byte. byte == 41) text
 
 -- a byte of a text in quotes: a double quote is doubled
 abbrev pub doubled : ℕ → List ℕ
@@ -39,21 +42,11 @@ written_tag tag = 43 ∷ encoded_tag tag ++ 32 ∷ []
 abbrev pub changes_line : List ℕ → List (List ℕ) → List ℕ
 changes_line id tags = flat_map written_tag tags ++ codes "-- id:" ++ written_id id
 
--- the operation that a written tag is
-abbrev pub set_tag : List ℕ → TagOp
-set_tag tag = record { add = true; tag = tag }
-
--- a text of bytes in UTF-8, and a tag: so is every tag of a program
-abbrev pub IsTagOfBytes : List ℕ → Type 0
-IsTagOfBytes tag = IsBytes tag × (is_utf8 tag ≡ true) × (is_tag tag ≡ true)
-
-abbrev pub AreTags : List (List ℕ) → Type 0
-AreTags tags = AllByRecursion IsTagOfBytes tags
-
 -- the line of a message in the form of sup
 abbrev pub sup_line : List ℕ → List (List ℕ) → List ℕ
 sup_line id tags = id ++ codes " (" ++ join_with_byte 32 tags ++ codes ")"
 
+-- the line of a message, in the form that is asked
 abbrev pub message_line : DumpForm → List ℕ → List (List ℕ) → List ℕ
 message_line BatchTag id tags = changes_line id tags
 message_line Sup id tags = sup_line id tags
@@ -74,3 +67,11 @@ tagged index ids = map (λ id. (id, tags_of index id)) ids
 -- the dump of messages of an index, in byte order of their ids and each once
 abbrev pub dump : DumpForm → Base → List (List ℕ) → List ℕ
 dump form index ids = dump_text form (tagged index (sorted ids))
+
+-- The dump of the messages that a query finds. No tag keeps a message out of a dump.
+abbrev pub dump_found : DumpAsk → Base → ℤ → Query → List ℕ
+dump_found ask index moment query = dump ask.form index (matches_of index query moment false)
+
+-- what a dump is answered; a text that is no query has no answer
+abbrev pub dump_answer : DumpAsk → Base → ℤ → List ℕ
+dump_answer ask index moment = elim (answer_of ask.query) [ Ok query ↦ dump_found ask index moment query | Err refusal ↦ [] ]
