@@ -3,7 +3,7 @@ use Rattle.std.proofs.Common.{◌≡◌, ◌⊎◌, inl, inr, ℕ, Bool, true, f
 use Rattle.std.specs.Prelude.{Some, None, Result, Ok, Err}
 use Rattle.nm_base.specs.declared.refusals.UsageKind.{UsageKind}
 use Rattle.nm_base.specs.declared.refusals.UsageKind.TheVariants as kinds
-use Rattle.nm_command.specs.Grammar.{HasOptions, IsRefused, IsRequest, a_batch_count, a_clash, a_count, a_fault, a_new, a_search, a_session, a_show, a_word_too_many, needs_query, no_command, no_query, takes_words, unknown_command}
+use Rattle.nm_command.specs.Grammar.{HasOptions, IsRefused, IsRequest, a_batch_count, a_clash, a_count, a_dump, a_fault, a_new, a_search, a_session, a_show, a_word_too_many, needs_query, no_command, no_query, takes_words, unknown_command}
 use Rattle.nm_command.specs.Options.{read_options}
 use Rattle.nm_command.specs.Requests.{after_options, count_ask, request_named, request_of, request_with, without_words}
 use Rattle.nm_command.specs.Settings.{nothing_set}
@@ -14,7 +14,7 @@ use Rattle.nm_command.specs.declared.request.Request.{Request}
 use Rattle.nm_command.specs.declared.request.Request.TheVariants as requests
 use Rattle.nm_command.specs.declared.settings.Settings.{Settings}
 use Rattle.nm_command.specs.declared.table.CommandName.{CommandName}
-use Rattle.nm_command.specs.declared.table.CommandName.TheVariants.{Count, New, Search, Session, Show}
+use Rattle.nm_command.specs.declared.table.CommandName.TheVariants.{Count, Dump, New, Search, Session, Show}
 use Rattle.nm_command.proofs.ReadingLemmas.{IsRead, fault-read, has-read, read-is}
 
 -- what is answered, by the grammar
@@ -45,6 +45,7 @@ with-is Search name words settings (word ∷ more) found has = a_search name wor
 with-is Count name words settings rest found has = count-is name words settings rest found has
 with-is Show name words settings [] found has = no_query Show name words settings found refl has
 with-is Show name words settings (word ∷ more) found has = a_show name word words more settings found has
+with-is Dump name words settings rest found has = a_dump name words rest settings found has
 with-is Session name words settings [] found has = a_session name words settings found has
 with-is Session name words settings (word ∷ more) found has = a_word_too_many Session name word words more settings found refl has
 
@@ -83,6 +84,7 @@ request-read words request (a_search name word more query settings found has) = 
 request-read words request (a_count name more query settings found has single) = options-give Count name more query settings found has ∙ ap (counted settings query) single
 request-read words request (a_batch_count name more settings found has batch) = options-give Count name more [] settings found has ∙ ap (counted settings []) batch
 request-read words request (a_show name word more query settings found has) = options-give Show name more (word ∷ query) settings found has
+request-read words request (a_dump name more query settings found has) = options-give Dump name more query settings found has
 request-read words request (a_session name more settings found has) = options-give Session name more [] settings found has
 
 wanting : (command : CommandName) (settings : Settings) → needs_query command ≡ true → request_with command settings [] ≡ Err (Usage [] kinds.Missing)
@@ -90,6 +92,7 @@ wanting New settings h = absurd (cc)
 wanting Search settings h = refl
 wanting Count settings h = absurd (cc)
 wanting Show settings h = refl
+wanting Dump settings h = absurd (cc)
 wanting Session settings h = absurd (cc)
 
 too_many : (command : CommandName) (settings : Settings) (word : List ℕ) (more : List (List ℕ)) → takes_words command ≡ false →
@@ -98,6 +101,7 @@ too_many New settings word more h = refl
 too_many Search settings word more h = absurd (cc)
 too_many Count settings word more h = absurd (cc)
 too_many Show settings word more h = absurd (cc)
+too_many Dump settings word more h = absurd (cc)
 too_many Session settings word more h = refl
 
 pub refused-read : (words : List (List ℕ)) (word : List ℕ) (kind : UsageKind) → IsRefused words word kind → request_of words ≡ Err (Usage word kind)

@@ -1,5 +1,6 @@
 mod AnswerLemmas
 mod DefaultLemmas
+mod LeadingLemmas
 mod NameLemmas
 mod NumberLemmas
 mod OptionLemmas

@@ -9,14 +9,14 @@ use Rattle.nm_text.specs.Cuts.{is_byte}
 use Rattle.nm_command.specs.Options.{begins_with_dashes}
 use Rattle.nm_command.specs.Table.{meaning_of, options_of}
 use Rattle.nm_command.specs.declared.table.CommandName.{CommandName}
-use Rattle.nm_command.specs.declared.table.CommandName.TheVariants.{Count, New, Search, Session, Show}
+use Rattle.nm_command.specs.declared.table.CommandName.TheVariants.{Count, Dump, New, Search, Session, Show}
 use Rattle.nm_command.specs.declared.table.Form.{Form}
 use Rattle.nm_command.proofs.RowLemmas.{AllRows, and-left, and-right, row-holds}
 
 abbrev lacks_equals : List ℕ → Bool
 lacks_equals name = list_all (λ b. not (is_byte 61 b)) name
 
-abbrev is_name : List ℕ → Bool
+abbrev pub is_name : List ℕ → Bool
 is_name name = begins_with_dashes name && not (same_text name (codes "--")) && lacks_equals name
 
 all_names : (command : CommandName) → AllRows (λ name form. is_name name ≡ true) (options_of command)
@@ -24,6 +24,7 @@ all_names New = tt
 all_names Search = (refl, (refl, (refl, (refl, (refl, (refl, tt))))))
 all_names Count = (refl, (refl, (refl, tt)))
 all_names Show = (refl, (refl, tt))
+all_names Dump = (refl, tt)
 all_names Session = tt
 
 pub name-found : (command : CommandName) (name : List ℕ) (form : Form) → meaning_of name (options_of command) ≡ Some form → is_name name ≡ true

@@ -1,34 +1,82 @@
 -- What std reads of digits is the number that they say.
-use Rattle.std.proofs.Common.{◌≡◌, ℕ, ◌<◌, ◌^◌, true, false, cond, ◌&&◌, List, length, sym, ap, ◌∙◌, arith, rules}
-use Rattle.std.specs.Prelude.{Some, None, Result, Ok, Err, nat_le}
+use Rattle.std.proofs.Common.{◌≡◌, ℕ, ◌<◌, ◌≤◌, ◌^◌, true, false, cond, ◌&&◌, List, length, sym, ap, ◌∙◌, arith, rules}
+use Rattle.std.specs.Prelude.{Some, None, Result, Ok, Err, nat_le, pos}
 use Rattle.std.specs.Char.{is_ascii_digit}
+use Rattle.std.specs.Fmt.{decimal}
 use Rattle.std.specs.List.{list_all}
+use Rattle.std.specs.Option.{option_and_then}
 use Rattle.std.specs.Str.Parse.{ParsesUnsigned, digits_value}
 use Rattle.std.proofs.lemmas.Bool.Decides.{nat_tests}
+use Rattle.std.proofs.lemmas.Fmt.{decimal_nonempty, digits_decimal, digits_value-decimal, length-decimal-le}
 use Rattle.std.proofs.lemmas.Str.Parse.{IsNumeralModel, numerals_by_value, parse_digits}
-use Rattle.nm_command.specs.Numbers.{are_digits, number_in}
+use Rattle.nm_command.specs.Numbers.{are_digits, moment_in, number_in, workers_in}
 
 pub own : IsNumeralModel (λ ds. list_all is_ascii_digit ds ≡ true) (digits_value 10)
 own = numerals_by_value _ (search rules)
 
-some_digit : (text : List ℕ) → are_digits text ≡ true → 0 < length text
-some_digit text h = grind (arith, nat_tests)
+some_digit : (max : ℕ) (text : List ℕ) → are_digits max text ≡ true → 0 < length text
+some_digit max text h = grind (arith, nat_tests)
 
-all_digits : (text : List ℕ) → are_digits text ≡ true → list_all is_ascii_digit text ≡ true
-all_digits text h = grind (arith, nat_tests)
+all_digits : (max : ℕ) (text : List ℕ) → are_digits max text ≡ true → list_all is_ascii_digit text ≡ true
+all_digits max text h = grind (arith, nat_tests)
 
-fits : (n : ℕ) → n < 2 ^ 32 → nat_le n 4294967295 ≡ true
-fits n h = grind (arith, nat_tests)
+-- digits that are not read say a number that has no place
+beyond : {E : Type 0} (width max : ℕ) (text : List ℕ) (error : E) (r : Result ℕ E) → r ≡ Err error → ParsesUnsigned width 10 text r → are_digits max text ≡ true →
+    digits_value 10 text < 2 ^ width → ⊥
+beyond width max text error (Ok first) is h digits = absurd (cc)
+beyond width max text error (Err other) is h digits = λ small.
+    parse_digits own width text (Err other) h (all_digits max text digits) (some_digit max text digits, small)
 
-fits_not : (n : ℕ) → (n < 2 ^ 32 → ⊥) → nat_le n 4294967295 ≡ false
-fits_not n h = grind (arith, nat_tests)
+number_beyond : (n : ℕ) → (n < 2 ^ 32 → ⊥) → nat_le n 4294967295 ≡ false
+number_beyond n h = grind (arith, nat_tests)
 
-of_digits : (text : List ℕ) → are_digits text ≡ true → number_in text ≡ cond (nat_le (digits_value 10 text) 4294967295) (Some (digits_value 10 text)) None
-of_digits text h = ap (λ v. cond (v && nat_le (digits_value 10 text) 4294967295) (Some (digits_value 10 text)) None) h
+moment_beyond : (n : ℕ) → (n < 2 ^ 64 → ⊥) → nat_le n 253000000000 ≡ false
+moment_beyond n h = grind (arith, nat_tests)
 
-pub number-refused : {E : Type 0} (text : List ℕ) (error : E) (r : Result ℕ E) → r ≡ Err error → ParsesUnsigned 32 10 text r → are_digits text ≡ true → None ≡ number_in text
-number-refused text error (Ok first) is h digits = absurd (cc)
-number-refused text error (Err other) is h digits =
-    let not_read = parse_digits own 32 text (Err other) h (all_digits text digits) in
-    ap (λ v. cond v (Some (digits_value 10 text)) None) (sym (fits_not (digits_value 10 text) (λ small. not_read (some_digit text digits, small))))
-    ∙ sym (of_digits text digits)
+pub number-refused : {E : Type 0} (text : List ℕ) (error : E) (r : Result ℕ E) → r ≡ Err error → ParsesUnsigned 32 10 text r → are_digits 10 text ≡ true → None ≡ number_in text
+number-refused text error r is h digits =
+    ap (λ v. cond v (Some (digits_value 10 text)) None) (sym (number_beyond (digits_value 10 text) (beyond 32 10 text error r is h digits)))
+    ∙ ap (λ v. cond (v && nat_le (digits_value 10 text) 4294967295) (Some (digits_value 10 text)) None) (sym digits)
+
+pub moment-refused : {E : Type 0} (text : List ℕ) (error : E) (r : Result ℕ E) → r ≡ Err error → ParsesUnsigned 64 10 text r → are_digits 12 text ≡ true → None ≡ moment_in text
+moment-refused text error r is h digits =
+    ap (λ v. cond v (Some (pos (digits_value 10 text))) None) (sym (moment_beyond (digits_value 10 text) (beyond 64 12 text error r is h digits)))
+    ∙ ap (λ v. cond (v && nat_le (digits_value 10 text) 253000000000) (Some (pos (digits_value 10 text))) None) (sym digits)
+
+-- a number in decimal digits is read back
+are-digits : (max : ℕ) (text : List ℕ) → 0 < length text → length text ≤ max → list_all is_ascii_digit text ≡ true → are_digits max text ≡ true
+are-digits max text some few digits = grind (arith, nat_tests)
+
+digits-back : (max n : ℕ) → 1 ≤ max → n < 10 ^ max → n < 2 ^ 64 → are_digits max (decimal n) ≡ true
+digits-back max n one short few = are-digits max (decimal n) (decimal_nonempty n few) (length-decimal-le max n one short few) (digits_decimal own n few)
+
+number_small : (n : ℕ) → nat_le n 4294967295 ≡ true → n < 10 ^ 10
+number_small n h = grind (arith, nat_tests)
+
+moment_small : (n : ℕ) → nat_le n 253000000000 ≡ true → n < 10 ^ 12
+moment_small n h = grind (arith, nat_tests)
+
+pub number-back : (n : ℕ) → nat_le n 4294967295 ≡ true → number_in (decimal n) ≡ Some n
+number-back n h =
+    let below = number_small n h in
+    let few : n < 2 ^ 64 = omega (arith, below) in
+    ap (λ v. cond (v && nat_le (digits_value 10 (decimal n)) 4294967295) (Some (digits_value 10 (decimal n))) None) (digits-back 10 n (omega arith) below few)
+    ∙ ap (λ m. cond (nat_le m 4294967295) (Some m) None) (digits_value-decimal own n few)
+    ∙ ap (λ v. cond v (Some n) None) h
+
+pub moment-back : (n : ℕ) → nat_le n 253000000000 ≡ true → moment_in (decimal n) ≡ Some (pos n)
+moment-back n h =
+    let below = moment_small n h in
+    let few : n < 2 ^ 64 = omega (arith, below) in
+    ap (λ v. cond (v && nat_le (digits_value 10 (decimal n)) 253000000000) (Some (pos (digits_value 10 (decimal n)))) None) (digits-back 12 n (omega arith) below few)
+    ∙ ap (λ m. cond (nat_le m 253000000000) (Some (pos m)) None) (digits_value-decimal own n few)
+    ∙ ap (λ v. cond v (Some (pos n)) None) h
+
+in_workers : (n : ℕ) → nat_le n 16 ≡ true → nat_le n 4294967295 ≡ true
+in_workers n h = grind (arith, nat_tests)
+
+pub workers-back : (n : ℕ) → nat_le 1 n ≡ true → nat_le n 16 ≡ true → workers_in (decimal n) ≡ Some n
+workers-back n some few =
+    ap (option_and_then (λ number. cond (nat_le 1 number && nat_le number 16) (Some number) None)) (number-back n (in_workers n few))
+    ∙ ap (λ v. cond (v && nat_le n 16) (Some n) None) some
+    ∙ ap (λ v. cond v (Some n) None) few

@@ -4,7 +4,7 @@ use Rattle.std.specs.Prelude.{Option, Some, None, nat_le}
 use Rattle.std.specs.Str.Parse.{digits_value}
 use Rattle.nm_base.specs.declared.forms.Output.{Output}
 use Rattle.nm_base.specs.declared.forms.Output.TheVariants as output
-use Rattle.nm_command.specs.Grammar.{HasOptions, IsOption, IsRequest, a_batch_count, a_count, a_flag, a_new, a_number, a_search, a_session, a_show, an_option, dashes, no_option, no_words, one_of}
+use Rattle.nm_command.specs.Grammar.{HasOptions, IsOption, IsRequest, a_batch_count, a_count, a_dump, a_flag, a_new, a_number, a_search, a_session, a_show, an_option, dashes, no_option, no_words, one_of}
 use Rattle.nm_command.specs.Numbers.{are_digits, is_number, number_in}
 use Rattle.nm_command.specs.Settings.{nothing_set, or_default, with_setting}
 use Rattle.nm_command.specs.Requests.{query_of}
@@ -15,7 +15,7 @@ use Rattle.nm_command.specs.declared.settings.Setting.{Setting}
 use Rattle.nm_command.specs.declared.settings.Setting.TheVariants as sets
 use Rattle.nm_command.specs.declared.settings.Settings.{Settings}
 use Rattle.nm_command.specs.declared.table.CommandName.{CommandName}
-use Rattle.nm_command.specs.declared.table.CommandName.TheVariants.{Count, New, Search, Session, Show}
+use Rattle.nm_command.specs.declared.table.CommandName.TheVariants.{Count, Dump, New, Search, Session, Show}
 use Rattle.nm_command.specs.declared.table.Form.{Form}
 use Rattle.nm_command.specs.declared.table.Form.TheVariants.{Flag, Number, OneOf}
 use Rattle.nm_command.specs.declared.table.Numbered.{Numbered}
@@ -28,11 +28,13 @@ takes New output = true
 takes Search output = true
 takes Count output = is_counted output
 takes Show output = true
+takes Dump output = true
 takes Session output = true
 
 abbrev setting_fits : CommandName → Setting → Bool
 setting_fits command (sets.Json json) = true
 setting_fits command (sets.Raw raw) = true
+setting_fits command (sets.DumpForm form) = true
 setting_fits command (sets.Output output) = takes command output
 setting_fits command (sets.Oldest oldest) = true
 setting_fits command (sets.Offset offset) = fits offset
@@ -53,12 +55,13 @@ all_fit New = tt
 all_fit Search = ((refl, (refl, tt)), ((refl, (refl, (refl, (refl, (refl, tt))))), ((refl, (refl, tt)), (tt, (tt, ((refl, (refl, tt)), tt))))))
 all_fit Count = ((refl, (refl, (refl, tt))), ((refl, (refl, tt)), (refl, tt)))
 all_fit Show = ((refl, (refl, tt)), ((refl, (refl, tt)), tt))
+all_fit Dump = ((refl, (refl, tt)), tt)
 all_fit Session = tt
 
 number-fits : (digits : List ℕ) (number : ℕ) → number_in digits ≡ Some number → fits number ≡ true
 number-fits digits number h =
     elim (is_number digits) as (λ v. is_number digits ≡ v → cond v (Some (digits_value 10 digits)) None ≡ Some number → fits number ≡ true) [
-      | true ↦ λ is h. subst (λ n. fits n ≡ true) (same (digits_value 10 digits) number h) (and-right (are_digits digits) (nat_le (digits_value 10 digits) 4294967295) is)
+      | true ↦ λ is h. subst (λ n. fits n ≡ true) (same (digits_value 10 digits) number h) (and-right (are_digits 10 digits) (nat_le (digits_value 10 digits) 4294967295) is)
       | false ↦ λ is h. absurd (cc)
     ] refl h
   where
@@ -91,6 +94,7 @@ one-more-fits : (command : CommandName) (settings : Settings) (setting : Setting
     settings_fit command (with_setting settings setting) ≡ true
 one-more-fits command settings (sets.Json json) h k = h
 one-more-fits command settings (sets.Raw raw) h k = h
+one-more-fits command settings (sets.DumpForm form) h k = h
 one-more-fits command settings (sets.Output output) h k = both (takes command output) (offset_fits settings.offset && limit_fits settings.limit) k (and-right (output_fits command settings.output) (offset_fits settings.offset && limit_fits settings.limit) h)
 one-more-fits command settings (sets.Oldest oldest) h k = h
 one-more-fits command settings (sets.Offset offset) h k =
@@ -141,4 +145,5 @@ request-fits words request (a_count name more query settings found has single) =
 request-fits words request (a_batch_count name more settings found has batch) =
     counted-fits settings [] (options-fit Count nothing_set settings more [] has (nothing-fits Count)) (ap (λ batch. lacks_query batch []) batch)
 request-fits words request (a_show name word more query settings found has) = refl
+request-fits words request (a_dump name more query settings found has) = refl
 request-fits words request (a_session name more settings found has) = refl

@@ -12,7 +12,7 @@ use Rattle.nm_command.specs.declared.settings.Setting.{Setting}
 use Rattle.nm_command.specs.declared.settings.Setting.TheVariants as sets
 use Rattle.nm_command.specs.declared.settings.Settings.{Settings}
 use Rattle.nm_command.specs.declared.table.CommandName.{CommandName}
-use Rattle.nm_command.specs.declared.table.CommandName.TheVariants.{Count, New, Search, Session, Show}
+use Rattle.nm_command.specs.declared.table.CommandName.TheVariants.{Count, Dump, New, Search, Session, Show}
 use Rattle.nm_command.specs.declared.table.Form.{Form}
 use Rattle.nm_command.specs.declared.table.Form.TheVariants.{Flag, Number, OneOf}
 use Rattle.nm_command.specs.declared.table.Numbered.{Numbered}
@@ -33,10 +33,12 @@ field (sets.Offset offset) = 4
 field (sets.Limit limit) = 5
 field (sets.Exclude exclude) = 6
 field sets.Batch = 7
+field (sets.DumpForm form) = 8
 
 abbrev values_field : Values → ℕ
 values_field values.SearchFormat = 0
 values_field values.ShowFormat = 1
+values_field values.DumpFormat = 8
 values_field values.SearchOutput = 2
 values_field values.CountOutput = 2
 values_field values.Sort = 3
@@ -54,6 +56,7 @@ form_field (Number which) = number_field which
 all_fields : (which : Values) → AllRows (λ word setting. field setting ≡ values_field which) (values_of which)
 all_fields values.SearchFormat = (refl, (refl, tt))
 all_fields values.ShowFormat = (refl, (refl, tt))
+all_fields values.DumpFormat = (refl, (refl, tt))
 all_fields values.SearchOutput = (refl, (refl, (refl, (refl, (refl, tt)))))
 all_fields values.CountOutput = (refl, (refl, (refl, tt)))
 all_fields values.Sort = (refl, (refl, tt))
@@ -95,6 +98,7 @@ option-form command word setting (a_number _ name digits which number found told
 given-same : (settings : Settings) (first second : Setting) → field first ≡ field second → is_given (with_setting settings first) second ≡ true
 given-same settings (sets.Json a) (sets.Json b) h = refl
 given-same settings (sets.Raw a) (sets.Raw b) h = refl
+given-same settings (sets.DumpForm a) (sets.DumpForm b) h = refl
 given-same settings (sets.Output a) (sets.Output b) h = refl
 given-same settings (sets.Oldest a) (sets.Oldest b) h = refl
 given-same settings (sets.Offset a) (sets.Offset b) h = refl
@@ -120,6 +124,7 @@ repeated-given command settings word other first second one two same =
 abbrev setting_name : Setting → List ℕ
 setting_name (sets.Json json) = codes "--format"
 setting_name (sets.Raw raw) = codes "--format"
+setting_name (sets.DumpForm form) = codes "--format"
 setting_name (sets.Output output) = codes "--output"
 setting_name (sets.Oldest oldest) = codes "--sort"
 setting_name (sets.Offset offset) = codes "--offset"
@@ -137,6 +142,7 @@ all_named New = tt
 all_named Search = ((refl, (refl, tt)), ((refl, (refl, (refl, (refl, (refl, tt))))), ((refl, (refl, tt)), ((λ number. refl), ((λ number. refl), ((refl, (refl, tt)), tt))))))
 all_named Count = ((refl, (refl, (refl, tt))), ((refl, (refl, tt)), (refl, tt)))
 all_named Show = ((refl, (refl, tt)), ((refl, (refl, tt)), tt))
+all_named Dump = ((refl, (refl, tt)), tt)
 all_named Session = tt
 
 option-name : (command : CommandName) (word : List ℕ) (setting : Setting) → IsOption command word setting → name_of word ≡ setting_name setting
@@ -151,6 +157,7 @@ option-name command word setting (a_number _ name digits which number found told
 given-other : (settings : Settings) (first second : Setting) → setting_name first ≢ setting_name second → is_given (with_setting settings first) second ≡ is_given settings second
 given-other settings (sets.Json a) (sets.Json b) h = absurd (h refl)
 given-other settings (sets.Raw a) (sets.Raw b) h = absurd (h refl)
+given-other settings (sets.DumpForm a) (sets.DumpForm b) h = absurd (h refl)
 given-other settings (sets.Output a) (sets.Output b) h = absurd (h refl)
 given-other settings (sets.Oldest a) (sets.Oldest b) h = absurd (h refl)
 given-other settings (sets.Offset a) (sets.Offset b) h = absurd (h refl)
@@ -167,6 +174,7 @@ another-given command settings word other first second one two differ =
 pub nothing-given : (setting : Setting) → is_given nothing_set setting ≡ false
 nothing-given (sets.Json json) = refl
 nothing-given (sets.Raw raw) = refl
+nothing-given (sets.DumpForm form) = refl
 nothing-given (sets.Output output) = refl
 nothing-given (sets.Oldest oldest) = refl
 nothing-given (sets.Offset offset) = refl
@@ -178,6 +186,7 @@ either-order : (settings : Settings) (first second : Setting) → setting_name f
     with_setting (with_setting settings first) second ≡ with_setting (with_setting settings second) first
 either-order settings (sets.Json a) (sets.Json b) h = absurd (h refl)
 either-order settings (sets.Raw a) (sets.Raw b) h = absurd (h refl)
+either-order settings (sets.DumpForm a) (sets.DumpForm b) h = absurd (h refl)
 either-order settings (sets.Output a) (sets.Output b) h = absurd (h refl)
 either-order settings (sets.Oldest a) (sets.Oldest b) h = absurd (h refl)
 either-order settings (sets.Offset a) (sets.Offset b) h = absurd (h refl)

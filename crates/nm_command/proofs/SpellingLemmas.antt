@@ -1,49 +1,30 @@
 -- A request whose every option is written out is read back.
-use Rattle.std.proofs.Common.{◌≡◌, ℕ, ◌<◌, ◌≤◌, ◌^◌, Bool, true, false, cond, ◌&&◌, List, [], ◌∷◌, length, refl, ap, ◌∙◌, arith}
-use Rattle.std.specs.Prelude.{Option, Some, None, codes, nat_le}
-use Rattle.std.specs.Char.{is_ascii_digit}
+use Rattle.std.proofs.Common.{◌≡◌, ℕ, Bool, true, false, cond, List, [], ◌∷◌, refl}
+use Rattle.std.specs.Prelude.{Option, Some, None, codes}
 use Rattle.std.specs.Fmt.{decimal}
-use Rattle.std.specs.List.{list_all}
-use Rattle.std.specs.Str.Parse.{digits_value}
-use Rattle.std.proofs.lemmas.Bool.Decides.{nat_tests}
-use Rattle.std.proofs.lemmas.Fmt.{decimal_nonempty, digits_decimal, digits_value-decimal, length-decimal-le}
 use Rattle.nm_base.specs.declared.asks.CountAsk.{CountAsk}
+use Rattle.nm_base.specs.declared.asks.DumpAsk.{DumpAsk}
 use Rattle.nm_base.specs.declared.asks.SearchAsk.{SearchAsk}
 use Rattle.nm_base.specs.declared.asks.ShowAsk.{ShowAsk}
+use Rattle.nm_base.specs.declared.forms.DumpForm.{DumpForm}
+use Rattle.nm_base.specs.declared.forms.DumpForm.TheVariants as forms
 use Rattle.nm_base.specs.declared.forms.Output.{Output}
 use Rattle.nm_base.specs.declared.forms.Output.TheVariants as output
-use Rattle.nm_command.specs.Grammar.{HasOptions, IsOption, IsRequest, a_batch_count, a_count, a_flag, a_new, a_number, a_search, a_session, a_show, an_option, dashes, no_words, one_of}
-use Rattle.nm_command.specs.Numbers.{are_digits, number_in}
+use Rattle.nm_command.specs.Grammar.{HasOptions, IsOption, IsRequest, a_batch_count, a_count, a_dump, a_flag, a_new, a_number, a_search, a_session, a_show, an_option, dashes, no_words, one_of}
 use Rattle.nm_command.specs.Settings.{nothing_set}
-use Rattle.nm_command.specs.Spelling.{before_limit, can_be_asked, exclude_option, fits, is_counted, lacks_query, limit_fits, option, output_word, query_words, spelled}
+use Rattle.nm_command.specs.Spelling.{before_limit, can_be_asked, dump_form_word, exclude_option, fits, is_counted, lacks_query, limit_fits, option, output_word, query_words, spelled}
 use Rattle.nm_command.specs.Table.{meaning_of, options_of}
 use Rattle.nm_command.specs.declared.request.Request.{Request}
 use Rattle.nm_command.specs.declared.request.Request.TheVariants as requests
 use Rattle.nm_command.specs.declared.settings.Setting.TheVariants as sets
 use Rattle.nm_command.specs.declared.settings.Settings.{Settings}
 use Rattle.nm_command.specs.declared.table.CommandName.{CommandName}
-use Rattle.nm_command.specs.declared.table.CommandName.TheVariants.{Count, New, Search, Session, Show}
+use Rattle.nm_command.specs.declared.table.CommandName.TheVariants.{Count, Dump, New, Search, Session, Show}
 use Rattle.nm_command.specs.declared.table.Form.TheVariants.{OneOf}
 use Rattle.nm_command.specs.declared.table.Numbered.TheVariants as numbers
 use Rattle.nm_command.specs.declared.table.Values.TheVariants as values
-use Rattle.nm_command.proofs.NumberLemmas.{own}
+use Rattle.nm_command.proofs.NumberLemmas.{number-back}
 use Rattle.nm_command.proofs.RowLemmas.{and-left, and-right}
-
--- a number in decimal digits is read back
-are-digits : (text : List ℕ) → 0 < length text → length text ≤ 10 → list_all is_ascii_digit text ≡ true → are_digits text ≡ true
-are-digits text some few digits = grind (arith, nat_tests)
-
-small : (n : ℕ) → fits n ≡ true → n < 10 ^ 10
-small n h = grind (arith, nat_tests)
-
-number-back : (n : ℕ) → fits n ≡ true → number_in (decimal n) ≡ Some n
-number-back n h =
-    let few : n < 2 ^ 64 = (let below = small n h in omega (arith, below)) in
-    let digits = are-digits (decimal n) (decimal_nonempty n few) (length-decimal-le 10 n (omega arith) (small n h) few) (digits_decimal own n few) in
-    let value = digits_value-decimal own n few in
-    ap (λ v. cond (v && nat_le (digits_value 10 (decimal n)) 4294967295) (Some (digits_value 10 (decimal n))) None) digits
-    ∙ ap (λ m. cond (nat_le m 4294967295) (Some m) None) value
-    ∙ ap (λ v. cond v (Some n) None) h
 
 format-option : (json : Bool) → IsOption Search (option (codes "--format") (cond json (codes "json") (codes "text"))) (sets.Json json)
 format-option true = one_of Search (codes "--format") (codes "json") values.SearchFormat (sets.Json true) refl refl
@@ -52,6 +33,10 @@ format-option false = one_of Search (codes "--format") (codes "text") values.Sea
 raw-option : (raw : Bool) → IsOption Show (option (codes "--format") (cond raw (codes "raw") (codes "text"))) (sets.Raw raw)
 raw-option true = one_of Show (codes "--format") (codes "raw") values.ShowFormat (sets.Raw true) refl refl
 raw-option false = one_of Show (codes "--format") (codes "text") values.ShowFormat (sets.Raw false) refl refl
+
+dump_form-option : (form : DumpForm) → IsOption Dump (option (codes "--format") (dump_form_word form)) (sets.DumpForm form)
+dump_form-option forms.BatchTag = one_of Dump (codes "--format") (codes "batch-tag") values.DumpFormat (sets.DumpForm forms.BatchTag) refl refl
+dump_form-option forms.Sup = one_of Dump (codes "--format") (codes "sup") values.DumpFormat (sets.DumpForm forms.Sup) refl refl
 
 output-option : (output : Output) → IsOption Search (option (codes "--output") (output_word output)) (sets.Output output)
 output-option output.Summary = one_of Search (codes "--output") (codes "summary") values.SearchOutput (sets.Output output.Summary) refl refl
@@ -77,7 +62,7 @@ offset-option n h = a_number Search (codes "--offset") (decimal n) numbers.Offse
 limit-option : (n : ℕ) → fits n ≡ true → IsOption Search (option (codes "--limit") (decimal n)) (sets.Limit n)
 limit-option n h = a_number Search (codes "--limit") (decimal n) numbers.Limit n refl (number-back n h)
 
--- each command but `new` and `session` takes this one
+-- `search`, `count` and `show` take this one
 exclude-with : (command : CommandName) → meaning_of (codes "--exclude") (options_of command) ≡ Some (OneOf values.Exclude) → (exclude : Bool) →
     IsOption command (exclude_option exclude) (sets.Exclude exclude)
 exclude-with command found true = one_of command (codes "--exclude") (codes "true") values.Exclude (sets.Exclude true) found refl
@@ -87,6 +72,7 @@ abbrev searched : SearchAsk → Option ℕ → Option Bool → Settings
 searched ask limit exclude = record {
   json = Some ask.json;
   raw = None;
+  dump_form = None;
   output = Some ask.output;
   oldest = Some ask.oldest;
   offset = Some ask.offset;
@@ -160,10 +146,20 @@ show-back ask =
     (an_option Show with_format after (sets.Exclude ask.exclude) (exclude_option ask.exclude) (query_words false ask.query) rest (exclude-with Show refl ask.exclude) refl
     (dashes Show after rest)))
 
+dump-back : (ask : DumpAsk) → IsRequest (spelled (requests.Dump ask)) (requests.Dump ask)
+dump-back ask =
+    let form = option (codes "--format") (dump_form_word ask.form) in
+    let after = record nothing_set { dump_form = Some ask.form } in
+    let rest = ask.query ∷ [] in
+    a_dump (codes "dump") (form ∷ query_words false ask.query) rest after refl
+    (an_option Dump nothing_set after (sets.DumpForm ask.form) form (query_words false ask.query) rest (dump_form-option ask.form) refl
+    (dashes Dump after rest))
+
 pub spelled-back : (request : Request) → can_be_asked request ≡ true → IsRequest (spelled request) request
 spelled-back requests.New h = a_new (codes "new") [] nothing_set refl (no_words New nothing_set)
 spelled-back (requests.Search ask) h = search-back ask h
 spelled-back (requests.Count ask) h =
     count-back ask (and-left (is_counted ask.output) (lacks_query ask.batch ask.query) h) ask.batch ask.query (and-right (is_counted ask.output) (lacks_query ask.batch ask.query) h)
 spelled-back (requests.Show ask) h = show-back ask
+spelled-back (requests.Dump ask) h = dump-back ask
 spelled-back requests.Session h = a_session (codes "session") [] nothing_set refl (no_words Session nothing_set)

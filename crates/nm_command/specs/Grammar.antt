@@ -1,5 +1,5 @@
 -- The grammar of commands, a case for each of its rules: which words ask for what, and which word is at fault.
---   command := ("new" | "session") options   |   "count" options word*   |   ("search" | "show") options word+
+--   command := ("new" | "session") options   |   ("count" | "dump") options word*   |   ("search" | "show") options word+
 --   options := (flag | name "=" value)* "--"?
 use Rattle.std.specs.Prelude.{◌≡◌, ◌≢◌, ℕ, Bool, true, false, List, [], ◌∷◌, ◌++◌, Some, None, codes}
 use Rattle.std.specs.List.{before_first}
@@ -8,7 +8,7 @@ use Rattle.nm_base.specs.declared.refusals.UsageKind.TheVariants as kinds
 use Rattle.nm_text.specs.Cuts.{is_byte}
 use Rattle.nm_command.specs.Numbers.{number_in}
 use Rattle.nm_command.specs.Options.{begins_with_dashes}
-use Rattle.nm_command.specs.Requests.{count_ask, search_ask, show_ask}
+use Rattle.nm_command.specs.Requests.{count_ask, dump_ask, search_ask, show_ask}
 use Rattle.nm_command.specs.Settings.{is_given, nothing_set, with_setting}
 use Rattle.nm_command.specs.Table.{commands, meaning_of, number_setting, options_of, values_of}
 use Rattle.nm_command.specs.declared.request.Request.{Request}
@@ -16,7 +16,7 @@ use Rattle.nm_command.specs.declared.request.Request.TheVariants as requests
 use Rattle.nm_command.specs.declared.settings.Setting.{Setting}
 use Rattle.nm_command.specs.declared.settings.Settings.{Settings}
 use Rattle.nm_command.specs.declared.table.CommandName.{CommandName}
-use Rattle.nm_command.specs.declared.table.CommandName.TheVariants.{Count, New, Search, Session, Show}
+use Rattle.nm_command.specs.declared.table.CommandName.TheVariants.{Count, Dump, New, Search, Session, Show}
 use Rattle.nm_command.specs.declared.table.Form.{Form}
 use Rattle.nm_command.specs.declared.table.Form.TheVariants.{Flag, Number, OneOf}
 use Rattle.nm_command.specs.declared.table.Numbered.{Numbered}
@@ -28,6 +28,7 @@ takes_words New = false
 takes_words Search = true
 takes_words Count = true
 takes_words Show = true
+takes_words Dump = true
 takes_words Session = false
 
 -- and these need one
@@ -36,6 +37,7 @@ needs_query New = false
 needs_query Search = true
 needs_query Count = false
 needs_query Show = true
+needs_query Dump = false
 needs_query Session = false
 
 -- the word is an option of the command, and sets this
@@ -67,6 +69,8 @@ pub data IsRequest : List (List ℕ) → Request → Type 0 where
       HasOptions Count nothing_set words settings [] → settings.batch ≡ true → IsRequest (name ∷ words) (requests.Count (count_ask settings []))
   a_show : (name word : List ℕ) (words query : List (List ℕ)) (settings : Settings) → meaning_of name commands ≡ Some Show →
       HasOptions Show nothing_set words settings (word ∷ query) → IsRequest (name ∷ words) (requests.Show (show_ask settings (word ∷ query)))
+  a_dump : (name : List ℕ) (words query : List (List ℕ)) (settings : Settings) → meaning_of name commands ≡ Some Dump →
+      HasOptions Dump nothing_set words settings query → IsRequest (name ∷ words) (requests.Dump (dump_ask settings query))
   a_session : (name : List ℕ) (words : List (List ℕ)) (settings : Settings) → meaning_of name commands ≡ Some Session → HasOptions Session nothing_set words settings [] →
       IsRequest (name ∷ words) requests.Session
 

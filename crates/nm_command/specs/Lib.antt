@@ -1,4 +1,5 @@
 pub mod Grammar
+pub mod Leading
 pub mod Numbers
 pub mod Options
 pub mod Requests

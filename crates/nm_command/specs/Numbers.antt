@@ -1,17 +1,30 @@
 -- The numbers that options have as their values.
-use Rattle.std.specs.Prelude.{ℕ, Bool, ◌&&◌, nat_le, List, length, Option, Some, None, if◌then◌else◌}
+use Rattle.std.specs.Prelude.{ℕ, ℤ, pos, Bool, ◌&&◌, nat_le, List, length, Option, Some, None, if◌then◌else◌}
 use Rattle.std.specs.Char.{is_ascii_digit}
 use Rattle.std.specs.List.{list_all}
+use Rattle.std.specs.Option.{option_and_then}
 use Rattle.std.specs.Str.Parse.{digits_value}
 
--- 1 to 10 decimal digits and nothing else
-abbrev pub are_digits : List ℕ → Bool
-are_digits text = nat_le 1 (length text) && nat_le (length text) 10 && list_all is_ascii_digit text
+-- 1 to `max` decimal digits and nothing else
+abbrev pub are_digits : ℕ → List ℕ → Bool
+are_digits max text = nat_le 1 (length text) && nat_le (length text) max && list_all is_ascii_digit text
 
--- the number that the digits say is at most 4,294,967,295
+-- 1 to 10 digits that say at most 4,294,967,295
 abbrev pub is_number : List ℕ → Bool
-is_number text = are_digits text && nat_le (digits_value 10 text) 4294967295
+is_number text = are_digits 10 text && nat_le (digits_value 10 text) 4294967295
 
 -- the number that the text says, where it says one
 abbrev pub number_in : List ℕ → Option ℕ
 number_in text = if is_number text then Some (digits_value 10 text) else None
+
+-- the same, where it is a number of workers: 1 to 16
+abbrev pub workers_in : List ℕ → Option ℕ
+workers_in text = option_and_then (λ number. if nat_le 1 number && nat_le number 16 then Some number else None) (number_in text)
+
+-- 1 to 12 digits that say at most 253,000,000,000
+abbrev pub is_moment : List ℕ → Bool
+is_moment text = are_digits 12 text && nat_le (digits_value 10 text) 253000000000
+
+-- the second that the text says, where it says one
+abbrev pub moment_in : List ℕ → Option ℤ
+moment_in text = if is_moment text then Some (pos (digits_value 10 text)) else None

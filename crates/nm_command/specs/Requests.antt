@@ -2,8 +2,10 @@
 use Rattle.std.specs.Prelude.{ℕ, true, false, List, [], ◌∷◌, Option, Some, None, Result, Ok, Err, if◌then◌else◌}
 use Rattle.std.specs.List.{join_with_byte}
 use Rattle.nm_base.specs.declared.asks.CountAsk.{CountAsk}
+use Rattle.nm_base.specs.declared.asks.DumpAsk.{DumpAsk}
 use Rattle.nm_base.specs.declared.asks.SearchAsk.{SearchAsk}
 use Rattle.nm_base.specs.declared.asks.ShowAsk.{ShowAsk}
+use Rattle.nm_base.specs.declared.forms.DumpForm.TheVariants.{BatchTag}
 use Rattle.nm_base.specs.declared.forms.Output.TheVariants as output
 use Rattle.nm_base.specs.declared.refusals.UsageKind.{UsageKind}
 use Rattle.nm_base.specs.declared.refusals.UsageKind.TheVariants as kinds
@@ -16,7 +18,7 @@ use Rattle.nm_command.specs.declared.request.Request.{Request}
 use Rattle.nm_command.specs.declared.request.Request.TheVariants as requests
 use Rattle.nm_command.specs.declared.settings.Settings.{Settings}
 use Rattle.nm_command.specs.declared.table.CommandName.{CommandName}
-use Rattle.nm_command.specs.declared.table.CommandName.TheVariants.{Count, New, Search, Session, Show}
+use Rattle.nm_command.specs.declared.table.CommandName.TheVariants.{Count, Dump, New, Search, Session, Show}
 
 -- the words of a query, with a space between each two
 abbrev pub query_of : List (List ℕ) → List ℕ
@@ -51,6 +53,10 @@ show_ask settings words = record {
   query = query_of words;
 }
 
+-- what `dump` is asked
+abbrev pub dump_ask : Settings → List (List ℕ) → DumpAsk
+dump_ask settings words = record { form = or_default settings.dump_form BatchTag; query = query_of words }
+
 -- this word is at fault in this way
 abbrev pub refused : List ℕ → UsageKind → Result Request CommandError
 refused word kind = Err (Usage word kind)
@@ -73,6 +79,7 @@ request_with Count settings words =
     if settings.batch then without_words kinds.Clash (requests.Count (count_ask settings words)) words
     else Ok (requests.Count (count_ask settings words))
 request_with Show settings words = with_words (requests.Show (show_ask settings words)) words
+request_with Dump settings words = Ok (requests.Dump (dump_ask settings words))
 request_with Session settings words = without_words kinds.Extra requests.Session words
 
 -- a fault of an option comes before those of the words

@@ -1,8 +1,11 @@
--- Requests in words again, with every option written out.
-use Rattle.std.specs.Prelude.{ℕ, Bool, true, false, ◌&&◌, nat_le, List, [], ◌∷◌, ◌++◌, Option, Some, None, codes, if◌then◌else◌}
+-- Requests and leading options in words again, with every option written out.
+use Rattle.std.specs.Prelude.{ℕ, ℤ, pos, negsuc, Bool, true, false, ◌&&◌, nat_eq, nat_le, nat_lt, List, [], ◌∷◌, ◌++◌, length, map, Option, Some, None, codes, if◌then◌else◌}
 use Rattle.std.specs.Fmt.{decimal}
+use Rattle.nm_base.specs.declared.forms.DumpForm.{DumpForm}
+use Rattle.nm_base.specs.declared.forms.DumpForm.TheVariants.{BatchTag, Sup}
 use Rattle.nm_base.specs.declared.forms.Output.{Output}
 use Rattle.nm_base.specs.declared.forms.Output.TheVariants as output
+use Rattle.nm_command.specs.declared.leading.Leading.{Leading}
 use Rattle.nm_command.specs.declared.request.Request.{Request}
 use Rattle.nm_command.specs.declared.request.Request.TheVariants as requests
 
@@ -17,6 +20,11 @@ output_word output.Threads = codes "threads"
 output_word output.Messages = codes "messages"
 output_word output.Files = codes "files"
 output_word output.Tags = codes "tags"
+
+-- the word of the form of a dump
+abbrev pub dump_form_word : DumpForm → List ℕ
+dump_form_word BatchTag = codes "batch-tag"
+dump_form_word Sup = codes "sup"
 
 -- whether excluded messages are left out
 abbrev pub exclude_option : Bool → List ℕ
@@ -46,6 +54,7 @@ spelled (requests.Count ask) =
     codes "count" ∷ option (codes "--output") (output_word ask.output) ∷ exclude_option ask.exclude ∷ query_words ask.batch ask.query
 spelled (requests.Show ask) =
     codes "show" ∷ option (codes "--format") (if ask.raw then codes "raw" else codes "text") ∷ exclude_option ask.exclude ∷ query_words false ask.query
+spelled (requests.Dump ask) = codes "dump" ∷ option (codes "--format") (dump_form_word ask.form) ∷ query_words false ask.query
 spelled requests.Session = codes "session" ∷ []
 
 -- a number fits 32 bits
@@ -77,4 +86,39 @@ can_be_asked requests.New = true
 can_be_asked (requests.Search ask) = fits ask.offset && limit_fits ask.limit
 can_be_asked (requests.Count ask) = is_counted ask.output && lacks_query ask.batch ask.query
 can_be_asked (requests.Show ask) = true
+can_be_asked (requests.Dump ask) = true
 can_be_asked requests.Session = true
+
+-- leading options in words
+abbrev pub in_words : List (List ℕ × List ℕ) → List (List ℕ)
+in_words options = map (λ written. option written.0 written.1) options
+
+-- no option where no moment is told
+abbrev pub moment_options : Option ℤ → List (List ℕ × List ℕ)
+moment_options None = []
+moment_options (Some (pos second)) = (codes "--moment", decimal second) ∷ []
+moment_options (Some (negsuc second)) = []
+
+-- the options that say this
+abbrev pub leading_spelled : Leading → List (List ℕ × List ℕ)
+leading_spelled leading =
+    (codes "--mail", leading.mail)
+    ∷ (codes "--index", leading.index)
+    ∷ (codes "--workers", decimal leading.workers)
+    ∷ moment_options leading.moment
+
+-- a moment is a second from 0 to 253,000,000,000, where one is told
+abbrev pub moment_fits : Option ℤ → Bool
+moment_fits None = true
+moment_fits (Some (pos second)) = nat_le second 253000000000
+moment_fits (Some (negsuc second)) = false
+
+-- all these options can say this: folders have names, and there are 1 to 16 workers
+abbrev pub can_be_told : Leading → Bool
+can_be_told leading =
+    nat_lt 0 (length leading.mail)
+    && nat_lt 0 (length leading.index)
+    && nat_le 1 leading.workers
+    && nat_le leading.workers 16
+    && moment_fits leading.moment
+    && nat_eq leading.rest (length (leading_spelled leading))

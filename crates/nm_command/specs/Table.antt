@@ -3,14 +3,17 @@ use Rattle.std.specs.Prelude.{ℕ, true, false, List, [], ◌∷◌, Option, Som
 use Rattle.std.specs.Map.{lookup}
 use Rattle.std.specs.Option.{option_map}
 use Rattle.nm_base.specs.Order.{same_text}
+use Rattle.nm_base.specs.declared.forms.DumpForm.TheVariants.{BatchTag, Sup}
 use Rattle.nm_base.specs.declared.forms.Output.TheVariants as output
 use Rattle.nm_command.specs.Numbers.{number_in}
 use Rattle.nm_command.specs.declared.settings.Setting.{Setting}
-use Rattle.nm_command.specs.declared.settings.Setting.TheVariants.{Batch, Exclude, Json, Limit, Offset, Oldest, Output, Raw}
+use Rattle.nm_command.specs.declared.settings.Setting.TheVariants.{Batch, DumpForm, Exclude, Json, Limit, Offset, Oldest, Output, Raw}
 use Rattle.nm_command.specs.declared.table.CommandName.{CommandName}
-use Rattle.nm_command.specs.declared.table.CommandName.TheVariants.{Count, New, Search, Session, Show}
+use Rattle.nm_command.specs.declared.table.CommandName.TheVariants.{Count, Dump, New, Search, Session, Show}
 use Rattle.nm_command.specs.declared.table.Form.{Form}
 use Rattle.nm_command.specs.declared.table.Form.TheVariants.{Flag, Number, OneOf}
+use Rattle.nm_command.specs.declared.table.LeadingForm.{LeadingForm}
+use Rattle.nm_command.specs.declared.table.LeadingForm.TheVariants as leading
 use Rattle.nm_command.specs.declared.table.Numbered.{Numbered}
 use Rattle.nm_command.specs.declared.table.Numbered.TheVariants as numbers
 use Rattle.nm_command.specs.declared.table.Values.{Values}
@@ -20,9 +23,18 @@ use Rattle.nm_command.specs.declared.table.Values.TheVariants as values
 abbrev pub meaning_of : {A : Type 0} → List ℕ → List (List ℕ × A) → Option A
 meaning_of word table = lookup (λ name. same_text name word) table
 
+-- the options before a command, with what the value of each may be
+abbrev pub leading_options : List (List ℕ × LeadingForm)
+leading_options =
+    (codes "--mail", leading.Folder)
+    ∷ (codes "--index", leading.Folder)
+    ∷ (codes "--workers", leading.Workers)
+    ∷ (codes "--moment", leading.Moment)
+    ∷ []
+
 -- the commands
 abbrev pub commands : List (List ℕ × CommandName)
-commands = (codes "new", New) ∷ (codes "search", Search) ∷ (codes "count", Count) ∷ (codes "show", Show) ∷ (codes "session", Session) ∷ []
+commands = (codes "new", New) ∷ (codes "search", Search) ∷ (codes "count", Count) ∷ (codes "show", Show) ∷ (codes "dump", Dump) ∷ (codes "session", Session) ∷ []
 
 -- the options of a command, with what the value of each may be
 abbrev pub options_of : CommandName → List (List ℕ × Form)
@@ -44,12 +56,14 @@ options_of Show =
     (codes "--format", OneOf values.ShowFormat)
     ∷ (codes "--exclude", OneOf values.Exclude)
     ∷ []
+options_of Dump = (codes "--format", OneOf values.DumpFormat) ∷ []
 options_of Session = []
 
 -- the words that a value may be, with what each sets; the first is the default
 abbrev pub values_of : Values → List (List ℕ × Setting)
 values_of values.SearchFormat = (codes "text", Json false) ∷ (codes "json", Json true) ∷ []
 values_of values.ShowFormat = (codes "text", Raw false) ∷ (codes "raw", Raw true) ∷ []
+values_of values.DumpFormat = (codes "batch-tag", DumpForm BatchTag) ∷ (codes "sup", DumpForm Sup) ∷ []
 values_of values.SearchOutput =
     (codes "summary", Output output.Summary)
     ∷ (codes "threads", Output output.Threads)

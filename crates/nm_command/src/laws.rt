@@ -1,16 +1,19 @@
 //! What follows from the definitions of commands. These functions run no code: their clauses are the laws.
 
-ghost use Rattle.std.specs.Prelude.{◌≡◌, ◌≢◌, ◌↔◌, ◌⊎◌, ℕ, true, false, List, ◌∷◌, Ok, Err, Some};
-ghost use Rattle.std.specs.List.{All, before_first, slice_split};
+ghost use Rattle.std.specs.Prelude.{◌≡◌, ◌≢◌, ◌↔◌, ◌⊎◌, ℕ, true, false, List, ◌∷◌, ◌++◌, Ok, Err, Some};
+ghost use Rattle.std.specs.List.{All, before_first, list_all, slice_split};
 ghost use Rattle.nm_base.specs.declared.refusals.UsageKind.{UsageKind};
 ghost use Rattle.nm_text.specs.Cuts.{is_byte};
 ghost use Rattle.nm_command.specs.Grammar.{IsOption, IsRefused, IsRequest};
-ghost use Rattle.nm_command.specs.Options.{read_options};
+ghost use Rattle.nm_command.specs.Leading.{are_options, cut_option, is_command, is_option, leading_of, told_by};
+ghost use Rattle.nm_command.specs.Options.{begins_with_dashes, read_options};
 ghost use Rattle.nm_command.specs.Requests.{query_of, request_of, request_with};
 ghost use Rattle.nm_command.specs.Settings.{is_given, nothing_set, with_setting};
-ghost use Rattle.nm_command.specs.Spelling.{can_be_asked, spelled};
+ghost use Rattle.nm_command.specs.Spelling.{can_be_asked, can_be_told, in_words, leading_spelled, spelled};
 ghost use Rattle.nm_command.specs.Table.{commands, meaning_of, options_of, values_of};
 ghost use Rattle.nm_command.specs.declared.command_error.CommandError.TheVariants.{Usage};
+ghost use Rattle.nm_command.specs.declared.leading.HeadError.TheVariants.{Usage as OutOfForm};
+ghost use Rattle.nm_command.specs.declared.leading.Leading.{Leading};
 ghost use Rattle.nm_command.specs.declared.request.Request.{Request};
 ghost use Rattle.nm_command.specs.declared.settings.Setting.{Setting};
 ghost use Rattle.nm_command.specs.declared.settings.Settings.{Settings};
@@ -67,4 +70,20 @@ pub fn options_may_change_places()
     ensures request { (command : CommandName) → (name : List ℕ) → (word : List ℕ) → (other : List ℕ) → (words : List (List ℕ)) → (first : Setting) → (second : Setting) →
         meaning_of name commands ≡ Some command → IsOption command word first → IsOption command other second → before_first (is_byte 61) word ≢ before_first (is_byte 61) other →
         request_of (name ∷ word ∷ other ∷ words) ≡ request_of (name ∷ other ∷ word ∷ words) }
+{}
+
+/// Leading options are read as they were written before a command, in any order, and what they can say is read back.
+pub fn leading_options_are_read_as_written()
+    ensures told { (options : List (List ℕ × List ℕ)) → (words : List (List ℕ)) → are_options options ≡ true → is_command words ≡ true →
+        leading_of (in_words options ++ words) ≡ Ok (told_by options) }
+    ensures back { (leading : Leading) → (words : List (List ℕ)) → can_be_told leading ≡ true → is_command words ≡ true → leading_of (in_words (leading_spelled leading) ++ words) ≡ Ok leading }
+{}
+
+/// A leading option of a name that was there is refused, whatever stands between and behind, and so is a leading word that is no option.
+pub fn leading_words_are_refused()
+    ensures repeated { (before : List (List ℕ)) → (word : List ℕ) → (between : List (List ℕ)) → (other : List ℕ) → (after : List (List ℕ)) →
+        list_all begins_with_dashes (before ++ word ∷ between) ≡ true → begins_with_dashes other ≡ true → before_first (is_byte 61) word ≡ before_first (is_byte 61) other →
+        leading_of ((before ++ word ∷ between) ++ other ∷ after) ≡ Err OutOfForm }
+    ensures out_of_form { (before : List (List ℕ)) → (word : List ℕ) → (after : List (List ℕ)) → list_all begins_with_dashes before ≡ true → begins_with_dashes word ≡ true →
+        is_option (cut_option word) ≡ false → leading_of (before ++ word ∷ after) ≡ Err OutOfForm }
 {}

@@ -1,17 +1,23 @@
 //! The numbers that options have as their values.
 
-ghost use Rattle.std.specs.Prelude.{◌≡◌};
+ghost use Rattle.std.specs.Prelude.{◌≡◌, ◌&&◌, nat_le, pos, Some, None, if◌then◌else◌};
 ghost use Rattle.std.specs.Char.{is_ascii_digit};
 ghost use Rattle.std.specs.List.{list_all};
-ghost use Rattle.nm_command.specs.Numbers.{are_digits, number_in};
+ghost use Rattle.nm_command.specs.Numbers.{are_digits, moment_in, number_in, workers_in};
 
 const MAX_DIGITS: usize = 10;
+
+const MAX_WORKERS: u32 = 16;
+
+const MAX_MOMENT_DIGITS: usize = 12;
+
+const MAX_MOMENT: u64 = 253_000_000_000;
 
 /// The number that the text says: 1 to 10 decimal digits that fit 32 bits, and nothing else.
 pub(crate) fn number(text: &str) -> Option<u32>
     ensures { result ≡ number_in text.now }
 {
-    if !are_digits(text.as_bytes()) {
+    if !are_digits(MAX_DIGITS, text.as_bytes()) {
         return None;
     }
     match text.parse::<u32>() {
@@ -20,10 +26,51 @@ pub(crate) fn number(text: &str) -> Option<u32>
     }
 }
 
-fn are_digits(text: &[u8]) -> bool
-    ensures { result ≡ are_digits text.now }
+/// The number of workers that the text says: 1 to 16.
+pub(crate) fn workers(text: &str) -> Option<u32>
+    ensures { result ≡ workers_in text.now }
 {
-    if text.is_empty() || text.len() > MAX_DIGITS {
+    match number(text) {
+        Some(number) => if_workers(number),
+        None => None,
+    }
+}
+
+fn if_workers(number: u32) -> Option<u32>
+    ensures { result ≡ (if nat_le 1 number && nat_le number 16 then Some number else None) }
+{
+    if number >= 1 && number <= MAX_WORKERS {
+        return Some(number);
+    }
+    None
+}
+
+/// The second that the text says: 1 to 12 decimal digits, at most 253,000,000,000.
+pub(crate) fn moment(text: &str) -> Option<i64>
+    ensures { result ≡ moment_in text.now }
+{
+    if !are_digits(MAX_MOMENT_DIGITS, text.as_bytes()) {
+        return None;
+    }
+    match text.parse::<u64>() {
+        Ok(second) => if_moment(second),
+        Err(_) => None,
+    }
+}
+
+fn if_moment(second: u64) -> Option<i64>
+    ensures { result ≡ (if nat_le second 253000000000 then Some (pos second) else None) }
+{
+    if second <= MAX_MOMENT {
+        return Some(second as i64);
+    }
+    None
+}
+
+fn are_digits(max: usize, text: &[u8]) -> bool
+    ensures { result ≡ are_digits max text.now }
+{
+    if text.is_empty() || text.len() > max {
         return false;
     }
     are_all_digits(text)

@@ -55,7 +55,8 @@ pub(crate) fn read_options(command: CommandName, words: &[Text]) -> Result<Optio
     })
 }
 
-fn begins_with_dashes(word: &str) -> bool
+/// Whether a word is an option or ends them.
+pub(crate) fn begins_with_dashes(word: &str) -> bool
     ensures { result ≡ begins_with_dashes word.now }
 {
     word.as_bytes().starts_with(b"--")

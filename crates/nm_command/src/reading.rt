@@ -9,7 +9,7 @@ use crate::options::read_options;
 use crate::settings::{Settings, excludes};
 use crate::table::{CommandName, command_named};
 use crate::{CommandError, Request};
-use nm_base::{CountAsk, NoMemory, Output, SearchAsk, ShowAsk, Text, UsageKind};
+use nm_base::{CountAsk, DumpAsk, DumpForm, NoMemory, Output, SearchAsk, ShowAsk, Text, UsageKind};
 use std::alloc::Global;
 
 /// Reads the words of a command line: the command, its options from left to right, then the other words. Of several
@@ -62,6 +62,7 @@ fn request(
         CommandName::Search => search(alloc, settings, words),
         CommandName::Count => count(alloc, settings, words),
         CommandName::Show => show(alloc, settings, words),
+        CommandName::Dump => dump(alloc, settings, words),
         CommandName::Session => without_words(alloc, UsageKind::Extra, Request::Session, words),
     }
 }
@@ -142,6 +143,19 @@ fn show(alloc: Global, settings: Settings, words: &[Text]) -> Result<Request, Co
     Ok(Request::Show(ShowAsk {
         raw: settings.raw.unwrap_or(false),
         exclude: excludes(settings),
+        query,
+    }))
+}
+
+fn dump(alloc: Global, settings: Settings, words: &[Text]) -> Result<Request, CommandError>
+    ensures { MatchResult result (λ request. request_with CommandName.Dump settings words.now ≡ Ok request)
+        (λ error. (error ≡ CommandError.NoMemory) ⊎ (request_with CommandName.Dump settings words.now ≡ Err error)) }
+{
+    let Ok(query) = query(alloc, words) else {
+        return Err(CommandError::NoMemory);
+    };
+    Ok(Request::Dump(DumpAsk {
+        form: settings.dump_form.unwrap_or(DumpForm::BatchTag),
         query,
     }))
 }

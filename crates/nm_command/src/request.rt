@@ -1,6 +1,6 @@
 //! What the words of a command ask for.
 
-use nm_base::{Copies, CountAsk, NoMemory, SearchAsk, ShowAsk};
+use nm_base::{Copies, CountAsk, DumpAsk, NoMemory, SearchAsk, ShowAsk};
 
 /// What a command asks for.
 #[derive(Debug, Drop, PartialEq, Eq)]
@@ -9,6 +9,7 @@ pub enum Request {
     Search(SearchAsk),
     Count(CountAsk),
     Show(ShowAsk),
+    Dump(DumpAsk),
     Session,
 }
 
@@ -27,6 +28,10 @@ impl Copies for Request {
             Request::Show(ask) => {
                 let ask = ask.copy()?;
                 Ok(Request::Show(ask))
+            }
+            Request::Dump(ask) => {
+                let ask = ask.copy()?;
+                Ok(Request::Dump(ask))
             }
             Request::Session => Ok(Request::Session),
         }

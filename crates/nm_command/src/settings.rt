@@ -3,13 +3,14 @@
 ghost use Rattle.std.specs.Prelude.{◌≡◌, true};
 ghost use Rattle.nm_command.specs.Settings.{is_given, nothing_set, or_default, with_setting};
 
-use nm_base::Output;
+use nm_base::{DumpForm, Output};
 
 /// What one option sets.
 #[derive(Clone, Copy, Debug, PartialEq, Eq)]
 pub(crate) enum Setting {
     Json(bool),
     Raw(bool),
+    DumpForm(DumpForm),
     Output(Output),
     Oldest(bool),
     Offset(u32),
@@ -23,6 +24,7 @@ pub(crate) enum Setting {
 pub(crate) struct Settings {
     pub json: Option<bool>,
     pub raw: Option<bool>,
+    pub dump_form: Option<DumpForm>,
     pub output: Option<Output>,
     pub oldest: Option<bool>,
     pub offset: Option<u32>,
@@ -38,6 +40,7 @@ pub(crate) fn nothing_set() -> Settings
     Settings {
         json: None,
         raw: None,
+        dump_form: None,
         output: None,
         oldest: None,
         offset: None,
@@ -54,6 +57,7 @@ pub(crate) fn is_given(settings: Settings, setting: Setting) -> bool
     match setting {
         Setting::Json(_) => settings.json.is_some(),
         Setting::Raw(_) => settings.raw.is_some(),
+        Setting::DumpForm(_) => settings.dump_form.is_some(),
         Setting::Output(_) => settings.output.is_some(),
         Setting::Oldest(_) => settings.oldest.is_some(),
         Setting::Offset(_) => settings.offset.is_some(),
@@ -71,6 +75,7 @@ pub(crate) fn with_setting(settings: Settings, setting: Setting) -> Settings
     match setting {
         Setting::Json(json) => settings.json = Some(json),
         Setting::Raw(raw) => settings.raw = Some(raw),
+        Setting::DumpForm(form) => settings.dump_form = Some(form),
         Setting::Output(output) => settings.output = Some(output),
         Setting::Oldest(oldest) => settings.oldest = Some(oldest),
         Setting::Offset(offset) => settings.offset = Some(offset),

@@ -1,11 +1,11 @@
-//! The commands, the options of each, and the values of those: three tables that drive the reading.
+//! The commands, the options of each, and the values of those: the tables that drive the reading.
 
 ghost use Rattle.std.specs.Prelude.{◌≡◌, map};
-ghost use Rattle.nm_command.specs.Table.{commands, flag_setting, meaning_of, number_setting, options_of, value_setting, values_of};
+ghost use Rattle.nm_command.specs.Table.{commands, flag_setting, leading_options, meaning_of, number_setting, options_of, value_setting, values_of};
 
 use crate::number::number;
 use crate::settings::Setting;
-use nm_base::Output;
+use nm_base::{DumpForm, Output};
 
 /// The commands that there are.
 #[derive(Clone, Copy, Debug, PartialEq, Eq)]
@@ -14,6 +14,7 @@ pub enum CommandName {
     Search,
     Count,
     Show,
+    Dump,
     Session,
 }
 
@@ -32,6 +33,7 @@ pub(crate) enum Form {
 pub(crate) enum Values {
     SearchFormat,
     ShowFormat,
+    DumpFormat,
     SearchOutput,
     CountOutput,
     Sort,
@@ -45,14 +47,31 @@ pub(crate) enum Numbered {
     Limit,
 }
 
+/// What the value of an option before the command may be.
+#[derive(Clone, Copy, Debug, PartialEq, Eq)]
+pub(crate) enum LeadingForm {
+    /// A path, of one byte at least.
+    Folder,
+    Workers,
+    Moment,
+}
+
 /// A word, and what it stands for.
 type Row<T> = (&'static str, T);
+
+const LEADING_OPTIONS: &[Row<LeadingForm>] = &[
+    ("--mail", LeadingForm::Folder),
+    ("--index", LeadingForm::Folder),
+    ("--workers", LeadingForm::Workers),
+    ("--moment", LeadingForm::Moment),
+];
 
 const COMMANDS: &[Row<CommandName>] = &[
     ("new", CommandName::New),
     ("search", CommandName::Search),
     ("count", CommandName::Count),
     ("show", CommandName::Show),
+    ("dump", CommandName::Dump),
     ("session", CommandName::Session),
 ];
 
@@ -76,12 +95,19 @@ const SHOW_OPTIONS: &[Row<Form>] = &[
     ("--exclude", Form::OneOf(Values::Exclude)),
 ];
 
+const DUMP_OPTIONS: &[Row<Form>] = &[("--format", Form::OneOf(Values::DumpFormat))];
+
 const SEARCH_FORMATS: &[Row<Setting>] = &[
     ("text", Setting::Json(false)),
     ("json", Setting::Json(true)),
 ];
 
 const SHOW_FORMATS: &[Row<Setting>] = &[("text", Setting::Raw(false)), ("raw", Setting::Raw(true))];
+
+const DUMP_FORMATS: &[Row<Setting>] = &[
+    ("batch-tag", Setting::DumpForm(DumpForm::BatchTag)),
+    ("sup", Setting::DumpForm(DumpForm::Sup)),
+];
 
 const SEARCH_OUTPUTS: &[Row<Setting>] = &[
     ("summary", Setting::Output(Output::Summary)),
@@ -106,6 +132,13 @@ const EXCLUSIONS: &[Row<Setting>] = &[
     ("true", Setting::Exclude(true)),
     ("false", Setting::Exclude(false)),
 ];
+
+/// What the value of an option before the command may be.
+pub(crate) fn leading_form(option: &str) -> Option<LeadingForm>
+    ensures { result ≡ meaning_of option.now leading_options }
+{
+    meaning_of(leading_options(), option)
+}
 
 /// The command that a word names, if it names one.
 pub fn command_named(word: &str) -> Option<CommandName>
@@ -166,6 +199,12 @@ fn meaning_of<T: Copy>(rows: &[Row<T>], word: &str) -> Option<T>
     None
 }
 
+fn leading_options() -> &'static [Row<LeadingForm>]
+    ensures { map (λ row. (row.0.now, row.1)) result.now ≡ leading_options }
+{
+    LEADING_OPTIONS
+}
+
 fn commands() -> &'static [Row<CommandName>]
     ensures { map (λ row. (row.0.now, row.1)) result.now ≡ commands }
 {
@@ -180,6 +219,7 @@ fn options(command: CommandName) -> &'static [Row<Form>]
         CommandName::Search => SEARCH_OPTIONS,
         CommandName::Count => COUNT_OPTIONS,
         CommandName::Show => SHOW_OPTIONS,
+        CommandName::Dump => DUMP_OPTIONS,
     }
 }
 
@@ -189,6 +229,7 @@ fn values_of(which: Values) -> &'static [Row<Setting>]
     match which {
         Values::SearchFormat => SEARCH_FORMATS,
         Values::ShowFormat => SHOW_FORMATS,
+        Values::DumpFormat => DUMP_FORMATS,
         Values::SearchOutput => SEARCH_OUTPUTS,
         Values::CountOutput => COUNT_OUTPUTS,
         Values::Sort => SORTS,

@@ -1,7 +1,9 @@
-//! What comes of a row: what the words of a command ask for, or how they are refused.
+//! What comes of a row: what the words of a command ask for or the options before it say, or how they are refused.
 
-use nm_base::{Copies, CountAsk, Many, Output, SearchAsk, ShowAsk, Text, UsageKind};
-use nm_command::{CommandError, Request, command};
+use nm_base::{
+    Copies, CountAsk, DumpAsk, DumpForm, Many, Output, SearchAsk, ShowAsk, Text, UsageKind,
+};
+use nm_command::{CommandError, HeadError, Leading, Request, command, head};
 use rows::{Lines, Program, Row, RowError, text_of};
 use std::alloc::Global;
 
@@ -15,6 +17,7 @@ impl Program for Commands {
         match row.kind {
             b"command" => push_commands(alloc, &mut lines, row)?,
             b"words" => push_words(alloc, &mut lines, row)?,
+            b"leading" => push_heads(alloc, &mut lines, row)?,
             _ => return Err(RowError::Broken("no such kind of row")),
         }
         Ok(lines.into_bytes())
@@ -69,6 +72,50 @@ fn push_answer(alloc: Global, lines: &mut Lines, words: &Many<Text>) -> Result<(
     }
 }
 
+/// Each line `|` is the words of the program, which stand between blanks.
+fn push_heads(alloc: Global, lines: &mut Lines, row: &Row<'_>) -> Result<(), RowError> {
+    'lines: for line in row.lines.as_slice() {
+        if line.mark == b"|".as_slice() {
+            let words = words_of(alloc, line.bytes.as_slice())?;
+            push_head(alloc, lines, &words)?;
+        }
+    }
+    Ok(())
+}
+
+fn push_head(alloc: Global, lines: &mut Lines, words: &Many<Text>) -> Result<(), RowError> {
+    lines.begin()?;
+    match head(alloc, words.as_slice()) {
+        Ok(leading) => push_leading(alloc, lines, &leading),
+        Err(HeadError::Usage) => Ok(lines.push(b"USAGE")?),
+        Err(HeadError::NoMemory) => Err(RowError::NoMemory),
+    }
+}
+
+/// `mail MAIL, index INDEX, workers N, moment N, words N`
+fn push_leading(alloc: Global, lines: &mut Lines, leading: &Leading) -> Result<(), RowError> {
+    lines.push(b"mail ")?;
+    lines.push(leading.mail.as_bytes())?;
+    lines.push(b", index ")?;
+    lines.push(leading.index.as_bytes())?;
+    push_number(alloc, lines, b", workers ", leading.workers)?;
+    push_moment(alloc, lines, leading.moment)?;
+    let count = leading.rest.to_string(alloc)?;
+    lines.push(b", words ")?;
+    lines.push(count.as_bytes())?;
+    Ok(())
+}
+
+fn push_moment(alloc: Global, lines: &mut Lines, moment: Option<i64>) -> Result<(), RowError> {
+    let Some(second) = moment else {
+        return Ok(lines.push(b", no moment")?);
+    };
+    let digits = second.to_string(alloc)?;
+    lines.push(b", moment ")?;
+    lines.push(digits.as_bytes())?;
+    Ok(())
+}
+
 /// `KIND WORD`, or the kind alone where the word is empty.
 fn push_refusal(lines: &mut Lines, word: &Text, kind: UsageKind) -> Result<(), RowError> {
     lines.push(kind_name(kind))?;
@@ -95,6 +142,7 @@ fn push_request(alloc: Global, lines: &mut Lines, request: &Request) -> Result<(
         Request::Search(ask) => push_search(alloc, lines, ask),
         Request::Count(ask) => push_count(lines, ask),
         Request::Show(ask) => push_show(lines, ask),
+        Request::Dump(ask) => push_dump(lines, ask),
         Request::Session => Ok(lines.push(b"session")?),
     }
 }
@@ -136,6 +184,16 @@ fn push_show(lines: &mut Lines, ask: &ShowAsk) -> Result<(), RowError> {
         b"show text"
     })?;
     push_query(lines, ask.exclude, &ask.query)
+}
+
+/// `dump FORMAT: QUERY`
+fn push_dump(lines: &mut Lines, ask: &DumpAsk) -> Result<(), RowError> {
+    lines.push(match ask.form {
+        DumpForm::BatchTag => b"dump batch-tag:".as_slice(),
+        DumpForm::Sup => b"dump sup:",
+    })?;
+    lines.push_after_blank(ask.query.as_bytes())?;
+    Ok(())
 }
 
 fn output_name(output: Output) -> &'static [u8] {

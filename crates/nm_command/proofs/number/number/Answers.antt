@@ -6,4 +6,4 @@ use Rattle.nm_command.proofs.number.number.Goals as goal
 pub returns-in-Err : goal.returns-in-Err
 returns-in-Err c =
     number-refused c.args.text.now c.in-Err.field-0 c.parse.result c.in-Err.is c.parse.ensures.value.0
-    (ap are_digits (sym c.as_bytes.ensures.value) ∙ sym c.are_digits.ensures ∙ c.if-not-are_digits.false)
+    (ap (are_digits 10) (sym c.as_bytes.ensures.value) ∙ sym c.are_digits.ensures ∙ c.if-not-are_digits.false)
