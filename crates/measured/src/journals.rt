@@ -3,9 +3,9 @@
 ghost use Rattle.std.specs.Prelude.{◌≡◌, ◌<◌, ◌^◌, length, false};
 ghost use Rattle.nm_record.specs.CommitGrammar.{commit_grammar};
 
-use nm_base::NoMemory;
+use nm_base::{NoMemory, Text};
 use nm_commit::Commit;
-use nm_disk::{FileDisk, FileNo};
+use nm_disk::{DiskFolder, FileDisk, FileNo};
 use nm_journal::{Frame, Journal};
 use nm_record::{commit_bytes, read_commit};
 use std::alloc::Global;
@@ -36,7 +36,7 @@ fn append_to_folder(
 ) -> Result<u64, NoMemory>
     requires { length (commit_grammar.bytes commit.now) < 2 ^ 32 }
 {
-    let Ok(mut disk) = FileDisk::open(rt, alloc, FOLDER) else {
+    let Some(mut disk) = opened_disk(rt, alloc)? else {
         return Ok(0);
     };
     match Journal::open(alloc, &mut disk, FileNo::Head, 0) {
@@ -45,6 +45,16 @@ fn append_to_folder(
             append_all(alloc, &mut disk, journal, commit, count)
         }
         Err(_) => Ok(0),
+    }
+}
+
+/// The disk over the folder, or none where it can't be opened.
+fn opened_disk(rt: &HostRuntime, alloc: Global) -> Result<Option<FileDisk>, NoMemory> {
+    let folder = Text::of(alloc, FOLDER)?;
+    let mut disk = FileDisk::new(rt.clone()?);
+    match disk.open(&folder) {
+        Ok(()) => Ok(Some(disk)),
+        Err(_) => Ok(None),
     }
 }
 
@@ -73,7 +83,7 @@ fn append_all(
 
 /// Opens the journal in `Head` of the folder `index`: how many bytes its bodies have.
 pub fn open_all(rt: &HostRuntime, alloc: Global) -> u64 {
-    let Ok(mut disk) = FileDisk::open(rt, alloc, FOLDER) else {
+    let Ok(Some(mut disk)) = opened_disk(rt, alloc) else {
         return 0;
     };
     let mut bytes = 0u64;

@@ -7,7 +7,7 @@ ghost use Rattle.nm_disk.specs.Calls.{Looks, Syncs, Writes};
 ghost use Rattle.nm_disk.specs.Images.{IsImage};
 ghost use Rattle.nm_disk.specs.Observed.{ObservedDisk, bytes_now, front_from};
 
-use nm_base::Failed;
+use nm_base::{Failed, Text};
 use thiserror::Error;
 
 /// A call of the disk failed; what it was writing is lost or not.
@@ -63,4 +63,11 @@ pub trait Disk {
     /// How often it has failed, up to 2^64 - 1.
     fn faults(&self) -> u64
         ensures { result ≡ (observed self.now).faults };
+}
+
+/// A disk over the files of a folder, which is opened by its path.
+pub trait DiskFolder: Disk {
+    /// Opens the folder at this path, whose files are the disk's from then on. Nothing that it tells changes.
+    fn open(&mut self, dir: &Text) -> Result<(), Failed>
+        ensures { Looks (Self.observed self.old) (Self.observed self.new) result };
 }

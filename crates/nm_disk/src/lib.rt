@@ -11,7 +11,7 @@ mod mem_disk;
 mod state;
 mod stopping;
 
-pub use disk::{Disk, DiskFault, FileNo};
+pub use disk::{Disk, DiskFault, DiskFolder, FileNo};
 pub use file_disk::FileDisk;
 pub use mem_disk::MemDisk;
 pub use stopping::Pick;

@@ -12,8 +12,8 @@ ghost use Rattle.nm_faults.specs.Calls.{is_next_listed};
 
 use crate::event::{Deed, Event};
 use crate::files::Files;
-use crate::{Disk, FileNo};
-use nm_base::{Copies, Failed, Many, NoMemory, Room};
+use crate::{Disk, DiskFolder, FileNo};
+use nm_base::{Copies, Failed, Many, NoMemory, Room, Text};
 use nm_faults::{Calls, Faults};
 use std::alloc::Global;
 use std::marker::Model;
@@ -281,6 +281,20 @@ impl Disk for MemDisk {
 
     fn faults(&self) -> u64 {
         self.met.count().saturating_add(self.wanted.count())
+    }
+}
+
+impl DiskFolder for MemDisk {
+    /// Counts a call; a disk in memory has no path.
+    fn open(&mut self, _: &Text) -> Result<(), Failed>
+        ensures looks { Looks (observed_mem self.old) (observed_mem self.new) result }
+        ensures called { self.new ≡ called self.old }
+        ensures listed { is_err result ≡ is_next_listed self.old.calls }
+    {
+        if self.count() {
+            return Err(Failed);
+        }
+        Ok(())
     }
 }
 

@@ -1,6 +1,7 @@
 //! What no contract tells: that a real folder holds what was written, and is held against others.
 
-use crate::{Disk, FileDisk, FileNo};
+use crate::{Disk, DiskFolder, FileDisk, FileNo};
+use nm_base::Text;
 use std::test::Fail;
 use std::{env, fs, io};
 
@@ -9,7 +10,7 @@ fn a_real_folder_is_made_written_and_read_again(rt: HostRuntime) -> Result<(), F
     let root = new_folder(&rt)?;
     let met = calls_met(&rt, root.as_str());
     fs::remove_dir_all(&rt, root.as_str()).expect(&rt, "the folder is removed");
-    assert_eq!(rt; met?, 11);
+    assert_eq!(rt; met?, 19);
     Ok(())
 }
 
@@ -31,8 +32,21 @@ fn new_folder(rt: &HostRuntime) -> Result<String, Fail> {
 fn calls_met(rt: &HostRuntime, root: &str) -> Result<u32, Fail> {
     let alloc = rt.alloc();
     let folder = format!(in alloc; "{root}/index")?;
-    let mut disk = FileDisk::open(rt, alloc, folder.as_str())?;
+    let folder = Text::of(alloc, folder.as_str())?;
+    let mut disk = FileDisk::new(rt.clone()?);
     let mut met = 0u32;
+    met = count(met, disk.len(FileNo::Head).is_err());
+    met = count(met, disk.write_at(FileNo::Head, 0, b"x").is_err());
+    met = count(met, disk.sync().is_err());
+    met = count(met, disk.faults() == 3);
+    // The folder of a missing one is not made, and a file is no folder.
+    let below = Text::of(alloc, format!(in alloc; "{root}/gone/index")?.as_str())?;
+    met = count(met, disk.open(&below).is_err());
+    let taken = format!(in alloc; "{root}/file")?;
+    fs::write(rt, taken.as_str(), "")?;
+    met = count(met, disk.open(&Text::of(alloc, taken.as_str())?).is_err());
+    met = count(met, disk.faults() == 5);
+    disk.open(&folder)?;
     met = count(met, disk.len(FileNo::Head)? == 128);
     met = count(met, disk.len(FileNo::BankA)? == 0);
     met = count(met, is_read(&mut disk, FileNo::Head, 126, &[0, 0])?);
@@ -42,11 +56,13 @@ fn calls_met(rt: &HostRuntime, root: &str) -> Result<u32, Fail> {
     met = count(met, is_read(&mut disk, FileNo::BankB, 0, b"hellp me")?);
     met = count(met, is_read(&mut disk, FileNo::BankB, 6, b"me")?);
     met = count(met, is_read(&mut disk, FileNo::BankB, 99, b"")?);
-    met = count(met, disk.clock() == 3 && disk.faults() == 0);
+    met = count(met, disk.clock() == 5 && disk.faults() == 5);
     // A second handle on the folder is refused, as one of another process is.
-    met = count(met, FileDisk::open(rt, alloc, folder.as_str()).is_err());
+    let mut again = FileDisk::new(rt.clone()?);
+    met = count(met, again.open(&folder).is_err());
+    met = count(met, again.len(FileNo::Head).is_err());
     drop(disk);
-    let mut again = FileDisk::open(rt, alloc, folder.as_str())?;
+    again.open(&folder)?;
     met = count(met, is_read(&mut again, FileNo::BankB, 0, b"hellp me")?);
     met = count(met, again.len(FileNo::Head)? == 128);
     met = count(met, again.clock() == 0);

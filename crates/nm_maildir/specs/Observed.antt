@@ -1,7 +1,8 @@
 -- What is observed of a mail folder at a moment, and what each call makes of it.
 use Rattle.std.specs.Prelude.{◌≡◌, ℕ, Bool, true, false, List, [], ◌∷◌, ◌++◌, Option, Result, Ok, Err}
 use Rattle.std.specs.Option.{option_map}
-use Rattle.nm_faults.specs.Faults.{HasCauseOf}
+use Rattle.nm_base.specs.declared.memory.Failed as memory
+use Rattle.nm_faults.specs.Faults.{HasCause, HasCauseOf}
 use Rattle.nm_maildir.specs.declared.answers.MailError.{MailError}
 use Rattle.nm_maildir.specs.declared.answers.MailError.TheVariants.{Failed, NoMemory}
 use Rattle.nm_maildir.specs.declared.answers.Renamed.{Renamed}
@@ -28,6 +29,12 @@ pub record KeepsMail {T : Type 0} (expected new : ObservedMail) (result : Result
   pub tree : new.tree ≡ expected.tree
   pub reads : new.reads ≡ expected.reads
   pub cause : HasMailCause expected.faults new.faults result
+
+-- What an opening keeps: the tree and the reads stay, and only a failure raised the count.
+pub record OpensMail {T : Type 0} (old new : ObservedMail) (result : Result T memory.Failed) : Type 0 where
+  pub tree : new.tree ≡ old.tree
+  pub reads : new.reads ≡ old.reads
+  pub cause : HasCause old.faults new.faults result
 
 -- the paths read so far, and this one; a call that was out of memory read nothing
 abbrev pub reads_with : {T : Type 0} → List (List ℕ) → List ℕ → Result T MailError → List (List ℕ)

@@ -1,4 +1,4 @@
-//! Listing, reading and renaming in a folder of the system, for `FolderMail`.
+//! Opening, listing, reading and renaming in a folder of the system, for `FolderMail`.
 
 ghost use Rattle.std.specs.Prelude.{IfOk};
 ghost use Rattle.nm_maildir.specs.Order.{AreInOrder};
@@ -46,6 +46,11 @@ impl<T: Drop> From<AllocFailed<T>> for FolderError {
     fn from(_: AllocFailed<T>) -> FolderError {
         FolderError::NoMemory
     }
+}
+
+/// Whether a folder is there, which may be read; it may be a link to one.
+pub(crate) fn can_be_listed<R: Files + AllocGlobal + Clone + Drop>(rt: &R, root: &Text) -> bool {
+    fs::read_dir(rt, root.as_str()).is_ok()
 }
 
 /// The names in a folder. A link is neither a folder nor a file.

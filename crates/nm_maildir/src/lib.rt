@@ -14,7 +14,7 @@ mod still_tree;
 pub use answers::{Got, Listing, MailError, Renamed};
 pub use folder_mail::FolderMail;
 pub use given::{Given, ReadAnswer};
-pub use maildir::Maildir;
+pub use maildir::{MailFolder, Maildir};
 pub use still_tree::StillTree;
 
 #[cfg(test)]

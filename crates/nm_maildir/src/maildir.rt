@@ -1,12 +1,12 @@
-//! What every mail folder is to the code above: it lists, reads, renames, and counts its failures.
+//! What every mail folder is to the code above: it is opened, lists, reads, renames, and counts its failures.
 
 ghost use Rattle.std.specs.Prelude.{◌≡◌, IfOk, IfSome};
-ghost use Rattle.nm_maildir.specs.Observed.{KeepsMail, ObservedMail, after_read, after_rename};
+ghost use Rattle.nm_maildir.specs.Observed.{KeepsMail, ObservedMail, OpensMail, after_read, after_rename};
 ghost use Rattle.nm_maildir.specs.Order.{AreInOrder};
 ghost use Rattle.nm_maildir.specs.Tree.{got_of, listing_of, renamed_of};
 
 use crate::{Got, Listing, MailError, Renamed};
-use nm_base::{MailPath, Text};
+use nm_base::{Failed, MailPath, Text};
 
 /// A folder of mail. Paths are below its root; the root itself is the empty text.
 pub trait Maildir {
@@ -33,4 +33,11 @@ pub trait Maildir {
     /// How often it has failed, up to 2^64 - 1.
     fn faults(&self) -> u64
         ensures { result ≡ (observed self.now).faults };
+}
+
+/// A folder of mail that is opened by its path.
+pub trait MailFolder: Maildir {
+    /// Opens the folder at this path, which is its root from then on. Nothing that it tells changes.
+    fn open(&mut self, dir: &Text) -> Result<(), Failed>
+        ensures { OpensMail (Self.observed self.old) (Self.observed self.new) result };
 }

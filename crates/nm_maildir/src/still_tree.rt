@@ -1,14 +1,15 @@
 //! A tree of mail in memory, which tells what it holds; rows and tests run over it.
 
-ghost use Rattle.std.specs.Prelude.{◌≡◌, is_some, IfOk, IfSome, IsTrue};
-ghost use Rattle.nm_maildir.specs.Observed.{KeepsMail, after_read, after_rename};
+ghost use Rattle.std.specs.Prelude.{◌≡◌, is_err, is_some, IfOk, IfSome, IsTrue};
+ghost use Rattle.nm_faults.specs.Calls.{counted, is_next_listed};
+ghost use Rattle.nm_maildir.specs.Observed.{KeepsMail, OpensMail, after_read, after_rename};
 ghost use Rattle.nm_maildir.specs.Order.{AreInOrder};
 ghost use Rattle.nm_maildir.specs.Still.{CountsCall, are_distinct, observed_still, paths_of, still_of};
 ghost use Rattle.nm_maildir.specs.Tree.{got_of, listing_of, renamed_of};
 
 use crate::memory_files::MemoryFiles;
-use crate::{Got, Listing, MailError, Maildir, Renamed};
-use nm_base::{Copies, MailPath, Many, NoMemory, Text};
+use crate::{Got, Listing, MailError, MailFolder, Maildir, Renamed};
+use nm_base::{Copies, Failed, MailPath, Many, NoMemory, Text};
 use nm_faults::Calls;
 use std::alloc::Global;
 use std::marker::Model;
@@ -121,5 +122,19 @@ impl Maildir for StillTree {
 
     fn faults(&self) -> u64 {
         self.calls.faults()
+    }
+}
+
+impl MailFolder for StillTree {
+    /// Counts a call; a tree in memory has no path.
+    fn open(&mut self, _: &Text) -> Result<(), Failed>
+        ensures opens { OpensMail (observed_still self.old) (observed_still self.new) result }
+        ensures counted { self.new ≡ record self.old { calls = counted self.old.calls } }
+        ensures listed { is_err result ≡ is_next_listed self.old.calls }
+    {
+        if self.calls.count() {
+            return Err(Failed);
+        }
+        Ok(())
     }
 }

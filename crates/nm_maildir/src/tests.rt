@@ -1,8 +1,8 @@
 //! What no contract tells: that a real folder is read as it is.
 
 use crate::folder_io::read_up_to;
-use crate::{FolderMail, Got, Listing, MailError, Maildir, Renamed};
-use nm_base::{MailPath, Text};
+use crate::{FolderMail, Got, Listing, MailError, MailFolder, Maildir, Renamed};
+use nm_base::{Failed, MailPath, Text};
 use std::alloc::Global;
 use std::rt::Files;
 use std::test::Fail;
@@ -12,11 +12,11 @@ use std::{env, fs, io};
 type Row<'a> = (&'a str, &'a str, &'a str, &'a str);
 
 #[test]
-fn a_real_folder_is_listed_read_and_renamed_in(rt: HostRuntime) -> Result<(), Fail> {
+fn a_real_folder_is_opened_listed_read_and_renamed_in(rt: HostRuntime) -> Result<(), Fail> {
     let root = new_folder(&rt)?;
     let met = calls_met(&rt, root.as_str());
     fs::remove_dir_all(&rt, root.as_str()).expect(&rt, "the folder is removed");
-    assert_eq!(rt; met?, (25, 1));
+    assert_eq!(rt; met?, (34, 7));
     Ok(())
 }
 
@@ -70,6 +70,13 @@ fn fill(rt: &HostRuntime, root: &str) -> Result<(), Fail> {
 /// Fills the folder and makes the calls: how many said what they should, and how many failed.
 fn calls_met(rt: &HostRuntime, root: &str) -> Result<(usize, u64), Fail> {
     let rows = [
+        ("list", "", "", "failed"),
+        ("open", "/gone", "", "failed"),
+        ("open", "/new/b", "", "failed"),
+        ("read", "new/b", "4", "failed"),
+        ("rename", "new/b", "cur/b", "failed"),
+        ("open", "", "", "opened"),
+        ("open", "/gone", "", "failed"),
         ("list", "", "", "cur/ new/ "),
         ("list", "new", "", ".sub/ .a 10 b "),
         ("list", "new/.sub", "", "y "),
@@ -95,22 +102,48 @@ fn calls_met(rt: &HostRuntime, root: &str) -> Result<(usize, u64), Fail> {
         ("list", "cur", "", "b:2,S y "),
         ("read", "new/10", "4", ""),
         ("rename", "new/10", "gone/10", "failed"),
+        ("open", "/cur", "", "opened"),
+        ("list", "", "", "b:2,S y "),
     ];
     fill(rt, root)?;
-    let mut mail = FolderMail::new(rt.clone()?, Text::of(rt.alloc(), root)?);
-    let met = rows_met(rt.alloc(), &mut mail, &rows)?;
+    let mut mail = FolderMail::new(rt.clone()?);
+    let met = rows_met(rt.alloc(), &mut mail, root, &rows)?;
     Ok((met, mail.faults()))
 }
 
 /// The number of the first row whose call says something else, or of all rows.
-fn rows_met<M: Maildir>(alloc: Global, mail: &mut M, rows: &[Row<'_>]) -> Result<usize, Fail> {
+fn rows_met<M: MailFolder>(
+    alloc: Global,
+    mail: &mut M,
+    root: &str,
+    rows: &[Row<'_>],
+) -> Result<usize, Fail> {
     'rows: for (i, row) in rows.iter().enumerate() {
-        let said = call(alloc, mail, row.0, row.1, row.2)?;
+        let said = if row.0 == "open" {
+            open(alloc, mail, root, row.1)?
+        } else {
+            call(alloc, mail, row.0, row.1, row.2)?
+        };
         if said.as_str() != row.3 {
             return Ok(i);
         }
     }
     Ok(rows.len())
+}
+
+/// Opens the folder behind this one.
+fn open<M: MailFolder>(
+    alloc: Global,
+    mail: &mut M,
+    root: &str,
+    more: &str,
+) -> Result<String, Fail> {
+    let dir = format!(in alloc; "{root}{more}")?;
+    let said = match mail.open(&Text::of(alloc, dir.as_str())?) {
+        Ok(()) => "opened",
+        Err(Failed) => "failed",
+    };
+    Ok(String::from_str(alloc, said)?)
 }
 
 fn call<M: Maildir>(
