@@ -1,4 +1,5 @@
 pub mod BatchLemmas
+pub mod BodyLemmas
 pub mod LawLemmas
 pub mod ReadLemmas
 pub mod WalkLemmas

@@ -1,4 +1,5 @@
 pub mod Batches
+pub mod Bodies
 pub mod Listing
 pub mod Reading
 pub mod Scanning

@@ -1,5 +1,5 @@
-//! What follows from the definitions of batches, and how a reading goes on batch by batch. These functions run no code: their
-//! clauses are the laws.
+//! What follows from the definitions of batches and of bodies, and how a reading goes on batch by batch. These functions run no
+//! code: their clauses are the laws.
 
 ghost use Rattle.std.specs.Prelude.{◌≡◌, ℕ, ◌<◌, IsTrue, List, [], ◌∷◌, ◌++◌, Ok, Option, Some, length};
 ghost use Rattle.nm_base.specs.declared.facts.Facts.{Facts};
@@ -9,6 +9,7 @@ ghost use Rattle.nm_maildir.specs.declared.given.Given.{Given};
 ghost use Rattle.nm_plan.specs.Plan.{all_arrivals};
 ghost use Rattle.nm_scan.specs.Batches.{HasReadBatch, HasReadBatches, HasReadSome, ReadsBatches, StopsInBatch, full_answers, full_bytes, len_at_all};
 ghost use Rattle.nm_base.specs.Order.{has_text, in_order};
+ghost use Rattle.nm_scan.specs.Bodies.{left_after};
 ghost use Rattle.nm_scan.specs.Walking.{scanned};
 ghost use Rattle.nm_scan.specs.Mail.{IsMailAt, mail_of};
 ghost use Rattle.nm_scan.specs.Reading.{Reads};
@@ -58,4 +59,9 @@ pub fn a_walk_lists_the_mail_of_the_tree()
     ensures met { (tree : Tree) (listed : List (List ℕ)) → scanned tree ≡ Ok listed → listed ≡ in_order (mail_of tree) }
     ensures mail { (tree : Tree) (path : List ℕ) → IsTrue (has_text (mail_of tree) path) → IsMailAt tree path }
     ensures all { (tree : Tree) (listed : List (List ℕ)) (path : List ℕ) → scanned tree ≡ Ok listed → IsMailAt tree path → IsTrue (has_text (mail_of tree) path) }
+{}
+
+/// What some answers leave, less what others bring, is what all of them leave.
+pub fn bytes_left_go_down_in_turn()
+    ensures { (left : ℕ) (before after : List Given) → left_after left (before ++ after) ≡ left_after (left_after left before) after }
 {}

@@ -1,0 +1,8 @@
+use Rattle.std.proofs.Common.{◌-◌, ap, ◌∙◌}
+use Rattle.nm_scan.proofs.BodyLemmas.{left-more}
+use Rattle.nm_scan.proofs.bodies.left_after.Goals as goal
+
+pub given-preserved : goal.given-preserved
+given-preserved c =
+    c.saturating_sub-rest.ensures ∙ (ap (λ len. c.given.rest - len) c.given_len.ensures
+    ∙ left-more c.args.left c.given.rest c.args.given.now c.given.noted-index c.noted-item.result c.given-test.true c.noted-item.is c.given.invariant)
