@@ -1,6 +1,9 @@
 pub mod CountLemmas
 pub mod JsonLemmas
+pub mod ObjectLemmas
 pub mod OnceLemmas
 pub mod OrderLemmas
+pub mod ShowLemmas
 pub mod SubjectLemmas
 pub mod TellingLemmas
+pub mod Utf8Lemmas

@@ -1,12 +1,12 @@
 //! Who wrote the messages of a thread.
 
-ghost use Rattle.std.specs.Prelude.{◌≡◌, ◌++◌, [], ◌∷◌, map, IfOk, OnOk};
+ghost use Rattle.std.specs.Prelude.{◌≡◌, ◌++◌, [], ◌∷◌, map, string_bytes, IfOk, IsUtf8, OnOk};
 ghost use Rattle.std.specs.List.{filter};
 ghost use Rattle.nm_answer.specs.Summary.{author_of, authors_of, authors_text, first_author, is_some_text, mailbox_author, others_of, with_others};
 
 use crate::lists::{each_once, others_of};
 use crate::order::ordered;
-use crate::shown::{push_joined, shown};
+use crate::shown::{joined, shown};
 use nm_base::{Copies, Mailbox, Many, MessageId, NoMemory, Text};
 use nm_state::Snapshot;
 use std::alloc::Global;
@@ -18,12 +18,13 @@ pub(crate) fn authors_text(
     matched: &[MessageId],
     others: &[MessageId],
 ) -> Result<Many<u8>, NoMemory>
-    ensures { IfOk result (λ text. text ≡ authors_text snapshot.now matched.now others.now) }
+    ensures value { IfOk result (λ text. text ≡ authors_text snapshot.now matched.now others.now) }
+    ensures utf8 { IfOk result (λ text. IsUtf8 text) }
 {
     let authors = authors_of(alloc, snapshot, matched)?;
     let left = left_authors(alloc, snapshot, authors.as_slice(), others)?;
     let text = with_others(alloc, authors.as_slice(), left.as_slice())?;
-    let text = shown(alloc, text.as_slice())?;
+    let text = shown(alloc, text.as_bytes())?;
     Ok(text)
 }
 
@@ -41,16 +42,16 @@ fn left_authors(
     Ok(left)
 }
 
-fn with_others(alloc: Global, authors: &[Text], others: &[Text]) -> Result<Many<u8>, NoMemory>
-    ensures { IfOk result (λ text. text ≡ with_others authors.now others.now) }
+fn with_others(alloc: Global, authors: &[Text], others: &[Text]) -> Result<String, NoMemory>
+    ensures { IfOk result (λ text. string_bytes text ≡ with_others authors.now others.now) }
 {
-    let mut text = Many::new(alloc);
-    push_joined(&mut text, b", ", authors)?;
+    let mut text = joined(alloc, ", ", authors)?;
     if others.is_empty() {
         return Ok(text);
     }
-    text.extend_from_slice(b"| ")?;
-    push_joined(&mut text, b", ", others)?;
+    let more = joined(alloc, ", ", others)?;
+    text.push_str("| ")?;
+    text.push_str(more.as_str())?;
     Ok(text)
 }
 

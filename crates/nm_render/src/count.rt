@@ -36,7 +36,7 @@ pub fn count_reply(
 }
 
 /// How many of what is asked the messages come to, and LF.
-pub fn count_text(
+fn count_text(
     alloc: Global,
     snapshot: &Snapshot,
     ids: &[MessageId],

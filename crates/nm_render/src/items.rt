@@ -1,50 +1,16 @@
-//! The reply to a search for threads, messages, files or tags.
+//! What a search for threads, messages, files or tags prints.
 
 ghost use Rattle.std.specs.Prelude.{◌≡◌, ◌++◌, [], ◌∷◌, codes, map, IfOk, OnOk};
-ghost use Rattle.nm_answer.specs.Search.{found_in_order, items_text, part_asked, paths_of_all, tags_of_all, texts_printed, thread_digits, threads_of};
-ghost use Rattle.nm_dates.specs.Seconds.{IsMoment};
+ghost use Rattle.nm_answer.specs.Search.{items_text, part_asked, paths_of_all, tags_of_all, texts_printed, thread_digits, threads_of};
 
 use crate::lists::{part_of, paths_of_all, tags_of_all, threads_of};
-use crate::matching::found;
-use crate::order::ordered;
 use crate::printing::texts_printed;
 use nm_base::{Copies, Many, MessageId, NoMemory, Output, SearchAsk, Tag, Text};
-use nm_query::Query;
 use nm_state::Snapshot;
 use std::alloc::Global;
 
-/// The reply to a search for threads, messages, files or tags whose query has this tree, as lines or as a JSON array.
-pub fn items_reply(
-    alloc: Global,
-    snapshot: &Snapshot,
-    ask: &SearchAsk,
-    query: &Query,
-    moment: i64,
-) -> Result<Many<u8>, NoMemory>
-    requires moment { IsMoment moment }
-    ensures { IfOk result (λ text. text ≡ items_text ask.now.output ask.now snapshot.now (found_in_order ask.now snapshot.now moment query.now)) }
-{
-    let ids = found_in_order(alloc, snapshot, ask, query, moment)?;
-    items_text(alloc, snapshot, ask, ids.as_slice())
-}
-
-/// The messages that a search finds, in its order.
-pub(crate) fn found_in_order(
-    alloc: Global,
-    snapshot: &Snapshot,
-    ask: &SearchAsk,
-    query: &Query,
-    moment: i64,
-) -> Result<Many<MessageId>, NoMemory>
-    requires moment { IsMoment moment }
-    ensures { IfOk result (λ ids. ids ≡ found_in_order ask.now snapshot.now moment query.now) }
-{
-    let ids = found(alloc, snapshot, query, moment, ask.exclude)?;
-    ordered(alloc, snapshot, ask.oldest, ids.as_slice())
-}
-
 /// What is asked of messages that stand in order: their threads, their ids, their files or their tags.
-pub fn items_text(
+pub(crate) fn items_text(
     alloc: Global,
     snapshot: &Snapshot,
     ask: &SearchAsk,

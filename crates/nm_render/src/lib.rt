@@ -2,16 +2,22 @@
 #![tactic(auto)]
 
 mod authors;
+mod body;
 mod count;
 mod groups;
 mod items;
 mod lists;
+mod mailboxes;
 mod matching;
+mod message;
 mod order;
 mod printing;
+mod search;
+mod show;
 mod shown;
 mod summary;
+mod summary_json;
 
-pub use count::{count_reply, count_text};
-pub use items::{items_reply, items_text};
-pub use summary::{summary_lines, summary_reply};
+pub use count::count_reply;
+pub use search::search_reply;
+pub use show::{ShowError, lead_paths, show_text, shown_ids};

@@ -57,7 +57,8 @@ pub(crate) fn strings_json(alloc: Global, texts: &[Text]) -> Result<Many<u8>, No
     Ok(json)
 }
 
-fn array_text(alloc: Global, values: Vec<Value>) -> Result<Many<u8>, NoMemory>
+/// Values as an array.
+pub(crate) fn array_text(alloc: Global, values: Vec<Value>) -> Result<Many<u8>, NoMemory>
     ensures text { IfOk result (λ json. has_float (array (items_of (map view values.items))) ≡ false → json ≡ compact_text (array (items_of (map view values.items)))) }
     ensures reads_back { IfOk result (λ json. depth (array (items_of (map view values.items))) ≤ max_depth → read json ≡ Some (array (items_of (map view values.items)))) }
 {
@@ -65,7 +66,8 @@ fn array_text(alloc: Global, values: Vec<Value>) -> Result<Many<u8>, NoMemory>
     Ok(Many::from_vec(array.to_vec(alloc)?))
 }
 
-fn strings(alloc: Global, texts: &[Text]) -> Result<Vec<Value>, NoMemory>
+/// Texts as strings.
+pub(crate) fn strings(alloc: Global, texts: &[Text]) -> Result<Vec<Value>, NoMemory>
     ensures { IfOk result (λ values. map view values.items ≡ map string texts.now) }
 {
     let mut values = Vec::new(alloc);

@@ -1,6 +1,6 @@
 //! Texts as a summary shows them.
 
-ghost use Rattle.std.specs.Prelude.{◌≡◌, ◌≤◌, ◌++◌, length, IfOk, OnOk};
+ghost use Rattle.std.specs.Prelude.{◌≡◌, ◌≤◌, ◌++◌, length, IfOk, IsUtf8, OnOk, string_bytes};
 ghost use Rattle.nm_answer.specs.Json.{joined};
 ghost use Rattle.nm_render.specs.Joined.{after_first};
 ghost use Rattle.nm_answer.specs.Summary.{bare_subject, behind_reply, in_range, is_reply, shown, shown_byte, shown_day};
@@ -13,7 +13,8 @@ use std::alloc::Global;
 
 /// The text with its control characters as spaces.
 pub(crate) fn shown(alloc: Global, text: &[u8]) -> Result<Many<u8>, NoMemory>
-    ensures { IfOk result (λ bytes. bytes ≡ shown text.now) }
+    ensures value { IfOk result (λ bytes. bytes ≡ shown text.now) }
+    ensures utf8 { IfOk result (λ bytes. IsUtf8 text.now → IsUtf8 bytes) }
 {
     let mut bytes = Many::new(alloc);
     'bytes: for byte in text {
@@ -30,7 +31,8 @@ fn shown_byte(byte: u8) -> u8
 
 /// The subject without the `Re:` at its front.
 pub(crate) fn bare_subject(subject: &[u8]) -> &[u8]
-    ensures { result.now ≡ bare_subject subject.now }
+    ensures value { result.now ≡ bare_subject subject.now }
+    ensures utf8 { IsUtf8 subject.now → IsUtf8 result.now }
 {
     let mut rest = subject;
     'replies: while is_reply(rest) {
@@ -78,29 +80,25 @@ fn in_range(date: i64) -> i64
     date
 }
 
-/// Adds the texts to a line, with `between` between them.
-pub(crate) fn push_joined(
-    line: &mut Many<u8>,
-    between: &[u8],
-    texts: &[Text],
-) -> Result<(), NoMemory>
-    ensures { OnOk result (line.new ≡ line.old ++ joined between.now texts.now) }
+/// The texts one behind the other, with `between` between them.
+pub(crate) fn joined(alloc: Global, between: &str, texts: &[Text]) -> Result<String, NoMemory>
+    ensures { IfOk result (λ whole. string_bytes whole ≡ joined between.now texts.now) }
 {
     let Some((first, more)) = texts.split_first() else {
-        return Ok(());
+        return Ok(String::new(alloc));
     };
-    line.extend_from_slice(first.as_bytes())?;
-    push_more(line, between, more)?;
-    Ok(())
+    let mut whole = String::from_str(alloc, first.as_str())?;
+    push_more(&mut whole, between, more)?;
+    Ok(whole)
 }
 
 /// Adds the texts that follow a first one.
-fn push_more(line: &mut Many<u8>, between: &[u8], texts: &[Text]) -> Result<(), NoMemory>
-    ensures { OnOk result (line.new ≡ line.old ++ after_first between.now texts.now) }
+fn push_more(whole: &mut String, between: &str, texts: &[Text]) -> Result<(), NoMemory>
+    ensures { OnOk result (string_bytes whole.new ≡ string_bytes whole.old ++ after_first between.now texts.now) }
 {
     'texts: for text in texts {
-        line.extend_from_slice(between)?;
-        line.extend_from_slice(text.as_bytes())?;
+        whole.push_str(between)?;
+        whole.push_str(text.as_str())?;
     }
     Ok(())
 }

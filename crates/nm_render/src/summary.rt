@@ -1,47 +1,30 @@
 //! The summaries of the threads that a search finds.
 
-ghost use Rattle.std.specs.Prelude.{◌≡◌, ◌++◌, ◌∷◌, [], codes, length, map, ℕ, IfOk, OnOk};
+ghost use Rattle.std.specs.Prelude.{◌≡◌, ◌++◌, ◌∷◌, [], codes, length, map, ℕ, IfOk, IsUtf8, OnOk};
 ghost use Rattle.std.specs.Fmt.{decimal};
 ghost use Rattle.std.specs.List.{flat_map};
 ghost use Rattle.nm_answer.specs.Count.{files_of_all};
 ghost use Rattle.nm_answer.specs.Json.{joined};
-ghost use Rattle.nm_answer.specs.Search.{found_in_order};
-ghost use Rattle.nm_answer.specs.Summary.{counts_told, files_told, first_date, first_subject, lead_subject, mail_told, name_told, shown_day, subject_of, summary_by, summary_line, summary_lines, thread_told};
+ghost use Rattle.nm_answer.specs.Summary.{counts_told, files_told, first_date, first_subject, lead_subject, mail_told, name_told, shown_day, subject_of, summary_by, summary_line, summary_lines, summary_of, thread_told};
 ghost use Rattle.nm_answer.specs.View.{files_of};
-ghost use Rattle.nm_dates.specs.Seconds.{IsMoment};
 ghost use Rattle.nm_render.specs.Groups.{listed};
+ghost use Rattle.nm_render.specs.SummaryData.{HasTexts};
 
 use crate::authors::authors_text;
 use crate::count::count_files;
 use crate::groups::{Groups, by_thread, live_ids};
-use crate::items::{found_in_order, texts_of_tags, thread_digits};
+use crate::items::{texts_of_tags, thread_digits};
 use crate::lists::{others_of, part_of, tags_of_all, threads_of};
 use crate::order::message_date;
-use crate::shown::{bare_subject, push_joined, shown, shown_day};
+use crate::shown::{bare_subject, joined, shown, shown_day};
 use itoa::Buffer;
 use nm_answer::ThreadSummary;
 use nm_base::{Many, MessageId, NoMemory, SearchAsk};
-use nm_query::Query;
 use nm_state::Snapshot;
 use std::alloc::Global;
 
-/// The lines of a search for summaries whose query has this tree: one for each thread that has a match.
-pub fn summary_reply(
-    alloc: Global,
-    snapshot: &Snapshot,
-    ask: &SearchAsk,
-    query: &Query,
-    moment: i64,
-) -> Result<Many<u8>, NoMemory>
-    requires moment { IsMoment moment }
-    ensures { IfOk result (λ text. text ≡ summary_lines ask.now snapshot.now (found_in_order ask.now snapshot.now moment query.now)) }
-{
-    let ids = found_in_order(alloc, snapshot, ask, query, moment)?;
-    summary_lines(alloc, snapshot, ask, ids.as_slice())
-}
-
 /// The lines of the threads of messages that stand in order.
-pub fn summary_lines(
+pub(crate) fn summary_lines(
     alloc: Global,
     snapshot: &Snapshot,
     ask: &SearchAsk,
@@ -51,11 +34,23 @@ pub fn summary_lines(
 {
     let names = threads_of(alloc, snapshot, ids)?;
     let asked = part_of(names.as_slice(), ask.offset, ask.limit);
+    let (matched, members) = both_groups(alloc, snapshot, ids)?;
+    let lines = lines_of(alloc, snapshot, asked, &matched, &members)?;
+    Ok(lines)
+}
+
+/// The messages that match by their threads, in order, and the live ones.
+pub(crate) fn both_groups(
+    alloc: Global,
+    snapshot: &Snapshot,
+    ids: &[MessageId],
+) -> Result<(Groups, Groups), NoMemory>
+    ensures { IfOk result (λ groups. (name : ℕ) → summary_by snapshot.now name (listed groups.0 name) (listed groups.1 name) ≡ summary_of snapshot.now ids.now name) }
+{
     let matched = by_thread(alloc, snapshot, ids)?;
     let live = live_ids(alloc, snapshot)?;
     let members = by_thread(alloc, snapshot, live.as_slice())?;
-    let lines = lines_of(alloc, snapshot, asked, &matched, &members)?;
-    Ok(lines)
+    Ok((matched, members))
 }
 
 /// The lines of threads, by the messages under their names: those that match, in order, and the live ones.
@@ -85,11 +80,25 @@ fn push_summary(
 ) -> Result<(), NoMemory>
     ensures { OnOk result (lines.new ≡ lines.old ++ summary_line (summary_by snapshot.now name (listed matched.now name) (listed members.now name))) }
 {
-    let matched = listed(matched, name);
-    let members = listed(members, name);
-    let summary = summary_by(alloc, snapshot, name, matched, members)?;
+    let summary = thread_summary(alloc, snapshot, name, matched, members)?;
     push_line(alloc, lines, &summary)?;
     Ok(())
+}
+
+/// The summary of a thread, by the messages under its name.
+pub(crate) fn thread_summary(
+    alloc: Global,
+    snapshot: &Snapshot,
+    name: u64,
+    matched: &Groups,
+    members: &Groups,
+) -> Result<ThreadSummary, NoMemory>
+    ensures value { IfOk result (λ summary. summary ≡ summary_by snapshot.now name (listed matched.now name) (listed members.now name)) }
+    ensures utf8 { IfOk result (λ summary. HasTexts summary) }
+{
+    let matched = listed(matched, name);
+    let members = listed(members, name);
+    summary_by(alloc, snapshot, name, matched, members)
 }
 
 /// The messages of the thread.
@@ -110,7 +119,8 @@ fn summary_by(
     matched: &[MessageId],
     members: &[MessageId],
 ) -> Result<ThreadSummary, NoMemory>
-    ensures { IfOk result (λ summary. summary ≡ summary_by snapshot.now name matched.now members.now) }
+    ensures value { IfOk result (λ summary. summary ≡ summary_by snapshot.now name matched.now members.now) }
+    ensures utf8 { IfOk result (λ summary. HasTexts summary) }
 {
     let others = others_of(alloc, matched, members)?;
     Ok(ThreadSummary {
@@ -139,7 +149,8 @@ fn first_subject(
     snapshot: &Snapshot,
     ids: &[MessageId],
 ) -> Result<Many<u8>, NoMemory>
-    ensures { IfOk result (λ subject. subject ≡ first_subject snapshot.now ids.now) }
+    ensures value { IfOk result (λ subject. subject ≡ first_subject snapshot.now ids.now) }
+    ensures utf8 { IfOk result (λ subject. IsUtf8 subject) }
 {
     match ids.first() {
         Some(id) => subject_of(alloc, snapshot, id),
@@ -149,20 +160,22 @@ fn first_subject(
 
 /// The subject of a message, as it is shown.
 fn subject_of(alloc: Global, snapshot: &Snapshot, id: &MessageId) -> Result<Many<u8>, NoMemory>
-    ensures { IfOk result (λ subject. subject ≡ subject_of snapshot.now id.now) }
+    ensures value { IfOk result (λ subject. subject ≡ subject_of snapshot.now id.now) }
+    ensures utf8 { IfOk result (λ subject. IsUtf8 subject) }
 {
-    shown(alloc, bare_subject(lead_subject(snapshot, id)))
+    let subject = lead_subject(snapshot, id);
+    shown(alloc, bare_subject(subject.as_bytes()))
 }
 
-fn lead_subject<'a>(snapshot: &'a Snapshot, id: &MessageId) -> &'a [u8]
+pub(crate) fn lead_subject<'a>(snapshot: &'a Snapshot, id: &MessageId) -> &'a str
     ensures { result.now ≡ lead_subject (files_of snapshot.now id.now) }
 {
     let Some(mut files) = snapshot.files(id) else {
-        return b"";
+        return "";
     };
     match files.next() {
-        Some((_, facts)) => facts.subject.as_bytes(),
-        None => b"",
+        Some((_, facts)) => facts.subject.as_str(),
+        None => "",
     }
 }
 
@@ -248,5 +261,6 @@ fn push_tags(alloc: Global, line: &mut Many<u8>, summary: &ThreadSummary) -> Res
 {
     let tags = summary.tags.to_list(alloc)?;
     let texts = texts_of_tags(alloc, tags.as_slice())?;
-    push_joined(line, b" ", texts.as_slice())
+    let text = joined(alloc, " ", texts.as_slice())?;
+    line.extend_from_slice(text.as_bytes())
 }

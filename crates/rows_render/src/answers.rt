@@ -2,15 +2,16 @@
 
 use crate::dumps::dump_of;
 use crate::index::index_of;
-use nm_base::{Many, Output, SearchAsk, Text};
+use crate::shows::shows_of;
+use nm_base::{Many, SearchAsk, Text};
 use nm_command::{Request, command};
 use nm_query::{Query, parse};
-use nm_render::{items_reply, summary_reply};
+use nm_render::search_reply;
 use nm_state::Snapshot;
 use rows::{Lines, Program, Row, RowError, text_of};
 use std::alloc::Global;
 
-/// The rows on what searches are answered and how dumps are written.
+/// The rows on what searches are answered, what is shown, and how dumps are written.
 pub struct Searching;
 
 impl Program for Searching {
@@ -18,6 +19,9 @@ impl Program for Searching {
     fn answer(&self, alloc: Global, row: &Row<'_>) -> Result<Vec<u8>, RowError> {
         if row.kind == b"dump".as_slice() {
             return dump_of(alloc, row);
+        }
+        if row.kind == b"show".as_slice() {
+            return shows_of(alloc, row);
         }
         if row.kind != b"search".as_slice() {
             return Err(RowError::Broken("no such kind of row"));
@@ -57,7 +61,7 @@ fn word_of(alloc: Global, bytes: &[u8]) -> Result<Text, RowError> {
     Ok(Text::of(alloc, text)?)
 }
 
-fn query_of(alloc: Global, text: &Text) -> Result<Query, RowError> {
+pub fn query_of(alloc: Global, text: &Text) -> Result<Query, RowError> {
     match parse(alloc, text.as_str()) {
         Ok(query) => Ok(query),
         Err(_) => Err(RowError::Broken("no query where the row has one")),
@@ -72,10 +76,7 @@ fn push_reply(
     ask: &SearchAsk,
 ) -> Result<(), RowError> {
     let query = query_of(alloc, &ask.query)?;
-    let reply = match ask.output {
-        Output::Summary => summary_reply(alloc, snapshot, ask, &query, 0)?,
-        _ => items_reply(alloc, snapshot, ask, &query, 0)?,
-    };
+    let reply = search_reply(alloc, snapshot, ask, &query, 0)?;
     lines.begin()?;
     match reply.as_slice() {
         [] => lines.push(b"-")?,

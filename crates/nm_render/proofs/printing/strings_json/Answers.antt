@@ -1,9 +1,8 @@
-use Rattle.std.proofs.Common.{◌≡◌, List, ℕ, [], ◌∷◌, ◌++◌, map, ap, sym, subst, ◌∙◌, false, arith, rules, Some, ◌≤◌}
-use Rattle.serde_json.specs.Data.{Data, array, depth, items_depth, string}
+use Rattle.std.proofs.Common.{List, [], ◌∷◌, ◌++◌, map, ap, sym, ◌∙◌, arith, Some, ◌≤◌}
+use Rattle.serde_json.specs.Data.{Data, array, depth}
 use Rattle.serde_json.specs.Read.{max_depth, read}
 use Rattle.serde_json.specs.View.{items_of, view}
 use Rattle.serde_json.specs.Written.{compact_text, has_float}
-use Rattle.nm_answer.specs.Json.{json_array, json_string}
 use Rattle.nm_render.proofs.JsonLemmas.{no_depth, no_floats, strings_same}
 use Rattle.nm_render.proofs.printing.strings_json.Goals as goal
 

@@ -1,8 +1,7 @@
-use Rattle.std.proofs.Common.{◌≡◌, List, ℕ, map, ap, ◌∙◌, rules}
+use Rattle.std.proofs.Common.{◌≡◌, map, ap, ◌∙◌, rules}
 use Rattle.std.specs.List.{flat_map}
 use Rattle.nm_answer.specs.Search.{part_asked, threads_of}
-use Rattle.nm_answer.specs.Summary.{in_thread, summary_by, summary_line, summary_of}
-use Rattle.nm_index.specs.Index.{live_ids}
+use Rattle.nm_answer.specs.Summary.{summary_by, summary_line, summary_of}
 use Rattle.nm_render.specs.Groups.{listed}
 use Rattle.nm_render.proofs.TellingLemmas.{same_told}
 use Rattle.nm_render.proofs.summary.summary_lines.Goals as goal
@@ -12,13 +11,9 @@ returns c =
     let index = c.args.snapshot.now in
     let ids = c.args.ids.now in
     let matched = c.in_ok-matched.matched in
-    let members = c.in_ok-members.members in
+    let members = c.in_ok-matched.members in
     let asked = c.part_of-asked.result.now in
-    let live : c.as_slice-2.result.now ≡ live_ids index.files index.entries = search rules in
     let names : asked ≡ part_asked c.args.ask.now (threads_of index ids) = search rules in
     c.in_ok-lines.ensures
-    ∙ same_told (λ name. summary_line (summary_by index name (listed matched name) (listed members name))) (summary_of index ids) summary_line asked
-    (λ name.
-    ap (λ these. summary_line (summary_by index name these (listed members name))) (c.in_ok-matched.ensures name)
-    ∙ ap (λ all. summary_line (summary_by index name (in_thread index name ids) all)) (c.in_ok-members.ensures name ∙ ap (in_thread index name) live))
+    ∙ same_told (λ name. summary_line (summary_by index name (listed matched name) (listed members name))) (summary_of index ids) summary_line asked (λ name. ap summary_line (c.in_ok-matched.ensures name))
     ∙ ap (λ told. flat_map summary_line (map (summary_of index ids) told)) names

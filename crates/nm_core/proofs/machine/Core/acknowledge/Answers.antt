@@ -1,4 +1,4 @@
-use Rattle.std.proofs.Common.{◌≡◌, ℕ, Bool, ◌<◌, List, Option, Some, None, length, sym, ap, subst, ◌∙◌}
+use Rattle.std.proofs.Common.{ℕ, Bool, ◌<◌, List, Option, None, length, sym, ap, subst, ◌∙◌}
 use Rattle.nm_core.specs.Core.{AreIndexes, Kept, machine_of, with_commit}
 use Rattle.nm_core.specs.declared.machine.Made.{Made}
 use Rattle.nm_core.proofs.IndexLemmas.{acknowledged, indexes-kept, order-more}

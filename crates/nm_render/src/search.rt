@@ -1,0 +1,79 @@
+//! The reply to a search. The machine judges replies by it, and a session answers with it.
+
+ghost use Rattle.std.specs.Prelude.{◌≡◌, IfOk};
+ghost use Rattle.nm_answer.specs.Found.{found_text, search_found, summaries_text};
+ghost use Rattle.nm_answer.specs.Search.{found_in_order};
+ghost use Rattle.nm_dates.specs.Seconds.{IsMoment};
+
+use crate::items::items_text;
+use crate::matching::found;
+use crate::order::ordered;
+use crate::summary::summary_lines;
+use crate::summary_json::summaries_json;
+use nm_base::{Many, MessageId, NoMemory, Output, SearchAsk};
+use nm_query::Query;
+use nm_state::Snapshot;
+use std::alloc::Global;
+
+/// The reply to a search whose query has this tree, of any kind and in either form.
+pub fn search_reply(
+    alloc: Global,
+    snapshot: &Snapshot,
+    ask: &SearchAsk,
+    query: &Query,
+    moment: i64,
+) -> Result<Many<u8>, NoMemory>
+    requires moment { IsMoment moment }
+    ensures { IfOk result (λ text. text ≡ search_found ask.now snapshot.now moment query.now) }
+{
+    let ids = found_in_order(alloc, snapshot, ask, query, moment)?;
+    let text = found_text(alloc, snapshot, ask, ids.as_slice())?;
+    Ok(text)
+}
+
+/// The messages that a search finds, in its order.
+fn found_in_order(
+    alloc: Global,
+    snapshot: &Snapshot,
+    ask: &SearchAsk,
+    query: &Query,
+    moment: i64,
+) -> Result<Many<MessageId>, NoMemory>
+    requires moment { IsMoment moment }
+    ensures { IfOk result (λ ids. ids ≡ found_in_order ask.now snapshot.now moment query.now) }
+{
+    let ids = found(alloc, snapshot, query, moment, ask.exclude)?;
+    ordered(alloc, snapshot, ask.oldest, ids.as_slice())
+}
+
+/// What is asked of messages that stand in order.
+fn found_text(
+    alloc: Global,
+    snapshot: &Snapshot,
+    ask: &SearchAsk,
+    ids: &[MessageId],
+) -> Result<Many<u8>, NoMemory>
+    ensures { IfOk result (λ text. text ≡ found_text ask.now.output ask.now snapshot.now ids.now) }
+{
+    match ask.output {
+        Output::Summary => summaries_text(alloc, snapshot, ask, ids),
+        Output::Threads => items_text(alloc, snapshot, ask, ids),
+        Output::Messages => items_text(alloc, snapshot, ask, ids),
+        Output::Files => items_text(alloc, snapshot, ask, ids),
+        Output::Tags => items_text(alloc, snapshot, ask, ids),
+    }
+}
+
+fn summaries_text(
+    alloc: Global,
+    snapshot: &Snapshot,
+    ask: &SearchAsk,
+    ids: &[MessageId],
+) -> Result<Many<u8>, NoMemory>
+    ensures { IfOk result (λ text. text ≡ summaries_text ask.now snapshot.now ids.now) }
+{
+    if ask.json {
+        return summaries_json(alloc, snapshot, ask, ids);
+    }
+    summary_lines(alloc, snapshot, ask, ids)
+}

@@ -1,0 +1,149 @@
+//! The summaries of the threads that a search finds, as a JSON array of objects.
+
+ghost use Rattle.std.specs.Prelude.{◌≡◌, map, IfOk, OnOk, Some};
+ghost use Rattle.serde_json.specs.Data.{array, put as with_member, string};
+ghost use Rattle.serde_json.specs.Read.{read};
+ghost use Rattle.serde_json.specs.View.{items_of, members_view, view};
+ghost use Rattle.nm_answer.specs.Json.{json_array};
+ghost use Rattle.nm_answer.specs.Search.{part_asked, threads_of};
+ghost use Rattle.nm_answer.specs.Summary.{summary_by, summary_of};
+ghost use Rattle.nm_answer.specs.SummaryJson.{summaries_json, summary_json};
+ghost use Rattle.nm_render.specs.Groups.{listed};
+ghost use Rattle.nm_render.specs.SummaryData.{summary_data, with_mail, with_numbers, HasTexts};
+
+use crate::groups::Groups;
+use crate::items::{texts_of_tags, thread_digits};
+use crate::lists::{part_of, threads_of};
+use crate::printing::{array_text, strings};
+use crate::summary::{both_groups, thread_summary};
+use nm_answer::ThreadSummary;
+use nm_base::{Many, MessageId, NoMemory, SearchAsk};
+use nm_state::Snapshot;
+use nm_text::as_text;
+use serde_json::{Map, Value, put};
+use std::alloc::Global;
+
+/// The threads of messages that stand in order, as an array of objects, and LF. The library reads the array as these objects.
+pub(crate) fn summaries_json(
+    alloc: Global,
+    snapshot: &Snapshot,
+    ask: &SearchAsk,
+    ids: &[MessageId],
+) -> Result<Many<u8>, NoMemory>
+    ensures text { IfOk result (λ text. text ≡ summaries_json ask.now snapshot.now ids.now) }
+    ensures reads_back { let summaries = map (summary_of snapshot.now ids.now) (part_asked ask.now (threads_of snapshot.now ids.now)) in
+        OnOk result (read (json_array (map summary_json summaries)) ≡ Some (array (items_of (map summary_data summaries)))) }
+{
+    let names = threads_of(alloc, snapshot, ids)?;
+    let asked = part_of(names.as_slice(), ask.offset, ask.limit);
+    let (matched, members) = both_groups(alloc, snapshot, ids)?;
+    let objects = objects_of(alloc, snapshot, asked, &matched, &members)?;
+    let mut json = array_text(alloc, objects)?;
+    json.push(b'\n')?;
+    Ok(json)
+}
+
+/// The objects of threads, by the messages under their names: those that match, in order, and the live ones.
+fn objects_of(
+    alloc: Global,
+    snapshot: &Snapshot,
+    names: &[u64],
+    matched: &Groups,
+    members: &Groups,
+) -> Result<Vec<Value>, NoMemory>
+    ensures { IfOk result (λ objects. map view objects.items ≡ map (λ name. summary_data (summary_by snapshot.now name (listed matched.now name) (listed members.now name))) names.now) }
+{
+    let mut objects = Vec::new(alloc);
+    'names: for name in names {
+        objects.push(thread_object(alloc, snapshot, *name, matched, members)?)?;
+    }
+    Ok(objects)
+}
+
+fn thread_object(
+    alloc: Global,
+    snapshot: &Snapshot,
+    name: u64,
+    matched: &Groups,
+    members: &Groups,
+) -> Result<Value, NoMemory>
+    ensures { IfOk result (λ object. view object ≡ summary_data (summary_by snapshot.now name (listed matched.now name) (listed members.now name))) }
+{
+    let summary = thread_summary(alloc, snapshot, name, matched, members)?;
+    let object = object_of(alloc, &summary)?;
+    Ok(object)
+}
+
+/// The summary of a thread as an object.
+fn object_of(alloc: Global, summary: &ThreadSummary) -> Result<Value, NoMemory>
+    requires texts { HasTexts summary.now }
+    ensures { IfOk result (λ object. view object ≡ summary_data summary.now) }
+{
+    let mut members = Map::new(alloc);
+    put_mail(alloc, &mut members, summary)?;
+    put_numbers(alloc, &mut members, summary)?;
+    Ok(Value::Object(members))
+}
+
+fn put_mail(
+    alloc: Global,
+    members: &mut Map<String, Value>,
+    summary: &ThreadSummary,
+) -> Result<(), NoMemory>
+    requires texts { HasTexts summary.now }
+    ensures { OnOk result (members_view members.new.entries ≡ with_mail summary.now (members_view members.old.entries)) }
+{
+    let thread = thread_digits(alloc, summary.thread)?;
+    let tags = tags_array(alloc, summary)?;
+    put_text(
+        alloc,
+        members,
+        "authors",
+        as_text(summary.authors.as_slice()),
+    )?;
+    put_text(
+        alloc,
+        members,
+        "subject",
+        as_text(summary.subject.as_slice()),
+    )?;
+    put(members, alloc, "tags", tags)?;
+    put_text(alloc, members, "thread", thread.as_str())?;
+    Ok(())
+}
+
+fn put_numbers(
+    alloc: Global,
+    members: &mut Map<String, Value>,
+    summary: &ThreadSummary,
+) -> Result<(), NoMemory>
+    ensures { OnOk result (members_view members.new.entries ≡ with_numbers summary.now (members_view members.old.entries)) }
+{
+    put(members, alloc, "files", Value::from(summary.files))?;
+    put(members, alloc, "matched", Value::from(summary.matched))?;
+    put(members, alloc, "timestamp", Value::from(summary.date))?;
+    put(members, alloc, "total", Value::from(summary.total))?;
+    Ok(())
+}
+
+fn put_text(
+    alloc: Global,
+    members: &mut Map<String, Value>,
+    name: &str,
+    text: &str,
+) -> Result<(), NoMemory>
+    ensures { OnOk result (members_view members.new.entries ≡ with_member name.now (string text.now) (members_view members.old.entries)) }
+{
+    let text = Value::try_from_str(alloc, text)?;
+    put(members, alloc, name, text)?;
+    Ok(())
+}
+
+fn tags_array(alloc: Global, summary: &ThreadSummary) -> Result<Value, NoMemory>
+    ensures { IfOk result (λ tags. view tags ≡ array (items_of (map string summary.now.tags))) }
+{
+    let tags = summary.tags.to_list(alloc)?;
+    let texts = texts_of_tags(alloc, tags.as_slice())?;
+    let strings = strings(alloc, texts.as_slice())?;
+    Ok(Value::Array(strings))
+}
