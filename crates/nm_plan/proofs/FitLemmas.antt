@@ -54,7 +54,7 @@ every-cond : (P : List ℕ → Type 0) (b : Bool) (text : List ℕ) (texts : Lis
 every-cond P true text texts first rest = (first, rest)
 every-cond P false text texts first rest = rest
 
-every-filter : (P : List ℕ → Type 0) (keep : List ℕ → Bool) (texts : List (List ℕ)) → AllByRecursion P texts → AllByRecursion P (filter keep texts)
+pub every-filter : (P : List ℕ → Type 0) (keep : List ℕ → Bool) (texts : List (List ℕ)) → AllByRecursion P texts → AllByRecursion P (filter keep texts)
 every-filter P keep [] h = tt
 every-filter P keep (text ∷ texts) h = every-cond P (keep text) text (filter keep texts) h.0 (every-filter P keep texts h.1)
 
@@ -70,7 +70,7 @@ pub every-map : (P Q : List ℕ → Type 0) (texts : List (List ℕ)) → ((text
 every-map P Q [] f h = tt
 every-map P Q (text ∷ texts) f h = (f text h.0, every-map P Q texts f h.1)
 
-every-both : (P Q R : List ℕ → Type 0) (texts : List (List ℕ)) → ((text : List ℕ) → P text → Q text → R text) → AllByRecursion P texts → AllByRecursion Q texts → AllByRecursion R texts
+pub every-both : (P Q R : List ℕ → Type 0) (texts : List (List ℕ)) → ((text : List ℕ) → P text → Q text → R text) → AllByRecursion P texts → AllByRecursion Q texts → AllByRecursion R texts
 every-both P Q R [] f h k = tt
 every-both P Q R (text ∷ texts) f h k = (f text h.0 k.0, every-both P Q R texts f h.1 k.1)
 
@@ -79,7 +79,7 @@ or-step : (a : Bool) (b c d : Bool) → b ≡ (c || d) → (a || b) ≡ ((a || c
 or-step true b c d h = refl
 or-step false b c d h = h
 
-has_text-append : (texts others : List (List ℕ)) (text : List ℕ) → has_text (texts ++ others) text ≡ (has_text texts text || has_text others text)
+pub has_text-append : (texts others : List (List ℕ)) (text : List ℕ) → has_text (texts ++ others) text ≡ (has_text texts text || has_text others text)
 has_text-append [] others text = refl
 has_text-append (first ∷ texts) others text = or-step (same_text text first) _ (has_text texts text) (has_text others text) (has_text-append texts others text)
 
@@ -88,7 +88,7 @@ paths-append [] more = refl
 paths-append (file ∷ files) more = ap (λ (l : List (List ℕ)). file.0 ∷ l) (paths-append files more)
 
 -- none of the others lies where one more lies
-not_there : (files : List (List ℕ × Facts)) (file : List ℕ × Facts) (path : List ℕ) → has_path files path ≡ false → same_text file.0 path ≡ false → has_path (files ++ file ∷ []) path ≡ false
+pub not_there : (files : List (List ℕ × Facts)) (file : List ℕ × Facts) (path : List ℕ) → has_path files path ≡ false → same_text file.0 path ≡ false → has_path (files ++ file ∷ []) path ≡ false
 not_there files file path none other =
     ap (λ (l : List (List ℕ)). has_text l path) (paths-append files (file ∷ []))
     ∙ (has_text-append (paths_of files) (file.0 ∷ []) path
@@ -150,7 +150,7 @@ set-cond : (files : List (List ℕ × Facts)) (b : Bool) (id : List ℕ) (tags :
 set-cond files true id tags more here rest = rest
 set-cond files false id tags more here rest = (here, rest)
 
-fit-sets : (files : List (List ℕ × Facts)) (old new : List ℕ → List (List ℕ)) (ids : List (List ℕ)) → AllByRecursion (λ id. has_id files id ≡ true) ids → FitChanges files (flat_map (λ id. set_tags id (old id) (new id)) ids)
+pub fit-sets : (files : List (List ℕ × Facts)) (old new : List ℕ → List (List ℕ)) (ids : List (List ℕ)) → AllByRecursion (λ id. has_id files id ≡ true) ids → FitChanges files (flat_map (λ id. set_tags id (old id) (new id)) ids)
 fit-sets files old new [] h = tt
 fit-sets files old new (id ∷ ids) h =
     set-cond files (pointwise same_text (old id) (new id)) id (new id) (flat_map (λ other. set_tags other (old other) (new other)) ids) h.0 (fit-sets files old new ids h.1)
@@ -160,7 +160,7 @@ live-cond : (files : List (List ℕ × Facts)) (b : Bool) (entry : List ℕ × �
 live-cond files true entry entries is h = (is, h)
 live-cond files false entry entries is h = h
 
-all-live : (files : List (List ℕ × Facts)) (entries : List (List ℕ × ℕ)) → AllByRecursion (λ id. has_id files id ≡ true) (live_ids files entries)
+pub all-live : (files : List (List ℕ × Facts)) (entries : List (List ℕ × ℕ)) → AllByRecursion (λ id. has_id files id ≡ true) (live_ids files entries)
 all-live files [] = tt
 all-live files (entry ∷ entries) = live-cond files (has_id files entry.0) entry (filter (λ e. has_id files e.0) entries) refl (all-live files entries)
 
@@ -184,7 +184,7 @@ fit-commit follow index (change ∷ changes) ids h =
       tt,
     )
 
-fit-append : (index : Base) (commits more : List Commit) → FitInTurn index commits → FitInTurn (folded index commits) more → FitInTurn index (commits ++ more)
+pub fit-append : (index : Base) (commits more : List Commit) → FitInTurn index commits → FitInTurn (folded index commits) more → FitInTurn index (commits ++ more)
 fit-append index [] more h k = k
 fit-append index (commit ∷ commits) more h k = (h.0, fit-append (committed index commit) commits more h.1 k)
 

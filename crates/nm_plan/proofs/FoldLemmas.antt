@@ -56,7 +56,7 @@ silent-cond : (files : List (List ℕ × Facts)) (b : Bool) (id : List ℕ) (tag
 silent-cond files true id tags more = refl
 silent-cond files false id tags more = refl
 
-silent : (files : List (List ℕ × Facts)) (old new : List ℕ → List (List ℕ)) (ids : List (List ℕ)) → fold changed files (flat_map (λ id. set_tags id (old id) (new id)) ids) ≡ files
+pub silent : (files : List (List ℕ × Facts)) (old new : List ℕ → List (List ℕ)) (ids : List (List ℕ)) → fold changed files (flat_map (λ id. set_tags id (old id) (new id)) ids) ≡ files
 silent files old new [] = refl
 silent files old new (id ∷ ids) =
     silent-cond files (pointwise same_text (old id) (new id)) id (new id) (flat_map (λ other. set_tags other (old other) (new other)) ids) ∙ silent files old new ids

@@ -1,6 +1,9 @@
+pub mod ApartLemmas
 pub mod FitLemmas
 pub mod FoldLemmas
+pub mod MovingLemmas
 pub mod NumberLemmas
 pub mod OrderLemmas
 pub mod SetLemmas
 pub mod TagLemmas
+pub mod TaggingLemmas

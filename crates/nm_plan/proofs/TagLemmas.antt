@@ -43,7 +43,7 @@ lookup-own : (id : List ℕ) (tags : Texts) (entries : Tagged) → lookup (is_at
 lookup-own id tags [] = own-first id tags []
 lookup-own id tags (entry ∷ entries) = own-by id tags entry entries (slice_cmp nat_cmp id entry.0) refl (lookup-own id tags entries)
 
-tags-own : (index : Base) (id : List ℕ) (tags : Texts) → message_tags (with_tags index id tags) id ≡ tags
+pub tags-own : (index : Base) (id : List ℕ) (tags : Texts) → message_tags (with_tags index id tags) id ≡ tags
 tags-own index id tags = ap (λ (o : Option Texts). unwrap_or o []) (lookup-own id tags index.tags)
 
 -- lists of texts that are told to be the same are
@@ -76,7 +76,7 @@ live-cond : (b : Bool) (entry : List ℕ × ℕ) (rest : List (List ℕ × ℕ))
 live-cond true entry rest first more = (first, more)
 live-cond false entry rest first more = more
 
-live-apart : (files : List (List ℕ × Facts)) (next : ℕ) (entries : List (List ℕ × ℕ)) → InOrder next entries → IsApart (live_ids files entries)
+pub live-apart : (files : List (List ℕ × Facts)) (next : ℕ) (entries : List (List ℕ × ℕ)) → InOrder next entries → IsApart (live_ids files entries)
 live-apart files next [] h = tt
 live-apart files next (entry ∷ entries) h = live-cond (has_id files entry.0) entry (filter (λ e. has_id files e.0) entries) (live-other files entry entries h.1) (live-apart files next entries h.2)
 
@@ -98,7 +98,7 @@ module _ (others : (index : Base) (id other : List ℕ) (tags : Texts) → same_
     first-set false index x tags more = refl
 
     -- of the others they stay
-    sets-other : (ids : Texts) (index : Base) (id : List ℕ) → has_text ids id ≡ false → message_tags (fold applied index (sets ids)) id ≡ message_tags index id
+    pub sets-other : (ids : Texts) (index : Base) (id : List ℕ) → has_text ids id ≡ false → message_tags (fold applied index (sets ids)) id ≡ message_tags index id
     sets-other [] index id none = refl
     sets-other (x ∷ ids) index id none =
         let apart = neither (same_text id x) (has_text ids id) none in
@@ -120,7 +120,7 @@ module _ (others : (index : Base) (id other : List ℕ) (tags : Texts) → same_
         ap (λ (i : Base). message_tags i id) (first-set b index x (new x) (sets ids)) ∙ more after there (other-by b index x id (new x) is ∙ begins)
 
     -- of these they are the new ones
-    sets-own : (ids : Texts) (index : Base) (id : List ℕ) → IsApart ids → has_text ids id ≡ true → message_tags index id ≡ old id → message_tags (fold applied index (sets ids)) id ≡ new id
+    pub sets-own : (ids : Texts) (index : Base) (id : List ℕ) → IsApart ids → has_text ids id ≡ true → message_tags index id ≡ old id → message_tags (fold applied index (sets ids)) id ≡ new id
     sets-own [] index id apart there begins = absurd (cc)
     sets-own (x ∷ ids) index id apart there begins = own-case x ids index id (same_text id x) refl apart there begins (λ after here is. sets-own ids after id apart.1 here is)
 

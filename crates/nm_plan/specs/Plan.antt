@@ -7,7 +7,7 @@ use Rattle.nm_base.specs.Order.{has_text, same_text}
 use Rattle.nm_base.specs.declared.facts.Facts.{Facts}
 use Rattle.nm_answer.specs.NewText.{gone, listed_in}
 use Rattle.nm_answer.specs.declared.request.Request.{Request}
-use Rattle.nm_answer.specs.declared.request.Request.TheVariants.{New, Count}
+use Rattle.nm_answer.specs.declared.request.Request.TheVariants.{New, Count, Search, Dump}
 use Rattle.nm_commit.specs.Files.{has_path, paths_of}
 use Rattle.nm_commit.specs.declared.change.Change.{Change}
 use Rattle.nm_commit.specs.declared.change.Change.TheVariants.{Add, Drop}
@@ -61,10 +61,12 @@ abbrev pub commits_so_far : Base → List (List ℕ) → List (List (List ℕ ×
 commits_so_far index listed batches [] = new_commits index listed batches
 commits_so_far index listed batches (path ∷ left) = batch_commits index batches
 
--- the commits that are due to a request on an index, with what it has found so far; a count makes none
+-- the commits that are due to a request on an index, with what it has found so far; what only reads makes none
 abbrev pub due_commits : Request → Base → List Given → List (List (List ℕ × Facts)) → List (List ℕ) → List Commit
 due_commits New index noted batches left = commits_so_far index (listed_in noted) batches left
 due_commits (Count ask) index noted batches left = []
+due_commits (Search ask) index noted batches left = []
+due_commits (Dump ask) index noted batches left = []
 
 -- the files after a `new`: what has come stands behind what was there, and what is gone is away
 abbrev pub files_after_new : List (List ℕ × Facts) → List (List ℕ) → List (List ℕ × Facts) → List (List ℕ × Facts)

@@ -10,6 +10,7 @@ ghost use Rattle.nm_commit.specs.declared.change.Commit.{Commit};
 ghost use Rattle.nm_index.specs.Index.{applied, empty_index, folded};
 ghost use Rattle.nm_index.specs.declared.base.Base.{Base};
 ghost use Rattle.nm_index.specs.Fits.{FitInTurn};
+ghost use Rattle.nm_plan.specs.Apart.{AreApart};
 ghost use Rattle.nm_plan.specs.Numbering.{AreNumbered};
 ghost use Rattle.nm_plan.specs.NameTags.{commit_of, live_of, message_tags, named_tags};
 ghost use Rattle.nm_plan.specs.Plan.{AreArrivals, all_arrivals, batch_commit, batch_commits, files_after_new, new_commits};
@@ -55,6 +56,14 @@ pub fn numbers_stay_in_order()
     ensures empty { AreNumbered empty_index }
     ensures kept { (index : Base) (commits : List Commit) → AreNumbered index → AreNumbered (folded index commits) }
 {}
+
+/// No two files lie at one path, whatever commits that fit.
+pub fn files_stay_apart()
+    ensures empty { AreApart empty_index.files }
+    ensures kept { (index : Base) (commits : List Commit) → AreApart index.files → FitInTurn index commits → AreApart (folded index commits).files }
+{
+    files_follow_their_commits();
+}
 
 /// A commit gives each message that it is about, and that has a file, the tags that the names of its files say; it sets no tags of
 /// any other message. So what has come leaves the tags of all messages that none of it is of.

@@ -43,6 +43,12 @@ through-map : (file : FileNo) (P Q : List ℕ → Type 0) (old new : Moments) �
 through-map file P Q old new f h = record { states = h.states; each = each-map file P Q f h.states h.each; are = h.are }
 
 -- at every moment of an append the disk holds one of the two indices
+-- a writer that stands on a disk has its journal there
+pub journal-stands : (told : Option Moments) (writer : WriterState) (journal : JournalState) → writer.journal ≡ journal → IfSome told (λ m. StandsOnIndex m.present writer)
+    → IfSome told (λ m. (bodies : List (List ℕ)) × StandsOn m.present journal bodies)
+journal-stands None writer journal same stands = tt
+journal-stands (Some m) writer journal same stands = (stands.bodies, subst (λ (j : JournalState). StandsOn m.present j stands.bodies) same stands.journal)
+
 pub any-moment : (old new : Option Moments) (writer : WriterState) (journal : JournalState) (commit : Commit) (frame : List ℕ) → writer.journal ≡ journal → IfSome old (λ m. StandsOnIndex m.present writer)
     → frame ≡ commit_grammar.bytes commit → commit_grammar.is_value commit ≡ true → Fits writer.shown.files commit
     → GoesOn (λ o n. (bodies : List (List ℕ)) → StandsOn o.present journal bodies → GoesThrough journal.file (IsBeforeOrAfter journal.start bodies frame) o n) old new

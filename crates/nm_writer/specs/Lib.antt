@@ -4,7 +4,10 @@ pub mod Errors
 pub mod Naming
 pub mod New
 pub mod Opening
+pub mod Renamed
 pub mod Report
 pub mod StoredIndex
+pub mod Tagged
+pub mod Wanting
 pub mod Writer
 pub mod Writing

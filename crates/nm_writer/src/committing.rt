@@ -20,7 +20,7 @@ use nm_base::Limit;
 use nm_commit::Commit;
 use nm_disk::{Disk, DiskFault, FileNo};
 use nm_journal::Frame;
-use nm_plan::numbers_stay_in_order;
+use nm_plan::{files_stay_apart, numbers_stay_in_order};
 use nm_record::{commit_bytes, commit_len};
 use nm_state::{RoomError, Snapshot};
 use std::alloc::Global;
@@ -76,6 +76,7 @@ impl Writer {
         ensures cause { HasCauseOf is_write_fault (D.observed disk.old).faults (D.observed disk.new).faults result }
     {
         numbers_stay_in_order();
+        files_stay_apart();
         let made = self.begun.as_slice().len();
         let (frame, next) = prepared(self.alloc, made, &self.shown, &commit)?;
         self.begun.reserve(1)?;

@@ -6,9 +6,13 @@ mod laws;
 mod naming;
 mod new;
 mod open_error;
+mod renaming;
 mod replaying;
 mod reporting;
 mod scanning;
+mod tag;
+mod tagging;
+mod wanting;
 mod write_error;
 mod writer;
 

@@ -57,7 +57,7 @@ fn by_numbers(
 }
 
 /// Puts the message at its number, where it has a file.
-fn add_numbered(
+pub(crate) fn add_numbered(
     after: &Snapshot,
     id: &MessageId,
     numbered: &mut BTreeMap<u64, MessageId>,
@@ -126,7 +126,7 @@ fn add_set(
 }
 
 /// The paths of a message's files, in the order of their arrival.
-fn message_paths(
+pub(crate) fn message_paths(
     alloc: Global,
     after: &Snapshot,
     id: &MessageId,

@@ -18,7 +18,7 @@ use nm_base::{Many, Room};
 use nm_commit::Commit;
 use nm_disk::{Disk, FileNo};
 use nm_journal::Journal;
-use nm_plan::numbers_stay_in_order;
+use nm_plan::{files_stay_apart, numbers_stay_in_order};
 use nm_state::Snapshot;
 use std::alloc::Global;
 use std::marker::Model;
@@ -39,6 +39,7 @@ pub struct Writer {
 impl Model for Writer {
     ghost use Rattle.std.specs.Prelude.{◌≡◌, ◌≤◌, None, false, length};
     ghost use Rattle.nm_base.specs.Limits.{max_commits};
+    ghost use Rattle.nm_plan.specs.Apart.{AreApart};
     ghost use Rattle.nm_plan.specs.Numbering.{AreNumbered};
     ghost use Rattle.nm_writer.specs.Writer.{WriterState};
 
@@ -46,7 +47,7 @@ impl Model for Writer {
 
     ghost view = { λ w. record { journal = w.journal; shown = w.shown; begun = w.begun.0; acked = w.acked.0; closed = w.closed } };
 
-    ghost invariant = { λ w. (w.closed ≡ None → w.journal.failed ≡ false) × (length w.begun.0 ≤ max_commits) × AreNumbered w.shown };
+    ghost invariant = { λ w. (w.closed ≡ None → w.journal.failed ≡ false) × (length w.begun.0 ≤ max_commits) × AreNumbered w.shown × AreApart w.shown.files };
 }
 
 impl Drop for Writer {
@@ -120,6 +121,7 @@ impl Writer {
     {
         let (journal, bodies) = Journal::open(alloc, disk, FileNo::Head, 0)?;
         numbers_stay_in_order();
+        files_stay_apart();
         let shown = replayed(alloc, bodies.as_slice())?;
         // A clock is a number of 64 bits, which the contract tells of the disk as well.
         let _ = disk.clock();

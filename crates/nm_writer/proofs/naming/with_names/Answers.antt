@@ -1,4 +1,4 @@
-use Rattle.std.proofs.Common.{rules, ◌≡◌, List, [], ◌∷◌, ◌++◌, sym, subst}
+use Rattle.std.proofs.Common.{rules, ◌≡◌, [], ◌∷◌, ◌++◌, sym, subst}
 use Rattle.std.specs.List.{flat_map}
 use Rattle.nm_plan.specs.NameTags.{live_of, message_tags, named_tags, set_tags}
 use Rattle.nm_plan.specs.Numbering.{AreNumbered}

@@ -1,13 +1,20 @@
 use Rattle.std.proofs.Common.{rules, ◌≡◌, ◌≤◌, false, List, [], ◌∷◌, None, length, sym, ap, ◌∙◌, subst, arith}
 use Rattle.std.proofs.lemmas.List.{length_push}
 use Rattle.nm_base.specs.Limits.{max_commits}
+use Rattle.nm_index.specs.declared.base.Base.{Base}
+use Rattle.nm_commit.specs.Files.{Fits}
+use Rattle.nm_plan.specs.Apart.{AreApart}
 use Rattle.nm_plan.specs.Numbering.{AreNumbered}
 use Rattle.nm_commit.specs.declared.change.Commit.{Commit}
 use Rattle.nm_index.specs.Index.{committed}
 use Rattle.nm_journal.specs.Journal.{JournalState}
 use Rattle.nm_writer.specs.Writer.{WriterState}
-use Rattle.nm_writer.proofs.CommitLemmas.{any-moment, stands-after}
+use Rattle.nm_writer.proofs.CommitLemmas.{any-moment, journal-stands, stands-after}
 use Rattle.nm_writer.proofs.writer.Writer.make.Goals as goal
+
+pub append-requires-clause-stands : goal.append-requires-clause-stands
+append-requires-clause-stands g c =
+    journal-stands (g.D.Disk.observed c.args.disk.now).told c.args.self.now c.self.inside.journal (ap (λ (w : WriterState). w.journal) (sym c.self.view_is)) c.requires.stands
 
 pub invariant_of-self-in-Ok : goal.invariant_of-self-in-Ok
 invariant_of-self-in-Ok g c =
@@ -20,8 +27,13 @@ invariant_of-self-in-Ok g c =
       length_push c.reserve.new.self.0 c.args.commit,
       ap (λ (l : List Commit). length l) c.reserve.ensures.list,
       ap (λ (l : List Commit). length l) c.as_slice-made.ensures,
-    ) in
-    (alive, few, subst AreNumbered (sym c.in_ok-frame.ensures.next) (c.numbers_stay_in_order.ensures.kept c.self.inside.shown (c.args.commit ∷ []) c.self.invariant.2))
+    ) in (
+      alive,
+      few,
+      subst AreNumbered (sym c.in_ok-frame.ensures.next) (c.numbers_stay_in_order.ensures.kept c.self.inside.shown (c.args.commit ∷ []) c.self.invariant.2),
+      subst (λ (b : Base). AreApart b.files) (sym c.in_ok-frame.ensures.next)
+          (c.files_stay_apart.ensures.kept c.self.inside.shown (c.args.commit ∷ []) c.self.invariant.3 (subst (λ (w : WriterState). Fits w.shown.files c.args.commit) (sym c.self.view_is) c.requires.fits, tt)),
+    )
 
 pub returns-in-Ok-clause-stands : goal.returns-in-Ok-clause-stands
 returns-in-Ok-clause-stands g c =

@@ -1,0 +1,21 @@
+//! What a command that sets tags tells of the files that keep their names; the session makes its text of it.
+
+use nm_base::{MailPath, Many};
+
+/// Why a file keeps its name.
+#[derive(Clone, Copy, Debug, PartialEq, Eq)]
+pub enum Unmoved {
+    /// It isn't there.
+    Missing,
+    /// Another file has the new name.
+    Exists,
+    /// The new name would be too long.
+    Long,
+}
+
+/// What a command that sets tags did with the names of files.
+#[derive(Debug, Drop)]
+pub struct SyncReport {
+    /// The files that keep names which don't follow their tags, in the order in which they were gone through.
+    pub unmoved: Many<(MailPath, Unmoved)>,
+}

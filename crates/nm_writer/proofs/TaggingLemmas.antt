@@ -1,0 +1,149 @@
+-- The changes of tags: those of the messages that may have other tags are those of all.
+use Rattle.std.proofs.Common.{◌≡◌, ℕ, Bool, true, false, ◌&&◌, cond, not, List, [], ◌∷◌, ◌++◌, filter, length, refl, sym, ap, ◌∙◌, arith, subst, Result, Ok, Err, append-nil}
+use Rattle.std.specs.Cmp.Lexicographic.{nat_list_eq_equiv, pointwise}
+use Rattle.std.specs.List.{flat_map}
+use Rattle.nm_base.specs.Order.{has_text, same_text}
+use Rattle.nm_commit.specs.Files.{Fits}
+use Rattle.nm_commit.specs.declared.change.Change.{Change}
+use Rattle.nm_commit.specs.declared.change.Change.TheVariants.{SetTags}
+use Rattle.nm_commit.specs.declared.change.Commit.{Commit}
+use Rattle.nm_flags.specs.Renames.{renames}
+use Rattle.nm_flags.specs.declared.renames.Rename.{Rename}
+use Rattle.nm_index.specs.Fits.{FitInTurn}
+use Rattle.nm_index.specs.Index.{live_ids}
+use Rattle.nm_index.specs.declared.base.Base.{Base}
+use Rattle.nm_maildir.specs.declared.given.Given.{Given}
+use Rattle.nm_plan.specs.Apart.{AreApart}
+use Rattle.nm_plan.specs.Moving.{HasTried, move_commit, note_of, renames_done, renames_for, tag_commits}
+use Rattle.nm_plan.specs.NameTags.{message_paths, message_tags, set_tags}
+use Rattle.nm_plan.specs.Numbering.{AreNumbered}
+use Rattle.nm_plan.specs.Tagging.{commit_with, tag_changes, tag_commit}
+use Rattle.nm_plan.specs.declared.sync_report.SyncReport.{SyncReport}
+use Rattle.nm_plan.specs.declared.sync_report.Unmoved.{Unmoved}
+use Rattle.nm_writer.specs.Renamed.{AreTried}
+use Rattle.nm_writer.specs.Tagged.{IsAfterRenames, IsAfterTags}
+use Rattle.nm_writer.specs.Writer.{WriterState}
+use Rattle.nm_writer.specs.Writing.{FailsWithin, HasCommitted, IsAfterCommits, PassesWithin, StopsWithin}
+use Rattle.nm_writer.specs.declared.write_error.WriteError.{WriteError}
+use Rattle.nm_writer.specs.declared.write_error.WriteError.TheVariants as errors
+use Rattle.nm_writer.specs.Wanting.{AreTouched, renames_of}
+use Rattle.nm_base.specs.declared.facts.Facts.{Facts}
+use Rattle.nm_writer.proofs.DoneLemmas.{fit-second, made-made, none-stopped, then-made}
+use Rattle.nm_writer.proofs.RenamingLemmas.{silent}
+
+abbrev Texts : Type 0
+Texts = List (List ℕ)
+
+-- what gives nothing may be left out
+drop-by : {X : Type 0} (f : List ℕ → List X) (id : List ℕ) (b : Bool) (rest : Texts) → (b ≡ false → f id ≡ []) → flat_map f (cond b (id ∷ rest) rest) ≡ f id ++ flat_map f rest
+drop-by f id true rest silent = refl
+drop-by {X} f id false rest silent = ap (λ (l : List X). l ++ flat_map f rest) (sym (silent refl))
+
+filter-silent : {X : Type 0} (f : List ℕ → List X) (keep : List ℕ → Bool) (ids : Texts) → ((id : List ℕ) → keep id ≡ false → f id ≡ []) → flat_map f (filter keep ids) ≡ flat_map f ids
+filter-silent f keep [] silent = refl
+filter-silent {X} f keep (id ∷ ids) silent = drop-by f id (keep id) (filter keep ids) (silent id) ∙ ap (λ (l : List X). f id ++ l) (filter-silent f keep ids silent)
+
+texts-alike : (texts : Texts) → pointwise same_text texts texts ≡ true
+texts-alike [] = refl
+texts-alike (text ∷ texts) = ap (λ (b : Bool). b && pointwise same_text texts texts) (nat_list_eq_equiv.refl text) ∙ texts-alike texts
+
+alike : (old new : Texts) → new ≡ old → pointwise same_text old new ≡ true
+alike old new same = ap (pointwise same_text old) same ∙ texts-alike old
+
+cond-true : {X : Type 0} (b : Bool) (x y : X) → b ≡ true → cond b x y ≡ x
+cond-true true x y h = refl
+cond-true false x y h = absurd (cc)
+
+module _ (index wanted : Base) (ids : Texts) (touched : AreTouched index wanted ids) where
+  pub changes-are : (changes : List Change) → changes ≡ flat_map (λ id. set_tags id (message_tags index id) (message_tags wanted id)) ids → changes ≡ tag_changes index wanted
+  changes-are changes are =
+      let change_of : List ℕ → List Change = λ id. set_tags id (message_tags index id) (message_tags wanted id) in
+      are
+      ∙ (ap (flat_map change_of) touched.ids_are
+      ∙ filter-silent change_of (has_text touched.among) (live_ids index.files index.entries)
+      (λ id apart. cond-true (pointwise same_text (message_tags index id) (message_tags wanted id)) [] (SetTags id (message_tags wanted id) ∷ []) (alike (message_tags index id) (message_tags wanted id) (touched.others id apart))))
+
+  changed-by : (id : List ℕ) (b : Bool) (rest : Texts) → flat_map (λ other. renames (message_tags wanted other) (message_paths index.files other)) (cond (not b) (id ∷ rest) rest)
+      ≡ cond b [] (renames (message_tags wanted id) (message_paths index.files id)) ++ flat_map (λ other. renames (message_tags wanted other) (message_paths index.files other)) rest
+  changed-by id true rest = refl
+  changed-by id false rest = refl
+
+  changed-all : (all : Texts) → flat_map (renames_of index wanted) all
+      ≡ flat_map (λ id. renames (message_tags wanted id) (message_paths index.files id)) (filter (λ id. not (pointwise same_text (message_tags index id) (message_tags wanted id))) all)
+  changed-all [] = refl
+  changed-all (id ∷ all) =
+      ap (λ (l : List Rename). renames_of index wanted id ++ l) (changed-all all)
+      ∙ sym (changed-by id (pointwise same_text (message_tags index id) (message_tags wanted id)) (filter (λ other. not (pointwise same_text (message_tags index other) (message_tags wanted other))) all))
+
+  pub renames-are : (list : List Rename) → list ≡ flat_map (renames_of index wanted) ids → list ≡ renames_for index wanted
+  renames-are list are =
+      are
+      ∙ (ap (flat_map (renames_of index wanted)) touched.ids_are
+      ∙ (filter-silent (renames_of index wanted) (has_text touched.among) (live_ids index.files index.entries)
+      (λ id apart. cond-true (pointwise same_text (message_tags index id) (message_tags wanted id)) [] (renames (message_tags wanted id) (message_paths index.files id)) (alike (message_tags index id) (message_tags wanted id) (touched.others id apart)))
+      ∙ changed-all (live_ids index.files index.entries)))
+
+-- some changes make one commit, and none make none
+pub commit-of-some : (changes : List Change) → (length changes ≡ 0 → ⊥) → commit_with changes ≡ record { changes = changes } ∷ []
+commit-of-some [] some = absurd (some refl)
+commit-of-some (change ∷ changes) some = refl
+
+pub commit-of-none : (changes : List Change) → length changes ≡ 0 → commit_with changes ≡ []
+commit-of-none [] none = refl
+commit-of-none (change ∷ changes) none = absurd (omega (arith, none))
+
+pub fits-alone : (index : Base) (changes : List Change) → (length changes ≡ 0 → ⊥) → FitInTurn index (commit_with changes) → Fits index.files (record { changes = changes })
+fits-alone index [] some fit = absurd (some refl)
+fits-alone index (change ∷ changes) some fit = fit.0
+
+abbrev report_of : List (List ℕ × Unmoved) → SyncReport
+report_of list = record { unmoved = list }
+
+-- nothing is tried while nothing is noted
+pub none-tried : (index wanted : Base) (noted : List Given) → noted ≡ [] → HasTried index wanted noted
+none-tried index wanted noted none =
+    none ∙ sym (ap (λ (n : List Given). flat_map note_of (renames_done index wanted n)) none ∙ silent (renames_for index wanted) index.files)
+
+-- and no move is due
+pub no-moves : (index wanted : Base) (noted : List Given) → noted ≡ [] → tag_commits index wanted noted ≡ tag_commit index wanted
+no-moves index wanted noted none = ap (tag_commits index wanted) none ∙ append-nil (tag_commit index wanted)
+
+-- the commit of tags was refused, before any rename
+pub tags-refused : (old new : WriterState) (wanted : Base) (noted : List Given) (faults : ℕ) (error : WriteError) → noted ≡ [] → IsAfterCommits {T = Unit {0}} old (tag_commit old.shown wanted) faults (Err error) new
+    → IsAfterTags wanted noted old faults (Err error) new
+tags-refused old new wanted noted faults errors.MailFault none h = absurd h
+tags-refused old new wanted noted faults errors.DiskFault none h =
+    (none-tried old.shown wanted noted none, subst (λ (due : List Commit). FailsWithin old due faults new) (sym (no-moves old.shown wanted noted none)) h)
+tags-refused old new wanted noted faults (errors.Closed fault) none h = absurd h
+tags-refused old new wanted noted faults (errors.Limit limit) none h =
+    (none-tried old.shown wanted noted none, subst (λ (due : List Commit). PassesWithin old due limit new) (sym (no-moves old.shown wanted noted none)) h)
+tags-refused old new wanted noted faults errors.NoMemory none h =
+    (none-tried old.shown wanted noted none, subst (λ (due : List Commit). StopsWithin old due new) (sym (no-moves old.shown wanted noted none)) h)
+
+-- memory was wanting before anything was done
+pub nothing-set : (old : WriterState) (wanted : Base) (noted : List Given) (faults : ℕ) → noted ≡ [] → IsAfterTags wanted noted old faults (Err errors.NoMemory) old
+nothing-set old wanted noted faults none = (none-tried old.shown wanted noted none, none-stopped old (tag_commits old.shown wanted noted))
+
+-- The commit of tags was made, and then the renames were tried.
+module _ (old mid new : WriterState) (wanted : Base) (noted : List Given) (faults : ℕ) (made : HasCommitted old (tag_commit old.shown wanted) mid) where
+  renames-then : (result : Result SyncReport WriteError) → HasTried old.shown wanted noted → IsAfterRenames old.shown.files (renames_for old.shown wanted) noted mid faults result new → IsAfterTags wanted noted old faults result new
+  renames-then (Ok report) tried h = (tried, h.0, made-made old mid new (tag_commit old.shown wanted) (move_commit noted) made h.1, ap (λ (l : List (List ℕ × Unmoved)). report_of l) h.2)
+  renames-then (Err errors.MailFault) tried h = (tried, h.0, (mid, made, h.1))
+  renames-then (Err errors.DiskFault) tried h = (tried, then-made {T = Unit {0}} old mid new (tag_commit old.shown wanted) (move_commit noted) faults (Err errors.DiskFault) made h)
+  renames-then (Err (errors.Closed fault)) tried h = absurd h
+  renames-then (Err (errors.Limit limit)) tried h = (tried, then-made {T = Unit {0}} old mid new (tag_commit old.shown wanted) (move_commit noted) faults (Err (errors.Limit limit)) made h)
+  renames-then (Err errors.NoMemory) tried h = (tried, then-made {T = Unit {0}} old mid new (tag_commit old.shown wanted) (move_commit noted) faults (Err errors.NoMemory) made h)
+
+  pub tags-then : (plan : List Rename) (result : Result SyncReport WriteError) → plan ≡ renames_for old.shown wanted → mid.shown.files ≡ old.shown.files → AreTried mid.shown.files plan noted
+      → IsAfterRenames mid.shown.files plan noted mid faults result new → IsAfterTags wanted noted old faults result new
+  tags-then plan result are same tried h =
+      renames-then result (subst (λ (p : List Rename). AreTried old.shown.files p noted) are (subst (λ (f : List (List ℕ × Facts)). AreTried f plan noted) same tried))
+      (subst (λ (p : List Rename). IsAfterRenames old.shown.files p noted mid faults result new) are (subst (λ (f : List (List ℕ × Facts)). IsAfterRenames f plan noted mid faults result new) same h))
+
+-- whatever was tried, the moves fit behind the tags
+pub moves-fit : (fit : (index wanted : Base) (noted : List Given) → AreNumbered index → AreApart index.files → HasTried index wanted noted → FitInTurn index (tag_commits index wanted noted)) (old mid : WriterState) (wanted : Base) (plan : List Rename)
+    → AreNumbered old.shown → AreApart old.shown.files → plan ≡ renames_for old.shown wanted → mid.shown.files ≡ old.shown.files → HasCommitted old (tag_commit old.shown wanted) mid
+    → (noted : List Given) → AreTried mid.shown.files plan noted → FitInTurn mid.shown (move_commit noted)
+moves-fit fit old mid wanted plan numbered apart are same made noted tried =
+    let tried_all : HasTried old.shown wanted noted = subst (λ (p : List Rename). AreTried old.shown.files p noted) are (subst (λ (f : List (List ℕ × Facts)). AreTried f plan noted) same tried) in
+    subst (λ (b : Base). FitInTurn b (move_commit noted)) (sym made.shown) (fit-second old.shown (tag_commit old.shown wanted) (move_commit noted) (fit old.shown wanted noted numbered apart tried_all))

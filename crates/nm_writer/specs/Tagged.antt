@@ -1,0 +1,46 @@
+-- What a command that sets tags leaves of the writer.
+use Rattle.std.specs.Prelude.{◌≡◌, ℕ, ◌<◌, List, [], Some, length, Result, Ok, Err}
+use Rattle.std.specs.List.{flat_map}
+use Rattle.nm_base.specs.declared.facts.Facts.{Facts}
+use Rattle.nm_commit.specs.declared.change.Commit.{Commit}
+use Rattle.nm_flags.specs.declared.renames.Rename.{Rename}
+use Rattle.nm_index.specs.declared.base.Base.{Base}
+use Rattle.nm_maildir.specs.declared.given.Given.{Given}
+use Rattle.nm_plan.specs.Moving.{HasDoneAll, HasTried, move_commit, renames_done, renames_for, sync_report, tag_commits, unmoved_in}
+use Rattle.nm_plan.specs.Tagging.{tag_commit}
+use Rattle.nm_plan.specs.declared.sync_report.SyncReport.{SyncReport}
+use Rattle.nm_writer.specs.Renamed.{outcomes_noted}
+use Rattle.nm_writer.specs.Writer.{WriterState}
+use Rattle.nm_writer.specs.Writing.{FailsWithin, HasCommitted, IsAfterCommits, PassesWithin, StopsWithin}
+use Rattle.nm_writer.specs.declared.write_error.WriteError.{WriteError}
+use Rattle.nm_writer.specs.declared.write_error.WriteError.TheVariants as errors
+
+-- these commits are made, or what refuses one leaves those before it
+pub record MakesOrRefuses (old : WriterState) (due : List Commit) (faults : ℕ) (new : WriterState) : Type 0 where
+  pub outcome : Result (Unit {0}) WriteError
+  pub after : IsAfterCommits old due faults outcome new
+
+-- What the renames leave, and the commit of the moves behind them. Where the folder fails in a rename not all are done, and the commit of
+-- the moves so far is made where nothing refuses it.
+abbrev pub IsAfterRenames : List (List ℕ × Facts) → List Rename → List Given → WriterState → ℕ → Result SyncReport WriteError → WriterState → Type 0
+IsAfterRenames files plan noted old faults (Ok report) new =
+    (length (outcomes_noted files plan noted) ≡ length plan) × HasCommitted old (move_commit noted) new × (report.unmoved ≡ flat_map unmoved_in (outcomes_noted files plan noted))
+IsAfterRenames files plan noted old faults (Err errors.MailFault) new = (length (outcomes_noted files plan noted) < length plan) × MakesOrRefuses old (move_commit noted) faults new
+IsAfterRenames files plan noted old faults (Err errors.DiskFault) new = FailsWithin old (move_commit noted) faults new
+IsAfterRenames files plan noted old faults (Err (errors.Closed fault)) new = ⊥
+IsAfterRenames files plan noted old faults (Err (errors.Limit limit)) new = PassesWithin old (move_commit noted) limit new
+IsAfterRenames files plan noted old faults (Err errors.NoMemory) new = StopsWithin old (move_commit noted) new
+
+-- What a command that wants these tags leaves, the folder being asked as was noted. The commit of tags is made, all renames are done, and
+-- the commit of the moves is made; or by its error: the folder failed in a rename, so that not all are done, and the tags stay, and the moves
+-- made so far where nothing refuses their commit; or one of the commits failed on the disk or would pass a limit; memory may be wanting anywhere.
+abbrev pub IsAfterTags : Base → List Given → WriterState → ℕ → Result SyncReport WriteError → WriterState → Type 0
+IsAfterTags wanted noted old faults (Ok report) new =
+    HasTried old.shown wanted noted × HasDoneAll old.shown wanted noted × HasCommitted old (tag_commits old.shown wanted noted) new × (report ≡ sync_report old.shown wanted noted)
+IsAfterTags wanted noted old faults (Err errors.MailFault) new =
+    HasTried old.shown wanted noted × (length (renames_done old.shown wanted noted) < length (renames_for old.shown wanted))
+    × ((mid : WriterState) × HasCommitted old (tag_commit old.shown wanted) mid × MakesOrRefuses mid (move_commit noted) faults new)
+IsAfterTags wanted noted old faults (Err errors.DiskFault) new = HasTried old.shown wanted noted × FailsWithin old (tag_commits old.shown wanted noted) faults new
+IsAfterTags wanted noted old faults (Err (errors.Closed fault)) new = (old.closed ≡ Some fault) × (noted ≡ []) × (new ≡ old)
+IsAfterTags wanted noted old faults (Err (errors.Limit limit)) new = HasTried old.shown wanted noted × PassesWithin old (tag_commits old.shown wanted noted) limit new
+IsAfterTags wanted noted old faults (Err errors.NoMemory) new = HasTried old.shown wanted noted × StopsWithin old (tag_commits old.shown wanted noted) new

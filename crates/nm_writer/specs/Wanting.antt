@@ -1,0 +1,19 @@
+-- What is kept of the tags that are wanted: which messages may have others than before.
+use Rattle.std.specs.Prelude.{◌≡◌, ℕ, false, List, [], if◌then◌else◌}
+use Rattle.std.specs.Cmp.Lexicographic.{pointwise}
+use Rattle.nm_base.specs.Order.{has_text, same_text}
+use Rattle.nm_flags.specs.Renames.{renames}
+use Rattle.nm_flags.specs.declared.renames.Rename.{Rename}
+use Rattle.nm_index.specs.declared.base.Base.{Base}
+use Rattle.nm_plan.specs.NameTags.{live_of, message_paths, message_tags}
+
+-- messages that have files, by their numbers; of every other message the same tags are wanted that it has
+pub record AreTouched (index wanted : Base) (ids : List (List ℕ)) : Type 0 where
+  pub among : List (List ℕ)
+  pub ids_are : ids ≡ live_of index among
+  pub others : (id : List ℕ) → has_text among id ≡ false → message_tags wanted id ≡ message_tags index id
+
+-- the files of a message that have to be renamed, where other tags are wanted than it has
+abbrev pub renames_of : Base → Base → List ℕ → List Rename
+renames_of index wanted id =
+    if pointwise same_text (message_tags index id) (message_tags wanted id) then [] else renames (message_tags wanted id) (message_paths index.files id)

@@ -1,0 +1,201 @@
+//! The renames that follow tags: each is tried in turn, and what the folder answers is noted.
+
+ghost use Rattle.std.specs.Prelude.{◌≡◌, ◌⊎◌, ◌++◌, ◌∷◌, ◌<◌, [], ℕ, List, false, length, unwrap_or, Err, IfOk, OnErr, OnOk};
+ghost use Rattle.std.specs.BTreeMap.{get};
+ghost use Rattle.std.specs.Cmp.Lexicographic.{slice_cmp};
+ghost use Rattle.std.specs.List.{flat_map};
+ghost use Rattle.std.specs.Ordering.{nat_cmp};
+ghost use Rattle.nm_base.specs.declared.facts.Facts.{Facts};
+ghost use Rattle.nm_commit.specs.Files.{has_path, with_moved};
+ghost use Rattle.nm_maildir.specs.Observed.{HasMailCause};
+ghost use Rattle.nm_plan.specs.Moving.{files_moved, move_given, move_if, unmoved_by, unmoved_in};
+ghost use Rattle.nm_writer.specs.Renamed.{AreTried, AsksRenames, HasPlaces, IsDone, IsKept, IsLeft, files_noted, outcomes_noted};
+
+use nm_base::{Copies, MailPath, Many, NoMemory};
+use nm_commit::Change;
+use nm_flags::Rename;
+use nm_maildir::{Given, MailError, Maildir, Renamed};
+use nm_plan::Unmoved;
+use nm_state::Snapshot;
+use std::alloc::Global;
+use std::collections::BTreeMap;
+
+/// What is kept of the renames that are done.
+#[derive(Drop)]
+pub(crate) struct Renaming {
+    /// The files that keep their names.
+    pub unmoved: Many<(MailPath, Unmoved)>,
+    /// The moves that were made, for the index.
+    pub moves: Many<Change>,
+    /// Of the paths that moves freed and took, whether a file lies there.
+    pub places: BTreeMap<MailPath, bool>,
+}
+
+impl Renaming {
+    /// None is done yet, which takes no memory.
+    pub(crate) fn new(alloc: Global) -> Renaming
+        ensures unmoved { result.unmoved ≡ [] }
+        ensures kept { (files : List (List ℕ × Facts)) → IsKept files [] result }
+    {
+        Renaming {
+            unmoved: Many::new(alloc),
+            moves: Many::new(alloc),
+            places: BTreeMap::new(alloc),
+        }
+    }
+}
+
+/// Tries the renames in order, and notes what the folder answers. After a fault no further one is tried.
+pub(crate) fn rename_all<M: Maildir>(
+    alloc: Global,
+    mail: &mut M,
+    shown: &Snapshot,
+    plan: Many<Rename>,
+    done: &mut Renaming,
+    noted: &mut Many<Given>,
+) -> Result<(), MailError>
+    requires fresh { noted.old ≡ [] }
+    requires none { done.old.unmoved ≡ [] }
+    requires kept { IsKept shown.now.files noted.old done.old }
+    ensures tried { AreTried shown.now.files plan noted.new }
+    ensures all { OnOk result (length (outcomes_noted shown.now.files plan noted.new) ≡ length plan) }
+    ensures unmoved { OnOk result (done.new.unmoved ≡ flat_map unmoved_in (outcomes_noted shown.now.files plan noted.new)) }
+    ensures failed { result ≡ Err MailError.Failed → length (outcomes_noted shown.now.files plan noted.new) < length plan }
+    ensures moves { OnOk result (done.new.moves ≡ flat_map move_given noted.new) }
+    ensures moves_failed { result ≡ Err MailError.Failed → done.new.moves ≡ flat_map move_given noted.new }
+    ensures asks { AsksRenames (M.observed mail.old) (M.observed mail.new) noted.old noted.new }
+    ensures cause { HasMailCause (M.observed mail.old).faults (M.observed mail.new).faults result }
+{
+    'renames: for rename in plan.into_vec() {
+        match rename_one(alloc, mail, shown, rename, done, noted) {
+            Ok(()) => {}
+            Err(error) => return Err(error),
+        }
+    }
+    Ok(())
+}
+
+/// Tries a rename, unless its target is too long or a path of the index.
+fn rename_one<M: Maildir>(
+    alloc: Global,
+    mail: &mut M,
+    shown: &Snapshot,
+    rename: Rename,
+    done: &mut Renaming,
+    noted: &mut Many<Given>,
+) -> Result<(), MailError>
+    requires kept { IsKept shown.now.files noted.old done.old }
+    ensures kept { OnOk result (IsKept shown.now.files noted.new done.new) }
+    ensures done { OnOk result ((step : IsDone (files_noted shown.now.files noted.old) rename noted.old noted.new) × (done.new.unmoved ≡ done.old.unmoved ++ unmoved_in step.outcome)) }
+    ensures failed { result ≡ Err MailError.Failed → (noted.new ≡ noted.old) × (done.new.moves ≡ done.old.moves) × IsLeft (files_noted shown.now.files noted.old) rename }
+    ensures stops { OnErr result ((noted.new ≡ noted.old) ⊎ IsDone (files_noted shown.now.files noted.old) rename noted.old noted.new) }
+    ensures asks { AsksRenames (M.observed mail.old) (M.observed mail.new) noted.old noted.new }
+    ensures cause { HasMailCause (M.observed mail.old).faults (M.observed mail.new).faults result }
+{
+    let Rename { from, to } = rename;
+    let Some(to) = to else {
+        done.unmoved.push((from, Unmoved::Long))?;
+        return Ok(());
+    };
+    if has_place(shown, &done.places, &to) {
+        done.unmoved.push((from, Unmoved::Exists))?;
+        return Ok(());
+    }
+    match try_rename(alloc, mail, &from, &to, noted) {
+        Ok(answer) => {
+            follow(shown, from, to, answer, done)?;
+            Ok(())
+        }
+        Err(error) => Err(error),
+    }
+}
+
+/// Whether a file of the index lies there, as the moves so far leave it.
+fn has_place(shown: &Snapshot, places: &BTreeMap<MailPath, bool>, path: &MailPath) -> bool
+    ensures { result ≡ unwrap_or (get (slice_cmp nat_cmp) places.now path.now) (has_path shown.now.files path.now) }
+{
+    match places.get(path) {
+        Some(there) => *there,
+        None => shown.has_path(path),
+    }
+}
+
+/// Asks the folder for one rename. There is a place for the note before it is asked, so that nothing is moved unnoted.
+fn try_rename<M: Maildir>(
+    alloc: Global,
+    mail: &mut M,
+    from: &MailPath,
+    to: &MailPath,
+    noted: &mut Many<Given>,
+) -> Result<Renamed, MailError>
+    ensures ok { IfOk result (λ answer. noted.new ≡ noted.old ++ Given.Renamed from.now to.now answer ∷ []) }
+    ensures err { OnErr result (noted.new ≡ noted.old) }
+    ensures asks { AsksRenames (M.observed mail.old) (M.observed mail.new) noted.old noted.new }
+    ensures cause { HasMailCause (M.observed mail.old).faults (M.observed mail.new).faults result }
+{
+    let noted_from = from.copy()?;
+    let noted_to = to.copy()?;
+    noted.push(Given::Listed(Many::new(alloc)))?;
+    match mail.rename(from, to) {
+        Ok(answer) => {
+            let given = Given::Renamed {
+                from: noted_from,
+                to: noted_to,
+                answer,
+            };
+            replace_last(noted, given);
+            Ok(answer)
+        }
+        Err(error) => {
+            noted.pop();
+            Err(error)
+        }
+    }
+}
+
+/// Puts this in the place of the last note.
+fn replace_last(noted: &mut Many<Given>, given: Given)
+    requires { 0 < length noted.old }
+    ensures { (front : List Given) (last : Given) → noted.old ≡ front ++ last ∷ [] → noted.new ≡ front ++ given ∷ [] }
+{
+    let at = noted.len() - 1;
+    noted.replace(at, given);
+}
+
+/// Keeps what follows from the answer: a move with its two places, or the file that keeps its name.
+fn follow(
+    shown: &Snapshot,
+    from: MailPath,
+    to: MailPath,
+    answer: Renamed,
+    done: &mut Renaming,
+) -> Result<(), NoMemory>
+    ensures unmoved { OnOk result (done.new.unmoved ≡ done.old.unmoved ++ unmoved_by from answer) }
+    ensures moves { OnOk result (done.new.moves ≡ done.old.moves ++ move_if from to answer) }
+    ensures places { OnOk result ((files : List (List ℕ × Facts)) → has_path files to ≡ false → HasPlaces shown.now.files files done.old.places
+        → HasPlaces shown.now.files (files_moved files from to answer) done.new.places) }
+{
+    match answer {
+        Renamed::Moved => keep_move(shown, from, to, done),
+        Renamed::Missing => done.unmoved.push((from, Unmoved::Missing)),
+        Renamed::Exists => done.unmoved.push((from, Unmoved::Exists)),
+    }
+}
+
+/// Keeps a move. Where no file of the index lay at the old path, none lies at the new one.
+fn keep_move(
+    shown: &Snapshot,
+    from: MailPath,
+    to: MailPath,
+    done: &mut Renaming,
+) -> Result<(), NoMemory>
+    ensures unmoved { done.new.unmoved ≡ done.old.unmoved }
+    ensures moves { OnOk result (done.new.moves ≡ done.old.moves ++ Change.Move from to ∷ []) }
+    ensures places { OnOk result ((files : List (List ℕ × Facts)) → has_path files to ≡ false → HasPlaces shown.now.files files done.old.places
+        → HasPlaces shown.now.files (with_moved files from to) done.new.places) }
+{
+    let there = has_place(shown, &done.places, &from);
+    done.places.insert(from.copy()?, false)?;
+    done.places.insert(to.copy()?, there)?;
+    done.moves.push(Change::Move { from, to })
+}

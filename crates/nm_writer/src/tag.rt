@@ -1,0 +1,165 @@
+//! The command `tag`: it finds the tags that its lines want, sets them, and renames the files that follow.
+
+ghost use Rattle.std.specs.Prelude.{◌≡◌, ℕ, List, [], Err, IfSome, None, is_some};
+ghost use Rattle.nm_dates.specs.Seconds.{IsMoment};
+ghost use Rattle.nm_disk.specs.Observed.{ObservedDisk};
+ghost use Rattle.nm_faults.specs.Faults.{Counts, HasCauseOf};
+ghost use Rattle.nm_index.specs.Fits.{FitInTurn};
+ghost use Rattle.nm_index.specs.declared.base.Base.{Base};
+ghost use Rattle.nm_maildir.specs.declared.given.Given.{Given};
+ghost use Rattle.nm_plan.specs.Moving.{move_commit};
+ghost use Rattle.nm_plan.specs.Tagging.{wanted_by};
+ghost use Rattle.nm_writer.specs.Durable.{IsDurable};
+ghost use Rattle.nm_writer.specs.Renamed.{AreTried, AsksRenames};
+ghost use Rattle.nm_writer.specs.Tagged.{IsAfterRenames, IsAfterTags};
+ghost use Rattle.nm_writer.specs.Wanting.{AreTouched};
+ghost use Rattle.nm_writer.specs.Writer.{StandsOnIndex};
+ghost use Rattle.nm_writer.specs.Writing.{is_read_fault};
+
+use crate::renaming::{Renaming, rename_all};
+use crate::tagging::{Planned, plan_tags};
+use crate::wanting::{Wanted, wanted_by};
+use crate::{WriteError, Writer};
+use nm_base::Many;
+use nm_disk::Disk;
+use nm_flags::Rename;
+use nm_maildir::{Given, MailError, Maildir};
+use nm_plan::{SyncReport, Tagging, tag_commits_fit, the_commit_of_tags_leaves_what_is_wanted};
+
+impl Writer {
+    /// Sets the tags that the lines want, the first line first, in one commit; then renames the files whose names follow their
+    /// tags, and makes a commit of those that moved. What the folder answered is noted. A closed writer asks nothing.
+    pub fn tag<M: Maildir, D: Disk>(
+        &mut self,
+        mail: &mut M,
+        disk: &mut D,
+        lines: &Many<Tagging>,
+        clear: bool,
+        moment: i64,
+        noted: &mut Many<Given>,
+    ) -> Result<SyncReport, WriteError>
+        requires moment { IsMoment moment }
+        requires fresh { noted.old ≡ [] }
+        requires stands { self.old.closed ≡ None → IfSome (D.observed disk.old).told (λ moments. StandsOnIndex moments.present self.old) }
+
+        // Both commits are made, or by the error the first of them; the report is of the renames that the tags ask for.
+        ensures after { IsAfterTags (wanted_by clear moment self.old.shown lines.now) noted.new self.old (D.observed disk.new).faults result self.new }
+
+        // A writer that is closed says so, and no device is asked.
+        ensures closed { IfSome self.old.closed (λ fault. (result ≡ Err (WriteError.Closed fault)) × (M.observed mail.new ≡ M.observed mail.old) × (D.observed disk.new ≡ D.observed disk.old)) }
+
+        // The folder is asked for the renames that are noted, and for nothing else.
+        ensures asks { AsksRenames (M.observed mail.old) (M.observed mail.new) noted.old noted.new }
+        ensures mail_cause { HasCauseOf is_read_fault (M.observed mail.old).faults (M.observed mail.new).faults result }
+
+        // The disk's count rose exactly where the writer is closed now; after a fault of the folder that may be so too.
+        ensures disk_cause { self.old.closed ≡ None → Counts (is_some self.new.closed) (D.observed disk.old).faults (D.observed disk.new).faults }
+
+        // Whatever a stop leaves then holds the index that is shown, unless the disk failed; and what was acknowledged is never lost.
+        ensures stands { self.new.closed ≡ None → IfSome (D.observed disk.new).told (λ moments. StandsOnIndex moments.present self.new) }
+        ensures durable { (entry : ObservedDisk) (opening : Base) → IsDurable entry opening (D.observed disk.old) self.old
+            → IsDurable entry opening (D.observed disk.new) self.new }
+    {
+        match self.closed {
+            Some(fault) => Err(WriteError::Closed { fault }),
+            None => self.want_and_set(mail, disk, lines, clear, moment, noted),
+        }
+    }
+
+    /// Finds the tags that the lines want, and sets them.
+    fn want_and_set<M: Maildir, D: Disk>(
+        &mut self,
+        mail: &mut M,
+        disk: &mut D,
+        lines: &Many<Tagging>,
+        clear: bool,
+        moment: i64,
+        noted: &mut Many<Given>,
+    ) -> Result<SyncReport, WriteError>
+        requires moment { IsMoment moment }
+        requires alive { self.old.closed ≡ None }
+        requires fresh { noted.old ≡ [] }
+        requires stands { IfSome (D.observed disk.old).told (λ moments. StandsOnIndex moments.present self.old) }
+        ensures after { IsAfterTags (wanted_by clear moment self.old.shown lines.now) noted.new self.old (D.observed disk.new).faults result self.new }
+        ensures asks { AsksRenames (M.observed mail.old) (M.observed mail.new) noted.old noted.new }
+        ensures mail_cause { HasCauseOf is_read_fault (M.observed mail.old).faults (M.observed mail.new).faults result }
+        ensures disk_cause { Counts (is_some self.new.closed) (D.observed disk.old).faults (D.observed disk.new).faults }
+        ensures stands { self.new.closed ≡ None → IfSome (D.observed disk.new).told (λ moments. StandsOnIndex moments.present self.new) }
+        ensures durable { (entry : ObservedDisk) (opening : Base) → IsDurable entry opening (D.observed disk.old) self.old
+            → IsDurable entry opening (D.observed disk.new) self.new }
+    {
+        match wanted_by(self.alloc, &self.shown, lines.as_slice(), clear, moment) {
+            Ok(wanted) => self.set_tags(mail, disk, &wanted, noted),
+            Err(error) => Err(error.into()),
+        }
+    }
+
+    /// Sets the tags that are wanted, whichever command wants them.
+    fn set_tags<M: Maildir, D: Disk>(
+        &mut self,
+        mail: &mut M,
+        disk: &mut D,
+        wanted: &Wanted,
+        noted: &mut Many<Given>,
+    ) -> Result<SyncReport, WriteError>
+        requires alive { self.old.closed ≡ None }
+        requires touched { AreTouched self.old.shown wanted.now.after wanted.now.ids }
+        requires fresh { noted.old ≡ [] }
+        requires stands { IfSome (D.observed disk.old).told (λ moments. StandsOnIndex moments.present self.old) }
+        ensures after { IsAfterTags wanted.now.after noted.new self.old (D.observed disk.new).faults result self.new }
+        ensures asks { AsksRenames (M.observed mail.old) (M.observed mail.new) noted.old noted.new }
+        ensures mail_cause { HasCauseOf is_read_fault (M.observed mail.old).faults (M.observed mail.new).faults result }
+        ensures disk_cause { Counts (is_some self.new.closed) (D.observed disk.old).faults (D.observed disk.new).faults }
+        ensures stands { self.new.closed ≡ None → IfSome (D.observed disk.new).told (λ moments. StandsOnIndex moments.present self.new) }
+        ensures durable { (entry : ObservedDisk) (opening : Base) → IsDurable entry opening (D.observed disk.old) self.old
+            → IsDurable entry opening (D.observed disk.new) self.new }
+    {
+        tag_commits_fit();
+        the_commit_of_tags_leaves_what_is_wanted();
+        let planned = plan_tags(self.alloc, &self.shown, wanted)?;
+        let Planned { changes, renames } = planned;
+        match self.commit_changes(disk, changes) {
+            Ok(()) => self.rename_files(mail, disk, renames, noted),
+            Err(error) => Err(error),
+        }
+    }
+
+    /// Tries the renames, and makes a commit of the files that moved, also where the folder failed in one.
+    fn rename_files<M: Maildir, D: Disk>(
+        &mut self,
+        mail: &mut M,
+        disk: &mut D,
+        plan: Many<Rename>,
+        noted: &mut Many<Given>,
+    ) -> Result<SyncReport, WriteError>
+        requires alive { self.old.closed ≡ None }
+        requires fresh { noted.old ≡ [] }
+        requires fit { (noted : List Given) → AreTried self.old.shown.files plan noted → FitInTurn self.old.shown (move_commit noted) }
+        requires stands { IfSome (D.observed disk.old).told (λ moments. StandsOnIndex moments.present self.old) }
+        ensures tried { AreTried self.old.shown.files plan noted.new }
+        ensures after { IsAfterRenames self.old.shown.files plan noted.new self.old (D.observed disk.new).faults result self.new }
+        ensures asks { AsksRenames (M.observed mail.old) (M.observed mail.new) noted.old noted.new }
+        ensures mail_cause { HasCauseOf is_read_fault (M.observed mail.old).faults (M.observed mail.new).faults result }
+        ensures disk_cause { Counts (is_some self.new.closed) (D.observed disk.old).faults (D.observed disk.new).faults }
+        ensures stands { self.new.closed ≡ None → IfSome (D.observed disk.new).told (λ moments. StandsOnIndex moments.present self.new) }
+        ensures durable { (entry : ObservedDisk) (opening : Base) → IsDurable entry opening (D.observed disk.old) self.old
+            → IsDurable entry opening (D.observed disk.new) self.new }
+    {
+        let mut done = Renaming::new(self.alloc);
+        match rename_all(self.alloc, mail, &self.shown, plan, &mut done, noted) {
+            Ok(()) => {
+                let Renaming { unmoved, moves, .. } = done;
+                match self.commit_changes(disk, moves) {
+                    Ok(()) => Ok(SyncReport { unmoved }),
+                    Err(error) => Err(error),
+                }
+            }
+            Err(MailError::Failed) => {
+                let Renaming { moves, .. } = done;
+                let _ = self.commit_changes(disk, moves);
+                Err(WriteError::MailFault)
+            }
+            Err(MailError::NoMemory) => Err(WriteError::NoMemory),
+        }
+    }
+}

@@ -1,0 +1,157 @@
+//! The tags that lines want, line by line: they stand in a snapshot in the place of the tags.
+
+ghost use Rattle.std.specs.Prelude.{◌≡◌, ◌++◌, ◌<◌, ℕ, List, false, IfOk, OnOk, map};
+ghost use Rattle.nm_answer.specs.Matches.{matches_of};
+ghost use Rattle.nm_dates.specs.Seconds.{IsMoment};
+ghost use Rattle.nm_plan.specs.NameTags.{message_tags};
+ghost use Rattle.nm_plan.specs.Numbering.{AreNumbered};
+ghost use Rattle.nm_plan.specs.Tagging.{asked_tags, found_by, wanted_after, wanted_by};
+ghost use Rattle.nm_writer.specs.Naming.{live_at_numbers};
+ghost use Rattle.nm_writer.specs.Wanting.{AreTouched};
+
+use crate::naming::add_numbered;
+use nm_base::{Copies, Many, MessageId, NoMemory, Steps, Tags};
+use nm_eval::matches;
+use nm_plan::{Tagging, a_line_tags_what_it_finds};
+use nm_query::Query;
+use nm_state::Snapshot;
+use nm_tags::apply_ops;
+use std::alloc::Global;
+use std::collections::BTreeMap;
+use std::marker::Brand;
+use std::sync::ledger::{Blank, Ledger};
+
+/// The snapshot in which the tags that are wanted stand, and the messages that a line found, by their numbers.
+#[derive(Drop)]
+pub(crate) struct Wanted {
+    pub(crate) after: Snapshot,
+    pub(crate) ids: Many<MessageId>,
+}
+
+/// What is wanted after the lines. A line costs what its query and the messages that it finds cost, and two handles of the maps
+/// of a snapshot.
+pub(crate) fn wanted_by(
+    alloc: Global,
+    shown: &Snapshot,
+    lines: &[Tagging],
+    clear: bool,
+    moment: i64,
+) -> Result<Wanted, NoMemory>
+    requires numbered { AreNumbered shown.now }
+    requires moment { IsMoment moment }
+    ensures after { IfOk result (λ wanted. wanted.after ≡ wanted_by clear moment shown.now lines.now) }
+    ensures ids { IfOk result (λ wanted. AreTouched shown.now wanted.after wanted.ids) }
+{
+    a_line_tags_what_it_finds();
+    let mut after = shown.copy()?;
+    let mut numbered: BTreeMap<u64, MessageId> = BTreeMap::new(alloc);
+    'lines: for line in lines {
+        after = want_line(alloc, &after, line, clear, moment, &mut numbered)?;
+    }
+    let ids: Vec<MessageId> = numbered.into_values().collect(alloc)?;
+    Ok(Wanted {
+        after,
+        ids: Many::from_vec(ids),
+    })
+}
+
+/// What is wanted after a line, where this is wanted before it. What it finds comes to its place among the others.
+fn want_line(
+    alloc: Global,
+    before: &Snapshot,
+    line: &Tagging,
+    clear: bool,
+    moment: i64,
+    numbered: &mut BTreeMap<u64, MessageId>,
+) -> Result<Snapshot, NoMemory>
+    requires numbered { AreNumbered before.now }
+    requires moment { IsMoment moment }
+    ensures after { IfOk result (λ after. after ≡ wanted_after clear moment before.now line.now) }
+    ensures found { OnOk result ((ids : List (List ℕ)) → numbered.old.entries ≡ live_at_numbers before.now ids
+        → numbered.new.entries ≡ live_at_numbers before.now (ids ++ found_by moment before.now line.now)) }
+{
+    a_line_tags_what_it_finds();
+    let found = found(alloc, before, &line.query, moment)?;
+    let sets = line_sets(alloc, before, found.as_slice(), line, clear)?;
+    add_all_numbered(before, found.as_slice(), numbered)?;
+    before.with_tags(&sets)
+}
+
+/// Puts the messages at their numbers.
+fn add_all_numbered(
+    before: &Snapshot,
+    found: &[MessageId],
+    numbered: &mut BTreeMap<u64, MessageId>,
+) -> Result<(), NoMemory>
+    requires numbered { AreNumbered before.now }
+    ensures { OnOk result ((ids : List (List ℕ)) → numbered.old.entries ≡ live_at_numbers before.now ids
+        → numbered.new.entries ≡ live_at_numbers before.now (ids ++ found.now)) }
+{
+    'found: for id in found {
+        add_numbered(before, id, numbered)?;
+    }
+    Ok(())
+}
+
+/// The messages that a line finds, each with the tags that are then wanted.
+fn line_sets(
+    alloc: Global,
+    before: &Snapshot,
+    found: &[MessageId],
+    line: &Tagging,
+    clear: bool,
+) -> Result<Many<(MessageId, Tags)>, NoMemory>
+    ensures { IfOk result (λ sets. sets ≡ map (λ id. (id, asked_tags clear line.now (message_tags before.now id))) found.now) }
+{
+    let mut sets = Many::new(alloc);
+    'found: for id in found {
+        let tags = asked_tags(alloc, before, id, line, clear)?;
+        sets.push((id.copy()?, tags))?;
+    }
+    Ok(sets)
+}
+
+fn asked_tags(
+    alloc: Global,
+    before: &Snapshot,
+    id: &MessageId,
+    line: &Tagging,
+    clear: bool,
+) -> Result<Tags, NoMemory>
+    ensures { IfOk result (λ tags. tags ≡ asked_tags clear line.now (message_tags before.now id.now)) }
+{
+    match before.tags(id) {
+        Some(tags) => apply_ops(alloc, tags, clear, &line.ops),
+        None => apply_ops(alloc, &Tags::new(alloc), clear, &line.ops),
+    }
+}
+
+/// The messages that a query finds, in steps that nobody counts; no tag keeps one out.
+fn found(
+    alloc: Global,
+    before: &Snapshot,
+    query: &Query,
+    moment: i64,
+) -> Result<Many<MessageId>, NoMemory>
+    requires moment { IsMoment moment }
+    ensures { IfOk result (λ ids. ids ≡ matches_of before.now query.now moment false) }
+{
+    in_steps::<Brand>(alloc, before, query, moment, Blank::new(1))
+}
+
+fn in_steps<L: Ledger>(
+    alloc: Global,
+    before: &Snapshot,
+    query: &Query,
+    moment: i64,
+    blank: Blank,
+) -> Result<Many<MessageId>, NoMemory>
+    requires name { blank.name ≡ L.name }
+    requires parts { blank.parts ≡ L.parts }
+    requires whole { 0 < L.parts }
+    requires moment { IsMoment moment }
+    ensures { IfOk result (λ ids. ids ≡ matches_of before.now query.now moment false) }
+{
+    let mut steps = Steps::<L>::begin(blank);
+    matches(alloc, before, query, moment, false, &mut steps)
+}
