@@ -20,15 +20,15 @@ use Rattle.nm_log.specs.declared.script.ScriptLine.{ScriptLine}
 use Rattle.nm_machine.specs.declared.step.Step.{Step}
 use Rattle.nm_maildir.specs.Observed.{ObservedMail}
 use Rattle.nm_writer.specs.StoredIndex.{HoldsIndex, HoldsNoIndex}
-use Rattle.nm_history.specs.Call.{Call, Ending, Ran, Refused, words_fault}
-use Rattle.nm_history.specs.Complete.{IsComplete, IsFinished, IsWithin, NoFault, Opens}
+use Rattle.nm_history.specs.Call.{Call, Ending, Ran, Refused, call_fault, call_lines, is_session, lines_by}
+use Rattle.nm_history.specs.Complete.{EndsWell, IsComplete, IsFinished, IsWithin, MayRead, NoFault, Opens}
 use Rattle.nm_history.specs.Given.{GivenAlong, IsGiven}
 use Rattle.nm_history.specs.History.{History}
 use Rattle.nm_history.specs.LineAnswers.{HasAnswer, HasCause, LineAnswers}
 use Rattle.nm_history.specs.Lines.{Along, Before, RunLine, at_first, behind, behind_all, lines_run}
 use Rattle.nm_history.specs.PrintedOut.{AreLogsOf, PrintedOut, StreamAppends}
-use Rattle.nm_history.specs.Refusals.{IsInputPassed}
-use Rattle.nm_history.specs.Status.{Status, any_wants_memory, fault_of, fault_or, first_fault, session_status, status_of_fault, write_fault}
+use Rattle.nm_history.specs.Refusals.{IsInputPassed, PassesBefore, TakesInput}
+use Rattle.nm_history.specs.Status.{Status, any_wants_memory, fault_of, fault_or, first_fault, session_status, single_status, status_by, status_of_fault, write_fault}
 
 -- each line has its log
 logs-length : (script : List ScriptLine) (logs : List LineLog) → AreLogsOf script logs → length logs ≡ length script
@@ -133,19 +133,45 @@ quiet-status logs out_failed none quiet =
       | inr seven ↦ inr (is ∙ seven)
     ]
 
+-- the status of the lines of a call, where no device failed
+ends-by : (session : Bool) (call : Call) (out_failed : Bool) → call.done.status ≡ status_by session call.done.log.lines out_failed → first_fault call.done.log.lines ≡ None → out_failed ≡ false
+    → EndsWell session call ⊎ (call.done.status ≡ 7)
+ends-by true call out_failed status none quiet = elim (quiet-status call.done.log.lines out_failed none quiet) [
+  | inl zero ↦ inl (status ∙ zero)
+  | inr seven ↦ inr (status ∙ seven)
+]
+ends-by false call out_failed status none quiet = inl (status ∙ ap (λ (b : Bool). single_status call.done.log.lines b) quiet, none)
+
+-- the lines are those of the input that was told
+same-lines : (session : Bool) (words : List (List ℕ)) (read input : List ℕ) (call : Call) → TakesInput session read call.entry.input call.after.input → MayRead session input call
+    → lines_by session words read ≡ lines_by session words input
+same-lines true words read input call takes within =
+    ap (λ (l : List ℕ). script_lines l) (read-is call.entry.input.bytes call.after.input.bytes input read within.told takes.0.bytes takes.0.end)
+same-lines false words read input call takes within = refl
+
+-- a limit of the words or of the input was not passed
+not-passed : (limit : Limit) (read input : List ℕ) (call : Call) → call_fault call.words ≡ None → MayRead (is_session call.words) input call → PassesBefore limit read call → ⊥
+not-passed limit read input call right within (inl wrong) = let other = sym right ∙ wrong in absurd (cc)
+not-passed limit read input call right within (inr passed) =
+    within-limits limit read input call passed.2 (subst (λ (b : Bool). MayRead b input call) passed.1 within)
+
 module _ (not_bad : (bytes : List ℕ) (index : Base) (at : ℕ) → HoldsIndex bytes index → HoldsNoIndex bytes at → ⊥) where
   by-ending : (ending : Ending) (opening : Base) (read : List ℕ) (out_failed : Bool) (call : Call) (input : List ℕ)
-      → words_fault call.words ≡ None → NoFault call → IsWithin input call → Opens call
+      → call_fault call.words ≡ None → NoFault call → MayRead (is_session call.words) input call → Opens call
       → PrintedOut ending read out_failed call → Status ending out_failed call
-      → LineAnswers opening call.setting.moment (at_first opening call.entry) call.done.log.steps (lines_run read call.done)
-      → IsGiven opening call.done.log.steps (at_first opening call.entry) (lines_run read call.done) ending call.entry call.after
+      → LineAnswers opening call.setting.moment (at_first opening call.entry) call.done.log.steps (lines_run read call)
+      → IsGiven opening call.done.log.steps (at_first opening call.entry) (lines_run read call) ending call.entry call.after
       → IsFinished input call ⊎ (call.done.status ≡ 7)
   by-ending (Refused (refusals.Usage word kind)) opening read out_failed call input right quiet within opens said status answers given =
-      let wrong = said.0.0 in absurd (cc)
+      let wrong = sym right ∙ said.0.0 in absurd (cc)
+  by-ending (Refused (refusals.BadQuery at kind)) opening read out_failed call input right quiet within opens said status answers given =
+      let wrong = sym right ∙ said.0.0 in absurd (cc)
+  by-ending (Refused (refusals.BadDate at)) opening read out_failed call input right quiet within opens said status answers given =
+      let wrong = sym right ∙ said.0.0 in absurd (cc)
   by-ending (Refused refusals.ReadFault) opening read out_failed call input right quiet within opens said status answers given =
-      let rose = said.0.1.1 quiet.input.room in let same = quiet.input.same in absurd (omega arith)
+      let rose = said.0.2.1 quiet.input.room in let same = quiet.input.same in absurd (omega arith)
   by-ending (Refused (refusals.Limit limit)) opening read out_failed call input right quiet within opens said status answers given =
-      absurd (within-limits limit read input call said.0.1 within)
+      absurd (not-passed limit read input call right within said.0.0)
   by-ending (Refused refusals.DiskFault) opening read out_failed call input right quiet within opens said status answers given =
       let rose = said.0.1.1 quiet.disk.room in let same = quiet.disk.same in absurd (omega arith)
   by-ending (Refused (refusals.BadIndex file at)) opening read out_failed call input right quiet within opens said status answers given =
@@ -153,16 +179,17 @@ module _ (not_bad : (bytes : List ℕ) (index : Base) (at : ℕ) → HoldsIndex 
   by-ending (Refused refusals.NoMemory) opening read out_failed call input right quiet within opens said status answers given = inr status
   by-ending Ran opening read out_failed call input right quiet within opens said status answers given =
       let logs : List LineLog = call.done.log.lines in
-      let same : read ≡ input = read-is call.entry.input.bytes call.after.input.bytes input read within.told said.0.read.bytes said.0.read.end in
+      let script : List ScriptLine = call_lines call.words read in
       let no_out : out_failed ≡ false = quiet-out out_failed call.entry.out call.after.out _ quiet.out.same quiet.out.room said.1.out in
-      let each : length logs ≡ length (script_lines read) = logs-length (script_lines read) logs said.1.lines in
+      let each : length logs ≡ length script = logs-length script logs said.1.lines in
       let none : first_fault logs ≡ None =
-      subst (λ (l : List LineLog). first_fault l ≡ None) (seconds-zip (script_lines read) logs each)
-      (quiet-lines opening call.setting.moment call.done.log.steps (at_first opening call.entry) (lines_run read call.done) call.entry.mail call.after.mail given.along answers refl
+      subst (λ (l : List LineLog). first_fault l ≡ None) (seconds-zip script logs each)
+      (quiet-lines opening call.setting.moment call.done.log.steps (at_first opening call.entry) (lines_run read call) call.entry.mail call.after.mail given.along answers refl
       (omega (arith, quiet.mail.same)) quiet.mail.room (omega (arith, quiet.disk.same, given.disk)) quiet.disk.room) in
-      elim (quiet-status logs out_failed none no_out) [
-        | inl zero ↦ inl (record { status = status ∙ zero; each = each ∙ ap (λ (l : List ℕ). length (script_lines l)) same })
-        | inr seven ↦ inr (status ∙ seven)
+      let all : script ≡ call_lines call.words input = same-lines (is_session call.words) call.words read input call said.0.takes within in
+      elim (ends-by (is_session call.words) call out_failed status none no_out) [
+        | inl well ↦ inl (record { ends = well; each = each ∙ ap (λ (l : List ScriptLine). length l) all })
+        | inr seven ↦ inr seven
       ]
 
   pub complete : (call : Call) → History call → IsComplete call

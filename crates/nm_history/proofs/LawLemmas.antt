@@ -39,6 +39,8 @@ one-index opening steps revision one other h k =
 closed-to : (line : ParsedLine) (fault : ℕ) → asks_to_write line ≡ true → refused_unasked line (Some fault) ≡ Some (outcomes.Closed fault)
 closed-to (asked.Request requests.New) fault e = refl
 closed-to (asked.Request (requests.Count ask)) fault e = absurd (cc)
+closed-to (asked.Request (requests.Search ask)) fault e = absurd (cc)
+closed-to (asked.Request (requests.Dump ask)) fault e = absurd (cc)
 closed-to (asked.Usage word kind) fault e = absurd (cc)
 
 refused-is : (line : ParsedLine) (closed : Option ℕ) (fault : ℕ) → closed ≡ Some fault → asks_to_write line ≡ true → refused_unasked line closed ≡ Some (outcomes.Closed fault)

@@ -9,6 +9,7 @@ use Rattle.nm_index.specs.declared.base.Base.{Base}
 use Rattle.nm_log.specs.ParsedLine.{parse_line}
 use Rattle.nm_log.specs.declared.outcome.Outcome.{Outcome}
 use Rattle.nm_log.specs.declared.outcome.Outcome.TheVariants as outcomes
+use Rattle.nm_log.specs.declared.script.CommandText.{CommandText}
 use Rattle.nm_machine.specs.declared.step.Step.{Step}
 use Rattle.nm_maildir.specs.Observed.{ObservedMail}
 use Rattle.nm_maildir.specs.Tree.{Tree}
@@ -84,7 +85,7 @@ weave acknowledged way made flight (inr none) =
 
 -- a line leaves at most one commit on its way, and none where the writer stays open
 
-pub one-on-way : (outcome : Outcome) (tree : Option Tree) (index : Base) (line : List ℕ) (noted : List Given) (count : ℕ) (made flight : List Commit)
+pub one-on-way : (outcome : Outcome) (tree : Option Tree) (index : Base) (line : CommandText) (noted : List Given) (count : ℕ) (made flight : List Commit)
     → Makes outcome tree index line noted count made flight → (flight ≡ []) ⊎ ((commit : Commit) × (flight ≡ commit ∷ []))
 one-on-way outcomes.Ok tree index line noted count made flight h = inl h.1
 one-on-way (outcomes.Usage word kind) tree index line noted count made flight h = inl h.1
@@ -97,7 +98,7 @@ one-on-way (outcomes.Limit limit) tree index line noted count made flight h = in
 one-on-way outcomes.NoMemory tree index line noted count made flight h = inl h.1
 
 -- the writer that is open behind a line was open before it, and the line left nothing on its way
-still-open : (outcome : Outcome) (closed : Option ℕ) (faults : ℕ) (tree : Option Tree) (index : Base) (line : List ℕ) (noted : List Given) (count : ℕ) (made flight : List Commit)
+still-open : (outcome : Outcome) (closed : Option ℕ) (faults : ℕ) (tree : Option Tree) (index : Base) (line : CommandText) (noted : List Given) (count : ℕ) (made flight : List Commit)
     → Makes outcome tree index line noted count made flight → closed_after closed outcome faults ≡ None → (closed ≡ None) × (flight ≡ [])
 still-open outcomes.Ok closed faults tree index line noted count made flight h e = (e, h.1)
 still-open (outcomes.Usage word kind) closed faults tree index line noted count made flight h e = (e, h.1)

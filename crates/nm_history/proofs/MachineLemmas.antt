@@ -9,6 +9,8 @@ use Rattle.nm_answer.specs.declared.request.Request.{Request}
 use Rattle.nm_answer.specs.declared.request.Request.TheVariants as requests
 use Rattle.nm_answer.specs.Answer.{is_reply}
 use Rattle.nm_answer.specs.Count.{count_answer}
+use Rattle.nm_answer.specs.Dump.{dump_answer}
+use Rattle.nm_answer.specs.Found.{search_answer}
 use Rattle.nm_commit.specs.Files.{Fits}
 use Rattle.nm_commit.specs.declared.change.Commit.{Commit}
 use Rattle.nm_index.specs.Fits.{FitInTurn}
@@ -246,6 +248,8 @@ module _ (moment : ℤ) where
   right-reply requests.New closed before index noted text e is = refl
   right-reply (requests.Count ask) closed before index noted text e is =
       own-well ask.batch ask.query (refused_closed closed false) text (count_answer ask index moment) e is
+  right-reply (requests.Search ask) closed before index noted text e is = read-well (answer_of ask.query) (refused_closed closed false) text (search_answer ask index moment) e is
+  right-reply (requests.Dump ask) closed before index noted text e is = read-well (answer_of ask.query) (refused_closed closed false) text (dump_answer ask index moment) e is
 
   -- the reply to a line, by its outcome
   answer-goes : (opening : Base) (m : Machine) (acknowledged way : List Commit) (outcome : Outcome) (parsed : ParsedLine) (first : Before) (mail disk revision : ℕ) (text : List ℕ) (before : Base) (noted : List Given)

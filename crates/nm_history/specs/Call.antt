@@ -1,14 +1,28 @@
 -- One call of the program: what it is given, what is observed of the devices when it begins and when it has returned, and what it answers.
-use Rattle.std.specs.Prelude.{ℕ, List, [], ◌∷◌, codes, Option, None, Some, if◌then◌else◌}
+use Rattle.std.specs.Prelude.{ℕ, Bool, true, false, List, [], ◌∷◌, codes, Option, None, Some, Result, Ok, Err}
 use Rattle.nm_base.specs.Order.{same_text}
-use Rattle.nm_base.specs.declared.refusals.UsageKind.{UsageKind}
-use Rattle.nm_base.specs.declared.refusals.UsageKind.TheVariants as kinds
+use Rattle.nm_command.specs.Requests.{request_of}
+use Rattle.nm_command.specs.declared.command_error.CommandError.{CommandError}
+use Rattle.nm_command.specs.declared.command_error.CommandError.TheVariants as faults
+use Rattle.nm_command.specs.declared.request.Request as asks
 use Rattle.nm_disk.specs.Observed.{ObservedDisk}
 use Rattle.nm_io.specs.Observed.{ObservedStream}
+use Rattle.nm_log.specs.ParsedLine.{parse_line}
+use Rattle.nm_log.specs.Script.{script_lines, single_line}
+use Rattle.nm_log.specs.declared.line_parser.ParsedLine.{ParsedLine}
+use Rattle.nm_log.specs.declared.line_parser.ParsedLine.TheVariants as asked
 use Rattle.nm_log.specs.declared.log.Done.{Done}
 use Rattle.nm_log.specs.declared.log.Setting.{Setting}
 use Rattle.nm_log.specs.declared.refusal.Refusal.{Refusal}
+use Rattle.nm_log.specs.declared.refusal.Refusal.TheVariants as refusals
+use Rattle.nm_log.specs.declared.script.CommandText.TheVariants.{Words}
+use Rattle.nm_log.specs.declared.script.ScriptLine.{ScriptLine}
 use Rattle.nm_maildir.specs.Observed.{ObservedMail}
+use Rattle.nm_query.specs.Answers.{answer_of}
+use Rattle.nm_query.specs.declared.query.Query.{Query}
+use Rattle.nm_query.specs.declared.query_error.QueryError.{QueryError}
+use Rattle.nm_query.specs.declared.query_error.QueryError.TheVariants as errors
+use Rattle.nm_history.specs.Requests.{own_query}
 
 -- what is observed of all devices at one moment
 pub record Devices : Type 0 where
@@ -34,13 +48,58 @@ pub record Call : Type 0 where
 abbrev pub call_of : List (List ℕ) → Setting → Devices → Devices → Done → Call
 call_of given told old new ended = record { words = given; setting = told; entry = old; after = new; done = ended }
 
--- How a call ends: it is refused as a whole, or it runs its script from an opening index.
+-- How a call ends: it is refused as a whole, or it runs its lines from an opening index.
 pub data Ending : Type 0 where
   Refused : Refusal → Ending
   Ran : Ending
 
--- the fault of the words: they must be the one word `session`
-abbrev pub words_fault : List (List ℕ) → Option (UsageKind × List ℕ)
-words_fault [] = Some (kinds.Command, [])
-words_fault (word ∷ []) = if same_text word (codes "session") then None else Some (kinds.Command, word)
-words_fault (word ∷ other ∷ more) = if same_text word (codes "session") then Some (kinds.Extra, other) else Some (kinds.Command, word)
+-- the call runs a script: its first word is `session`; any other words are a single command
+abbrev pub is_session : List (List ℕ) → Bool
+is_session [] = false
+is_session (word ∷ more) = same_text word (codes "session")
+
+-- why words that begin with `session` are refused
+abbrev pub fault_of_session : Result asks.Request CommandError → Option Refusal
+fault_of_session (Ok request) = None
+fault_of_session (Err (faults.Usage word kind)) = Some (refusals.Usage word kind)
+fault_of_session (Err faults.NoMemory) = None
+
+-- why a query is refused
+abbrev pub query_refusal : QueryError → Refusal
+query_refusal (errors.BadQuery at kind) = refusals.BadQuery at kind
+query_refusal (errors.BadDate at) = refusals.BadDate at
+query_refusal (errors.Limit limit) = refusals.Limit limit
+query_refusal errors.NoMemory = refusals.NoMemory
+
+-- a text that is no query is refused
+abbrev pub fault_in_query : Result Query QueryError → Option Refusal
+fault_in_query (Ok query) = None
+fault_in_query (Err refusal) = Some (query_refusal refusal)
+
+-- a request that has a query of its own is refused where that is none
+abbrev pub fault_of_query : Option (List ℕ) → Option Refusal
+fault_of_query None = None
+fault_of_query (Some text) = fault_in_query (answer_of text)
+
+-- why a single command is refused before a device is asked: its words are outside the grammar, or its query has no tree
+abbrev pub fault_of_command : ParsedLine → Option Refusal
+fault_of_command (asked.Usage word kind) = Some (refusals.Usage word kind)
+fault_of_command (asked.Request request) = fault_of_query (own_query request)
+
+-- why words are refused, where they begin a session and where they don't
+abbrev pub fault_by : Bool → List (List ℕ) → Option Refusal
+fault_by true words = fault_of_session (request_of words)
+fault_by false words = fault_of_command (parse_line (Words words))
+
+-- why a call is refused for its words
+abbrev pub call_fault : List (List ℕ) → Option Refusal
+call_fault words = fault_by (is_session words) words
+
+-- the lines of a script, or the one line that the words are
+abbrev pub lines_by : Bool → List (List ℕ) → List ℕ → List ScriptLine
+lines_by true words input = script_lines input
+lines_by false words input = single_line words
+
+-- the lines that a call runs: those of its input, or its words as the only one
+abbrev pub call_lines : List (List ℕ) → List ℕ → List ScriptLine
+call_lines words input = lines_by (is_session words) words input

@@ -1,13 +1,13 @@
--- With nothing in its way a session runs to its end: want of memory alone may stop it.
-use Rattle.std.specs.Prelude.{◌≡◌, ◌≢◌, ◌⊎◌, ℕ, ◌<◌, ◌≤◌, List, length, None, Some, IfSome}
+-- With nothing in its way a call runs to its end: want of memory alone may stop it.
+use Rattle.std.specs.Prelude.{◌≡◌, ◌≢◌, ◌⊎◌, ℕ, ◌<◌, ◌≤◌, Bool, true, false, List, length, None, Some, IfSome}
 use Rattle.std.specs.Str.Lines.{lines}
 use Rattle.nm_base.specs.Limits.{max_count, max_input_bytes, max_lines}
 use Rattle.nm_disk.specs.Observed.{bytes_now}
 use Rattle.nm_disk.specs.declared.disk.FileNo.TheVariants.{Head}
 use Rattle.nm_index.specs.declared.base.Base.{Base}
-use Rattle.nm_log.specs.Script.{script_lines}
 use Rattle.nm_writer.specs.StoredIndex.{HoldsIndex}
-use Rattle.nm_history.specs.Call.{Call, words_fault}
+use Rattle.nm_history.specs.Call.{Call, call_fault, call_lines, is_session}
+use Rattle.nm_history.specs.Status.{first_fault, single_status}
 
 -- the count did not rise, and does not stand at its type's end
 pub record StaysBelow (old new : ℕ) : Type 0 where
@@ -33,14 +33,24 @@ pub record Opens (call : Call) : Type 0 where
   pub holds : IfSome call.entry.disk.told (λ moments. HoldsIndex (bytes_now moments Head) index)
   pub told : call.entry.disk.told ≢ None
 
--- every line of the script has its log
-pub record IsFinished (input : List ℕ) (call : Call) : Type 0 where
-  pub status : call.done.status ≡ 0
-  pub each : length call.done.log.lines ≡ length (script_lines input)
+-- what a call asks of its input: a session that it is within the limits, a single command nothing
+abbrev pub MayRead : Bool → List ℕ → Call → Type 0
+MayRead true input call = IsWithin input call
+MayRead false input call = Unit {0}
 
--- Where the words are right, no device failed, the input is within the limits and the disk holds an index, the script is
--- answered to its end, or memory was wanting.
+-- A session ends with status 0; a single command with that of its outcome, which is no fault of a device.
+abbrev pub EndsWell : Bool → Call → Type 0
+EndsWell true call = call.done.status ≡ 0
+EndsWell false call = (call.done.status ≡ single_status call.done.log.lines false) × (first_fault call.done.log.lines ≡ None)
+
+-- every line of the call has its log
+pub record IsFinished (input : List ℕ) (call : Call) : Type 0 where
+  pub ends : EndsWell (is_session call.words) call
+  pub each : length call.done.log.lines ≡ length (call_lines call.words input)
+
+-- Where the words are right, no device failed, the input is within the limits and the disk holds an index, the lines are
+-- answered to their end, or memory was wanting.
 abbrev pub IsComplete : Call → Type 0
 IsComplete call =
-    (input : List ℕ) → words_fault call.words ≡ None → NoFault call → IsWithin input call → Opens call
+    (input : List ℕ) → call_fault call.words ≡ None → NoFault call → MayRead (is_session call.words) input call → Opens call
     → IsFinished input call ⊎ (call.done.status ≡ 7)

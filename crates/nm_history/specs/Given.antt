@@ -1,6 +1,6 @@
 -- What the lines asked the mail folder and what it gave, one line after the other.
 use Rattle.std.specs.Prelude.{◌≡◌, ℕ, ◌≤◌, List, [], ◌∷◌}
-use Rattle.nm_answer.specs.declared.request.Request.TheVariants.{New, Count}
+use Rattle.nm_answer.specs.declared.request.Request.TheVariants.{New, Count, Search, Dump}
 use Rattle.nm_base.specs.declared.facts.Facts.{Facts}
 use Rattle.nm_disk.specs.Observed.{ObservedDisk}
 use Rattle.nm_index.specs.declared.base.Base.{Base}
@@ -18,6 +18,8 @@ use Rattle.nm_history.specs.Lines.{Before, IsIndexAt, RunLine, behind, behind_al
 abbrev pub AsksMail : ParsedLine → ObservedMail → ObservedMail → List (List ℕ × Facts) → List Given → Type 0
 AsksMail (asked.Request New) old new files noted = AsksNew old new files noted
 AsksMail (asked.Request (Count ask)) old new files noted = (noted ≡ []) × (new ≡ old)
+AsksMail (asked.Request (Search ask)) old new files noted = (noted ≡ []) × (new ≡ old)
+AsksMail (asked.Request (Dump ask)) old new files noted = (noted ≡ []) × (new ≡ old)
 AsksMail (asked.Usage word kind) old new files noted = (noted ≡ []) × (new ≡ old)
 
 -- A line asks the folder for what it needs on the index before it; the folder's tree stays, and its faults are noted and never fall.

@@ -1,4 +1,4 @@
--- The whole statement of a session, over the opening index and the bytes of the input.
+-- The whole statement of a call, over the opening index and the bytes of the input.
 use Rattle.std.specs.Prelude.{ℕ, Bool, List}
 use Rattle.nm_commit.specs.declared.change.Commit.{Commit}
 use Rattle.nm_index.specs.declared.base.Base.{Base}
@@ -20,10 +20,10 @@ pub record IsHistory (opening : Base) (input : List ℕ) (call : Call) : Type 0 
   pub out_failed : Bool
   pub acknowledged : List Commit
   pub opening_index : OpeningIndex ending call.entry.disk opening
-  pub machine_run : MachineRun opening call.setting.moment (at_first opening call.entry) call.done.log.steps (lines_run input call.done) acknowledged
-  pub line_commits : LineCommits opening call.entry.mail.tree call.done.log.steps (lines_run input call.done) acknowledged
-  pub line_answers : LineAnswers opening call.setting.moment (at_first opening call.entry) call.done.log.steps (lines_run input call.done)
-  pub given : IsGiven opening call.done.log.steps (at_first opening call.entry) (lines_run input call.done) ending call.entry call.after
+  pub machine_run : MachineRun opening call.setting.moment (at_first opening call.entry) call.done.log.steps (lines_run input call) acknowledged
+  pub line_commits : LineCommits opening call.entry.mail.tree call.done.log.steps (lines_run input call) acknowledged
+  pub line_answers : LineAnswers opening call.setting.moment (at_first opening call.entry) call.done.log.steps (lines_run input call)
+  pub given : IsGiven opening call.done.log.steps (at_first opening call.entry) (lines_run input call) ending call.entry call.after
   pub printed_out : PrintedOut ending input out_failed call
   pub crash_prefix : CrashPrefix call.entry.disk call.after.disk call.done.log.steps call.done.log.acked
   pub status : Status ending out_failed call

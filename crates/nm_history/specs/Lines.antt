@@ -1,26 +1,24 @@
--- The lines of a script that were run, each with its log, and what stands before a line, all of it read off the log.
+-- The lines that were run, each with its log, and what stands before a line, all of it read off the log.
 use Rattle.std.specs.Prelude.{◌≡◌, ℕ, ◌+◌, List, [], ◌∷◌, ◌++◌, length, fold, Option, None, Some}
 use Rattle.std.specs.List.{flat_map, zip}
 use Rattle.nm_commit.specs.declared.change.Commit.{Commit}
 use Rattle.nm_index.specs.Index.{folded}
 use Rattle.nm_index.specs.declared.base.Base.{Base}
-use Rattle.nm_log.specs.Script.{script_lines}
-use Rattle.nm_log.specs.declared.log.Done.{Done}
 use Rattle.nm_log.specs.declared.log.LineLog.{LineLog}
 use Rattle.nm_log.specs.declared.outcome.Outcome.{Outcome}
 use Rattle.nm_log.specs.declared.outcome.Outcome.TheVariants as outcomes
 use Rattle.nm_log.specs.declared.script.ScriptLine.{ScriptLine}
 use Rattle.nm_machine.specs.declared.step.Step.{Step}
 use Rattle.nm_machine.specs.declared.step.Step.TheVariants.{Begin, Append, Show, See, Meet, Reply, Crash, Reopen}
-use Rattle.nm_history.specs.Call.{Devices}
+use Rattle.nm_history.specs.Call.{Call, Devices, call_lines}
 
--- a line of the script, and what was done with it
+-- a line, and what was done with it
 abbrev pub RunLine : Type 0
 RunLine = ScriptLine × LineLog
 
--- the first lines of the script, as many as the log has
-abbrev pub lines_run : List ℕ → Done → List RunLine
-lines_run input done = zip (script_lines input) done.log.lines
+-- the first lines of the call, as many as the log has
+abbrev pub lines_run : List ℕ → Call → List RunLine
+lines_run input call = zip (call_lines call.words input) call.done.log.lines
 
 -- the commit that a step begins
 abbrev pub begun_by : Step → List Commit

@@ -1,14 +1,14 @@
--- What is printed: the replies of all lines, and at most one line to the user besides.
+-- What is printed: the replies of all lines of a script behind their headers, or that of a single command alone, and at most one line to
+-- the user besides.
 use Rattle.std.specs.Prelude.{◌≡◌, ℕ, Bool, true, false, List, [], ◌∷◌, take, codes, Option, None, Some, if◌then◌else◌}
 use Rattle.std.specs.Io.KnownBytes.{Appends}
 use Rattle.nm_faults.specs.Faults.{HasRisen}
 use Rattle.nm_io.specs.Observed.{ObservedStream}
 use Rattle.nm_log.specs.Refusals.{refused_line}
-use Rattle.nm_log.specs.Replies.{printed}
-use Rattle.nm_log.specs.Script.{script_lines}
+use Rattle.nm_log.specs.Replies.{is_well, printed, replies_alone}
 use Rattle.nm_log.specs.declared.log.LineLog.{LineLog}
 use Rattle.nm_log.specs.declared.script.ScriptLine.{ScriptLine}
-use Rattle.nm_history.specs.Call.{Call, Ending, Ran, Refused}
+use Rattle.nm_history.specs.Call.{Call, Ending, Ran, Refused, call_lines, is_session}
 use Rattle.nm_history.specs.Refusals.{IsRefusedFor, ReadsScript}
 
 -- an output gained the bytes, or where it failed the first of them
@@ -21,9 +21,29 @@ abbrev pub Prints : Option (List ℕ) → ObservedStream → ObservedStream → 
 Prints None old new = new ≡ old
 Prints (Some line) old new = (failed : Bool) × StreamAppends failed old new line
 
--- what a session says besides its replies
-abbrev pub final_message : Bool → Option (List ℕ)
-final_message out_failed = if out_failed then Some (codes "notmuch: write fault\n") else None
+-- what is said where the output failed
+abbrev pub write_message : Bool → Option (List ℕ)
+write_message out_failed = if out_failed then Some (codes "notmuch: write fault\n") else None
+
+-- the text of the first line that did not go well
+abbrev pub refused_text : List LineLog → Option (List ℕ)
+refused_text [] = None
+refused_text (log ∷ more) = if is_well log.outcome then refused_text more else Some log.text
+
+-- this text, or where there is none the other
+abbrev pub text_or : Option (List ℕ) → Option (List ℕ) → Option (List ℕ)
+text_or None other = other
+text_or (Some text) other = Some text
+
+-- what is said besides the replies: of a single command its refusal comes first
+abbrev pub final_message : Bool → List LineLog → Bool → Option (List ℕ)
+final_message true logs out_failed = write_message out_failed
+final_message false logs out_failed = text_or (refused_text logs) (write_message out_failed)
+
+-- the replies: those of a script behind their headers
+abbrev pub printed_by : Bool → List LineLog → List ℕ
+printed_by true logs = printed logs
+printed_by false logs = replies_alone logs
 
 -- the log's numbers of a line: all are of the first phase and of lane 0 for now
 pub record IsNumbered (line : ScriptLine) (log : LineLog) : Type 0 where
@@ -31,7 +51,7 @@ pub record IsNumbered (line : ScriptLine) (log : LineLog) : Type 0 where
   pub lane : log.lane ≡ 0
   pub number : log.line ≡ line.number
 
--- Each line of the script has its log, in their order, and there are no others.
+-- Each line has its log, in their order, and there are no others.
 abbrev pub AreLogsOf : List ScriptLine → List LineLog → Type 0
 AreLogsOf [] [] = Unit {0}
 AreLogsOf [] (log ∷ logs) = ⊥
@@ -47,11 +67,11 @@ pub record PrintsRefusal (line : List ℕ) (call : Call) : Type 0 where
   pub out : call.after.out ≡ call.entry.out
   pub says : Prints (Some line) call.entry.err call.after.err
 
--- Every line was run, the replies were printed, and what ended the session.
+-- Every line was run, the replies were printed, and what else was said.
 pub record PrintsReplies (input : List ℕ) (out_failed : Bool) (call : Call) : Type 0 where
-  pub lines : AreLogsOf (script_lines input) call.done.log.lines
-  pub out : StreamAppends out_failed call.entry.out call.after.out (printed call.done.log.lines)
-  pub says : Prints (final_message out_failed) call.entry.err call.after.err
+  pub lines : AreLogsOf (call_lines call.words input) call.done.log.lines
+  pub out : StreamAppends out_failed call.entry.out call.after.out (printed_by (is_session call.words) call.done.log.lines)
+  pub says : Prints (final_message (is_session call.words) call.done.log.lines out_failed) call.entry.err call.after.err
 
 -- What the outputs gained, and why.
 abbrev pub PrintedOut : Ending → List ℕ → Bool → Call → Type 0

@@ -1,5 +1,5 @@
 -- Why a call is refused as a whole, and what was read where it isn't.
-use Rattle.std.specs.Prelude.{◌≡◌, ℕ, ◌<◌, ◌≤◌, List, length, None, Some, IfSome}
+use Rattle.std.specs.Prelude.{◌≡◌, ◌⊎◌, ℕ, ◌<◌, ◌≤◌, Bool, true, false, List, length, None, Some, IfSome}
 use Rattle.std.specs.Io.KnownBytes.{Consumes, IsAtEnd}
 use Rattle.std.specs.Str.Lines.{lines}
 use Rattle.nm_base.specs.Limits.{max_input_bytes, max_lines}
@@ -12,7 +12,7 @@ use Rattle.nm_io.specs.Observed.{ObservedStream}
 use Rattle.nm_log.specs.declared.refusal.Refusal.{Refusal}
 use Rattle.nm_log.specs.declared.refusal.Refusal.TheVariants as refusals
 use Rattle.nm_writer.specs.StoredIndex.{HoldsNoIndex}
-use Rattle.nm_history.specs.Call.{Call, words_fault}
+use Rattle.nm_history.specs.Call.{Call, call_fault, is_session}
 
 -- the input was read to its end, and these are its bytes
 pub record IsRead (input : List ℕ) (old new : ObservedStream) : Type 0 where
@@ -21,11 +21,15 @@ pub record IsRead (input : List ℕ) (old new : ObservedStream) : Type 0 where
   pub within : length input ≤ max_input_bytes
   pub sound : new.faults ≡ old.faults
 
--- the words are right, and the input is a script
+-- what is taken of the input: a session reads its script to the end, a single command leaves it as it is
+abbrev pub TakesInput : Bool → List ℕ → ObservedStream → ObservedStream → Type 0
+TakesInput true input old new = IsRead input old new × (length (lines input) ≤ max_lines)
+TakesInput false input old new = new ≡ old
+
+-- the words are right, and what they ask of the input was read
 pub record ReadsScript (input : List ℕ) (call : Call) : Type 0 where
-  pub words : words_fault call.words ≡ None
-  pub read : IsRead input call.entry.input call.after.input
-  pub few : length (lines input) ≤ max_lines
+  pub words : call_fault call.words ≡ None
+  pub takes : TakesInput (is_session call.words) input call.entry.input call.after.input
 
 -- the bound that was passed before a line was run: the bytes or the lines of the input
 abbrev pub IsInputPassed : Limit → List ℕ → Call → Type 0
@@ -46,14 +50,25 @@ IsInputPassed limits.Numbers input call = ⊥
 abbrev pub DiskUnasked : Call → Type 0
 DiskUnasked call = call.after.disk ≡ call.entry.disk
 
+-- the query of a single command passes the limit, or the script of a session does
+abbrev pub PassesBefore : Limit → List ℕ → Call → Type 0
+PassesBefore limit input call =
+    (call_fault call.words ≡ Some (refusals.Limit limit)) ⊎ ((call_fault call.words ≡ None) × (is_session call.words ≡ true) × IsInputPassed limit input call)
+
+-- nothing was asked: the words alone refuse the call
+abbrev pub IsUnasked : Call → Type 0
+IsUnasked call = (call.after.input ≡ call.entry.input) × DiskUnasked call
+
 -- The cause of a refusal, in the order in which they are met: the words, the input, the index on the disk. Want of memory alone is free.
 abbrev pub IsRefusedFor : Refusal → List ℕ → Call → Type 0
 IsRefusedFor (refusals.Usage word kind) input call =
-    (words_fault call.words ≡ Some (kind, word)) × (call.after.input ≡ call.entry.input) × DiskUnasked call
+    (call_fault call.words ≡ Some (refusals.Usage word kind)) × IsUnasked call
+IsRefusedFor (refusals.BadQuery at kind) input call = (call_fault call.words ≡ Some (refusals.BadQuery at kind)) × IsUnasked call
+IsRefusedFor (refusals.BadDate at) input call = (call_fault call.words ≡ Some (refusals.BadDate at)) × IsUnasked call
 IsRefusedFor refusals.ReadFault input call =
-    (words_fault call.words ≡ None) × HasRisen call.entry.input.faults call.after.input.faults × DiskUnasked call
-IsRefusedFor (refusals.Limit limit) input call = (words_fault call.words ≡ None) × IsInputPassed limit input call × DiskUnasked call
+    (call_fault call.words ≡ None) × (is_session call.words ≡ true) × HasRisen call.entry.input.faults call.after.input.faults × DiskUnasked call
+IsRefusedFor (refusals.Limit limit) input call = PassesBefore limit input call × DiskUnasked call
 IsRefusedFor refusals.DiskFault input call = ReadsScript input call × HasRisen call.entry.disk.faults call.after.disk.faults
 IsRefusedFor (refusals.BadIndex file at) input call =
     ReadsScript input call × (file ≡ Head) × IfSome call.entry.disk.told (λ moments. HoldsNoIndex (bytes_now moments Head) at)
-IsRefusedFor refusals.NoMemory input call = words_fault call.words ≡ None
+IsRefusedFor refusals.NoMemory input call = Unit {0}

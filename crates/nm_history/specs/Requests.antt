@@ -1,7 +1,7 @@
 -- What a line asks for, and what refuses it before any device is touched.
 use Rattle.std.specs.Prelude.{ℕ, List, Bool, true, false, Option, None, Some, Result, Ok, Err, if◌then◌else◌}
 use Rattle.nm_answer.specs.declared.request.Request.{Request}
-use Rattle.nm_answer.specs.declared.request.Request.TheVariants.{New, Count}
+use Rattle.nm_answer.specs.declared.request.Request.TheVariants.{New, Count, Search, Dump}
 use Rattle.nm_log.specs.declared.line_parser.ParsedLine.{ParsedLine}
 use Rattle.nm_log.specs.declared.line_parser.ParsedLine.TheVariants as asked
 use Rattle.nm_log.specs.declared.outcome.Outcome.{Outcome}
@@ -15,6 +15,8 @@ use Rattle.nm_query.specs.declared.query_error.QueryError.TheVariants as errors
 abbrev pub is_writing : Request → Bool
 is_writing New = true
 is_writing (Count ask) = false
+is_writing (Search ask) = false
+is_writing (Dump ask) = false
 
 -- a line that asks for one
 abbrev pub asks_to_write : ParsedLine → Bool
@@ -25,11 +27,15 @@ asks_to_write (asked.Usage word kind) = false
 abbrev pub reads_input : Request → Bool
 reads_input New = false
 reads_input (Count ask) = ask.batch
+reads_input (Search ask) = false
+reads_input (Dump ask) = false
 
 -- the text of its own query, where it has one: a count that reads its queries from an input has none
 abbrev pub own_query : Request → Option (List ℕ)
 own_query New = None
 own_query (Count ask) = if ask.batch then None else Some ask.query
+own_query (Search ask) = Some ask.query
+own_query (Dump ask) = Some ask.query
 
 -- how a line ends whose query has no tree
 abbrev pub query_outcome : QueryError → Outcome

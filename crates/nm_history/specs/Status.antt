@@ -2,10 +2,11 @@
 use Rattle.std.specs.Prelude.{◌≡◌, ℕ, Bool, true, false, List, [], ◌∷◌, Option, None, Some, if◌then◌else◌}
 use Rattle.std.specs.List.{list_any}
 use Rattle.nm_log.specs.Refusals.{refused_status}
+use Rattle.nm_log.specs.Replies.{is_well, status_of}
 use Rattle.nm_log.specs.declared.log.LineLog.{LineLog}
 use Rattle.nm_log.specs.declared.outcome.Outcome.{Outcome}
 use Rattle.nm_log.specs.declared.outcome.Outcome.TheVariants as outcomes
-use Rattle.nm_history.specs.Call.{Call, Ending, Ran, Refused}
+use Rattle.nm_history.specs.Call.{Call, Ending, Ran, Refused, is_session}
 
 -- the status of the device that failed in a line
 abbrev pub fault_of : Outcome → Option ℕ
@@ -57,7 +58,17 @@ status_of_fault None wanted = if wanted then 7 else 0
 abbrev pub session_status : List LineLog → Bool → ℕ
 session_status logs out_failed = status_of_fault (fault_or (first_fault logs) (write_fault out_failed)) (any_wants_memory logs)
 
+-- The status of a single command: that of its outcome, and where it went well and the output failed 6.
+abbrev pub single_status : List LineLog → Bool → ℕ
+single_status [] out_failed = 7
+single_status (log ∷ more) out_failed = if is_well log.outcome then (if out_failed then 6 else 0) else status_of log.outcome
+
+-- the status of a session, or of a single command
+abbrev pub status_by : Bool → List LineLog → Bool → ℕ
+status_by true logs out_failed = session_status logs out_failed
+status_by false logs out_failed = single_status logs out_failed
+
 -- What the process exits with.
 abbrev pub Status : Ending → Bool → Call → Type 0
 Status (Refused refusal) out_failed call = call.done.status ≡ refused_status refusal
-Status Ran out_failed call = call.done.status ≡ session_status call.done.log.lines out_failed
+Status Ran out_failed call = call.done.status ≡ status_by (is_session call.words) call.done.log.lines out_failed

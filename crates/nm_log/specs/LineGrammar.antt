@@ -1,6 +1,6 @@
 -- The grammar of a line of a script, a case for each of its rules: which lines ask for what, and which word of a line is at fault.
 --   line := "0" command        of a command that a session answers
-use Rattle.std.specs.Prelude.{◌≡◌, ℕ, true, false, List, [], ◌∷◌, None, Some, codes}
+use Rattle.std.specs.Prelude.{◌≡◌, ℕ, Bool, true, false, not, List, [], ◌∷◌, None, Some, codes}
 use Rattle.std.specs.Str.{is_utf8}
 use Rattle.nm_base.specs.Order.{same_text}
 use Rattle.nm_base.specs.declared.refusals.UsageKind.{UsageKind}
@@ -17,6 +17,15 @@ use Rattle.nm_log.specs.Words.{words_of}
 abbrev pub command_of : Request → asks.Request
 command_of requests.New = asked.New
 command_of (requests.Count ask) = asked.Count ask
+command_of (requests.Search ask) = asked.Search ask
+command_of (requests.Dump ask) = asked.Dump ask
+
+-- a single command can be asked for it: all but a count that reads its queries from an input
+abbrev pub may_stand_alone : Request → Bool
+may_stand_alone requests.New = true
+may_stand_alone (requests.Count ask) = not ask.batch
+may_stand_alone (requests.Search ask) = true
+may_stand_alone (requests.Dump ask) = true
 
 -- the line asks for this: behind its lane, which is 0, the words of a command do
 pub record AsksFor (line : List ℕ) (request : Request) : Type 0 where

@@ -1,5 +1,5 @@
 -- The texts of replies and refusals, and how a log is printed.
-use Rattle.std.specs.Prelude.{ℕ, List, [], ◌++◌, length, codes}
+use Rattle.std.specs.Prelude.{ℕ, Bool, true, false, List, [], ◌++◌, length, codes, if◌then◌else◌}
 use Rattle.std.specs.Fmt.{decimal}
 use Rattle.std.specs.List.{flat_map}
 use Rattle.nm_base.specs.declared.limit.Limit.{Limit}
@@ -88,6 +88,18 @@ status_of (outcomes.Closed fault) = 4
 status_of (outcomes.Limit limit) = 9
 status_of outcomes.NoMemory = 7
 
+-- the line went well
+abbrev pub is_well : Outcome → Bool
+is_well outcomes.Ok = true
+is_well (outcomes.Usage word kind) = false
+is_well (outcomes.BadQuery at kind) = false
+is_well (outcomes.BadDate at) = false
+is_well outcomes.MailFault = false
+is_well outcomes.DiskFault = false
+is_well (outcomes.Closed fault) = false
+is_well (outcomes.Limit limit) = false
+is_well outcomes.NoMemory = false
+
 -- the lane and the number of the line, the revision, the status, and the length of the reply
 abbrev pub header_of : LineLog → List ℕ
 header_of log =
@@ -105,3 +117,11 @@ printed_line log = header_of log ++ log.text
 -- all replies, in the order of the log
 abbrev pub printed : List LineLog → List ℕ
 printed lines = flat_map printed_line lines
+
+-- a reply without a header; a refusal is no reply
+abbrev pub reply_of : LineLog → List ℕ
+reply_of log = if is_well log.outcome then log.text else []
+
+-- the replies alone, as a single command prints its one
+abbrev pub replies_alone : List LineLog → List ℕ
+replies_alone lines = flat_map reply_of lines

@@ -13,11 +13,11 @@ mod replies;
 mod script;
 mod words;
 
-pub use laws::lines_are_read_as_the_grammar_says;
+pub use laws::{lines_are_read_as_the_grammar_says, single_commands_are_read_as_the_grammar_says};
 pub use line_parser::{ParsedLine, parse_line};
 pub use log::{Done, LineLog, SessionLog, Setting};
 pub use outcome::Outcome;
-pub use print::{print_lines, print_text, print_usage};
+pub use print::{print_lines, print_replies, print_text, print_usage};
 pub use refusal::{Refusal, print_refusal, refusal_status};
-pub use replies::{line_status, new_reply, refusal_text, usage_text};
-pub use script::{ScriptError, ScriptLine, read_script};
+pub use replies::{is_well, line_status, new_reply, refusal_text, usage_text};
+pub use script::{CommandText, ScriptError, ScriptLine, read_script};

@@ -1,13 +1,14 @@
-//! What a line of a script asks for; the session reads each line with it.
+//! What a line of a script or a single command asks for; the session reads each with it.
 
 ghost use Rattle.std.specs.Prelude.{◌≡◌, IfOk};
 ghost use Rattle.nm_command.specs.Requests.{request_of};
-ghost use Rattle.nm_log.specs.ParsedLine.{command_fault, line_request, name_fault, parse_answer, parse_command, parse_line, parse_words};
+ghost use Rattle.nm_log.specs.ParsedLine.{alone, command_fault, line_request, name_fault, parse_answer, parse_command, parse_line, parse_script, parse_single, parse_words};
 ghost use Rattle.nm_log.specs.Words.{words_of};
 
+use crate::CommandText;
 use crate::words::words;
 use nm_answer::Request;
-use nm_base::{NoMemory, Text, UsageKind};
+use nm_base::{CountAsk, NoMemory, Text, UsageKind};
 use nm_command::{CommandError, CommandName, command, command_named};
 use std::alloc::Global;
 
@@ -18,9 +19,46 @@ pub enum ParsedLine {
     Usage { word: Text, kind: UsageKind },
 }
 
+/// Reads what a command asks for: a line of a script, or the words of a single command.
+pub fn parse_line(alloc: Global, text: &CommandText) -> Result<ParsedLine, NoMemory>
+    ensures { IfOk result (λ asked. asked ≡ parse_line text.now) }
+{
+    match text {
+        CommandText::Line(line) => parse_script(alloc, line.as_slice()),
+        CommandText::Words(words) => parse_single(alloc, words.as_slice()),
+    }
+}
+
+/// Reads the words of a single command.
+fn parse_single(alloc: Global, words: &[Text]) -> Result<ParsedLine, NoMemory>
+    ensures { IfOk result (λ asked. asked ≡ parse_single words.now) }
+{
+    let asked = read_command(alloc, words)?;
+    alone(alloc, asked)
+}
+
+/// A single command has no input to read queries from.
+fn alone(alloc: Global, asked: ParsedLine) -> Result<ParsedLine, NoMemory>
+    ensures { IfOk result (λ read. read ≡ alone asked) }
+{
+    match asked {
+        ParsedLine::Request(Request::Count(ask)) => count_alone(alloc, ask),
+        other => Ok(other),
+    }
+}
+
+fn count_alone(alloc: Global, ask: CountAsk) -> Result<ParsedLine, NoMemory>
+    ensures { IfOk result (λ read. read ≡ alone (ParsedLine.Request (Request.Count ask))) }
+{
+    if ask.batch {
+        return refuse(alloc, UsageKind::Option, "--batch");
+    }
+    Ok(ParsedLine::Request(Request::Count(ask)))
+}
+
 /// Reads what a line of a script asks for: its lane, which is 0, and a command.
-pub fn parse_line(alloc: Global, line: &[u8]) -> Result<ParsedLine, NoMemory>
-    ensures { IfOk result (λ asked. asked ≡ parse_line line.now) }
+fn parse_script(alloc: Global, line: &[u8]) -> Result<ParsedLine, NoMemory>
+    ensures { IfOk result (λ asked. asked ≡ parse_script line.now) }
 {
     match str::from_utf8(line) {
         Ok(text) => read_text(alloc, text),
@@ -82,8 +120,8 @@ fn command_fault(command: CommandName) -> Option<UsageKind>
     ensures { result ≡ command_fault command }
 {
     match command {
-        CommandName::New | CommandName::Count => None,
-        CommandName::Search | CommandName::Show => Some(UsageKind::Command),
+        CommandName::New | CommandName::Count | CommandName::Search | CommandName::Dump => None,
+        CommandName::Show => Some(UsageKind::Command),
         CommandName::Session => Some(UsageKind::Lane),
     }
 }
@@ -109,9 +147,9 @@ fn line_request(
     match request {
         nm_command::Request::New => Ok(ParsedLine::Request(Request::New)),
         nm_command::Request::Count(ask) => Ok(ParsedLine::Request(Request::Count(ask))),
-        nm_command::Request::Search(_) | nm_command::Request::Show(_) => {
-            refuse(alloc, UsageKind::Command, name)
-        }
+        nm_command::Request::Search(ask) => Ok(ParsedLine::Request(Request::Search(ask))),
+        nm_command::Request::Dump(ask) => Ok(ParsedLine::Request(Request::Dump(ask))),
+        nm_command::Request::Show(_) => refuse(alloc, UsageKind::Command, name),
         nm_command::Request::Session => refuse(alloc, UsageKind::Lane, name),
     }
 }

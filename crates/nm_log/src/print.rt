@@ -3,11 +3,11 @@
 ghost use Rattle.std.specs.Prelude.{◌++◌};
 ghost use Rattle.nm_faults.specs.Faults.{HasCause};
 ghost use Rattle.nm_io.specs.Observed.{PutAppends};
-ghost use Rattle.nm_log.specs.Replies.{printed, printed_line, usage_line};
+ghost use Rattle.nm_log.specs.Replies.{printed, printed_line, replies_alone, reply_of, usage_line};
 
 use crate::LineLog;
 use crate::header::header_of;
-use crate::replies::printed_kind;
+use crate::replies::{is_well, printed_kind};
 use nm_base::{Failed, UsageKind};
 use nm_io::Sink;
 
@@ -38,6 +38,37 @@ fn print_line<O: Sink>(out: &mut O, log: &LineLog) -> Result<(), Failed>
 {
     let header = header_of(log);
     put_two(out, header.as_str().as_bytes(), log.text.as_slice())
+}
+
+/// Prints the replies without headers, as a single command does, and flushes once. It takes no memory.
+#[tactic(auto, using(crate::proofs::Puts::puts))]
+pub fn print_replies<O: Sink>(out: &mut O, lines: &[LineLog]) -> Result<(), Failed>
+    ensures bytes { PutAppends (O.observed out.old).bytes (O.observed out.new).bytes result (replies_alone lines.now) }
+    ensures cause { HasCause (O.observed out.old).faults (O.observed out.new).faults result }
+{
+    put_replies(out, lines)?;
+    out.flush()
+}
+
+fn put_replies<O: Sink>(out: &mut O, lines: &[LineLog]) -> Result<(), Failed>
+    ensures bytes { PutAppends (O.observed out.old).bytes (O.observed out.new).bytes result (replies_alone lines.now) }
+    ensures cause { HasCause (O.observed out.old).faults (O.observed out.new).faults result }
+{
+    'lines: for log in lines {
+        print_reply(out, log)?;
+    }
+    Ok(())
+}
+
+/// One put for the text; of a refusal an empty one.
+fn print_reply<O: Sink>(out: &mut O, log: &LineLog) -> Result<(), Failed>
+    ensures bytes { PutAppends (O.observed out.old).bytes (O.observed out.new).bytes result (reply_of log.now) }
+    ensures cause { HasCause (O.observed out.old).faults (O.observed out.new).faults result }
+{
+    if is_well(&log.outcome) {
+        return out.put(log.text.as_slice());
+    }
+    out.put(b"")
 }
 
 /// Prints a text, and flushes. It takes no memory.

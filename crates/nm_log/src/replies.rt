@@ -4,7 +4,7 @@ ghost use Rattle.std.specs.Prelude.{◌≡◌, ◌++◌, IfOk, OnOk};
 ghost use Rattle.std.specs.Fmt.{decimal};
 ghost use Rattle.std.specs.List.{flat_map};
 ghost use Rattle.nm_answer.specs.NewText.{is_quiet, new_text, number_after, skip_line, skip_name, summary_line};
-ghost use Rattle.nm_log.specs.Replies.{date_line, kind_name, limit_line, limit_name, query_kind_name, query_line, refusal_line, status_of, usage_line};
+ghost use Rattle.nm_log.specs.Replies.{date_line, is_well, kind_name, limit_line, limit_name, query_kind_name, query_line, refusal_line, status_of, usage_line};
 
 use crate::Outcome;
 use itoa::Buffer;
@@ -25,6 +25,23 @@ pub fn line_status(outcome: &Outcome) -> u8
         Outcome::DiskFault | Outcome::Closed { .. } => 4,
         Outcome::Limit(_) => 9,
         Outcome::NoMemory => 7,
+    }
+}
+
+/// Whether a line went well.
+pub fn is_well(outcome: &Outcome) -> bool
+    ensures { result ≡ is_well outcome.now }
+{
+    match outcome {
+        Outcome::Ok => true,
+        Outcome::Usage { .. }
+        | Outcome::BadQuery { .. }
+        | Outcome::BadDate { .. }
+        | Outcome::MailFault
+        | Outcome::DiskFault
+        | Outcome::Closed { .. }
+        | Outcome::Limit(_)
+        | Outcome::NoMemory => false,
     }
 }
 
@@ -61,7 +78,7 @@ pub fn usage_text(alloc: Global, kind: UsageKind, word: &Text) -> Result<Many<u8
 }
 
 /// What is wrong with a query, as it is printed.
-fn printed_query_kind(kind: QueryKind) -> &'static str
+pub(crate) fn printed_query_kind(kind: QueryKind) -> &'static str
     ensures { result.now ≡ query_kind_name kind }
 {
     match kind {

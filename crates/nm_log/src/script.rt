@@ -5,7 +5,7 @@ ghost use Rattle.std.specs.Prelude.{◌≡◌, ◌<◌, ◌≤◌, [], ◌∷◌
 ghost use Rattle.std.specs.Str.Lines.{lines};
 ghost use Rattle.nm_log.specs.Script.{IsScriptFault, script_lines};
 
-use nm_base::{Limit, Many, NoMemory};
+use nm_base::{Limit, Many, NoMemory, Text};
 use nm_text::{content, next_line};
 use std::alloc::Global;
 use thiserror::Error;
@@ -13,12 +13,21 @@ use thiserror::Error;
 /// The most lines of a script.
 const MAX_LINES: u32 = 4096;
 
-/// One line of a script that is not empty.
+/// What a command is read from.
+#[derive(Clone, Debug, Drop, PartialEq, Eq)]
+pub enum CommandText {
+    /// A line of a script: its lane and the words of a command, with blanks between them.
+    Line(Many<u8>),
+    /// The words of a single command.
+    Words(Many<Text>),
+}
+
+/// One line of a script that is not empty, or a single command.
 #[derive(Clone, Debug, Drop, PartialEq, Eq)]
 pub struct ScriptLine {
     /// Counted from 1, empty lines too.
     pub number: u32,
-    pub text: Many<u8>,
+    pub text: CommandText,
 }
 
 /// Why a script was not read.
@@ -56,7 +65,7 @@ pub fn read_script(alloc: Global, bytes: &[u8]) -> Result<Many<ScriptLine>, Scri
         number += 1;
         rest = more;
         if !line.is_empty() {
-            let text = Many::from_slice(alloc, line)?;
+            let text = CommandText::Line(Many::from_slice(alloc, line)?);
             script.push(ScriptLine { number, text })?;
         }
     }

@@ -29,6 +29,7 @@ use Rattle.nm_log.specs.declared.line_parser.ParsedLine.{ParsedLine}
 use Rattle.nm_log.specs.declared.line_parser.ParsedLine.TheVariants as asked
 use Rattle.nm_log.specs.declared.outcome.Outcome.{Outcome}
 use Rattle.nm_log.specs.declared.outcome.Outcome.TheVariants as outcomes
+use Rattle.nm_log.specs.declared.script.CommandText.{CommandText}
 use Rattle.nm_maildir.specs.Observed.{ObservedMail}
 use Rattle.nm_maildir.specs.Tree.{Tree}
 use Rattle.nm_maildir.specs.declared.given.Given.{Given}
@@ -54,6 +55,8 @@ use Rattle.nm_writer.specs.declared.write_error.WriteError.TheVariants as errors
 asks-nothing : (line : ParsedLine) (mail : ObservedMail) (files : List (List ℕ × Facts)) → AsksMail line mail mail files []
 asks-nothing (asked.Request requests.New) mail files = inl (refl, refl)
 asks-nothing (asked.Request (requests.Count ask)) mail files = (refl, refl)
+asks-nothing (asked.Request (requests.Search ask)) mail files = (refl, refl)
+asks-nothing (asked.Request (requests.Dump ask)) mail files = (refl, refl)
 asks-nothing (asked.Usage word kind) mail files = (refl, refl)
 
 made-nothing : (writer : WriterState) → HasMade writer [] [] writer
@@ -67,7 +70,7 @@ made-nothing writer = record {
   one_each = refl;
 }
 
-idle : (place : Place) (line : List ℕ) (outcome : Outcome) → Makes outcome place.mail.tree place.writer.shown line [] (length place.writer.acked + 0) [] []
+idle : (place : Place) (line : CommandText) (outcome : Outcome) → Makes outcome place.mail.tree place.writer.shown line [] (length place.writer.acked + 0) [] []
     → place.writer.closed ≡ closed_after place.writer.closed outcome place.disk_faults → HasCause outcome (parse_line line) (before_at place) place.mail.faults place.disk_faults
     → IsAnswered place line [] outcome place
 idle place line outcome makes closed cause = record {
@@ -83,16 +86,16 @@ idle place line outcome makes closed cause = record {
   cause = cause;
 }
 
-pub found-no-memory : (place : Place) (line : List ℕ) (noted : List Given) → noted ≡ [] → IsAnswered place line noted outcomes.NoMemory place
+pub found-no-memory : (place : Place) (line : CommandText) (noted : List Given) → noted ≡ [] → IsAnswered place line noted outcomes.NoMemory place
 found-no-memory place line noted none = subst (λ (l : List Given). IsAnswered place line l outcomes.NoMemory place) (sym none) (idle place line outcomes.NoMemory (inl refl, refl) refl tt)
 
-pub failed-ends : (moment : ℤ) (place : Place) (line : List ℕ) (noted : List Given) (result : Result Answered NoMemory) → IsErr result → noted ≡ [] → Ends moment place line noted result place
+pub failed-ends : (moment : ℤ) (place : Place) (line : CommandText) (noted : List Given) (result : Result Answered NoMemory) → IsErr result → noted ≡ [] → Ends moment place line noted result place
 failed-ends moment place line noted (Ok done) failed none = absurd (cc)
 failed-ends moment place line noted (Err error) failed none = found-no-memory place line noted none
 
 -- words outside the grammar
 
-pub usage-ends : (moment : ℤ) (place : Place) (line : List ℕ) (noted : List Given) (word : List ℕ) (kind : UsageKind) (result : Result Answered NoMemory) → noted ≡ [] → parse_line line ≡ asked.Usage word kind
+pub usage-ends : (moment : ℤ) (place : Place) (line : CommandText) (noted : List Given) (word : List ℕ) (kind : UsageKind) (result : Result Answered NoMemory) → noted ≡ [] → parse_line line ≡ asked.Usage word kind
     → IfOk result (λ done. done ≡ record { outcome = outcomes.Usage word kind; text = refusal_line (outcomes.Usage word kind); reply = None })
     → Ends moment place line noted result place
 usage-ends moment place line noted word kind (Err error) none is said = found-no-memory place line noted none
@@ -113,12 +116,16 @@ closed-alive (Some fault) = refl
 finds-nothing : (request : Request) (tree : Option Tree) (index : Base) → is_writing request ≡ false → FindsFor request tree index [] [] []
 finds-nothing requests.New tree index reading = absurd (cc)
 finds-nothing (requests.Count ask) tree index reading = (refl, refl)
+finds-nothing (requests.Search ask) tree index reading = (refl, refl)
+finds-nothing (requests.Dump ask) tree index reading = (refl, refl)
 
 due-nothing : (request : Request) (index : Base) → is_writing request ≡ false → [] ≡ due_commits request index [] [] []
 due-nothing requests.New index reading = absurd (cc)
 due-nothing (requests.Count ask) index reading = refl
+due-nothing (requests.Search ask) index reading = refl
+due-nothing (requests.Dump ask) index reading = refl
 
-module _ (moment : ℤ) (place : Place) (line : List ℕ) (request : Request) (is : parse_line line ≡ asked.Request request) (reading : is_writing request ≡ false) where
+module _ (moment : ℤ) (place : Place) (line : CommandText) (request : Request) (is : parse_line line ≡ asked.Request request) (reading : is_writing request ≡ false) where
   -- what refuses the line
   refused-as : (closed : Option ℕ) (refused : Option Outcome) → refused_query (own_query request) ≡ refused → refused_unasked (parse_line line) closed ≡ first_refusal refused (refused_closed closed false)
   refused-as closed refused e =
@@ -164,7 +171,7 @@ module _ (moment : ℤ) (place : Place) (line : List ℕ) (request : Request) (i
   read-by None e = read-well (ap refused_query e)
   read-by (Some text) e = read-text (answer_of text) (ap refused_query e)
 
-pub reading-ends : (moment : ℤ) (place : Place) (line : List ℕ) (noted : List Given) (request : Request) (shown : Base) (result : Result Answered NoMemory) → noted ≡ [] → parse_line line ≡ asked.Request request
+pub reading-ends : (moment : ℤ) (place : Place) (line : CommandText) (noted : List Given) (request : Request) (shown : Base) (result : Result Answered NoMemory) → noted ≡ [] → parse_line line ≡ asked.Request request
     → is_writing request ≡ false → shown ≡ place.writer.shown → IfOk result (IsReadOff moment shown request) → Ends moment place line noted result place
 reading-ends moment place line noted request shown (Err error) none is reading same said = found-no-memory place line noted none
 reading-ends moment place line noted request shown (Ok done) none is reading same said =
@@ -206,7 +213,7 @@ some-none : (closed : Option ℕ) (P : Type 0) → closed ≡ None → IsSome cl
 some-none None P none some = absurd (cc)
 some-none (Some fault) P none some = absurd (cc)
 
-module _ (old new : Place) (line : List ℕ) (noted : List Given) (is : parse_line line ≡ asked.Request requests.New) (asks : AsksNew old.mail new.mail old.writer.shown.files noted) (tree : new.mail.tree ≡ old.mail.tree) where
+module _ (old new : Place) (line : CommandText) (noted : List Given) (is : parse_line line ≡ asked.Request requests.New) (asks : AsksNew old.mail new.mail old.writer.shown.files noted) (tree : new.mail.tree ≡ old.mail.tree) where
   are-due : (left : List (List ℕ)) (due : List Commit) → AreNewCommits old.mail.tree old.writer.shown noted left due → AreDue old.mail.tree old.writer.shown line noted left due
   are-due left due h = record { request = requests.New; asked_for = is; batches = h.batches; found = h.found; due_are = h.due_are }
 
@@ -302,7 +309,7 @@ module _ (old new : Place) (line : List ℕ) (noted : List Given) (is : parse_li
 
 -- a line that finds no memory for its text
 
-makes-first : (outcome : Outcome) (tree : Option Tree) (index : Base) (line : List ℕ) (noted : List Given) (count : ℕ) (made flight : List Commit) → is_disk_fault outcome ≡ false
+makes-first : (outcome : Outcome) (tree : Option Tree) (index : Base) (line : CommandText) (noted : List Given) (count : ℕ) (made flight : List Commit) → is_disk_fault outcome ≡ false
     → Makes outcome tree index line noted count made flight → Makes outcomes.NoMemory tree index line noted count made flight
 makes-first outcomes.Ok tree index line noted count made flight sound h = (inr ([], made, [], h.0, sym (append-nil made)), h.1)
 makes-first (outcomes.Usage word kind) tree index line noted count made flight sound h = (inl h.0, h.1)
@@ -327,7 +334,7 @@ still-closed (outcomes.Closed fault) closed faults sound = refl
 still-closed (outcomes.Limit limit) closed faults sound = refl
 still-closed outcomes.NoMemory closed faults sound = refl
 
-wants-memory : (old new : Place) (line : List ℕ) (noted : List Given) (outcome : Outcome) → is_disk_fault outcome ≡ false → IsAnswered old line noted outcome new → IsAnswered old line noted outcomes.NoMemory new
+wants-memory : (old new : Place) (line : CommandText) (noted : List Given) (outcome : Outcome) → is_disk_fault outcome ≡ false → IsAnswered old line noted outcome new → IsAnswered old line noted outcomes.NoMemory new
 wants-memory old new line noted outcome sound h = record {
   made = h.made;
   flight = h.flight;
@@ -357,7 +364,7 @@ refusal-unreplied (errors.Closed fault) line lane revision text = refl
 refusal-unreplied (errors.Limit limit) line lane revision text = refl
 refusal-unreplied errors.NoMemory line lane revision text = refl
 
-pub refused-ends : (moment : ℤ) (old new : Place) (line : List ℕ) (noted : List Given) (error : WriteError) (result : Result Answered NoMemory) → IsAnswered old line noted (outcome_of error) new
+pub refused-ends : (moment : ℤ) (old new : Place) (line : CommandText) (noted : List Given) (error : WriteError) (result : Result Answered NoMemory) → IsAnswered old line noted (outcome_of error) new
     → MatchResult result (λ done. done ≡ record { outcome = outcome_of error; text = refusal_line (outcome_of error); reply = None }) (λ _. is_disk_fault (outcome_of error) ≡ false)
     → Ends moment old line noted result new
 refused-ends moment old new line noted error (Err wanted) h said = wants-memory old new line noted (outcome_of error) said h
@@ -370,7 +377,7 @@ refused-ends moment old new line noted error (Ok done) h said =
       },
     )
 
-pub replied-ends : (moment : ℤ) (old new : Place) (line : List ℕ) (noted : List Given) (report lent : NewReport) (result : Result Answered NoMemory) → parse_line line ≡ asked.Request requests.New → IsAnswered old line noted outcomes.Ok new
+pub replied-ends : (moment : ℤ) (old new : Place) (line : CommandText) (noted : List Given) (report lent : NewReport) (result : Result Answered NoMemory) → parse_line line ≡ asked.Request requests.New → IsAnswered old line noted outcomes.Ok new
     → lent ≡ report → report ≡ report_of old.writer.shown.files new.writer.shown.files noted
     → IfOk result (λ done. done ≡ record { outcome = outcomes.Ok; text = new_text lent; reply = Some (marks.Reply requests.New (new_text lent)) })
     → Ends moment old line noted result new

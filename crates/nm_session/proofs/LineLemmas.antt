@@ -17,6 +17,7 @@ use Rattle.nm_log.specs.declared.line_parser.ParsedLine.TheVariants as asked
 use Rattle.nm_log.specs.declared.outcome.Outcome.{Outcome}
 use Rattle.nm_log.specs.declared.outcome.Outcome.TheVariants as outcomes
 use Rattle.nm_log.specs.declared.script.ScriptLine.{ScriptLine}
+use Rattle.nm_log.specs.declared.script.CommandText.{CommandText}
 use Rattle.nm_maildir.specs.Tree.{Tree}
 use Rattle.nm_maildir.specs.declared.given.Given.{Given}
 use Rattle.nm_session.specs.Line.{Ends, IsAnswered, IsEven, IsRun, IsSaid}
@@ -32,7 +33,7 @@ use Rattle.nm_session.proofs.MarkLemmas.{mapped}
 abbrev without_memory : List ℕ → Answered
 without_memory spare = record { outcome = outcomes.NoMemory; text = spare; reply = None }
 
-done-by : (moment : ℤ) (old new : Place) (line : List ℕ) (noted : List Given) (answered : Result Answered NoMemory) (done : Answered) (spare : List ℕ) → spare ≡ codes "notmuch: no memory\n"
+done-by : (moment : ℤ) (old new : Place) (line : CommandText) (noted : List Given) (answered : Result Answered NoMemory) (done : Answered) (spare : List ℕ) → spare ≡ codes "notmuch: no memory\n"
     → MatchResult answered (λ got. done ≡ got) (λ error. done ≡ record { outcome = outcomes.NoMemory; text = spare; reply = None }) → Ends moment old line noted answered new
     → IsAnswered old line noted done.outcome new × IsSaid moment old line noted done new
 done-by moment old new line noted (Ok got) done spare text is h =
@@ -41,13 +42,13 @@ done-by moment old new line noted (Err error) done spare text is h =
     subst (λ (d : Answered). IsAnswered old line noted d.outcome new × IsSaid moment old line noted d new) (sym (is ∙ ap without_memory text))
     (h, record { text = refl; reply = λ lane revision. refl })
 
-pub is-run : (moment : ℤ) (old new : Place) (line : ScriptLine) (seen : List ℕ) (noted : List Given) (answered : Result Answered NoMemory) (done : Answered) (spare : List ℕ) (shown : Base) (revision status mail disk : ℕ) → seen ≡ line.text
+pub is-run : (moment : ℤ) (old new : Place) (line : ScriptLine) (seen : CommandText) (noted : List Given) (answered : Result Answered NoMemory) (done : Answered) (spare : List ℕ) (shown : Base) (revision status mail disk : ℕ) → seen ≡ line.text
     → spare ≡ codes "notmuch: no memory\n" → MatchResult answered (λ got. done ≡ got) (λ error. done ≡ record { outcome = outcomes.NoMemory; text = spare; reply = None })
     → Ends moment old seen noted answered new → revision ≡ shown.revision → shown ≡ new.writer.shown → status ≡ status_of done.outcome → mail ≡ new.mail.faults → disk ≡ new.disk_faults
     → IsRun moment old (line, record { phase = 0; lane = 0; line = line.number; revision = revision; status = status; outcome = done.outcome; text = done.text; given = noted; mail_faults = mail; disk_faults = disk }) done.reply new
 is-run moment old new line seen noted answered done spare shown revision status mail disk same text is ends at shown_is status_is mail_is disk_is =
     let h : IsAnswered old line.text noted done.outcome new × IsSaid moment old line.text noted done new =
-    subst (λ (l : List ℕ). IsAnswered old l noted done.outcome new × IsSaid moment old l noted done new) same (done-by moment old new seen noted answered done spare text is ends) in
+    subst (λ (l : CommandText). IsAnswered old l noted done.outcome new × IsSaid moment old l noted done new) same (done-by moment old new seen noted answered done spare text is ends) in
     record {
       answered = h.0;
       text = h.1.text;
@@ -65,7 +66,7 @@ made-marks : (made : List Commit) → replicate (length made) marks.Made ≡ map
 made-marks [] = refl
 made-marks (commit ∷ made) = ap (λ (l : List Mark). marks.Made ∷ l) (made-marks made)
 
-pub flight-marks : (outcome : Outcome) (tree : Option Tree) (index : Base) (line : List ℕ) (noted : List Given) (count : ℕ) (made flight : List Commit) → Makes outcome tree index line noted count made flight
+pub flight-marks : (outcome : Outcome) (tree : Option Tree) (index : Base) (line : CommandText) (noted : List Given) (count : ℕ) (made flight : List Commit) → Makes outcome tree index line noted count made flight
     → (if is_disk_fault outcome then marks.Begun ∷ [] else []) ≡ map begun_mark flight
 flight-marks outcomes.Ok tree index line noted count made flight h = sym (ap (map begun_mark) h.1)
 flight-marks (outcomes.Usage word kind) tree index line noted count made flight h = sym (ap (map begun_mark) h.1)
@@ -147,7 +148,7 @@ marks-left moment old new ran reply seen made room left run same is taken = omeg
 
 -- an open writer has acknowledged all that it began, still
 
-still-alive : (outcome : Outcome) (closed : Option ℕ) (faults : ℕ) (tree : Option Tree) (index : Base) (line : List ℕ) (noted : List Given) (count : ℕ) (made flight : List Commit)
+still-alive : (outcome : Outcome) (closed : Option ℕ) (faults : ℕ) (tree : Option Tree) (index : Base) (line : CommandText) (noted : List Given) (count : ℕ) (made flight : List Commit)
     → Makes outcome tree index line noted count made flight → closed_after closed outcome faults ≡ None → (closed ≡ None) × (flight ≡ [])
 still-alive outcomes.Ok closed faults tree index line noted count made flight h e = (e, h.1)
 still-alive (outcomes.Usage word kind) closed faults tree index line noted count made flight h e = (e, h.1)
@@ -159,7 +160,7 @@ still-alive (outcomes.Closed fault) closed faults tree index line noted count ma
 still-alive (outcomes.Limit limit) closed faults tree index line noted count made flight h e = (e, h.1)
 still-alive outcomes.NoMemory closed faults tree index line noted count made flight h e = (e, h.1)
 
-pub still-even : (old new : Place) (line : List ℕ) (noted : List Given) (outcome : Outcome) → IsAnswered old line noted outcome new → IsEven old.writer → IsEven new.writer
+pub still-even : (old new : Place) (line : CommandText) (noted : List Given) (outcome : Outcome) → IsAnswered old line noted outcome new → IsEven old.writer → IsEven new.writer
 still-even old new line noted outcome h even = λ alive.
     let was : (old.writer.closed ≡ None) × (h.flight ≡ []) =
     still-alive outcome old.writer.closed new.disk_faults old.mail.tree old.writer.shown line noted (length old.writer.acked + length h.made) h.made h.flight h.makes (sym h.closed ∙ alive) in

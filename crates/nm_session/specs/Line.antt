@@ -21,6 +21,7 @@ use Rattle.nm_log.specs.declared.log.LineLog.{LineLog}
 use Rattle.nm_log.specs.declared.outcome.Outcome.{Outcome}
 use Rattle.nm_log.specs.declared.outcome.Outcome.TheVariants as outcomes
 use Rattle.nm_log.specs.declared.script.ScriptLine.{ScriptLine}
+use Rattle.nm_log.specs.declared.script.CommandText.{CommandText}
 use Rattle.nm_maildir.specs.Observed.{ObservedMail}
 use Rattle.nm_maildir.specs.declared.given.Given.{Given}
 use Rattle.nm_session.specs.Marks.{line_marks, reply_mark}
@@ -40,7 +41,7 @@ abbrev pub IsEven : WriterState → Type 0
 IsEven writer = writer.closed ≡ None → length writer.begun ≡ length writer.acked
 
 -- A line was run and ended so: what it made and asked, and why it ended so.
-pub record IsAnswered (old : Place) (line : List ℕ) (noted : List Given) (outcome : Outcome) (new : Place) : Type 0 where
+pub record IsAnswered (old : Place) (line : CommandText) (noted : List Given) (outcome : Outcome) (new : Place) : Type 0 where
   pub made : List Commit
   pub flight : List Commit
   pub has_made : HasMade old.writer made flight new.writer
@@ -53,12 +54,12 @@ pub record IsAnswered (old : Place) (line : List ℕ) (noted : List Given) (outc
   pub cause : HasCause outcome (parse_line line) (before_at old) new.mail.faults new.disk_faults
 
 -- What it says, and the mark of its reply where it went well.
-pub record IsSaid (moment : ℤ) (old : Place) (line : List ℕ) (noted : List Given) (done : Answered) (new : Place) : Type 0 where
+pub record IsSaid (moment : ℤ) (old : Place) (line : CommandText) (noted : List Given) (done : Answered) (new : Place) : Type 0 where
   pub text : done.text ≡ line_text done.outcome (parse_line line) old.writer.shown new.writer.shown moment noted
   pub reply : (lane revision : ℕ) → option_to_list done.reply ≡ map reply_mark (replied_where done.outcome (parse_line line) lane revision done.text)
 
 -- It was answered, or found no memory for it.
-abbrev pub Ends : ℤ → Place → List ℕ → List Given → Result Answered NoMemory → Place → Type 0
+abbrev pub Ends : ℤ → Place → CommandText → List Given → Result Answered NoMemory → Place → Type 0
 Ends moment old line noted (Ok done) new = IsAnswered old line noted done.outcome new × IsSaid moment old line noted done new
 Ends moment old line noted (Err error) new = IsAnswered old line noted outcomes.NoMemory new
 

@@ -9,6 +9,7 @@ ghost use Rattle.nm_index.specs.declared.base.Base.{Base};
 ghost use Rattle.nm_log.specs.ParsedLine.{parse_line};
 ghost use Rattle.nm_log.specs.Replies.{refusal_line};
 ghost use Rattle.nm_log.specs.declared.line_parser.ParsedLine.TheVariants as asked;
+ghost use Rattle.nm_log.specs.declared.script.CommandText.{CommandText};
 ghost use Rattle.nm_session.specs.Line.{Ends, IsEven, IsReadOff, place_at, refused_with, replied_with};
 ghost use Rattle.nm_session.specs.Outcomes.{is_disk_fault, outcome_of};
 ghost use Rattle.nm_writer.specs.Durable.{IsDurable};
@@ -16,12 +17,13 @@ ghost use Rattle.nm_writer.specs.Writer.{StandsOnIndex};
 
 use crate::marks::Mark;
 use nm_answer::{NewReport, Request};
-use nm_base::{Copies, CountAsk, Many, NoMemory};
+use nm_base::{Copies, CountAsk, DumpAsk, Many, NoMemory, SearchAsk};
 use nm_disk::Disk;
-use nm_log::{Outcome, ParsedLine, Setting, new_reply, parse_line, refusal_text};
+use nm_dump::dump_reply;
+use nm_log::{CommandText, Outcome, ParsedLine, Setting, new_reply, parse_line, refusal_text};
 use nm_maildir::{Given, Maildir};
 use nm_query::{QueryError, parse};
-use nm_render::count_reply;
+use nm_render::{count_reply, search_reply};
 use nm_state::Snapshot;
 use nm_writer::{WriteError, Writer};
 use std::alloc::Global;
@@ -39,7 +41,7 @@ pub(crate) struct Answered {
 pub(crate) fn answer<M: Maildir, D: Disk>(
     alloc: Global,
     setting: &Setting,
-    line: &[u8],
+    line: &CommandText,
     writer: &mut Writer,
     mail: &mut M,
     disk: &mut D,
@@ -63,6 +65,13 @@ pub(crate) fn answer<M: Maildir, D: Disk>(
             writer.snapshot(),
             ask,
         ),
+        ParsedLine::Request(Request::Search(ask)) => run_search(
+            alloc,
+            setting,
+            writer.snapshot(),
+            ask,
+        ),
+        ParsedLine::Request(Request::Dump(ask)) => run_dump(alloc, setting, writer.snapshot(), ask),
     }
 }
 
@@ -77,7 +86,7 @@ fn run_new<M: Maildir, D: Disk>(
     requires fresh { given.old ≡ [] }
     requires even { IsEven writer.old }
     requires stands { writer.old.closed ≡ None → IfSome (D.observed disk.old).told (λ moments. StandsOnIndex moments.present writer.old) }
-    ensures ends { (moment : ℤ) (line : List ℕ) → parse_line line ≡ asked.Request Request.New
+    ensures ends { (moment : ℤ) (line : CommandText) → parse_line line ≡ asked.Request Request.New
         → Ends moment (place_at writer.old (M.observed mail.old) (D.observed disk.old)) line given.new result (place_at writer.new (M.observed mail.new) (D.observed disk.new)) }
     ensures stands { writer.new.closed ≡ None → IfSome (D.observed disk.new).told (λ moments. StandsOnIndex moments.present writer.new) }
     ensures durable { (entry : ObservedDisk) (opening : Base) → IsDurable entry opening (D.observed disk.old) writer.old
@@ -136,6 +145,44 @@ fn run_count(
         Ok(query) => {
             let text = count_reply(alloc, snapshot, &ask, &query, setting.moment)?;
             replied(Request::Count(ask), text)
+        }
+        Err(error) => refuse_query(alloc, error),
+    }
+}
+
+/// Searches the index that is shown, where the query has a tree.
+fn run_search(
+    alloc: Global,
+    setting: &Setting,
+    snapshot: &Snapshot,
+    ask: SearchAsk,
+) -> Result<Answered, NoMemory>
+    requires moment { IsMoment setting.now.moment }
+    ensures { IfOk result (IsReadOff setting.now.moment snapshot.now (Request.Search ask)) }
+{
+    match parse(alloc, ask.query.as_str()) {
+        Ok(query) => {
+            let text = search_reply(alloc, snapshot, &ask, &query, setting.moment)?;
+            replied(Request::Search(ask), text)
+        }
+        Err(error) => refuse_query(alloc, error),
+    }
+}
+
+/// Dumps the tags of the index that is shown, where the query has a tree.
+fn run_dump(
+    alloc: Global,
+    setting: &Setting,
+    snapshot: &Snapshot,
+    ask: DumpAsk,
+) -> Result<Answered, NoMemory>
+    requires moment { IsMoment setting.now.moment }
+    ensures { IfOk result (IsReadOff setting.now.moment snapshot.now (Request.Dump ask)) }
+{
+    match parse(alloc, ask.query.as_str()) {
+        Ok(query) => {
+            let text = dump_reply(alloc, snapshot, &ask, &query, setting.moment)?;
+            replied(Request::Dump(ask), text)
         }
         Err(error) => refuse_query(alloc, error),
     }

@@ -74,15 +74,7 @@ fn line_log<M: Maildir, D: Disk>(
         → IsDurable entry opening (D.observed disk.new) writer.new }
 {
     let mut given = Many::new(alloc);
-    let answered = answer(
-        alloc,
-        setting,
-        line.text.as_slice(),
-        writer,
-        mail,
-        disk,
-        &mut given,
-    );
+    let answered = answer(alloc, setting, &line.text, writer, mail, disk, &mut given);
     let Answered {
         outcome,
         text,

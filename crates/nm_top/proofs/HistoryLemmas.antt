@@ -1,11 +1,13 @@
 -- The whole statement of a session, from its parts.
-use Rattle.std.proofs.Common.{◌≡◌, inl, ℕ, ◌≤◌, Bool, false, List, [], ◌∷◌, Option, None, Some, IfSome, Err, length, refl, sym, arith, subst}
+use Rattle.std.proofs.Common.{◌≡◌, inl, ℕ, Bool, true, false, List, [], ◌∷◌, Option, None, Some, IfSome, Result, Ok, Err, refl, sym, arith, subst}
 use Rattle.std.specs.List.{zip}
-use Rattle.std.specs.Str.Lines.{lines}
-use Rattle.nm_base.specs.Limits.{max_lines}
+use Rattle.nm_command.specs.Requests.{request_of}
+use Rattle.nm_command.specs.declared.command_error.CommandError.{CommandError}
+use Rattle.nm_command.specs.declared.command_error.CommandError.TheVariants as command_errors
+use Rattle.nm_command.specs.declared.request.Request as asks
 use Rattle.nm_disk.specs.Images.{IsImage}
 use Rattle.nm_disk.specs.Observed.{Moments, ObservedDisk}
-use Rattle.nm_history.specs.Call.{Devices, Ran, Refused, call_of, devices, words_fault}
+use Rattle.nm_history.specs.Call.{Devices, Ran, Refused, call_fault, call_lines, call_of, devices, fault_by, fault_in_query, fault_of_command, fault_of_query, fault_of_session, is_session, lines_by}
 use Rattle.nm_history.specs.CrashPrefix.{CrashPrefix, KeepsCommits}
 use Rattle.nm_history.specs.Given.{GivenAlong}
 use Rattle.nm_history.specs.History.{History}
@@ -13,26 +15,34 @@ use Rattle.nm_history.specs.LineAnswers.{LineAnswers}
 use Rattle.nm_history.specs.LineCommits.{LineCommits}
 use Rattle.nm_history.specs.Lines.{RunLine, at_first}
 use Rattle.nm_history.specs.MachineRun.{MachineRun}
-use Rattle.nm_history.specs.PrintedOut.{Prints, StreamAppends, final_message}
-use Rattle.nm_history.specs.Refusals.{IsRead, IsRefusedFor}
-use Rattle.nm_history.specs.Status.{session_status}
+use Rattle.nm_history.specs.PrintedOut.{Prints, StreamAppends, final_message, printed_by}
+use Rattle.nm_history.specs.Refusals.{IsRefusedFor, TakesInput}
+use Rattle.nm_history.specs.Status.{status_by}
+use Rattle.nm_history.specs.Requests.{own_query}
 use Rattle.nm_index.specs.Index.{empty_index}
 use Rattle.nm_faults.specs.Faults.{HasRisen}
 use Rattle.nm_io.specs.Taking.{HasTakeCause}
 use Rattle.nm_io.specs.declared.taking.TakeError.{TakeError}
 use Rattle.nm_io.specs.declared.taking.TakeError.TheVariants as takes
 use Rattle.nm_journal.specs.Journal.{IfTold}
+use Rattle.nm_log.specs.ParsedLine.{parse_line}
 use Rattle.nm_log.specs.Refusals.{refused_line, refused_status}
-use Rattle.nm_log.specs.Replies.{printed}
-use Rattle.nm_log.specs.Script.{script_lines}
+use Rattle.nm_log.specs.declared.line_parser.ParsedLine.{ParsedLine}
+use Rattle.nm_log.specs.declared.line_parser.ParsedLine.TheVariants as asked
 use Rattle.nm_log.specs.declared.log.Done.{Done}
 use Rattle.nm_log.specs.declared.log.LineLog.{LineLog}
 use Rattle.nm_log.specs.declared.log.SessionLog.{SessionLog}
 use Rattle.nm_log.specs.declared.log.Setting.{Setting}
 use Rattle.nm_log.specs.declared.refusal.Refusal.{Refusal}
+use Rattle.nm_log.specs.declared.refusal.Refusal.TheVariants as refusals
+use Rattle.nm_log.specs.declared.script.CommandText.TheVariants.{Words}
 use Rattle.nm_log.specs.declared.script.ScriptLine.{ScriptLine}
 use Rattle.nm_io.specs.Observed.{ObservedStream}
 use Rattle.nm_maildir.specs.Observed.{ObservedMail}
+use Rattle.nm_query.specs.Answers.{answer_of}
+use Rattle.nm_query.specs.declared.query.Query.{Query}
+use Rattle.nm_query.specs.declared.query_error.QueryError.{QueryError}
+use Rattle.nm_query.specs.declared.query_error.QueryError.TheVariants as query_errors
 use Rattle.nm_session.specs.Run.{HasRun}
 use Rattle.nm_session.specs.Session.{HasOpenCause, IsSession, IsUnopened}
 use Rattle.nm_top.specs.Ending.{Refuses, ended_with, refusal_of}
@@ -58,9 +68,9 @@ unasked laws disk image = record { every_moment = unasked-told laws disk.told im
 module _ (laws : RefusalLaws) (refusal : Refusal) (input : List ℕ) (words : List (List ℕ)) (setting : Setting) (entry after : Devices)
     (cause : (done : Done) → IsRefusedFor refusal input (call_of words setting entry after done)) (kept : CrashPrefix entry.disk after.disk [] [])
     (same_mail : after.mail ≡ entry.mail) (same_out : after.out ≡ entry.out) where
-  given-none : GivenAlong empty_index [] (at_first empty_index entry) (zip (script_lines input) no_logs) entry.mail after.mail
-  given-none = subst (λ (m : ObservedMail). GivenAlong empty_index [] (at_first empty_index entry) (zip (script_lines input) no_logs) entry.mail m) (sym same_mail)
-      (subst (λ (l : List RunLine). GivenAlong empty_index [] (at_first empty_index entry) l entry.mail entry.mail) (sym (none-run (script_lines input))) (laws.given empty_index entry))
+  given-none : GivenAlong empty_index [] (at_first empty_index entry) (zip (call_lines words input) no_logs) entry.mail after.mail
+  given-none = subst (λ (m : ObservedMail). GivenAlong empty_index [] (at_first empty_index entry) (zip (call_lines words input) no_logs) entry.mail m) (sym same_mail)
+      (subst (λ (l : List RunLine). GivenAlong empty_index [] (at_first empty_index entry) l entry.mail entry.mail) (sym (none-run (call_lines words input))) (laws.given empty_index entry))
 
   ended-history : Prints (Some (refused_line refusal)) entry.err after.err → History (call_of words setting entry after (ended_with (refused_status refusal)))
   ended-history says = (
@@ -71,9 +81,9 @@ module _ (laws : RefusalLaws) (refusal : Refusal) (input : List ℕ) (words : Li
       out_failed = false;
       acknowledged = [];
       opening_index = tt;
-      machine_run = subst (λ (l : List RunLine). MachineRun empty_index setting.moment (at_first empty_index entry) [] l []) (sym (none-run (script_lines input))) (laws.run empty_index setting.moment entry);
-      line_commits = subst (λ (l : List RunLine). LineCommits empty_index entry.mail.tree [] l []) (sym (none-run (script_lines input))) (laws.commits empty_index entry);
-      line_answers = subst (λ (l : List RunLine). LineAnswers empty_index setting.moment (at_first empty_index entry) [] l) (sym (none-run (script_lines input))) (laws.answers empty_index setting.moment entry);
+      machine_run = subst (λ (l : List RunLine). MachineRun empty_index setting.moment (at_first empty_index entry) [] l []) (sym (none-run (call_lines words input))) (laws.run empty_index setting.moment entry);
+      line_commits = subst (λ (l : List RunLine). LineCommits empty_index entry.mail.tree [] l []) (sym (none-run (call_lines words input))) (laws.commits empty_index entry);
+      line_answers = subst (λ (l : List RunLine). LineAnswers empty_index setting.moment (at_first empty_index entry) [] l) (sym (none-run (call_lines words input))) (laws.answers empty_index setting.moment entry);
       given = record { along = given-none; disk = tt };
       printed_out = (cause (ended_with (refused_status refusal)), record { lines = refl; steps = refl; acked = refl; mail = same_mail; out = same_out; says = says });
       crash_prefix = kept;
@@ -93,33 +103,95 @@ pub unasked-history : RefusalLaws → (refusal : Refusal) (input : List ℕ) (wo
 unasked-history laws refusal input words setting mail disk old new out err said image cause done ends =
     refused-history laws refusal input words setting (devices mail disk old out err) (devices mail disk new out said) cause (unasked laws disk image) refl refl done ends
 
+-- what refuses words is a fault of them, of a query in them, or want of memory
+
+abbrev is_of_words : Refusal → Bool
+is_of_words (refusals.Usage word kind) = true
+is_of_words (refusals.BadQuery at kind) = true
+is_of_words (refusals.BadDate at) = true
+is_of_words refusals.ReadFault = false
+is_of_words refusals.DiskFault = false
+is_of_words (refusals.BadIndex file at) = false
+is_of_words (refusals.Limit limit) = true
+is_of_words refusals.NoMemory = true
+
+some-is : (one other : Refusal) → Some one ≡ Some other → is_of_words one ≡ true → is_of_words other ≡ true
+some-is one other e of_words = let same : one ≡ other = cc in subst (λ (r : Refusal). is_of_words r ≡ true) same of_words
+
+none-is : (other : Refusal) → None ≡ Some other → is_of_words other ≡ true
+none-is other e = absurd (cc)
+
+of-session : (answer : Result asks.Request CommandError) (refusal : Refusal) → fault_of_session answer ≡ Some refusal → is_of_words refusal ≡ true
+of-session (Ok request) refusal e = none-is refusal e
+of-session (Err (command_errors.Usage word kind)) refusal e = some-is (refusals.Usage word kind) refusal e refl
+of-session (Err command_errors.NoMemory) refusal e = none-is refusal e
+
+in-query : (answer : Result Query QueryError) (refusal : Refusal) → fault_in_query answer ≡ Some refusal → is_of_words refusal ≡ true
+in-query (Ok query) refusal e = none-is refusal e
+in-query (Err (query_errors.BadQuery at kind)) refusal e = some-is (refusals.BadQuery at kind) refusal e refl
+in-query (Err (query_errors.BadDate at)) refusal e = some-is (refusals.BadDate at) refusal e refl
+in-query (Err (query_errors.Limit limit)) refusal e = some-is (refusals.Limit limit) refusal e refl
+in-query (Err query_errors.NoMemory) refusal e = some-is refusals.NoMemory refusal e refl
+
+of-query : (own : Option (List ℕ)) (refusal : Refusal) → fault_of_query own ≡ Some refusal → is_of_words refusal ≡ true
+of-query None refusal e = none-is refusal e
+of-query (Some text) refusal e = in-query (answer_of text) refusal e
+
+of-command : (line : ParsedLine) (refusal : Refusal) → fault_of_command line ≡ Some refusal → is_of_words refusal ≡ true
+of-command (asked.Usage word kind) refusal e = some-is (refusals.Usage word kind) refusal e refl
+of-command (asked.Request request) refusal e = of-query (own_query request) refusal e
+
+of-words : (session : Bool) (words : List (List ℕ)) (refusal : Refusal) → fault_by session words ≡ Some refusal → is_of_words refusal ≡ true
+of-words true words refusal e = of-session (request_of words) refusal e
+of-words false words refusal e = of-command (parse_line (Words words)) refusal e
+
+-- the cause of a refusal for the words
+caused-by-words : (refusal : Refusal) (input : List ℕ) (words : List (List ℕ)) (setting : Setting) (mail : ObservedMail) (disk : ObservedDisk) (old out err said : ObservedStream) (done : Done)
+    → is_of_words refusal ≡ true → call_fault words ≡ Some refusal → IsRefusedFor refusal input (call_of words setting (devices mail disk old out err) (devices mail disk old out said) done)
+caused-by-words (refusals.Usage word kind) input words setting mail disk old out err said done of_words e = (e, (refl, refl))
+caused-by-words (refusals.BadQuery at kind) input words setting mail disk old out err said done of_words e = (e, (refl, refl))
+caused-by-words (refusals.BadDate at) input words setting mail disk old out err said done of_words e = (e, (refl, refl))
+caused-by-words refusals.ReadFault input words setting mail disk old out err said done of_words e = absurd (cc)
+caused-by-words refusals.DiskFault input words setting mail disk old out err said done of_words e = absurd (cc)
+caused-by-words (refusals.BadIndex file at) input words setting mail disk old out err said done of_words e = absurd (cc)
+caused-by-words (refusals.Limit limit) input words setting mail disk old out err said done of_words e = (inl e, refl)
+caused-by-words refusals.NoMemory input words setting mail disk old out err said done of_words e = tt
+
+-- a call that is refused for its words
+pub words-history : RefusalLaws → (refusal : Refusal) (words : List (List ℕ)) (setting : Setting) (mail : ObservedMail) (disk : ObservedDisk) (old out err said : ObservedStream)
+    → IfSome disk.told (λ moments. IsImage moments.present moments.present.now) → call_fault words ≡ Some refusal
+    → (done : Done) → Refuses refusal err said done → History (call_of words setting (devices mail disk old out err) (devices mail disk old out said) done)
+words-history laws refusal words setting mail disk old out err said image e done ends =
+    unasked-history laws refusal [] words setting mail disk old old out err said image
+    (λ d. caused-by-words refusal [] words setting mail disk old out err said d (of-words (is_session words) words refusal e) e) done ends
+
 -- a fault of the input has its cause
 pub read-risen : (error : TakeError) (before now : ℕ) → error ≡ takes.ReadFault → HasTakeCause {T = List ℕ} before now (Err error) → HasRisen before now
 read-risen error before now is cause = subst (λ (e : TakeError). HasTakeCause {T = List ℕ} before now (Err e)) is cause
 
 -- the cause of a refusal for an error of opening
-open-cause : (error : OpenError) (input : List ℕ) (words : List (List ℕ)) (setting : Setting) (entry after : Devices) (done : Done) → words_fault words ≡ None → IsRead input entry.input after.input → length (lines input) ≤ max_lines
+open-cause : (error : OpenError) (input : List ℕ) (words : List (List ℕ)) (setting : Setting) (entry after : Devices) (done : Done) → call_fault words ≡ None → TakesInput (is_session words) input entry.input after.input
     → HasOpenCause entry.disk after.disk error → IsRefusedFor (refusal_of error) input (call_of words setting entry after done)
-open-cause errors.DiskFault input words setting entry after done sound read few cause = (record { words = sound; read = read; few = few }, cause)
-open-cause (errors.BadIndex file at) input words setting entry after done sound read few cause = (record { words = sound; read = read; few = few }, cause.0, cause.1)
-open-cause errors.NoMemory input words setting entry after done sound read few cause = sound
+open-cause errors.DiskFault input words setting entry after done sound takes cause = (record { words = sound; takes = takes }, cause)
+open-cause (errors.BadIndex file at) input words setting entry after done sound takes cause = (record { words = sound; takes = takes }, cause.0, cause.1)
+open-cause errors.NoMemory input words setting entry after done sound takes cause = tt
 
 -- a call for which no index is opened
 pub unopened-history : RefusalLaws → (error : OpenError) (refusal : Refusal) (input : List ℕ) (words : List (List ℕ)) (setting : Setting) (mail new_mail : ObservedMail) (disk new_disk : ObservedDisk) (old new out err said : ObservedStream)
-    → refusal ≡ refusal_of error → words_fault words ≡ None → IsRead input old new → length (lines input) ≤ max_lines → IsUnopened mail new_mail disk new_disk error
+    → refusal ≡ refusal_of error → call_fault words ≡ None → TakesInput (is_session words) input old new → IsUnopened mail new_mail disk new_disk error
     → (done : Done) → Refuses refusal err said done → History (call_of words setting (devices mail disk old out err) (devices new_mail new_disk new out said) done)
-unopened-history laws error refusal input words setting mail new_mail disk new_disk old new out err said is sound read few unopened done ends =
+unopened-history laws error refusal input words setting mail new_mail disk new_disk old new out err said is sound takes unopened done ends =
     refused-history laws (refusal_of error) input words setting (devices mail disk old out err) (devices new_mail new_disk new out said)
-    (λ d. open-cause error input words setting (devices mail disk old out err) (devices new_mail new_disk new out said) d sound read few unopened.cause)
+    (λ d. open-cause error input words setting (devices mail disk old out err) (devices new_mail new_disk new out said) d sound takes unopened.cause)
     unopened.crash_prefix unopened.mail refl done (subst (λ (r : Refusal). Refuses r err said done) is ends)
 
--- a call that runs its script
+-- a call that runs its lines
 pub ran-history : (input : List ℕ) (words : List (List ℕ)) (setting : Setting) (entry after : Devices) (script : List ScriptLine) (status : ℕ) (log : SessionLog) (out_failed : Bool)
-    → words_fault words ≡ None → IsRead input entry.input after.input → length (lines input) ≤ max_lines → script ≡ script_lines input
-    → IsSession setting.moment entry script after.mail after.disk log → StreamAppends out_failed entry.out after.out (printed log.lines) → Prints (final_message out_failed) entry.err after.err
-    → status ≡ session_status log.lines out_failed → History (call_of words setting entry after (record { status = status; log = log }))
-ran-history input words setting entry after script status log out_failed sound read few same session out says is =
-    let run : HasRun setting.moment session.opening entry (script_lines input) after.mail after.disk.faults log =
+    → call_fault words ≡ None → TakesInput (is_session words) input entry.input after.input → script ≡ call_lines words input
+    → IsSession setting.moment entry script after.mail after.disk log → StreamAppends out_failed entry.out after.out (printed_by (is_session words) log.lines) → Prints (final_message (is_session words) log.lines out_failed) entry.err after.err
+    → status ≡ status_by (is_session words) log.lines out_failed → History (call_of words setting entry after (record { status = status; log = log }))
+ran-history input words setting entry after script status log out_failed sound takes same session out says is =
+    let run : HasRun setting.moment session.opening entry (call_lines words input) after.mail after.disk.faults log =
     subst (λ (ls : List ScriptLine). HasRun setting.moment session.opening entry ls after.mail after.disk.faults log) same session.run in (
       session.opening,
       input,
@@ -132,8 +204,19 @@ ran-history input words setting entry after script status log out_failed sound r
         line_commits = run.line_commits;
         line_answers = run.line_answers;
         given = record { along = run.given; disk = run.faults };
-        printed_out = (record { words = sound; read = read; few = few }, record { lines = run.logs; out = out; says = says });
+        printed_out = (record { words = sound; takes = takes }, record { lines = run.logs; out = out; says = says });
         crash_prefix = session.crash_prefix;
         status = is;
       },
     )
+
+-- and so in terms of whether it is a session
+pub ran-by : (session : Bool) (input : List ℕ) (words : List (List ℕ)) (setting : Setting) (entry after : Devices) (script : List ScriptLine) (status : ℕ) (log : SessionLog) (out_failed : Bool)
+    → is_session words ≡ session → call_fault words ≡ None → TakesInput session input entry.input after.input → script ≡ lines_by session words input
+    → IsSession setting.moment entry script after.mail after.disk log → StreamAppends out_failed entry.out after.out (printed_by session log.lines)
+    → Prints (final_message session log.lines out_failed) entry.err after.err → status ≡ status_by session log.lines out_failed → History (call_of words setting entry after (record { status = status; log = log }))
+ran-by session input words setting entry after script status log out_failed is sound =
+    subst (λ (b : Bool). TakesInput b input entry.input after.input → script ≡ lines_by b words input → IsSession setting.moment entry script after.mail after.disk log
+    → StreamAppends out_failed entry.out after.out (printed_by b log.lines) → Prints (final_message b log.lines out_failed) entry.err after.err → status ≡ status_by b log.lines out_failed
+    → History (call_of words setting entry after (record { status = status; log = log }))) is
+    (λ takes same session_is out says status_is. ran-history input words setting entry after script status log out_failed sound takes same session_is out says status_is)

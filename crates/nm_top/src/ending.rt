@@ -1,39 +1,68 @@
 //! How the call ends: what is printed and said, and the status.
 
-ghost use Rattle.std.specs.Prelude.{◌≡◌, true, Some};
-ghost use Rattle.nm_history.specs.PrintedOut.{Prints, StreamAppends, final_message};
-ghost use Rattle.nm_history.specs.Status.{any_wants_memory, fault_of, first_fault, fault_or, session_status, status_of_fault, wants_memory, write_fault};
-ghost use Rattle.nm_log.specs.Replies.{printed, usage_line};
+ghost use Rattle.std.specs.Prelude.{◌≡◌, ℕ, Bool, List, true, false, None, Some, MatchOption, if◌then◌else◌};
+ghost use Rattle.nm_history.specs.PrintedOut.{Prints, StreamAppends, final_message, printed_by, refused_text, write_message};
+ghost use Rattle.nm_history.specs.Status.{any_wants_memory, fault_of, first_fault, fault_or, session_status, single_status, status_by, status_of_fault, wants_memory, write_fault};
 ghost use Rattle.nm_top.specs.Ending.{Refuses, ended_with};
 
-use nm_base::{Many, UsageKind};
+use nm_base::Many;
 use nm_io::Sink;
 use nm_log::{
-    Done, LineLog, Outcome, Refusal, SessionLog, print_lines, print_refusal, print_text,
-    print_usage, refusal_status,
+    Done, LineLog, Outcome, Refusal, SessionLog, is_well, line_status, print_lines, print_refusal,
+    print_replies, print_text, refusal_status,
 };
 use std::alloc::Global;
 
-/// Prints the replies, and says whether that failed.
-pub(crate) fn print_all<O: Sink>(out: &mut O, logs: &[LineLog]) -> bool
-    ensures { StreamAppends result (O.observed out.old) (O.observed out.new) (printed logs.now) }
+/// Prints the replies, those of a session behind their headers, and says whether that failed.
+pub(crate) fn print_all<O: Sink>(out: &mut O, session: bool, logs: &[LineLog]) -> bool
+    ensures { StreamAppends result (O.observed out.old) (O.observed out.new) (printed_by session logs.now) }
 {
-    print_lines(out, logs).is_err()
+    if session {
+        return print_lines(out, logs).is_err();
+    }
+    print_replies(out, logs).is_err()
 }
 
-/// What a session that was run says in the end besides its replies.
-pub(crate) fn say_last<E: Sink>(err: &mut E, out_failed: bool)
-    ensures { Prints (final_message out_failed) (E.observed err.old) (E.observed err.new) }
+/// What a call whose lines were run says in the end besides its replies.
+pub(crate) fn say_last<E: Sink>(err: &mut E, session: bool, logs: &[LineLog], out_failed: bool)
+    ensures { Prints (final_message session logs.now out_failed) (E.observed err.old) (E.observed err.new) }
 {
-    if out_failed {
-        say_write_fault(err);
+    if session {
+        return say_write(err, out_failed);
+    }
+    match refused_text(logs) {
+        Some(text) => say(err, text),
+        None => say_write(err, out_failed),
     }
 }
 
-fn say_write_fault<E: Sink>(err: &mut E)
-    ensures { Prints (final_message true) (E.observed err.old) (E.observed err.new) }
+fn say_write<E: Sink>(err: &mut E, out_failed: bool)
+    ensures { Prints (write_message out_failed) (E.observed err.old) (E.observed err.new) }
 {
-    let _ = print_text(err, b"notmuch: write fault\n");
+    if out_failed {
+        say(err, b"notmuch: write fault\n");
+    }
+}
+
+fn say<E: Sink>(err: &mut E, text: &[u8])
+    ensures { Prints (Some text.now) (E.observed err.old) (E.observed err.new) }
+{
+    let _ = print_text(err, text);
+}
+
+/// The text of the first line that was refused.
+fn refused_text(logs: &[LineLog]) -> Option<&[u8]>
+    ensures { MatchOption result (refused_text logs.now ≡ None) (λ text. refused_text logs.now ≡ Some text.now) }
+{
+    match logs {
+        [] => None,
+        [log, rest @ ..] => {
+            if is_well(&log.outcome) {
+                return refused_text(rest);
+            }
+            Some(log.text.as_slice())
+        }
+    }
 }
 
 /// Ends a call that ran no line, with its status and one line.
@@ -42,14 +71,6 @@ pub(crate) fn refuse<E: Sink>(alloc: Global, err: &mut E, refusal: &Refusal) -> 
 {
     let _ = print_refusal(err, refusal);
     ended(alloc, refusal_status(refusal))
-}
-
-/// Ends a call whose words are refused; it takes no memory.
-pub(crate) fn refuse_words<E: Sink>(alloc: Global, err: &mut E, kind: UsageKind, word: &str) -> Done
-    ensures { Refuses (Refusal.Usage word.now kind) (E.observed err.old) (E.observed err.new) result }
-{
-    let _ = print_usage(err, kind, word);
-    ended(alloc, 2)
 }
 
 fn ended(alloc: Global, status: u8) -> Done
@@ -65,8 +86,31 @@ fn ended(alloc: Global, status: u8) -> Done
     }
 }
 
-/// The status of a session that was run to its end.
-pub(crate) fn status_of_run(logs: &[LineLog], out_failed: bool) -> u8
+/// The status of a call whose lines were run.
+pub(crate) fn status_of_run(session: bool, logs: &[LineLog], out_failed: bool) -> u8
+    ensures { result ≡ status_by session logs.now out_failed }
+{
+    if session {
+        return session_status(logs, out_failed);
+    }
+    single_status(logs, out_failed)
+}
+
+/// The status of a single command.
+fn single_status(logs: &[LineLog], out_failed: bool) -> u8
+    ensures { result ≡ single_status logs.now out_failed }
+{
+    let Some(log) = logs.first() else {
+        return 7;
+    };
+    if !is_well(&log.outcome) {
+        return line_status(&log.outcome);
+    }
+    if out_failed { 6 } else { 0 }
+}
+
+/// The status of a session.
+fn session_status(logs: &[LineLog], out_failed: bool) -> u8
     ensures { result ≡ session_status logs.now out_failed }
 {
     if let Some(status) = first_fault(logs) {

@@ -1,10 +1,11 @@
-//! Commands and replies: the top call: reads the words and the script, runs it over the index that the disk holds and a mail folder,
+//! Commands and replies: the top call: reads the words and a script, runs its lines or a single command over the index that the disk holds and a mail folder,
 //! prints the replies, and gives the status.
 #![tactic(auto)]
 
 mod ending;
 mod laws;
 mod top_call;
+mod words;
 
 pub use nm_answer::Request;
 pub use nm_log::{Done, LineLog, Outcome, SessionLog, Setting};

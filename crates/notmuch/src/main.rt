@@ -1,15 +1,19 @@
-//! Commands and replies: the program `notmuch` is one run of the top call over the folders `mail` and `index`, the standard streams and the
-//! clock.
+//! Commands and replies: the program `notmuch`: it reads its leading options, opens the folders that they name, and makes one run of the top
+//! call over them, the standard streams and the clock.
 #![tactic(auto)]
 
-ghost use Rattle.std.specs.Prelude.{pos, ◌≤ℤ◌};
+mod pages;
+
+ghost use Rattle.std.specs.Prelude.{pos, ◌≤ℤ◌, IfSome};
 
 use nm_base::{Many, NoMemory, Text, UsageKind};
-use nm_disk::FileDisk;
+use nm_command::{HeadError, Leading, head};
+use nm_disk::{DiskFolder, FileDisk};
 use nm_io::{Sink, StdSink, StdSource};
 use nm_log::{print_text, print_usage};
-use nm_maildir::FolderMail;
+use nm_maildir::{FolderMail, MailFolder};
 use nm_top::{Setting, notmuch};
+use pages::{HELP, VERSION};
 use std::alloc::Global;
 use std::io::{self, BufWriter};
 use std::process::ExitCode;
@@ -17,9 +21,6 @@ use std::random::RandomSource;
 use std::rt::{Clock, Env};
 use std::time::SystemTime;
 use std::{env, mem};
-
-/// How many threads read mail.
-const WORKERS: u32 = 4;
 
 /// The last second that a run may begin at.
 const LAST_MOMENT: u64 = 253_000_000_000;
@@ -29,8 +30,12 @@ const LAST_MOMENT: u64 = 253_000_000_000;
 enum StartFault {
     /// A word is not UTF-8.
     Utf8,
-    /// The folder `index` is not there and can't be made, or another process holds it.
-    CannotOpen,
+    /// The leading words are no options.
+    Usage,
+    /// The mail folder is not there, or can't be listed.
+    NoMail,
+    /// The index folder is not there and can't be made, or another process holds it.
+    NoIndex,
     NoMemory,
 }
 
@@ -47,26 +52,36 @@ fn main(rt: HostRuntime) -> ExitCode {
         Ok(words) => words,
         Err(fault) => return refuse(&mut err, &fault),
     };
-    let Ok(root) = Text::of(alloc, "mail") else {
-        return refuse(&mut err, &StartFault::NoMemory);
+    if let Some(page) = page_of(words.as_slice()) {
+        let mut out = StdSink::new(rt.stdout());
+        return print_page(&mut out, page);
+    }
+    let leading = match head(alloc, words.as_slice()) {
+        Ok(leading) => leading,
+        Err(HeadError::Usage) => return refuse(&mut err, &StartFault::Usage),
+        Err(HeadError::NoMemory) => return refuse(&mut err, &StartFault::NoMemory),
     };
     let setting = Setting {
-        moment: present_second(&rt),
+        moment: moment_of(&rt, &leading),
         seed: fresh_seed(&rt),
-        workers: WORKERS,
+        workers: leading.workers,
     };
     let mut input = StdSource::new(rt.stdin());
     let Ok(writer) = BufWriter::new(alloc, rt.stdout()) else {
         return refuse(&mut err, &StartFault::NoMemory);
     };
     let mut out = StdSink::new(writer);
-    let Ok(mut disk) = FileDisk::open(&rt, alloc, "index") else {
-        return refuse(&mut err, &StartFault::CannotOpen);
-    };
-    let mut mail = FolderMail::new(rt, root);
+    let mut disk = FileDisk::new(rt);
+    let mut mail = FolderMail::new(rt);
+    if mail.open(&leading.mail).is_err() {
+        return refuse(&mut err, &StartFault::NoMail);
+    }
+    if disk.open(&leading.index).is_err() {
+        return refuse(&mut err, &StartFault::NoIndex);
+    }
     let done = notmuch(
         alloc,
-        words.as_slice(),
+        &words.as_slice()[leading.rest..],
         &setting,
         &mut mail,
         &mut disk,
@@ -80,6 +95,25 @@ fn main(rt: HostRuntime) -> ExitCode {
     ExitCode::from(status)
 }
 
+/// The page that the first and only word asks for.
+fn page_of(words: &[Text]) -> Option<&'static [u8]> {
+    match words {
+        [word] => match word.as_str() {
+            "--help" => Some(HELP),
+            "--version" => Some(VERSION),
+            _ => None,
+        },
+        _ => None,
+    }
+}
+
+fn print_page<O: Sink>(out: &mut O, page: &[u8]) -> ExitCode {
+    match print_text(out, page) {
+        Ok(()) => ExitCode::SUCCESS,
+        Err(_) => ExitCode::from(6),
+    }
+}
+
 /// Ends a run without the top call: says why, and gives the status.
 fn refuse<E: Sink>(err: &mut E, fault: &StartFault) -> ExitCode {
     match fault {
@@ -87,15 +121,16 @@ fn refuse<E: Sink>(err: &mut E, fault: &StartFault) -> ExitCode {
             let _ = print_usage(err, UsageKind::Utf8, "");
             ExitCode::from(2)
         }
-        StartFault::CannotOpen => {
-            let _ = print_text(err, b"notmuch: cannot open\n");
-            ExitCode::from(4)
-        }
-        StartFault::NoMemory => {
-            let _ = print_text(err, b"notmuch: no memory\n");
-            ExitCode::from(7)
-        }
+        StartFault::Usage => end_with(err, b"notmuch: usage\n", 2),
+        StartFault::NoMail => end_with(err, b"notmuch: cannot open\n", 3),
+        StartFault::NoIndex => end_with(err, b"notmuch: cannot open\n", 4),
+        StartFault::NoMemory => end_with(err, b"notmuch: no memory\n", 7),
     }
+}
+
+fn end_with<E: Sink>(err: &mut E, text: &[u8], status: u8) -> ExitCode {
+    let _ = print_text(err, text);
+    ExitCode::from(status)
 }
 
 /// The words behind the program's own name.
@@ -110,6 +145,18 @@ fn read_words<R: Env + AllocGlobal>(rt: &R, alloc: Global) -> Result<Many<Text>,
         words.push(Text::from_string(arg)?)?;
     }
     Ok(words)
+}
+
+/// The second that the options name, or else the clock's.
+fn moment_of(rt: &impl Clock, leading: &Leading) -> i64
+    requires { IfSome leading.now.moment (λ second. (pos 0 ≤ℤ second) × (second ≤ℤ pos 253000000000)) }
+    ensures from_1970 { pos 0 ≤ℤ result }
+    ensures moment { result ≤ℤ pos 253000000000 }
+{
+    match leading.moment {
+        Some(second) => second,
+        None => present_second(rt),
+    }
 }
 
 /// Seconds since 1970-01-01 00:00:00 UTC, or 0 where the clock tells none.

@@ -1,10 +1,11 @@
 //! Rows on the lines of scripts: what a line asks for, or how it is refused; and the lines of a script with their numbers.
 
 use nm_answer::Request;
-use nm_base::{CountAsk, Many, NoMemory, Output, Text, UsageKind};
+use nm_base::{CountAsk, DumpAsk, DumpForm, Many, NoMemory, Output, SearchAsk, Text, UsageKind};
 use nm_io::MemSink;
 use nm_log::{
-    ParsedLine, ScriptError, ScriptLine, parse_line, print_usage, read_script, usage_text,
+    CommandText, ParsedLine, ScriptError, ScriptLine, parse_line, print_usage, read_script,
+    usage_text,
 };
 use rows::{Lines, Row, RowError, cut};
 use std::alloc::{AllocError, Global};
@@ -22,7 +23,8 @@ pub fn requests(alloc: Global, row: &Row<'_>) -> Result<Vec<u8>, RowError> {
 }
 
 fn add_request(alloc: Global, answers: &mut Lines, line: &[u8]) -> Result<(), RowError> {
-    let parsed = parse_line(alloc, line)?;
+    let text = CommandText::Line(Many::from_slice(alloc, line)?);
+    let parsed = parse_line(alloc, &text)?;
     add_parsed(alloc, answers, &parsed)
 }
 
@@ -30,6 +32,8 @@ fn add_parsed(alloc: Global, answers: &mut Lines, parsed: &ParsedLine) -> Result
     match parsed {
         ParsedLine::Request(Request::New) => Ok(answers.line(b"new")?),
         ParsedLine::Request(Request::Count(ask)) => Ok(add_count(answers, ask)?),
+        ParsedLine::Request(Request::Search(ask)) => Ok(add_search(answers, ask)?),
+        ParsedLine::Request(Request::Dump(ask)) => Ok(add_dump(answers, ask)?),
         ParsedLine::Usage { word, kind } => Ok(add_refusal(alloc, answers, *kind, word)?),
     }
 }
@@ -40,6 +44,28 @@ fn add_count(answers: &mut Lines, ask: &CountAsk) -> Result<(), AllocError> {
     if ask.output != Output::Messages || !ask.exclude || ask.batch {
         add_options(answers, ask)?;
     }
+    answers.push_after_blank(ask.query.as_bytes())
+}
+
+/// `search QUERY` behind what is printed, and how.
+fn add_search(answers: &mut Lines, ask: &SearchAsk) -> Result<(), AllocError> {
+    answers.line(b"search")?;
+    answers.push_after_blank(output_name(ask.output))?;
+    answers.push(if ask.json { b", json".as_slice() } else { b"" })?;
+    answers.push(if ask.oldest {
+        b", oldest:".as_slice()
+    } else {
+        b":"
+    })?;
+    answers.push_after_blank(ask.query.as_bytes())
+}
+
+/// `dump QUERY` behind its form.
+fn add_dump(answers: &mut Lines, ask: &DumpAsk) -> Result<(), AllocError> {
+    answers.line(match ask.form {
+        DumpForm::BatchTag => b"dump batch-tag:".as_slice(),
+        DumpForm::Sup => b"dump sup:",
+    })?;
     answers.push_after_blank(ask.query.as_bytes())
 }
 
@@ -115,7 +141,9 @@ fn add_lines(alloc: Global, answers: &mut Lines, script: &[ScriptLine]) -> Resul
     'lines: for line in script {
         let number = line.number.to_string(alloc)?;
         answers.line_of(number.as_bytes(), b" ")?;
-        answers.push(line.text.as_slice())?;
+        if let CommandText::Line(text) = &line.text {
+            answers.push(text.as_slice())?;
+        }
     }
     Ok(())
 }

@@ -34,3 +34,19 @@ returns-in-Request-Count g c = record {
   stands = c.requires.stands;
   durable = λ entry opening h. h;
 }
+
+pub returns-in-Request-Search : goal.returns-in-Request-Search
+returns-in-Request-Search g c = record {
+  ends = reading-ends c.args.setting.now.moment (place_at c.args.writer.now (g.M.Maildir.observed c.args.mail.now) (g.D.Disk.observed c.args.disk.now)) c.args.line.now c.args.given.now (requests.Search c.in-Request-Search.ask) c.snapshot-in-Request-Search.result.now c.run_search.result
+      c.requires.fresh (sym c.in_ok-word.ensures ∙ (c.in-Request-Search.is ∙ ap asked.Request c.in-Request-Search.field-0-is)) refl c.snapshot-in-Request-Search.ensures c.run_search.ensures;
+  stands = c.requires.stands;
+  durable = λ entry opening h. h;
+}
+
+pub returns-in-Request-Dump : goal.returns-in-Request-Dump
+returns-in-Request-Dump g c = record {
+  ends = reading-ends c.args.setting.now.moment (place_at c.args.writer.now (g.M.Maildir.observed c.args.mail.now) (g.D.Disk.observed c.args.disk.now)) c.args.line.now c.args.given.now (requests.Dump c.in-Request-Dump.ask) c.snapshot-in-Request-Dump.result.now c.run_dump.result
+      c.requires.fresh (sym c.in_ok-word.ensures ∙ (c.in-Request-Dump.is ∙ ap asked.Request c.in-Request-Dump.field-0-is)) refl c.snapshot-in-Request-Dump.ensures c.run_dump.ensures;
+  stands = c.requires.stands;
+  durable = λ entry opening h. h;
+}

@@ -1,0 +1,115 @@
+//! The words of a call: whether they begin a session, and what refuses them before a device is asked; the top call begins with it.
+
+ghost use Rattle.std.specs.Prelude.{◌≡◌, ◌≢◌, [], ◌∷◌, Some, IfOk};
+ghost use Rattle.nm_command.specs.Requests.{request_of};
+ghost use Rattle.nm_history.specs.Call.{call_fault, fault_in_query, fault_of_command, fault_of_query, fault_of_session, is_session, query_refusal};
+ghost use Rattle.nm_history.specs.Requests.{own_query};
+ghost use Rattle.nm_log.specs.ParsedLine.{parse_line};
+ghost use Rattle.nm_log.specs.Script.{single_line};
+ghost use Rattle.nm_log.specs.declared.script.CommandText.TheVariants as texts;
+ghost use Rattle.nm_query.specs.Answers.{answer_of};
+
+use nm_answer::Request;
+use nm_base::{Copies, Many, NoMemory, Text};
+use nm_command::{CommandError, command};
+use nm_log::{CommandText, ParsedLine, Refusal, ScriptLine, parse_line};
+use nm_query::{QueryError, parse};
+use std::alloc::Global;
+
+/// Whether the words begin a session.
+pub(crate) fn is_session(words: &[Text]) -> bool
+    ensures { result ≡ is_session words.now }
+{
+    match words.first() {
+        Some(word) => word.as_str() == "session",
+        None => false,
+    }
+}
+
+/// What refuses the call for its words, if anything does.
+pub(crate) fn fault_of(alloc: Global, words: &[Text]) -> Result<Option<Refusal>, NoMemory>
+    ensures { IfOk result (λ fault. fault ≡ call_fault words.now) }
+{
+    if is_session(words) {
+        return session_fault(alloc, words);
+    }
+    command_fault(alloc, words)
+}
+
+fn session_fault(alloc: Global, words: &[Text]) -> Result<Option<Refusal>, NoMemory>
+    ensures { IfOk result (λ fault. fault ≡ fault_of_session (request_of words.now)) }
+{
+    match command(alloc, words) {
+        Ok(_) => Ok(None),
+        Err(CommandError::Usage { word, kind }) => Ok(Some(Refusal::Usage { word, kind })),
+        Err(CommandError::NoMemory) => Err(NoMemory),
+    }
+}
+
+fn command_fault(alloc: Global, words: &[Text]) -> Result<Option<Refusal>, NoMemory>
+    ensures { IfOk result (λ fault. fault ≡ fault_of_command (parse_line (texts.Words words.now))) }
+{
+    let text = words_text(alloc, words)?;
+    match parse_line(alloc, &text)? {
+        ParsedLine::Usage { word, kind } => Ok(Some(Refusal::Usage { word, kind })),
+        ParsedLine::Request(request) => request_fault(alloc, &request),
+    }
+}
+
+/// The words as the text of a command.
+fn words_text(alloc: Global, words: &[Text]) -> Result<CommandText, NoMemory>
+    ensures { IfOk result (λ text. text ≡ texts.Words words.now) }
+{
+    let mut copied = Many::new(alloc);
+    'words: for word in words {
+        copied.push(word.copy()?)?;
+    }
+    Ok(CommandText::Words(copied))
+}
+
+fn request_fault(alloc: Global, request: &Request) -> Result<Option<Refusal>, NoMemory>
+    ensures { IfOk result (λ fault. fault ≡ fault_of_query (own_query request.now)) }
+{
+    match request {
+        Request::New => Ok(None),
+        Request::Count(ask) => {
+            if ask.batch {
+                return Ok(None);
+            }
+            query_fault(alloc, ask.query.as_str())
+        }
+        Request::Search(ask) => query_fault(alloc, ask.query.as_str()),
+        Request::Dump(ask) => query_fault(alloc, ask.query.as_str()),
+    }
+}
+
+fn query_fault(alloc: Global, text: &str) -> Result<Option<Refusal>, NoMemory>
+    ensures { IfOk result (λ fault. fault ≡ fault_in_query (answer_of text.now)) }
+{
+    match parse(alloc, text) {
+        Ok(_) => Ok(None),
+        Err(error) => refused_query(error),
+    }
+}
+
+fn refused_query(error: QueryError) -> Result<Option<Refusal>, NoMemory>
+    ensures some { IfOk result (λ _. error ≢ QueryError.NoMemory) }
+    ensures refused { IfOk result (λ fault. fault ≡ Some (query_refusal error)) }
+{
+    match error {
+        QueryError::BadQuery { at, kind } => Ok(Some(Refusal::BadQuery { at, kind })),
+        QueryError::BadDate { at } => Ok(Some(Refusal::BadDate { at })),
+        QueryError::Limit(limit) => Ok(Some(Refusal::Limit(limit))),
+        QueryError::NoMemory => Err(NoMemory),
+    }
+}
+
+/// The words of a single command as the one line that is run.
+pub(crate) fn single_script(alloc: Global, words: &[Text]) -> Result<Many<ScriptLine>, NoMemory>
+    ensures { IfOk result (λ script. script ≡ single_line words.now) }
+{
+    let text = words_text(alloc, words)?;
+    let mut script = Many::new(alloc);
+    script.push(ScriptLine { number: 1, text })?;
+    Ok(script)
+}
