@@ -3,7 +3,7 @@
 
     tools/definitions.py > docs/DEFINITIONS.md
 
-It begins with the clauses of `notmuch` in `nm_top`, and follows what each clause and each definition names: by the
+It begins with the clauses of `program` in `nm_top`, and follows what each clause and each definition names: by the
 `ghost use` and `use` lines of its file, or in the file itself. A type of the code brings the types of its fields, and
 what its `impl Model` names."""
 import os
@@ -12,7 +12,7 @@ import sys
 
 ROOT = os.path.dirname(os.path.dirname(os.path.abspath(__file__)))
 MAX_LINE = 110
-TOP_CRATE, TOP_CALL = "nm_top", "notmuch"
+TOP_CRATE, TOP_CALL = "nm_top", "program"
 HEAD = """# Definitions
 
 What must be believed: every definition that the contract of the top call reaches, with the comment that stands above

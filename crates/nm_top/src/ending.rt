@@ -73,6 +73,15 @@ pub(crate) fn refuse<E: Sink>(alloc: Global, err: &mut E, refusal: &Refusal) -> 
     ended(alloc, refusal_status(refusal))
 }
 
+/// Ends a program that makes no call, with its status and one line.
+pub(crate) fn ended_early<E: Sink>(alloc: Global, err: &mut E, status: u8, line: &[u8]) -> Done
+    ensures ended { result ≡ ended_with status }
+    ensures says { Prints (Some line.now) (E.observed err.old) (E.observed err.new) }
+{
+    say(err, line);
+    ended(alloc, status)
+}
+
 fn ended(alloc: Global, status: u8) -> Done
     ensures { result ≡ ended_with status }
 {

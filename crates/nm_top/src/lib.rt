@@ -4,6 +4,7 @@
 
 mod ending;
 mod laws;
+mod starting;
 mod top_call;
 mod words;
 
@@ -11,4 +12,5 @@ pub use nm_answer::Request;
 pub use nm_log::{Done, LineLog, Outcome, SessionLog, Setting};
 pub use nm_machine::Step;
 pub use nm_maildir::{Given, ReadAnswer};
+pub use starting::{Start, program};
 pub use top_call::notmuch;

@@ -1,18 +1,17 @@
-//! Commands and replies: the program `notmuch`: it reads its leading options, opens the folders that they name, and makes one run of the top
-//! call over them, the standard streams and the clock.
+//! Commands and replies: the program `notmuch`: one run of the top call `program` over the folders of the system, the standard streams and the
+//! clock.
 #![tactic(auto)]
 
 mod pages;
 
-ghost use Rattle.std.specs.Prelude.{pos, ◌≤ℤ◌, IfSome};
+ghost use Rattle.std.specs.Prelude.{pos, ◌≤ℤ◌};
 
 use nm_base::{Many, NoMemory, Text, UsageKind};
-use nm_command::{HeadError, Leading, head};
-use nm_disk::{DiskFolder, FileDisk};
+use nm_disk::FileDisk;
 use nm_io::{Sink, StdSink, StdSource};
 use nm_log::{print_text, print_usage};
-use nm_maildir::{FolderMail, MailFolder};
-use nm_top::{Setting, notmuch};
+use nm_maildir::FolderMail;
+use nm_top::{Start, program};
 use pages::{HELP, VERSION};
 use std::alloc::Global;
 use std::io::{self, BufWriter};
@@ -25,17 +24,11 @@ use std::{env, mem};
 /// The last second that a run may begin at.
 const LAST_MOMENT: u64 = 253_000_000_000;
 
-/// Why the top call is not made.
+/// Why the program is not run.
 #[derive(Drop)]
 enum StartFault {
     /// A word is not UTF-8.
     Utf8,
-    /// The leading words are no options.
-    Usage,
-    /// The mail folder is not there, or can't be listed.
-    NoMail,
-    /// The index folder is not there and can't be made, or another process holds it.
-    NoIndex,
     NoMemory,
 }
 
@@ -56,15 +49,9 @@ fn main(rt: HostRuntime) -> ExitCode {
         let mut out = StdSink::new(rt.stdout());
         return print_page(&mut out, page);
     }
-    let leading = match head(alloc, words.as_slice()) {
-        Ok(leading) => leading,
-        Err(HeadError::Usage) => return refuse(&mut err, &StartFault::Usage),
-        Err(HeadError::NoMemory) => return refuse(&mut err, &StartFault::NoMemory),
-    };
-    let setting = Setting {
-        moment: moment_of(&rt, &leading),
+    let start = Start {
+        moment: present_second(&rt),
         seed: fresh_seed(&rt),
-        workers: leading.workers,
     };
     let mut input = StdSource::new(rt.stdin());
     let Ok(writer) = BufWriter::new(alloc, rt.stdout()) else {
@@ -73,16 +60,10 @@ fn main(rt: HostRuntime) -> ExitCode {
     let mut out = StdSink::new(writer);
     let mut disk = FileDisk::new(rt);
     let mut mail = FolderMail::new(rt);
-    if mail.open(&leading.mail).is_err() {
-        return refuse(&mut err, &StartFault::NoMail);
-    }
-    if disk.open(&leading.index).is_err() {
-        return refuse(&mut err, &StartFault::NoIndex);
-    }
-    let done = notmuch(
+    let done = program(
         alloc,
-        &words.as_slice()[leading.rest..],
-        &setting,
+        &start,
+        words.as_slice(),
         &mut mail,
         &mut disk,
         &mut input,
@@ -114,23 +95,18 @@ fn print_page<O: Sink>(out: &mut O, page: &[u8]) -> ExitCode {
     }
 }
 
-/// Ends a run without the top call: says why, and gives the status.
+/// Ends a run without the program: says why, and gives the status.
 fn refuse<E: Sink>(err: &mut E, fault: &StartFault) -> ExitCode {
     match fault {
         StartFault::Utf8 => {
             let _ = print_usage(err, UsageKind::Utf8, "");
             ExitCode::from(2)
         }
-        StartFault::Usage => end_with(err, b"notmuch: usage\n", 2),
-        StartFault::NoMail => end_with(err, b"notmuch: cannot open\n", 3),
-        StartFault::NoIndex => end_with(err, b"notmuch: cannot open\n", 4),
-        StartFault::NoMemory => end_with(err, b"notmuch: no memory\n", 7),
+        StartFault::NoMemory => {
+            let _ = print_text(err, b"notmuch: no memory\n");
+            ExitCode::from(7)
+        }
     }
-}
-
-fn end_with<E: Sink>(err: &mut E, text: &[u8], status: u8) -> ExitCode {
-    let _ = print_text(err, text);
-    ExitCode::from(status)
 }
 
 /// The words behind the program's own name.
@@ -145,18 +121,6 @@ fn read_words<R: Env + AllocGlobal>(rt: &R, alloc: Global) -> Result<Many<Text>,
         words.push(Text::from_string(arg)?)?;
     }
     Ok(words)
-}
-
-/// The second that the options name, or else the clock's.
-fn moment_of(rt: &impl Clock, leading: &Leading) -> i64
-    requires { IfSome leading.now.moment (λ second. (pos 0 ≤ℤ second) × (second ≤ℤ pos 253000000000)) }
-    ensures from_1970 { pos 0 ≤ℤ result }
-    ensures moment { result ≤ℤ pos 253000000000 }
-{
-    match leading.moment {
-        Some(second) => second,
-        None => present_second(rt),
-    }
 }
 
 /// Seconds since 1970-01-01 00:00:00 UTC, or 0 where the clock tells none.

@@ -1,0 +1,51 @@
+-- The statement of the program: its leading options, the folders that they name, and the call of the words behind them.
+use Rattle.std.specs.Prelude.{◌≡◌, ℕ, List, drop, codes, Some, Ok, Err}
+use Rattle.nm_command.specs.Leading.{leading_of}
+use Rattle.nm_command.specs.Settings.{or_default}
+use Rattle.nm_command.specs.declared.leading.HeadError.TheVariants as faults
+use Rattle.nm_command.specs.declared.leading.Leading.{Leading}
+use Rattle.nm_faults.specs.Faults.{HasRisen}
+use Rattle.nm_history.specs.Call.{Devices, call_of}
+use Rattle.nm_history.specs.Complete.{IsComplete}
+use Rattle.nm_history.specs.History.{History}
+use Rattle.nm_history.specs.PrintedOut.{Prints}
+use Rattle.nm_log.specs.declared.log.Done.{Done}
+use Rattle.nm_log.specs.declared.log.Setting.{Setting}
+use Rattle.nm_maildir.specs.Observed.{ObservedMail}
+use Rattle.nm_top.specs.Ending.{ended_with}
+use Rattle.nm_top.specs.declared.starting.Start.{Start}
+
+-- what the options say; where they name no present second, it is that of the start
+abbrev pub setting_by : Start → Leading → Setting
+setting_by start leading = record { moment = or_default leading.moment start.moment; seed = start.seed; workers = leading.workers }
+
+-- the words behind the options
+abbrev pub command_words : List (List ℕ) → Leading → List (List ℕ)
+command_words words leading = drop leading.rest words
+
+-- The program ended before its call: nothing is in the log, and one line was said.
+pub record EndsBefore (status : ℕ) (line : List ℕ) (entry after : Devices) (done : Done) : Type 0 where
+  pub ended : done ≡ ended_with status
+  pub input : after.input ≡ entry.input
+  pub out : after.out ≡ entry.out
+  pub says : Prints (Some line) entry.err after.err
+
+-- the folder gave nothing and took nothing
+pub record StaysUnread (entry after : ObservedMail) : Type 0 where
+  pub tree : after.tree ≡ entry.tree
+  pub reads : after.reads ≡ entry.reads
+
+-- How the program ends: its leading words are no options; there is no memory for them; the mail folder is not opened; it is, and the index
+-- is not; or both are, and it is the call of the words behind the options.
+pub data IsProgram (start : Start) (words : List (List ℕ)) (entry after : Devices) (done : Done) : Type 0 where
+  wrong_options : leading_of words ≡ Err faults.Usage → after.mail ≡ entry.mail → after.disk ≡ entry.disk →
+      EndsBefore 2 (codes "notmuch: usage\n") entry after done → IsProgram start words entry after done
+  no_memory : after.mail ≡ entry.mail → after.disk ≡ entry.disk →
+      EndsBefore 7 (codes "notmuch: no memory\n") entry after done → IsProgram start words entry after done
+  no_mail : (leading : Leading) → leading_of words ≡ Ok leading → HasRisen entry.mail.faults after.mail.faults → StaysUnread entry.mail after.mail → after.disk ≡ entry.disk →
+      EndsBefore 3 (codes "notmuch: cannot open\n") entry after done → IsProgram start words entry after done
+  no_index : (leading : Leading) → leading_of words ≡ Ok leading → after.mail ≡ entry.mail → HasRisen entry.disk.faults after.disk.faults → after.disk.told ≡ entry.disk.told →
+      EndsBefore 4 (codes "notmuch: cannot open\n") entry after done → IsProgram start words entry after done
+  called : (leading : Leading) → leading_of words ≡ Ok leading →
+      History (call_of (command_words words leading) (setting_by start leading) entry after done) →
+      IsComplete (call_of (command_words words leading) (setting_by start leading) entry after done) → IsProgram start words entry after done

@@ -1,0 +1,151 @@
+//! The program: reads its leading options, opens the folders that they name, and makes the call of the words behind them; `main` makes it.
+
+ghost use Rattle.std.specs.Prelude.{◌≡◌, ◌≤◌, Ok, Some, pos, length, ◌≤ℤ◌, IfSome};
+ghost use Rattle.nm_command.specs.Leading.{leading_of};
+ghost use Rattle.nm_history.specs.Call.{devices};
+ghost use Rattle.nm_history.specs.PrintedOut.{Prints};
+ghost use Rattle.nm_top.specs.Ending.{ended_with};
+ghost use Rattle.nm_top.specs.Program.{IsProgram, command_words, setting_by};
+
+use crate::ending::ended_early;
+use crate::top_call::notmuch;
+use nm_base::Text;
+use nm_command::{HeadError, Leading, head};
+use nm_disk::DiskFolder;
+use nm_io::{Sink, Source};
+use nm_log::{Done, Setting};
+use nm_maildir::MailFolder;
+use std::alloc::Global;
+
+/// What a run begins with beside its words and devices.
+#[derive(Debug, Drop)]
+pub struct Start {
+    /// The present second, counted from 1970-01-01 00:00:00 UTC.
+    pub moment: i64,
+    /// A number that no other run has.
+    pub seed: u128,
+}
+
+/// Runs the program: the words begin with options, each `--name=value`; then the mail folder and the index are opened, and the words behind
+/// the options are the call.
+pub fn program<M: MailFolder, D: DiskFolder, I: Source, O: Sink, E: Sink>(
+    alloc: Global,
+    start: &Start,
+    words: &[Text],
+    mail: &mut M,
+    disk: &mut D,
+    input: &mut I,
+    out: &mut O,
+    err: &mut E,
+) -> Done
+    requires from_1970 { pos 0 ≤ℤ start.now.moment }
+    requires moment { start.now.moment ≤ℤ pos 253000000000 }
+    ensures { IsProgram start.now words.now
+        (devices (M.observed mail.old) (D.observed disk.old) (I.observed input.old) (O.observed out.old) (E.observed err.old))
+        (devices (M.observed mail.new) (D.observed disk.new) (I.observed input.new) (O.observed out.new) (E.observed err.new)) result }
+{
+    match head(alloc, words) {
+        Ok(leading) => open_and_call(alloc, start, words, &leading, mail, disk, input, out, err),
+        Err(HeadError::Usage) => ended_early(alloc, err, 2, b"notmuch: usage\n"),
+        Err(HeadError::NoMemory) => ended_early(alloc, err, 7, b"notmuch: no memory\n"),
+    }
+}
+
+/// Opens the mail folder, and goes on with the index.
+fn open_and_call<M: MailFolder, D: DiskFolder, I: Source, O: Sink, E: Sink>(
+    alloc: Global,
+    start: &Start,
+    words: &[Text],
+    leading: &Leading,
+    mail: &mut M,
+    disk: &mut D,
+    input: &mut I,
+    out: &mut O,
+    err: &mut E,
+) -> Done
+    requires read { leading_of words.now ≡ Ok leading.now }
+    requires rest { leading.now.rest ≤ length words.now }
+    requires some_worker { 1 ≤ leading.now.workers }
+    requires few_workers { leading.now.workers ≤ 16 }
+    requires named { IfSome leading.now.moment (λ second. (pos 0 ≤ℤ second) × (second ≤ℤ pos 253000000000)) }
+    requires from_1970 { pos 0 ≤ℤ start.now.moment }
+    requires moment { start.now.moment ≤ℤ pos 253000000000 }
+    ensures { IsProgram start.now words.now
+        (devices (M.observed mail.old) (D.observed disk.old) (I.observed input.old) (O.observed out.old) (E.observed err.old))
+        (devices (M.observed mail.new) (D.observed disk.new) (I.observed input.new) (O.observed out.new) (E.observed err.new)) result }
+{
+    match mail.open(&leading.mail) {
+        Ok(()) => open_index_and_call(alloc, start, words, leading, mail, disk, input, out, err),
+        Err(_) => ended_early(alloc, err, 3, b"notmuch: cannot open\n"),
+    }
+}
+
+/// Opens the index, and makes the call.
+fn open_index_and_call<M: MailFolder, D: DiskFolder, I: Source, O: Sink, E: Sink>(
+    alloc: Global,
+    start: &Start,
+    words: &[Text],
+    leading: &Leading,
+    mail: &mut M,
+    disk: &mut D,
+    input: &mut I,
+    out: &mut O,
+    err: &mut E,
+) -> Done
+    requires read { leading_of words.now ≡ Ok leading.now }
+    requires rest { leading.now.rest ≤ length words.now }
+    requires some_worker { 1 ≤ leading.now.workers }
+    requires few_workers { leading.now.workers ≤ 16 }
+    requires named { IfSome leading.now.moment (λ second. (pos 0 ≤ℤ second) × (second ≤ℤ pos 253000000000)) }
+    requires from_1970 { pos 0 ≤ℤ start.now.moment }
+    requires moment { start.now.moment ≤ℤ pos 253000000000 }
+    ensures { IsProgram start.now words.now
+        (devices (M.observed mail.old) (D.observed disk.old) (I.observed input.old) (O.observed out.old) (E.observed err.old))
+        (devices (M.observed mail.new) (D.observed disk.new) (I.observed input.new) (O.observed out.new) (E.observed err.new)) result }
+{
+    match disk.open(&leading.index) {
+        Ok(()) => {
+            let setting = setting_by(start, leading);
+            let command = command_words(words, leading);
+            notmuch(alloc, command, &setting, mail, disk, input, out, err)
+        }
+        Err(_) => ended_early(alloc, err, 4, b"notmuch: cannot open\n"),
+    }
+}
+
+/// The words behind the options.
+fn command_words<'a>(words: &'a [Text], leading: &Leading) -> &'a [Text]
+    requires rest { leading.now.rest ≤ length words.now }
+    ensures { result.now ≡ command_words words.now leading.now }
+{
+    words.split_at(leading.rest).1
+}
+
+/// What the options say, and of what they leave out the start.
+fn setting_by(start: &Start, leading: &Leading) -> Setting
+    requires some_worker { 1 ≤ leading.now.workers }
+    requires few_workers { leading.now.workers ≤ 16 }
+    requires named { IfSome leading.now.moment (λ second. (pos 0 ≤ℤ second) × (second ≤ℤ pos 253000000000)) }
+    requires from_1970 { pos 0 ≤ℤ start.now.moment }
+    requires moment { start.now.moment ≤ℤ pos 253000000000 }
+    ensures value { result ≡ setting_by start.now leading.now }
+    ensures some_worker { 1 ≤ result.workers }
+    ensures few_workers { result.workers ≤ 16 }
+    ensures from_1970 { pos 0 ≤ℤ result.moment }
+    ensures moment { result.moment ≤ℤ pos 253000000000 }
+{
+    match leading.moment {
+        Some(moment) => setting_at(start, leading, moment),
+        None => setting_at(start, leading, start.moment),
+    }
+}
+
+fn setting_at(start: &Start, leading: &Leading, moment: i64) -> Setting
+    ensures { result ≡ record { moment = moment; seed = start.now.seed; workers = leading.now.workers } }
+{
+    Setting {
+        moment,
+        seed: start.seed,
+        workers: leading.workers,
+    }
+}
