@@ -1,21 +1,25 @@
 -- Words ask for what the grammar says, and else the word is at fault that it says.
-use Rattle.std.proofs.Common.{◌≡◌, ◌⊎◌, inl, inr, ℕ, Bool, true, false, cond, List, [], ◌∷◌, refl, ap, subst, ◌∙◌}
+use Rattle.std.proofs.Common.{◌≡◌, ◌⊎◌, inl, inr, ℕ, Bool, true, false, cond, List, [], ◌∷◌, refl, sym, ap, subst, ◌∙◌}
 use Rattle.std.specs.Prelude.{Some, None, Result, Ok, Err}
 use Rattle.nm_base.specs.declared.refusals.UsageKind.{UsageKind}
 use Rattle.nm_base.specs.declared.refusals.UsageKind.TheVariants as kinds
-use Rattle.nm_command.specs.Grammar.{HasOptions, IsRefused, IsRequest, a_batch_count, a_clash, a_count, a_dump, a_fault, a_new, a_search, a_session, a_show, a_word_too_many, needs_query, no_command, no_query, takes_words, unknown_command}
+use Rattle.nm_base.specs.declared.tag_op.TagOp.{TagOp}
+use Rattle.nm_command.specs.Grammar.{HasChanges, HasOptions, HasTagFault, IsRefused, IsRequest, a_batch_count, a_batch_tag, a_change_too_many, a_clash, a_count, a_dump, a_fault, a_new, a_query_too_many, a_restore, a_search, a_session, a_show, a_tag, a_tag_fault, a_word_too_many, needs_query, no_change, no_command, no_query, no_tag_query, nothing_left, takes_words, unknown_command}
 use Rattle.nm_command.specs.Options.{read_options}
-use Rattle.nm_command.specs.Requests.{after_options, count_ask, request_named, request_of, request_with, without_words}
+use Rattle.nm_command.specs.Requests.{after_options, batch_fault, batch_tag, changes_tags, count_ask, refused, request_named, request_of, request_with, single_tag, tag_ask, tag_with, with_words, without_words}
 use Rattle.nm_command.specs.Settings.{nothing_set}
 use Rattle.nm_command.specs.Table.{commands, meaning_of}
+use Rattle.nm_command.specs.TagWords.{changes_of, is_tag_word, op_of, query_words}
 use Rattle.nm_command.specs.declared.command_error.CommandError.{CommandError}
 use Rattle.nm_command.specs.declared.command_error.CommandError.TheVariants.{NoMemory, Usage}
 use Rattle.nm_command.specs.declared.request.Request.{Request}
 use Rattle.nm_command.specs.declared.request.Request.TheVariants as requests
 use Rattle.nm_command.specs.declared.settings.Settings.{Settings}
 use Rattle.nm_command.specs.declared.table.CommandName.{CommandName}
-use Rattle.nm_command.specs.declared.table.CommandName.TheVariants.{Count, Dump, New, Search, Session, Show}
+use Rattle.nm_command.specs.declared.table.CommandName.TheVariants.{Count, Dump, New, Restore, Search, Session, Show, Tag}
 use Rattle.nm_command.proofs.ReadingLemmas.{IsRead, fault-read, has-read, read-is}
+use Rattle.nm_command.proofs.RowLemmas.{and-left}
+use Rattle.nm_command.proofs.TagLemmas.{IsAsked, asked-is, batch-by, has-asked, query-asked, read-change, tag-refused, untagged}
 
 -- what is answered, by the grammar
 abbrev IsAnswer : List (List ℕ) → Result Request CommandError → Type 0
@@ -36,6 +40,52 @@ count-is name words settings rest found has =
     batched [] has batch = a_batch_count name words settings found has batch
     batched (word ∷ more) has batch = a_clash name word words more settings found batch has
 
+-- the words of `tag`
+module _ (name : List ℕ) (words : List (List ℕ)) (settings : Settings) (rest : List (List ℕ)) (found : meaning_of name commands ≡ Some Tag)
+    (has : HasOptions Tag nothing_set words settings rest) where
+  tag-faulty : (batch : Bool) → settings.batch ≡ batch → (word : List ℕ) (kind : UsageKind) → HasTagFault batch rest word kind → IsRefused (name ∷ words) word kind
+  tag-faulty batch is word kind fault = a_tag_fault name word words rest settings kind found has (subst (λ batch. HasTagFault batch rest word kind) (sym is) fault)
+
+  batch-query : settings.batch ≡ true → (query : List (List ℕ)) → HasChanges rest [] query →
+      IsAnswer (name ∷ words) (without_words kinds.Clash (requests.Tag (tag_ask settings [] [])) query)
+  batch-query batch [] changes = a_batch_tag name words rest settings found has batch changes
+  batch-query batch (word ∷ query) changes = tag-faulty true batch word kinds.Clash (a_query_too_many word rest query changes)
+
+  single-query : settings.batch ≡ false → (ops : List TagOp) (query : List (List ℕ)) → HasChanges rest ops query → changes_tags settings.clear ops ≡ true →
+      IsAnswer (name ∷ words) (with_words (requests.Tag (tag_ask settings ops query)) query)
+  single-query single ops [] changes some = no_tag_query name words rest settings ops found has single changes
+  single-query single ops (word ∷ query) changes some = a_tag name word words rest query settings ops found has single changes some
+
+  single-is : settings.batch ≡ false → (asked : Result (List TagOp × List (List ℕ)) (List ℕ)) → IsAsked rest asked → IsAnswer (name ∷ words) (single_tag settings asked)
+  single-is single (Err word) are = tag-faulty false single word kinds.Tag are
+  single-is single (Ok asked) are =
+      elim (changes_tags settings.clear asked.0) as (λ v. changes_tags settings.clear asked.0 ≡ v →
+      IsAnswer (name ∷ words) (cond v (with_words (requests.Tag (tag_ask settings asked.0 asked.1)) asked.1) (refused [] kinds.Missing))) [
+        | true ↦ λ some. single-query single asked.0 asked.1 are some
+        | false ↦ λ none. no_change name words rest asked.1 settings asked.0 found has single are none
+      ] refl
+
+batch-is : (name : List ℕ) (words : List (List ℕ)) (settings : Settings) (rest : List (List ℕ)) → meaning_of name commands ≡ Some Tag →
+    HasOptions Tag nothing_set words settings rest → settings.batch ≡ true → IsAnswer (name ∷ words) (batch_tag settings rest)
+batch-is name words settings [] found has batch = a_batch_tag name words [] settings found has batch nothing_left
+batch-is name words settings (word ∷ more) found has batch =
+    elim (is_tag_word word) as (λ v. is_tag_word word ≡ v → IsAnswer (name ∷ words) (cond v (refused word (batch_fault (op_of word)))
+    (without_words kinds.Clash (requests.Tag (tag_ask settings [] [])) (query_words (word ∷ more))))) [
+      | true ↦ λ is. (elim (op_of word) as (λ op. op_of word ≡ op → IsRefused (name ∷ words) word (batch_fault op)) [
+        | Some op ↦ λ says. tag-faulty name words settings (word ∷ more) found has true batch word kinds.Clash (a_change_too_many word op more (read-change word op (and-left _ _ is) says))
+        | None ↦ λ says. tag-faulty name words settings (word ∷ more) found has true batch word kinds.Tag (untagged true word more is says)
+      ] refl)
+      | false ↦ λ other. batch-query name words settings (word ∷ more) found has batch (query_words (word ∷ more)) (query-asked word more other)
+    ] refl
+
+tag-is : (name : List ℕ) (words : List (List ℕ)) (settings : Settings) (rest : List (List ℕ)) → meaning_of name commands ≡ Some Tag →
+    HasOptions Tag nothing_set words settings rest → IsAnswer (name ∷ words) (request_with Tag settings rest)
+tag-is name words settings rest found has =
+    elim settings.batch as (λ v. settings.batch ≡ v → IsAnswer (name ∷ words) (cond v (batch_tag settings rest) (single_tag settings (changes_of rest)))) [
+      | true ↦ λ batch. batch-is name words settings rest found has batch
+      | false ↦ λ single. single-is name words settings rest found has single (changes_of rest) (asked-is rest)
+    ] refl
+
 with-is : (command : CommandName) (name : List ℕ) (words : List (List ℕ)) (settings : Settings) (rest : List (List ℕ)) → meaning_of name commands ≡ Some command →
     HasOptions command nothing_set words settings rest → IsAnswer (name ∷ words) (request_with command settings rest)
 with-is New name words settings [] found has = a_new name words settings found has
@@ -45,7 +95,10 @@ with-is Search name words settings (word ∷ more) found has = a_search name wor
 with-is Count name words settings rest found has = count-is name words settings rest found has
 with-is Show name words settings [] found has = no_query Show name words settings found refl has
 with-is Show name words settings (word ∷ more) found has = a_show name word words more settings found has
+with-is Tag name words settings rest found has = tag-is name words settings rest found has
 with-is Dump name words settings rest found has = a_dump name words rest settings found has
+with-is Restore name words settings [] found has = a_restore name words settings found has
+with-is Restore name words settings (word ∷ more) found has = a_word_too_many Restore name word words more settings found refl has
 with-is Session name words settings [] found has = a_session name words settings found has
 with-is Session name words settings (word ∷ more) found has = a_word_too_many Session name word words more settings found refl has
 
@@ -78,12 +131,33 @@ abbrev counted : Settings → List (List ℕ) → (batch : Bool) → Result Requ
 counted settings rest batch =
     cond batch (without_words kinds.Clash (requests.Count (count_ask settings rest)) rest) (Ok (requests.Count (count_ask settings rest)))
 
+abbrev tagged : Settings → List (List ℕ) → (batch : Bool) → Result Request CommandError
+tagged settings rest batch = cond batch (batch_tag settings rest) (single_tag settings (changes_of rest))
+
+-- `tag` without `--batch` is read by its changes
+changes-give : (name : List ℕ) (words rest query : List (List ℕ)) (settings : Settings) (ops : List TagOp) → meaning_of name commands ≡ Some Tag →
+    HasOptions Tag nothing_set words settings rest → settings.batch ≡ false → HasChanges rest ops query → request_of (name ∷ words) ≡ tag_with settings ops query
+changes-give name words rest query settings ops found has single changes =
+    options-give Tag name words rest settings found has ∙ ap (tagged settings rest) single ∙ ap (single_tag settings) (has-asked rest ops query changes)
+
+abbrev when_changed : Settings → List TagOp → List (List ℕ) → (some : Bool) → Result Request CommandError
+when_changed settings ops query some = cond some (with_words (requests.Tag (tag_ask settings ops query)) query) (refused [] kinds.Missing)
+
+either-missing : (settings : Settings) (ops : List TagOp) (some : Bool) → when_changed settings ops [] some ≡ Err (Usage [] kinds.Missing)
+either-missing settings ops true = refl
+either-missing settings ops false = refl
+
 pub request-read : (words : List (List ℕ)) (request : Request) → IsRequest words request → request_of words ≡ Ok request
 request-read words request (a_new name more settings found has) = options-give New name more [] settings found has
 request-read words request (a_search name word more query settings found has) = options-give Search name more (word ∷ query) settings found has
 request-read words request (a_count name more query settings found has single) = options-give Count name more query settings found has ∙ ap (counted settings query) single
 request-read words request (a_batch_count name more settings found has batch) = options-give Count name more [] settings found has ∙ ap (counted settings []) batch
 request-read words request (a_show name word more query settings found has) = options-give Show name more (word ∷ query) settings found has
+request-read words request (a_tag name word more rest query settings ops found has single changes some) =
+    changes-give name more rest (word ∷ query) settings ops found has single changes ∙ ap (when_changed settings ops (word ∷ query)) some
+request-read words request (a_batch_tag name more rest settings found has batch changes) =
+    options-give Tag name more rest settings found has ∙ ap (tagged settings rest) batch ∙ batch-by settings rest [] (has-asked rest [] [] changes)
+request-read words request (a_restore name more settings found has) = options-give Restore name more [] settings found has
 request-read words request (a_dump name more query settings found has) = options-give Dump name more query settings found has
 request-read words request (a_session name more settings found has) = options-give Session name more [] settings found has
 
@@ -92,7 +166,9 @@ wanting New settings h = absurd (cc)
 wanting Search settings h = refl
 wanting Count settings h = absurd (cc)
 wanting Show settings h = refl
+wanting Tag settings h = absurd (cc)
 wanting Dump settings h = absurd (cc)
+wanting Restore settings h = absurd (cc)
 wanting Session settings h = absurd (cc)
 
 too_many : (command : CommandName) (settings : Settings) (word : List ℕ) (more : List (List ℕ)) → takes_words command ≡ false →
@@ -101,7 +177,9 @@ too_many New settings word more h = refl
 too_many Search settings word more h = absurd (cc)
 too_many Count settings word more h = absurd (cc)
 too_many Show settings word more h = absurd (cc)
+too_many Tag settings word more h = absurd (cc)
 too_many Dump settings word more h = absurd (cc)
+too_many Restore settings word more h = refl
 too_many Session settings word more h = refl
 
 pub refused-read : (words : List (List ℕ)) (word : List ℕ) (kind : UsageKind) → IsRefused words word kind → request_of words ≡ Err (Usage word kind)
@@ -114,6 +192,12 @@ refused-read words word kind (a_word_too_many command name _ more others setting
     options-give command name more (word ∷ others) settings found has ∙ too_many command settings word others takes
 refused-read words word kind (a_clash name _ more others settings found batch has) =
     options-give Count name more (word ∷ others) settings found has ∙ ap (counted settings (word ∷ others)) batch
+refused-read words word kind (a_tag_fault name _ more rest settings _ found has fault) =
+    options-give Tag name more rest settings found has ∙ tag-refused settings settings.batch rest word kind fault
+refused-read words word kind (no_change name more rest query settings ops found has single changes none) =
+    changes-give name more rest query settings ops found has single changes ∙ ap (when_changed settings ops query) none
+refused-read words word kind (no_tag_query name more rest settings ops found has single changes) =
+    changes-give name more rest [] settings ops found has single changes ∙ either-missing settings ops (changes_tags settings.clear ops)
 
 -- each answer is one or the other
 either-is : (words : List (List ℕ)) (answer : Result Request CommandError) → IsAnswer words answer →

@@ -11,3 +11,4 @@ mod RepeatLemmas
 mod RowLemmas
 mod SpellingLemmas
 mod TableLemmas
+mod TagLemmas

@@ -9,7 +9,7 @@ use Rattle.nm_text.specs.Cuts.{is_byte}
 use Rattle.nm_command.specs.Options.{begins_with_dashes}
 use Rattle.nm_command.specs.Table.{meaning_of, options_of}
 use Rattle.nm_command.specs.declared.table.CommandName.{CommandName}
-use Rattle.nm_command.specs.declared.table.CommandName.TheVariants.{Count, Dump, New, Search, Session, Show}
+use Rattle.nm_command.specs.declared.table.CommandName.TheVariants.{Count, Dump, New, Restore, Search, Session, Show, Tag}
 use Rattle.nm_command.specs.declared.table.Form.{Form}
 use Rattle.nm_command.proofs.RowLemmas.{AllRows, and-left, and-right, row-holds}
 
@@ -24,13 +24,15 @@ all_names New = tt
 all_names Search = (refl, (refl, (refl, (refl, (refl, (refl, tt))))))
 all_names Count = (refl, (refl, (refl, tt)))
 all_names Show = (refl, (refl, tt))
+all_names Tag = (refl, (refl, tt))
 all_names Dump = (refl, tt)
+all_names Restore = (refl, (refl, tt))
 all_names Session = tt
 
 pub name-found : (command : CommandName) (name : List ℕ) (form : Form) → meaning_of name (options_of command) ≡ Some form → is_name name ≡ true
 name-found command name form is = row-holds (λ name form. is_name name ≡ true) (options_of command) name form (all_names command) is
 
-not-true : (v : Bool) → not v ≡ true → v ≡ false
+pub not-true : (v : Bool) → not v ≡ true → v ≡ false
 not-true true h = sym h
 not-true false h = refl
 

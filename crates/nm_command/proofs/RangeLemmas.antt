@@ -1,21 +1,24 @@
 -- What words ask for can be written out: its numbers fit, and `count` counts what it is asked to.
-use Rattle.std.proofs.Common.{◌≡◌, ℕ, Bool, true, false, cond, ◌&&◌, List, [], ◌∷◌, refl, ap, subst}
+use Rattle.std.proofs.Common.{◌≡◌, ℕ, Bool, true, false, cond, ◌&&◌, List, [], ◌∷◌, refl, ap, subst, ◌∙◌}
 use Rattle.std.specs.Prelude.{Option, Some, None, nat_le}
+use Rattle.std.specs.List.{list_all}
 use Rattle.std.specs.Str.Parse.{digits_value}
+use Rattle.nm_base.specs.Tag.{is_tag}
 use Rattle.nm_base.specs.declared.forms.Output.{Output}
 use Rattle.nm_base.specs.declared.forms.Output.TheVariants as output
-use Rattle.nm_command.specs.Grammar.{HasOptions, IsOption, IsRequest, a_batch_count, a_count, a_dump, a_flag, a_new, a_number, a_search, a_session, a_show, an_option, dashes, no_option, no_words, one_of}
+use Rattle.nm_base.specs.declared.tag_op.TagOp.{TagOp}
+use Rattle.nm_command.specs.Grammar.{HasChanges, HasOptions, IsChange, IsOption, IsRequest, a_batch_count, a_batch_tag, a_count, a_dump, a_flag, a_new, a_number, a_restore, a_search, a_session, a_show, a_tag, an_option, dashes, no_option, no_words, nothing_left, one_change, one_of, query_after_dashes, query_at_once, sets_tag, takes_off}
 use Rattle.nm_command.specs.Numbers.{are_digits, is_number, number_in}
 use Rattle.nm_command.specs.Settings.{nothing_set, or_default, with_setting}
-use Rattle.nm_command.specs.Requests.{query_of}
-use Rattle.nm_command.specs.Spelling.{can_be_asked, fits, is_counted, lacks_query, limit_fits}
+use Rattle.nm_command.specs.Requests.{changes_tags, query_of}
+use Rattle.nm_command.specs.Spelling.{are_changes, can_be_asked, fits, is_counted, lacks_query, limit_fits}
 use Rattle.nm_command.specs.Table.{number_setting, options_of, values_of}
 use Rattle.nm_command.specs.declared.request.Request.{Request}
 use Rattle.nm_command.specs.declared.settings.Setting.{Setting}
 use Rattle.nm_command.specs.declared.settings.Setting.TheVariants as sets
 use Rattle.nm_command.specs.declared.settings.Settings.{Settings}
 use Rattle.nm_command.specs.declared.table.CommandName.{CommandName}
-use Rattle.nm_command.specs.declared.table.CommandName.TheVariants.{Count, Dump, New, Search, Session, Show}
+use Rattle.nm_command.specs.declared.table.CommandName.TheVariants.{Count, Dump, New, Restore, Search, Session, Show, Tag}
 use Rattle.nm_command.specs.declared.table.Form.{Form}
 use Rattle.nm_command.specs.declared.table.Form.TheVariants.{Flag, Number, OneOf}
 use Rattle.nm_command.specs.declared.table.Numbered.{Numbered}
@@ -28,19 +31,24 @@ takes New output = true
 takes Search output = true
 takes Count output = is_counted output
 takes Show output = true
+takes Tag output = true
 takes Dump output = true
+takes Restore output = true
 takes Session output = true
 
 abbrev setting_fits : CommandName → Setting → Bool
 setting_fits command (sets.Json json) = true
 setting_fits command (sets.Raw raw) = true
 setting_fits command (sets.DumpForm form) = true
+setting_fits command (sets.ReadForm form) = true
 setting_fits command (sets.Output output) = takes command output
 setting_fits command (sets.Oldest oldest) = true
 setting_fits command (sets.Offset offset) = fits offset
 setting_fits command (sets.Limit limit) = fits limit
 setting_fits command (sets.Exclude exclude) = true
 setting_fits command sets.Batch = true
+setting_fits command sets.Clear = true
+setting_fits command sets.Accumulate = true
 
 abbrev value_fits : CommandName → List ℕ → Setting → Type 0
 value_fits command word setting = setting_fits command setting ≡ true
@@ -55,7 +63,9 @@ all_fit New = tt
 all_fit Search = ((refl, (refl, tt)), ((refl, (refl, (refl, (refl, (refl, tt))))), ((refl, (refl, tt)), (tt, (tt, ((refl, (refl, tt)), tt))))))
 all_fit Count = ((refl, (refl, (refl, tt))), ((refl, (refl, tt)), (refl, tt)))
 all_fit Show = ((refl, (refl, tt)), ((refl, (refl, tt)), tt))
+all_fit Tag = (refl, (refl, tt))
 all_fit Dump = ((refl, (refl, tt)), tt)
+all_fit Restore = (refl, ((refl, (refl, (refl, tt))), tt))
 all_fit Session = tt
 
 number-fits : (digits : List ℕ) (number : ℕ) → number_in digits ≡ Some number → fits number ≡ true
@@ -95,6 +105,7 @@ one-more-fits : (command : CommandName) (settings : Settings) (setting : Setting
 one-more-fits command settings (sets.Json json) h k = h
 one-more-fits command settings (sets.Raw raw) h k = h
 one-more-fits command settings (sets.DumpForm form) h k = h
+one-more-fits command settings (sets.ReadForm form) h k = h
 one-more-fits command settings (sets.Output output) h k = both (takes command output) (offset_fits settings.offset && limit_fits settings.limit) k (and-right (output_fits command settings.output) (offset_fits settings.offset && limit_fits settings.limit) h)
 one-more-fits command settings (sets.Oldest oldest) h k = h
 one-more-fits command settings (sets.Offset offset) h k =
@@ -107,6 +118,8 @@ one-more-fits command settings (sets.Limit limit) h k =
     (both (offset_fits settings.offset) (fits limit) (and-left (offset_fits settings.offset) (limit_fits settings.limit) numbers) k)
 one-more-fits command settings (sets.Exclude exclude) h k = h
 one-more-fits command settings sets.Batch h k = h
+one-more-fits command settings sets.Clear h k = h
+one-more-fits command settings sets.Accumulate h k = h
 
 options-fit : (command : CommandName) (settings after : Settings) (words rest : List (List ℕ)) → HasOptions command settings words after rest → settings_fit command settings ≡ true →
     settings_fit command after ≡ true
@@ -133,6 +146,18 @@ counted-fits settings query h lacks =
     both (is_counted (or_default settings.output output.Messages)) (lacks_query settings.batch query)
     (output-told settings.output (and-left (output_fits Count settings.output) (offset_fits settings.offset && limit_fits settings.limit) h)) lacks
 
+-- each change that words ask for is of a tag
+change-fits : (word : List ℕ) (op : TagOp) → IsChange word op → is_tag op.tag ≡ true
+change-fits word op (sets_tag tag h) = h
+change-fits word op (takes_off tag h) = h
+
+changes-fit : (words query : List (List ℕ)) (ops : List TagOp) → HasChanges words ops query → list_all (λ op. is_tag op.tag) ops ≡ true
+changes-fit words query ops nothing_left = refl
+changes-fit words query ops (query_after_dashes _) = refl
+changes-fit words query ops (query_at_once word more unsigned) = refl
+changes-fit words query ops (one_change word op more _ others is has) =
+    both (is_tag op.tag) (list_all (λ op. is_tag op.tag) others) (change-fits word op is) (changes-fit more query others has)
+
 pub request-fits : (words : List (List ℕ)) (request : Request) → IsRequest words request → can_be_asked request ≡ true
 request-fits words request (a_new name more settings found has) = refl
 request-fits words request (a_search name word more query settings found has) =
@@ -145,5 +170,10 @@ request-fits words request (a_count name more query settings found has single) =
 request-fits words request (a_batch_count name more settings found has batch) =
     counted-fits settings [] (options-fit Count nothing_set settings more [] has (nothing-fits Count)) (ap (λ batch. lacks_query batch []) batch)
 request-fits words request (a_show name word more query settings found has) = refl
+request-fits words request (a_tag name word more rest query settings ops found has single changes some) =
+    ap (λ batch. are_changes settings.clear batch ops (query_of (word ∷ query))) single
+    ∙ both (changes_tags settings.clear ops) (list_all (λ op. is_tag op.tag) ops) some (changes-fit rest (word ∷ query) ops changes)
+request-fits words request (a_batch_tag name more rest settings found has batch changes) = ap (λ batch. are_changes settings.clear batch [] []) batch
 request-fits words request (a_dump name more query settings found has) = refl
+request-fits words request (a_restore name more settings found has) = refl
 request-fits words request (a_session name more settings found has) = refl

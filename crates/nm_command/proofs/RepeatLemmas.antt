@@ -12,7 +12,7 @@ use Rattle.nm_command.specs.declared.settings.Setting.{Setting}
 use Rattle.nm_command.specs.declared.settings.Setting.TheVariants as sets
 use Rattle.nm_command.specs.declared.settings.Settings.{Settings}
 use Rattle.nm_command.specs.declared.table.CommandName.{CommandName}
-use Rattle.nm_command.specs.declared.table.CommandName.TheVariants.{Count, Dump, New, Search, Session, Show}
+use Rattle.nm_command.specs.declared.table.CommandName.TheVariants.{Count, Dump, New, Restore, Search, Session, Show, Tag}
 use Rattle.nm_command.specs.declared.table.Form.{Form}
 use Rattle.nm_command.specs.declared.table.Form.TheVariants.{Flag, Number, OneOf}
 use Rattle.nm_command.specs.declared.table.Numbered.{Numbered}
@@ -34,11 +34,15 @@ field (sets.Limit limit) = 5
 field (sets.Exclude exclude) = 6
 field sets.Batch = 7
 field (sets.DumpForm form) = 8
+field (sets.ReadForm form) = 9
+field sets.Clear = 10
+field sets.Accumulate = 11
 
 abbrev values_field : Values → ℕ
 values_field values.SearchFormat = 0
 values_field values.ShowFormat = 1
 values_field values.DumpFormat = 8
+values_field values.RestoreFormat = 9
 values_field values.SearchOutput = 2
 values_field values.CountOutput = 2
 values_field values.Sort = 3
@@ -57,6 +61,7 @@ all_fields : (which : Values) → AllRows (λ word setting. field setting ≡ va
 all_fields values.SearchFormat = (refl, (refl, tt))
 all_fields values.ShowFormat = (refl, (refl, tt))
 all_fields values.DumpFormat = (refl, (refl, tt))
+all_fields values.RestoreFormat = (refl, (refl, (refl, tt)))
 all_fields values.SearchOutput = (refl, (refl, (refl, (refl, (refl, tt)))))
 all_fields values.CountOutput = (refl, (refl, (refl, tt)))
 all_fields values.Sort = (refl, (refl, tt))
@@ -99,12 +104,15 @@ given-same : (settings : Settings) (first second : Setting) → field first ≡ 
 given-same settings (sets.Json a) (sets.Json b) h = refl
 given-same settings (sets.Raw a) (sets.Raw b) h = refl
 given-same settings (sets.DumpForm a) (sets.DumpForm b) h = refl
+given-same settings (sets.ReadForm a) (sets.ReadForm b) h = refl
 given-same settings (sets.Output a) (sets.Output b) h = refl
 given-same settings (sets.Oldest a) (sets.Oldest b) h = refl
 given-same settings (sets.Offset a) (sets.Offset b) h = refl
 given-same settings (sets.Limit a) (sets.Limit b) h = refl
 given-same settings (sets.Exclude a) (sets.Exclude b) h = refl
 given-same settings sets.Batch sets.Batch h = refl
+given-same settings sets.Clear sets.Clear h = refl
+given-same settings sets.Accumulate sets.Accumulate h = refl
 given-same settings first second h = absurd (omega (arith, h))
 
 same_form : (first second : Form) → Some first ≡ Some second → first ≡ second
@@ -125,12 +133,15 @@ abbrev setting_name : Setting → List ℕ
 setting_name (sets.Json json) = codes "--format"
 setting_name (sets.Raw raw) = codes "--format"
 setting_name (sets.DumpForm form) = codes "--format"
+setting_name (sets.ReadForm form) = codes "--format"
 setting_name (sets.Output output) = codes "--output"
 setting_name (sets.Oldest oldest) = codes "--sort"
 setting_name (sets.Offset offset) = codes "--offset"
 setting_name (sets.Limit limit) = codes "--limit"
 setting_name (sets.Exclude exclude) = codes "--exclude"
 setting_name sets.Batch = codes "--batch"
+setting_name sets.Clear = codes "--remove-all"
+setting_name sets.Accumulate = codes "--accumulate"
 
 abbrev form_named : List ℕ → Form → Type 0
 form_named name (Flag setting) = name ≡ setting_name setting
@@ -142,7 +153,9 @@ all_named New = tt
 all_named Search = ((refl, (refl, tt)), ((refl, (refl, (refl, (refl, (refl, tt))))), ((refl, (refl, tt)), ((λ number. refl), ((λ number. refl), ((refl, (refl, tt)), tt))))))
 all_named Count = ((refl, (refl, (refl, tt))), ((refl, (refl, tt)), (refl, tt)))
 all_named Show = ((refl, (refl, tt)), ((refl, (refl, tt)), tt))
+all_named Tag = (refl, (refl, tt))
 all_named Dump = ((refl, (refl, tt)), tt)
+all_named Restore = (refl, ((refl, (refl, (refl, tt))), tt))
 all_named Session = tt
 
 option-name : (command : CommandName) (word : List ℕ) (setting : Setting) → IsOption command word setting → name_of word ≡ setting_name setting
@@ -158,12 +171,15 @@ given-other : (settings : Settings) (first second : Setting) → setting_name fi
 given-other settings (sets.Json a) (sets.Json b) h = absurd (h refl)
 given-other settings (sets.Raw a) (sets.Raw b) h = absurd (h refl)
 given-other settings (sets.DumpForm a) (sets.DumpForm b) h = absurd (h refl)
+given-other settings (sets.ReadForm a) (sets.ReadForm b) h = absurd (h refl)
 given-other settings (sets.Output a) (sets.Output b) h = absurd (h refl)
 given-other settings (sets.Oldest a) (sets.Oldest b) h = absurd (h refl)
 given-other settings (sets.Offset a) (sets.Offset b) h = absurd (h refl)
 given-other settings (sets.Limit a) (sets.Limit b) h = absurd (h refl)
 given-other settings (sets.Exclude a) (sets.Exclude b) h = absurd (h refl)
 given-other settings sets.Batch sets.Batch h = absurd (h refl)
+given-other settings sets.Clear sets.Clear h = absurd (h refl)
+given-other settings sets.Accumulate sets.Accumulate h = absurd (h refl)
 given-other settings first second h = refl
 
 pub another-given : (command : CommandName) (settings : Settings) (word other : List ℕ) (first second : Setting) → IsOption command word first → IsOption command other second →
@@ -175,24 +191,30 @@ pub nothing-given : (setting : Setting) → is_given nothing_set setting ≡ fal
 nothing-given (sets.Json json) = refl
 nothing-given (sets.Raw raw) = refl
 nothing-given (sets.DumpForm form) = refl
+nothing-given (sets.ReadForm form) = refl
 nothing-given (sets.Output output) = refl
 nothing-given (sets.Oldest oldest) = refl
 nothing-given (sets.Offset offset) = refl
 nothing-given (sets.Limit limit) = refl
 nothing-given (sets.Exclude exclude) = refl
 nothing-given sets.Batch = refl
+nothing-given sets.Clear = refl
+nothing-given sets.Accumulate = refl
 
 either-order : (settings : Settings) (first second : Setting) → setting_name first ≢ setting_name second →
     with_setting (with_setting settings first) second ≡ with_setting (with_setting settings second) first
 either-order settings (sets.Json a) (sets.Json b) h = absurd (h refl)
 either-order settings (sets.Raw a) (sets.Raw b) h = absurd (h refl)
 either-order settings (sets.DumpForm a) (sets.DumpForm b) h = absurd (h refl)
+either-order settings (sets.ReadForm a) (sets.ReadForm b) h = absurd (h refl)
 either-order settings (sets.Output a) (sets.Output b) h = absurd (h refl)
 either-order settings (sets.Oldest a) (sets.Oldest b) h = absurd (h refl)
 either-order settings (sets.Offset a) (sets.Offset b) h = absurd (h refl)
 either-order settings (sets.Limit a) (sets.Limit b) h = absurd (h refl)
 either-order settings (sets.Exclude a) (sets.Exclude b) h = absurd (h refl)
 either-order settings sets.Batch sets.Batch h = absurd (h refl)
+either-order settings sets.Clear sets.Clear h = absurd (h refl)
+either-order settings sets.Accumulate sets.Accumulate h = absurd (h refl)
 either-order settings first second h = refl
 
 both-on : (command : CommandName) (settings : Settings) (word other : List ℕ) (words : List (List ℕ)) (first second : Setting) → IsOption command word first → IsOption command other second →

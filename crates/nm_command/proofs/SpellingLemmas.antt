@@ -1,25 +1,32 @@
 -- A request whose every option is written out is read back.
-use Rattle.std.proofs.Common.{◌≡◌, ℕ, Bool, true, false, cond, List, [], ◌∷◌, refl}
+use Rattle.std.proofs.Common.{◌≡◌, ℕ, Bool, true, false, cond, List, [], ◌∷◌, ◌++◌, map, refl}
 use Rattle.std.specs.Prelude.{Option, Some, None, codes}
 use Rattle.std.specs.Fmt.{decimal}
+use Rattle.std.specs.List.{list_all}
+use Rattle.nm_base.specs.Tag.{is_tag}
 use Rattle.nm_base.specs.declared.asks.CountAsk.{CountAsk}
 use Rattle.nm_base.specs.declared.asks.DumpAsk.{DumpAsk}
+use Rattle.nm_base.specs.declared.asks.RestoreAsk.{RestoreAsk}
 use Rattle.nm_base.specs.declared.asks.SearchAsk.{SearchAsk}
 use Rattle.nm_base.specs.declared.asks.ShowAsk.{ShowAsk}
 use Rattle.nm_base.specs.declared.forms.DumpForm.{DumpForm}
 use Rattle.nm_base.specs.declared.forms.DumpForm.TheVariants as forms
 use Rattle.nm_base.specs.declared.forms.Output.{Output}
 use Rattle.nm_base.specs.declared.forms.Output.TheVariants as output
-use Rattle.nm_command.specs.Grammar.{HasOptions, IsOption, IsRequest, a_batch_count, a_count, a_dump, a_flag, a_new, a_number, a_search, a_session, a_show, an_option, dashes, no_words, one_of}
+use Rattle.nm_base.specs.declared.forms.ReadForm.{ReadForm}
+use Rattle.nm_base.specs.declared.forms.ReadForm.TheVariants as reads
+use Rattle.nm_base.specs.declared.tag_op.TagOp.{TagOp}
+use Rattle.nm_command.specs.Grammar.{HasChanges, HasOptions, IsChange, IsOption, IsRequest, a_batch_count, a_batch_tag, a_count, a_dump, a_flag, a_new, a_number, a_restore, a_search, a_session, a_show, a_tag, an_option, dashes, no_words, nothing_left, one_change, one_of, query_after_dashes, sets_tag, takes_off}
+use Rattle.nm_command.specs.Requests.{changes_tags}
 use Rattle.nm_command.specs.Settings.{nothing_set}
-use Rattle.nm_command.specs.Spelling.{before_limit, can_be_asked, dump_form_word, exclude_option, fits, is_counted, lacks_query, limit_fits, option, output_word, query_words, spelled}
+use Rattle.nm_command.specs.Spelling.{are_changes, before_flag, before_limit, can_be_asked, dump_form_word, exclude_option, fits, is_counted, lacks_query, limit_fits, op_word, option, output_word, query_words, read_form_word, spelled, tag_words}
 use Rattle.nm_command.specs.Table.{meaning_of, options_of}
 use Rattle.nm_command.specs.declared.request.Request.{Request}
 use Rattle.nm_command.specs.declared.request.Request.TheVariants as requests
 use Rattle.nm_command.specs.declared.settings.Setting.TheVariants as sets
 use Rattle.nm_command.specs.declared.settings.Settings.{Settings}
 use Rattle.nm_command.specs.declared.table.CommandName.{CommandName}
-use Rattle.nm_command.specs.declared.table.CommandName.TheVariants.{Count, Dump, New, Search, Session, Show}
+use Rattle.nm_command.specs.declared.table.CommandName.TheVariants.{Count, Dump, New, Restore, Search, Session, Show, Tag}
 use Rattle.nm_command.specs.declared.table.Form.TheVariants.{OneOf}
 use Rattle.nm_command.specs.declared.table.Numbered.TheVariants as numbers
 use Rattle.nm_command.specs.declared.table.Values.TheVariants as values
@@ -37,6 +44,11 @@ raw-option false = one_of Show (codes "--format") (codes "text") values.ShowForm
 dump_form-option : (form : DumpForm) → IsOption Dump (option (codes "--format") (dump_form_word form)) (sets.DumpForm form)
 dump_form-option forms.BatchTag = one_of Dump (codes "--format") (codes "batch-tag") values.DumpFormat (sets.DumpForm forms.BatchTag) refl refl
 dump_form-option forms.Sup = one_of Dump (codes "--format") (codes "sup") values.DumpFormat (sets.DumpForm forms.Sup) refl refl
+
+read_form-option : (form : ReadForm) → IsOption Restore (option (codes "--format") (read_form_word form)) (sets.ReadForm form)
+read_form-option reads.Auto = one_of Restore (codes "--format") (codes "auto") values.RestoreFormat (sets.ReadForm reads.Auto) refl refl
+read_form-option reads.BatchTag = one_of Restore (codes "--format") (codes "batch-tag") values.RestoreFormat (sets.ReadForm reads.BatchTag) refl refl
+read_form-option reads.Sup = one_of Restore (codes "--format") (codes "sup") values.RestoreFormat (sets.ReadForm reads.Sup) refl refl
 
 output-option : (output : Output) → IsOption Search (option (codes "--output") (output_word output)) (sets.Output output)
 output-option output.Summary = one_of Search (codes "--output") (codes "summary") values.SearchOutput (sets.Output output.Summary) refl refl
@@ -73,12 +85,15 @@ searched ask limit exclude = record {
   json = Some ask.json;
   raw = None;
   dump_form = None;
+  read_form = None;
   output = Some ask.output;
   oldest = Some ask.oldest;
   offset = Some ask.offset;
   limit = limit;
   exclude = exclude;
   batch = false;
+  clear = false;
+  accumulate = false;
 }
 
 limit-has : (ask : SearchAsk) (limit : Option ℕ) → limit_fits limit ≡ true →
@@ -155,11 +170,67 @@ dump-back ask =
     (an_option Dump nothing_set after (sets.DumpForm ask.form) form (query_words false ask.query) rest (dump_form-option ask.form) refl
     (dashes Dump after rest))
 
+op-back : (add : Bool) (tag : List ℕ) → is_tag tag ≡ true → IsChange (cond add 43 45 ∷ tag) (record { add = add; tag = tag })
+op-back true tag h = sets_tag tag h
+op-back false tag h = takes_off tag h
+
+ops-back : (ops : List TagOp) (query : List (List ℕ)) → list_all (λ op. is_tag op.tag) ops ≡ true → HasChanges (map op_word ops ++ codes "--" ∷ query) ops query
+ops-back [] query h = query_after_dashes query
+ops-back (op ∷ ops) query h =
+    one_change (op_word op) op (map op_word ops ++ codes "--" ∷ query) query ops (op-back op.add op.tag (and-left (is_tag op.tag) (list_all (λ op. is_tag op.tag) ops) h))
+    (ops-back ops query (and-right (is_tag op.tag) (list_all (λ op. is_tag op.tag) ops) h))
+
+-- the options of `tag`, in the order in which they are spelled
+abbrev cleared : Bool → Bool → Settings
+cleared clear batch = record nothing_set { clear = clear; batch = batch }
+
+batch-flag : (clear : Bool) → HasOptions Tag (cleared clear false) (codes "--batch" ∷ []) (cleared clear true) []
+batch-flag clear =
+    an_option Tag (cleared clear false) (cleared clear true) sets.Batch (codes "--batch") [] [] (a_flag Tag (codes "--batch") sets.Batch refl) refl (no_words Tag (cleared clear true))
+
+clear-flag : (clear batch : Bool) (words rest : List (List ℕ)) → HasOptions Tag (cleared clear false) words (cleared clear batch) rest →
+    HasOptions Tag nothing_set (before_flag clear (codes "--remove-all") words) (cleared clear batch) rest
+clear-flag true batch words rest has =
+    an_option Tag nothing_set (cleared true batch) sets.Clear (codes "--remove-all") words rest (a_flag Tag (codes "--remove-all") sets.Clear refl) refl has
+clear-flag false batch words rest has = has
+
+tag-back : (clear batch : Bool) (ops : List TagOp) (query : List ℕ) → are_changes clear batch ops query ≡ true →
+    IsRequest (spelled (requests.Tag (record { clear = clear; batch = batch; ops = ops; query = query })))
+    (requests.Tag (record { clear = clear; batch = batch; ops = ops; query = query }))
+tag-back clear true [] [] h =
+    a_batch_tag (codes "tag") (before_flag clear (codes "--remove-all") (tag_words true [] [])) [] (cleared clear true) refl
+    (clear-flag clear true (codes "--batch" ∷ []) [] (batch-flag clear)) refl nothing_left
+tag-back clear true [] (b ∷ query) h = absurd (cc)
+tag-back clear true (op ∷ ops) query h = absurd (cc)
+tag-back clear false ops query h =
+    let rest = map op_word ops ++ codes "--" ∷ query ∷ [] in
+    a_tag (codes "tag") query (before_flag clear (codes "--remove-all") (tag_words false ops query)) rest [] (cleared clear false) ops refl
+    (clear-flag clear false (codes "--" ∷ rest) rest (dashes Tag (cleared clear false) rest)) refl
+    (ops-back ops (query ∷ []) (and-right (changes_tags clear ops) (list_all (λ op. is_tag op.tag) ops) h))
+    (and-left (changes_tags clear ops) (list_all (λ op. is_tag op.tag) ops) h)
+
+accumulate-flag : (form : ReadForm) (accumulate : Bool) → HasOptions Restore (record nothing_set { read_form = Some form }) (before_flag accumulate (codes "--accumulate") [])
+    (record nothing_set { read_form = Some form; accumulate = accumulate }) []
+accumulate-flag form true =
+    an_option Restore (record nothing_set { read_form = Some form }) (record nothing_set { read_form = Some form; accumulate = true }) sets.Accumulate (codes "--accumulate") [] []
+    (a_flag Restore (codes "--accumulate") sets.Accumulate refl) refl (no_words Restore (record nothing_set { read_form = Some form; accumulate = true }))
+accumulate-flag form false = no_words Restore (record nothing_set { read_form = Some form })
+
+restore-back : (ask : RestoreAsk) → IsRequest (spelled (requests.Restore ask)) (requests.Restore ask)
+restore-back ask =
+    let form = option (codes "--format") (read_form_word ask.form) in
+    let words = before_flag ask.accumulate (codes "--accumulate") [] in
+    let after = record nothing_set { read_form = Some ask.form; accumulate = ask.accumulate } in
+    a_restore (codes "restore") (form ∷ words) after refl
+    (an_option Restore nothing_set after (sets.ReadForm ask.form) form words [] (read_form-option ask.form) refl (accumulate-flag ask.form ask.accumulate))
+
 pub spelled-back : (request : Request) → can_be_asked request ≡ true → IsRequest (spelled request) request
 spelled-back requests.New h = a_new (codes "new") [] nothing_set refl (no_words New nothing_set)
 spelled-back (requests.Search ask) h = search-back ask h
 spelled-back (requests.Count ask) h =
     count-back ask (and-left (is_counted ask.output) (lacks_query ask.batch ask.query) h) ask.batch ask.query (and-right (is_counted ask.output) (lacks_query ask.batch ask.query) h)
 spelled-back (requests.Show ask) h = show-back ask
+spelled-back (requests.Tag ask) h = tag-back ask.clear ask.batch ask.ops ask.query h
 spelled-back (requests.Dump ask) h = dump-back ask
+spelled-back (requests.Restore ask) h = restore-back ask
 spelled-back requests.Session h = a_session (codes "session") [] nothing_set refl (no_words Session nothing_set)

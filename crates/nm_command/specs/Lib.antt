@@ -6,3 +6,4 @@ pub mod Requests
 pub mod Settings
 pub mod Spelling
 pub mod Table
+pub mod TagWords

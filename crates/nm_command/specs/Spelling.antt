@@ -1,10 +1,16 @@
 -- Requests and leading options in words again, with every option written out.
 use Rattle.std.specs.Prelude.{ℕ, ℤ, pos, negsuc, Bool, true, false, ◌&&◌, nat_eq, nat_le, nat_lt, List, [], ◌∷◌, ◌++◌, length, map, Option, Some, None, codes, if◌then◌else◌}
 use Rattle.std.specs.Fmt.{decimal}
+use Rattle.std.specs.List.{list_all}
+use Rattle.nm_base.specs.Tag.{is_tag}
 use Rattle.nm_base.specs.declared.forms.DumpForm.{DumpForm}
 use Rattle.nm_base.specs.declared.forms.DumpForm.TheVariants.{BatchTag, Sup}
 use Rattle.nm_base.specs.declared.forms.Output.{Output}
 use Rattle.nm_base.specs.declared.forms.Output.TheVariants as output
+use Rattle.nm_base.specs.declared.forms.ReadForm.{ReadForm}
+use Rattle.nm_base.specs.declared.forms.ReadForm.TheVariants as reads
+use Rattle.nm_base.specs.declared.tag_op.TagOp.{TagOp}
+use Rattle.nm_command.specs.Requests.{changes_tags}
 use Rattle.nm_command.specs.declared.leading.Leading.{Leading}
 use Rattle.nm_command.specs.declared.request.Request.{Request}
 use Rattle.nm_command.specs.declared.request.Request.TheVariants as requests
@@ -26,6 +32,12 @@ abbrev pub dump_form_word : DumpForm → List ℕ
 dump_form_word BatchTag = codes "batch-tag"
 dump_form_word Sup = codes "sup"
 
+-- the word of the form in which a dump is read
+abbrev pub read_form_word : ReadForm → List ℕ
+read_form_word reads.Auto = codes "auto"
+read_form_word reads.BatchTag = codes "batch-tag"
+read_form_word reads.Sup = codes "sup"
+
 -- whether excluded messages are left out
 abbrev pub exclude_option : Bool → List ℕ
 exclude_option exclude = option (codes "--exclude") (if exclude then codes "true" else codes "false")
@@ -39,6 +51,20 @@ before_limit (Some limit) words = option (codes "--limit") (decimal limit) ∷ w
 abbrev pub query_words : Bool → List ℕ → List (List ℕ)
 query_words true query = codes "--batch" ∷ []
 query_words false query = codes "--" ∷ query ∷ []
+
+-- a flag stands before other words where it is set
+abbrev pub before_flag : Bool → List ℕ → List (List ℕ) → List (List ℕ)
+before_flag true name words = name ∷ words
+before_flag false name words = words
+
+-- the word of a change of tags
+abbrev pub op_word : TagOp → List ℕ
+op_word op = (if op.add then 43 else 45) ∷ op.tag
+
+-- the changes and the query of `tag`, and none where they come from the input
+abbrev pub tag_words : Bool → List TagOp → List ℕ → List (List ℕ)
+tag_words true ops query = codes "--batch" ∷ []
+tag_words false ops query = codes "--" ∷ (map op_word ops ++ codes "--" ∷ query ∷ [])
 
 -- the words of a request
 abbrev pub spelled : Request → List (List ℕ)
@@ -54,7 +80,9 @@ spelled (requests.Count ask) =
     codes "count" ∷ option (codes "--output") (output_word ask.output) ∷ exclude_option ask.exclude ∷ query_words ask.batch ask.query
 spelled (requests.Show ask) =
     codes "show" ∷ option (codes "--format") (if ask.raw then codes "raw" else codes "text") ∷ exclude_option ask.exclude ∷ query_words false ask.query
+spelled (requests.Tag ask) = codes "tag" ∷ before_flag ask.clear (codes "--remove-all") (tag_words ask.batch ask.ops ask.query)
 spelled (requests.Dump ask) = codes "dump" ∷ option (codes "--format") (dump_form_word ask.form) ∷ query_words false ask.query
+spelled (requests.Restore ask) = codes "restore" ∷ option (codes "--format") (read_form_word ask.form) ∷ before_flag ask.accumulate (codes "--accumulate") []
 spelled requests.Session = codes "session" ∷ []
 
 -- a number fits 32 bits
@@ -80,13 +108,21 @@ lacks_query true [] = true
 lacks_query true (b ∷ query) = false
 lacks_query false query = true
 
+-- each change is of a tag, and there is one or all tags are taken off; changes and a query that come from the input are not asked
+abbrev pub are_changes : Bool → Bool → List TagOp → List ℕ → Bool
+are_changes clear true [] query = lacks_query true query
+are_changes clear true (op ∷ ops) query = false
+are_changes clear false ops query = changes_tags clear ops && list_all (λ op. is_tag op.tag) ops
+
 -- words can ask for this
 abbrev pub can_be_asked : Request → Bool
 can_be_asked requests.New = true
 can_be_asked (requests.Search ask) = fits ask.offset && limit_fits ask.limit
 can_be_asked (requests.Count ask) = is_counted ask.output && lacks_query ask.batch ask.query
 can_be_asked (requests.Show ask) = true
+can_be_asked (requests.Tag ask) = are_changes ask.clear ask.batch ask.ops ask.query
 can_be_asked (requests.Dump ask) = true
+can_be_asked (requests.Restore ask) = true
 can_be_asked requests.Session = true
 
 -- leading options in words

@@ -5,11 +5,12 @@ use Rattle.std.specs.Option.{option_map}
 use Rattle.nm_base.specs.Order.{same_text}
 use Rattle.nm_base.specs.declared.forms.DumpForm.TheVariants.{BatchTag, Sup}
 use Rattle.nm_base.specs.declared.forms.Output.TheVariants as output
+use Rattle.nm_base.specs.declared.forms.ReadForm.TheVariants as reads
 use Rattle.nm_command.specs.Numbers.{number_in}
 use Rattle.nm_command.specs.declared.settings.Setting.{Setting}
-use Rattle.nm_command.specs.declared.settings.Setting.TheVariants.{Batch, DumpForm, Exclude, Json, Limit, Offset, Oldest, Output, Raw}
+use Rattle.nm_command.specs.declared.settings.Setting.TheVariants.{Accumulate, Batch, Clear, DumpForm, Exclude, Json, Limit, Offset, Oldest, Output, Raw, ReadForm}
 use Rattle.nm_command.specs.declared.table.CommandName.{CommandName}
-use Rattle.nm_command.specs.declared.table.CommandName.TheVariants.{Count, Dump, New, Search, Session, Show}
+use Rattle.nm_command.specs.declared.table.CommandName.TheVariants.{Count, Dump, New, Restore, Search, Session, Show, Tag}
 use Rattle.nm_command.specs.declared.table.Form.{Form}
 use Rattle.nm_command.specs.declared.table.Form.TheVariants.{Flag, Number, OneOf}
 use Rattle.nm_command.specs.declared.table.LeadingForm.{LeadingForm}
@@ -34,7 +35,16 @@ leading_options =
 
 -- the commands
 abbrev pub commands : List (List ℕ × CommandName)
-commands = (codes "new", New) ∷ (codes "search", Search) ∷ (codes "count", Count) ∷ (codes "show", Show) ∷ (codes "dump", Dump) ∷ (codes "session", Session) ∷ []
+commands =
+    (codes "new", New)
+    ∷ (codes "search", Search)
+    ∷ (codes "count", Count)
+    ∷ (codes "show", Show)
+    ∷ (codes "tag", Tag)
+    ∷ (codes "dump", Dump)
+    ∷ (codes "restore", Restore)
+    ∷ (codes "session", Session)
+    ∷ []
 
 -- the options of a command, with what the value of each may be
 abbrev pub options_of : CommandName → List (List ℕ × Form)
@@ -56,7 +66,15 @@ options_of Show =
     (codes "--format", OneOf values.ShowFormat)
     ∷ (codes "--exclude", OneOf values.Exclude)
     ∷ []
+options_of Tag =
+    (codes "--remove-all", Flag Clear)
+    ∷ (codes "--batch", Flag Batch)
+    ∷ []
 options_of Dump = (codes "--format", OneOf values.DumpFormat) ∷ []
+options_of Restore =
+    (codes "--accumulate", Flag Accumulate)
+    ∷ (codes "--format", OneOf values.RestoreFormat)
+    ∷ []
 options_of Session = []
 
 -- the words that a value may be, with what each sets; the first is the default
@@ -64,6 +82,7 @@ abbrev pub values_of : Values → List (List ℕ × Setting)
 values_of values.SearchFormat = (codes "text", Json false) ∷ (codes "json", Json true) ∷ []
 values_of values.ShowFormat = (codes "text", Raw false) ∷ (codes "raw", Raw true) ∷ []
 values_of values.DumpFormat = (codes "batch-tag", DumpForm BatchTag) ∷ (codes "sup", DumpForm Sup) ∷ []
+values_of values.RestoreFormat = (codes "auto", ReadForm reads.Auto) ∷ (codes "batch-tag", ReadForm reads.BatchTag) ∷ (codes "sup", ReadForm reads.Sup) ∷ []
 values_of values.SearchOutput =
     (codes "summary", Output output.Summary)
     ∷ (codes "threads", Output output.Threads)

@@ -10,6 +10,7 @@ mod reading;
 mod request;
 mod settings;
 mod table;
+mod tag_words;
 
 pub use command_error::CommandError;
 pub use laws::{

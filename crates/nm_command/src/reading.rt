@@ -1,15 +1,20 @@
 //! The call `command`: words to what they ask for, or to the one refusal.
 
-ghost use Rattle.std.specs.Prelude.{◌≡◌, ◌⊎◌, [], ◌∷◌, ◌++◌, IfOk, MatchResult, Ok, Err, nat_lt, string_bytes, if◌then◌else◌};
-ghost use Rattle.nm_command.specs.Requests.{after_options, query_of, refused, request_of, request_with, without_words};
+ghost use Rattle.std.specs.Prelude.{◌≡◌, ◌⊎◌, [], ◌∷◌, ◌++◌, IfOk, MatchResult, Ok, Err, nat_lt, true, string_bytes, if◌then◌else◌};
+ghost use Rattle.nm_command.specs.Requests.{after_options, batch_fault, batch_tag, query_of, refused, request_of, request_with, single_tag, tag_ask, tag_with, without_words};
 ghost use Rattle.nm_command.specs.Options.{read_options};
 ghost use Rattle.nm_command.specs.Settings.{nothing_set};
+ghost use Rattle.nm_command.specs.TagWords.{changes_of, is_tag_word, op_of};
 
 use crate::options::read_options;
 use crate::settings::{Settings, excludes};
 use crate::table::{CommandName, command_named};
+use crate::tag_words::{changes_of, is_tag_word, op_of, query_words};
 use crate::{CommandError, Request};
-use nm_base::{CountAsk, DumpAsk, DumpForm, NoMemory, Output, SearchAsk, ShowAsk, Text, UsageKind};
+use nm_base::{
+    CountAsk, DumpAsk, DumpForm, Many, NoMemory, Output, ReadForm, RestoreAsk, SearchAsk, ShowAsk,
+    TagAsk, TagOp, Text, UsageKind,
+};
 use std::alloc::Global;
 
 /// Reads the words of a command line: the command, its options from left to right, then the other words. Of several
@@ -62,7 +67,9 @@ fn request(
         CommandName::Search => search(alloc, settings, words),
         CommandName::Count => count(alloc, settings, words),
         CommandName::Show => show(alloc, settings, words),
+        CommandName::Tag => tag(alloc, settings, words),
         CommandName::Dump => dump(alloc, settings, words),
+        CommandName::Restore => restore(alloc, settings, words),
         CommandName::Session => without_words(alloc, UsageKind::Extra, Request::Session, words),
     }
 }
@@ -87,7 +94,7 @@ fn search(alloc: Global, settings: Settings, words: &[Text]) -> Result<Request, 
         (λ error. (error ≡ CommandError.NoMemory) ⊎ (request_with CommandName.Search settings words.now ≡ Err error)) }
 {
     if words.is_empty() {
-        return without_query(alloc);
+        return refuse_missing(alloc);
     }
     let Ok(query) = query(alloc, words) else {
         return Err(CommandError::NoMemory);
@@ -103,8 +110,8 @@ fn search(alloc: Global, settings: Settings, words: &[Text]) -> Result<Request, 
     }))
 }
 
-/// A query is wanting.
-fn without_query(alloc: Global) -> Result<Request, CommandError>
+/// A query is wanting, or a tag word.
+fn refuse_missing(alloc: Global) -> Result<Request, CommandError>
     ensures { MatchResult result (λ request. refused [] UsageKind.Missing ≡ Ok request)
         (λ error. (error ≡ CommandError.NoMemory) ⊎ (refused [] UsageKind.Missing ≡ Err error)) }
 {
@@ -135,7 +142,7 @@ fn show(alloc: Global, settings: Settings, words: &[Text]) -> Result<Request, Co
         (λ error. (error ≡ CommandError.NoMemory) ⊎ (request_with CommandName.Show settings words.now ≡ Err error)) }
 {
     if words.is_empty() {
-        return without_query(alloc);
+        return refuse_missing(alloc);
     }
     let Ok(query) = query(alloc, words) else {
         return Err(CommandError::NoMemory);
@@ -158,6 +165,103 @@ fn dump(alloc: Global, settings: Settings, words: &[Text]) -> Result<Request, Co
         form: settings.dump_form.unwrap_or(DumpForm::BatchTag),
         query,
     }))
+}
+
+fn restore(alloc: Global, settings: Settings, words: &[Text]) -> Result<Request, CommandError>
+    ensures { MatchResult result (λ request. request_with CommandName.Restore settings words.now ≡ Ok request)
+        (λ error. (error ≡ CommandError.NoMemory) ⊎ (request_with CommandName.Restore settings words.now ≡ Err error)) }
+{
+    let request = Request::Restore(RestoreAsk {
+        form: settings.read_form.unwrap_or(ReadForm::Auto),
+        accumulate: settings.accumulate,
+    });
+    without_words(alloc, UsageKind::Extra, request, words)
+}
+
+fn tag(alloc: Global, settings: Settings, words: &[Text]) -> Result<Request, CommandError>
+    ensures { MatchResult result (λ request. request_with CommandName.Tag settings words.now ≡ Ok request)
+        (λ error. (error ≡ CommandError.NoMemory) ⊎ (request_with CommandName.Tag settings words.now ≡ Err error)) }
+{
+    if settings.batch {
+        return batch_tag(alloc, settings, words);
+    }
+    single_tag(alloc, settings, words)
+}
+
+fn single_tag(alloc: Global, settings: Settings, words: &[Text]) -> Result<Request, CommandError>
+    ensures { MatchResult result (λ request. single_tag settings (changes_of words.now) ≡ Ok request)
+        (λ error. (error ≡ CommandError.NoMemory) ⊎ (single_tag settings (changes_of words.now) ≡ Err error)) }
+{
+    match changes_of(alloc, words) {
+        Ok(Ok((ops, words))) => tag_with(alloc, settings, ops, words),
+        Ok(Err(word)) => refuse(alloc, word, UsageKind::Tag),
+        Err(_) => Err(CommandError::NoMemory),
+    }
+}
+
+fn tag_with(
+    alloc: Global,
+    settings: Settings,
+    ops: Many<TagOp>,
+    words: &[Text],
+) -> Result<Request, CommandError>
+    ensures { MatchResult result (λ request. tag_with settings ops words.now ≡ Ok request)
+        (λ error. (error ≡ CommandError.NoMemory) ⊎ (tag_with settings ops words.now ≡ Err error)) }
+{
+    if ops.is_empty() && !settings.clear {
+        return refuse_missing(alloc);
+    }
+    if words.is_empty() {
+        return refuse_missing(alloc);
+    }
+    let Ok(query) = query(alloc, words) else {
+        return Err(CommandError::NoMemory);
+    };
+    Ok(Request::Tag(TagAsk {
+        clear: settings.clear,
+        batch: settings.batch,
+        ops,
+        query,
+    }))
+}
+
+/// The changes and the queries come from the input, so the first word is at fault.
+fn batch_tag(alloc: Global, settings: Settings, words: &[Text]) -> Result<Request, CommandError>
+    ensures { MatchResult result (λ request. batch_tag settings words.now ≡ Ok request)
+        (λ error. (error ≡ CommandError.NoMemory) ⊎ (batch_tag settings words.now ≡ Err error)) }
+{
+    match words {
+        [word, ..] if is_tag_word(word.as_str()) => batch_fault(alloc, word.as_str()),
+        _ => batch_words(alloc, settings, query_words(words)),
+    }
+}
+
+fn batch_fault(alloc: Global, word: &str) -> Result<Request, CommandError>
+    requires { is_tag_word word.now ≡ true }
+    ensures { MatchResult result (λ request. refused word.now (batch_fault (op_of word.now)) ≡ Ok request)
+        (λ error. (error ≡ CommandError.NoMemory) ⊎ (refused word.now (batch_fault (op_of word.now)) ≡ Err error)) }
+{
+    match op_of(alloc, word) {
+        Ok(Some(_)) => refuse(alloc, word, UsageKind::Clash),
+        Ok(None) => refuse(alloc, word, UsageKind::Tag),
+        Err(_) => Err(CommandError::NoMemory),
+    }
+}
+
+fn batch_words(alloc: Global, settings: Settings, words: &[Text]) -> Result<Request, CommandError>
+    ensures { MatchResult result (λ request. without_words UsageKind.Clash (Request.Tag (tag_ask settings [] [])) words.now ≡ Ok request)
+        (λ error. (error ≡ CommandError.NoMemory) ⊎ (without_words UsageKind.Clash (Request.Tag (tag_ask settings [] [])) words.now ≡ Err error)) }
+{
+    let Ok(query) = Text::of(alloc, "") else {
+        return Err(CommandError::NoMemory);
+    };
+    let request = Request::Tag(TagAsk {
+        clear: settings.clear,
+        batch: settings.batch,
+        ops: Many::new(alloc),
+        query,
+    });
+    without_words(alloc, UsageKind::Clash, request, words)
 }
 
 /// The words of a query, with a space between each two.

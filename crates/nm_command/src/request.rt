@@ -1,6 +1,6 @@
 //! What the words of a command ask for.
 
-use nm_base::{Copies, CountAsk, DumpAsk, NoMemory, SearchAsk, ShowAsk};
+use nm_base::{Copies, CountAsk, DumpAsk, NoMemory, RestoreAsk, SearchAsk, ShowAsk, TagAsk};
 
 /// What a command asks for.
 #[derive(Debug, Drop, PartialEq, Eq)]
@@ -9,7 +9,9 @@ pub enum Request {
     Search(SearchAsk),
     Count(CountAsk),
     Show(ShowAsk),
+    Tag(TagAsk),
     Dump(DumpAsk),
+    Restore(RestoreAsk),
     Session,
 }
 
@@ -29,9 +31,17 @@ impl Copies for Request {
                 let ask = ask.copy()?;
                 Ok(Request::Show(ask))
             }
+            Request::Tag(ask) => {
+                let ask = ask.copy()?;
+                Ok(Request::Tag(ask))
+            }
             Request::Dump(ask) => {
                 let ask = ask.copy()?;
                 Ok(Request::Dump(ask))
+            }
+            Request::Restore(ask) => {
+                let ask = ask.copy()?;
+                Ok(Request::Restore(ask))
             }
             Request::Session => Ok(Request::Session),
         }

@@ -5,7 +5,7 @@ ghost use Rattle.nm_command.specs.Table.{commands, flag_setting, leading_options
 
 use crate::number::number;
 use crate::settings::Setting;
-use nm_base::{DumpForm, Output};
+use nm_base::{DumpForm, Output, ReadForm};
 
 /// The commands that there are.
 #[derive(Clone, Copy, Debug, PartialEq, Eq)]
@@ -14,7 +14,9 @@ pub enum CommandName {
     Search,
     Count,
     Show,
+    Tag,
     Dump,
+    Restore,
     Session,
 }
 
@@ -34,6 +36,7 @@ pub(crate) enum Values {
     SearchFormat,
     ShowFormat,
     DumpFormat,
+    RestoreFormat,
     SearchOutput,
     CountOutput,
     Sort,
@@ -71,7 +74,9 @@ const COMMANDS: &[Row<CommandName>] = &[
     ("search", CommandName::Search),
     ("count", CommandName::Count),
     ("show", CommandName::Show),
+    ("tag", CommandName::Tag),
     ("dump", CommandName::Dump),
+    ("restore", CommandName::Restore),
     ("session", CommandName::Session),
 ];
 
@@ -95,7 +100,17 @@ const SHOW_OPTIONS: &[Row<Form>] = &[
     ("--exclude", Form::OneOf(Values::Exclude)),
 ];
 
+const TAG_OPTIONS: &[Row<Form>] = &[
+    ("--remove-all", Form::Flag(Setting::Clear)),
+    ("--batch", Form::Flag(Setting::Batch)),
+];
+
 const DUMP_OPTIONS: &[Row<Form>] = &[("--format", Form::OneOf(Values::DumpFormat))];
+
+const RESTORE_OPTIONS: &[Row<Form>] = &[
+    ("--accumulate", Form::Flag(Setting::Accumulate)),
+    ("--format", Form::OneOf(Values::RestoreFormat)),
+];
 
 const SEARCH_FORMATS: &[Row<Setting>] = &[
     ("text", Setting::Json(false)),
@@ -107,6 +122,12 @@ const SHOW_FORMATS: &[Row<Setting>] = &[("text", Setting::Raw(false)), ("raw", S
 const DUMP_FORMATS: &[Row<Setting>] = &[
     ("batch-tag", Setting::DumpForm(DumpForm::BatchTag)),
     ("sup", Setting::DumpForm(DumpForm::Sup)),
+];
+
+const RESTORE_FORMATS: &[Row<Setting>] = &[
+    ("auto", Setting::ReadForm(ReadForm::Auto)),
+    ("batch-tag", Setting::ReadForm(ReadForm::BatchTag)),
+    ("sup", Setting::ReadForm(ReadForm::Sup)),
 ];
 
 const SEARCH_OUTPUTS: &[Row<Setting>] = &[
@@ -219,7 +240,9 @@ fn options(command: CommandName) -> &'static [Row<Form>]
         CommandName::Search => SEARCH_OPTIONS,
         CommandName::Count => COUNT_OPTIONS,
         CommandName::Show => SHOW_OPTIONS,
+        CommandName::Tag => TAG_OPTIONS,
         CommandName::Dump => DUMP_OPTIONS,
+        CommandName::Restore => RESTORE_OPTIONS,
     }
 }
 
@@ -230,6 +253,7 @@ fn values_of(which: Values) -> &'static [Row<Setting>]
         Values::SearchFormat => SEARCH_FORMATS,
         Values::ShowFormat => SHOW_FORMATS,
         Values::DumpFormat => DUMP_FORMATS,
+        Values::RestoreFormat => RESTORE_FORMATS,
         Values::SearchOutput => SEARCH_OUTPUTS,
         Values::CountOutput => COUNT_OUTPUTS,
         Values::Sort => SORTS,

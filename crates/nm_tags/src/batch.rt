@@ -24,7 +24,7 @@ pub fn batch_lines(alloc: Global, bytes: &[u8], clear: bool) -> Result<Many<TagL
     'lines: while let Some((line, more)) = next_content(rest) {
         number += 1;
         rest = more;
-        match judge(alloc, line, clear)? {
+        match judged(alloc, line, clear)? {
             Ok(None) => {}
             Ok(Some((ops, query))) => read.push(TagLine {
                 line: number,
@@ -53,8 +53,8 @@ fn next_content(bytes: &[u8]) -> Option<(&[u8], &[u8])>
     }
 }
 
-/// What the line asks for, nothing where it is passed over, or its fault.
-fn judge(
+/// What one line asks for, without its end: nothing where it is passed over, or its fault.
+pub fn judged(
     alloc: Global,
     line: &[u8],
     clear: bool,

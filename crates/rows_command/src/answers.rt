@@ -1,7 +1,8 @@
 //! What comes of a row: what the words of a command ask for or the options before it say, or how they are refused.
 
 use nm_base::{
-    Copies, CountAsk, DumpAsk, DumpForm, Many, Output, SearchAsk, ShowAsk, Text, UsageKind,
+    Copies, CountAsk, DumpAsk, DumpForm, Many, Output, ReadForm, RestoreAsk, SearchAsk, ShowAsk,
+    TagAsk, TagOp, Text, UsageKind,
 };
 use nm_command::{CommandError, HeadError, Leading, Request, command, head};
 use rows::{Lines, Program, Row, RowError, text_of};
@@ -131,6 +132,7 @@ fn kind_name(kind: UsageKind) -> &'static [u8] {
         UsageKind::Repeat => b"REPEAT",
         UsageKind::Missing => b"MISSING",
         UsageKind::Extra => b"EXTRA",
+        UsageKind::Tag => b"TAG",
         UsageKind::Clash => b"CLASH",
         _ => b"ANOTHER KIND",
     }
@@ -142,7 +144,9 @@ fn push_request(alloc: Global, lines: &mut Lines, request: &Request) -> Result<(
         Request::Search(ask) => push_search(alloc, lines, ask),
         Request::Count(ask) => push_count(lines, ask),
         Request::Show(ask) => push_show(lines, ask),
+        Request::Tag(ask) => push_tag(lines, ask),
         Request::Dump(ask) => push_dump(lines, ask),
+        Request::Restore(ask) => push_restore(lines, ask),
         Request::Session => Ok(lines.push(b"session")?),
     }
 }
@@ -186,6 +190,29 @@ fn push_show(lines: &mut Lines, ask: &ShowAsk) -> Result<(), RowError> {
     push_query(lines, ask.exclude, &ask.query)
 }
 
+/// `tag, remove all, batch +TAG -TAG: QUERY`
+fn push_tag(lines: &mut Lines, ask: &TagAsk) -> Result<(), RowError> {
+    lines.push(b"tag")?;
+    if ask.clear {
+        lines.push(b", remove all")?;
+    }
+    if ask.batch {
+        lines.push(b", batch")?;
+    }
+    'ops: for op in ask.ops.as_slice() {
+        push_op(lines, op)?;
+    }
+    lines.push(b":")?;
+    lines.push_after_blank(ask.query.as_bytes())?;
+    Ok(())
+}
+
+fn push_op(lines: &mut Lines, op: &TagOp) -> Result<(), RowError> {
+    lines.push(if op.add { b" +".as_slice() } else { b" -" })?;
+    lines.push(op.tag.text().as_bytes())?;
+    Ok(())
+}
+
 /// `dump FORMAT: QUERY`
 fn push_dump(lines: &mut Lines, ask: &DumpAsk) -> Result<(), RowError> {
     lines.push(match ask.form {
@@ -193,6 +220,19 @@ fn push_dump(lines: &mut Lines, ask: &DumpAsk) -> Result<(), RowError> {
         DumpForm::Sup => b"dump sup:",
     })?;
     lines.push_after_blank(ask.query.as_bytes())?;
+    Ok(())
+}
+
+/// `restore FORMAT, accumulate`
+fn push_restore(lines: &mut Lines, ask: &RestoreAsk) -> Result<(), RowError> {
+    lines.push(match ask.form {
+        ReadForm::Auto => b"restore auto".as_slice(),
+        ReadForm::BatchTag => b"restore batch-tag",
+        ReadForm::Sup => b"restore sup",
+    })?;
+    if ask.accumulate {
+        lines.push(b", accumulate")?;
+    }
     Ok(())
 }
 
