@@ -1,3 +1,4 @@
+mod AskingLemmas
 mod ExclusionLemmas
 mod FileLemmas
 mod FoundLemmas

@@ -1,6 +1,7 @@
-//! Searching: which messages of a snapshot a query finds, tested message by message.
+//! Searching: which messages of a snapshot a query finds, tested message by message, or that of an id alone where one is asked for.
 #![tactic(auto)]
 
+mod asking;
 mod exclusion;
 mod matching;
 mod message;

@@ -1,16 +1,21 @@
 //! The call `matches`: the messages of a snapshot that a query finds.
 
-ghost use Rattle.std.specs.Prelude.{◌≡◌, ◌∷◌, ◌++◌, [], IfOk, OnOk};
+ghost use Rattle.std.specs.Prelude.{◌≡◌, ◌∷◌, ◌++◌, ◌&&◌, [], if◌then◌else◌, IfOk, OnOk};
 ghost use Rattle.nm_dates.specs.Seconds.{IsMoment};
+ghost use Rattle.nm_commit.specs.Files.{has_id};
 ghost use Rattle.nm_answer.specs.Matches.{is_match, matches_of};
+ghost use Rattle.nm_answer.specs.View.{view_of};
+ghost use Rattle.nm_eval.specs.Asking.{AsksFor};
 ghost use Rattle.nm_eval.specs.Excluding.{exclusion_of};
 
+use crate::asking::asked_id;
 use crate::exclusion::{Exclusion, find_exclusion, leaves_out};
 use crate::message::Message;
 use crate::testing::passes;
+use nm_answer::the_matches_are_the_live_messages_that_pass;
 use nm_base::{Copies, Many, MessageId, NoMemory, Steps};
 use nm_query::Query;
-use nm_state::Snapshot;
+use nm_state::{Snapshot, a_snapshot_is_a_valid_index};
 use std::alloc::Global;
 use std::sync::ledger::Ledger;
 
@@ -27,7 +32,59 @@ pub fn matches<L: Ledger>(
     requires { IsMoment moment }
     ensures { IfOk result (λ ids. ids ≡ matches_of snapshot.now query.now moment exclude) }
 {
-    all_matches(alloc, snapshot, query, moment, exclude)
+    match asked_id(query)? {
+        Some(id) => match_of_id(alloc, snapshot, id, query, moment, exclude),
+        None => all_matches(alloc, snapshot, query, moment, exclude),
+    }
+}
+
+/// The message of this id where it is a match: no other can be one.
+fn match_of_id(
+    alloc: Global,
+    snapshot: &Snapshot,
+    id: MessageId,
+    query: &Query,
+    moment: i64,
+    exclude: bool,
+) -> Result<Many<MessageId>, NoMemory>
+    requires moment { IsMoment moment }
+    requires asked { AsksFor query.now id }
+    ensures { IfOk result (λ ids. ids ≡ matches_of snapshot.now query.now moment exclude) }
+{
+    let mut found = Many::new(alloc);
+    if is_found(snapshot, &id, query, moment, exclude) {
+        found.push(id)?;
+    }
+    Ok(found)
+}
+
+/// Says whether the query finds the message of this id, and so it alone; else it finds none.
+fn is_found(snapshot: &Snapshot, id: &MessageId, query: &Query, moment: i64, exclude: bool) -> bool
+    requires moment { IsMoment moment }
+    requires asked { AsksFor query.now id.now }
+    ensures { (if result then id.now ∷ [] else []) ≡ matches_of snapshot.now query.now moment exclude }
+{
+    a_snapshot_is_a_valid_index(snapshot);
+    the_matches_are_the_live_messages_that_pass();
+    is_live_match(snapshot, id, query, moment, exclude)
+}
+
+fn is_live_match(
+    snapshot: &Snapshot,
+    id: &MessageId,
+    query: &Query,
+    moment: i64,
+    exclude: bool,
+) -> bool
+    requires { IsMoment moment }
+    ensures { result ≡ (has_id snapshot.now.files id.now && is_match query.now moment exclude (view_of snapshot.now id.now)) }
+{
+    if !snapshot.is_live(id) {
+        return false;
+    }
+    let excluding = find_exclusion(query, exclude);
+    let message = Message::of(snapshot, id);
+    is_match(query, moment, exclude, excluding, &message)
 }
 
 fn all_matches(

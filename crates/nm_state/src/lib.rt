@@ -28,4 +28,4 @@ mod tagging;
 pub use live_ids::LiveIds;
 pub use reading::{Files, MessageFiles, Paths};
 pub use room::RoomError;
-pub use snapshot::Snapshot;
+pub use snapshot::{Snapshot, a_snapshot_is_a_valid_index};

@@ -19,7 +19,7 @@ ghost use Rattle.nm_state.specs.Snapshot.{retagged};
 
 use crate::applying::{apply_changes, retag};
 use crate::exporting::base_of;
-use crate::filing::{files_of, has_file, paths_of};
+use crate::filing::{files_of, has_file, is_live, paths_of};
 use crate::fitting::changes_fit;
 use crate::live_ids::LiveIds;
 use crate::numbers::has_ids;
@@ -104,17 +104,14 @@ impl Snapshot {
     }
 
     /// The snapshot in which these messages, which have files, have these tags and no others; its revision is that of this
-    /// one.
-    pub fn with_tags(&self, sets: &Many<(MessageId, Tags)>) -> Result<Snapshot, NoMemory>
-        requires live { AllByRecursion (λ set. IsTrue (has_id self.now.files set.0)) sets.now }
-        ensures { IfOk result (λ new. new ≡ retagged self.now sets.now) }
+    /// one, which it takes the place of.
+    pub fn with_tags(self, sets: &Many<(MessageId, Tags)>) -> Result<Snapshot, NoMemory>
+        requires live { AllByRecursion (λ set. IsTrue (has_id self.files set.0)) sets.now }
+        ensures { IfOk result (λ new. new ≡ retagged self sets.now) }
     {
-        let mut parts = self.parts.share()?;
-        retag(self.alloc, &mut parts, sets.as_slice())?;
-        Ok(Snapshot {
-            alloc: self.alloc,
-            parts,
-        })
+        let Snapshot { alloc, mut parts } = self;
+        retag(alloc, &mut parts, sets.as_slice())?;
+        Ok(Snapshot { alloc, parts })
     }
 
     /// Says whether there is a number for each id that the commit names, whether it has one or not, and one for the revision.
@@ -222,6 +219,13 @@ impl Snapshot {
         Files::of(self.parts.filing.files.pairs())
     }
 
+    /// Says whether a message has a file.
+    pub fn is_live(&self, id: &MessageId) -> bool
+        ensures { result ≡ has_id self.now.files id.now }
+    {
+        is_live(&self.parts.filing, id)
+    }
+
     /// The files of a message, the lead file first; none where the id has no file.
     pub fn files(&self, id: &MessageId) -> Option<MessageFiles<'_>>
         ensures { MatchOption result (has_id self.now.files id.now ≡ false) (λ files. files ≡ filter (λ file. same_text id.now file.1.id) self.now.files) }
@@ -235,6 +239,15 @@ impl Snapshot {
     {
         has_file(&self.parts.filing, path)
     }
+}
+
+/// What a snapshot holds is an index: no id stands in it twice, and each id of a mail has a number.
+pub fn a_snapshot_is_a_valid_index(snapshot: &Snapshot)
+    ensures { IsValid snapshot.now }
+{
+    // No code needs the numbers; that labels are numbered, and tags in order, comes with them.
+    let _ = snapshot.parts.labels.next();
+    let _ = snapshot.parts.tags.pairs().len();
 }
 
 /// The copy is a second handle.
