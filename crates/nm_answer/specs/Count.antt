@@ -1,5 +1,5 @@
 -- The plain answer to a count: how many messages a query finds, how many threads they are of, or how many files they have.
-use Rattle.std.specs.Prelude.{ℕ, ℤ, List, [], ◌∷◌, ◌++◌, length, fold, Ok, Err}
+use Rattle.std.specs.Prelude.{ℕ, ℤ, List, [], ◌∷◌, ◌++◌, length, fold, Ok, Err, if◌then◌else◌}
 use Rattle.std.specs.BTreeSet.{insert_key}
 use Rattle.std.specs.Fmt.{decimal}
 use Rattle.std.specs.List.{filter_map, flat_map}
@@ -13,6 +13,7 @@ use Rattle.nm_index.specs.declared.base.Base.{Base}
 use Rattle.nm_query.specs.Answers.{answer_of}
 use Rattle.nm_query.specs.declared.query.Query.{Query}
 use Rattle.nm_threads.specs.Name.{thread_name}
+use Rattle.nm_answer.specs.BatchLines.{queries_in}
 use Rattle.nm_answer.specs.Matches.{matches_of}
 use Rattle.nm_answer.specs.View.{files_of}
 
@@ -44,6 +45,18 @@ count_text output index ids = decimal (counted output index ids) ++ 10 ∷ []
 abbrev pub count_found : CountAsk → Base → ℤ → Query → List ℕ
 count_found ask index moment query = count_text ask.output index (matches_of index query moment ask.exclude)
 
--- what a count is answered; a text that is no query has no answer
-abbrev pub count_answer : CountAsk → Base → ℤ → List ℕ
-count_answer ask index moment = elim (answer_of ask.query) [ Ok query ↦ count_found ask index moment query | Err refusal ↦ [] ]
+-- the counts of queries, one behind the other
+abbrev pub counts_found : CountAsk → Base → ℤ → List Query → List ℕ
+counts_found ask index moment queries = flat_map (count_found ask index moment) queries
+
+-- the counts of the queries of an input; where a line of it is no query nothing is counted
+abbrev pub batch_answer : CountAsk → List ℕ → Base → ℤ → List ℕ
+batch_answer ask input index moment = elim (queries_in input) [ Ok queries ↦ counts_found ask index moment queries | Err fault ↦ [] ]
+
+-- the count of the query of the words; a text that is no query has no answer
+abbrev pub words_answer : CountAsk → Base → ℤ → List ℕ
+words_answer ask index moment = elim (answer_of ask.query) [ Ok query ↦ count_found ask index moment query | Err refusal ↦ [] ]
+
+-- what a count is answered
+abbrev pub count_answer : CountAsk → List ℕ → Base → ℤ → List ℕ
+count_answer ask input index moment = if ask.batch then batch_answer ask input index moment else words_answer ask index moment

@@ -1,6 +1,10 @@
 pub mod Answer
+pub mod BatchLines
+pub mod BatchTag
+pub mod Changes
 pub mod Count
 pub mod Dump
+pub mod DumpReading
 pub mod Found
 pub mod Json
 pub mod Listing
@@ -8,11 +12,16 @@ pub mod Matches
 pub mod NewText
 pub mod Orders
 pub mod Places
+pub mod Renaming
+pub mod Restore
 pub mod Runs
 pub mod Search
 pub mod Show
 pub mod Summary
 pub mod SummaryJson
+pub mod Sup
+pub mod Tag
+pub mod Tagging
 pub mod Test
 pub mod View
 pub mod Words

@@ -7,6 +7,7 @@ use Rattle.std.specs.Cmp.Lexicographic.{slice_cmp}
 use Rattle.std.specs.Ordering.{nat_cmp}
 use Rattle.nm_base.specs.Order.{same_text}
 use Rattle.nm_base.specs.declared.facts.Facts.{Facts}
+use Rattle.nm_commit.specs.Files.{paths_of}
 use Rattle.nm_index.specs.Index.{rows_of}
 use Rattle.nm_index.specs.declared.base.Base.{Base}
 use Rattle.nm_threads.specs.Name.{thread_name}
@@ -22,7 +23,11 @@ pub record View : Type 0 where
 abbrev pub files_of : Base → List ℕ → List (List ℕ × Facts)
 files_of index id = filter (λ file. same_text id file.1.id) index.files
 
--- its tags
+-- their paths
+abbrev pub message_paths : List (List ℕ × Facts) → List ℕ → List (List ℕ)
+message_paths files id = paths_of (filter (λ file. same_text id file.1.id) files)
+
+-- the tags of a message; none where it has no file
 abbrev pub tags_of : Base → List ℕ → List (List ℕ)
 tags_of index id = unwrap_or (lookup (is_at (slice_cmp nat_cmp id)) index.tags) []
 

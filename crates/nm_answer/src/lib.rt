@@ -6,6 +6,8 @@ mod report;
 mod request;
 mod search_laws;
 mod summary;
+mod sync_report;
+mod tagging;
 
 pub use laws::{
     a_tag_excludes_unless_it_is_named, a_tree_names_the_tags_of_its_queries,
@@ -19,3 +21,5 @@ pub use search_laws::{
     items_of_one_rank_stay_in_their_order,
 };
 pub use summary::ThreadSummary;
+pub use sync_report::{SyncReport, Unmoved};
+pub use tagging::Tagging;

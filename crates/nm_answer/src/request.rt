@@ -1,6 +1,6 @@
 //! What a command asks for; a line of a script is read as one, and the machine judges its reply.
 
-use nm_base::{Copies, CountAsk, DumpAsk, NoMemory, SearchAsk};
+use nm_base::{Copies, CountAsk, DumpAsk, NoMemory, RestoreAsk, SearchAsk, ShowAsk, TagAsk};
 
 /// What a command asks for.
 #[derive(Clone, Debug, Drop, PartialEq, Eq)]
@@ -10,6 +10,11 @@ pub enum Request {
     Count(CountAsk),
     Search(SearchAsk),
     Dump(DumpAsk),
+    Show(ShowAsk),
+    /// Set tags, and rename the files that follow.
+    Tag(TagAsk),
+    /// Set the tags that a dump has.
+    Restore(RestoreAsk),
 }
 
 impl Copies for Request {
@@ -27,6 +32,18 @@ impl Copies for Request {
             Request::Dump(ask) => {
                 let ask = ask.copy()?;
                 Ok(Request::Dump(ask))
+            }
+            Request::Show(ask) => {
+                let ask = ask.copy()?;
+                Ok(Request::Show(ask))
+            }
+            Request::Tag(ask) => {
+                let ask = ask.copy()?;
+                Ok(Request::Tag(ask))
+            }
+            Request::Restore(ask) => {
+                let ask = ask.copy()?;
+                Ok(Request::Restore(ask))
             }
         }
     }

@@ -75,6 +75,7 @@ placed path folder name letters =
     else (if same_text (name_of folder) (codes "cur") then (if not (holds 58 name) && is_empty letters then path else folder ++ 47 ∷ marked name letters)
     else path)
 
+-- the path, cut at its last slash into its folder and its name, with the flags
 abbrev pub renamed_at : List ℕ → Flags → Option (List ℕ × List ℕ) → List ℕ
 renamed_at path flags None = path
 renamed_at path flags (Some cut) = (if may_be_renamed cut.1 then placed path cut.0 cut.1 (new_letters (letters_of cut.1) flags) else path)

@@ -16,7 +16,8 @@ use Rattle.nm_index.specs.Index.{applied, committed, folded, live_ids}
 use Rattle.nm_index.specs.declared.base.Base.{Base}
 use Rattle.nm_answer.specs.NewText.{gone}
 use Rattle.nm_index.specs.Fits.{FitInTurn}
-use Rattle.nm_plan.specs.NameTags.{commit_of, follow_names, live_of, message_tags, named_tags, set_tags}
+use Rattle.nm_answer.specs.View.{tags_of}
+use Rattle.nm_plan.specs.NameTags.{commit_of, follow_names, live_of, named_tags, set_tags}
 use Rattle.nm_plan.specs.Plan.{AreArrivals, add_of, all_arrivals, batch_commit, batch_commits, drop_of, gone_commit, gone_files, message_ids, new_commits}
 use Rattle.std.specs.List.Sorted.{IsStrictlySortedBy}
 use Rattle.nm_plan.proofs.FoldLemmas.{batch-files, new-files, next-files}
@@ -175,7 +176,7 @@ fit-commit follow index [] ids h = tt
 fit-commit follow index (change ∷ changes) ids h =
     let after : Base = fold applied index (change ∷ changes) in
     let sets : FitChanges after.files (follow_names after ids) =
-    fit-sets after.files (message_tags after) (named_tags after) (live_of after ids) (every-filter _ (has_text ids) (live_ids after.files after.entries) (all-live after.files after.entries)) in (
+    fit-sets after.files (tags_of after) (named_tags after) (live_of after ids) (every-filter _ (has_text ids) (live_ids after.files after.entries) (all-live after.files after.entries)) in (
       record {
         some = omega arith;
         each = fit-more index.files (change ∷ changes) (follow_names after ids) h

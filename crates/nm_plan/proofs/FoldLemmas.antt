@@ -11,7 +11,8 @@ use Rattle.nm_commit.specs.declared.change.Change.TheVariants.{SetTags}
 use Rattle.nm_commit.specs.declared.change.Commit.{Commit}
 use Rattle.nm_index.specs.Index.{applied, folded}
 use Rattle.nm_index.specs.declared.base.Base.{Base}
-use Rattle.nm_plan.specs.NameTags.{commit_of, follow_names, live_of, message_tags, named_tags, set_tags}
+use Rattle.nm_answer.specs.View.{tags_of}
+use Rattle.nm_plan.specs.NameTags.{commit_of, follow_names, live_of, named_tags, set_tags}
 use Rattle.nm_plan.specs.Plan.{add_of, all_arrivals, batch_commit, batch_commits, drop_of, files_after_new, gone_commit, gone_files, message_ids, new_commits}
 
 -- what has come, one by one
@@ -66,7 +67,7 @@ pub commit_of-files : (index : Base) (changes : List Change) (ids : List (List �
 commit_of-files index [] ids = refl
 commit_of-files index (change ∷ changes) ids =
     let after : Base = fold applied index (change ∷ changes) in
-    fold-append changed index.files (change ∷ changes) (follow_names after ids) ∙ silent (fold changed index.files (change ∷ changes)) (message_tags after) (named_tags after) (live_of after ids)
+    fold-append changed index.files (change ∷ changes) (follow_names after ids) ∙ silent (fold changed index.files (change ∷ changes)) (tags_of after) (named_tags after) (live_of after ids)
 
 module _ (follow : (index : Base) (commits : List Commit) → (folded index commits).files ≡ files_after index.files commits) where
   -- the files after the commit of a batch

@@ -16,8 +16,9 @@ use Rattle.nm_maildir.specs.declared.answers.Renamed.{Renamed}
 use Rattle.nm_maildir.specs.declared.answers.Renamed.TheVariants as answers
 use Rattle.nm_maildir.specs.declared.given.Given.{Given}
 use Rattle.nm_plan.specs.Apart.{AreApart}
-use Rattle.nm_plan.specs.Moving.{HasTried, Outcome, Target, IsFree, IsLong, IsTaken, WasLong, WasTaken, WasTried, answer_given, changed_ids, files_moved, move_commit, move_given, note_of, outcomes, renames_for, tag_commits}
-use Rattle.nm_plan.specs.NameTags.{message_paths, message_tags}
+use Rattle.nm_answer.specs.Renaming.{IsFree, IsLong, IsTaken, Outcome, Target, WasLong, WasTaken, WasTried, answer_given, changed_ids, files_moved, note_of, outcomes, renames_for}
+use Rattle.nm_plan.specs.Moving.{HasTried, move_commit, move_given, tag_commits}
+use Rattle.nm_answer.specs.View.{message_paths, tags_of}
 use Rattle.nm_plan.specs.Numbering.{AreNumbered}
 use Rattle.nm_plan.specs.Tagging.{tag_commit}
 use Rattle.nm_plan.proofs.ApartLemmas.{files-filter, moved-still, none-filter}
@@ -213,7 +214,7 @@ pub commits-fit : (follow : (index : Base) (commits : List Commit) → (folded i
 commits-fit follow index wanted noted numbered apart tried =
     let ids : Texts = changed_ids index wanted in
     let list : List Rename = renames_for index wanted in
-    let tags : List ℕ → Texts = message_tags wanted in
+    let tags : List ℕ → Texts = tags_of wanted in
     let told : List Renamed = flat_map answer_given noted in
     let are : froms list ≡ flat_map (λ id. filter (keep_of index.files tags id) (message_paths index.files id)) ids = all-froms index.files tags ids in
     let once : IsApart (froms list) = subst IsApart (sym are) (some-apart index.files apart (keep_of index.files tags) ids (apart-filter _ (live_ids index.files index.entries) (live-apart index.files index.next index.entries numbered))) in

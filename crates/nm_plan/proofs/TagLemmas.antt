@@ -15,7 +15,8 @@ use Rattle.nm_commit.specs.declared.change.Change.{Change}
 use Rattle.nm_commit.specs.declared.change.Change.TheVariants.{SetTags}
 use Rattle.nm_index.specs.Index.{applied, first_tags, folded, has_entry, live_ids, with_entry, with_mail, with_tags}
 use Rattle.nm_index.specs.declared.base.Base.{Base}
-use Rattle.nm_plan.specs.NameTags.{commit_of, follow_names, live_of, message_tags, named_tags, set_tags}
+use Rattle.nm_answer.specs.View.{tags_of}
+use Rattle.nm_plan.specs.NameTags.{commit_of, follow_names, live_of, named_tags, set_tags}
 use Rattle.nm_plan.specs.Numbering.{AreNumbered, InOrder}
 use Rattle.nm_plan.specs.Plan.{add_of}
 use Rattle.nm_plan.proofs.FitLemmas.{IsApart, apart-filter}
@@ -43,7 +44,7 @@ lookup-own : (id : List ℕ) (tags : Texts) (entries : Tagged) → lookup (is_at
 lookup-own id tags [] = own-first id tags []
 lookup-own id tags (entry ∷ entries) = own-by id tags entry entries (slice_cmp nat_cmp id entry.0) refl (lookup-own id tags entries)
 
-pub tags-own : (index : Base) (id : List ℕ) (tags : Texts) → message_tags (with_tags index id tags) id ≡ tags
+pub tags-own : (index : Base) (id : List ℕ) (tags : Texts) → tags_of (with_tags index id tags) id ≡ tags
 tags-own index id tags = ap (λ (o : Option Texts). unwrap_or o []) (lookup-own id tags index.tags)
 
 -- lists of texts that are told to be the same are
@@ -81,11 +82,11 @@ live-apart files next [] h = tt
 live-apart files next (entry ∷ entries) h = live-cond (has_id files entry.0) entry (filter (λ e. has_id files e.0) entries) (live-other files entry entries h.1) (live-apart files next entries h.2)
 
 module _ (others : (index : Base) (id other : List ℕ) (tags : Texts) → same_text other id ≡ false → lookup (is_at (slice_cmp nat_cmp other)) (with_tags index id tags).tags ≡ lookup (is_at (slice_cmp nat_cmp other)) index.tags) where
-  other-by : (b : Bool) (index : Base) (x id : List ℕ) (tags : Texts) → same_text id x ≡ false → message_tags (cond b index (with_tags index x tags)) id ≡ message_tags index id
+  other-by : (b : Bool) (index : Base) (x id : List ℕ) (tags : Texts) → same_text id x ≡ false → tags_of (cond b index (with_tags index x tags)) id ≡ tags_of index id
   other-by true index x id tags apart = refl
   other-by false index x id tags apart = ap (λ (o : Option Texts). unwrap_or o []) (others index x id tags apart)
 
-  set-by : (b : Bool) (index : Base) (x : List ℕ) (old tags : Texts) → pointwise same_text old tags ≡ b → message_tags index x ≡ old → message_tags (cond b index (with_tags index x tags)) x ≡ tags
+  set-by : (b : Bool) (index : Base) (x : List ℕ) (old tags : Texts) → pointwise same_text old tags ≡ b → tags_of index x ≡ old → tags_of (cond b index (with_tags index x tags)) x ≡ tags
   set-by true index x old tags same is = is ∙ texts-same old tags same
   set-by false index x old tags same is = tags-own index x tags
 
@@ -98,39 +99,39 @@ module _ (others : (index : Base) (id other : List ℕ) (tags : Texts) → same_
     first-set false index x tags more = refl
 
     -- of the others they stay
-    pub sets-other : (ids : Texts) (index : Base) (id : List ℕ) → has_text ids id ≡ false → message_tags (fold applied index (sets ids)) id ≡ message_tags index id
+    pub sets-other : (ids : Texts) (index : Base) (id : List ℕ) → has_text ids id ≡ false → tags_of (fold applied index (sets ids)) id ≡ tags_of index id
     sets-other [] index id none = refl
     sets-other (x ∷ ids) index id none =
         let apart = neither (same_text id x) (has_text ids id) none in
         let b : Bool = pointwise same_text (old x) (new x) in
-        ap (λ (i : Base). message_tags i id) (first-set b index x (new x) (sets ids)) ∙ (sets-other ids (cond b index (with_tags index x (new x))) id apart.1 ∙ other-by b index x id (new x) apart.0)
+        ap (λ (i : Base). tags_of i id) (first-set b index x (new x) (sets ids)) ∙ (sets-other ids (cond b index (with_tags index x (new x))) id apart.1 ∙ other-by b index x id (new x) apart.0)
 
-    own-case : (x : List ℕ) (ids : Texts) (index : Base) (id : List ℕ) (t : Bool) → same_text id x ≡ t → IsApart (x ∷ ids) → (t || has_text ids id) ≡ true → message_tags index id ≡ old id
-        → ((after : Base) → has_text ids id ≡ true → message_tags after id ≡ old id → message_tags (fold applied after (sets ids)) id ≡ new id) → message_tags (fold applied index (sets (x ∷ ids))) id ≡ new id
+    own-case : (x : List ℕ) (ids : Texts) (index : Base) (id : List ℕ) (t : Bool) → same_text id x ≡ t → IsApart (x ∷ ids) → (t || has_text ids id) ≡ true → tags_of index id ≡ old id
+        → ((after : Base) → has_text ids id ≡ true → tags_of after id ≡ old id → tags_of (fold applied after (sets ids)) id ≡ new id) → tags_of (fold applied index (sets (x ∷ ids))) id ≡ new id
     own-case x ids index id true is apart there begins more =
         let b : Bool = pointwise same_text (old x) (new x) in
         let one : id ≡ x = bytes_same id x (sym is) in
         let after : Base = cond b index (with_tags index x (new x)) in
-        ap (λ (i : Base). message_tags i id) (first-set b index x (new x) (sets ids))
+        ap (λ (i : Base). tags_of i id) (first-set b index x (new x) (sets ids))
         ∙ (sets-other ids after id (ap (has_text ids) one ∙ none-same x ids apart.0)
-        ∙ (ap (message_tags after) one ∙ (set-by b index x (old x) (new x) refl (ap (message_tags index) (sym one) ∙ (begins ∙ ap old one)) ∙ ap new (sym one))))
+        ∙ (ap (tags_of after) one ∙ (set-by b index x (old x) (new x) refl (ap (tags_of index) (sym one) ∙ (begins ∙ ap old one)) ∙ ap new (sym one))))
     own-case x ids index id false is apart there begins more =
         let b : Bool = pointwise same_text (old x) (new x) in
         let after : Base = cond b index (with_tags index x (new x)) in
-        ap (λ (i : Base). message_tags i id) (first-set b index x (new x) (sets ids)) ∙ more after there (other-by b index x id (new x) is ∙ begins)
+        ap (λ (i : Base). tags_of i id) (first-set b index x (new x) (sets ids)) ∙ more after there (other-by b index x id (new x) is ∙ begins)
 
     -- of these they are the new ones
-    pub sets-own : (ids : Texts) (index : Base) (id : List ℕ) → IsApart ids → has_text ids id ≡ true → message_tags index id ≡ old id → message_tags (fold applied index (sets ids)) id ≡ new id
+    pub sets-own : (ids : Texts) (index : Base) (id : List ℕ) → IsApart ids → has_text ids id ≡ true → tags_of index id ≡ old id → tags_of (fold applied index (sets ids)) id ≡ new id
     sets-own [] index id apart there begins = absurd (cc)
     sets-own (x ∷ ids) index id apart there begins = own-case x ids index id (same_text id x) refl apart there begins (λ after here is. sets-own ids after id apart.1 here is)
 
   -- the messages that a commit is about
   pub tags-followed : (index : Base) (change : Change) (changes : List Change) (ids : Texts) (id : List ℕ) → AreNumbered index → has_text (live_of (fold applied index (change ∷ changes)) ids) id ≡ true
-      → message_tags (folded index (commit_of index (change ∷ changes) ids)) id ≡ named_tags (fold applied index (change ∷ changes)) id
+      → tags_of (folded index (commit_of index (change ∷ changes) ids)) id ≡ named_tags (fold applied index (change ∷ changes)) id
   tags-followed index change changes ids id numbered there =
       let mid : Base = fold applied index (change ∷ changes) in
-      ap (λ (i : Base). message_tags i id) (fold-append applied index (change ∷ changes) (follow_names mid ids))
-      ∙ sets-own (message_tags mid) (named_tags mid) (live_of mid ids) mid id
+      ap (λ (i : Base). tags_of i id) (fold-append applied index (change ∷ changes) (follow_names mid ids))
+      ∙ sets-own (tags_of mid) (named_tags mid) (live_of mid ids) mid id
       (apart-filter (has_text ids) (live_ids mid.files mid.entries) (live-apart mid.files mid.next mid.entries (changes-kept (change ∷ changes) index numbered))) there refl
 
   and-false : (a b : Bool) → b ≡ false → (a && b) ≡ false
@@ -139,11 +140,11 @@ module _ (others : (index : Base) (id other : List ℕ) (tags : Texts) → same_
 
   -- and all others
   pub tags-stay : (index : Base) (change : Change) (changes : List Change) (ids : Texts) (id : List ℕ) → has_text ids id ≡ false
-      → message_tags (folded index (commit_of index (change ∷ changes) ids)) id ≡ message_tags (fold applied index (change ∷ changes)) id
+      → tags_of (folded index (commit_of index (change ∷ changes) ids)) id ≡ tags_of (fold applied index (change ∷ changes)) id
   tags-stay index change changes ids id none =
       let mid : Base = fold applied index (change ∷ changes) in
-      ap (λ (i : Base). message_tags i id) (fold-append applied index (change ∷ changes) (follow_names mid ids))
-      ∙ sets-other (message_tags mid) (named_tags mid) (live_of mid ids) mid id
+      ap (λ (i : Base). tags_of i id) (fold-append applied index (change ∷ changes) (follow_names mid ids))
+      ∙ sets-other (tags_of mid) (named_tags mid) (live_of mid ids) mid id
       (has_text-filter (has_text ids) (live_ids mid.files mid.entries) id ∙ and-false (has_text (live_ids mid.files mid.entries) id) (has_text ids id) none)
 
   entry-tags : (b : Bool) (index : Base) (id : List ℕ) → (cond b index (record index { entries = index.entries ++ (id, index.next) ∷ []; next = index.next + 1 })).tags ≡ index.tags
@@ -155,19 +156,19 @@ module _ (others : (index : Base) (id other : List ℕ) (tags : Texts) → same_
   entries-tags (id ∷ ids) index = entries-tags ids (with_entry index id) ∙ entry-tags (has_entry index id) index id
 
   -- a mail that comes gives first tags to its own message alone
-  mail-tags : (index : Base) (path : List ℕ) (facts : Facts) (id : List ℕ) → same_text id facts.id ≡ false → message_tags (with_mail index path facts) id ≡ message_tags index id
+  mail-tags : (index : Base) (path : List ℕ) (facts : Facts) (id : List ℕ) → same_text id facts.id ≡ false → tags_of (with_mail index path facts) id ≡ tags_of index id
   mail-tags index path facts id apart =
       let mid : Base = fold with_entry index (facts.id ∷ facts.links) in
       other-by (has_id mid.files facts.id) mid facts.id id (first_tags facts.marks) apart ∙ ap (λ (t : Tagged). unwrap_or (lookup (is_at (slice_cmp nat_cmp id)) t) []) (entries-tags (facts.id ∷ facts.links) index)
 
-  adds-tags : (arrivals : List (List ℕ × Facts)) (index : Base) (id : List ℕ) → has_id arrivals id ≡ false → message_tags (fold applied index (map add_of arrivals)) id ≡ message_tags index id
+  adds-tags : (arrivals : List (List ℕ × Facts)) (index : Base) (id : List ℕ) → has_id arrivals id ≡ false → tags_of (fold applied index (map add_of arrivals)) id ≡ tags_of index id
   adds-tags [] index id none = refl
   adds-tags (arrival ∷ arrivals) index id none =
       let apart = neither (same_text id arrival.1.id) (has_id arrivals id) none in
       adds-tags arrivals (with_mail index arrival.0 arrival.1) id apart.1 ∙ mail-tags index arrival.0 arrival.1 id apart.0
 
   -- so what has come leaves the tags of all other messages
-  pub batch-tags : (index : Base) (arrivals : List (List ℕ × Facts)) (id : List ℕ) → has_id arrivals id ≡ false → message_tags (folded index (commit_of index (map add_of arrivals) (map (λ file. file.1.id) arrivals))) id ≡ message_tags index id
+  pub batch-tags : (index : Base) (arrivals : List (List ℕ × Facts)) (id : List ℕ) → has_id arrivals id ≡ false → tags_of (folded index (commit_of index (map add_of arrivals) (map (λ file. file.1.id) arrivals))) id ≡ tags_of index id
   batch-tags index [] id none = refl
   batch-tags index (arrival ∷ arrivals) id none =
       tags-stay index (add_of arrival) (map add_of arrivals) (map (λ file. file.1.id) (arrival ∷ arrivals)) id none ∙ adds-tags (arrival ∷ arrivals) index id none

@@ -1,13 +1,14 @@
 -- The commits of a command: first those of what has come, one for each batch of files that was read, then that of what is gone.
 -- Each is made on the index that those before it leave.
-use Rattle.std.specs.Prelude.{◌≡◌, ℕ, false, not, List, [], ◌∷◌, ◌++◌, map, filter}
+use Rattle.std.specs.Prelude.{◌≡◌, ℕ, ℤ, false, not, List, [], ◌∷◌, ◌++◌, map, filter}
 use Rattle.std.specs.List.{AllByRecursion, IsDistinct, flat_map}
 use Rattle.nm_base.specs.Limits.{IsDate}
 use Rattle.nm_base.specs.Order.{has_text, same_text}
 use Rattle.nm_base.specs.declared.facts.Facts.{Facts}
 use Rattle.nm_answer.specs.NewText.{gone, listed_in}
+use Rattle.nm_answer.specs.Changes.{wanted_for}
 use Rattle.nm_answer.specs.declared.request.Request.{Request}
-use Rattle.nm_answer.specs.declared.request.Request.TheVariants.{New, Count, Search, Dump}
+use Rattle.nm_answer.specs.declared.request.Request.TheVariants.{New, Count, Search, Dump, Show, Tag, Restore}
 use Rattle.nm_commit.specs.Files.{has_path, paths_of}
 use Rattle.nm_commit.specs.declared.change.Change.{Change}
 use Rattle.nm_commit.specs.declared.change.Change.TheVariants.{Add, Drop}
@@ -15,6 +16,7 @@ use Rattle.nm_commit.specs.declared.change.Commit.{Commit}
 use Rattle.nm_index.specs.Index.{folded}
 use Rattle.nm_index.specs.declared.base.Base.{Base}
 use Rattle.nm_maildir.specs.declared.given.Given.{Given}
+use Rattle.nm_plan.specs.Moving.{tag_commits}
 use Rattle.nm_plan.specs.NameTags.{commit_of}
 
 -- the listed paths that the index lacks
@@ -61,12 +63,18 @@ abbrev pub commits_so_far : Base → List (List ℕ) → List (List (List ℕ ×
 commits_so_far index listed batches [] = new_commits index listed batches
 commits_so_far index listed batches (path ∷ left) = batch_commits index batches
 
--- the commits that are due to a request on an index, with what it has found so far; what only reads makes none
-abbrev pub due_commits : Request → Base → List Given → List (List (List ℕ × Facts)) → List (List ℕ) → List Commit
-due_commits New index noted batches left = commits_so_far index (listed_in noted) batches left
-due_commits (Count ask) index noted batches left = []
-due_commits (Search ask) index noted batches left = []
-due_commits (Dump ask) index noted batches left = []
+-- The commits that are due to a request, by its input, the moment, the index before it and what the mail folder gave: to a `new` with the
+-- mails that it has found in batches, while these paths are left to read; to a `tag` or a
+-- `restore` with the renames that were tried. What only reads
+-- makes none.
+abbrev pub due_commits : Request → List ℕ → ℤ → Base → List Given → List (List (List ℕ × Facts)) → List (List ℕ) → List Commit
+due_commits New input moment index noted batches left = commits_so_far index (listed_in noted) batches left
+due_commits (Count ask) input moment index noted batches left = []
+due_commits (Search ask) input moment index noted batches left = []
+due_commits (Dump ask) input moment index noted batches left = []
+due_commits (Show ask) input moment index noted batches left = []
+due_commits (Tag ask) input moment index noted batches left = tag_commits index (wanted_for (Tag ask) input moment index) noted
+due_commits (Restore ask) input moment index noted batches left = tag_commits index (wanted_for (Restore ask) input moment index) noted
 
 -- the files after a `new`: what has come stands behind what was there, and what is gone is away
 abbrev pub files_after_new : List (List ℕ × Facts) → List (List ℕ) → List (List ℕ × Facts) → List (List ℕ × Facts)

@@ -12,7 +12,8 @@ ghost use Rattle.nm_index.specs.declared.base.Base.{Base};
 ghost use Rattle.nm_index.specs.Fits.{FitInTurn};
 ghost use Rattle.nm_plan.specs.Apart.{AreApart};
 ghost use Rattle.nm_plan.specs.Numbering.{AreNumbered};
-ghost use Rattle.nm_plan.specs.NameTags.{commit_of, live_of, message_tags, named_tags};
+ghost use Rattle.nm_answer.specs.View.{tags_of};
+ghost use Rattle.nm_plan.specs.NameTags.{commit_of, live_of, named_tags};
 ghost use Rattle.nm_plan.specs.Plan.{AreArrivals, all_arrivals, batch_commit, batch_commits, files_after_new, new_commits};
 
 use nm_index::{files_follow_their_commits, tags_of_others_stay};
@@ -70,11 +71,11 @@ pub fn files_stay_apart()
 pub fn tags_follow_the_names()
     ensures followed { (index : Base) (change : Change) (changes : List Change) (ids : List (List ℕ)) (id : List ℕ) → AreNumbered index
         → IsTrue (has_text (live_of (fold applied index (change ∷ changes)) ids) id)
-        → message_tags (folded index (commit_of index (change ∷ changes) ids)) id ≡ named_tags (fold applied index (change ∷ changes)) id }
+        → tags_of (folded index (commit_of index (change ∷ changes) ids)) id ≡ named_tags (fold applied index (change ∷ changes)) id }
     ensures others { (index : Base) (change : Change) (changes : List Change) (ids : List (List ℕ)) (id : List ℕ) → has_text ids id ≡ false
-        → message_tags (folded index (commit_of index (change ∷ changes) ids)) id ≡ message_tags (fold applied index (change ∷ changes)) id }
+        → tags_of (folded index (commit_of index (change ∷ changes) ids)) id ≡ tags_of (fold applied index (change ∷ changes)) id }
     ensures arrivals { (index : Base) (arrivals : List (List ℕ × Facts)) (id : List ℕ) → has_id arrivals id ≡ false
-        → message_tags (folded index (batch_commit index arrivals)) id ≡ message_tags index id }
+        → tags_of (folded index (batch_commit index arrivals)) id ≡ tags_of index id }
 {
     tags_of_others_stay();
 }

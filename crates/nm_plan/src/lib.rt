@@ -2,16 +2,12 @@
 #![tactic(auto)]
 
 mod laws;
-mod sync_report;
 mod tag_laws;
-mod tagging;
 
 pub use laws::{
     files_stay_apart, new_commits_fit, new_leaves_what_is_listed, numbers_stay_in_order,
     tags_follow_the_names, the_files_after_batches, the_files_after_new,
 };
-pub use sync_report::{SyncReport, Unmoved};
 pub use tag_laws::{
     a_line_tags_what_it_finds, tag_commits_fit, the_commit_of_tags_leaves_what_is_wanted,
 };
-pub use tagging::Tagging;

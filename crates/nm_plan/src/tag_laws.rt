@@ -10,25 +10,26 @@ ghost use Rattle.nm_index.specs.declared.base.Base.{Base};
 ghost use Rattle.nm_maildir.specs.declared.given.Given.{Given};
 ghost use Rattle.nm_plan.specs.Apart.{AreApart};
 ghost use Rattle.nm_plan.specs.Moving.{HasTried, tag_commits};
-ghost use Rattle.nm_plan.specs.NameTags.{message_tags};
+ghost use Rattle.nm_answer.specs.View.{tags_of};
 ghost use Rattle.nm_plan.specs.Numbering.{AreNumbered};
-ghost use Rattle.nm_plan.specs.Tagging.{asked_tags, found_by, is_found, line_sets, tag_commit, wanted_after, wanted_by};
-ghost use Rattle.nm_plan.specs.declared.tagging.Tagging.{Tagging};
+ghost use Rattle.nm_answer.specs.Tagging.{asked_tags, found_by, is_found, line_sets, wanted_after, wanted_by};
+ghost use Rattle.nm_plan.specs.Tagging.{tag_commit};
+ghost use Rattle.nm_answer.specs.declared.tagging.Tagging.{Tagging};
 
 use nm_index::{files_follow_their_commits, tags_of_others_stay};
 
 /// A line gives each message that it finds the tags that it asks for, and every other message keeps its own. So a message that
 /// no line finds keeps its tags. What a line finds has files, and all but tags stays as it is.
 pub fn a_line_tags_what_it_finds()
-    ensures found { (clear : Bool) (moment : ℤ) (index : Base) (line : Tagging) (id : List ℕ) → IsTrue (has_text (found_by moment index line) id)
-        → message_tags (wanted_after clear moment index line) id ≡ asked_tags clear line (message_tags index id) }
-    ensures others { (clear : Bool) (moment : ℤ) (index : Base) (line : Tagging) (id : List ℕ) → has_text (found_by moment index line) id ≡ false
-        → message_tags (wanted_after clear moment index line) id ≡ message_tags index id }
-    ensures kept { (clear : Bool) (moment : ℤ) (index : Base) (lines : List Tagging) (id : List ℕ) → is_found clear moment index lines id ≡ false
-        → message_tags (wanted_by clear moment index lines) id ≡ message_tags index id }
-    ensures live { (clear : Bool) (moment : ℤ) (index : Base) (line : Tagging) → AllByRecursion (λ set. IsTrue (has_id index.files set.0)) (line_sets clear moment index line) }
-    ensures rest { (clear : Bool) (moment : ℤ) (index : Base) (lines : List Tagging)
-        → wanted_by clear moment index lines ≡ record index { tags = (wanted_by clear moment index lines).tags } }
+    ensures found { (moment : ℤ) (index : Base) (line : Tagging) (id : List ℕ) → IsTrue (has_text (found_by moment index line) id)
+        → tags_of (wanted_after moment index line) id ≡ asked_tags line (tags_of index id) }
+    ensures others { (moment : ℤ) (index : Base) (line : Tagging) (id : List ℕ) → has_text (found_by moment index line) id ≡ false
+        → tags_of (wanted_after moment index line) id ≡ tags_of index id }
+    ensures kept { (moment : ℤ) (index : Base) (lines : List Tagging) (id : List ℕ) → is_found moment index lines id ≡ false
+        → tags_of (wanted_by moment index lines) id ≡ tags_of index id }
+    ensures live { (moment : ℤ) (index : Base) (line : Tagging) → AllByRecursion (λ set. IsTrue (has_id index.files set.0)) (line_sets moment index line) }
+    ensures rest { (moment : ℤ) (index : Base) (lines : List Tagging)
+        → wanted_by moment index lines ≡ record index { tags = (wanted_by moment index lines).tags } }
 {
     tags_of_others_stay();
 }
@@ -39,9 +40,9 @@ pub fn the_commit_of_tags_leaves_what_is_wanted()
     ensures fits { (index wanted : Base) → FitInTurn index (tag_commit index wanted) }
     ensures files { (index wanted : Base) → (folded index (tag_commit index wanted)).files ≡ index.files }
     ensures live { (index wanted : Base) (id : List ℕ) → AreNumbered index → IsTrue (has_text (live_ids index.files index.entries) id)
-        → message_tags (folded index (tag_commit index wanted)) id ≡ message_tags wanted id }
-    ensures lines { (clear : Bool) (moment : ℤ) (index : Base) (lines : List Tagging) (id : List ℕ) → AreNumbered index
-        → message_tags (folded index (tag_commit index (wanted_by clear moment index lines))) id ≡ message_tags (wanted_by clear moment index lines) id }
+        → tags_of (folded index (tag_commit index wanted)) id ≡ tags_of wanted id }
+    ensures lines { (moment : ℤ) (index : Base) (lines : List Tagging) (id : List ℕ) → AreNumbered index
+        → tags_of (folded index (tag_commit index (wanted_by moment index lines))) id ≡ tags_of (wanted_by moment index lines) id }
 {
     files_follow_their_commits();
     tags_of_others_stay();

@@ -25,6 +25,7 @@ body_len answers.Missing = 0
 body_len answers.TooLong = 0
 body_len (answers.Body bytes) = length bytes
 
+-- the bytes of a body that the folder gave
 abbrev pub given_len : Given → ℕ
 given_len (given.Listed paths) = 0
 given_len (given.Read path answer) = body_len answer

@@ -1,4 +1,4 @@
-//! What a line of `tag` asks for, once its query is read.
+//! What a line asks for that changes tags, once its query is read.
 
 use nm_base::{Many, TagOp};
 use nm_query::Query;
@@ -6,6 +6,8 @@ use nm_query::Query;
 /// Operations on the tags of each message that a query finds.
 #[derive(Debug, Drop)]
 pub struct Tagging {
+    /// All its tags are taken off first.
+    pub clear: bool,
     pub ops: Many<TagOp>,
     pub query: Query,
 }
