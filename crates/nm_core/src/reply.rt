@@ -1,6 +1,6 @@
 //! Whether a reply may have its text; the machine asks it at each reply.
 
-ghost use Rattle.std.specs.Prelude.{◌≡◌, ◌&&◌, ◌||◌, false, IfOk, is_ok, MatchOption, not, Ok};
+ghost use Rattle.std.specs.Prelude.{◌≡◌, ◌&&◌, ◌||◌, [], false, IfOk, is_ok, MatchOption, not, Ok};
 ghost use Rattle.nm_base.specs.Order.{same_text};
 ghost use Rattle.nm_answer.specs.Answer.{is_reply};
 ghost use Rattle.nm_answer.specs.Count.{count_answer};
@@ -29,7 +29,7 @@ pub(crate) fn may_reply(
     ensures { IfOk result (λ may. may ≡ is_reply index.now moment request.now text.now) }
 {
     match request {
-        Request::New => Ok(true),
+        Request::New | Request::Show(_) | Request::Tag(_) | Request::Restore(_) => Ok(true),
         Request::Count(ask) => may_count(alloc, index, ask, text, moment),
         Request::Search(ask) => may_search(alloc, index, ask, text, moment),
         Request::Dump(ask) => may_dump(alloc, index, ask, text, moment),
@@ -44,7 +44,7 @@ fn may_count(
     moment: i64,
 ) -> Result<bool, NoMemory>
     requires moment { IsMoment moment }
-    ensures { IfOk result (λ may. may ≡ (not (not ask.now.batch) || (is_ok (answer_of ask.now.query) && same_text text.now (count_answer ask.now index.now moment)))) }
+    ensures { IfOk result (λ may. may ≡ (not (not ask.now.batch) || (is_ok (answer_of ask.now.query) && same_text text.now (count_answer ask.now [] index.now moment)))) }
 {
     if ask.batch {
         return Ok(true);

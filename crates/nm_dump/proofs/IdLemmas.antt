@@ -6,7 +6,7 @@ use Rattle.std.proofs.lemmas.Bool.{cases_Bool}
 use Rattle.std.proofs.lemmas.Bool.Decides.{nat_tests}
 use Rattle.nm_base.specs.MessageId.{is_message_id}
 use Rattle.nm_answer.specs.Dump.{has_parenthesis}
-use Rattle.nm_dump.specs.BatchTag.{checked_id, id_of_query, id_text, unquoted, with_byte}
+use Rattle.nm_answer.specs.BatchTag.{checked_id, id_of_query, id_text, unquoted, with_byte}
 use Rattle.nm_answer.specs.Dump.{doubled, quoted, wants_quotes, written_id}
 
 -- a byte that is no quote, with something after it, stands for itself

@@ -2,8 +2,12 @@ pub mod ByteLemmas
 pub mod DumpLemmas
 pub mod IdLemmas
 pub mod InsideLemmas
+pub mod OrderLemmas
 pub mod QuoteLemmas
 pub mod RestoreLemmas
+pub mod RestoredDumpLemmas
+pub mod RestoredLemmas
+pub mod RestoringLemmas
 pub mod SupLineLemmas
 pub mod TagLineLemmas
 pub mod WholeLemmas

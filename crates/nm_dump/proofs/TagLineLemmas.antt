@@ -17,7 +17,7 @@ use Rattle.nm_tags.specs.Decoding.{decoded_tag}
 use Rattle.nm_tags.specs.Encoding.{encoded_tag}
 use Rattle.nm_tags.specs.TagLines.{asked_in, asked_upto, behind_first_word, first_word, is_tag_word, op_of, query_after, with_op}
 use Rattle.nm_tags.specs.declared.line_error.LineKind.TheVariants as kinds
-use Rattle.nm_dump.specs.BatchTag.{id_of_query, read_batch_tag, with_id}
+use Rattle.nm_answer.specs.BatchTag.{id_of_query, read_batch_tag, with_id}
 use Rattle.nm_answer.specs.Dump.{changes_line, written_id, written_tag}
 use Rattle.nm_dump.specs.Tags.{set_tag, AreTags}
 use Rattle.nm_dump.proofs.ByteLemmas.{holds_at, is_dark, is_false, tag_dark, written_id_dark}

@@ -1,5 +1,4 @@
-pub mod BatchTag
+pub mod Named
 pub mod ReadBack
-pub mod Reading
-pub mod Sup
+pub mod Restored
 pub mod Tags

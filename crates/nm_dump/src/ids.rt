@@ -2,7 +2,7 @@
 
 ghost use Rattle.std.specs.Prelude.{◌≡◌, ◌<◌, [], length, IfOk, IfSome, MatchOption, None, Some};
 ghost use Rattle.nm_answer.specs.Dump.{has_parenthesis};
-ghost use Rattle.nm_dump.specs.BatchTag.{checked_id, id_of_query, id_text, plain, unquoted, with_byte};
+ghost use Rattle.nm_answer.specs.BatchTag.{checked_id, id_of_query, id_text, plain, unquoted, with_byte};
 
 use nm_base::{Many, MessageId, NoMemory, Text};
 use nm_tags::text_of;

@@ -6,6 +6,8 @@ mod ids;
 mod laws;
 mod reading;
 mod reply;
+mod restore;
+mod restore_laws;
 mod sup;
 mod writing;
 
@@ -16,3 +18,5 @@ pub use laws::{
 };
 pub use reading::read_dump;
 pub use reply::dump_reply;
+pub use restore::{DumpChanges, restoring};
+pub use restore_laws::{a_dump_restores_its_tags, a_restore_sets_the_tags_of_each_message};

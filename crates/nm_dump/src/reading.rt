@@ -1,9 +1,9 @@
 //! The call `read_dump`: what the lines of a dump ask for.
 
-ghost use Rattle.std.specs.Prelude.{◌≡◌, ◌<◌, [], ◌∷◌, length, IfOk, MatchOption, MatchResult, Ok, Err, if◌then◌else◌};
+ghost use Rattle.std.specs.Prelude.{◌≡◌, ◌+◌, ◌<◌, [], ◌∷◌, length, IfOk, MatchOption, MatchResult, Ok, Err, if◌then◌else◌};
 ghost use Rattle.std.specs.Str.Lines.{lines};
-ghost use Rattle.nm_dump.specs.BatchTag.{read_batch_tag};
-ghost use Rattle.nm_dump.specs.Reading.{begins_changes, form_of, is_passed_over, judged, read_dump, read_line, told_form, IsDumpFault};
+ghost use Rattle.nm_answer.specs.BatchTag.{read_batch_tag};
+ghost use Rattle.nm_answer.specs.DumpReading.{begins_changes, form_of, is_passed_over, judged, read_dump, read_line, told_form, IsDumpFault};
 
 use crate::ids::id_of_query;
 use crate::sup::read_sup;
@@ -16,15 +16,14 @@ use std::alloc::Global;
 /// that is out of its form is told by its number, counted from 1. Where the form is `Auto`, the first other line tells it.
 #[tactic(auto, using(crate::proofs::DumpLemmas::with_one_line))]
 pub fn read_dump(alloc: Global, bytes: &[u8], form: ReadForm) -> Result<Many<Wanted>, LineError>
-    requires { length bytes.now < 4294967295 }
     ensures { MatchResult result (λ read. read_dump bytes.now form ≡ Ok read) (IsDumpFault (read_dump bytes.now form)) }
 {
     let form = form_of(form, bytes);
     let mut read = Many::new(alloc);
-    let mut number = 0;
+    let mut number: u32 = 0;
     let mut rest = bytes;
     'lines: while let Some((line, more)) = next_content(rest) {
-        number += 1;
+        number = next_number(number)?;
         rest = more;
         match judge(alloc, line, form)? {
             Ok(None) => {}
@@ -37,6 +36,13 @@ pub fn read_dump(alloc: Global, bytes: &[u8], form: ReadForm) -> Result<Many<Wan
         }
     }
     Ok(read)
+}
+
+/// The number of the next line; more lines than a number tells find no memory.
+fn next_number(number: u32) -> Result<u32, NoMemory>
+    ensures { IfOk result (λ next. next ≡ number + 1) }
+{
+    number.checked_add(1).ok_or(NoMemory)
 }
 
 fn bad_line(line: u32, kind: LineKind) -> Result<Many<Wanted>, LineError>

@@ -5,7 +5,7 @@ ghost use Rattle.std.specs.BTreeSet.{insert_key};
 ghost use Rattle.std.specs.Fmt.{decimal};
 ghost use Rattle.std.specs.List.{filter_map};
 ghost use Rattle.std.specs.Ordering.{nat_cmp};
-ghost use Rattle.nm_answer.specs.Count.{count_found, count_text, counted, files_of_all, thread_names};
+ghost use Rattle.nm_answer.specs.Count.{count_found, count_text, counted, counts_found, files_of_all, thread_names};
 ghost use Rattle.nm_answer.specs.View.{files_of};
 ghost use Rattle.nm_dates.specs.Seconds.{IsMoment};
 ghost use Rattle.nm_index.specs.Index.{rows_of};
@@ -33,6 +33,25 @@ pub fn count_reply(
     let exclude = ask.exclude;
     let ids = found(alloc, snapshot, query, moment, exclude)?;
     count_text(alloc, snapshot, ids.as_slice(), ask.output)
+}
+
+/// The replies to a count for each of these queries, one behind the other.
+pub fn counts_reply(
+    alloc: Global,
+    snapshot: &Snapshot,
+    ask: &CountAsk,
+    queries: &[Query],
+    moment: i64,
+) -> Result<Many<u8>, NoMemory>
+    requires moment { IsMoment moment }
+    ensures { IfOk result (λ text. text ≡ counts_found ask.now snapshot.now moment queries.now) }
+{
+    let mut text = Many::new(alloc);
+    'queries: for query in queries {
+        let line = count_reply(alloc, snapshot, ask, query, moment)?;
+        text.extend_from_slice(line.as_slice())?;
+    }
+    Ok(text)
 }
 
 /// How many of what is asked the messages come to, and LF.

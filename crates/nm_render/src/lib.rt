@@ -18,6 +18,6 @@ mod shown;
 mod summary;
 mod summary_json;
 
-pub use count::count_reply;
+pub use count::{count_reply, counts_reply};
 pub use search::search_reply;
 pub use show::{ShowError, lead_paths, show_text, shown_ids};

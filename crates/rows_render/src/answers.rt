@@ -1,5 +1,6 @@
-//! What comes of a row: the replies to its searches.
+//! What comes of a row, by its kind: the replies to its searches stand here.
 
+use crate::batches::{counts_of, taggings_of};
 use crate::dumps::dump_of;
 use crate::index::index_of;
 use crate::shows::shows_of;
@@ -11,31 +12,33 @@ use nm_state::Snapshot;
 use rows::{Lines, Program, Row, RowError, text_of};
 use std::alloc::Global;
 
-/// The rows on what searches are answered, what is shown, and how dumps are written.
+/// The rows on replies and on the lines of an input.
 pub struct Searching;
 
 impl Program for Searching {
-    /// The lines of the reply to each line `|`, which has the words of a search; a dash for a reply without lines.
     fn answer(&self, alloc: Global, row: &Row<'_>) -> Result<Vec<u8>, RowError> {
-        if row.kind == b"dump".as_slice() {
-            return dump_of(alloc, row);
+        match row.kind {
+            b"search" => searches_of(alloc, row),
+            b"count" => counts_of(alloc, row),
+            b"tag" => taggings_of(alloc, row),
+            b"dump" => dump_of(alloc, row),
+            b"show" => shows_of(alloc, row),
+            _ => Err(RowError::Broken("no such kind of row")),
         }
-        if row.kind == b"show".as_slice() {
-            return shows_of(alloc, row);
-        }
-        if row.kind != b"search".as_slice() {
-            return Err(RowError::Broken("no such kind of row"));
-        }
-        let snapshot = index_of(alloc, row)?;
-        let mut lines = Lines::new(alloc);
-        'lines: for line in row.lines.as_slice() {
-            if line.mark == b"|".as_slice() {
-                let ask = ask_of(alloc, line.bytes.as_slice())?;
-                push_reply(alloc, &mut lines, &snapshot, &ask)?;
-            }
-        }
-        Ok(lines.into_bytes())
     }
+}
+
+/// The lines of the reply to each line `|`, which has the words of a search; a dash for a reply without lines.
+fn searches_of(alloc: Global, row: &Row<'_>) -> Result<Vec<u8>, RowError> {
+    let snapshot = index_of(alloc, row)?;
+    let mut lines = Lines::new(alloc);
+    'lines: for line in row.lines.as_slice() {
+        if line.mark == b"|".as_slice() {
+            let ask = ask_of(alloc, line.bytes.as_slice())?;
+            push_reply(alloc, &mut lines, &snapshot, &ask)?;
+        }
+    }
+    Ok(lines.into_bytes())
 }
 
 /// What the words after `search` ask.

@@ -1,8 +1,9 @@
-//! Commands and replies: the program that runs the rows on what searches are answered, what is shown and how dumps are written. The table
-//! stands on the standard input, and the standard output has a line for each row.
+//! Commands and replies: the program that runs the rows on replies and on the lines of an input. The table stands on the standard
+//! input, and the standard output has a line for each row.
 #![tactic(auto)]
 
 mod answers;
+mod batches;
 mod dumps;
 mod index;
 mod shows;

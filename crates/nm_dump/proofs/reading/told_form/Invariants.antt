@@ -1,6 +1,6 @@
 use Rattle.std.proofs.Common.{◌≡◌, length}
 use Rattle.std.specs.Str.Lines.{lines}
-use Rattle.nm_dump.specs.Reading.{told_form}
+use Rattle.nm_answer.specs.DumpReading.{told_form}
 use Rattle.nm_dump.proofs.reading.told_form.Given as goal
 
 -- the rest tells it too

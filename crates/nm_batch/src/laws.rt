@@ -1,0 +1,21 @@
+//! What the reading of an input comes to. These functions run no code: their clauses are the laws.
+
+ghost use Rattle.nm_answer.specs.BatchLines.{count_line, queries_in, tag_line, taggings_in};
+ghost use Rattle.nm_answer.specs.declared.tagging.Tagging.{Tagging};
+ghost use Rattle.nm_batch.specs.LineByLine.{AreRead, IsFirstBad};
+ghost use Rattle.nm_query.specs.declared.query.Query.{Query};
+ghost use Rattle.nm_tags.specs.declared.line_error.LineKind.{LineKind};
+ghost use Rattle.std.specs.Prelude.{◌≡◌, ℕ, Bool, List, Ok, Err};
+ghost use Rattle.std.specs.Str.Lines.{lines};
+
+/// Queries are read line by line, or the first line that is none is told.
+pub fn queries_are_read_line_by_line()
+    ensures read { (input : List ℕ) (read : List Query) → queries_in input ≡ Ok read → AreRead count_line (lines input) read }
+    ensures bad { (input : List ℕ) (number : ℕ) (kind : LineKind) → queries_in input ≡ Err (number, kind) → IsFirstBad count_line (lines input) number kind }
+{}
+
+/// Changes of tags are read line by line, or the first line that is none is told.
+pub fn changes_are_read_line_by_line()
+    ensures read { (clear : Bool) (input : List ℕ) (read : List Tagging) → taggings_in clear input ≡ Ok read → AreRead (tag_line clear) (lines input) read }
+    ensures bad { (clear : Bool) (input : List ℕ) (number : ℕ) (kind : LineKind) → taggings_in clear input ≡ Err (number, kind) → IsFirstBad (tag_line clear) (lines input) number kind }
+{}
