@@ -15,7 +15,8 @@ use Rattle.nm_commit.specs.Files.{has_id, paths_of}
 use Rattle.nm_commit.specs.declared.change.Change.{Change}
 use Rattle.nm_index.specs.Index.{committed, has_entry, is_of, live_ids}
 use Rattle.nm_index.specs.declared.base.Base.{Base}
-use Rattle.nm_plan.specs.NameTags.{follow_names, live_of, message_paths, message_tags, named_tags, set_tags, with_names}
+use Rattle.nm_answer.specs.View.{message_paths, tags_of}
+use Rattle.nm_plan.specs.NameTags.{follow_names, live_of, named_tags, set_tags, with_names}
 use Rattle.nm_plan.specs.Numbering.{AreNumbered, InOrder}
 use Rattle.nm_writer.specs.Naming.{at_numbers, live_at_numbers}
 use Rattle.nm_writer.proofs.ArrivalLemmas.{or_true}
@@ -204,10 +205,10 @@ live_are index ids pairs live is so_far = is ∙ (ap values_of so_far ∙ values
 
 -- the changes, and the tags that follow
 pub named-are : (shown after : Base) (changes all : List Change) (ids live : List (List ℕ)) → after ≡ committed shown (record { changes = changes }) → live ≡ live_of after ids
-    → all ≡ changes ++ flat_map (λ id. set_tags id (message_tags after id) (named_tags after id)) live → all ≡ with_names shown changes ids
+    → all ≡ changes ++ flat_map (λ id. set_tags id (tags_of after id) (named_tags after id)) live → all ≡ with_names shown changes ids
 named-are shown after changes all ids live is live_is all_is =
     all_is
-    ∙ (ap (λ (l : List (List ℕ)). changes ++ flat_map (λ id. set_tags id (message_tags after id) (named_tags after id)) l) live_is
+    ∙ (ap (λ (l : List (List ℕ)). changes ++ flat_map (λ id. set_tags id (tags_of after id) (named_tags after id)) l) live_is
     ∙ ap (λ (b : Base). changes ++ follow_names b ids) is)
 
 -- a message without a file has no paths

@@ -19,8 +19,9 @@ use Rattle.nm_maildir.specs.declared.answers.Renamed.{Renamed}
 use Rattle.nm_maildir.specs.declared.answers.Renamed.TheVariants as answers
 use Rattle.nm_maildir.specs.declared.given.Given.{Given}
 use Rattle.nm_maildir.specs.declared.given.Given.TheVariants as given
-use Rattle.nm_plan.specs.Moving.{IsFree, IsLong, IsTaken, Outcome, Target, WasLong, WasTaken, WasTried, answer_given, files_moved, move_given, move_if, note_of, outcomes, target_of, unmoved_in}
-use Rattle.nm_plan.specs.declared.sync_report.Unmoved.{Unmoved}
+use Rattle.nm_answer.specs.Renaming.{IsFree, IsLong, IsTaken, Outcome, Target, WasLong, WasTaken, WasTried, answer_given, files_moved, note_of, outcomes, target_of, unmoved_in}
+use Rattle.nm_plan.specs.Moving.{move_given, move_if}
+use Rattle.nm_answer.specs.declared.sync_report.Unmoved.{Unmoved}
 use Rattle.nm_writer.specs.Renamed.{AnswersAlong, AreTried, AsksRenames, HasPlaces, IsDone, IsKept, IsLeft, TreesAlong, files_noted, outcomes_noted}
 use Rattle.nm_writer.specs.declared.renaming.Renaming.{Renaming}
 use Rattle.nm_writer.proofs.SetLemmas.{bytes_same}

@@ -14,12 +14,14 @@ use Rattle.nm_index.specs.Index.{live_ids}
 use Rattle.nm_index.specs.declared.base.Base.{Base}
 use Rattle.nm_maildir.specs.declared.given.Given.{Given}
 use Rattle.nm_plan.specs.Apart.{AreApart}
-use Rattle.nm_plan.specs.Moving.{HasTried, move_commit, note_of, renames_done, renames_for, tag_commits}
-use Rattle.nm_plan.specs.NameTags.{message_paths, message_tags, set_tags}
+use Rattle.nm_answer.specs.Renaming.{note_of, renames_done, renames_for}
+use Rattle.nm_plan.specs.Moving.{HasTried, move_commit, tag_commits}
+use Rattle.nm_answer.specs.View.{message_paths, tags_of}
+use Rattle.nm_plan.specs.NameTags.{set_tags}
 use Rattle.nm_plan.specs.Numbering.{AreNumbered}
 use Rattle.nm_plan.specs.Tagging.{commit_with, tag_changes, tag_commit}
-use Rattle.nm_plan.specs.declared.sync_report.SyncReport.{SyncReport}
-use Rattle.nm_plan.specs.declared.sync_report.Unmoved.{Unmoved}
+use Rattle.nm_answer.specs.declared.sync_report.SyncReport.{SyncReport}
+use Rattle.nm_answer.specs.declared.sync_report.Unmoved.{Unmoved}
 use Rattle.nm_writer.specs.Renamed.{AreTried}
 use Rattle.nm_writer.specs.Tagged.{IsAfterRenames, IsAfterTags}
 use Rattle.nm_writer.specs.Writer.{WriterState}
@@ -55,32 +57,32 @@ cond-true true x y h = refl
 cond-true false x y h = absurd (cc)
 
 module _ (index wanted : Base) (ids : Texts) (touched : AreTouched index wanted ids) where
-  pub changes-are : (changes : List Change) → changes ≡ flat_map (λ id. set_tags id (message_tags index id) (message_tags wanted id)) ids → changes ≡ tag_changes index wanted
+  pub changes-are : (changes : List Change) → changes ≡ flat_map (λ id. set_tags id (tags_of index id) (tags_of wanted id)) ids → changes ≡ tag_changes index wanted
   changes-are changes are =
-      let change_of : List ℕ → List Change = λ id. set_tags id (message_tags index id) (message_tags wanted id) in
+      let change_of : List ℕ → List Change = λ id. set_tags id (tags_of index id) (tags_of wanted id) in
       are
       ∙ (ap (flat_map change_of) touched.ids_are
       ∙ filter-silent change_of (has_text touched.among) (live_ids index.files index.entries)
-      (λ id apart. cond-true (pointwise same_text (message_tags index id) (message_tags wanted id)) [] (SetTags id (message_tags wanted id) ∷ []) (alike (message_tags index id) (message_tags wanted id) (touched.others id apart))))
+      (λ id apart. cond-true (pointwise same_text (tags_of index id) (tags_of wanted id)) [] (SetTags id (tags_of wanted id) ∷ []) (alike (tags_of index id) (tags_of wanted id) (touched.others id apart))))
 
-  changed-by : (id : List ℕ) (b : Bool) (rest : Texts) → flat_map (λ other. renames (message_tags wanted other) (message_paths index.files other)) (cond (not b) (id ∷ rest) rest)
-      ≡ cond b [] (renames (message_tags wanted id) (message_paths index.files id)) ++ flat_map (λ other. renames (message_tags wanted other) (message_paths index.files other)) rest
+  changed-by : (id : List ℕ) (b : Bool) (rest : Texts) → flat_map (λ other. renames (tags_of wanted other) (message_paths index.files other)) (cond (not b) (id ∷ rest) rest)
+      ≡ cond b [] (renames (tags_of wanted id) (message_paths index.files id)) ++ flat_map (λ other. renames (tags_of wanted other) (message_paths index.files other)) rest
   changed-by id true rest = refl
   changed-by id false rest = refl
 
   changed-all : (all : Texts) → flat_map (renames_of index wanted) all
-      ≡ flat_map (λ id. renames (message_tags wanted id) (message_paths index.files id)) (filter (λ id. not (pointwise same_text (message_tags index id) (message_tags wanted id))) all)
+      ≡ flat_map (λ id. renames (tags_of wanted id) (message_paths index.files id)) (filter (λ id. not (pointwise same_text (tags_of index id) (tags_of wanted id))) all)
   changed-all [] = refl
   changed-all (id ∷ all) =
       ap (λ (l : List Rename). renames_of index wanted id ++ l) (changed-all all)
-      ∙ sym (changed-by id (pointwise same_text (message_tags index id) (message_tags wanted id)) (filter (λ other. not (pointwise same_text (message_tags index other) (message_tags wanted other))) all))
+      ∙ sym (changed-by id (pointwise same_text (tags_of index id) (tags_of wanted id)) (filter (λ other. not (pointwise same_text (tags_of index other) (tags_of wanted other))) all))
 
   pub renames-are : (list : List Rename) → list ≡ flat_map (renames_of index wanted) ids → list ≡ renames_for index wanted
   renames-are list are =
       are
       ∙ (ap (flat_map (renames_of index wanted)) touched.ids_are
       ∙ (filter-silent (renames_of index wanted) (has_text touched.among) (live_ids index.files index.entries)
-      (λ id apart. cond-true (pointwise same_text (message_tags index id) (message_tags wanted id)) [] (renames (message_tags wanted id) (message_paths index.files id)) (alike (message_tags index id) (message_tags wanted id) (touched.others id apart)))
+      (λ id apart. cond-true (pointwise same_text (tags_of index id) (tags_of wanted id)) [] (renames (tags_of wanted id) (message_paths index.files id)) (alike (tags_of index id) (tags_of wanted id) (touched.others id apart)))
       ∙ changed-all (live_ids index.files index.entries)))
 
 -- some changes make one commit, and none make none

@@ -6,10 +6,10 @@ use Rattle.std.specs.Map.{values_of}
 use Rattle.std.specs.Prelude.{OnOk}
 use Rattle.nm_base.specs.Order.{has_text, same_text}
 use Rattle.nm_index.specs.declared.base.Base.{Base}
-use Rattle.nm_plan.specs.NameTags.{message_tags}
+use Rattle.nm_answer.specs.View.{tags_of}
 use Rattle.nm_plan.specs.Numbering.{AreNumbered}
-use Rattle.nm_plan.specs.Tagging.{asked_tags, found_by, line_sets, wanted_after, wanted_by}
-use Rattle.nm_plan.specs.declared.tagging.Tagging.{Tagging}
+use Rattle.nm_answer.specs.Tagging.{asked_tags, found_by, line_sets, wanted_after, wanted_by}
+use Rattle.nm_answer.specs.declared.tagging.Tagging.{Tagging}
 use Rattle.nm_writer.specs.Naming.{live_at_numbers}
 use Rattle.nm_writer.specs.Wanting.{AreTouched}
 use Rattle.nm_writer.proofs.NamingLemmas.{live_are, none_yet}
@@ -21,15 +21,15 @@ abbrev Pairs : Type 0
 Pairs = List (ℕ × List ℕ)
 
 -- what is wanted after these lines, and which messages they found
-pub record InWanting (clear : Bool) (moment : ℤ) (shown : Base) (lines : List Tagging) (after : Base) (pairs : Pairs) : Type 0 where
-  pub after_is : after ≡ wanted_by clear moment shown lines
+pub record InWanting (moment : ℤ) (shown : Base) (lines : List Tagging) (after : Base) (pairs : Pairs) : Type 0 where
+  pub after_is : after ≡ wanted_by moment shown lines
   pub among : Texts
   pub pairs_are : pairs ≡ live_at_numbers shown among
-  pub others : (id : List ℕ) → has_text among id ≡ false → message_tags after id ≡ message_tags shown id
+  pub others : (id : List ℕ) → has_text among id ≡ false → tags_of after id ≡ tags_of shown id
 
-pub nothing_wanted : (clear : Bool) (moment : ℤ) (shown after : Base) (pairs : Pairs) → after ≡ shown → pairs ≡ [] → InWanting clear moment shown [] after pairs
-nothing_wanted clear moment shown after pairs same none =
-    record { after_is = same; among = []; pairs_are = none_yet shown pairs none; others = λ id apart. ap (λ (i : Base). message_tags i id) same }
+pub nothing_wanted : (moment : ℤ) (shown after : Base) (pairs : Pairs) → after ≡ shown → pairs ≡ [] → InWanting moment shown [] after pairs
+nothing_wanted moment shown after pairs same none =
+    record { after_is = same; among = []; pairs_are = none_yet shown pairs none; others = λ id apart. ap (λ (i : Base). tags_of i id) same }
 
 or-step : (a : Bool) (b c d : Bool) → b ≡ (c || d) → (a || b) ≡ ((a || c) || d)
 or-step true b c d h = refl
@@ -43,49 +43,49 @@ neither : (a b : Bool) → (a || b) ≡ false → (a ≡ false) × (b ≡ false)
 neither true b h = absurd (cc)
 neither false b h = (refl, h)
 
-module _ (others : (clear : Bool) (moment : ℤ) (index : Base) (line : Tagging) (id : List ℕ) → has_text (found_by moment index line) id ≡ false → message_tags (wanted_after clear moment index line) id ≡ message_tags index id)
-    (rest : (clear : Bool) (moment : ℤ) (index : Base) (lines : List Tagging) → wanted_by clear moment index lines ≡ record index { tags = (wanted_by clear moment index lines).tags }) where
+module _ (others : (moment : ℤ) (index : Base) (line : Tagging) (id : List ℕ) → has_text (found_by moment index line) id ≡ false → tags_of (wanted_after moment index line) id ≡ tags_of index id)
+    (rest : (moment : ℤ) (index : Base) (lines : List Tagging) → wanted_by moment index lines ≡ record index { tags = (wanted_by moment index lines).tags }) where
   -- all but tags is that of the index
-  same_but_tags : (clear : Bool) (moment : ℤ) (shown : Base) (lines : List Tagging) (after : Base) (pairs : Pairs) → InWanting clear moment shown lines after pairs → after ≡ record shown { tags = after.tags }
-  same_but_tags clear moment shown lines after pairs h =
-      h.after_is ∙ (rest clear moment shown lines ∙ ap (λ (i : Base). record shown { tags = i.tags }) (sym h.after_is))
+  same_but_tags : (moment : ℤ) (shown : Base) (lines : List Tagging) (after : Base) (pairs : Pairs) → InWanting moment shown lines after pairs → after ≡ record shown { tags = after.tags }
+  same_but_tags moment shown lines after pairs h =
+      h.after_is ∙ (rest moment shown lines ∙ ap (λ (i : Base). record shown { tags = i.tags }) (sym h.after_is))
 
-  same_numbers : (clear : Bool) (moment : ℤ) (shown : Base) (lines : List Tagging) (after : Base) (pairs : Pairs) → InWanting clear moment shown lines after pairs → (ids : Texts) → live_at_numbers after ids ≡ live_at_numbers shown ids
-  same_numbers clear moment shown lines after pairs h ids = ap (λ (i : Base). live_at_numbers i ids) (same_but_tags clear moment shown lines after pairs h)
+  same_numbers : (moment : ℤ) (shown : Base) (lines : List Tagging) (after : Base) (pairs : Pairs) → InWanting moment shown lines after pairs → (ids : Texts) → live_at_numbers after ids ≡ live_at_numbers shown ids
+  same_numbers moment shown lines after pairs h ids = ap (λ (i : Base). live_at_numbers i ids) (same_but_tags moment shown lines after pairs h)
 
-  pub numbered_still : (clear : Bool) (moment : ℤ) (shown : Base) (lines : List Tagging) (after : Base) (pairs : Pairs) → InWanting clear moment shown lines after pairs → AreNumbered shown → AreNumbered after
-  numbered_still clear moment shown lines after pairs h order = subst AreNumbered (sym (same_but_tags clear moment shown lines after pairs h)) order
+  pub numbered_still : (moment : ℤ) (shown : Base) (lines : List Tagging) (after : Base) (pairs : Pairs) → InWanting moment shown lines after pairs → AreNumbered shown → AreNumbered after
+  numbered_still moment shown lines after pairs h order = subst AreNumbered (sym (same_but_tags moment shown lines after pairs h)) order
 
-  next_wanted : (clear : Bool) (moment : ℤ) (shown : Base) (lines : List Tagging) (before : Base) (pairs : Pairs) (line : Tagging) (after : Base) (more : Pairs) → InWanting clear moment shown lines before pairs
-      → after ≡ wanted_after clear moment before line → ((ids : Texts) → pairs ≡ live_at_numbers before ids → more ≡ live_at_numbers before (ids ++ found_by moment before line)) → InWanting clear moment shown (lines ++ line ∷ []) after more
-  next_wanted clear moment shown lines before pairs line after more h is put =
+  next_wanted : (moment : ℤ) (shown : Base) (lines : List Tagging) (before : Base) (pairs : Pairs) (line : Tagging) (after : Base) (more : Pairs) → InWanting moment shown lines before pairs
+      → after ≡ wanted_after moment before line → ((ids : Texts) → pairs ≡ live_at_numbers before ids → more ≡ live_at_numbers before (ids ++ found_by moment before line)) → InWanting moment shown (lines ++ line ∷ []) after more
+  next_wanted moment shown lines before pairs line after more h is put =
       let found : Texts = found_by moment before line in
       record {
-        after_is = is ∙ (ap (λ (i : Base). wanted_after clear moment i line) h.after_is ∙ sym (fold-append (wanted_after clear moment) shown lines (line ∷ [])));
+        after_is = is ∙ (ap (λ (i : Base). wanted_after moment i line) h.after_is ∙ sym (fold-append (wanted_after moment) shown lines (line ∷ [])));
         among = h.among ++ found;
-        pairs_are = put h.among (h.pairs_are ∙ sym (same_numbers clear moment shown lines before pairs h h.among)) ∙ same_numbers clear moment shown lines before pairs h (h.among ++ found);
+        pairs_are = put h.among (h.pairs_are ∙ sym (same_numbers moment shown lines before pairs h h.among)) ∙ same_numbers moment shown lines before pairs h (h.among ++ found);
         others = λ id apart. let none = neither (has_text h.among id) (has_text found id) (sym (has-append h.among found id) ∙ apart) in
-            ap (λ (i : Base). message_tags i id) is ∙ (others clear moment before line id none.1 ∙ h.others id none.0);
+            ap (λ (i : Base). tags_of i id) is ∙ (others moment before line id none.1 ∙ h.others id none.0);
       }
 
-  pub line_more : (clear : Bool) (moment passed : ℤ) (shown : Base) (lines : List Tagging) (i : ℕ) (before : Base) (pairs : Pairs) (line : Tagging) (after : Base) (more : Pairs) → passed ≡ moment → i < length lines → line ≡ get_or lines i line
-      → InWanting clear moment shown (take i lines) before pairs → after ≡ wanted_after clear passed before line
-      → ((ids : Texts) → pairs ≡ live_at_numbers before ids → more ≡ live_at_numbers before (ids ++ found_by passed before line)) → InWanting clear moment shown (take (i + 1) lines) after more
-  line_more clear moment passed shown lines i before pairs line after more same within item h is put =
+  pub line_more : (moment passed : ℤ) (shown : Base) (lines : List Tagging) (i : ℕ) (before : Base) (pairs : Pairs) (line : Tagging) (after : Base) (more : Pairs) → passed ≡ moment → i < length lines → line ≡ get_or lines i line
+      → InWanting moment shown (take i lines) before pairs → after ≡ wanted_after passed before line
+      → ((ids : Texts) → pairs ≡ live_at_numbers before ids → more ≡ live_at_numbers before (ids ++ found_by passed before line)) → InWanting moment shown (take (i + 1) lines) after more
+  line_more moment passed shown lines i before pairs line after more same within item h is put =
       let front : take (i + 1) lines ≡ take i lines ++ line ∷ [] = take_more lines i line within ∙ ap (λ (l : Tagging). take i lines ++ l ∷ []) (sym item) in
-      subst (λ (l : List Tagging). InWanting clear moment shown l after more) (sym front)
-      (next_wanted clear moment shown (take i lines) before pairs line after more h (is ∙ ap (λ (m : ℤ). wanted_after clear m before line) same)
+      subst (λ (l : List Tagging). InWanting moment shown l after more) (sym front)
+      (next_wanted moment shown (take i lines) before pairs line after more h (is ∙ ap (λ (m : ℤ). wanted_after m before line) same)
       (λ ids so_far. put ids so_far ∙ ap (λ (m : ℤ). live_at_numbers before (ids ++ found_by m before line)) same))
 
 -- and so these are the messages that may have other tags
-pub all_touched : (clear : Bool) (moment : ℤ) (shown : Base) (lines : List Tagging) (after : Base) (pairs : Pairs) (ids : Texts) → InWanting clear moment shown lines after pairs → ids ≡ values_of pairs → AreTouched shown after ids
-all_touched clear moment shown lines after pairs ids h are = record { among = h.among; ids_are = live_are shown h.among pairs ids are h.pairs_are; others = h.others }
+pub all_touched : (moment : ℤ) (shown : Base) (lines : List Tagging) (after : Base) (pairs : Pairs) (ids : Texts) → InWanting moment shown lines after pairs → ids ≡ values_of pairs → AreTouched shown after ids
+all_touched moment shown lines after pairs ids h are = record { among = h.among; ids_are = live_are shown h.among pairs ids are h.pairs_are; others = h.others }
 
 -- what a line finds, with the tags that are then wanted
-pub sets_are : (clear : Bool) (moment passed : ℤ) (before : Base) (line : Tagging) (found seen : Texts) (sets : List (List ℕ × Texts)) → passed ≡ moment → found ≡ found_by passed before line → seen ≡ found
-    → sets ≡ map (λ id. (id, asked_tags clear line (message_tags before id))) seen → sets ≡ line_sets clear moment before line
-sets_are clear moment passed before line found seen sets same is as_found are =
-    are ∙ ap (λ (l : Texts). map {A = List ℕ} {B = List ℕ × Texts} (λ id. (id, asked_tags clear line (message_tags before id))) l) (as_found ∙ (is ∙ ap (λ (m : ℤ). found_by m before line) same))
+pub sets_are : (moment passed : ℤ) (before : Base) (line : Tagging) (found seen : Texts) (sets : List (List ℕ × Texts)) → passed ≡ moment → found ≡ found_by passed before line → seen ≡ found
+    → sets ≡ map (λ id. (id, asked_tags line (tags_of before id))) seen → sets ≡ line_sets moment before line
+sets_are moment passed before line found seen sets same is as_found are =
+    are ∙ ap (λ (l : Texts). map {A = List ℕ} {B = List ℕ × Texts} (λ id. (id, asked_tags line (tags_of before id))) l) (as_found ∙ (is ∙ ap (λ (m : ℤ). found_by m before line) same))
 
 -- what holds holds where the answer is a value
 pub always : {T E P : Type 0} (result : Result T E) → P → OnOk result P

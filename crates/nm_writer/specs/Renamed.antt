@@ -13,7 +13,8 @@ use Rattle.nm_maildir.specs.declared.answers.MailError.{MailError}
 use Rattle.nm_maildir.specs.declared.answers.Renamed.{Renamed}
 use Rattle.nm_maildir.specs.declared.given.Given.{Given}
 use Rattle.nm_maildir.specs.declared.given.Given.TheVariants as given
-use Rattle.nm_plan.specs.Moving.{Outcome, answer_given, move_given, note_of, outcomes}
+use Rattle.nm_answer.specs.Renaming.{Outcome, answer_given, note_of, outcomes}
+use Rattle.nm_plan.specs.Moving.{move_given}
 use Rattle.nm_writer.specs.declared.renaming.Renaming.{Renaming}
 
 -- the files of the index once the moves that were noted are made

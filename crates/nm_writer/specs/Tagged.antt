@@ -6,9 +6,10 @@ use Rattle.nm_commit.specs.declared.change.Commit.{Commit}
 use Rattle.nm_flags.specs.declared.renames.Rename.{Rename}
 use Rattle.nm_index.specs.declared.base.Base.{Base}
 use Rattle.nm_maildir.specs.declared.given.Given.{Given}
-use Rattle.nm_plan.specs.Moving.{HasDoneAll, HasTried, move_commit, renames_done, renames_for, sync_report, tag_commits, unmoved_in}
+use Rattle.nm_answer.specs.Renaming.{renames_done, renames_for, sync_report, unmoved_in}
+use Rattle.nm_plan.specs.Moving.{HasDoneAll, HasTried, move_commit, tag_commits}
 use Rattle.nm_plan.specs.Tagging.{tag_commit}
-use Rattle.nm_plan.specs.declared.sync_report.SyncReport.{SyncReport}
+use Rattle.nm_answer.specs.declared.sync_report.SyncReport.{SyncReport}
 use Rattle.nm_writer.specs.Renamed.{outcomes_noted}
 use Rattle.nm_writer.specs.Writer.{WriterState}
 use Rattle.nm_writer.specs.Writing.{FailsWithin, HasCommitted, IsAfterCommits, PassesWithin, StopsWithin}

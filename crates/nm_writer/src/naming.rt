@@ -4,7 +4,8 @@ ghost use Rattle.std.specs.Prelude.{◌≡◌, ◌++◌, ◌∷◌, [], ℕ, Lis
 ghost use Rattle.std.specs.List.{flat_map};
 ghost use Rattle.nm_commit.specs.Files.{Fits};
 ghost use Rattle.nm_flags.specs.Following.{tags_by_names};
-ghost use Rattle.nm_plan.specs.NameTags.{follow_names, live_of, message_paths, message_tags, named_tags, set_tags, with_names};
+ghost use Rattle.nm_answer.specs.View.{message_paths, tags_of};
+ghost use Rattle.nm_plan.specs.NameTags.{follow_names, live_of, named_tags, set_tags, with_names};
 ghost use Rattle.nm_plan.specs.Numbering.{AreNumbered};
 ghost use Rattle.nm_writer.specs.Naming.{live_at_numbers};
 
@@ -84,7 +85,7 @@ fn add_all_tags(
     ids: &[MessageId],
     changes: &mut Many<Change>,
 ) -> Result<(), NoMemory>
-    ensures { OnOk result (changes.new ≡ changes.old ++ flat_map (λ id. set_tags id (message_tags after.now id) (named_tags after.now id)) ids.now) }
+    ensures { OnOk result (changes.new ≡ changes.old ++ flat_map (λ id. set_tags id (tags_of after.now id) (named_tags after.now id)) ids.now) }
 {
     'ids: for id in ids {
         add_tags(alloc, after, id, changes)?;
@@ -98,7 +99,7 @@ fn add_tags(
     id: &MessageId,
     changes: &mut Many<Change>,
 ) -> Result<(), NoMemory>
-    ensures { OnOk result (changes.new ≡ changes.old ++ set_tags id.now (message_tags after.now id.now) (named_tags after.now id.now)) }
+    ensures { OnOk result (changes.new ≡ changes.old ++ set_tags id.now (tags_of after.now id.now) (named_tags after.now id.now)) }
 {
     let paths = message_paths(alloc, after, id)?;
     match after.tags(id) {

@@ -8,14 +8,15 @@ ghost use Rattle.std.specs.Ordering.{nat_cmp};
 ghost use Rattle.nm_base.specs.declared.facts.Facts.{Facts};
 ghost use Rattle.nm_commit.specs.Files.{has_path, with_moved};
 ghost use Rattle.nm_maildir.specs.Observed.{HasMailCause};
-ghost use Rattle.nm_plan.specs.Moving.{files_moved, move_given, move_if, unmoved_by, unmoved_in};
+ghost use Rattle.nm_answer.specs.Renaming.{files_moved, unmoved_by, unmoved_in};
+ghost use Rattle.nm_plan.specs.Moving.{move_given, move_if};
 ghost use Rattle.nm_writer.specs.Renamed.{AreTried, AsksRenames, HasPlaces, IsDone, IsKept, IsLeft, files_noted, outcomes_noted};
 
+use nm_answer::Unmoved;
 use nm_base::{Copies, MailPath, Many, NoMemory};
 use nm_commit::Change;
 use nm_flags::Rename;
 use nm_maildir::{Given, MailError, Maildir, Renamed};
-use nm_plan::Unmoved;
 use nm_state::Snapshot;
 use std::alloc::Global;
 use std::collections::BTreeMap;

@@ -8,7 +8,7 @@ ghost use Rattle.nm_index.specs.Fits.{FitInTurn};
 ghost use Rattle.nm_index.specs.declared.base.Base.{Base};
 ghost use Rattle.nm_maildir.specs.declared.given.Given.{Given};
 ghost use Rattle.nm_plan.specs.Moving.{move_commit};
-ghost use Rattle.nm_plan.specs.Tagging.{wanted_by};
+ghost use Rattle.nm_answer.specs.Tagging.{wanted_by};
 ghost use Rattle.nm_writer.specs.Durable.{IsDurable};
 ghost use Rattle.nm_writer.specs.Renamed.{AreTried, AsksRenames};
 ghost use Rattle.nm_writer.specs.Tagged.{IsAfterRenames, IsAfterTags};
@@ -20,11 +20,12 @@ use crate::renaming::{Renaming, rename_all};
 use crate::tagging::{Planned, plan_tags};
 use crate::wanting::{Wanted, wanted_by};
 use crate::{WriteError, Writer};
+use nm_answer::{SyncReport, Tagging};
 use nm_base::Many;
 use nm_disk::Disk;
 use nm_flags::Rename;
 use nm_maildir::{Given, MailError, Maildir};
-use nm_plan::{SyncReport, Tagging, tag_commits_fit, the_commit_of_tags_leaves_what_is_wanted};
+use nm_plan::{tag_commits_fit, the_commit_of_tags_leaves_what_is_wanted};
 
 impl Writer {
     /// Sets the tags that the lines want, the first line first, in one commit; then renames the files whose names follow their
@@ -34,7 +35,6 @@ impl Writer {
         mail: &mut M,
         disk: &mut D,
         lines: &Many<Tagging>,
-        clear: bool,
         moment: i64,
         noted: &mut Many<Given>,
     ) -> Result<SyncReport, WriteError>
@@ -43,7 +43,7 @@ impl Writer {
         requires stands { self.old.closed ≡ None → IfSome (D.observed disk.old).told (λ moments. StandsOnIndex moments.present self.old) }
 
         // Both commits are made, or by the error the first of them; the report is of the renames that the tags ask for.
-        ensures after { IsAfterTags (wanted_by clear moment self.old.shown lines.now) noted.new self.old (D.observed disk.new).faults result self.new }
+        ensures after { IsAfterTags (wanted_by moment self.old.shown lines.now) noted.new self.old (D.observed disk.new).faults result self.new }
 
         // A writer that is closed says so, and no device is asked.
         ensures closed { IfSome self.old.closed (λ fault. (result ≡ Err (WriteError.Closed fault)) × (M.observed mail.new ≡ M.observed mail.old) × (D.observed disk.new ≡ D.observed disk.old)) }
@@ -62,7 +62,7 @@ impl Writer {
     {
         match self.closed {
             Some(fault) => Err(WriteError::Closed { fault }),
-            None => self.want_and_set(mail, disk, lines, clear, moment, noted),
+            None => self.want_and_set(mail, disk, lines, moment, noted),
         }
     }
 
@@ -72,7 +72,6 @@ impl Writer {
         mail: &mut M,
         disk: &mut D,
         lines: &Many<Tagging>,
-        clear: bool,
         moment: i64,
         noted: &mut Many<Given>,
     ) -> Result<SyncReport, WriteError>
@@ -80,7 +79,7 @@ impl Writer {
         requires alive { self.old.closed ≡ None }
         requires fresh { noted.old ≡ [] }
         requires stands { IfSome (D.observed disk.old).told (λ moments. StandsOnIndex moments.present self.old) }
-        ensures after { IsAfterTags (wanted_by clear moment self.old.shown lines.now) noted.new self.old (D.observed disk.new).faults result self.new }
+        ensures after { IsAfterTags (wanted_by moment self.old.shown lines.now) noted.new self.old (D.observed disk.new).faults result self.new }
         ensures asks { AsksRenames (M.observed mail.old) (M.observed mail.new) noted.old noted.new }
         ensures mail_cause { HasCauseOf is_read_fault (M.observed mail.old).faults (M.observed mail.new).faults result }
         ensures disk_cause { Counts (is_some self.new.closed) (D.observed disk.old).faults (D.observed disk.new).faults }
@@ -88,7 +87,7 @@ impl Writer {
         ensures durable { (entry : ObservedDisk) (opening : Base) → IsDurable entry opening (D.observed disk.old) self.old
             → IsDurable entry opening (D.observed disk.new) self.new }
     {
-        match wanted_by(self.alloc, &self.shown, lines.as_slice(), clear, moment) {
+        match wanted_by(self.alloc, &self.shown, lines.as_slice(), moment) {
             Ok(wanted) => self.set_tags(mail, disk, &wanted, noted),
             Err(error) => Err(error.into()),
         }

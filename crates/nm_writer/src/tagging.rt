@@ -6,8 +6,9 @@ ghost use Rattle.nm_faults.specs.Faults.{HasCauseOf};
 ghost use Rattle.nm_flags.specs.Renames.{renames};
 ghost use Rattle.nm_index.specs.Fits.{FitInTurn};
 ghost use Rattle.nm_index.specs.declared.base.Base.{Base};
-ghost use Rattle.nm_plan.specs.Moving.{renames_for};
-ghost use Rattle.nm_plan.specs.NameTags.{message_paths, message_tags, set_tags};
+ghost use Rattle.nm_answer.specs.Renaming.{renames_for};
+ghost use Rattle.nm_answer.specs.View.{message_paths, tags_of};
+ghost use Rattle.nm_plan.specs.NameTags.{set_tags};
 ghost use Rattle.nm_plan.specs.Tagging.{commit_with, tag_changes};
 ghost use Rattle.nm_writer.specs.Durable.{IsDurable};
 ghost use Rattle.nm_writer.specs.Wanting.{AreTouched, renames_of};
@@ -61,7 +62,7 @@ fn plan_message(
     changes: &mut Many<Change>,
     plan: &mut Many<Rename>,
 ) -> Result<(), NoMemory>
-    ensures changes { OnOk result (changes.new ≡ changes.old ++ set_tags id.now (message_tags shown.now id.now) (message_tags after.now id.now)) }
+    ensures changes { OnOk result (changes.new ≡ changes.old ++ set_tags id.now (tags_of shown.now id.now) (tags_of after.now id.now)) }
     ensures renames { OnOk result (plan.new ≡ plan.old ++ renames_of shown.now after.now id.now) }
 {
     let old = tags_of(alloc, shown, id)?;
@@ -76,7 +77,7 @@ fn plan_message(
 }
 
 fn tags_of(alloc: Global, shown: &Snapshot, id: &MessageId) -> Result<Tags, NoMemory>
-    ensures { IfOk result (λ tags. tags ≡ message_tags shown.now id.now) }
+    ensures { IfOk result (λ tags. tags ≡ tags_of shown.now id.now) }
 {
     match shown.tags(id) {
         Some(tags) => tags.copy(),

@@ -3,16 +3,17 @@
 ghost use Rattle.std.specs.Prelude.{◌≡◌, ◌++◌, ◌<◌, ℕ, List, false, IfOk, OnOk, map};
 ghost use Rattle.nm_answer.specs.Matches.{matches_of};
 ghost use Rattle.nm_dates.specs.Seconds.{IsMoment};
-ghost use Rattle.nm_plan.specs.NameTags.{message_tags};
+ghost use Rattle.nm_answer.specs.View.{tags_of};
 ghost use Rattle.nm_plan.specs.Numbering.{AreNumbered};
-ghost use Rattle.nm_plan.specs.Tagging.{asked_tags, found_by, wanted_after, wanted_by};
+ghost use Rattle.nm_answer.specs.Tagging.{asked_tags, found_by, wanted_after, wanted_by};
 ghost use Rattle.nm_writer.specs.Naming.{live_at_numbers};
 ghost use Rattle.nm_writer.specs.Wanting.{AreTouched};
 
 use crate::naming::add_numbered;
+use nm_answer::Tagging;
 use nm_base::{Copies, Many, MessageId, NoMemory, Steps, Tags};
 use nm_eval::matches;
-use nm_plan::{Tagging, a_line_tags_what_it_finds};
+use nm_plan::a_line_tags_what_it_finds;
 use nm_query::Query;
 use nm_state::Snapshot;
 use nm_tags::apply_ops;
@@ -28,25 +29,23 @@ pub(crate) struct Wanted {
     pub(crate) ids: Many<MessageId>,
 }
 
-/// What is wanted after the lines. A line costs what its query and the messages that it finds cost, and two handles of the maps
-/// of a snapshot.
+/// What is wanted after the lines. A line costs what its query and the messages that it finds cost.
 pub(crate) fn wanted_by(
     alloc: Global,
     shown: &Snapshot,
     lines: &[Tagging],
-    clear: bool,
     moment: i64,
 ) -> Result<Wanted, NoMemory>
     requires numbered { AreNumbered shown.now }
     requires moment { IsMoment moment }
-    ensures after { IfOk result (λ wanted. wanted.after ≡ wanted_by clear moment shown.now lines.now) }
+    ensures after { IfOk result (λ wanted. wanted.after ≡ wanted_by moment shown.now lines.now) }
     ensures ids { IfOk result (λ wanted. AreTouched shown.now wanted.after wanted.ids) }
 {
     a_line_tags_what_it_finds();
     let mut after = shown.copy()?;
     let mut numbered: BTreeMap<u64, MessageId> = BTreeMap::new(alloc);
     'lines: for line in lines {
-        after = want_line(alloc, &after, line, clear, moment, &mut numbered)?;
+        after = want_line(alloc, after, line, moment, &mut numbered)?;
     }
     let ids: Vec<MessageId> = numbered.into_values().collect(alloc)?;
     Ok(Wanted {
@@ -58,22 +57,21 @@ pub(crate) fn wanted_by(
 /// What is wanted after a line, where this is wanted before it. What it finds comes to its place among the others.
 fn want_line(
     alloc: Global,
-    before: &Snapshot,
+    before: Snapshot,
     line: &Tagging,
-    clear: bool,
     moment: i64,
     numbered: &mut BTreeMap<u64, MessageId>,
 ) -> Result<Snapshot, NoMemory>
-    requires numbered { AreNumbered before.now }
+    requires numbered { AreNumbered before }
     requires moment { IsMoment moment }
-    ensures after { IfOk result (λ after. after ≡ wanted_after clear moment before.now line.now) }
-    ensures found { OnOk result ((ids : List (List ℕ)) → numbered.old.entries ≡ live_at_numbers before.now ids
-        → numbered.new.entries ≡ live_at_numbers before.now (ids ++ found_by moment before.now line.now)) }
+    ensures after { IfOk result (λ after. after ≡ wanted_after moment before line.now) }
+    ensures found { OnOk result ((ids : List (List ℕ)) → numbered.old.entries ≡ live_at_numbers before ids
+        → numbered.new.entries ≡ live_at_numbers before (ids ++ found_by moment before line.now)) }
 {
     a_line_tags_what_it_finds();
-    let found = found(alloc, before, &line.query, moment)?;
-    let sets = line_sets(alloc, before, found.as_slice(), line, clear)?;
-    add_all_numbered(before, found.as_slice(), numbered)?;
+    let found = found(alloc, &before, &line.query, moment)?;
+    let sets = line_sets(alloc, &before, found.as_slice(), line)?;
+    add_all_numbered(&before, found.as_slice(), numbered)?;
     before.with_tags(&sets)
 }
 
@@ -99,13 +97,12 @@ fn line_sets(
     before: &Snapshot,
     found: &[MessageId],
     line: &Tagging,
-    clear: bool,
 ) -> Result<Many<(MessageId, Tags)>, NoMemory>
-    ensures { IfOk result (λ sets. sets ≡ map (λ id. (id, asked_tags clear line.now (message_tags before.now id))) found.now) }
+    ensures { IfOk result (λ sets. sets ≡ map (λ id. (id, asked_tags line.now (tags_of before.now id))) found.now) }
 {
     let mut sets = Many::new(alloc);
     'found: for id in found {
-        let tags = asked_tags(alloc, before, id, line, clear)?;
+        let tags = asked_tags(alloc, before, id, line)?;
         sets.push((id.copy()?, tags))?;
     }
     Ok(sets)
@@ -116,13 +113,12 @@ fn asked_tags(
     before: &Snapshot,
     id: &MessageId,
     line: &Tagging,
-    clear: bool,
 ) -> Result<Tags, NoMemory>
-    ensures { IfOk result (λ tags. tags ≡ asked_tags clear line.now (message_tags before.now id.now)) }
+    ensures { IfOk result (λ tags. tags ≡ asked_tags line.now (tags_of before.now id.now)) }
 {
     match before.tags(id) {
-        Some(tags) => apply_ops(alloc, tags, clear, &line.ops),
-        None => apply_ops(alloc, &Tags::new(alloc), clear, &line.ops),
+        Some(tags) => apply_ops(alloc, tags, line.clear, &line.ops),
+        None => apply_ops(alloc, &Tags::new(alloc), line.clear, &line.ops),
     }
 }
 

@@ -1,12 +1,14 @@
 //! The writer of an index on a disk.
 
-ghost use Rattle.std.specs.Prelude.{◌≡◌, ◌≤◌, [], false, length, IfErr, IfOk, IfSome, None};
+ghost use Rattle.std.specs.Prelude.{◌≡◌, ◌≤◌, [], false, length, IfErr, IfOk, IfSome, None, is_some};
 ghost use Rattle.nm_base.specs.Limits.{max_commits, max_count};
 ghost use Rattle.nm_disk.specs.Calls.{GoesOn};
 ghost use Rattle.nm_disk.specs.Images.{MayLeave};
 ghost use Rattle.nm_disk.specs.Observed.{bytes_now};
 ghost use Rattle.nm_faults.specs.Faults.{HasCauseOf};
 ghost use Rattle.nm_journal.specs.Moments.{GoesThrough, IsSynced, SyncsOrFails};
+ghost use Rattle.nm_plan.specs.Apart.{AreApart};
+ghost use Rattle.nm_plan.specs.Numbering.{AreNumbered};
 ghost use Rattle.nm_writer.specs.Durable.{IsDurable};
 ghost use Rattle.nm_writer.specs.Opening.{HasOpenFault, IsOfHead, is_disk_fault};
 ghost use Rattle.nm_writer.specs.StoredIndex.{HoldsIndex};
@@ -140,6 +142,21 @@ impl Writer {
         ensures { result.now ≡ self.now.shown }
     {
         &self.shown
+    }
+
+    /// The index that is shown numbers its messages in order, and no two of its files lie at one path: its clauses are the law.
+    pub fn shows_an_ordered_index(&self)
+        ensures numbered { AreNumbered self.now.shown }
+        ensures apart { AreApart self.now.shown.files }
+    {
+        let _ = &self.closed;
+    }
+
+    /// Whether the disk failed in a commit, so that no further one is made.
+    pub fn is_closed(&self) -> bool
+        ensures { result ≡ is_some self.now.closed }
+    {
+        self.closed.is_some()
     }
 
     /// For each commit that was acknowledged since the opening, in order, the clock of the disk at that moment.

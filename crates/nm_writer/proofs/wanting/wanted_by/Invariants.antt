@@ -4,4 +4,4 @@ use Rattle.nm_writer.proofs.wanting.wanted_by.Given as goal
 
 -- what is wanted after the lines so far, and which messages they found
 abbrev pub invariant-lines : goal.invariant-lines
-invariant-lines l = InWanting l.clear l.moment l.shown (take l.line-index l.lines) l.after l.numbered.entries
+invariant-lines l = InWanting l.moment l.shown (take l.line-index l.lines) l.after l.numbered.entries

@@ -3,7 +3,7 @@ use Rattle.nm_commit.specs.declared.change.Change.{Change}
 use Rattle.nm_index.specs.Fits.{FitInTurn}
 use Rattle.nm_index.specs.declared.base.Base.{Base}
 use Rattle.nm_plan.specs.Apart.{AreApart}
-use Rattle.nm_plan.specs.Moving.{renames_for}
+use Rattle.nm_answer.specs.Renaming.{renames_for}
 use Rattle.nm_plan.specs.Numbering.{AreNumbered}
 use Rattle.nm_plan.specs.Tagging.{commit_with, tag_changes, tag_commit}
 use Rattle.nm_writer.specs.Tagged.{IsAfterTags}

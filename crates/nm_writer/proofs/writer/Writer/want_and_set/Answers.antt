@@ -1,5 +1,5 @@
 use Rattle.std.proofs.Common.{rules, ◌≡◌, Err, sym, subst}
-use Rattle.nm_plan.specs.Tagging.{wanted_by}
+use Rattle.nm_answer.specs.Tagging.{wanted_by}
 use Rattle.nm_writer.specs.Tagged.{IsAfterTags}
 use Rattle.nm_writer.specs.declared.write_error.WriteError.TheVariants as errors
 use Rattle.nm_writer.proofs.TaggingLemmas.{nothing-set}
@@ -8,6 +8,6 @@ use Rattle.nm_writer.proofs.writer.Writer.want_and_set.Goals as goal
 pub returns-in-Err-clause-after : goal.returns-in-Err-clause-after
 returns-in-Err-clause-after g c =
     let faults = (g.D.Disk.observed c.args.disk.now).faults in
-    let wanted = wanted_by c.args.clear c.args.moment c.args.self.now.shown c.args.lines.now in
+    let wanted = wanted_by c.args.moment c.args.self.now.shown c.args.lines.now in
     let is : c.into.result ≡ errors.NoMemory = search rules in
     subst (λ error. IsAfterTags wanted c.args.noted.now c.args.self.now faults (Err error) c.args.self.now) (sym is) (nothing-set c.args.self.now wanted c.args.noted.now faults c.requires.fresh)
