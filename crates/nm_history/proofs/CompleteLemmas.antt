@@ -1,5 +1,5 @@
 -- A session in which nothing fails ends with status 0, or 7 for want of memory.
-use Rattle.std.proofs.Common.{◌≡◌, ◌≢◌, ℕ, ℤ, ◌<◌, ◌≤◌, ◌⊎◌, inl, inr, Bool, true, false, List, [], ◌∷◌, ◌++◌, Option, None, Some, IfSome, length, map, refl, sym, ap, ◌∙◌, subst, append-nil, arith, suc}
+use Rattle.std.proofs.Common.{◌≡◌, ◌≢◌, ℕ, ℤ, ◌<◌, ◌≤◌, ◌⊎◌, inl, inr, Bool, true, false, List, [], ◌∷◌, ◌++◌, Option, None, Some, IfSome, if◌then◌else◌, length, map, refl, sym, ap, ◌∙◌, subst, append-nil, arith, suc}
 use Rattle.std.specs.Io.KnownBytes.{Consumes, IsAtEnd}
 use Rattle.std.specs.Str.Lines.{lines}
 use Rattle.std.proofs.lemmas.Slice.Zip.{seconds-zip}
@@ -10,24 +10,32 @@ use Rattle.nm_disk.specs.Observed.{Moments, bytes_now}
 use Rattle.nm_disk.specs.declared.disk.FileNo.TheVariants.{Head}
 use Rattle.nm_index.specs.declared.base.Base.{Base}
 use Rattle.nm_io.specs.Observed.{ObservedStream}
-use Rattle.nm_log.specs.Script.{script_lines}
+use Rattle.nm_log.specs.ParsedLine.{parse_single, reads_input}
 use Rattle.nm_log.specs.declared.line_parser.ParsedLine.{ParsedLine}
+use Rattle.nm_log.specs.declared.line_parser.ParsedLine.TheVariants as asked
 use Rattle.nm_log.specs.declared.log.LineLog.{LineLog}
 use Rattle.nm_log.specs.declared.outcome.Outcome.{Outcome}
 use Rattle.nm_log.specs.declared.outcome.Outcome.TheVariants as outcomes
+use Rattle.nm_log.specs.declared.refusal.Refusal.{Refusal}
 use Rattle.nm_log.specs.declared.refusal.Refusal.TheVariants as refusals
 use Rattle.nm_log.specs.declared.script.ScriptLine.{ScriptLine}
 use Rattle.nm_machine.specs.declared.step.Step.{Step}
 use Rattle.nm_maildir.specs.Observed.{ObservedMail}
+use Rattle.nm_maildir.specs.declared.given.Given.{Given}
+use Rattle.nm_faults.specs.Faults.{Counts}
+use Rattle.nm_answer.specs.BatchLines.{queries_in, taggings_in}
+use Rattle.nm_answer.specs.declared.request.Request.{Request}
+use Rattle.nm_answer.specs.declared.request.Request.TheVariants as requests
 use Rattle.nm_writer.specs.StoredIndex.{HoldsIndex, HoldsNoIndex}
-use Rattle.nm_history.specs.Call.{Call, Ending, Ran, Refused, call_fault, call_lines, is_session, lines_by}
+use Rattle.nm_history.specs.Call.{Call, Ending, Ran, Refused, call_fault, call_lines, call_reads, command_reads, fault_of_input, input_fault, input_fault_by, is_session, line_refusal, reads_by}
 use Rattle.nm_history.specs.Complete.{EndsWell, IsComplete, IsFinished, IsWithin, MayRead, NoFault, Opens}
 use Rattle.nm_history.specs.Given.{GivenAlong, IsGiven}
 use Rattle.nm_history.specs.History.{History}
 use Rattle.nm_history.specs.LineAnswers.{HasAnswer, HasCause, LineAnswers}
 use Rattle.nm_history.specs.Lines.{Along, Before, RunLine, at_first, behind, behind_all, lines_run}
 use Rattle.nm_history.specs.PrintedOut.{AreLogsOf, PrintedOut, StreamAppends}
-use Rattle.nm_history.specs.Refusals.{IsInputPassed, PassesBefore, TakesInput}
+use Rattle.nm_history.specs.Refusals.{IsInputPassed, IsRead, PassesBefore, TakesInput}
+use Rattle.nm_history.specs.Requests.{bad_line_in, first_bad_line}
 use Rattle.nm_history.specs.Status.{Status, any_wants_memory, fault_of, fault_or, first_fault, session_status, single_status, status_by, status_of_fault, write_fault}
 
 -- each line has its log
@@ -39,43 +47,53 @@ logs-length (line ∷ script) (log ∷ logs) h = ap suc (logs-length script logs
 
 -- the counts never fall along the lines
 
-mail-grows : (opening : Base) (steps : List Step) (before : Before) (done : List RunLine) (old new : ObservedMail) → GivenAlong opening steps before done old new → old.faults ≤ new.faults
-mail-grows opening steps before [] old new h = omega (arith, ap (λ (m : ObservedMail). m.faults) h)
-mail-grows opening steps before (ran ∷ done) old new h = omega (arith, h.1.never_falls, mail-grows opening steps (behind before ran) done h.0 new h.2)
+mail-grows : (opening : Base) (moment : ℤ) (steps : List Step) (before : Before) (done : List RunLine) (old new : ObservedMail) → GivenAlong opening moment steps before done old new → old.faults ≤ new.faults
+mail-grows opening moment steps before [] old new h = omega (arith, ap (λ (m : ObservedMail). m.faults) h)
+mail-grows opening moment steps before (ran ∷ done) old new h = omega (arith, h.1.never_falls, mail-grows opening moment steps (behind before ran) done h.0 new h.2)
 
-disk-grows : (opening : Base) (steps : List Step) (before : Before) (done : List RunLine) (old new : ObservedMail) → GivenAlong opening steps before done old new
+disk-grows : (opening : Base) (moment : ℤ) (steps : List Step) (before : Before) (done : List RunLine) (old new : ObservedMail) → GivenAlong opening moment steps before done old new
     → before.disk_faults ≤ (behind_all before done).disk_faults
-disk-grows opening steps before [] old new h = omega arith
-disk-grows opening steps before (ran ∷ done) old new h = omega (arith, h.1.disk_never_falls, disk-grows opening steps (behind before ran) done h.0 new h.2)
+disk-grows opening moment steps before [] old new h = omega arith
+disk-grows opening moment steps before (ran ∷ done) old new h = omega (arith, h.1.disk_never_falls, disk-grows opening moment steps (behind before ran) done h.0 new h.2)
+
+-- where the disk's count stands the disk did not fail
+disk-well : (failed : Bool) (before now : ℕ) → Counts failed before now → now ≤ before → before < max_count → failed ≡ true → ⊥
+disk-well true before now h stands room is = let rose = h.1 room in absurd (omega arith)
+disk-well false before now h stands room is = absurd (cc)
 
 -- where no count rises no device failed in the line
-quiet-line : (outcome : Outcome) (line : ParsedLine) (before : Before) (mail disk : ℕ) → HasCause outcome line before mail disk
-    → mail ≤ before.mail_faults → before.mail_faults < max_count → disk ≤ before.disk_faults → before.disk_faults < max_count → fault_of outcome ≡ None
-quiet-line outcomes.Ok line before mail disk h m room d space = refl
-quiet-line (outcomes.Usage word kind) line before mail disk h m room d space = refl
-quiet-line (outcomes.BadQuery at kind) line before mail disk h m room d space = refl
-quiet-line (outcomes.BadDate at) line before mail disk h m room d space = refl
-quiet-line outcomes.MailFault line before mail disk h m room d space = let rose = h.2.1 room in absurd (omega arith)
-quiet-line outcomes.DiskFault line before mail disk h m room d space = let rose = h.2.1 space in absurd (omega arith)
-quiet-line (outcomes.Closed fault) line before mail disk h m room d space = refl
-quiet-line (outcomes.Limit limit) line before mail disk h m room d space = refl
-quiet-line outcomes.NoMemory line before mail disk h m room d space = refl
+module _ (line : ParsedLine) (input : List ℕ) (before : Before) (index : Base) (moment : ℤ) (noted : List Given) (mail disk : ℕ) (failed : Bool)
+    (m : mail ≤ before.mail_faults) (room : before.mail_faults < max_count) (well : failed ≡ true → ⊥) where
+  quiet-line : (outcome : Outcome) → HasCause outcome line input before index moment noted mail failed → fault_of outcome ≡ None
+  quiet-line outcomes.Ok h = refl
+  quiet-line (outcomes.Usage word kind) h = refl
+  quiet-line (outcomes.BadQuery at kind) h = refl
+  quiet-line (outcomes.BadDate at) h = refl
+  quiet-line (outcomes.BadLine bad kind) h = refl
+  quiet-line (outcomes.NotOne found) h = refl
+  quiet-line (outcomes.Gone path) h = refl
+  quiet-line outcomes.MailFault h = let rose = h.2.1 room in absurd (omega (arith, m))
+  quiet-line outcomes.DiskFault h = absurd (well h.3)
+  quiet-line (outcomes.Closed fault) h = refl
+  quiet-line (outcomes.Limit limit) h = refl
+  quiet-line outcomes.NoMemory h = refl
 
 abbrev logs-of : List RunLine → List LineLog
 logs-of done = map (λ ran. ran.1) done
 
 quiet-lines : (opening : Base) (moment : ℤ) (steps : List Step) (before : Before) (done : List RunLine) (old new : ObservedMail)
-    → GivenAlong opening steps before done old new → Along (HasAnswer opening moment steps) before done → before.mail_faults ≡ old.faults
+    → GivenAlong opening moment steps before done old new → Along (HasAnswer opening moment steps) before done → before.mail_faults ≡ old.faults
     → new.faults ≤ old.faults → old.faults < max_count → (behind_all before done).disk_faults ≤ before.disk_faults → before.disk_faults < max_count
     → first_fault (logs-of done) ≡ None
 quiet-lines opening moment steps before [] old new h answers same m room d space = refl
 quiet-lines opening moment steps before (ran ∷ done) old new h answers same m room d space =
-    let mail = mail-grows opening steps (behind before ran) done h.0 new h.2 in
-    let disk = disk-grows opening steps (behind before ran) done h.0 new h.2 in
+    let mail = mail-grows opening moment steps (behind before ran) done h.0 new h.2 in
+    let disk = disk-grows opening moment steps (behind before ran) done h.0 new h.2 in
     let noted = h.1.noted in
     let rises = h.1.never_falls in
     let disk_rises = h.1.disk_never_falls in
-    let first = quiet-line ran.1.outcome _ before ran.1.mail_faults ran.1.disk_faults answers.0.cause (omega arith) (omega arith) (omega arith) space in
+    let well : ran.1.disk_failed ≡ true → ⊥ = disk-well ran.1.disk_failed before.disk_faults ran.1.disk_faults answers.0.disk (omega arith) space in
+    let first = quiet-line _ _ before _ moment ran.1.given ran.1.mail_faults ran.1.disk_faults ran.1.disk_failed (omega arith) (omega arith) well ran.1.outcome answers.0.cause in
     ap (λ (f : Option ℕ). fault_or f (first_fault (logs-of done))) first
     ∙ quiet-lines opening moment steps (behind before ran) done h.0 new h.2 answers.1 noted (omega arith) (omega arith) (omega arith) (omega (arith, h.1.disk_never_falls))
 
@@ -99,9 +117,9 @@ within-limits limits.InputBytes read input call h within =
     let short = within.bytes in
     omega arith
 within-limits limits.Lines read input call h within =
-    let same = read-is call.entry.input.bytes call.after.input.bytes input read within.told h.0.bytes h.0.end in
-    let many : max_lines < length (lines input) = subst (λ (l : List ℕ). max_lines < length (lines l)) same h.1 in
-    let few = within.few in
+    let same = read-is call.entry.input.bytes call.after.input.bytes input read within.told h.1.bytes h.1.end in
+    let many : max_lines < length (lines input) = subst (λ (l : List ℕ). max_lines < length (lines l)) same h.2 in
+    let few = within.few h.0 in
     omega arith
 within-limits limits.Files read input call h within = h
 within-limits limits.Dirs read input call h within = h
@@ -142,25 +160,55 @@ ends-by true call out_failed status none quiet = elim (quiet-status call.done.lo
 ]
 ends-by false call out_failed status none quiet = inl (status ∙ ap (λ (b : Bool). single_status call.done.log.lines b) quiet, none)
 
--- the lines are those of the input that was told
-same-lines : (session : Bool) (words : List (List ℕ)) (read input : List ℕ) (call : Call) → TakesInput session read call.entry.input call.after.input → MayRead session input call
-    → lines_by session words read ≡ lines_by session words input
-same-lines true words read input call takes within =
-    ap (λ (l : List ℕ). script_lines l) (read-is call.entry.input.bytes call.after.input.bytes input read within.told takes.0.bytes takes.0.end)
-same-lines false words read input call takes within = refl
+-- the input that was read is the one that was told
+same-input : (reads session : Bool) (read input : List ℕ) (call : Call) → TakesInput reads session read call.entry.input call.after.input → MayRead reads input call → read ≡ input
+same-input true session read input call takes within = read-is call.entry.input.bytes call.after.input.bytes input read within.told takes.0.bytes takes.0.end
+same-input false session read input call takes within = takes.1 ∙ sym within
 
 -- a limit of the words or of the input was not passed
-not-passed : (limit : Limit) (read input : List ℕ) (call : Call) → call_fault call.words ≡ None → MayRead (is_session call.words) input call → PassesBefore limit read call → ⊥
+not-passed : (limit : Limit) (read input : List ℕ) (call : Call) → call_fault call.words ≡ None → MayRead (call_reads call.words) input call → PassesBefore limit read call → ⊥
 not-passed limit read input call right within (inl wrong) = let other = sym right ∙ wrong in absurd (cc)
 not-passed limit read input call right within (inr passed) =
     within-limits limit read input call passed.2 (subst (λ (b : Bool). MayRead b input call) passed.1 within)
 
+-- a call that reads no input is not refused for it
+unread-lines : (request : Request) (input : List ℕ) → reads_input request ≡ false → first_bad_line request input ≡ None
+unread-lines requests.New input reads = refl
+unread-lines (requests.Count ask) input reads = ap (λ (b : Bool). if b then bad_line_in (queries_in input) else None) reads
+unread-lines (requests.Search ask) input reads = refl
+unread-lines (requests.Dump ask) input reads = refl
+unread-lines (requests.Show ask) input reads = refl
+unread-lines (requests.Tag ask) input reads = ap (λ (b : Bool). if b then bad_line_in (taggings_in ask.clear input) else None) reads
+unread-lines (requests.Restore ask) input reads = absurd (cc)
+
+unread-command : (parsed : ParsedLine) (input : List ℕ) → command_reads parsed ≡ false → fault_of_input parsed input ≡ None
+unread-command (asked.Usage word kind) input reads = refl
+unread-command (asked.Request request) input reads = ap line_refusal (unread-lines request input reads)
+
+unread-by : (session : Bool) (words : List (List ℕ)) (input : List ℕ) → reads_by session words ≡ false → input_fault_by session words input ≡ None
+unread-by true words input reads = absurd (cc)
+unread-by false words input reads = unread-command (parse_single words) input reads
+
+pub unread-right : (words : List (List ℕ)) (input : List ℕ) → call_reads words ≡ false → input_fault words input ≡ None
+unread-right words input reads = unread-by (is_session words) words input reads
+
+unread-refused : (words : List (List ℕ)) (input : List ℕ) (refusal : Refusal) → call_reads words ≡ false → input_fault words input ≡ Some refusal → ⊥
+unread-refused words input refusal reads wrong = let other : None ≡ Some refusal = sym (unread-right words input reads) ∙ wrong in absurd (cc)
+
+-- no line of an input that is asked for was refused
+not-refused : (reads : Bool) (fault : Option Refusal) (refusal : Refusal) (read input : List ℕ) (call : Call) → call_reads call.words ≡ reads → MayRead reads input call
+    → IsRead read call.entry.input call.after.input → input_fault call.words read ≡ Some refusal → ⊥
+not-refused true fault refusal read input call is within taken wrong =
+    let same = read-is call.entry.input.bytes call.after.input.bytes input read within.told taken.bytes taken.end in
+    let other : None ≡ Some refusal = sym within.lines_are ∙ (ap (input_fault call.words) (sym same) ∙ wrong) in absurd (cc)
+not-refused false fault refusal read input call is within taken wrong = unread-refused call.words read refusal is wrong
+
 module _ (not_bad : (bytes : List ℕ) (index : Base) (at : ℕ) → HoldsIndex bytes index → HoldsNoIndex bytes at → ⊥) where
   by-ending : (ending : Ending) (opening : Base) (read : List ℕ) (out_failed : Bool) (call : Call) (input : List ℕ)
-      → call_fault call.words ≡ None → NoFault call → MayRead (is_session call.words) input call → Opens call
+      → call_fault call.words ≡ None → NoFault call → MayRead (call_reads call.words) input call → Opens call
       → PrintedOut ending read out_failed call → Status ending out_failed call
       → LineAnswers opening call.setting.moment (at_first opening call.entry) call.done.log.steps (lines_run read call)
-      → IsGiven opening call.done.log.steps (at_first opening call.entry) (lines_run read call) ending call.entry call.after
+      → IsGiven opening call.setting.moment call.done.log.steps (at_first opening call.entry) (lines_run read call) ending call.entry call.after
       → IsFinished input call ⊎ (call.done.status ≡ 7)
   by-ending (Refused (refusals.Usage word kind)) opening read out_failed call input right quiet within opens said status answers given =
       let wrong = sym right ∙ said.0.0 in absurd (cc)
@@ -168,6 +216,8 @@ module _ (not_bad : (bytes : List ℕ) (index : Base) (at : ℕ) → HoldsIndex 
       let wrong = sym right ∙ said.0.0 in absurd (cc)
   by-ending (Refused (refusals.BadDate at)) opening read out_failed call input right quiet within opens said status answers given =
       let wrong = sym right ∙ said.0.0 in absurd (cc)
+  by-ending (Refused (refusals.BadLine line kind)) opening read out_failed call input right quiet within opens said status answers given =
+      absurd (not-refused (call_reads call.words) None (refusals.BadLine line kind) read input call refl within said.0.1 said.0.2)
   by-ending (Refused refusals.ReadFault) opening read out_failed call input right quiet within opens said status answers given =
       let rose = said.0.2.1 quiet.input.room in let same = quiet.input.same in absurd (omega arith)
   by-ending (Refused (refusals.Limit limit)) opening read out_failed call input right quiet within opens said status answers given =
@@ -186,7 +236,8 @@ module _ (not_bad : (bytes : List ℕ) (index : Base) (at : ℕ) → HoldsIndex 
       subst (λ (l : List LineLog). first_fault l ≡ None) (seconds-zip script logs each)
       (quiet-lines opening call.setting.moment call.done.log.steps (at_first opening call.entry) (lines_run read call) call.entry.mail call.after.mail given.along answers refl
       (omega (arith, quiet.mail.same)) quiet.mail.room (omega (arith, quiet.disk.same, given.disk)) quiet.disk.room) in
-      let all : script ≡ call_lines call.words input = same-lines (is_session call.words) call.words read input call said.0.takes within in
+      let all : script ≡ call_lines call.words input =
+      ap (call_lines call.words) (same-input (call_reads call.words) (is_session call.words) read input call said.0.takes within) in
       elim (ends-by (is_session call.words) call out_failed status none no_out) [
         | inl well ↦ inl (record { ends = well; each = each ∙ ap (λ (l : List ScriptLine). length l) all })
         | inr seven ↦ inr seven

@@ -1,6 +1,5 @@
 -- The laws of single lines and of the status.
-use Rattle.std.proofs.Common.{◌≡◌, ◌⊎◌, ℕ, Bool, true, List, [], ◌∷◌, ◌++◌, Option, None, Some, Result, Ok, Err, length, refl, sym, ap, ◌∙◌, arith, inl, inr}
-use Rattle.nm_answer.specs.declared.request.Request.TheVariants as requests
+use Rattle.std.proofs.Common.{◌≡◌, ◌⊎◌, ℕ, ℤ, Bool, true, false, List, [], ◌∷◌, ◌++◌, Option, None, Some, Result, Ok, Err, length, refl, sym, ap, ◌∙◌, arith, inl, inr}
 use Rattle.nm_commit.specs.declared.change.Commit.{Commit}
 use Rattle.nm_index.specs.Index.{folded}
 use Rattle.nm_index.specs.declared.base.Base.{Base}
@@ -10,9 +9,11 @@ use Rattle.nm_log.specs.declared.log.LineLog.{LineLog}
 use Rattle.nm_log.specs.declared.outcome.Outcome.{Outcome}
 use Rattle.nm_log.specs.declared.outcome.Outcome.TheVariants as outcomes
 use Rattle.nm_machine.specs.declared.step.Step.{Step}
+use Rattle.nm_maildir.specs.declared.given.Given.{Given}
+use Rattle.nm_tags.specs.declared.line_error.LineKind.{LineKind}
 use Rattle.nm_history.specs.LineAnswers.{HasCause}
 use Rattle.nm_history.specs.Lines.{Before, IsIndexAt}
-use Rattle.nm_history.specs.Requests.{asks_to_write, first_refusal, own_query, refused_query, refused_text, refused_unasked}
+use Rattle.nm_history.specs.Requests.{asks_to_write, first_bad_line, first_refusal, is_writing, own_query, refused_closed, refused_line, refused_query, refused_text, refused_text_in, refused_text_of, refused_unasked}
 use Rattle.nm_query.specs.Answers.{answer_of}
 use Rattle.nm_query.specs.declared.query.Query.{Query}
 use Rattle.nm_query.specs.declared.query_error.QueryError.{QueryError}
@@ -36,38 +37,56 @@ one-index opening steps revision one other h k =
     ∙ sym k.index_is
 
 -- what is refused behind a fault of the disk
-closed-to : (line : ParsedLine) (fault : ℕ) → asks_to_write line ≡ true → refused_unasked line (Some fault) ≡ Some (outcomes.Closed fault)
-closed-to (asked.Request requests.New) fault e = refl
-closed-to (asked.Request (requests.Count ask)) fault e = absurd (cc)
-closed-to (asked.Request (requests.Search ask)) fault e = absurd (cc)
-closed-to (asked.Request (requests.Dump ask)) fault e = absurd (cc)
-closed-to (asked.Usage word kind) fault e = absurd (cc)
+closed-when : (refused : Option Outcome) (writing : Bool) (fault : ℕ) → refused ≡ None → writing ≡ true → first_refusal refused (refused_closed (Some fault) writing) ≡ Some (outcomes.Closed fault)
+closed-when None true fault none writes = refl
+closed-when None false fault none writes = absurd (cc)
+closed-when (Some outcome) writing fault none writes = absurd (cc)
 
-refused-is : (line : ParsedLine) (closed : Option ℕ) (fault : ℕ) → closed ≡ Some fault → asks_to_write line ≡ true → refused_unasked line closed ≡ Some (outcomes.Closed fault)
-refused-is line closed fault e writes = ap (refused_unasked line) e ∙ closed-to line fault writes
+closed-to : (line : ParsedLine) (input : List ℕ) (fault : ℕ) → asks_to_write line ≡ true → refused_text_in line input ≡ None → refused_unasked line input (Some fault) ≡ Some (outcomes.Closed fault)
+closed-to (asked.Request request) input fault writes right = closed-when (refused_text_of request input) (is_writing request) fault right writes
+closed-to (asked.Usage word kind) input fault writes right = absurd (cc)
+
+refused-is : (line : ParsedLine) (input : List ℕ) (closed : Option ℕ) (fault : ℕ) → closed ≡ Some fault → asks_to_write line ≡ true → refused_text_in line input ≡ None
+    → refused_unasked line input closed ≡ Some (outcomes.Closed fault)
+refused-is line input closed fault e writes right = ap (refused_unasked line input) e ∙ closed-to line input fault writes right
 
 clash : (outcome : Outcome) (refused : Option Outcome) → refused ≡ None → refused ≡ Some outcome → ⊥
 clash outcome refused none some = absurd (cc)
 
-pub closed-behind : (outcome : Outcome) (line : ParsedLine) (before : Before) (mail disk fault : ℕ) → before.closed ≡ Some fault → asks_to_write line ≡ true
-    → HasCause outcome line before mail disk → (outcome ≡ outcomes.Closed fault) ⊎ (outcome ≡ outcomes.NoMemory)
-closed-behind outcomes.Ok line before mail disk fault e writes h = absurd (clash _ _ h.0 (refused-is line before.closed fault e writes))
-closed-behind (outcomes.Usage word kind) line before mail disk fault e writes h =
-    let other : Some (outcomes.Usage word kind) ≡ Some (outcomes.Closed fault) = sym h.0 ∙ refused-is line before.closed fault e writes in absurd (cc)
-closed-behind (outcomes.BadQuery at kind) line before mail disk fault e writes h =
-    let other : Some (outcomes.BadQuery at kind) ≡ Some (outcomes.Closed fault) = sym h.0 ∙ refused-is line before.closed fault e writes in absurd (cc)
-closed-behind (outcomes.BadDate at) line before mail disk fault e writes h =
-    let other : Some (outcomes.BadDate at) ≡ Some (outcomes.Closed fault) = sym h.0 ∙ refused-is line before.closed fault e writes in absurd (cc)
-closed-behind outcomes.MailFault line before mail disk fault e writes h = absurd (clash _ _ h.0 (refused-is line before.closed fault e writes))
-closed-behind outcomes.DiskFault line before mail disk fault e writes h = absurd (clash _ _ h.0 (refused-is line before.closed fault e writes))
-closed-behind (outcomes.Closed other) line before mail disk fault e writes h =
-    let same : Some (outcomes.Closed other) ≡ Some (outcomes.Closed fault) = sym h.0 ∙ refused-is line before.closed fault e writes in inl (cc)
-closed-behind (outcomes.Limit limit) line before mail disk fault e writes (inl refused, h) =
-    let other : Some (outcomes.Limit limit) ≡ Some (outcomes.Closed fault) = sym refused ∙ refused-is line before.closed fault e writes in absurd (cc)
-closed-behind (outcomes.Limit limit) line before mail disk fault e writes (inr unrefused, h) = absurd (clash _ _ unrefused.0 (refused-is line before.closed fault e writes))
-closed-behind outcomes.NoMemory line before mail disk fault e writes h = inr refl
+-- another refusal than that of a closed index
+other-refusal : (refused : Option Outcome) (outcome : Outcome) (fault : ℕ) → refused ≡ Some (outcomes.Closed fault) → refused ≡ Some outcome → outcome ≡ outcomes.Closed fault
+other-refusal refused outcome fault closed is = let same : Some outcome ≡ Some (outcomes.Closed fault) = sym is ∙ closed in cc
 
--- a query is never refused as closed
+module _ (line : ParsedLine) (input : List ℕ) (before : Before) (index : Base) (moment : ℤ) (noted : List Given) (mail : ℕ) (failed : Bool) (fault : ℕ)
+    (e : before.closed ≡ Some fault) (writes : asks_to_write line ≡ true) (right : refused_text_in line input ≡ None) where
+  is-closed : refused_unasked line input before.closed ≡ Some (outcomes.Closed fault)
+  is-closed = refused-is line input before.closed fault e writes right
+
+  may-not : refused_unasked line input before.closed ≡ None → ⊥
+  may-not none = clash _ _ none is-closed
+
+  closed-by : (outcome : Outcome) → HasCause outcome line input before index moment noted mail failed → (outcome ≡ outcomes.Closed fault) ⊎ (outcome ≡ outcomes.NoMemory)
+  closed-by outcomes.Ok h = absurd (may-not h.0)
+  closed-by (outcomes.Usage word kind) h = inl (other-refusal _ (outcomes.Usage word kind) fault is-closed h.0)
+  closed-by (outcomes.BadQuery at kind) h = inl (other-refusal _ (outcomes.BadQuery at kind) fault is-closed h.0)
+  closed-by (outcomes.BadDate at) h = inl (other-refusal _ (outcomes.BadDate at) fault is-closed h.0)
+  closed-by (outcomes.BadLine bad kind) h = inl (other-refusal _ (outcomes.BadLine bad kind) fault is-closed h.0)
+  closed-by (outcomes.NotOne found) h = absurd (may-not h.0.0)
+  closed-by (outcomes.Gone path) h = absurd (may-not h.0.0)
+  closed-by outcomes.MailFault h = absurd (may-not h.0)
+  closed-by outcomes.DiskFault h = absurd (may-not h.0)
+  closed-by (outcomes.Closed other) h = inl (other-refusal _ (outcomes.Closed other) fault is-closed h.0)
+  closed-by (outcomes.Limit limit) (inl refused, h) = inl (other-refusal _ (outcomes.Limit limit) fault is-closed refused)
+  closed-by (outcomes.Limit limit) (inr (inl read), h) = absurd (may-not read.0)
+  closed-by (outcomes.Limit limit) (inr (inr may), h) = absurd (may-not may.0)
+  closed-by outcomes.NoMemory h = inr refl
+
+pub closed-behind : (outcome : Outcome) (line : ParsedLine) (input : List ℕ) (before : Before) (index : Base) (moment : ℤ) (noted : List Given) (mail : ℕ) (failed : Bool) (fault : ℕ)
+    → before.closed ≡ Some fault → asks_to_write line ≡ true → refused_text_in line input ≡ None
+    → HasCause outcome line input before index moment noted mail failed → (outcome ≡ outcomes.Closed fault) ⊎ (outcome ≡ outcomes.NoMemory)
+closed-behind outcome line input before index moment noted mail failed fault e writes right h = closed-by line input before index moment noted mail failed fault e writes right outcome h
+
+-- neither a line of an input nor a query is refused as closed
 text-not-closed : (answered : Result Query QueryError) (fault : ℕ) → first_refusal (refused_text answered) None ≡ Some (outcomes.Closed fault) → ⊥
 text-not-closed (Ok query) fault e = absurd (cc)
 text-not-closed (Err (query_errors.BadQuery at kind)) fault e = absurd (cc)
@@ -79,12 +98,17 @@ query-not-closed : (own : Option (List ℕ)) (fault : ℕ) → first_refusal (re
 query-not-closed None fault e = absurd (cc)
 query-not-closed (Some text) fault e = text-not-closed (answer_of text) fault e
 
-never-closed : (line : ParsedLine) (fault : ℕ) → refused_unasked line None ≡ Some (outcomes.Closed fault) → ⊥
-never-closed (asked.Request request) fault e = query-not-closed (own_query request) fault e
-never-closed (asked.Usage word kind) fault e = absurd (cc)
+lines-not-closed : (bad : Option (ℕ × LineKind)) (own : Option (List ℕ)) (fault : ℕ) → first_refusal (first_refusal (refused_line bad) (refused_query own)) None ≡ Some (outcomes.Closed fault) → ⊥
+lines-not-closed None own fault e = query-not-closed own fault e
+lines-not-closed (Some bad) own fault e = absurd (cc)
 
-pub open-not-closed : (line : ParsedLine) (before : Before) (mail disk fault : ℕ) → before.closed ≡ None → HasCause (outcomes.Closed fault) line before mail disk → ⊥
-open-not-closed line before mail disk fault e h = never-closed line fault (sym (ap (refused_unasked line) e) ∙ h.0)
+never-closed : (line : ParsedLine) (input : List ℕ) (fault : ℕ) → refused_unasked line input None ≡ Some (outcomes.Closed fault) → ⊥
+never-closed (asked.Request request) input fault e = lines-not-closed (first_bad_line request input) (own_query request) fault e
+never-closed (asked.Usage word kind) input fault e = absurd (cc)
+
+pub open-not-closed : (line : ParsedLine) (input : List ℕ) (before : Before) (index : Base) (moment : ℤ) (noted : List Given) (mail : ℕ) (failed : Bool) (fault : ℕ)
+    → before.closed ≡ None → HasCause (outcomes.Closed fault) line input before index moment noted mail failed → ⊥
+open-not-closed line input before index moment noted mail failed fault e h = never-closed line input fault (sym (ap (refused_unasked line input) e) ∙ h.0)
 
 -- the first fault decides
 

@@ -5,3 +5,4 @@ mod LawLemmas
 mod LineLemmas
 mod MachineLemmas
 pub mod SettledLemmas
+pub mod TreeLemmas

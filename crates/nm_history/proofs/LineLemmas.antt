@@ -1,25 +1,22 @@
 -- A line more keeps where a session stands, its commits, its answers and what the folder gave.
-use Rattle.std.proofs.Common.{◌≡◌, ◌⊎◌, ℕ, ℤ, ◌+◌, List, [], ◌∷◌, ◌++◌, Option, None, Some, IsSome, length, map, fold, refl, sym, ap, ◌∙◌, subst, arith, inl, inr, append-nil, append_assoc}
+use Rattle.std.proofs.Common.{◌≡◌, ◌⊎◌, ℕ, ℤ, ◌+◌, Bool, true, false, List, [], ◌∷◌, ◌++◌, Option, None, Some, IsSome, length, map, fold, refl, sym, ap, ◌∙◌, subst, arith, inl, inr, append-nil, append_assoc}
 use Rattle.std.specs.List.{flat_map}
 use Rattle.std.proofs.lemmas.Grind.{flat_map-append}
 use Rattle.std.proofs.lemmas.List.{length-append}
 use Rattle.nm_commit.specs.declared.change.Commit.{Commit}
+use Rattle.nm_faults.specs.Faults.{Counts}
 use Rattle.nm_index.specs.Index.{committed, folded}
 use Rattle.nm_index.specs.declared.base.Base.{Base}
 use Rattle.nm_log.specs.ParsedLine.{parse_line}
-use Rattle.nm_log.specs.declared.outcome.Outcome.{Outcome}
-use Rattle.nm_log.specs.declared.outcome.Outcome.TheVariants as outcomes
-use Rattle.nm_log.specs.declared.script.CommandText.{CommandText}
 use Rattle.nm_machine.specs.declared.step.Step.{Step}
 use Rattle.nm_maildir.specs.Observed.{ObservedMail}
 use Rattle.nm_maildir.specs.Tree.{Tree}
-use Rattle.nm_maildir.specs.declared.given.Given.{Given}
 use Rattle.nm_history.specs.Call.{Devices}
 use Rattle.nm_history.specs.Given.{Asks, GivenAlong}
 use Rattle.nm_history.specs.LineAnswers.{HasAnswer, HasCause, LineAnswers}
-use Rattle.nm_history.specs.LineCommits.{EachMakes, LineCommits, Makes, MakesCommits}
+use Rattle.nm_history.specs.LineCommits.{EachMakes, IsOnItsWay, LineCommits, Makes, MakesCommits}
 use Rattle.nm_history.specs.LineResult.{IsLineResult, Place, StandsAt, before_at, begin_step, commit_steps, line_steps, reply_step}
-use Rattle.nm_history.specs.Lines.{Along, Before, IsIndexAt, RunLine, at_first, begun, begun_by, behind, behind_all, closed_after}
+use Rattle.nm_history.specs.Lines.{Along, Before, IsIndexAt, RunLine, at_first, begun, begun_by, behind, behind_all, closed_after, tree_after, tree_after_all}
 use Rattle.nm_history.specs.MachineRun.{Replied, reply_to}
 
 pub fold-append : {A B : Type 0} (f : A → B → A) (a : A) (xs ys : List B) → fold f a (xs ++ ys) ≡ fold f (fold f a xs) ys
@@ -85,42 +82,30 @@ weave acknowledged way made flight (inr none) =
 
 -- a line leaves at most one commit on its way, and none where the writer stays open
 
-pub one-on-way : (outcome : Outcome) (tree : Option Tree) (index : Base) (line : CommandText) (noted : List Given) (count : ℕ) (made flight : List Commit)
-    → Makes outcome tree index line noted count made flight → (flight ≡ []) ⊎ ((commit : Commit) × (flight ≡ commit ∷ []))
-one-on-way outcomes.Ok tree index line noted count made flight h = inl h.1
-one-on-way (outcomes.Usage word kind) tree index line noted count made flight h = inl h.1
-one-on-way (outcomes.BadQuery at kind) tree index line noted count made flight h = inl h.1
-one-on-way (outcomes.BadDate at) tree index line noted count made flight h = inl h.1
-one-on-way outcomes.MailFault tree index line noted count made flight h = inl h.1
-one-on-way outcomes.DiskFault tree index line noted count made flight h = inr (h.0, h.2)
-one-on-way (outcomes.Closed fault) tree index line noted count made flight h = inl h.1
-one-on-way (outcomes.Limit limit) tree index line noted count made flight h = inl h.1
-one-on-way outcomes.NoMemory tree index line noted count made flight h = inl h.1
+pub one-on-way : (failed : Bool) (flight : List Commit) → IsOnItsWay failed flight → (flight ≡ []) ⊎ ((commit : Commit) × (flight ≡ commit ∷ []))
+one-on-way failed [] h = inl refl
+one-on-way failed (commit ∷ []) h = inr (commit, refl)
+one-on-way true (commit ∷ other ∷ more) h = absurd (omega (arith, h))
+one-on-way false (commit ∷ other ∷ more) h = absurd (omega (arith, h))
 
 -- the writer that is open behind a line was open before it, and the line left nothing on its way
-still-open : (outcome : Outcome) (closed : Option ℕ) (faults : ℕ) (tree : Option Tree) (index : Base) (line : CommandText) (noted : List Given) (count : ℕ) (made flight : List Commit)
-    → Makes outcome tree index line noted count made flight → closed_after closed outcome faults ≡ None → (closed ≡ None) × (flight ≡ [])
-still-open outcomes.Ok closed faults tree index line noted count made flight h e = (e, h.1)
-still-open (outcomes.Usage word kind) closed faults tree index line noted count made flight h e = (e, h.1)
-still-open (outcomes.BadQuery at kind) closed faults tree index line noted count made flight h e = (e, h.1)
-still-open (outcomes.BadDate at) closed faults tree index line noted count made flight h e = (e, h.1)
-still-open outcomes.MailFault closed faults tree index line noted count made flight h e = (e, h.1)
-still-open outcomes.DiskFault closed faults tree index line noted count made flight h e = absurd (cc)
-still-open (outcomes.Closed fault) closed faults tree index line noted count made flight h e = (e, h.1)
-still-open (outcomes.Limit limit) closed faults tree index line noted count made flight h e = (e, h.1)
-still-open outcomes.NoMemory closed faults tree index line noted count made flight h e = (e, h.1)
+still-open : (failed : Bool) (closed : Option ℕ) (faults : ℕ) (flight : List Commit) → IsOnItsWay failed flight → closed_after closed failed faults ≡ None → (closed ≡ None) × (flight ≡ [])
+still-open false closed faults [] h e = (e, refl)
+still-open false closed faults (commit ∷ more) h e = absurd (omega (arith, h))
+still-open true closed faults flight h e = absurd (cc)
 
 apart-by : (closed : Option ℕ) (way made flight : List Commit) → (closed ≡ None → way ≡ []) → (IsSome closed → made ++ flight ≡ []) → Apart way made flight
 apart-by None way made flight none idle = inl (none refl)
 apart-by (Some fault) way made flight none idle = inr (idle refl)
 
 -- what stands before a line, by its parts
-abbrev before-with : ℕ → ℕ → ℕ → Option ℕ → Before
-before-with revision mail disk closed = record { revision = revision; mail_faults = mail; disk_faults = disk; closed = closed }
+abbrev before-with : ℕ → ℕ → ℕ → Option ℕ → ℕ → Before
+before-with revision mail disk closed left = record { revision = revision; mail_faults = mail; disk_faults = disk; closed = closed; left = left }
 
-before-is : (r m d : ℕ) (c : Option ℕ) (s n e : ℕ) (k : Option ℕ) → r ≡ s → m ≡ n → d ≡ e → c ≡ k → before-with r m d c ≡ before-with s n e k
-before-is r m d c s n e k p q u v =
-    ap (λ x. before-with x m d c) p ∙ ap (λ x. before-with s x d c) q ∙ ap (λ x. before-with s n x c) u ∙ ap (λ (x : Option ℕ). before-with s n e x) v
+before-is : (r m d : ℕ) (c : Option ℕ) (l s n e : ℕ) (k : Option ℕ) (o : ℕ) → r ≡ s → m ≡ n → d ≡ e → c ≡ k → l ≡ o → before-with r m d c l ≡ before-with s n e k o
+before-is r m d c l s n e k o p q u v w =
+    ap (λ x. before-with x m d c l) p ∙ ap (λ x. before-with s x d c l) q ∙ ap (λ x. before-with s n x c l) u ∙ ap (λ (x : Option ℕ). before-with s n e x l) v
+    ∙ ap (λ x. before-with s n e k x) w
 
 module _ (opening : Base) (moment : ℤ) (entry : Devices) (steps taken : List Step) (lines : List RunLine) (acknowledged : List Commit)
     (old new : Place) (ran : RunLine) (at : StandsAt opening entry steps lines acknowledged old) (result : IsLineResult moment old ran taken new) where
@@ -147,8 +132,8 @@ module _ (opening : Base) (moment : ℤ) (entry : Devices) (steps taken : List S
 
   behind-is : behind (before_at old) ran ≡ before_at new
   behind-is =
-      before-is _ _ _ _ _ _ _ _ result.revision result.mail_faults result.disk_faults
-      (ap (λ n. closed_after old.writer.closed ran.1.outcome n) result.disk_faults ∙ sym result.closed)
+      before-is _ _ _ _ _ _ _ _ _ _ result.revision result.mail_faults result.disk_faults
+      (ap (λ n. closed_after old.writer.closed ran.1.disk_failed n) result.disk_faults ∙ sym result.closed) (sym result.left)
 
   pub before-next : behind_all (at_first opening entry) (lines ++ ran ∷ []) ≡ before_at new
   before-next =
@@ -162,7 +147,7 @@ module _ (opening : Base) (moment : ℤ) (entry : Devices) (steps taken : List S
         result.has_made.begun_are ∙ ap (λ (l : List Commit). l ++ (result.made ++ result.flight)) at.begun_by_writer
         ∙ weave acknowledged at.flight result.made result.flight apart;
     none_open = λ is_open.
-        let still = still-open ran.1.outcome old.writer.closed new.disk_faults _ _ _ _ _ result.made result.flight result.makes (sym result.closed ∙ is_open) in
+        let still = still-open ran.1.disk_failed old.writer.closed new.disk_faults result.flight result.on_its_way (sym result.closed ∙ is_open) in
         ap (λ (l : List Commit). l ++ result.flight) (at.none_open still.0) ∙ still.1;
     acked =
         ap length result.has_made.acked ∙ length-append old.writer.acked result.has_made.clocks
@@ -170,32 +155,35 @@ module _ (opening : Base) (moment : ℤ) (entry : Devices) (steps taken : List S
         ∙ sym (length-append acknowledged result.made);
     shown = shown-all;
     before = before-next;
-    tree = result.tree ∙ at.tree;
+    tree = result.tree ∙ (ap (λ (t : Option Tree). tree_after t ran) at.tree ∙ sym (fold-append tree_after entry.mail.tree lines (ran ∷ [])));
   }
 
   -- the commits of the line
-  makes-commits : MakesCommits opening entry.mail.tree acknowledged ran result.made result.flight
+  makes-commits : MakesCommits opening moment (tree_after_all entry.mail.tree lines) acknowledged ran result.made result.flight
   makes-commits = record {
     revision = revision-after;
     makes =
         let count : length old.writer.acked + length result.made ≡ length (acknowledged ++ result.made) =
         ap (λ n. n + length result.made) at.acked ∙ sym (length-append acknowledged result.made) in
-        subst (λ n. Makes ran.1.outcome entry.mail.tree (folded opening acknowledged) ran.0.text ran.1.given n result.made result.flight) count
-        (subst (λ (i : Base). Makes ran.1.outcome entry.mail.tree i ran.0.text ran.1.given (length old.writer.acked + length result.made) result.made result.flight) at.shown
-        (subst (λ (t : Option Tree). Makes ran.1.outcome t old.writer.shown ran.0.text ran.1.given (length old.writer.acked + length result.made) result.made result.flight) at.tree result.makes));
+        subst (λ n. Makes ran.1.outcome moment (tree_after_all entry.mail.tree lines) (folded opening acknowledged) ran.0 ran.1.given n result.made result.flight) count
+        (subst (λ (i : Base). Makes ran.1.outcome moment (tree_after_all entry.mail.tree lines) i ran.0 ran.1.given (length old.writer.acked + length result.made) result.made result.flight) at.shown
+        (subst (λ (t : Option Tree). Makes ran.1.outcome moment t old.writer.shown ran.0 ran.1.given (length old.writer.acked + length result.made) result.made result.flight) at.tree result.makes));
+    on_its_way = result.on_its_way;
   }
 
-  makes-more : (earlier commits : List Commit) (before : List RunLine) → EachMakes opening entry.mail.tree earlier before commits acknowledged
-      → EachMakes opening entry.mail.tree earlier (before ++ ran ∷ []) (commits ++ (result.made ++ result.flight)) (acknowledged ++ result.made)
-  makes-more earlier commits [] h = (
+  makes-more : (tree : Option Tree) (earlier commits : List Commit) (before : List RunLine) → tree_after_all tree before ≡ tree_after_all entry.mail.tree lines
+      → EachMakes opening moment tree earlier before commits acknowledged
+      → EachMakes opening moment tree earlier (before ++ ran ∷ []) (commits ++ (result.made ++ result.flight)) (acknowledged ++ result.made)
+  makes-more tree earlier commits [] same h = (
     result.made,
     result.flight,
     [],
     ap (λ (l : List Commit). l ++ (result.made ++ result.flight)) h.0 ∙ ap (λ (l : List Commit). result.made ++ l) (sym (append-nil result.flight)),
-    subst (λ (l : List Commit). MakesCommits opening entry.mail.tree l ran result.made result.flight) h.1 makes-commits,
+    subst (λ (t : Option Tree). MakesCommits opening moment t earlier ran result.made result.flight) (sym same)
+        (subst (λ (l : List Commit). MakesCommits opening moment (tree_after_all entry.mail.tree lines) l ran result.made result.flight) h.1 makes-commits),
     (refl, ap (λ (l : List Commit). l ++ result.made) h.1),
   )
-  makes-more earlier commits (first ∷ before) h = (
+  makes-more tree earlier commits (first ∷ before) same h = (
     h.0,
     h.1,
     h.2 ++ (result.made ++ result.flight),
@@ -203,15 +191,15 @@ module _ (opening : Base) (moment : ℤ) (entry : Devices) (steps taken : List S
         ∙ append_assoc h.0 (h.1 ++ h.2) (result.made ++ result.flight)
         ∙ ap (λ (l : List Commit). h.0 ++ l) (append_assoc h.1 h.2 (result.made ++ result.flight)),
     h.4,
-    makes-more (earlier ++ h.0) h.2 before h.5,
+    makes-more (tree_after tree first) (earlier ++ h.0) h.2 before same h.5,
   )
 
-  pub commits-more : LineCommits opening entry.mail.tree steps lines acknowledged
-      → LineCommits opening entry.mail.tree (steps ++ taken) (lines ++ ran ∷ []) (acknowledged ++ result.made)
+  pub commits-more : LineCommits opening moment entry.mail.tree steps lines acknowledged
+      → LineCommits opening moment entry.mail.tree (steps ++ taken) (lines ++ ran ∷ []) (acknowledged ++ result.made)
   commits-more h =
-      subst (λ (l : List Commit). EachMakes opening entry.mail.tree [] (lines ++ ran ∷ []) l (acknowledged ++ result.made))
+      subst (λ (l : List Commit). EachMakes opening moment entry.mail.tree [] (lines ++ ran ∷ []) l (acknowledged ++ result.made))
       (sym (begun-append steps taken ∙ ap (λ (l : List Commit). begun steps ++ l) (ap begun result.steps ∙ begun-line result.made result.flight (reply_to ran))))
-      (makes-more [] (begun steps) lines h)
+      (makes-more entry.mail.tree [] (begun steps) lines refl h)
 
   -- an index stays where it is
   index-more : (revision : ℕ) (index : Base) → IsIndexAt opening steps revision index → IsIndexAt opening (steps ++ taken) revision index
@@ -249,8 +237,8 @@ module _ (opening : Base) (moment : ℤ) (entry : Devices) (steps taken : List S
     at_before = index-old;
     at_after = index-new;
     cause =
-        subst (λ n. HasCause ran.1.outcome (parse_line ran.0.text) (before_at old) n ran.1.disk_faults) (sym result.mail_faults)
-        (subst (λ n. HasCause ran.1.outcome (parse_line ran.0.text) (before_at old) new.mail.faults n) (sym result.disk_faults) result.cause);
+        subst (λ n. HasCause ran.1.outcome (parse_line ran.0) ran.0.input (before_at old) old.writer.shown moment ran.1.given n ran.1.disk_failed) (sym result.mail_faults) result.cause;
+    disk = subst (λ n. Counts ran.1.disk_failed old.disk_faults n) (sym result.disk_faults) result.disk;
     status = result.status;
     text = result.text;
   }
@@ -265,6 +253,7 @@ module _ (opening : Base) (moment : ℤ) (entry : Devices) (steps taken : List S
       at_before = index-more _ _ h.0.at_before;
       at_after = index-more _ _ h.0.at_after;
       cause = h.0.cause;
+      disk = h.0.disk;
       status = h.0.status;
       text = h.0.text;
     },
@@ -275,7 +264,7 @@ module _ (opening : Base) (moment : ℤ) (entry : Devices) (steps taken : List S
   line-answers-more h = answers-more (at_first opening entry) lines at.before h
 
   -- what the line asked the folder
-  asks-it : Asks opening (steps ++ taken) (before_at old) ran old.mail new.mail
+  asks-it : Asks opening moment (steps ++ taken) (before_at old) ran old.mail new.mail
   asks-it = record {
     index = old.writer.shown;
     at = index-old;
@@ -286,12 +275,12 @@ module _ (opening : Base) (moment : ℤ) (entry : Devices) (steps taken : List S
     disk_never_falls = omega (arith, result.disk_never_falls, result.disk_faults);
   }
 
-  given-along : (before : Before) (done : List RunLine) (first_mail : ObservedMail) → behind_all before done ≡ before_at old → GivenAlong opening steps before done first_mail old.mail
-      → GivenAlong opening (steps ++ taken) before (done ++ ran ∷ []) first_mail new.mail
+  given-along : (before : Before) (done : List RunLine) (first_mail : ObservedMail) → behind_all before done ≡ before_at old → GivenAlong opening moment steps before done first_mail old.mail
+      → GivenAlong opening moment (steps ++ taken) before (done ++ ran ∷ []) first_mail new.mail
   given-along before [] first_mail e h = (
     new.mail,
-    subst (λ (m : ObservedMail). Asks opening (steps ++ taken) before ran m new.mail) h
-        (subst (λ (b : Before). Asks opening (steps ++ taken) b ran old.mail new.mail) (sym e) asks-it),
+    subst (λ (m : ObservedMail). Asks opening moment (steps ++ taken) before ran m new.mail) h
+        (subst (λ (b : Before). Asks opening moment (steps ++ taken) b ran old.mail new.mail) (sym e) asks-it),
     refl,
   )
   given-along before (first ∷ done) first_mail e h = (
@@ -308,6 +297,6 @@ module _ (opening : Base) (moment : ℤ) (entry : Devices) (steps taken : List S
     given-along (behind before first) done h.0 e h.2,
   )
 
-  pub given-more : GivenAlong opening steps (at_first opening entry) lines entry.mail old.mail
-      → GivenAlong opening (steps ++ taken) (at_first opening entry) (lines ++ ran ∷ []) entry.mail new.mail
+  pub given-more : GivenAlong opening moment steps (at_first opening entry) lines entry.mail old.mail
+      → GivenAlong opening moment (steps ++ taken) (at_first opening entry) (lines ++ ran ∷ []) entry.mail new.mail
   given-more h = given-along (at_first opening entry) lines entry.mail at.before h

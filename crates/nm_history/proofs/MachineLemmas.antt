@@ -7,8 +7,9 @@ use Rattle.std.proofs.lemmas.List.{length-append, length-replicate, take_all, ge
 use Rattle.nm_base.specs.Order.{same_text}
 use Rattle.nm_answer.specs.declared.request.Request.{Request}
 use Rattle.nm_answer.specs.declared.request.Request.TheVariants as requests
-use Rattle.nm_answer.specs.Answer.{is_reply}
-use Rattle.nm_answer.specs.Count.{count_answer}
+use Rattle.nm_answer.specs.Answer.{answer, is_reply}
+use Rattle.nm_answer.specs.BatchLines.{queries_in}
+use Rattle.nm_answer.specs.Count.{batch_answer, words_answer}
 use Rattle.nm_answer.specs.Dump.{dump_answer}
 use Rattle.nm_answer.specs.Found.{search_answer}
 use Rattle.nm_commit.specs.Files.{Fits}
@@ -27,14 +28,15 @@ use Rattle.nm_log.specs.declared.line_parser.ParsedLine.TheVariants as asked
 use Rattle.nm_log.specs.declared.outcome.Outcome.{Outcome}
 use Rattle.nm_log.specs.declared.outcome.Outcome.TheVariants as outcomes
 use Rattle.nm_history.specs.Call.{Devices}
-use Rattle.nm_history.specs.LineAnswers.{HasCause, line_text, script_answer}
+use Rattle.nm_history.specs.LineAnswers.{HasCause, line_text}
 use Rattle.nm_history.specs.LineResult.{IsLineResult, Place, StandsAt, before_at, begin_step, commit_steps, line_steps, reply_step}
 use Rattle.nm_history.specs.Lines.{Before, RunLine, at_first}
 use Rattle.nm_history.specs.MachineRun.{IsAtRest, MachineRun, NeverStops, Replied, is_stop, lane_count, next, replied_where, replies_from, reply_by, reply_to}
-use Rattle.nm_history.specs.Requests.{first_refusal, refused_closed, refused_query, refused_text, refused_unasked}
+use Rattle.nm_history.specs.Requests.{bad_line_in, first_refusal, refused_closed, refused_line, refused_query, refused_text, refused_unasked}
 use Rattle.nm_query.specs.Answers.{answer_of}
 use Rattle.nm_query.specs.declared.query.Query.{Query}
 use Rattle.nm_query.specs.declared.query_error.QueryError.{QueryError}
+use Rattle.nm_tags.specs.declared.line_error.LineKind.{LineKind}
 use Rattle.nm_history.proofs.LineLemmas.{apart, before-next, begun-all, fold-append, one-on-way, revision-after, shown-all}
 
 -- commits that fit one after the other, cut in two
@@ -237,36 +239,43 @@ module _ (moment : ℤ) where
   read-well (Err refusal) other text said e is = absurd (cc)
 
   -- and where it is read from an input, the machine takes any text
-  own-well : (batch : Bool) (query : List ℕ) (other : Option Outcome) (text said : List ℕ) → first_refusal (refused_query (if batch then None else Some query)) other ≡ None
-      → text ≡ (if batch then [] else said) → (not (not batch) || (is_ok (answer_of query) && same_text text said)) ≡ true
-  own-well true query other text said e is = refl
-  own-well false query other text said e is = read-well (answer_of query) other text said e is
+  own-well : (batch : Bool) (query : List ℕ) (bad : Option (ℕ × LineKind)) (other : Option Outcome) (text many said none : List ℕ)
+      → first_refusal (first_refusal (refused_line (if batch then bad else None)) (refused_query (if batch then None else Some query))) other ≡ None
+      → text ≡ (if batch then many else said) → (not (not batch) || (is_ok (answer_of query) && same_text text (if batch then none else said))) ≡ true
+  own-well true query bad other text many said none e is = refl
+  own-well false query bad other text many said none e is = read-well (answer_of query) other text said e is
 
   -- the answer to a line is a reply that the machine takes
-  right-reply : (request : Request) (closed : Option ℕ) (before index : Base) (noted : List Given) (text : List ℕ) → refused_unasked (asked.Request request) closed ≡ None
-      → text ≡ script_answer request before index moment noted → is_reply index moment request text ≡ true
-  right-reply requests.New closed before index noted text e is = refl
-  right-reply (requests.Count ask) closed before index noted text e is =
-      own-well ask.batch ask.query (refused_closed closed false) text (count_answer ask index moment) e is
-  right-reply (requests.Search ask) closed before index noted text e is = read-well (answer_of ask.query) (refused_closed closed false) text (search_answer ask index moment) e is
-  right-reply (requests.Dump ask) closed before index noted text e is = read-well (answer_of ask.query) (refused_closed closed false) text (dump_answer ask index moment) e is
+  right-reply : (request : Request) (input : List ℕ) (closed : Option ℕ) (before index : Base) (noted : List Given) (text : List ℕ) → refused_unasked (asked.Request request) input closed ≡ None
+      → text ≡ answer request input before index moment noted → is_reply index moment request text ≡ true
+  right-reply requests.New input closed before index noted text e is = refl
+  right-reply (requests.Count ask) input closed before index noted text e is =
+      own-well ask.batch ask.query (bad_line_in (queries_in input)) (refused_closed closed false) text (batch_answer ask input index moment) (words_answer ask index moment) (batch_answer ask [] index moment) e is
+  right-reply (requests.Search ask) input closed before index noted text e is = read-well (answer_of ask.query) (refused_closed closed false) text (search_answer ask index moment) e is
+  right-reply (requests.Dump ask) input closed before index noted text e is = read-well (answer_of ask.query) (refused_closed closed false) text (dump_answer ask index moment) e is
+  right-reply (requests.Show ask) input closed before index noted text e is = refl
+  right-reply (requests.Tag ask) input closed before index noted text e is = refl
+  right-reply (requests.Restore ask) input closed before index noted text e is = refl
 
   -- the reply to a line, by its outcome
-  answer-goes : (opening : Base) (m : Machine) (acknowledged way : List Commit) (outcome : Outcome) (parsed : ParsedLine) (first : Before) (mail disk revision : ℕ) (text : List ℕ) (before : Base) (noted : List Given)
-      → HasCause outcome parsed first mail disk → IsAtRest opening acknowledged m → in_flight m.flight ≡ way → revision ≡ opening.revision + length acknowledged
-      → text ≡ line_text outcome parsed before (folded opening acknowledged) moment noted
+  answer-goes : (opening : Base) (m : Machine) (acknowledged way : List Commit) (outcome : Outcome) (parsed : ParsedLine) (input : List ℕ) (first : Before) (revision : ℕ) (text : List ℕ) (before : Base) (noted : List Given)
+      → (mail : ℕ) (failed : Bool) → HasCause outcome parsed input first before moment noted mail failed → IsAtRest opening acknowledged m → in_flight m.flight ≡ way → revision ≡ opening.revision + length acknowledged
+      → text ≡ line_text outcome parsed input before (folded opening acknowledged) moment noted
       → Goes opening m (map reply_step (replied_where outcome parsed 0 revision text)) acknowledged way (replied_where outcome parsed 0 revision text)
-  answer-goes opening m acknowledged way outcomes.Ok (asked.Request request) first mail disk revision text before noted cause rest on at is =
-      reply-goes opening m acknowledged way revision request text rest on at (right-reply request first.closed before (folded opening acknowledged) noted text cause.0 is)
-  answer-goes opening m acknowledged way outcomes.Ok (asked.Usage word kind) first mail disk revision text before noted cause rest on at is = stays opening m acknowledged way rest on
-  answer-goes opening m acknowledged way (outcomes.Usage word kind) parsed first mail disk revision text before noted cause rest on at is = stays opening m acknowledged way rest on
-  answer-goes opening m acknowledged way (outcomes.BadQuery place kind) parsed first mail disk revision text before noted cause rest on at is = stays opening m acknowledged way rest on
-  answer-goes opening m acknowledged way (outcomes.BadDate place) parsed first mail disk revision text before noted cause rest on at is = stays opening m acknowledged way rest on
-  answer-goes opening m acknowledged way outcomes.MailFault parsed first mail disk revision text before noted cause rest on at is = stays opening m acknowledged way rest on
-  answer-goes opening m acknowledged way outcomes.DiskFault parsed first mail disk revision text before noted cause rest on at is = stays opening m acknowledged way rest on
-  answer-goes opening m acknowledged way (outcomes.Closed fault) parsed first mail disk revision text before noted cause rest on at is = stays opening m acknowledged way rest on
-  answer-goes opening m acknowledged way (outcomes.Limit limit) parsed first mail disk revision text before noted cause rest on at is = stays opening m acknowledged way rest on
-  answer-goes opening m acknowledged way outcomes.NoMemory parsed first mail disk revision text before noted cause rest on at is = stays opening m acknowledged way rest on
+  answer-goes opening m acknowledged way outcomes.Ok (asked.Request request) input first revision text before noted mail failed cause rest on at is =
+      reply-goes opening m acknowledged way revision request text rest on at (right-reply request input first.closed before (folded opening acknowledged) noted text cause.0 is)
+  answer-goes opening m acknowledged way outcomes.Ok (asked.Usage word kind) input first revision text before noted mail failed cause rest on at is = stays opening m acknowledged way rest on
+  answer-goes opening m acknowledged way (outcomes.Usage word kind) parsed input first revision text before noted mail failed cause rest on at is = stays opening m acknowledged way rest on
+  answer-goes opening m acknowledged way (outcomes.BadQuery place kind) parsed input first revision text before noted mail failed cause rest on at is = stays opening m acknowledged way rest on
+  answer-goes opening m acknowledged way (outcomes.BadDate place) parsed input first revision text before noted mail failed cause rest on at is = stays opening m acknowledged way rest on
+  answer-goes opening m acknowledged way (outcomes.BadLine bad kind) parsed input first revision text before noted mail failed cause rest on at is = stays opening m acknowledged way rest on
+  answer-goes opening m acknowledged way (outcomes.NotOne found) parsed input first revision text before noted mail failed cause rest on at is = stays opening m acknowledged way rest on
+  answer-goes opening m acknowledged way (outcomes.Gone path) parsed input first revision text before noted mail failed cause rest on at is = stays opening m acknowledged way rest on
+  answer-goes opening m acknowledged way outcomes.MailFault parsed input first revision text before noted mail failed cause rest on at is = stays opening m acknowledged way rest on
+  answer-goes opening m acknowledged way outcomes.DiskFault parsed input first revision text before noted mail failed cause rest on at is = stays opening m acknowledged way rest on
+  answer-goes opening m acknowledged way (outcomes.Closed fault) parsed input first revision text before noted mail failed cause rest on at is = stays opening m acknowledged way rest on
+  answer-goes opening m acknowledged way (outcomes.Limit limit) parsed input first revision text before noted mail failed cause rest on at is = stays opening m acknowledged way rest on
+  answer-goes opening m acknowledged way outcomes.NoMemory parsed input first revision text before noted mail failed cause rest on at is = stays opening m acknowledged way rest on
 
   cancel : (xs ys zs : List Commit) → xs ++ ys ≡ xs ++ zs → ys ≡ zs
   cancel [] ys zs e = e
@@ -291,23 +300,23 @@ module _ (moment : ℤ) where
         let writes =
         writes-go opening h.last acknowledged at.flight result.made result.flight h.rest (way-is h)
         (subst (λ (i : Base). FitInTurn i (result.made ++ result.flight)) at.shown result.has_made.fit)
-        (one-on-way ran.1.outcome _ _ _ _ _ result.made result.flight result.makes)
+        (one-on-way ran.1.disk_failed result.flight result.on_its_way)
         (apart-both at.flight result.made result.flight (apart opening moment entry before taken lines acknowledged old new ran at result)) in
         let shown : new.writer.shown ≡ folded opening (acknowledged ++ result.made) = shown-all opening moment entry before taken lines acknowledged old new ran at result in
-        let said : ran.1.text ≡ line_text ran.1.outcome (parse_line ran.0.text) old.writer.shown (folded opening (acknowledged ++ result.made)) moment ran.1.given =
-        subst (λ (i : Base). ran.1.text ≡ line_text ran.1.outcome (parse_line ran.0.text) old.writer.shown i moment ran.1.given) shown result.text in
+        let said : ran.1.text ≡ line_text ran.1.outcome (parse_line ran.0) ran.0.input old.writer.shown (folded opening (acknowledged ++ result.made)) moment ran.1.given =
+        subst (λ (i : Base). ran.1.text ≡ line_text ran.1.outcome (parse_line ran.0) ran.0.input old.writer.shown i moment ran.1.given) shown result.text in
         let answers =
-        answer-goes opening writes.last (acknowledged ++ result.made) (at.flight ++ result.flight) ran.1.outcome (parse_line ran.0.text) (before_at old) new.mail.faults new.disk_faults ran.1.revision ran.1.text old.writer.shown ran.1.given
-        result.cause writes.rest writes.on_way (revision-after opening moment entry before taken lines acknowledged old new ran at result) said in
-        let replies : List Replied = replied_where ran.1.outcome (parse_line ran.0.text) 0 ran.1.revision ran.1.text in
+        answer-goes opening writes.last (acknowledged ++ result.made) (at.flight ++ result.flight) ran.1.outcome (parse_line ran.0) ran.0.input (before_at old) ran.1.revision ran.1.text old.writer.shown ran.1.given
+        new.mail.faults ran.1.disk_failed result.cause writes.rest writes.on_way (revision-after opening moment entry before taken lines acknowledged old new ran at result) said in
+        let replies : List Replied = replied_where ran.1.outcome (parse_line ran.0) 0 ran.1.revision ran.1.text in
         let all =
         goes-on opening h.last (flat_map commit_steps result.made ++ map begin_step result.flight) (map reply_step replies) (acknowledged ++ result.made) (at.flight ++ result.flight)
         (acknowledged ++ result.made) (at.flight ++ result.flight) [] replies writes answers in
         let joined : (flat_map commit_steps result.made ++ map begin_step result.flight) ++ map reply_step replies ≡ line_steps result.made result.flight replies =
         append_assoc (flat_map commit_steps result.made) (map begin_step result.flight) (map reply_step replies) in
         subst (λ (l : List Step). Goes opening h.last l (acknowledged ++ result.made) (at.flight ++ result.flight) (reply_to ran)) (sym result.steps)
-        (subst (λ n. Goes opening h.last (line_steps result.made result.flight (replied_where ran.1.outcome (parse_line ran.0.text) n ran.1.revision ran.1.text))
-        (acknowledged ++ result.made) (at.flight ++ result.flight) (replied_where ran.1.outcome (parse_line ran.0.text) n ran.1.revision ran.1.text)) (sym result.numbers.lane)
+        (subst (λ n. Goes opening h.last (line_steps result.made result.flight (replied_where ran.1.outcome (parse_line ran.0) n ran.1.revision ran.1.text))
+        (acknowledged ++ result.made) (at.flight ++ result.flight) (replied_where ran.1.outcome (parse_line ran.0) n ran.1.revision ran.1.text)) (sym result.numbers.lane)
         (subst (λ (l : List Step). Goes opening h.last l (acknowledged ++ result.made) (at.flight ++ result.flight) replies) joined all))
 
     pub run-more : MachineRun opening moment (at_first opening entry) before lines acknowledged

@@ -7,7 +7,7 @@ use Rattle.nm_command.specs.declared.command_error.CommandError.TheVariants as f
 use Rattle.nm_command.specs.declared.request.Request as asks
 use Rattle.nm_disk.specs.Observed.{ObservedDisk}
 use Rattle.nm_io.specs.Observed.{ObservedStream}
-use Rattle.nm_log.specs.ParsedLine.{parse_line}
+use Rattle.nm_log.specs.ParsedLine.{parse_single, reads_input}
 use Rattle.nm_log.specs.Script.{script_lines, single_line}
 use Rattle.nm_log.specs.declared.line_parser.ParsedLine.{ParsedLine}
 use Rattle.nm_log.specs.declared.line_parser.ParsedLine.TheVariants as asked
@@ -15,14 +15,14 @@ use Rattle.nm_log.specs.declared.log.Done.{Done}
 use Rattle.nm_log.specs.declared.log.Setting.{Setting}
 use Rattle.nm_log.specs.declared.refusal.Refusal.{Refusal}
 use Rattle.nm_log.specs.declared.refusal.Refusal.TheVariants as refusals
-use Rattle.nm_log.specs.declared.script.CommandText.TheVariants.{Words}
 use Rattle.nm_log.specs.declared.script.ScriptLine.{ScriptLine}
 use Rattle.nm_maildir.specs.Observed.{ObservedMail}
 use Rattle.nm_query.specs.Answers.{answer_of}
 use Rattle.nm_query.specs.declared.query.Query.{Query}
 use Rattle.nm_query.specs.declared.query_error.QueryError.{QueryError}
 use Rattle.nm_query.specs.declared.query_error.QueryError.TheVariants as errors
-use Rattle.nm_history.specs.Requests.{own_query}
+use Rattle.nm_tags.specs.declared.line_error.LineKind.{LineKind}
+use Rattle.nm_history.specs.Requests.{first_bad_line, own_query}
 
 -- what is observed of all devices at one moment
 pub record Devices : Type 0 where
@@ -89,16 +89,47 @@ fault_of_command (asked.Request request) = fault_of_query (own_query request)
 -- why words are refused, where they begin a session and where they don't
 abbrev pub fault_by : Bool → List (List ℕ) → Option Refusal
 fault_by true words = fault_of_session (request_of words)
-fault_by false words = fault_of_command (parse_line (Words words))
+fault_by false words = fault_of_command (parse_single words)
 
 -- why a call is refused for its words
 abbrev pub call_fault : List (List ℕ) → Option Refusal
 call_fault words = fault_by (is_session words) words
 
--- the lines of a script, or the one line that the words are
+-- the command reads lines from its input
+abbrev pub command_reads : ParsedLine → Bool
+command_reads (asked.Usage word kind) = false
+command_reads (asked.Request request) = reads_input request
+
+-- the call reads its input: a session its script, and a single command the lines that it asks for
+abbrev pub reads_by : Bool → List (List ℕ) → Bool
+reads_by true words = true
+reads_by false words = command_reads (parse_single words)
+
+abbrev pub call_reads : List (List ℕ) → Bool
+call_reads words = reads_by (is_session words) words
+
+-- a line of the input is refused
+abbrev pub line_refusal : Option (ℕ × LineKind) → Option Refusal
+line_refusal fault = elim fault [ None ↦ None | Some bad ↦ Some (refusals.BadLine bad.0 bad.1) ]
+
+-- why the lines are refused that a command reads
+abbrev pub fault_of_input : ParsedLine → List ℕ → Option Refusal
+fault_of_input (asked.Usage word kind) input = None
+fault_of_input (asked.Request request) input = line_refusal (first_bad_line request input)
+
+-- a script is not refused for its lines: each of them has its own outcome
+abbrev pub input_fault_by : Bool → List (List ℕ) → List ℕ → Option Refusal
+input_fault_by true words input = None
+input_fault_by false words input = fault_of_input (parse_single words) input
+
+-- why a call is refused for its input
+abbrev pub input_fault : List (List ℕ) → List ℕ → Option Refusal
+input_fault words input = input_fault_by (is_session words) words input
+
+-- the lines of a script, or the one line that the words are, with their input
 abbrev pub lines_by : Bool → List (List ℕ) → List ℕ → List ScriptLine
 lines_by true words input = script_lines input
-lines_by false words input = single_line words
+lines_by false words input = single_line words input
 
 -- the lines that a call runs: those of its input, or its words as the only one
 abbrev pub call_lines : List (List ℕ) → List ℕ → List ScriptLine

@@ -1,12 +1,12 @@
 -- With nothing in its way a call runs to its end: want of memory alone may stop it.
-use Rattle.std.specs.Prelude.{◌≡◌, ◌≢◌, ◌⊎◌, ℕ, ◌<◌, ◌≤◌, Bool, true, false, List, length, None, Some, IfSome}
+use Rattle.std.specs.Prelude.{◌≡◌, ◌≢◌, ◌⊎◌, ℕ, ◌<◌, ◌≤◌, Bool, true, false, List, [], length, None, Some, IfSome}
 use Rattle.std.specs.Str.Lines.{lines}
 use Rattle.nm_base.specs.Limits.{max_count, max_input_bytes, max_lines}
 use Rattle.nm_disk.specs.Observed.{bytes_now}
 use Rattle.nm_disk.specs.declared.disk.FileNo.TheVariants.{Head}
 use Rattle.nm_index.specs.declared.base.Base.{Base}
 use Rattle.nm_writer.specs.StoredIndex.{HoldsIndex}
-use Rattle.nm_history.specs.Call.{Call, call_fault, call_lines, is_session}
+use Rattle.nm_history.specs.Call.{Call, call_fault, call_lines, call_reads, input_fault, is_session}
 use Rattle.nm_history.specs.Status.{first_fault, single_status}
 
 -- the count did not rise, and does not stand at its type's end
@@ -21,11 +21,12 @@ pub record NoFault (call : Call) : Type 0 where
   pub input : StaysBelow call.entry.input.faults call.after.input.faults
   pub out : StaysBelow call.entry.out.faults call.after.out.faults
 
--- the input tells these bytes, and they are within the limits
+-- the input tells these bytes, they are within the limits, and no line of them is refused
 pub record IsWithin (input : List ℕ) (call : Call) : Type 0 where
   pub told : call.entry.input.bytes ≡ Some input
   pub bytes : length input ≤ max_input_bytes
-  pub few : length (lines input) ≤ max_lines
+  pub few : is_session call.words ≡ true → length (lines input) ≤ max_lines
+  pub lines_are : input_fault call.words input ≡ None
 
 -- the disk tells its bytes, and they hold an index
 pub record Opens (call : Call) : Type 0 where
@@ -33,10 +34,10 @@ pub record Opens (call : Call) : Type 0 where
   pub holds : IfSome call.entry.disk.told (λ moments. HoldsIndex (bytes_now moments Head) index)
   pub told : call.entry.disk.told ≢ None
 
--- what a call asks of its input: a session that it is within the limits, a single command nothing
+-- what a call asks of its input: where it reads it that it is within the limits, and else nothing
 abbrev pub MayRead : Bool → List ℕ → Call → Type 0
 MayRead true input call = IsWithin input call
-MayRead false input call = Unit {0}
+MayRead false input call = input ≡ []
 
 -- A session ends with status 0; a single command with that of its outcome, which is no fault of a device.
 abbrev pub EndsWell : Bool → Call → Type 0
@@ -52,5 +53,5 @@ pub record IsFinished (input : List ℕ) (call : Call) : Type 0 where
 -- answered to their end, or memory was wanting.
 abbrev pub IsComplete : Call → Type 0
 IsComplete call =
-    (input : List ℕ) → call_fault call.words ≡ None → NoFault call → MayRead (is_session call.words) input call → Opens call
+    (input : List ℕ) → call_fault call.words ≡ None → NoFault call → MayRead (call_reads call.words) input call → Opens call
     → IsFinished input call ⊎ (call.done.status ≡ 7)

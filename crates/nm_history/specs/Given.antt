@@ -1,42 +1,75 @@
 -- What the lines asked the mail folder and what it gave, one line after the other.
-use Rattle.std.specs.Prelude.{◌≡◌, ℕ, ◌≤◌, List, [], ◌∷◌}
-use Rattle.nm_answer.specs.declared.request.Request.TheVariants.{New, Count, Search, Dump}
-use Rattle.nm_base.specs.declared.facts.Facts.{Facts}
+use Rattle.std.specs.Prelude.{◌≡◌, ◌⊎◌, ℕ, ℤ, ◌≤◌, List, [], ◌∷◌}
+use Rattle.nm_answer.specs.declared.request.Request.TheVariants.{New, Count, Search, Dump, Show, Tag, Restore}
 use Rattle.nm_disk.specs.Observed.{ObservedDisk}
 use Rattle.nm_index.specs.declared.base.Base.{Base}
 use Rattle.nm_log.specs.ParsedLine.{parse_line}
 use Rattle.nm_log.specs.declared.line_parser.ParsedLine.{ParsedLine}
 use Rattle.nm_log.specs.declared.line_parser.ParsedLine.TheVariants as asked
+use Rattle.nm_log.specs.declared.outcome.Outcome.{Outcome}
+use Rattle.nm_log.specs.declared.outcome.Outcome.TheVariants as outcomes
 use Rattle.nm_machine.specs.declared.step.Step.{Step}
 use Rattle.nm_maildir.specs.Observed.{ObservedMail}
 use Rattle.nm_maildir.specs.declared.given.Given.{Given}
+use Rattle.nm_scan.specs.Bodies.{HasReadBodies, StopsInBodies}
 use Rattle.nm_scan.specs.Scanning.{AsksNew}
+use Rattle.nm_scan.specs.declared.bodies_error.BodiesError.{BodiesError}
+use Rattle.nm_scan.specs.declared.bodies_error.BodiesError.TheVariants as stops
+use Rattle.nm_writer.specs.Renamed.{AsksRenames}
 use Rattle.nm_history.specs.Call.{Devices, Ending, Ran, Refused}
-use Rattle.nm_history.specs.Lines.{Before, IsIndexAt, RunLine, behind, behind_all}
+use Rattle.nm_history.specs.Lines.{Before, IsIndexAt, RunLine, behind, behind_all, tree_after}
+use Rattle.nm_history.specs.Requests.{paths_to_show}
 
--- What a request asks the folder, however its line ends: but for a `new` nothing.
-abbrev pub AsksMail : ParsedLine → ObservedMail → ObservedMail → List (List ℕ × Facts) → List Given → Type 0
-AsksMail (asked.Request New) old new files noted = AsksNew old new files noted
-AsksMail (asked.Request (Count ask)) old new files noted = (noted ≡ []) × (new ≡ old)
-AsksMail (asked.Request (Search ask)) old new files noted = (noted ≡ []) × (new ≡ old)
-AsksMail (asked.Request (Dump ask)) old new files noted = (noted ≡ []) × (new ≡ old)
-AsksMail (asked.Usage word kind) old new files noted = (noted ≡ []) × (new ≡ old)
+-- nothing was asked, and nothing given
+pub record AsksNothing (old new : ObservedMail) (noted : List Given) : Type 0 where
+  pub noted_is : noted ≡ []
+  pub same : new ≡ old
 
--- A line asks the folder for what it needs on the index before it; the folder's tree stays, and its faults are noted and never fall.
-pub record Asks (opening : Base) (steps : List Step) (before : Before) (ran : RunLine) (old new : ObservedMail) : Type 0 where
+-- What a show asks, by its outcome: where it went well, or the file that raw form asks for was gone, all files were read, each of at most the
+-- bytes that were left; where it failed or passed the bytes, the first of them; where it was refused before, none.
+abbrev pub AsksShow : Outcome → ObservedMail → ObservedMail → ℕ → List (List ℕ) → List Given → Type 0
+AsksShow outcomes.Ok old new left paths noted = HasReadBodies old new left [] noted paths
+AsksShow (outcomes.Usage word kind) old new left paths noted = AsksNothing old new noted
+AsksShow (outcomes.BadQuery at kind) old new left paths noted = AsksNothing old new noted
+AsksShow (outcomes.BadDate at) old new left paths noted = AsksNothing old new noted
+AsksShow (outcomes.BadLine line kind) old new left paths noted = AsksNothing old new noted
+AsksShow (outcomes.NotOne found) old new left paths noted = AsksNothing old new noted
+AsksShow (outcomes.Gone path) old new left paths noted = HasReadBodies old new left [] noted paths
+AsksShow outcomes.MailFault old new left paths noted = StopsInBodies old new left [] noted paths stops.MailFault
+AsksShow outcomes.DiskFault old new left paths noted = AsksNothing old new noted
+AsksShow (outcomes.Closed fault) old new left paths noted = AsksNothing old new noted
+AsksShow (outcomes.Limit limit) old new left paths noted = AsksNothing old new noted ⊎ StopsInBodies old new left [] noted paths stops.ShowBytes
+AsksShow outcomes.NoMemory old new left paths noted =
+    AsksNothing old new noted ⊎ (HasReadBodies old new left [] noted paths ⊎ ((error : BodiesError) × StopsInBodies old new left [] noted paths error))
+
+-- What a line asks the folder, by its outcome, the index before it, the moment, and how many bytes may still be shown: a `new` a listing and
+-- reads, a show reads, a `tag` or a `restore` renames.
+abbrev pub AsksMail : Outcome → ParsedLine → Base → ℤ → ℕ → ObservedMail → ObservedMail → List Given → Type 0
+AsksMail outcome (asked.Request New) index moment left old new noted = AsksNew old new index.files noted
+AsksMail outcome (asked.Request (Count ask)) index moment left old new noted = AsksNothing old new noted
+AsksMail outcome (asked.Request (Search ask)) index moment left old new noted = AsksNothing old new noted
+AsksMail outcome (asked.Request (Dump ask)) index moment left old new noted = AsksNothing old new noted
+AsksMail outcome (asked.Request (Show ask)) index moment left old new noted = AsksShow outcome old new left (paths_to_show ask index moment) noted
+AsksMail outcome (asked.Request (Tag ask)) index moment left old new noted = AsksRenames old new [] noted
+AsksMail outcome (asked.Request (Restore ask)) index moment left old new noted = AsksRenames old new [] noted
+AsksMail outcome (asked.Usage word kind) index moment left old new noted = AsksNothing old new noted
+
+-- A line asks the folder for what it needs on the index before it; the folder's tree is as the renames leave it, and its faults are noted and
+-- never fall.
+pub record Asks (opening : Base) (moment : ℤ) (steps : List Step) (before : Before) (ran : RunLine) (old new : ObservedMail) : Type 0 where
   pub index : Base
   pub at : IsIndexAt opening steps before.revision index
-  pub asks : AsksMail (parse_line ran.0.text) old new index.files ran.1.given
-  pub tree : new.tree ≡ old.tree
+  pub asks : AsksMail ran.1.outcome (parse_line ran.0) index moment before.left old new ran.1.given
+  pub tree : new.tree ≡ tree_after old.tree ran
   pub noted : ran.1.mail_faults ≡ new.faults
   pub never_falls : old.faults ≤ new.faults
   pub disk_never_falls : before.disk_faults ≤ ran.1.disk_faults
 
 -- The lines ask it one after the other.
-abbrev pub GivenAlong : Base → List Step → Before → List RunLine → ObservedMail → ObservedMail → Type 0
-GivenAlong opening steps before [] old new = new ≡ old
-GivenAlong opening steps before (ran ∷ more) old new =
-    (mid : ObservedMail) × Asks opening steps before ran old mid × GivenAlong opening steps (behind before ran) more mid new
+abbrev pub GivenAlong : Base → ℤ → List Step → Before → List RunLine → ObservedMail → ObservedMail → Type 0
+GivenAlong opening moment steps before [] old new = new ≡ old
+GivenAlong opening moment steps before (ran ∷ more) old new =
+    (mid : ObservedMail) × Asks opening moment steps before ran old mid × GivenAlong opening moment steps (behind before ran) more mid new
 
 -- where the script was run, the disk has failed as often at the return as behind the last line
 abbrev pub DiskAtReturn : Ending → Before → ObservedDisk → Type 0
@@ -44,6 +77,6 @@ DiskAtReturn Ran last after = last.disk_faults ≡ after.faults
 DiskAtReturn (Refused refusal) last after = Unit {0}
 
 -- What the lines asked the folder and what it gave, and the faults at the return.
-pub record IsGiven (opening : Base) (steps : List Step) (first : Before) (lines : List RunLine) (ending : Ending) (entry after : Devices) : Type 0 where
-  pub along : GivenAlong opening steps first lines entry.mail after.mail
+pub record IsGiven (opening : Base) (moment : ℤ) (steps : List Step) (first : Before) (lines : List RunLine) (ending : Ending) (entry after : Devices) : Type 0 where
+  pub along : GivenAlong opening moment steps first lines entry.mail after.mail
   pub disk : DiskAtReturn ending (behind_all first lines) after.disk

@@ -21,9 +21,9 @@ pub record IsHistory (opening : Base) (input : List ℕ) (call : Call) : Type 0 
   pub acknowledged : List Commit
   pub opening_index : OpeningIndex ending call.entry.disk opening
   pub machine_run : MachineRun opening call.setting.moment (at_first opening call.entry) call.done.log.steps (lines_run input call) acknowledged
-  pub line_commits : LineCommits opening call.entry.mail.tree call.done.log.steps (lines_run input call) acknowledged
+  pub line_commits : LineCommits opening call.setting.moment call.entry.mail.tree call.done.log.steps (lines_run input call) acknowledged
   pub line_answers : LineAnswers opening call.setting.moment (at_first opening call.entry) call.done.log.steps (lines_run input call)
-  pub given : IsGiven opening call.done.log.steps (at_first opening call.entry) (lines_run input call) ending call.entry call.after
+  pub given : IsGiven opening call.setting.moment call.done.log.steps (at_first opening call.entry) (lines_run input call) ending call.entry call.after
   pub printed_out : PrintedOut ending input out_failed call
   pub crash_prefix : CrashPrefix call.entry.disk call.after.disk call.done.log.steps call.done.log.acked
   pub status : Status ending out_failed call

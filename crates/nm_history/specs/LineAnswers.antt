@@ -1,8 +1,7 @@
 -- The outcome and the text of each line: those of the plain index at the revision before it and at its own.
-use Rattle.std.specs.Prelude.{◌≡◌, ◌⊎◌, ℕ, ℤ, true, List, [], None, Some, if◌then◌else◌}
+use Rattle.std.specs.Prelude.{◌≡◌, ◌⊎◌, ℕ, ℤ, Bool, true, false, List, [], None, Some}
 use Rattle.nm_answer.specs.Answer.{answer}
-use Rattle.nm_answer.specs.declared.request.Request.{Request}
-use Rattle.nm_faults.specs.Faults.{HasRisen}
+use Rattle.nm_faults.specs.Faults.{Counts, HasRisen}
 use Rattle.nm_index.specs.declared.base.Base.{Base}
 use Rattle.nm_log.specs.ParsedLine.{parse_line}
 use Rattle.nm_log.specs.Replies.{refusal_line, status_of}
@@ -13,64 +12,86 @@ use Rattle.nm_log.specs.declared.outcome.Outcome.TheVariants as outcomes
 use Rattle.nm_machine.specs.declared.step.Step.{Step}
 use Rattle.nm_maildir.specs.declared.given.Given.{Given}
 use Rattle.nm_history.specs.Lines.{Along, Before, IsIndexAt, RunLine}
-use Rattle.nm_history.specs.Requests.{asks_to_write, reads_input, refused_unasked}
-
--- what a request is answered in a script, which gives it no input: a count that reads its queries there has none to answer
-abbrev pub script_answer : Request → Base → Base → ℤ → List Given → List ℕ
-script_answer request before index moment noted = if reads_input request then [] else answer request [] before index moment noted
+use Rattle.nm_history.specs.Requests.{asks_the_folder, asks_to_tag, asks_to_write, refused_reading, refused_unasked}
 
 -- the text of a line that went well
-abbrev pub reply_text : ParsedLine → Base → Base → ℤ → List Given → List ℕ
-reply_text (asked.Request request) before index moment noted = script_answer request before index moment noted
-reply_text (asked.Usage word kind) before index moment noted = []
+abbrev pub reply_text : ParsedLine → List ℕ → Base → Base → ℤ → List Given → List ℕ
+reply_text (asked.Request request) input before index moment noted = answer request input before index moment noted
+reply_text (asked.Usage word kind) input before index moment noted = []
 
 -- the text of a line: the answer, or the line of its refusal
-abbrev pub line_text : Outcome → ParsedLine → Base → Base → ℤ → List Given → List ℕ
-line_text outcomes.Ok line before index moment noted = reply_text line before index moment noted
-line_text (outcomes.Usage word kind) line before index moment noted = refusal_line (outcomes.Usage word kind)
-line_text (outcomes.BadQuery at kind) line before index moment noted = refusal_line (outcomes.BadQuery at kind)
-line_text (outcomes.BadDate at) line before index moment noted = refusal_line (outcomes.BadDate at)
-line_text outcomes.MailFault line before index moment noted = refusal_line outcomes.MailFault
-line_text outcomes.DiskFault line before index moment noted = refusal_line outcomes.DiskFault
-line_text (outcomes.Closed fault) line before index moment noted = refusal_line (outcomes.Closed fault)
-line_text (outcomes.Limit limit) line before index moment noted = refusal_line (outcomes.Limit limit)
-line_text outcomes.NoMemory line before index moment noted = refusal_line outcomes.NoMemory
+abbrev pub line_text : Outcome → ParsedLine → List ℕ → Base → Base → ℤ → List Given → List ℕ
+line_text outcomes.Ok line input before index moment noted = reply_text line input before index moment noted
+line_text (outcomes.Usage word kind) line input before index moment noted = refusal_line (outcomes.Usage word kind)
+line_text (outcomes.BadQuery at kind) line input before index moment noted = refusal_line (outcomes.BadQuery at kind)
+line_text (outcomes.BadDate at) line input before index moment noted = refusal_line (outcomes.BadDate at)
+line_text (outcomes.BadLine bad kind) line input before index moment noted = refusal_line (outcomes.BadLine bad kind)
+line_text (outcomes.NotOne found) line input before index moment noted = refusal_line (outcomes.NotOne found)
+line_text (outcomes.Gone path) line input before index moment noted = refusal_line (outcomes.Gone path)
+line_text outcomes.MailFault line input before index moment noted = refusal_line outcomes.MailFault
+line_text outcomes.DiskFault line input before index moment noted = refusal_line outcomes.DiskFault
+line_text (outcomes.Closed fault) line input before index moment noted = refusal_line (outcomes.Closed fault)
+line_text (outcomes.Limit limit) line input before index moment noted = refusal_line (outcomes.Limit limit)
+line_text outcomes.NoMemory line input before index moment noted = refusal_line outcomes.NoMemory
 
--- no device failed, from these counts to those
-pub record NoneFailed (mail disk mail_after disk_after : ℕ) : Type 0 where
-  pub mail_same : mail_after ≡ mail
-  pub disk_same : disk_after ≡ disk
+-- neither the mail folder failed, whose count is this, nor the disk
+pub record NoneFailed (before mail : ℕ) (failed : Bool) : Type 0 where
+  pub mail_same : mail ≡ before
+  pub disk_well : failed ≡ false
 
--- Why a line ends so, with the counts of faults of the mail folder and the disk before and after it: the device that it names failed, and
--- the other did not. Want of memory alone is free.
-abbrev pub HasCause : Outcome → ParsedLine → Before → ℕ → ℕ → Type 0
-HasCause outcomes.Ok line before mail disk = (refused_unasked line before.closed ≡ None) × NoneFailed before.mail_faults before.disk_faults mail disk
-HasCause (outcomes.Usage word kind) line before mail disk =
-    (refused_unasked line before.closed ≡ Some (outcomes.Usage word kind)) × NoneFailed before.mail_faults before.disk_faults mail disk
-HasCause (outcomes.BadQuery at kind) line before mail disk =
-    (refused_unasked line before.closed ≡ Some (outcomes.BadQuery at kind)) × NoneFailed before.mail_faults before.disk_faults mail disk
-HasCause (outcomes.BadDate at) line before mail disk =
-    (refused_unasked line before.closed ≡ Some (outcomes.BadDate at)) × NoneFailed before.mail_faults before.disk_faults mail disk
-HasCause outcomes.MailFault line before mail disk =
-    (refused_unasked line before.closed ≡ None) × (asks_to_write line ≡ true) × HasRisen before.mail_faults mail × (disk ≡ before.disk_faults)
-HasCause outcomes.DiskFault line before mail disk =
-    (refused_unasked line before.closed ≡ None) × (asks_to_write line ≡ true) × HasRisen before.disk_faults disk × (mail ≡ before.mail_faults)
-HasCause (outcomes.Closed fault) line before mail disk =
-    (refused_unasked line before.closed ≡ Some (outcomes.Closed fault)) × NoneFailed before.mail_faults before.disk_faults mail disk
-HasCause (outcomes.Limit limit) line before mail disk =
-    ((refused_unasked line before.closed ≡ Some (outcomes.Limit limit)) ⊎ ((refused_unasked line before.closed ≡ None) × (asks_to_write line ≡ true)))
-    × NoneFailed before.mail_faults before.disk_faults mail disk
-HasCause outcomes.NoMemory line before mail disk = Unit {0}
+-- nothing refuses the line before it asks a device
+abbrev pub MayAsk : ParsedLine → List ℕ → Before → Type 0
+MayAsk line input before = refused_unasked line input before.closed ≡ None
 
--- A line's outcome has its cause, its status is that of the outcome, and its text is said on the index before it and the one that it leaves.
+-- the line is refused so, before it asks a device
+abbrev pub IsRefusedUnasked : Outcome → ParsedLine → List ℕ → Before → Type 0
+IsRefusedUnasked outcome line input before = refused_unasked line input before.closed ≡ Some outcome
+
+-- the line is refused so for what it found and read
+abbrev pub IsRefusedReading : Outcome → ParsedLine → List ℕ → Before → Base → ℤ → List Given → Type 0
+IsRefusedReading outcome line input before index moment noted =
+    MayAsk line input before × (refused_reading line index moment before.left noted ≡ Some outcome)
+
+-- Why a line ends so, on its index, by what the mail folder gave, with the folder's count of faults behind the line, and whether the disk failed in
+-- it: the device that it names failed, and no other, but that behind a fault of the folder the disk may fail in what sets tags. Want of memory is free.
+abbrev pub HasCause : Outcome → ParsedLine → List ℕ → Before → Base → ℤ → List Given → ℕ → Bool → Type 0
+HasCause outcomes.Ok line input before index moment noted mail failed =
+    MayAsk line input before × (refused_reading line index moment before.left noted ≡ None) × NoneFailed before.mail_faults mail failed
+HasCause (outcomes.Usage word kind) line input before index moment noted mail failed =
+    IsRefusedUnasked (outcomes.Usage word kind) line input before × NoneFailed before.mail_faults mail failed
+HasCause (outcomes.BadQuery at kind) line input before index moment noted mail failed =
+    IsRefusedUnasked (outcomes.BadQuery at kind) line input before × NoneFailed before.mail_faults mail failed
+HasCause (outcomes.BadDate at) line input before index moment noted mail failed =
+    IsRefusedUnasked (outcomes.BadDate at) line input before × NoneFailed before.mail_faults mail failed
+HasCause (outcomes.BadLine bad kind) line input before index moment noted mail failed =
+    IsRefusedUnasked (outcomes.BadLine bad kind) line input before × NoneFailed before.mail_faults mail failed
+HasCause (outcomes.NotOne found) line input before index moment noted mail failed =
+    IsRefusedReading (outcomes.NotOne found) line input before index moment noted × NoneFailed before.mail_faults mail failed
+HasCause (outcomes.Gone path) line input before index moment noted mail failed =
+    IsRefusedReading (outcomes.Gone path) line input before index moment noted × NoneFailed before.mail_faults mail failed
+HasCause outcomes.MailFault line input before index moment noted mail failed =
+    MayAsk line input before × (asks_the_folder line ≡ true) × HasRisen before.mail_faults mail × (failed ≡ true → asks_to_tag line ≡ true)
+HasCause outcomes.DiskFault line input before index moment noted mail failed =
+    MayAsk line input before × (asks_to_write line ≡ true) × (mail ≡ before.mail_faults) × (failed ≡ true)
+HasCause (outcomes.Closed fault) line input before index moment noted mail failed =
+    IsRefusedUnasked (outcomes.Closed fault) line input before × NoneFailed before.mail_faults mail failed
+HasCause (outcomes.Limit limit) line input before index moment noted mail failed =
+    (IsRefusedUnasked (outcomes.Limit limit) line input before
+    ⊎ (IsRefusedReading (outcomes.Limit limit) line input before index moment noted ⊎ (MayAsk line input before × (asks_to_write line ≡ true))))
+    × NoneFailed before.mail_faults mail failed
+HasCause outcomes.NoMemory line input before index moment noted mail failed = failed ≡ false
+
+-- A line's outcome has its cause, the disk's count rose where the line says that the disk failed in it, its status is that of the outcome, and
+-- its text is said on the index before it and the one that it leaves.
 pub record HasAnswer (opening : Base) (moment : ℤ) (steps : List Step) (before : Before) (ran : RunLine) : Type 0 where
   pub index_before : Base
   pub index : Base
   pub at_before : IsIndexAt opening steps before.revision index_before
   pub at_after : IsIndexAt opening steps ran.1.revision index
-  pub cause : HasCause ran.1.outcome (parse_line ran.0.text) before ran.1.mail_faults ran.1.disk_faults
+  pub cause : HasCause ran.1.outcome (parse_line ran.0) ran.0.input before index_before moment ran.1.given ran.1.mail_faults ran.1.disk_failed
+  pub disk : Counts ran.1.disk_failed before.disk_faults ran.1.disk_faults
   pub status : ran.1.status ≡ status_of ran.1.outcome
-  pub text : ran.1.text ≡ line_text ran.1.outcome (parse_line ran.0.text) index_before index moment ran.1.given
+  pub text : ran.1.text ≡ line_text ran.1.outcome (parse_line ran.0) ran.0.input index_before index moment ran.1.given
 
 -- Each line is answered so.
 abbrev pub LineAnswers : Base → ℤ → Before → List Step → List RunLine → Type 0

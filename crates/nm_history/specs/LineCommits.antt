@@ -1,9 +1,12 @@
 -- Which commits a line makes: all that are due, or by its outcome the first of them.
-use Rattle.std.specs.Prelude.{◌≡◌, ◌⊎◌, ℕ, ◌+◌, List, [], ◌∷◌, ◌++◌, length, Option, None, Some}
+use Rattle.std.specs.Prelude.{◌≡◌, ◌⊎◌, ℕ, ℤ, ◌+◌, Bool, false, List, [], ◌∷◌, ◌++◌, drop, length, map, Option, None, Some, if◌then◌else◌}
+use Rattle.nm_answer.specs.Changes.{wanted_for}
+use Rattle.nm_answer.specs.Renaming.{renames_done, renames_for}
 use Rattle.nm_answer.specs.declared.request.Request.{Request}
-use Rattle.nm_answer.specs.declared.request.Request.TheVariants.{New, Count, Search, Dump}
+use Rattle.nm_answer.specs.declared.request.Request.TheVariants.{New, Count, Search, Dump, Show, Tag, Restore}
 use Rattle.nm_base.specs.declared.facts.Facts.{Facts}
 use Rattle.nm_base.specs.declared.limit.Limit.{Limit}
+use Rattle.nm_base.specs.declared.limit.Limit.TheVariants.{ShowBytes}
 use Rattle.nm_commit.specs.declared.change.Commit.{Commit}
 use Rattle.nm_index.specs.Index.{folded}
 use Rattle.nm_index.specs.declared.base.Base.{Base}
@@ -11,85 +14,144 @@ use Rattle.nm_log.specs.ParsedLine.{parse_line}
 use Rattle.nm_log.specs.declared.line_parser.ParsedLine.TheVariants as asked
 use Rattle.nm_log.specs.declared.outcome.Outcome.{Outcome}
 use Rattle.nm_log.specs.declared.outcome.Outcome.TheVariants as outcomes
-use Rattle.nm_log.specs.declared.script.CommandText.{CommandText}
+use Rattle.nm_log.specs.declared.script.ScriptLine.{ScriptLine}
 use Rattle.nm_machine.specs.declared.step.Step.{Step}
 use Rattle.nm_maildir.specs.Tree.{Tree}
 use Rattle.nm_maildir.specs.declared.given.Given.{Given}
+use Rattle.nm_plan.specs.Moving.{HasTried, move_commit}
 use Rattle.nm_plan.specs.Plan.{due_commits}
+use Rattle.nm_plan.specs.Tagging.{tag_commit}
 use Rattle.nm_scan.specs.Listing.{PassesListing}
 use Rattle.nm_scan.specs.Scanning.{FindsBatches}
 use Rattle.nm_writer.specs.Writing.{IsPassed}
-use Rattle.nm_history.specs.Lines.{RunLine, begun}
-use Rattle.nm_history.specs.Requests.{refused_unasked}
+use Rattle.nm_history.specs.Lines.{RunLine, begun, tree_after}
+use Rattle.nm_history.specs.Requests.{asks_to_tag, asks_to_write, refused_unasked}
 
--- the mails that a request found in each batch, as far as it looks for any, and the paths that are left to read
-abbrev pub FindsFor : Request → Option Tree → Base → List Given → List (List (List ℕ × Facts)) → List (List ℕ) → Type 0
-FindsFor New tree index noted batches left = FindsBatches tree index.files noted batches left
-FindsFor (Count ask) tree index noted batches left = (batches ≡ []) × (left ≡ [])
-FindsFor (Search ask) tree index noted batches left = (batches ≡ []) × (left ≡ [])
-FindsFor (Dump ask) tree index noted batches left = (batches ≡ []) × (left ≡ [])
+-- the paths of the files whose renames are left, once these were tried
+abbrev pub renames_left : Base → Base → List Given → List (List ℕ)
+renames_left index wanted noted = map (λ rename. rename.from) (drop (length (renames_done index wanted noted)) (renames_for index wanted))
 
--- The commits that are due to the line while these paths are left to read, by its request, the index before it, and what the mail folder gave.
-pub record AreDue (tree : Option Tree) (index : Base) (line : CommandText) (noted : List Given) (left : List (List ℕ)) (due : List Commit) : Type 0 where
+-- of the renames that setting these tags asks for the first were tried, and those of these paths are left
+pub record FindsRenames (index wanted : Base) (noted : List Given) (left : List (List ℕ)) : Type 0 where
+  pub tried : HasTried index wanted noted
+  pub left_are : left ≡ renames_left index wanted noted
+
+-- What a request found in the mail folder, and the paths that are left to it: a `new` the mails of each batch and the paths left to read, a
+-- `tag` or a `restore` the files that were renamed and those left to rename.
+abbrev pub FindsFor : Request → List ℕ → ℤ → Option Tree → Base → List Given → List (List (List ℕ × Facts)) → List (List ℕ) → Type 0
+FindsFor New input moment tree index noted batches left = FindsBatches tree index.files noted batches left
+FindsFor (Count ask) input moment tree index noted batches left = (batches ≡ []) × (left ≡ [])
+FindsFor (Search ask) input moment tree index noted batches left = (batches ≡ []) × (left ≡ [])
+FindsFor (Dump ask) input moment tree index noted batches left = (batches ≡ []) × (left ≡ [])
+FindsFor (Show ask) input moment tree index noted batches left = (batches ≡ []) × (left ≡ [])
+FindsFor (Tag ask) input moment tree index noted batches left = (batches ≡ []) × FindsRenames index (wanted_for (Tag ask) input moment index) noted left
+FindsFor (Restore ask) input moment tree index noted batches left = (batches ≡ []) × FindsRenames index (wanted_for (Restore ask) input moment index) noted left
+
+-- The commits that are due to the line while these paths are left, by its request, the moment, the index before it, and what the mail folder gave.
+pub record AreDue (moment : ℤ) (tree : Option Tree) (index : Base) (line : ScriptLine) (noted : List Given) (left : List (List ℕ)) (due : List Commit) : Type 0 where
   pub request : Request
   pub asked_for : parse_line line ≡ asked.Request request
   pub batches : List (List (List ℕ × Facts))
-  pub found : FindsFor request tree index noted batches left
-  pub due_are : due ≡ due_commits request index noted batches left
+  pub found : FindsFor request line.input moment tree index noted batches left
+  pub due_are : due ≡ due_commits request line.input moment index noted batches left
 
 -- due are the commits made, then this one, and perhaps more
-pub record StopsAt (tree : Option Tree) (index : Base) (line : CommandText) (noted : List Given) (made : List Commit) (commit : Commit) : Type 0 where
+pub record StopsAt (moment : ℤ) (tree : Option Tree) (index : Base) (line : ScriptLine) (noted : List Given) (made : List Commit) (commit : Commit) : Type 0 where
   pub left : List (List ℕ)
   pub due : List Commit
-  pub are_due : AreDue tree index line noted left due
+  pub are_due : AreDue moment tree index line noted left due
   pub more : List Commit
   pub order : due ≡ made ++ commit ∷ more
 
 -- the first of the commits due were made, all of them perhaps; or none
-abbrev pub MakesFirst : Option Tree → Base → CommandText → List Given → List Commit → Type 0
-MakesFirst tree index line noted made =
-    (made ≡ []) ⊎ ((left : List (List ℕ)) × (due more : List Commit) × AreDue tree index line noted left due × (due ≡ made ++ more))
+abbrev pub MakesFirst : ℤ → Option Tree → Base → ScriptLine → List Given → List Commit → Type 0
+MakesFirst moment tree index line noted made =
+    (made ≡ []) ⊎ ((left : List (List ℕ)) × (due more : List Commit) × AreDue moment tree index line noted left due × (due ≡ made ++ more))
 
--- The folder failed at its listing, and nothing was made; or while a path was left to read, and all that was due before it was made.
-abbrev pub MakesBefore : Option Tree → Base → CommandText → List Given → List Commit → Type 0
-MakesBefore tree index line noted made =
-    ((noted ≡ []) × (made ≡ [])) ⊎ ((path : List ℕ) × (left : List (List ℕ)) × AreDue tree index line noted (path ∷ left) made)
+-- Behind a fault of the folder in a rename the tags are set; the commit of the files that were moved is made, or the disk failed in it, or
+-- something else refused it.
+pub record MakesTags (index wanted : Base) (noted : List Given) (made flight : List Commit) : Type 0 where
+  pub moves : List Commit
+  pub more : List Commit
+  pub made_are : made ≡ tag_commit index wanted ++ moves
+  pub order : moves ++ (flight ++ more) ≡ move_commit noted
 
--- the query of the line passes the limit, or the mail folder passed it as it was listed
-abbrev pub PassesUnmade : Option Tree → CommandText → Limit → Type 0
-PassesUnmade tree line limit = (refused_unasked (parse_line line) None ≡ Some (outcomes.Limit limit)) ⊎ PassesListing tree limit
+-- What was made before the folder failed, while paths were left: by a `new` all that was due, by a `tag` or a `restore` the
+-- commit of the tags.
+abbrev pub MakesBefore : Request → List ℕ → ℤ → Base → List Given → List Commit → List Commit → List Commit → Type 0
+MakesBefore New input moment index noted due made flight = (made ≡ due) × (flight ≡ [])
+MakesBefore (Count ask) input moment index noted due made flight = (made ≡ due) × (flight ≡ [])
+MakesBefore (Search ask) input moment index noted due made flight = (made ≡ due) × (flight ≡ [])
+MakesBefore (Dump ask) input moment index noted due made flight = (made ≡ due) × (flight ≡ [])
+MakesBefore (Show ask) input moment index noted due made flight = (made ≡ due) × (flight ≡ [])
+MakesBefore (Tag ask) input moment index noted due made flight = MakesTags index (wanted_for (Tag ask) input moment index) noted made flight
+MakesBefore (Restore ask) input moment index noted due made flight = MakesTags index (wanted_for (Restore ask) input moment index) noted made flight
 
--- The limit was passed before anything was noted, and nothing was made; or the next commit would pass it.
-abbrev pub MakesToLimit : Option Tree → Base → CommandText → List Given → ℕ → List Commit → Limit → Type 0
-MakesToLimit tree index line noted count made limit =
-    ((noted ≡ []) × (made ≡ []) × PassesUnmade tree line limit)
-    ⊎ ((commit : Commit) × StopsAt tree index line noted made commit × IsPassed count (folded index made) commit limit)
+-- The folder failed with paths left, in a `new` or in what sets tags.
+pub record FailsBefore (moment : ℤ) (tree : Option Tree) (index : Base) (line : ScriptLine) (noted : List Given) (made flight : List Commit) : Type 0 where
+  pub path : List ℕ
+  pub left : List (List ℕ)
+  pub due : List Commit
+  pub are_due : AreDue moment tree index line noted (path ∷ left) due
+  pub makes : MakesBefore are_due.request line.input moment index noted due made flight
+
+-- nothing was made, and nothing is on its way
+pub record MakesNothing (made flight : List Commit) : Type 0 where
+  pub made_are : made ≡ []
+  pub flight_is : flight ≡ []
+
+-- The folder failed at a listing or in a show, and nothing was made; or with paths left.
+abbrev pub MakesToFault : ℤ → Option Tree → Base → ScriptLine → List Given → List Commit → List Commit → Type 0
+MakesToFault moment tree index line noted made flight =
+    ((asks_to_tag (parse_line line) ≡ false) × ((noted ≡ []) ⊎ (asks_to_write (parse_line line) ≡ false)) × MakesNothing made flight)
+    ⊎ FailsBefore moment tree index line noted made flight
+
+-- the query of the line passes the limit, or the mail folder passed it as it was listed, or a show passed its bytes
+abbrev pub PassesUnmade : Option Tree → ScriptLine → List Given → Limit → Type 0
+PassesUnmade tree line noted limit =
+    ((noted ≡ []) × (refused_unasked (parse_line line) line.input None ≡ Some (outcomes.Limit limit)))
+    ⊎ (((noted ≡ []) × PassesListing tree limit) ⊎ ((asks_to_write (parse_line line) ≡ false) × (limit ≡ ShowBytes)))
+
+-- The limit was passed outside a commit, and nothing was made; or the next commit would pass it.
+abbrev pub MakesToLimit : ℤ → Option Tree → Base → ScriptLine → List Given → ℕ → List Commit → Limit → Type 0
+MakesToLimit moment tree index line noted count made limit =
+    ((made ≡ []) × PassesUnmade tree line noted limit)
+    ⊎ ((commit : Commit) × StopsAt moment tree index line noted made commit × IsPassed count (folded index made) commit limit)
 
 -- The commits that a line makes, and the one that it leaves on its way, by its outcome: the disk may hold that one where it failed;
 -- where a limit is told, the next one would pass it. `count` is how many the session has then made.
-abbrev pub Makes : Outcome → Option Tree → Base → CommandText → List Given → ℕ → List Commit → List Commit → Type 0
-Makes outcomes.Ok tree index line noted count made flight = AreDue tree index line noted [] made × (flight ≡ [])
-Makes (outcomes.Usage word kind) tree index line noted count made flight = (made ≡ []) × (flight ≡ [])
-Makes (outcomes.BadQuery at kind) tree index line noted count made flight = (made ≡ []) × (flight ≡ [])
-Makes (outcomes.BadDate at) tree index line noted count made flight = (made ≡ []) × (flight ≡ [])
-Makes outcomes.MailFault tree index line noted count made flight = MakesBefore tree index line noted made × (flight ≡ [])
-Makes outcomes.DiskFault tree index line noted count made flight = (commit : Commit) × StopsAt tree index line noted made commit × (flight ≡ commit ∷ [])
-Makes (outcomes.Closed fault) tree index line noted count made flight = (made ≡ []) × (flight ≡ [])
-Makes (outcomes.Limit limit) tree index line noted count made flight = MakesToLimit tree index line noted count made limit × (flight ≡ [])
-Makes outcomes.NoMemory tree index line noted count made flight = MakesFirst tree index line noted made × (flight ≡ [])
+abbrev pub Makes : Outcome → ℤ → Option Tree → Base → ScriptLine → List Given → ℕ → List Commit → List Commit → Type 0
+Makes outcomes.Ok moment tree index line noted count made flight = AreDue moment tree index line noted [] made × (flight ≡ [])
+Makes (outcomes.Usage word kind) moment tree index line noted count made flight = MakesNothing made flight
+Makes (outcomes.BadQuery at kind) moment tree index line noted count made flight = MakesNothing made flight
+Makes (outcomes.BadDate at) moment tree index line noted count made flight = MakesNothing made flight
+Makes (outcomes.BadLine bad kind) moment tree index line noted count made flight = MakesNothing made flight
+Makes (outcomes.NotOne found) moment tree index line noted count made flight = MakesNothing made flight
+Makes (outcomes.Gone path) moment tree index line noted count made flight = MakesNothing made flight
+Makes outcomes.MailFault moment tree index line noted count made flight = MakesToFault moment tree index line noted made flight
+Makes outcomes.DiskFault moment tree index line noted count made flight = (commit : Commit) × StopsAt moment tree index line noted made commit × (flight ≡ commit ∷ [])
+Makes (outcomes.Closed fault) moment tree index line noted count made flight = MakesNothing made flight
+Makes (outcomes.Limit limit) moment tree index line noted count made flight = MakesToLimit moment tree index line noted count made limit × (flight ≡ [])
+Makes outcomes.NoMemory moment tree index line noted count made flight = MakesFirst moment tree index line noted made × (flight ≡ [])
+
+-- One commit is on its way behind a line in which the disk failed, and none behind another.
+abbrev pub IsOnItsWay : Bool → List Commit → Type 0
+IsOnItsWay failed flight = length flight ≡ (if failed then 1 else 0)
 
 -- What a line makes of the commits before it, and the revision that it leaves.
-pub record MakesCommits (opening : Base) (tree : Option Tree) (earlier : List Commit) (ran : RunLine) (made flight : List Commit) : Type 0 where
+pub record MakesCommits (opening : Base) (moment : ℤ) (tree : Option Tree) (earlier : List Commit) (ran : RunLine) (made flight : List Commit) : Type 0 where
   pub revision : ran.1.revision ≡ opening.revision + length (earlier ++ made)
-  pub makes : Makes ran.1.outcome tree (folded opening earlier) ran.0.text ran.1.given (length (earlier ++ made)) made flight
+  pub makes : Makes ran.1.outcome moment tree (folded opening earlier) ran.0 ran.1.given (length (earlier ++ made)) made flight
+  pub on_its_way : IsOnItsWay ran.1.disk_failed flight
 
--- The lines make the commits one after the other, behind these earlier ones; in the end these were acknowledged.
-abbrev pub EachMakes : Base → Option Tree → List Commit → List RunLine → List Commit → List Commit → Type 0
-EachMakes opening tree earlier [] commits acknowledged = (commits ≡ []) × (acknowledged ≡ earlier)
-EachMakes opening tree earlier (ran ∷ more) commits acknowledged =
-    (made flight later : List Commit) × (commits ≡ made ++ (flight ++ later)) × MakesCommits opening tree earlier ran made flight
-    × EachMakes opening tree (earlier ++ made) more later acknowledged
+-- The lines make the commits one after the other, behind these earlier ones, the tree being as the renames of the lines before leave it; in the
+-- end these were acknowledged.
+abbrev pub EachMakes : Base → ℤ → Option Tree → List Commit → List RunLine → List Commit → List Commit → Type 0
+EachMakes opening moment tree earlier [] commits acknowledged = (commits ≡ []) × (acknowledged ≡ earlier)
+EachMakes opening moment tree earlier (ran ∷ more) commits acknowledged =
+    (made flight later : List Commit) × (commits ≡ made ++ (flight ++ later)) × MakesCommits opening moment tree earlier ran made flight
+    × EachMakes opening moment (tree_after tree ran) (earlier ++ made) more later acknowledged
 
 -- The commits of the log are those of its lines, and of them these were acknowledged.
-abbrev pub LineCommits : Base → Option Tree → List Step → List RunLine → List Commit → Type 0
-LineCommits opening tree steps lines acknowledged = EachMakes opening tree [] lines (begun steps) acknowledged
+abbrev pub LineCommits : Base → ℤ → Option Tree → List Step → List RunLine → List Commit → Type 0
+LineCommits opening moment tree steps lines acknowledged = EachMakes opening moment tree [] lines (begun steps) acknowledged

@@ -2,6 +2,7 @@
 use Rattle.std.specs.Prelude.{◌≡◌, ℕ, ℤ, ◌+◌, ◌≤◌, List, [], ◌∷◌, ◌++◌, length, map, None, IsSome}
 use Rattle.std.specs.List.{flat_map}
 use Rattle.nm_commit.specs.declared.change.Commit.{Commit}
+use Rattle.nm_faults.specs.Faults.{Counts}
 use Rattle.nm_index.specs.Fits.{FitInTurn}
 use Rattle.nm_index.specs.Index.{folded}
 use Rattle.nm_index.specs.declared.base.Base.{Base}
@@ -10,20 +11,22 @@ use Rattle.nm_log.specs.Replies.{status_of}
 use Rattle.nm_machine.specs.declared.step.Step.{Step}
 use Rattle.nm_machine.specs.declared.step.Step.TheVariants.{Begin, Append, Show, Reply}
 use Rattle.nm_maildir.specs.Observed.{ObservedMail}
+use Rattle.nm_scan.specs.Bodies.{left_after}
 use Rattle.nm_writer.specs.Writer.{WriterState}
 use Rattle.nm_history.specs.Call.{Devices}
 use Rattle.nm_history.specs.Given.{AsksMail}
 use Rattle.nm_history.specs.LineAnswers.{HasCause, line_text}
-use Rattle.nm_history.specs.LineCommits.{Makes}
-use Rattle.nm_history.specs.Lines.{Before, RunLine, at_first, begun, behind_all, closed_after}
+use Rattle.nm_history.specs.LineCommits.{IsOnItsWay, Makes}
+use Rattle.nm_history.specs.Lines.{Before, RunLine, at_first, begun, behind_all, closed_after, tree_after, tree_after_all}
 use Rattle.nm_history.specs.MachineRun.{Replied, reply_to}
 use Rattle.nm_history.specs.PrintedOut.{IsNumbered}
 
--- the writer, what is observed of the mail folder, and how often the disk has failed
+-- the writer, what is observed of the mail folder, how often the disk has failed, and how many bytes may still be shown
 pub record Place : Type 0 where
   pub writer : WriterState
   pub mail : ObservedMail
   pub disk_faults : ℕ
+  pub left : ℕ
 
 -- what stands before the next line
 abbrev pub before_at : Place → Before
@@ -32,6 +35,7 @@ before_at place = record {
   mail_faults = place.mail.faults;
   disk_faults = place.disk_faults;
   closed = place.writer.closed;
+  left = place.left;
 }
 
 -- a commit is begun, is there, and is shown
@@ -65,19 +69,22 @@ pub record IsLineResult (moment : ℤ) (old : Place) (ran : RunLine) (taken : Li
   pub made : List Commit
   pub flight : List Commit
   pub has_made : HasMade old.writer made flight new.writer
-  pub makes : Makes ran.1.outcome old.mail.tree old.writer.shown ran.0.text ran.1.given (length old.writer.acked + length made) made flight
-  pub closed : new.writer.closed ≡ closed_after old.writer.closed ran.1.outcome new.disk_faults
-  pub asks : AsksMail (parse_line ran.0.text) old.mail new.mail old.writer.shown.files ran.1.given
-  pub tree : new.mail.tree ≡ old.mail.tree
+  pub makes : Makes ran.1.outcome moment old.mail.tree old.writer.shown ran.0 ran.1.given (length old.writer.acked + length made) made flight
+  pub on_its_way : IsOnItsWay ran.1.disk_failed flight
+  pub closed : new.writer.closed ≡ closed_after old.writer.closed ran.1.disk_failed new.disk_faults
+  pub asks : AsksMail ran.1.outcome (parse_line ran.0) old.writer.shown moment old.left old.mail new.mail ran.1.given
+  pub tree : new.mail.tree ≡ tree_after old.mail.tree ran
+  pub left : new.left ≡ left_after old.left ran.1.given
   pub mail_never_falls : old.mail.faults ≤ new.mail.faults
   pub disk_never_falls : old.disk_faults ≤ new.disk_faults
   pub numbers : IsNumbered ran.0 ran.1
   pub revision : ran.1.revision ≡ new.writer.shown.revision
   pub mail_faults : ran.1.mail_faults ≡ new.mail.faults
   pub disk_faults : ran.1.disk_faults ≡ new.disk_faults
-  pub cause : HasCause ran.1.outcome (parse_line ran.0.text) (before_at old) new.mail.faults new.disk_faults
+  pub cause : HasCause ran.1.outcome (parse_line ran.0) ran.0.input (before_at old) old.writer.shown moment ran.1.given new.mail.faults ran.1.disk_failed
+  pub disk : Counts ran.1.disk_failed old.disk_faults new.disk_faults
   pub status : ran.1.status ≡ status_of ran.1.outcome
-  pub text : ran.1.text ≡ line_text ran.1.outcome (parse_line ran.0.text) old.writer.shown new.writer.shown moment ran.1.given
+  pub text : ran.1.text ≡ line_text ran.1.outcome (parse_line ran.0) ran.0.input old.writer.shown new.writer.shown moment ran.1.given
   pub steps : taken ≡ line_steps made flight (reply_to ran)
 
 -- Where a session stands behind some lines, as the log tells it: these commits were acknowledged, and one may be on its way
@@ -90,4 +97,4 @@ pub record StandsAt (opening : Base) (entry : Devices) (steps : List Step) (line
   pub acked : length place.writer.acked ≡ length acknowledged
   pub shown : place.writer.shown ≡ folded opening acknowledged
   pub before : behind_all (at_first opening entry) lines ≡ before_at place
-  pub tree : place.mail.tree ≡ entry.mail.tree
+  pub tree : place.mail.tree ≡ tree_after_all entry.mail.tree lines

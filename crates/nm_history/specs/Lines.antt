@@ -1,15 +1,25 @@
 -- The lines that were run, each with its log, and what stands before a line, all of it read off the log.
-use Rattle.std.specs.Prelude.{◌≡◌, ℕ, ◌+◌, List, [], ◌∷◌, ◌++◌, length, fold, Option, None, Some}
+use Rattle.std.specs.Prelude.{◌≡◌, ℕ, ◌+◌, Bool, List, [], ◌∷◌, ◌++◌, length, fold, Option, None, Some, Ok, if◌then◌else◌}
 use Rattle.std.specs.List.{flat_map, zip}
+use Rattle.std.specs.Option.{option_map}
+use Rattle.nm_answer.specs.declared.request.Request.TheVariants.{New, Count, Search, Dump, Show, Tag, Restore}
+use Rattle.nm_base.specs.Limits.{max_mail_bytes}
 use Rattle.nm_commit.specs.declared.change.Commit.{Commit}
 use Rattle.nm_index.specs.Index.{folded}
 use Rattle.nm_index.specs.declared.base.Base.{Base}
 use Rattle.nm_log.specs.declared.log.LineLog.{LineLog}
-use Rattle.nm_log.specs.declared.outcome.Outcome.{Outcome}
-use Rattle.nm_log.specs.declared.outcome.Outcome.TheVariants as outcomes
+use Rattle.nm_log.specs.ParsedLine.{parse_line}
+use Rattle.nm_log.specs.declared.line_parser.ParsedLine.{ParsedLine}
+use Rattle.nm_log.specs.declared.line_parser.ParsedLine.TheVariants as asked
 use Rattle.nm_log.specs.declared.script.ScriptLine.{ScriptLine}
 use Rattle.nm_machine.specs.declared.step.Step.{Step}
 use Rattle.nm_machine.specs.declared.step.Step.TheVariants.{Begin, Append, Show, See, Meet, Reply, Crash, Reopen}
+use Rattle.nm_maildir.specs.Observed.{tree_with}
+use Rattle.nm_maildir.specs.Tree.{Tree}
+use Rattle.nm_maildir.specs.declared.answers.MailError.{MailError}
+use Rattle.nm_maildir.specs.declared.given.Given.{Given}
+use Rattle.nm_maildir.specs.declared.given.Given.TheVariants as given
+use Rattle.nm_scan.specs.Bodies.{left_after}
 use Rattle.nm_history.specs.Call.{Call, Devices, call_lines}
 
 -- a line, and what was done with it
@@ -43,28 +53,28 @@ pub record IsIndexAt (opening : Base) (steps : List Step) (revision : ℕ) (inde
   pub revision_is : revision ≡ opening.revision + length front
   pub index_is : index ≡ folded opening front
 
--- what stands before a line of lane 0: the revision, how often the devices have failed, and the faults of the disk when it failed in a line
+-- what stands before a line of lane 0: the revision, how often the devices have failed, the faults of the disk when it failed in a line,
+-- and how many bytes may still be shown
 pub record Before : Type 0 where
   pub revision : ℕ
   pub mail_faults : ℕ
   pub disk_faults : ℕ
   pub closed : Option ℕ
+  pub left : ℕ
 
 -- before the first line
 abbrev pub at_first : Base → Devices → Before
-at_first opening entry = record { revision = opening.revision; mail_faults = entry.mail.faults; disk_faults = entry.disk.faults; closed = None }
+at_first opening entry = record {
+  revision = opening.revision;
+  mail_faults = entry.mail.faults;
+  disk_faults = entry.disk.faults;
+  closed = None;
+  left = max_mail_bytes;
+}
 
--- a fault of the disk closes the index to all later lines
-abbrev pub closed_after : Option ℕ → Outcome → ℕ → Option ℕ
-closed_after closed outcomes.Ok faults = closed
-closed_after closed (outcomes.Usage word kind) faults = closed
-closed_after closed (outcomes.BadQuery at kind) faults = closed
-closed_after closed (outcomes.BadDate at) faults = closed
-closed_after closed outcomes.MailFault faults = closed
-closed_after closed outcomes.DiskFault faults = Some faults
-closed_after closed (outcomes.Closed fault) faults = closed
-closed_after closed (outcomes.Limit limit) faults = closed
-closed_after closed outcomes.NoMemory faults = closed
+-- a fault of the disk in a line closes the index to all later lines
+abbrev pub closed_after : Option ℕ → Bool → ℕ → Option ℕ
+closed_after closed failed faults = if failed then Some faults else closed
 
 -- behind a line stands what its log says
 abbrev pub behind : Before → RunLine → Before
@@ -72,7 +82,8 @@ behind before ran = record {
   revision = ran.1.revision;
   mail_faults = ran.1.mail_faults;
   disk_faults = ran.1.disk_faults;
-  closed = closed_after before.closed ran.1.outcome ran.1.disk_faults;
+  closed = closed_after before.closed ran.1.disk_failed ran.1.disk_faults;
+  left = left_after before.left ran.1.given;
 }
 
 -- behind all these lines
@@ -83,3 +94,30 @@ behind_all before lines = fold behind before lines
 abbrev pub Along : (Before → RunLine → Type 0) → Before → List RunLine → Type 0
 Along holds before [] = Unit {0}
 Along holds before (ran ∷ more) = holds before ran × Along holds (behind before ran) more
+
+-- ---- the tree of the mail folder
+
+-- a tree once this was given: a rename that moved a file changes it
+abbrev pub given_in : Tree → Given → Tree
+given_in tree (given.Listed paths) = tree
+given_in tree (given.Read path answer) = tree
+given_in tree (given.Renamed from to answer) = tree_with {E = MailError} tree from to (Ok answer)
+
+-- the tree, where the folder tells it, behind a line that was given this: a `tag` and a `restore` alone rename files
+abbrev pub tree_behind : ParsedLine → List Given → Option Tree → Option Tree
+tree_behind (asked.Request New) noted tree = tree
+tree_behind (asked.Request (Count ask)) noted tree = tree
+tree_behind (asked.Request (Search ask)) noted tree = tree
+tree_behind (asked.Request (Dump ask)) noted tree = tree
+tree_behind (asked.Request (Show ask)) noted tree = tree
+tree_behind (asked.Request (Tag ask)) noted tree = option_map (λ t. fold given_in t noted) tree
+tree_behind (asked.Request (Restore ask)) noted tree = option_map (λ t. fold given_in t noted) tree
+tree_behind (asked.Usage word kind) noted tree = tree
+
+-- behind a line that was run
+abbrev pub tree_after : Option Tree → RunLine → Option Tree
+tree_after tree ran = tree_behind (parse_line ran.0) ran.1.given tree
+
+-- behind all these lines
+abbrev pub tree_after_all : Option Tree → List RunLine → Option Tree
+tree_after_all tree lines = fold tree_after tree lines

@@ -65,6 +65,9 @@ replied_where outcomes.Ok line lane revision text = replied_to line lane revisio
 replied_where (outcomes.Usage word kind) line lane revision text = []
 replied_where (outcomes.BadQuery at kind) line lane revision text = []
 replied_where (outcomes.BadDate at) line lane revision text = []
+replied_where (outcomes.BadLine bad kind) line lane revision text = []
+replied_where (outcomes.NotOne found) line lane revision text = []
+replied_where (outcomes.Gone path) line lane revision text = []
 replied_where outcomes.MailFault line lane revision text = []
 replied_where outcomes.DiskFault line lane revision text = []
 replied_where (outcomes.Closed fault) line lane revision text = []
@@ -73,7 +76,7 @@ replied_where outcomes.NoMemory line lane revision text = []
 
 -- the reply to a line of the script, by its log
 abbrev pub reply_to : RunLine → List Replied
-reply_to ran = replied_where ran.1.outcome (parse_line ran.0.text) ran.1.lane ran.1.revision ran.1.text
+reply_to ran = replied_where ran.1.outcome (parse_line ran.0) ran.1.lane ran.1.revision ran.1.text
 
 -- the program stops, or is there again
 abbrev pub is_stop : Step → Bool

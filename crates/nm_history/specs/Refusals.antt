@@ -1,5 +1,5 @@
 -- Why a call is refused as a whole, and what was read where it isn't.
-use Rattle.std.specs.Prelude.{◌≡◌, ◌⊎◌, ℕ, ◌<◌, ◌≤◌, Bool, true, false, List, length, None, Some, IfSome}
+use Rattle.std.specs.Prelude.{◌≡◌, ◌⊎◌, ℕ, ◌<◌, ◌≤◌, Bool, true, false, List, [], length, None, Some, IfSome}
 use Rattle.std.specs.Io.KnownBytes.{Consumes, IsAtEnd}
 use Rattle.std.specs.Str.Lines.{lines}
 use Rattle.nm_base.specs.Limits.{max_input_bytes, max_lines}
@@ -12,7 +12,7 @@ use Rattle.nm_io.specs.Observed.{ObservedStream}
 use Rattle.nm_log.specs.declared.refusal.Refusal.{Refusal}
 use Rattle.nm_log.specs.declared.refusal.Refusal.TheVariants as refusals
 use Rattle.nm_writer.specs.StoredIndex.{HoldsNoIndex}
-use Rattle.nm_history.specs.Call.{Call, call_fault, is_session}
+use Rattle.nm_history.specs.Call.{Call, call_fault, call_reads, input_fault, is_session}
 
 -- the input was read to its end, and these are its bytes
 pub record IsRead (input : List ℕ) (old new : ObservedStream) : Type 0 where
@@ -21,20 +21,21 @@ pub record IsRead (input : List ℕ) (old new : ObservedStream) : Type 0 where
   pub within : length input ≤ max_input_bytes
   pub sound : new.faults ≡ old.faults
 
--- what is taken of the input: a session reads its script to the end, a single command leaves it as it is
-abbrev pub TakesInput : Bool → List ℕ → ObservedStream → ObservedStream → Type 0
-TakesInput true input old new = IsRead input old new × (length (lines input) ≤ max_lines)
-TakesInput false input old new = new ≡ old
+-- what is taken of the input: a session reads its script to the end, and so does a single command that reads lines; another leaves it as it is
+abbrev pub TakesInput : Bool → Bool → List ℕ → ObservedStream → ObservedStream → Type 0
+TakesInput true session input old new = IsRead input old new × (session ≡ true → length (lines input) ≤ max_lines)
+TakesInput false session input old new = (new ≡ old) × (input ≡ [])
 
--- the words are right, and what they ask of the input was read
+-- the words are right, what they ask of the input was read, and so is each of its lines
 pub record ReadsScript (input : List ℕ) (call : Call) : Type 0 where
   pub words : call_fault call.words ≡ None
-  pub takes : TakesInput (is_session call.words) input call.entry.input call.after.input
+  pub takes : TakesInput (call_reads call.words) (is_session call.words) input call.entry.input call.after.input
+  pub lines : input_fault call.words input ≡ None
 
 -- the bound that was passed before a line was run: the bytes or the lines of the input
 abbrev pub IsInputPassed : Limit → List ℕ → Call → Type 0
 IsInputPassed limits.InputBytes input call = IfSome call.entry.input.bytes (λ bytes. max_input_bytes < length bytes)
-IsInputPassed limits.Lines input call = IsRead input call.entry.input call.after.input × (max_lines < length (lines input))
+IsInputPassed limits.Lines input call = (is_session call.words ≡ true) × IsRead input call.entry.input call.after.input × (max_lines < length (lines input))
 IsInputPassed limits.Files input call = ⊥
 IsInputPassed limits.Dirs input call = ⊥
 IsInputPassed limits.Depth input call = ⊥
@@ -50,10 +51,10 @@ IsInputPassed limits.Numbers input call = ⊥
 abbrev pub DiskUnasked : Call → Type 0
 DiskUnasked call = call.after.disk ≡ call.entry.disk
 
--- the query of a single command passes the limit, or the script of a session does
+-- the query of a single command passes the limit, or the input that is read does
 abbrev pub PassesBefore : Limit → List ℕ → Call → Type 0
 PassesBefore limit input call =
-    (call_fault call.words ≡ Some (refusals.Limit limit)) ⊎ ((call_fault call.words ≡ None) × (is_session call.words ≡ true) × IsInputPassed limit input call)
+    (call_fault call.words ≡ Some (refusals.Limit limit)) ⊎ ((call_fault call.words ≡ None) × (call_reads call.words ≡ true) × IsInputPassed limit input call)
 
 -- nothing was asked: the words alone refuse the call
 abbrev pub IsUnasked : Call → Type 0
@@ -65,8 +66,10 @@ IsRefusedFor (refusals.Usage word kind) input call =
     (call_fault call.words ≡ Some (refusals.Usage word kind)) × IsUnasked call
 IsRefusedFor (refusals.BadQuery at kind) input call = (call_fault call.words ≡ Some (refusals.BadQuery at kind)) × IsUnasked call
 IsRefusedFor (refusals.BadDate at) input call = (call_fault call.words ≡ Some (refusals.BadDate at)) × IsUnasked call
+IsRefusedFor (refusals.BadLine line kind) input call =
+    (call_fault call.words ≡ None) × IsRead input call.entry.input call.after.input × (input_fault call.words input ≡ Some (refusals.BadLine line kind)) × DiskUnasked call
 IsRefusedFor refusals.ReadFault input call =
-    (call_fault call.words ≡ None) × (is_session call.words ≡ true) × HasRisen call.entry.input.faults call.after.input.faults × DiskUnasked call
+    (call_fault call.words ≡ None) × (call_reads call.words ≡ true) × HasRisen call.entry.input.faults call.after.input.faults × DiskUnasked call
 IsRefusedFor (refusals.Limit limit) input call = PassesBefore limit input call × DiskUnasked call
 IsRefusedFor refusals.DiskFault input call = ReadsScript input call × HasRisen call.entry.disk.faults call.after.disk.faults
 IsRefusedFor (refusals.BadIndex file at) input call =

@@ -1,15 +1,25 @@
--- What a line asks for, and what refuses it before any device is touched.
-use Rattle.std.specs.Prelude.{ℕ, List, Bool, true, false, Option, None, Some, Result, Ok, Err, if◌then◌else◌}
+-- What a line asks for, what refuses it before any device is touched, and what refuses a show for what it found and read.
+use Rattle.std.specs.Prelude.{ℕ, ℤ, ◌-◌, ◌||◌, List, [], ◌∷◌, length, Bool, true, false, Option, None, Some, Result, Ok, Err, if◌then◌else◌}
+use Rattle.nm_answer.specs.BatchLines.{queries_in, taggings_in}
+use Rattle.nm_answer.specs.DumpReading.{read_dump}
+use Rattle.nm_answer.specs.Show.{gone_path, is_not_one, lead_paths, shown_ids}
 use Rattle.nm_answer.specs.declared.request.Request.{Request}
-use Rattle.nm_answer.specs.declared.request.Request.TheVariants.{New, Count, Search, Dump}
+use Rattle.nm_answer.specs.declared.request.Request.TheVariants.{New, Count, Search, Dump, Show, Tag, Restore}
+use Rattle.nm_base.specs.declared.asks.ShowAsk.{ShowAsk}
+use Rattle.nm_base.specs.declared.limit.Limit.TheVariants.{ShowBytes}
+use Rattle.nm_index.specs.declared.base.Base.{Base}
 use Rattle.nm_log.specs.declared.line_parser.ParsedLine.{ParsedLine}
 use Rattle.nm_log.specs.declared.line_parser.ParsedLine.TheVariants as asked
 use Rattle.nm_log.specs.declared.outcome.Outcome.{Outcome}
-use Rattle.nm_log.specs.declared.outcome.Outcome.TheVariants.{BadDate, BadQuery, Closed, Limit, NoMemory, Usage}
+use Rattle.nm_log.specs.declared.outcome.Outcome.TheVariants.{BadDate, BadLine, BadQuery, Closed, Gone, Limit, NoMemory, NotOne, Usage}
+use Rattle.nm_maildir.specs.declared.given.Given.{Given}
+use Rattle.nm_maildir.specs.declared.given.Given.TheVariants as given
 use Rattle.nm_query.specs.Answers.{answer_of}
 use Rattle.nm_query.specs.declared.query.Query.{Query}
 use Rattle.nm_query.specs.declared.query_error.QueryError.{QueryError}
 use Rattle.nm_query.specs.declared.query_error.QueryError.TheVariants as errors
+use Rattle.nm_scan.specs.Bodies.{body_len, is_over}
+use Rattle.nm_tags.specs.declared.line_error.LineKind.{LineKind}
 
 -- the request may change the index
 abbrev pub is_writing : Request → Bool
@@ -17,25 +27,54 @@ is_writing New = true
 is_writing (Count ask) = false
 is_writing (Search ask) = false
 is_writing (Dump ask) = false
+is_writing (Show ask) = false
+is_writing (Tag ask) = true
+is_writing (Restore ask) = true
 
 -- a line that asks for one
 abbrev pub asks_to_write : ParsedLine → Bool
 asks_to_write (asked.Request request) = is_writing request
 asks_to_write (asked.Usage word kind) = false
 
--- the request reads lines from its input
-abbrev pub reads_input : Request → Bool
-reads_input New = false
-reads_input (Count ask) = ask.batch
-reads_input (Search ask) = false
-reads_input (Dump ask) = false
+-- the request may ask the mail folder
+abbrev pub is_asking : Request → Bool
+is_asking New = true
+is_asking (Count ask) = false
+is_asking (Search ask) = false
+is_asking (Dump ask) = false
+is_asking (Show ask) = true
+is_asking (Tag ask) = true
+is_asking (Restore ask) = true
 
--- the text of its own query, where it has one: a count that reads its queries from an input has none
+-- a line that asks for one
+abbrev pub asks_the_folder : ParsedLine → Bool
+asks_the_folder (asked.Request request) = is_asking request
+asks_the_folder (asked.Usage word kind) = false
+
+-- the request sets tags, and may go on behind a fault of the mail folder
+abbrev pub is_tagging : Request → Bool
+is_tagging New = false
+is_tagging (Count ask) = false
+is_tagging (Search ask) = false
+is_tagging (Dump ask) = false
+is_tagging (Show ask) = false
+is_tagging (Tag ask) = true
+is_tagging (Restore ask) = true
+
+-- a line that asks for one
+abbrev pub asks_to_tag : ParsedLine → Bool
+asks_to_tag (asked.Request request) = is_tagging request
+asks_to_tag (asked.Usage word kind) = false
+
+-- the text of its own query, where it has one: what reads its queries from an input has none
 abbrev pub own_query : Request → Option (List ℕ)
 own_query New = None
 own_query (Count ask) = if ask.batch then None else Some ask.query
 own_query (Search ask) = Some ask.query
 own_query (Dump ask) = Some ask.query
+own_query (Show ask) = Some ask.query
+own_query (Tag ask) = if ask.batch then None else Some ask.query
+own_query (Restore ask) = None
 
 -- how a line ends whose query has no tree
 abbrev pub query_outcome : QueryError → Outcome
@@ -53,6 +92,24 @@ abbrev pub refused_query : Option (List ℕ) → Option Outcome
 refused_query None = None
 refused_query (Some text) = refused_text (answer_of text)
 
+-- the first line of an input that is not of its form, where there is one: its number and what is wrong
+abbrev pub bad_line_in : {T : Type 0} → Result T (ℕ × LineKind) → Option (ℕ × LineKind)
+bad_line_in read = elim read [ Ok lines ↦ None | Err fault ↦ Some fault ]
+
+-- that of the lines that a request reads
+abbrev pub first_bad_line : Request → List ℕ → Option (ℕ × LineKind)
+first_bad_line New input = None
+first_bad_line (Count ask) input = if ask.batch then bad_line_in (queries_in input) else None
+first_bad_line (Search ask) input = None
+first_bad_line (Dump ask) input = None
+first_bad_line (Show ask) input = None
+first_bad_line (Tag ask) input = if ask.batch then bad_line_in (taggings_in ask.clear input) else None
+first_bad_line (Restore ask) input = bad_line_in (read_dump input ask.form)
+
+-- a request is refused that reads lines of which one is not of its form
+abbrev pub refused_line : Option (ℕ × LineKind) → Option Outcome
+refused_line fault = elim fault [ None ↦ None | Some bad ↦ Some (BadLine bad.0 bad.1) ]
+
 -- behind a fault of the disk what would change the index is refused
 abbrev pub refused_closed : Option ℕ → Bool → Option Outcome
 refused_closed None writing = None
@@ -63,8 +120,62 @@ abbrev pub first_refusal : Option Outcome → Option Outcome → Option Outcome
 first_refusal None other = other
 first_refusal (Some outcome) other = Some outcome
 
--- how a line ends that asks no device: its words are outside the grammar, or else its query has no tree, or else the index is
--- closed to it
-abbrev pub refused_unasked : ParsedLine → Option ℕ → Option Outcome
-refused_unasked (asked.Usage word kind) closed = Some (Usage word kind)
-refused_unasked (asked.Request request) closed = first_refusal (refused_query (own_query request)) (refused_closed closed (is_writing request))
+-- what a request is refused for before a device is touched: a line of its input, or its query
+abbrev pub refused_text_of : Request → List ℕ → Option Outcome
+refused_text_of request input = first_refusal (refused_line (first_bad_line request input)) (refused_query (own_query request))
+
+-- the same of a line
+abbrev pub refused_text_in : ParsedLine → List ℕ → Option Outcome
+refused_text_in (asked.Usage word kind) input = None
+refused_text_in (asked.Request request) input = refused_text_of request input
+
+-- How a line ends that asks no device: its words are outside the grammar, or else a line of its input is of no form, or else its query
+-- has no tree, or else the index is closed to it.
+abbrev pub refused_unasked : ParsedLine → List ℕ → Option ℕ → Option Outcome
+refused_unasked (asked.Usage word kind) input closed = Some (Usage word kind)
+refused_unasked (asked.Request request) input closed = first_refusal (refused_text_of request input) (refused_closed closed (is_writing request))
+
+-- ---- what a show is refused for
+
+-- the messages that a show finds, the oldest first; a text that is no query finds none
+abbrev pub found_to_show : ShowAsk → Base → ℤ → List (List ℕ)
+found_to_show ask index moment = elim (answer_of ask.query) [ Ok query ↦ shown_ids ask index moment query | Err refusal ↦ [] ]
+
+-- the paths that it reads
+abbrev pub paths_to_show : ShowAsk → Base → ℤ → List (List ℕ)
+paths_to_show ask index moment = lead_paths index (found_to_show ask index moment)
+
+-- raw form shows one message
+abbrev pub refused_number : ShowAsk → List (List ℕ) → Option Outcome
+refused_number ask ids = if is_not_one ask ids then Some (NotOne (length ids)) else None
+
+-- a read, one after the other, found a file that has more bytes than are left, where fewer are left than a file may have
+abbrev pub passes_bytes : ℕ → List Given → Bool
+passes_bytes left [] = false
+passes_bytes left (given.Listed paths ∷ more) = passes_bytes left more
+passes_bytes left (given.Read path answer ∷ more) = is_over left answer || passes_bytes (left - body_len answer) more
+passes_bytes left (given.Renamed from to answer ∷ more) = passes_bytes left more
+
+abbrev pub refused_bytes : ℕ → List Given → Option Outcome
+refused_bytes left noted = if passes_bytes left noted then Some (Limit ShowBytes) else None
+
+-- the file that raw form asks for is not there any more, or too long
+abbrev pub refused_gone : Option (List ℕ) → Option Outcome
+refused_gone None = None
+refused_gone (Some path) = Some (Gone path)
+
+-- what a show is refused for, by what it finds and by what the mail folder gave
+abbrev pub refused_show : ShowAsk → Base → ℤ → ℕ → List Given → Option Outcome
+refused_show ask index moment left noted =
+    first_refusal (refused_number ask (found_to_show ask index moment)) (first_refusal (refused_bytes left noted) (refused_gone (gone_path ask noted)))
+
+-- How a line ends for what it found and read, where so many bytes were left to show: a show alone ends so.
+abbrev pub refused_reading : ParsedLine → Base → ℤ → ℕ → List Given → Option Outcome
+refused_reading (asked.Usage word kind) index moment left noted = None
+refused_reading (asked.Request New) index moment left noted = None
+refused_reading (asked.Request (Count ask)) index moment left noted = None
+refused_reading (asked.Request (Search ask)) index moment left noted = None
+refused_reading (asked.Request (Dump ask)) index moment left noted = None
+refused_reading (asked.Request (Show ask)) index moment left noted = refused_show ask index moment left noted
+refused_reading (asked.Request (Tag ask)) index moment left noted = None
+refused_reading (asked.Request (Restore ask)) index moment left noted = None

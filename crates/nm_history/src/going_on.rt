@@ -2,6 +2,7 @@
 //! clauses are the laws, which the loop of a session calls.
 
 ghost use Rattle.std.specs.Prelude.{◌≡◌, ℕ, ℤ, List, [], ◌∷◌, ◌++◌, None, length};
+ghost use Rattle.nm_base.specs.Limits.{max_mail_bytes};
 ghost use Rattle.nm_commit.specs.declared.change.Commit.{Commit};
 ghost use Rattle.nm_index.specs.declared.base.Base.{Base};
 ghost use Rattle.nm_machine.specs.declared.step.Step.{Step};
@@ -18,6 +19,7 @@ ghost use Rattle.nm_history.specs.MachineRun.{MachineRun};
 pub fn no_line_stands_at_the_opening()
     ensures { (opening : Base) (entry : Devices) (place : Place) → place.writer.shown ≡ opening → place.writer.begun ≡ []
         → place.writer.acked ≡ [] → place.writer.closed ≡ None → place.mail ≡ entry.mail → place.disk_faults ≡ entry.disk.faults
+        → place.left ≡ max_mail_bytes
         → StandsAt opening entry [] [] [] place }
 {}
 
@@ -28,7 +30,7 @@ pub fn no_step_is_a_run_of_the_machine()
 
 /// Where no line was run there is no commit.
 pub fn no_line_makes_no_commit()
-    ensures { (opening : Base) (entry : Devices) → LineCommits opening entry.mail.tree [] [] [] }
+    ensures { (opening : Base) (moment : ℤ) (entry : Devices) → LineCommits opening moment entry.mail.tree [] [] [] }
 {}
 
 /// Where no line was run there is no answer.
@@ -38,7 +40,7 @@ pub fn no_line_is_answered()
 
 /// And nothing was asked of the mail folder.
 pub fn nothing_is_given_to_no_line()
-    ensures { (opening : Base) (entry : Devices) → GivenAlong opening [] (at_first opening entry) [] entry.mail entry.mail }
+    ensures { (opening : Base) (moment : ℤ) (entry : Devices) → GivenAlong opening moment [] (at_first opening entry) [] entry.mail entry.mail }
 {}
 
 /// Behind a line more the session stands where the line left it; the commits that it made are acknowledged.
@@ -63,8 +65,8 @@ pub fn a_line_more_keeps_the_commits()
     ensures { (opening : Base) (moment : ℤ) (entry : Devices) (steps taken : List Step) (lines : List RunLine) (acknowledged : List Commit)
         (old new : Place) (ran : RunLine) → StandsAt opening entry steps lines acknowledged old
         → (result : IsLineResult moment old ran taken new)
-        → LineCommits opening entry.mail.tree steps lines acknowledged
-        → LineCommits opening entry.mail.tree (steps ++ taken) (lines ++ ran ∷ []) (acknowledged ++ result.made) }
+        → LineCommits opening moment entry.mail.tree steps lines acknowledged
+        → LineCommits opening moment entry.mail.tree (steps ++ taken) (lines ++ ran ∷ []) (acknowledged ++ result.made) }
 {}
 
 /// A line more is answered on the index before it and on its own.
@@ -79,8 +81,8 @@ pub fn a_line_more_keeps_the_answers()
 pub fn a_line_more_keeps_the_given()
     ensures { (opening : Base) (moment : ℤ) (entry : Devices) (steps taken : List Step) (lines : List RunLine) (acknowledged : List Commit)
         (old new : Place) (ran : RunLine) → StandsAt opening entry steps lines acknowledged old → IsLineResult moment old ran taken new
-        → GivenAlong opening steps (at_first opening entry) lines entry.mail old.mail
-        → GivenAlong opening (steps ++ taken) (at_first opening entry) (lines ++ ran ∷ []) entry.mail new.mail }
+        → GivenAlong opening moment steps (at_first opening entry) lines entry.mail old.mail
+        → GivenAlong opening moment (steps ++ taken) (at_first opening entry) (lines ++ ran ∷ []) entry.mail new.mail }
 {}
 
 /// Each commit that a line more acknowledges has its clock.

@@ -1,25 +1,29 @@
 //! What follows from the definitions for single lines and for whole sessions. These functions run no code: their clauses are the laws.
 
-ghost use Rattle.std.specs.Prelude.{◌≡◌, ◌⊎◌, ℕ, Bool, List, [], ◌∷◌, ◌++◌, None, Some, true};
+ghost use Rattle.std.specs.Prelude.{◌≡◌, ◌⊎◌, ℕ, ℤ, Bool, List, [], ◌∷◌, ◌++◌, Option, None, Some, false, true};
+ghost use Rattle.std.specs.Option.{option_map};
 ghost use Rattle.nm_commit.specs.declared.change.Commit.{Commit};
 ghost use Rattle.nm_index.specs.declared.base.Base.{Base};
 ghost use Rattle.nm_machine.specs.declared.step.Step.{Step};
 ghost use Rattle.nm_log.specs.declared.line_parser.ParsedLine.{ParsedLine};
 ghost use Rattle.nm_log.specs.declared.log.LineLog.{LineLog};
 ghost use Rattle.nm_log.specs.declared.outcome.Outcome.{Outcome};
+ghost use Rattle.nm_maildir.specs.Tree.{moved, Tree};
+ghost use Rattle.nm_maildir.specs.declared.answers.Renamed.{Renamed};
+ghost use Rattle.nm_maildir.specs.declared.given.Given.{Given};
 ghost use Rattle.nm_disk.specs.Images.{IsImage, MayLeave};
 ghost use Rattle.nm_disk.specs.Observed.{Moments, bytes_now};
 ghost use Rattle.nm_disk.specs.declared.disk.FileNo.TheVariants as heads;
 ghost use Rattle.nm_journal.specs.Moments.{GoesThrough, IsSynced, SyncsOrFails};
 ghost use Rattle.nm_writer.specs.Durable.{KeptSince};
 ghost use Rattle.nm_writer.specs.StoredIndex.{HoldsIndex};
-ghost use Rattle.nm_history.specs.Call.{Call};
+ghost use Rattle.nm_history.specs.Call.{Call, call_reads, input_fault};
 ghost use Rattle.nm_history.specs.Complete.{IsComplete};
 ghost use Rattle.nm_history.specs.CrashPrefix.{KeepsCommits};
 ghost use Rattle.nm_history.specs.History.{History};
 ghost use Rattle.nm_history.specs.LineAnswers.{HasCause};
-ghost use Rattle.nm_history.specs.Lines.{Before, IsIndexAt};
-ghost use Rattle.nm_history.specs.Requests.{asks_to_write};
+ghost use Rattle.nm_history.specs.Lines.{Before, IsIndexAt, tree_behind};
+ghost use Rattle.nm_history.specs.Requests.{asks_to_tag, asks_to_write, refused_text_in};
 ghost use Rattle.nm_history.specs.Status.{first_fault, session_status};
 
 use nm_writer::{an_index_is_held_once, what_holds_an_index_is_not_bad};
@@ -30,16 +34,18 @@ pub fn an_index_at_a_revision_is_one()
         → IsIndexAt opening steps revision one → IsIndexAt opening steps revision other → one ≡ other }
 {}
 
-/// Behind a fault of the disk a line that would change the index is told that it is closed, and by which fault; or it wants memory.
+/// Behind a fault of the disk a line that would change the index, and whose texts are right, is told that it is closed, and by which fault;
+/// or it wants memory.
 pub fn what_writes_behind_a_disk_fault_is_closed()
-    ensures { (outcome : Outcome) (line : ParsedLine) (before : Before) (mail disk fault : ℕ) → before.closed ≡ Some fault
-        → asks_to_write line ≡ true → HasCause outcome line before mail disk → (outcome ≡ Outcome.Closed fault) ⊎ (outcome ≡ Outcome.NoMemory) }
+    ensures { (outcome : Outcome) (line : ParsedLine) (input : List ℕ) (before : Before) (index : Base) (moment : ℤ) (noted : List Given) (mail : ℕ) (failed : Bool) (fault : ℕ)
+        → before.closed ≡ Some fault → asks_to_write line ≡ true → refused_text_in line input ≡ None
+        → HasCause outcome line input before index moment noted mail failed → (outcome ≡ Outcome.Closed fault) ⊎ (outcome ≡ Outcome.NoMemory) }
 {}
 
 /// Where no disk failed in an earlier line, no line is told that the index is closed.
 pub fn no_line_is_closed_without_a_fault()
-    ensures { (line : ParsedLine) (before : Before) (mail disk fault : ℕ) → before.closed ≡ None
-        → HasCause (Outcome.Closed fault) line before mail disk → ⊥ }
+    ensures { (line : ParsedLine) (input : List ℕ) (before : Before) (index : Base) (moment : ℤ) (noted : List Given) (mail : ℕ) (failed : Bool) (fault : ℕ)
+        → before.closed ≡ None → HasCause (Outcome.Closed fault) line input before index moment noted mail failed → ⊥ }
 {}
 
 /// A script has status 4 where the disk is the first device to fail, whatever the lines behind it answer.
@@ -75,4 +81,17 @@ pub fn a_session_keeps_its_commits()
 pub fn a_refused_opening_keeps_the_index()
     ensures { (before now : Moments) → IsImage before.present before.present.now → SyncsOrFails before now
         → GoesThrough heads.Head (MayLeave before.present heads.Head) before now → KeepsCommits [] [] before now }
+{}
+
+/// A call that reads no input is not refused for one.
+pub fn a_call_that_reads_nothing_is_not_refused_for_its_input()
+    ensures { (words : List (List ℕ)) (input : List ℕ) → call_reads words ≡ false → input_fault words input ≡ None }
+{}
+
+/// A line that sets tags leaves the tree with each file at the path to which it was moved, one move after the other; every other line leaves
+/// the tree as it is.
+pub fn the_tree_follows_renames()
+    ensures moved { (line : ParsedLine) (tree : Tree) (noted : List Given) (from to : List ℕ) → asks_to_tag line ≡ true
+        → tree_behind line (noted ++ Given.Renamed from to Renamed.Moved ∷ []) (Some tree) ≡ option_map (λ t. moved t from to) (tree_behind line noted (Some tree)) }
+    ensures still { (line : ParsedLine) (tree : Option Tree) (noted : List Given) → asks_to_tag line ≡ false → tree_behind line noted tree ≡ tree }
 {}

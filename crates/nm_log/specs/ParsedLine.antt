@@ -1,11 +1,12 @@
 -- What a line of a script or a single command asks for, or the first fault of its words: the lane comes first, then the command, then the
 -- words of the command.
-use Rattle.std.specs.Prelude.{ℕ, List, [], ◌∷◌, Option, None, Some, Result, Ok, Err, codes, if◌then◌else◌}
+use Rattle.std.specs.Prelude.{ℕ, Bool, true, false, ◌==◌, ◌||◌, List, [], ◌∷◌, length, Option, None, Some, Result, Ok, Err, codes, if◌then◌else◌}
 use Rattle.std.specs.Str.{is_utf8}
 use Rattle.nm_base.specs.Order.{same_text}
 use Rattle.nm_base.specs.declared.refusals.UsageKind.{UsageKind}
 use Rattle.nm_base.specs.declared.refusals.UsageKind.TheVariants as kinds
-use Rattle.nm_answer.specs.declared.request.Request.TheVariants as requests
+use Rattle.nm_answer.specs.declared.request.Request as requests
+use Rattle.nm_answer.specs.declared.request.Request.TheVariants as asks_for
 use Rattle.nm_command.specs.Requests.{request_of}
 use Rattle.nm_command.specs.Table.{commands, meaning_of}
 use Rattle.nm_command.specs.declared.command_error.CommandError.{CommandError}
@@ -18,18 +19,22 @@ use Rattle.nm_log.specs.declared.line_parser.ParsedLine.{ParsedLine}
 use Rattle.nm_log.specs.declared.line_parser.ParsedLine.TheVariants.{Request, Usage}
 use Rattle.nm_log.specs.declared.script.CommandText.{CommandText}
 use Rattle.nm_log.specs.declared.script.CommandText.TheVariants.{Line, Words}
+use Rattle.nm_log.specs.declared.script.ScriptLine.{ScriptLine}
+use Rattle.nm_log.specs.Script.{adds_input}
 use Rattle.nm_log.specs.Words.{words_of}
 
 abbrev pub refused : UsageKind → List ℕ → ParsedLine
 refused kind word = Usage word kind
 
--- what is wrong with a command in a line, whatever follows it: a session does not answer these yet, and begins no session
+-- what is wrong with a command in a line, whatever follows it: a session begins no other
 abbrev pub command_fault : CommandName → Option UsageKind
 command_fault names.New = None
 command_fault names.Search = None
 command_fault names.Count = None
-command_fault names.Show = Some kinds.Command
+command_fault names.Show = None
 command_fault names.Dump = None
+command_fault names.Tag = None
+command_fault names.Restore = None
 command_fault names.Session = Some kinds.Lane
 
 -- a word that names no command is at fault as the command of any words is
@@ -43,11 +48,13 @@ name_fault name = fault_of_named (meaning_of name commands)
 
 -- what words ask for that begin with this name, where a session answers it
 abbrev pub line_request : List ℕ → asks.Request → ParsedLine
-line_request name asked.New = Request requests.New
-line_request name (asked.Search ask) = Request (requests.Search ask)
-line_request name (asked.Count ask) = Request (requests.Count ask)
-line_request name (asked.Show ask) = refused kinds.Command name
-line_request name (asked.Dump ask) = Request (requests.Dump ask)
+line_request name asked.New = Request asks_for.New
+line_request name (asked.Search ask) = Request (asks_for.Search ask)
+line_request name (asked.Count ask) = Request (asks_for.Count ask)
+line_request name (asked.Show ask) = Request (asks_for.Show ask)
+line_request name (asked.Dump ask) = Request (asks_for.Dump ask)
+line_request name (asked.Tag ask) = Request (asks_for.Tag ask)
+line_request name (asked.Restore ask) = Request (asks_for.Restore ask)
 line_request name asked.Session = refused kinds.Lane name
 
 -- or the word of them that is at fault; want of memory is no fault of words
@@ -69,22 +76,37 @@ parse_words (lane ∷ words) =
     if same_text lane (codes "0") then parse_command words else refused kinds.Lane lane
 
 -- a line that is not UTF-8 has no words
-abbrev pub parse_script : List ℕ → ParsedLine
-parse_script line = if is_utf8 line then parse_words (words_of line) else refused kinds.Utf8 []
+abbrev pub parse_text : List ℕ → ParsedLine
+parse_text line = if is_utf8 line then parse_words (words_of line) else refused kinds.Utf8 []
 
--- a single command has no input, so a count that reads its queries there is refused
-abbrev pub alone : ParsedLine → ParsedLine
-alone (Request requests.New) = Request requests.New
-alone (Request (requests.Count ask)) = if ask.batch then refused kinds.Option (codes "--batch") else Request (requests.Count ask)
-alone (Request (requests.Search ask)) = Request (requests.Search ask)
-alone (Request (requests.Dump ask)) = Request (requests.Dump ask)
-alone (Usage word kind) = Usage word kind
+-- a line that begins with a bar is no command
+abbrev pub parse_script : List ℕ → ParsedLine
+parse_script line = if adds_input line then refused kinds.Input (codes "|") else parse_text line
 
 -- the words of a single command are those that stand behind the lane of a line
 abbrev pub parse_single : List (List ℕ) → ParsedLine
-parse_single words = alone (parse_command words)
+parse_single words = parse_command words
+
+-- what the text of a line asks for
+abbrev pub parse_command_text : CommandText → ParsedLine
+parse_command_text (Line line) = parse_script line
+parse_command_text (Words words) = parse_single words
+
+-- the request reads lines from its input
+abbrev pub reads_input : requests.Request → Bool
+reads_input asks_for.New = false
+reads_input (asks_for.Count ask) = ask.batch
+reads_input (asks_for.Search ask) = false
+reads_input (asks_for.Dump ask) = false
+reads_input (asks_for.Show ask) = false
+reads_input (asks_for.Tag ask) = ask.batch
+reads_input (asks_for.Restore ask) = true
+
+-- a command that reads no input has none
+abbrev pub fed : List ℕ → ParsedLine → ParsedLine
+fed input (Request request) = if reads_input request || length input == 0 then Request request else refused kinds.Input (codes "|")
+fed input (Usage word kind) = Usage word kind
 
 -- what a command asks for
-abbrev pub parse_line : CommandText → ParsedLine
-parse_line (Line line) = parse_script line
-parse_line (Words words) = parse_single words
+abbrev pub parse_line : ScriptLine → ParsedLine
+parse_line line = fed line.input (parse_command_text line.text)

@@ -9,6 +9,8 @@ use Rattle.nm_base.specs.declared.refusals.UsageKind.TheVariants as kinds
 use Rattle.nm_answer.specs.NewText.{number_after}
 use Rattle.nm_query.specs.declared.query_error.QueryKind.{QueryKind}
 use Rattle.nm_query.specs.declared.query_error.QueryKind.TheVariants as query_kinds
+use Rattle.nm_tags.specs.declared.line_error.LineKind.{LineKind}
+use Rattle.nm_tags.specs.declared.line_error.LineKind.TheVariants as line_kinds
 use Rattle.nm_log.specs.declared.outcome.Outcome.{Outcome}
 use Rattle.nm_log.specs.declared.outcome.Outcome.TheVariants as outcomes
 use Rattle.nm_log.specs.declared.log.LineLog.{LineLog}
@@ -46,6 +48,25 @@ query_line kind at = codes "notmuch: query: " ++ (query_kind_name kind ++ (codes
 abbrev pub date_line : ℕ → List ℕ
 date_line at = codes "notmuch: date: at " ++ (decimal at ++ codes "\n")
 
+-- what is wrong with a line of an input, in lower case
+abbrev pub line_kind_name : LineKind → List ℕ
+line_kind_name line_kinds.Utf8 = codes "utf8"
+line_kind_name line_kinds.Tag = codes "tag"
+line_kind_name line_kinds.Query = codes "query"
+line_kind_name line_kinds.Form = codes "form"
+
+-- the line of the input at fault, counted from 1, and what is wrong with it
+abbrev pub bad_line : ℕ → LineKind → List ℕ
+bad_line line kind = codes "notmuch: line " ++ (decimal line ++ (codes ": " ++ (line_kind_name kind ++ codes "\n")))
+
+-- how many messages match where one is wanted
+abbrev pub not_one_line : ℕ → List ℕ
+not_one_line found = codes "notmuch: " ++ (decimal found ++ codes " messages match\n")
+
+-- the path of a file that is gone
+abbrev pub gone_line : List ℕ → List ℕ
+gone_line path = codes "notmuch: gone: " ++ (path ++ codes "\n")
+
 -- the bound that was passed, in lower case
 abbrev pub limit_name : Limit → List ℕ
 limit_name limits.Files = codes "files"
@@ -70,6 +91,9 @@ refusal_line outcomes.Ok = []
 refusal_line (outcomes.Usage word kind) = usage_line kind word
 refusal_line (outcomes.BadQuery at kind) = query_line kind at
 refusal_line (outcomes.BadDate at) = date_line at
+refusal_line (outcomes.BadLine line kind) = bad_line line kind
+refusal_line (outcomes.NotOne found) = not_one_line found
+refusal_line (outcomes.Gone path) = gone_line path
 refusal_line outcomes.MailFault = codes "notmuch: mail fault\n"
 refusal_line outcomes.DiskFault = codes "notmuch: disk fault\n"
 refusal_line (outcomes.Closed fault) = codes "notmuch: closed by a disk fault\n"
@@ -82,6 +106,9 @@ status_of outcomes.Ok = 0
 status_of (outcomes.Usage word kind) = 2
 status_of (outcomes.BadQuery at kind) = 1
 status_of (outcomes.BadDate at) = 1
+status_of (outcomes.BadLine line kind) = 1
+status_of (outcomes.NotOne found) = 1
+status_of (outcomes.Gone path) = 1
 status_of outcomes.MailFault = 3
 status_of outcomes.DiskFault = 4
 status_of (outcomes.Closed fault) = 4
@@ -94,6 +121,9 @@ is_well outcomes.Ok = true
 is_well (outcomes.Usage word kind) = false
 is_well (outcomes.BadQuery at kind) = false
 is_well (outcomes.BadDate at) = false
+is_well (outcomes.BadLine line kind) = false
+is_well (outcomes.NotOne found) = false
+is_well (outcomes.Gone path) = false
 is_well outcomes.MailFault = false
 is_well outcomes.DiskFault = false
 is_well (outcomes.Closed fault) = false

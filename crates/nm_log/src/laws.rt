@@ -1,10 +1,10 @@
 //! What follows from the definition of what a command asks for. These functions run no code: their clauses are the laws.
 
-ghost use Rattle.std.specs.Prelude.{◌≡◌, ◌↔◌, ℕ, List, true};
+ghost use Rattle.std.specs.Prelude.{◌≡◌, ◌↔◌, ℕ, List};
 ghost use Rattle.nm_answer.specs.declared.request.Request.{Request};
 ghost use Rattle.nm_base.specs.declared.refusals.UsageKind.{UsageKind};
 ghost use Rattle.nm_command.specs.Grammar.{IsRequest};
-ghost use Rattle.nm_log.specs.LineGrammar.{AsksFor, IsFaulty, command_of, may_stand_alone};
+ghost use Rattle.nm_log.specs.LineGrammar.{AsksFor, IsFaulty, command_of};
 ghost use Rattle.nm_log.specs.ParsedLine.{parse_script, parse_single};
 ghost use Rattle.nm_log.specs.declared.line_parser.ParsedLine.TheVariants as asked;
 
@@ -19,9 +19,9 @@ pub fn lines_are_read_as_the_grammar_says()
     words_have_one_answer();
 }
 
-/// The words of a single command ask for what the grammar of commands says, where that reads no input.
+/// The words of a single command ask for what the grammar of commands says.
 pub fn single_commands_are_read_as_the_grammar_says()
-    ensures { (words : List (List ℕ)) → (request : Request) → may_stand_alone request ≡ true → IsRequest words (command_of request)
+    ensures { (words : List (List ℕ)) → (request : Request) → IsRequest words (command_of request)
         → parse_single words ≡ asked.Request request }
 {
     words_are_read_as_the_grammar_says();

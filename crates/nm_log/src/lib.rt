@@ -14,10 +14,10 @@ mod script;
 mod words;
 
 pub use laws::{lines_are_read_as_the_grammar_says, single_commands_are_read_as_the_grammar_says};
-pub use line_parser::{ParsedLine, parse_line};
+pub use line_parser::{ParsedLine, parse_line, parse_single, reads_input};
 pub use log::{Done, LineLog, SessionLog, Setting};
 pub use outcome::Outcome;
 pub use print::{print_lines, print_replies, print_text, print_usage};
 pub use refusal::{Refusal, print_refusal, refusal_status};
-pub use replies::{is_well, line_status, new_reply, refusal_text, usage_text};
+pub use replies::{change_reply, is_well, line_status, new_reply, refusal_text, usage_text};
 pub use script::{CommandText, ScriptError, ScriptLine, read_script};

@@ -2,13 +2,14 @@
 
 ghost use Rattle.std.specs.Prelude.{◌≡◌, IfOk};
 ghost use Rattle.nm_command.specs.Requests.{request_of};
-ghost use Rattle.nm_log.specs.ParsedLine.{alone, command_fault, line_request, name_fault, parse_answer, parse_command, parse_line, parse_script, parse_single, parse_words};
+ghost use Rattle.nm_log.specs.ParsedLine.{command_fault, fed, line_request, name_fault, parse_answer, parse_command, parse_command_text, parse_line, parse_script, parse_single, parse_text, parse_words, reads_input};
 ghost use Rattle.nm_log.specs.Words.{words_of};
 
-use crate::CommandText;
+use crate::script::adds_input;
 use crate::words::words;
+use crate::{CommandText, ScriptLine};
 use nm_answer::Request;
-use nm_base::{CountAsk, NoMemory, Text, UsageKind};
+use nm_base::{NoMemory, Text, UsageKind};
 use nm_command::{CommandError, CommandName, command, command_named};
 use std::alloc::Global;
 
@@ -19,9 +20,16 @@ pub enum ParsedLine {
     Usage { word: Text, kind: UsageKind },
 }
 
-/// Reads what a command asks for: a line of a script, or the words of a single command.
-pub fn parse_line(alloc: Global, text: &CommandText) -> Result<ParsedLine, NoMemory>
-    ensures { IfOk result (λ asked. asked ≡ parse_line text.now) }
+/// Reads what a command asks for, a line of a script or the words of a single command: one that reads no input has none.
+pub fn parse_line(alloc: Global, line: &ScriptLine) -> Result<ParsedLine, NoMemory>
+    ensures { IfOk result (λ asked. asked ≡ parse_line line.now) }
+{
+    let asked = parse_command_text(alloc, &line.text)?;
+    fed(alloc, line.input.as_slice(), asked)
+}
+
+fn parse_command_text(alloc: Global, text: &CommandText) -> Result<ParsedLine, NoMemory>
+    ensures { IfOk result (λ asked. asked ≡ parse_command_text text.now) }
 {
     match text {
         CommandText::Line(line) => parse_script(alloc, line.as_slice()),
@@ -29,36 +37,51 @@ pub fn parse_line(alloc: Global, text: &CommandText) -> Result<ParsedLine, NoMem
     }
 }
 
-/// Reads the words of a single command.
-fn parse_single(alloc: Global, words: &[Text]) -> Result<ParsedLine, NoMemory>
+/// Reads what the words of a single command ask for, whatever its input.
+pub fn parse_single(alloc: Global, words: &[Text]) -> Result<ParsedLine, NoMemory>
     ensures { IfOk result (λ asked. asked ≡ parse_single words.now) }
 {
-    let asked = read_command(alloc, words)?;
-    alone(alloc, asked)
+    read_command(alloc, words)
 }
 
-/// A single command has no input to read queries from.
-fn alone(alloc: Global, asked: ParsedLine) -> Result<ParsedLine, NoMemory>
-    ensures { IfOk result (λ read. read ≡ alone asked) }
+fn fed(alloc: Global, input: &[u8], asked: ParsedLine) -> Result<ParsedLine, NoMemory>
+    ensures { IfOk result (λ read. read ≡ fed input.now asked) }
 {
     match asked {
-        ParsedLine::Request(Request::Count(ask)) => count_alone(alloc, ask),
-        other => Ok(other),
+        ParsedLine::Request(request) => {
+            if reads_input(&request) || input.is_empty() {
+                return Ok(ParsedLine::Request(request));
+            }
+            refuse(alloc, UsageKind::Input, "|")
+        }
+        ParsedLine::Usage { word, kind } => Ok(ParsedLine::Usage { word, kind }),
     }
 }
 
-fn count_alone(alloc: Global, ask: CountAsk) -> Result<ParsedLine, NoMemory>
-    ensures { IfOk result (λ read. read ≡ alone (ParsedLine.Request (Request.Count ask))) }
+/// Whether a request reads lines from its input.
+pub fn reads_input(request: &Request) -> bool
+    ensures { result ≡ reads_input request.now }
 {
-    if ask.batch {
-        return refuse(alloc, UsageKind::Option, "--batch");
+    match request {
+        Request::New | Request::Search(_) | Request::Dump(_) | Request::Show(_) => false,
+        Request::Count(ask) => ask.batch,
+        Request::Tag(ask) => ask.batch,
+        Request::Restore(_) => true,
     }
-    Ok(ParsedLine::Request(Request::Count(ask)))
 }
 
-/// Reads what a line of a script asks for: its lane, which is 0, and a command.
+/// Reads what a line of a script asks for: its lane, which is 0, and a command. A line that begins with a bar is none.
 fn parse_script(alloc: Global, line: &[u8]) -> Result<ParsedLine, NoMemory>
     ensures { IfOk result (λ asked. asked ≡ parse_script line.now) }
+{
+    if adds_input(line) {
+        return refuse(alloc, UsageKind::Input, "|");
+    }
+    parse_text(alloc, line)
+}
+
+fn parse_text(alloc: Global, line: &[u8]) -> Result<ParsedLine, NoMemory>
+    ensures { IfOk result (λ asked. asked ≡ parse_text line.now) }
 {
     match str::from_utf8(line) {
         Ok(text) => read_text(alloc, text),
@@ -120,8 +143,13 @@ fn command_fault(command: CommandName) -> Option<UsageKind>
     ensures { result ≡ command_fault command }
 {
     match command {
-        CommandName::New | CommandName::Count | CommandName::Search | CommandName::Dump => None,
-        CommandName::Show => Some(UsageKind::Command),
+        CommandName::New
+        | CommandName::Count
+        | CommandName::Search
+        | CommandName::Show
+        | CommandName::Dump
+        | CommandName::Tag
+        | CommandName::Restore => None,
         CommandName::Session => Some(UsageKind::Lane),
     }
 }
@@ -149,7 +177,9 @@ fn line_request(
         nm_command::Request::Count(ask) => Ok(ParsedLine::Request(Request::Count(ask))),
         nm_command::Request::Search(ask) => Ok(ParsedLine::Request(Request::Search(ask))),
         nm_command::Request::Dump(ask) => Ok(ParsedLine::Request(Request::Dump(ask))),
-        nm_command::Request::Show(_) => refuse(alloc, UsageKind::Command, name),
+        nm_command::Request::Show(ask) => Ok(ParsedLine::Request(Request::Show(ask))),
+        nm_command::Request::Tag(ask) => Ok(ParsedLine::Request(Request::Tag(ask))),
+        nm_command::Request::Restore(ask) => Ok(ParsedLine::Request(Request::Restore(ask))),
         nm_command::Request::Session => refuse(alloc, UsageKind::Lane, name),
     }
 }

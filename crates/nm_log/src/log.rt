@@ -36,6 +36,8 @@ pub struct LineLog {
     pub mail_faults: u64,
     /// And the disk.
     pub disk_faults: u64,
+    /// Whether the disk failed in the line, so that the index is closed to all later ones.
+    pub disk_failed: bool,
 }
 
 /// What a session did.

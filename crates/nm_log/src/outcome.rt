@@ -1,7 +1,8 @@
 //! How a line ends.
 
-use nm_base::{Limit, Text, UsageKind};
+use nm_base::{Limit, MailPath, Text, UsageKind};
 use nm_query::QueryKind;
+use nm_tags::LineKind;
 
 /// How a line of a session, or a single command, ended.
 #[derive(Clone, Debug, Drop, PartialEq, Eq)]
@@ -13,6 +14,12 @@ pub enum Outcome {
     BadQuery { at: u32, kind: QueryKind },
     /// An end of a range of dates in the query is no date.
     BadDate { at: u32 },
+    /// This line of the input is not of its form, the first of them.
+    BadLine { line: u32, kind: LineKind },
+    /// Raw form shows one message, and the query finds so many.
+    NotOne { found: u64 },
+    /// The file that raw form asks for is not there any more, or it is too long.
+    Gone { path: MailPath },
     MailFault,
     DiskFault,
     /// The disk failed in an earlier line, when it had failed so often.

@@ -4,15 +4,16 @@ ghost use Rattle.std.specs.Prelude.{◌≡◌, ◌++◌, codes};
 ghost use Rattle.nm_faults.specs.Faults.{HasCause};
 ghost use Rattle.nm_io.specs.Observed.{PutAppends};
 ghost use Rattle.nm_log.specs.Refusals.{bad_index_line, file_name, refused_line, refused_status};
-ghost use Rattle.nm_log.specs.Replies.{date_line, limit_line, query_line};
+ghost use Rattle.nm_log.specs.Replies.{bad_line, date_line, limit_line, query_line};
 
 use crate::print::{print_text, print_usage, put_five, put_three};
-use crate::replies::{printed_limit, printed_query_kind};
+use crate::replies::{printed_limit, printed_line_kind, printed_query_kind};
 use itoa::Buffer;
 use nm_base::{Failed, Limit, Text, UsageKind};
 use nm_disk::FileNo;
 use nm_io::Sink;
 use nm_query::QueryKind;
+use nm_tags::LineKind;
 
 /// Why a call was refused before a line ran.
 #[derive(Clone, Debug, Drop, PartialEq, Eq)]
@@ -23,6 +24,8 @@ pub enum Refusal {
     BadQuery { at: u32, kind: QueryKind },
     /// An end of a range of dates in it is no date.
     BadDate { at: u32 },
+    /// This line of the input of a single command is not of its form, the first of them.
+    BadLine { line: u32, kind: LineKind },
     ReadFault,
     DiskFault,
     /// From this place on the file holds no index.
@@ -37,7 +40,7 @@ pub fn refusal_status(refusal: &Refusal) -> u8
     ensures { result ≡ refused_status refusal.now }
 {
     match refusal {
-        Refusal::BadQuery { .. } | Refusal::BadDate { .. } => 1,
+        Refusal::BadQuery { .. } | Refusal::BadDate { .. } | Refusal::BadLine { .. } => 1,
         Refusal::Usage { .. } => 2,
         Refusal::ReadFault => 5,
         Refusal::DiskFault => 4,
@@ -56,6 +59,7 @@ pub fn print_refusal<E: Sink>(err: &mut E, refusal: &Refusal) -> Result<(), Fail
         Refusal::Usage { word, kind } => print_usage(err, *kind, word.as_str()),
         Refusal::BadQuery { at, kind } => print_query(err, *kind, *at),
         Refusal::BadDate { at } => print_date(err, *at),
+        Refusal::BadLine { line, kind } => print_bad_line(err, *line, *kind),
         Refusal::ReadFault => print_text(err, b"notmuch: read fault\n"),
         Refusal::DiskFault => print_text(err, b"notmuch: disk fault\n"),
         Refusal::BadIndex { file, at } => print_bad_index(err, *file, *at),
@@ -93,6 +97,39 @@ fn put_query_place<E: Sink>(err: &mut E, name: &str, place: &str) -> Result<(), 
         name.as_bytes(),
         b" at ",
         place.as_bytes(),
+        b"\n",
+    )
+}
+
+#[tactic(auto, using(crate::proofs::Puts::puts))]
+fn print_bad_line<E: Sink>(err: &mut E, line: u32, kind: LineKind) -> Result<(), Failed>
+    ensures bytes { PutAppends (E.observed err.old).bytes (E.observed err.new).bytes result (bad_line line kind) }
+    ensures cause { HasCause (E.observed err.old).faults (E.observed err.new).faults result }
+{
+    put_bad_line(err, line, kind)?;
+    err.flush()
+}
+
+fn put_bad_line<E: Sink>(err: &mut E, line: u32, kind: LineKind) -> Result<(), Failed>
+    ensures bytes { PutAppends (E.observed err.old).bytes (E.observed err.new).bytes result (bad_line line kind) }
+    ensures cause { HasCause (E.observed err.old).faults (E.observed err.new).faults result }
+{
+    let mut buffer = Buffer::new();
+    let place = buffer.format(line);
+    let name = printed_line_kind(kind);
+    put_line_kind(err, place, name)
+}
+
+fn put_line_kind<E: Sink>(err: &mut E, place: &str, name: &str) -> Result<(), Failed>
+    ensures bytes { PutAppends (E.observed err.old).bytes (E.observed err.new).bytes result (codes "notmuch: line " ++ (place.now ++ (codes ": " ++ (name.now ++ codes "\n")))) }
+    ensures cause { HasCause (E.observed err.old).faults (E.observed err.new).faults result }
+{
+    put_five(
+        err,
+        b"notmuch: line ",
+        place.as_bytes(),
+        b": ",
+        name.as_bytes(),
         b"\n",
     )
 }

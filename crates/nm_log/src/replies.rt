@@ -4,13 +4,16 @@ ghost use Rattle.std.specs.Prelude.{◌≡◌, ◌++◌, IfOk, OnOk};
 ghost use Rattle.std.specs.Fmt.{decimal};
 ghost use Rattle.std.specs.List.{flat_map};
 ghost use Rattle.nm_answer.specs.NewText.{is_quiet, new_text, number_after, skip_line, skip_name, summary_line};
-ghost use Rattle.nm_log.specs.Replies.{date_line, is_well, kind_name, limit_line, limit_name, query_kind_name, query_line, refusal_line, status_of, usage_line};
+ghost use Rattle.nm_answer.specs.Renaming.{sync_text, unmoved_line, unmoved_name};
+ghost use Rattle.nm_answer.specs.Restore.{stranger_line, strangers_text};
+ghost use Rattle.nm_log.specs.Replies.{bad_line, date_line, gone_line, is_well, kind_name, limit_line, limit_name, line_kind_name, not_one_line, query_kind_name, query_line, refusal_line, status_of, usage_line};
 
 use crate::Outcome;
 use itoa::Buffer;
-use nm_answer::NewReport;
-use nm_base::{Limit, MailPath, Many, NoMemory, Skip, Text, UsageKind};
+use nm_answer::{NewReport, SyncReport, Unmoved};
+use nm_base::{Limit, MailPath, Many, MessageId, NoMemory, Skip, Text, UsageKind};
 use nm_query::QueryKind;
+use nm_tags::LineKind;
 use std::alloc::Global;
 
 /// The status of a line that ended so.
@@ -19,7 +22,11 @@ pub fn line_status(outcome: &Outcome) -> u8
 {
     match outcome {
         Outcome::Ok => 0,
-        Outcome::BadQuery { .. } | Outcome::BadDate { .. } => 1,
+        Outcome::BadQuery { .. }
+        | Outcome::BadDate { .. }
+        | Outcome::BadLine { .. }
+        | Outcome::NotOne { .. }
+        | Outcome::Gone { .. } => 1,
         Outcome::Usage { .. } => 2,
         Outcome::MailFault => 3,
         Outcome::DiskFault | Outcome::Closed { .. } => 4,
@@ -37,6 +44,9 @@ pub fn is_well(outcome: &Outcome) -> bool
         Outcome::Usage { .. }
         | Outcome::BadQuery { .. }
         | Outcome::BadDate { .. }
+        | Outcome::BadLine { .. }
+        | Outcome::NotOne { .. }
+        | Outcome::Gone { .. }
         | Outcome::MailFault
         | Outcome::DiskFault
         | Outcome::Closed { .. }
@@ -111,6 +121,48 @@ fn date_text(alloc: Global, at: u32) -> Result<Many<u8>, NoMemory>
     Ok(text)
 }
 
+/// What is wrong with a line of an input, as it is printed.
+pub(crate) fn printed_line_kind(kind: LineKind) -> &'static str
+    ensures { result.now ≡ line_kind_name kind }
+{
+    match kind {
+        LineKind::Utf8 => "utf8",
+        LineKind::Tag => "tag",
+        LineKind::Query => "query",
+        LineKind::Form => "form",
+    }
+}
+
+fn bad_line(alloc: Global, line: u32, kind: LineKind) -> Result<Many<u8>, NoMemory>
+    ensures { IfOk result (λ text. text ≡ bad_line line kind) }
+{
+    let kind = printed_line_kind(kind);
+    let mut text = Many::from_slice(alloc, b"notmuch: line ")?;
+    add_number(&mut text, u64::from(line))?;
+    text.extend_from_slice(b": ")?;
+    text.extend_from_slice(kind.as_bytes())?;
+    text.extend_from_slice(b"\n")?;
+    Ok(text)
+}
+
+fn not_one_line(alloc: Global, found: u64) -> Result<Many<u8>, NoMemory>
+    ensures { IfOk result (λ text. text ≡ not_one_line found) }
+{
+    let mut text = Many::from_slice(alloc, b"notmuch: ")?;
+    add_number(&mut text, found)?;
+    text.extend_from_slice(b" messages match\n")?;
+    Ok(text)
+}
+
+fn gone_line(alloc: Global, path: &MailPath) -> Result<Many<u8>, NoMemory>
+    ensures { IfOk result (λ text. text ≡ gone_line path.now) }
+{
+    let mut text = Many::from_slice(alloc, b"notmuch: gone: ")?;
+    text.extend_from_slice(path.text().as_bytes())?;
+    text.extend_from_slice(b"\n")?;
+    Ok(text)
+}
+
 /// The bound as it is printed.
 pub(crate) fn printed_limit(limit: Limit) -> &'static str
     ensures { result.now ≡ limit_name limit }
@@ -150,6 +202,9 @@ pub fn refusal_text(alloc: Global, outcome: &Outcome) -> Result<Many<u8>, NoMemo
         Outcome::Usage { word, kind } => usage_text(alloc, *kind, word),
         Outcome::BadQuery { at, kind } => query_text(alloc, *kind, *at),
         Outcome::BadDate { at } => date_text(alloc, *at),
+        Outcome::BadLine { line, kind } => bad_line(alloc, *line, *kind),
+        Outcome::NotOne { found } => not_one_line(alloc, *found),
+        Outcome::Gone { path } => gone_line(alloc, path),
         Outcome::MailFault => Many::from_slice(alloc, b"notmuch: mail fault\n"),
         Outcome::DiskFault => Many::from_slice(alloc, b"notmuch: disk fault\n"),
         Outcome::Closed { .. } => Many::from_slice(alloc, b"notmuch: closed by a disk fault\n"),
@@ -238,5 +293,68 @@ fn printed_skip(skip: Skip) -> &'static str
         Skip::NotMail => "not mail",
         Skip::Missing => "missing",
         Skip::TooLong => "too long",
+    }
+}
+
+/// The reply to what sets tags: a line for each id that no message has, and one for each file that keeps its name.
+pub fn change_reply(
+    alloc: Global,
+    strangers: &Many<MessageId>,
+    report: &SyncReport,
+) -> Result<Many<u8>, NoMemory>
+    ensures { IfOk result (λ text. text ≡ strangers_text strangers.now ++ sync_text report.now) }
+{
+    let mut text = Many::new(alloc);
+    add_strangers(&mut text, strangers.as_slice())?;
+    add_all_unmoved(&mut text, report.unmoved.as_slice())?;
+    Ok(text)
+}
+
+fn add_strangers(text: &mut Many<u8>, strangers: &[MessageId]) -> Result<(), NoMemory>
+    ensures { OnOk result (text.new ≡ text.old ++ strangers_text strangers.now) }
+{
+    'strangers: for id in strangers {
+        add_stranger(text, id)?;
+    }
+    Ok(())
+}
+
+fn add_stranger(text: &mut Many<u8>, id: &MessageId) -> Result<(), NoMemory>
+    ensures { OnOk result (text.new ≡ text.old ++ stranger_line id.now) }
+{
+    text.extend_from_slice(b"Warning: no message: id:")?;
+    text.extend_from_slice(id.text().as_bytes())?;
+    text.extend_from_slice(b"\n")?;
+    Ok(())
+}
+
+fn add_all_unmoved(text: &mut Many<u8>, all: &[(MailPath, Unmoved)]) -> Result<(), NoMemory>
+    ensures { OnOk result (text.new ≡ text.old ++ flat_map unmoved_line all.now) }
+{
+    'files: for unmoved in all {
+        add_unmoved(text, unmoved)?;
+    }
+    Ok(())
+}
+
+fn add_unmoved(text: &mut Many<u8>, unmoved: &(MailPath, Unmoved)) -> Result<(), NoMemory>
+    ensures { OnOk result (text.new ≡ text.old ++ unmoved_line unmoved.now) }
+{
+    let why = unmoved_name(unmoved.1);
+    text.extend_from_slice(b"not renamed: ")?;
+    text.extend_from_slice(why.as_bytes())?;
+    text.extend_from_slice(b" ")?;
+    text.extend_from_slice(unmoved.0.text().as_bytes())?;
+    text.extend_from_slice(b"\n")?;
+    Ok(())
+}
+
+fn unmoved_name(unmoved: Unmoved) -> &'static str
+    ensures { result.now ≡ unmoved_name unmoved }
+{
+    match unmoved {
+        Unmoved::Missing => "missing",
+        Unmoved::Exists => "exists",
+        Unmoved::Long => "long",
     }
 }

@@ -1,9 +1,9 @@
 //! The lines of a script, with their numbers; the top call cuts its input with it.
 
 ghost use Rattle.nm_base.specs.Limits.{max_lines};
-ghost use Rattle.std.specs.Prelude.{◌≡◌, ◌<◌, ◌≤◌, [], ◌∷◌, length, IfErr, IfOk, MatchOption};
+ghost use Rattle.std.specs.Prelude.{◌≡◌, ◌<◌, ◌≤◌, [], ◌∷◌, length, IfErr, IfOk, MatchOption, OnOk};
 ghost use Rattle.std.specs.Str.Lines.{lines};
-ghost use Rattle.nm_log.specs.Script.{IsScriptFault, script_lines};
+ghost use Rattle.nm_log.specs.Script.{IsScriptFault, added_by, adds_input, command_line, fed_with, is_alone, script_lines, with_input, with_line};
 
 use nm_base::{Limit, Many, NoMemory, Text};
 use nm_text::{content, next_line};
@@ -28,6 +28,8 @@ pub struct ScriptLine {
     /// Counted from 1, empty lines too.
     pub number: u32,
     pub text: CommandText,
+    /// What it reads where it takes an input.
+    pub input: Many<u8>,
 }
 
 /// Why a script was not read.
@@ -49,7 +51,8 @@ impl From<NoMemory> for ScriptError {
     }
 }
 
-/// Reads the lines of a script, each ended by LF or CR LF. Empty lines are passed over.
+/// Reads the lines of a script, each ended by LF or CR LF. Empty lines are passed over, and a line that begins with a bar adds its
+/// rest to the input of the command before it.
 pub fn read_script(alloc: Global, bytes: &[u8]) -> Result<Many<ScriptLine>, ScriptError>
     ensures ok { IfOk result (λ script. script ≡ script_lines bytes.now) }
     ensures few { IfOk result (λ script. length (lines bytes.now) ≤ max_lines) }
@@ -64,12 +67,95 @@ pub fn read_script(alloc: Global, bytes: &[u8]) -> Result<Many<ScriptLine>, Scri
         }
         number += 1;
         rest = more;
-        if !line.is_empty() {
-            let text = CommandText::Line(Many::from_slice(alloc, line)?);
-            script.push(ScriptLine { number, text })?;
-        }
+        add_line(alloc, &mut script, number, line)?;
     }
     Ok(script)
+}
+
+/// Adds a line to a script, where it is not empty.
+fn add_line(
+    alloc: Global,
+    script: &mut Many<ScriptLine>,
+    number: u32,
+    line: &[u8],
+) -> Result<(), NoMemory>
+    ensures { OnOk result (script.new ≡ with_line script.old number line.now) }
+{
+    if line.is_empty() {
+        return Ok(());
+    }
+    if adds_input(line) {
+        return add_input(alloc, script, number, line);
+    }
+    script.push(command_line(alloc, number, line)?)
+}
+
+pub(crate) fn adds_input(line: &[u8]) -> bool
+    ensures { result ≡ adds_input line.now }
+{
+    match line {
+        [] => false,
+        [first, ..] => *first == b'|',
+    }
+}
+
+fn command_line(alloc: Global, number: u32, line: &[u8]) -> Result<ScriptLine, NoMemory>
+    ensures { IfOk result (λ made. made ≡ command_line number line.now) }
+{
+    let text = CommandText::Line(Many::from_slice(alloc, line)?);
+    let input = Many::new(alloc);
+    Ok(ScriptLine {
+        number,
+        text,
+        input,
+    })
+}
+
+/// Adds what the line adds to the input of the last one, or the line itself where there is no command.
+fn add_input(
+    alloc: Global,
+    script: &mut Many<ScriptLine>,
+    number: u32,
+    line: &[u8],
+) -> Result<(), NoMemory>
+    ensures { OnOk result (script.new ≡ with_input number line.now script.old) }
+{
+    let Some(last) = script.pop() else {
+        return script.push(command_line(alloc, number, line)?);
+    };
+    if is_alone(&last.text) {
+        script.push(last)?;
+        return script.push(command_line(alloc, number, line)?);
+    }
+    script.push(fed_with(last, line)?)
+}
+
+fn is_alone(text: &CommandText) -> bool
+    ensures { result ≡ is_alone text.now }
+{
+    match text {
+        CommandText::Line(line) => adds_input(line.as_slice()),
+        CommandText::Words(_) => false,
+    }
+}
+
+/// The line with the input that another adds.
+fn fed_with(last: ScriptLine, line: &[u8]) -> Result<ScriptLine, NoMemory>
+    ensures { IfOk result (λ fed. fed ≡ fed_with last (added_by line.now)) }
+{
+    let ScriptLine {
+        number,
+        text,
+        mut input,
+    } = last;
+    let rest = line.get(1..).unwrap_or(&[]);
+    input.extend_from_slice(rest)?;
+    input.push(b'\n')?;
+    Ok(ScriptLine {
+        number,
+        text,
+        input,
+    })
 }
 
 /// The first line without its end, and the text after it.

@@ -1,6 +1,10 @@
 pub mod AnswerLemmas
+pub mod ChangeLemmas
 pub mod LineLemmas
 pub mod LoopLemmas
 pub mod MarkLemmas
+pub mod NewLemmas
 pub mod RoomLemmas
 pub mod SessionLemmas
+pub mod ShowLemmas
+pub mod TagLemmas

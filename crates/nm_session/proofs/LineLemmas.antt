@@ -1,11 +1,11 @@
 -- What a line leaves: its log and its marks.
-use Rattle.std.proofs.Common.{◌≡◌, ℕ, ℤ, ◌+◌, ◌-◌, ◌≤◌, List, [], ◌∷◌, ◌++◌, Option, None, MatchResult, Result, Ok, Err, length, map, replicate, codes, if◌then◌else◌, refl, sym, ap, ◌∙◌, subst, arith}
+use Rattle.std.proofs.Common.{◌≡◌, ℕ, ℤ, ◌+◌, ◌-◌, ◌≤◌, Bool, true, false, List, [], ◌∷◌, ◌++◌, Option, None, MatchResult, Result, Ok, Err, length, map, replicate, codes, if◌then◌else◌, refl, sym, ap, ◌∙◌, subst, arith}
 use Rattle.std.proofs.lemmas.List.{length-append}
 use Rattle.std.specs.Option.{option_to_list}
 use Rattle.nm_base.specs.Limits.{max_commits}
 use Rattle.nm_base.specs.declared.memory.NoMemory.{NoMemory}
 use Rattle.nm_commit.specs.declared.change.Commit.{Commit}
-use Rattle.nm_history.specs.LineCommits.{Makes}
+use Rattle.nm_history.specs.LineCommits.{IsOnItsWay}
 use Rattle.nm_history.specs.LineResult.{Place}
 use Rattle.nm_history.specs.Lines.{RunLine, closed_after}
 use Rattle.nm_history.specs.MachineRun.{Replied, replied_where, reply_to}
@@ -17,12 +17,9 @@ use Rattle.nm_log.specs.declared.line_parser.ParsedLine.TheVariants as asked
 use Rattle.nm_log.specs.declared.outcome.Outcome.{Outcome}
 use Rattle.nm_log.specs.declared.outcome.Outcome.TheVariants as outcomes
 use Rattle.nm_log.specs.declared.script.ScriptLine.{ScriptLine}
-use Rattle.nm_log.specs.declared.script.CommandText.{CommandText}
-use Rattle.nm_maildir.specs.Tree.{Tree}
 use Rattle.nm_maildir.specs.declared.given.Given.{Given}
-use Rattle.nm_session.specs.Line.{Ends, IsAnswered, IsEven, IsRun, IsSaid}
+use Rattle.nm_session.specs.Line.{Ends, IsAnswered, IsEven, IsRun, IsSaid, newly_closed}
 use Rattle.nm_session.specs.Marks.{begun_mark, line_marks, made_mark, marks_for, reply_mark}
-use Rattle.nm_session.specs.Outcomes.{is_disk_fault}
 use Rattle.nm_session.specs.declared.answering.Answered.{Answered}
 use Rattle.nm_session.specs.declared.marks.Mark.{Mark}
 use Rattle.nm_session.specs.declared.marks.Mark.TheVariants as marks
@@ -33,24 +30,24 @@ use Rattle.nm_session.proofs.MarkLemmas.{mapped}
 abbrev without_memory : List ℕ → Answered
 without_memory spare = record { outcome = outcomes.NoMemory; text = spare; reply = None }
 
-done-by : (moment : ℤ) (old new : Place) (line : CommandText) (noted : List Given) (answered : Result Answered NoMemory) (done : Answered) (spare : List ℕ) → spare ≡ codes "notmuch: no memory\n"
+done-by : (moment : ℤ) (old new : Place) (line : ScriptLine) (noted : List Given) (answered : Result Answered NoMemory) (done : Answered) (spare : List ℕ) → spare ≡ codes "notmuch: no memory\n"
     → MatchResult answered (λ got. done ≡ got) (λ error. done ≡ record { outcome = outcomes.NoMemory; text = spare; reply = None }) → Ends moment old line noted answered new
-    → IsAnswered old line noted done.outcome new × IsSaid moment old line noted done new
+    → IsAnswered moment old line noted done.outcome (newly_closed old.writer new.writer) new × IsSaid moment old line noted done new
 done-by moment old new line noted (Ok got) done spare text is h =
-    subst (λ (d : Answered). IsAnswered old line noted d.outcome new × IsSaid moment old line noted d new) (sym is) h
+    subst (λ (d : Answered). IsAnswered moment old line noted d.outcome (newly_closed old.writer new.writer) new × IsSaid moment old line noted d new) (sym is) h
 done-by moment old new line noted (Err error) done spare text is h =
-    subst (λ (d : Answered). IsAnswered old line noted d.outcome new × IsSaid moment old line noted d new) (sym (is ∙ ap without_memory text))
+    subst (λ (d : Answered). IsAnswered moment old line noted d.outcome (newly_closed old.writer new.writer) new × IsSaid moment old line noted d new) (sym (is ∙ ap without_memory text))
     (h, record { text = refl; reply = λ lane revision. refl })
 
-pub is-run : (moment : ℤ) (old new : Place) (line : ScriptLine) (seen : CommandText) (noted : List Given) (answered : Result Answered NoMemory) (done : Answered) (spare : List ℕ) (shown : Base) (revision status mail disk : ℕ) → seen ≡ line.text
+pub is-run : (moment : ℤ) (old new : Place) (line : ScriptLine) (noted : List Given) (answered : Result Answered NoMemory) (done : Answered) (spare : List ℕ) (shown : Base) (revision status mail disk : ℕ) (failed : Bool)
     → spare ≡ codes "notmuch: no memory\n" → MatchResult answered (λ got. done ≡ got) (λ error. done ≡ record { outcome = outcomes.NoMemory; text = spare; reply = None })
-    → Ends moment old seen noted answered new → revision ≡ shown.revision → shown ≡ new.writer.shown → status ≡ status_of done.outcome → mail ≡ new.mail.faults → disk ≡ new.disk_faults
-    → IsRun moment old (line, record { phase = 0; lane = 0; line = line.number; revision = revision; status = status; outcome = done.outcome; text = done.text; given = noted; mail_faults = mail; disk_faults = disk }) done.reply new
-is-run moment old new line seen noted answered done spare shown revision status mail disk same text is ends at shown_is status_is mail_is disk_is =
-    let h : IsAnswered old line.text noted done.outcome new × IsSaid moment old line.text noted done new =
-    subst (λ (l : CommandText). IsAnswered old l noted done.outcome new × IsSaid moment old l noted done new) same (done-by moment old new seen noted answered done spare text is ends) in
+    → Ends moment old line noted answered new → revision ≡ shown.revision → shown ≡ new.writer.shown → status ≡ status_of done.outcome → mail ≡ new.mail.faults → disk ≡ new.disk_faults
+    → failed ≡ newly_closed old.writer new.writer
+    → IsRun moment old (line, record { phase = 0; lane = 0; line = line.number; revision = revision; status = status; outcome = done.outcome; text = done.text; given = noted; mail_faults = mail; disk_faults = disk; disk_failed = failed }) done.reply new
+is-run moment old new line noted answered done spare shown revision status mail disk failed text is ends at shown_is status_is mail_is disk_is failed_is =
+    let h : IsAnswered moment old line noted done.outcome (newly_closed old.writer new.writer) new × IsSaid moment old line noted done new = done-by moment old new line noted answered done spare text is ends in
     record {
-      answered = h.0;
+      answered = subst (λ (b : Bool). IsAnswered moment old line noted done.outcome b new) (sym failed_is) h.0;
       text = h.1.text;
       reply_is = h.1.reply 0 revision;
       numbers = record { phase = refl; lane = refl; number = refl };
@@ -66,17 +63,12 @@ made-marks : (made : List Commit) → replicate (length made) marks.Made ≡ map
 made-marks [] = refl
 made-marks (commit ∷ made) = ap (λ (l : List Mark). marks.Made ∷ l) (made-marks made)
 
-pub flight-marks : (outcome : Outcome) (tree : Option Tree) (index : Base) (line : CommandText) (noted : List Given) (count : ℕ) (made flight : List Commit) → Makes outcome tree index line noted count made flight
-    → (if is_disk_fault outcome then marks.Begun ∷ [] else []) ≡ map begun_mark flight
-flight-marks outcomes.Ok tree index line noted count made flight h = sym (ap (map begun_mark) h.1)
-flight-marks (outcomes.Usage word kind) tree index line noted count made flight h = sym (ap (map begun_mark) h.1)
-flight-marks (outcomes.BadQuery at kind) tree index line noted count made flight h = sym (ap (map begun_mark) h.1)
-flight-marks (outcomes.BadDate at) tree index line noted count made flight h = sym (ap (map begun_mark) h.1)
-flight-marks outcomes.MailFault tree index line noted count made flight h = sym (ap (map begun_mark) h.1)
-flight-marks outcomes.DiskFault tree index line noted count made flight h = sym (ap (map begun_mark) h.2)
-flight-marks (outcomes.Closed fault) tree index line noted count made flight h = sym (ap (map begun_mark) h.1)
-flight-marks (outcomes.Limit limit) tree index line noted count made flight h = sym (ap (map begun_mark) h.1)
-flight-marks outcomes.NoMemory tree index line noted count made flight h = sym (ap (map begun_mark) h.1)
+flight-marks : (failed : Bool) (flight : List Commit) → IsOnItsWay failed flight → (if failed then marks.Begun ∷ [] else []) ≡ map begun_mark flight
+flight-marks true [] h = absurd (omega (arith, h))
+flight-marks true (commit ∷ []) h = refl
+flight-marks true (commit ∷ other ∷ more) h = absurd (omega (arith, h))
+flight-marks false [] h = refl
+flight-marks false (commit ∷ more) h = absurd (omega (arith, h))
 
 count-made : (acked seen new clocks : List ℕ) (commits : List Commit) (made : ℕ) → made ≡ length new - length seen → seen ≡ acked → new ≡ acked ++ clocks → length clocks ≡ length commits → made ≡ length commits
 count-made acked seen new clocks commits made is same added each =
@@ -85,14 +77,14 @@ count-made acked seen new clocks commits made is same added each =
     omega (arith, is, more, before, each)
 
 pub marks-are : (moment : ℤ) (old new : Place) (ran : RunLine) (reply : Option Mark) (seen : List ℕ) (made : ℕ) (run : IsRun moment old ran reply new) → seen ≡ old.writer.acked → made ≡ length new.writer.acked - length seen
-    → marks_for made (is_disk_fault ran.1.outcome) (option_to_list reply) ≡ line_marks run.answered.made run.answered.flight (reply_to ran)
+    → marks_for made ran.1.disk_failed (option_to_list reply) ≡ line_marks run.answered.made run.answered.flight (reply_to ran)
 marks-are moment old new ran reply seen made run same is =
-    let h : IsAnswered old ran.0.text ran.1.given ran.1.outcome new = run.answered in
+    let h : IsAnswered moment old ran.0 ran.1.given ran.1.outcome ran.1.disk_failed new = run.answered in
     let count : made ≡ length h.made = count-made old.writer.acked seen new.writer.acked h.has_made.clocks h.made made is same h.has_made.acked h.has_made.one_each in
-    let flight : (if is_disk_fault ran.1.outcome then marks.Begun ∷ [] else []) ≡ map begun_mark h.flight =
-    flight-marks ran.1.outcome old.mail.tree old.writer.shown ran.0.text ran.1.given (length old.writer.acked + length h.made) h.made h.flight h.makes in
-    ap (λ n. marks_for n (is_disk_fault ran.1.outcome) (option_to_list reply)) count
-    ∙ (ap (λ (l : List Mark). l ++ ((if is_disk_fault ran.1.outcome then marks.Begun ∷ [] else []) ++ option_to_list reply)) (made-marks h.made)
+    let flight : (if ran.1.disk_failed then marks.Begun ∷ [] else []) ≡ map begun_mark h.flight =
+    flight-marks ran.1.disk_failed h.flight h.on_its_way in
+    ap (λ n. marks_for n ran.1.disk_failed (option_to_list reply)) count
+    ∙ (ap (λ (l : List Mark). l ++ ((if ran.1.disk_failed then marks.Begun ∷ [] else []) ++ option_to_list reply)) (made-marks h.made)
     ∙ (ap (λ (l : List Mark). map made_mark h.made ++ (l ++ option_to_list reply)) flight
     ∙ ap (λ (l : List Mark). map made_mark h.made ++ (map begun_mark h.flight ++ l)) run.reply_is))
 
@@ -107,6 +99,9 @@ reply-few outcomes.Ok line lane revision text = asked-few line lane revision tex
 reply-few (outcomes.Usage word kind) line lane revision text = omega arith
 reply-few (outcomes.BadQuery at kind) line lane revision text = omega arith
 reply-few (outcomes.BadDate at) line lane revision text = omega arith
+reply-few (outcomes.BadLine bad kind) line lane revision text = omega arith
+reply-few (outcomes.NotOne found) line lane revision text = omega arith
+reply-few (outcomes.Gone path) line lane revision text = omega arith
 reply-few outcomes.MailFault line lane revision text = omega arith
 reply-few outcomes.DiskFault line lane revision text = omega arith
 reply-few (outcomes.Closed fault) line lane revision text = omega arith
@@ -122,15 +117,15 @@ line-marks-length made flight replies =
 
 -- the marks of a line are those of the commits that it began, and at most one more
 pub marks-few : (moment : ℤ) (old new : Place) (ran : RunLine) (reply : Option Mark) (seen : List ℕ) (made : ℕ) → IsRun moment old ran reply new → seen ≡ old.writer.acked → made ≡ length new.writer.acked - length seen
-    → length (marks_for made (is_disk_fault ran.1.outcome) (option_to_list reply)) + length old.writer.begun ≤ length new.writer.begun + 1
+    → length (marks_for made ran.1.disk_failed (option_to_list reply)) + length old.writer.begun ≤ length new.writer.begun + 1
 marks-few moment old new ran reply seen made run same is =
-    let h : IsAnswered old ran.0.text ran.1.given ran.1.outcome new = run.answered in
+    let h : IsAnswered moment old ran.0 ran.1.given ran.1.outcome ran.1.disk_failed new = run.answered in
     let begun : length new.writer.begun ≡ length old.writer.begun + length (h.made ++ h.flight) = ap length h.has_made.begun_are ∙ length-append old.writer.begun (h.made ++ h.flight) in
     omega (
       arith,
       ap length (marks-are moment old new ran reply seen made run same is),
       line-marks-length h.made h.flight (reply_to ran),
-      reply-few ran.1.outcome (parse_line ran.0.text) ran.1.lane ran.1.revision ran.1.text,
+      reply-few ran.1.outcome (parse_line ran.0) ran.1.lane ran.1.revision ran.1.text,
       begun,
       length-append h.made h.flight,
     )
@@ -138,32 +133,24 @@ marks-few moment old new ran reply seen made run same is =
 -- there is a place for each
 pub marks-fit : (moment : ℤ) (old new : Place) (ran : RunLine) (reply : Option Mark) (seen : List ℕ) (made room : ℕ) → IsRun moment old ran reply new → seen ≡ old.writer.acked → made ≡ length new.writer.acked - length seen
     → 1 + max_commits ≤ room + length old.writer.begun → length new.writer.begun ≤ max_commits
-    → length (marks_for made (is_disk_fault ran.1.outcome) (option_to_list reply)) ≤ room
+    → length (marks_for made ran.1.disk_failed (option_to_list reply)) ≤ room
 marks-fit moment old new ran reply seen made room run same is spare within = omega (arith, marks-few moment old new ran reply seen made run same is, spare, within)
 
 -- and no more places are taken
 pub marks-left : (moment : ℤ) (old new : Place) (ran : RunLine) (reply : Option Mark) (seen : List ℕ) (made room left : ℕ) → IsRun moment old ran reply new → seen ≡ old.writer.acked → made ≡ length new.writer.acked - length seen
-    → left + length (marks_for made (is_disk_fault ran.1.outcome) (option_to_list reply)) ≡ room → room + length old.writer.begun ≤ left + length new.writer.begun + 1
+    → left + length (marks_for made ran.1.disk_failed (option_to_list reply)) ≡ room → room + length old.writer.begun ≤ left + length new.writer.begun + 1
 marks-left moment old new ran reply seen made room left run same is taken = omega (arith, marks-few moment old new ran reply seen made run same is, taken)
 
 -- an open writer has acknowledged all that it began, still
 
-still-alive : (outcome : Outcome) (closed : Option ℕ) (faults : ℕ) (tree : Option Tree) (index : Base) (line : CommandText) (noted : List Given) (count : ℕ) (made flight : List Commit)
-    → Makes outcome tree index line noted count made flight → closed_after closed outcome faults ≡ None → (closed ≡ None) × (flight ≡ [])
-still-alive outcomes.Ok closed faults tree index line noted count made flight h e = (e, h.1)
-still-alive (outcomes.Usage word kind) closed faults tree index line noted count made flight h e = (e, h.1)
-still-alive (outcomes.BadQuery at kind) closed faults tree index line noted count made flight h e = (e, h.1)
-still-alive (outcomes.BadDate at) closed faults tree index line noted count made flight h e = (e, h.1)
-still-alive outcomes.MailFault closed faults tree index line noted count made flight h e = (e, h.1)
-still-alive outcomes.DiskFault closed faults tree index line noted count made flight h e = absurd (cc)
-still-alive (outcomes.Closed fault) closed faults tree index line noted count made flight h e = (e, h.1)
-still-alive (outcomes.Limit limit) closed faults tree index line noted count made flight h e = (e, h.1)
-still-alive outcomes.NoMemory closed faults tree index line noted count made flight h e = (e, h.1)
+still-alive : (failed : Bool) (closed : Option ℕ) (faults : ℕ) (flight : List Commit) → IsOnItsWay failed flight → closed_after closed failed faults ≡ None → (closed ≡ None) × (flight ≡ [])
+still-alive false closed faults [] h e = (e, refl)
+still-alive false closed faults (commit ∷ more) h e = absurd (omega (arith, h))
+still-alive true closed faults flight h e = absurd (cc)
 
-pub still-even : (old new : Place) (line : CommandText) (noted : List Given) (outcome : Outcome) → IsAnswered old line noted outcome new → IsEven old.writer → IsEven new.writer
-still-even old new line noted outcome h even = λ alive.
-    let was : (old.writer.closed ≡ None) × (h.flight ≡ []) =
-    still-alive outcome old.writer.closed new.disk_faults old.mail.tree old.writer.shown line noted (length old.writer.acked + length h.made) h.made h.flight h.makes (sym h.closed ∙ alive) in
+pub still-even : (moment : ℤ) (old new : Place) (line : ScriptLine) (noted : List Given) (outcome : Outcome) (failed : Bool) → IsAnswered moment old line noted outcome failed new → IsEven old.writer → IsEven new.writer
+still-even moment old new line noted outcome failed h even = λ alive.
+    let was : (old.writer.closed ≡ None) × (h.flight ≡ []) = still-alive failed old.writer.closed new.disk_faults h.flight h.on_its_way (sym h.closed ∙ alive) in
     let begun : length new.writer.begun ≡ length old.writer.begun + length (h.made ++ h.flight) = ap length h.has_made.begun_are ∙ length-append old.writer.begun (h.made ++ h.flight) in
     let acked : length new.writer.acked ≡ length old.writer.acked + length h.has_made.clocks = ap length h.has_made.acked ∙ length-append old.writer.acked h.has_made.clocks in
     let none : length h.flight ≡ 0 = ap length was.1 in

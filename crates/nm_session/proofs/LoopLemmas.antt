@@ -2,6 +2,7 @@
 use Rattle.std.proofs.Common.{◌≡◌, ℕ, ℤ, ◌+◌, ◌*◌, ◌<◌, ◌≤◌, List, [], ◌∷◌, ◌++◌, None, length, take, get_or, refl, sym, ap, ◌∙◌, subst, arith}
 use Rattle.std.proofs.lemmas.List.{length-append, take_more}
 use Rattle.std.specs.List.{zip}
+use Rattle.nm_base.specs.Limits.{max_mail_bytes}
 use Rattle.nm_commit.specs.declared.change.Commit.{Commit}
 use Rattle.nm_disk.specs.Calls.{GoesOn}
 use Rattle.nm_disk.specs.Observed.{ObservedDisk}
@@ -53,9 +54,11 @@ module _ (moment : ℤ) (lines : List ScriptLine) (line : ScriptLine) (before af
     flight = h.run.answered.flight;
     has_made = h.run.answered.has_made;
     makes = h.run.answered.makes;
+    on_its_way = h.run.answered.on_its_way;
     closed = h.run.answered.closed;
     asks = h.run.answered.asks;
     tree = h.run.answered.tree;
+    left = h.run.answered.left;
     mail_never_falls = h.run.answered.mail_never_falls;
     disk_never_falls = h.run.answered.disk_never_falls;
     numbers = h.run.numbers;
@@ -63,6 +66,7 @@ module _ (moment : ℤ) (lines : List ScriptLine) (line : ScriptLine) (before af
     mail_faults = h.run.mail_faults;
     disk_faults = h.run.disk_faults;
     cause = h.run.answered.cause;
+    disk = h.run.answered.disk;
     status = h.run.status;
     text = h.run.text;
     steps = refl;
@@ -74,7 +78,7 @@ module _ (moment : ℤ) (lines : List ScriptLine) (line : ScriptLine) (before af
       ∙ (ap (λ (l : List Commit). steps_of (before.marks.0 ++ line_marks h.run.answered.made h.run.answered.flight (reply_to (line, h.log))) l) h.run.answered.has_made.begun_are
       ∙ (steps-append before.marks.0 (line_marks h.run.answered.made h.run.answered.flight (reply_to (line, h.log))) old.writer.begun (h.run.answered.made ++ h.run.answered.flight) noted.stand
       ∙ ap (λ (l : List Step). steps_at before old ++ l) (line-steps h.run.answered.made h.run.answered.flight (reply_to (line, h.log))
-      (reply-lane h.log.outcome (parse_line line.text) h.log.lane h.log.revision h.log.text h.run.numbers.lane))))
+      (reply-lane h.log.outcome (parse_line line) h.log.lane h.log.revision h.log.text h.run.numbers.lane))))
 
   lines-are : lines_at (lines ++ line ∷ []) after ≡ lines_at lines before ++ (line, h.log) ∷ []
   lines-are = ap (λ (l : List LineLog). zip (lines ++ line ∷ []) l) h.logs ∙ zip-more lines before.logs.0 line h.log noted.logs
@@ -84,7 +88,7 @@ module _ (moment : ℤ) (lines : List ScriptLine) (line : ScriptLine) (before af
     arith,
     line-length h.run.answered.made h.run.answered.flight (reply_to (line, h.log)),
     length-append h.run.answered.made h.run.answered.flight,
-    reply-few h.log.outcome (parse_line line.text) h.log.lane h.log.revision h.log.text,
+    reply-few h.log.outcome (parse_line line) h.log.lane h.log.revision h.log.text,
   )
 
   few-steps : length (steps_at after new) ≤ length (lines ++ line ∷ []) + 3 * length new.writer.begun
@@ -105,7 +109,7 @@ module _ (moment : ℤ) (lines : List ScriptLine) (line : ScriptLine) (before af
         (line-stands h.run.answered.made h.run.answered.flight (reply_to (line, h.log)))));
     few = few-steps;
     within = h.within;
-    even = still-even old new line.text h.log.given h.log.outcome h.run.answered noted.even;
+    even = still-even moment old new line h.log.given h.log.outcome h.log.disk_failed h.run.answered noted.even;
   }
 
   -- what is so of the steps and of the lines of both
@@ -121,13 +125,13 @@ pub record Laws : Type 0 where
       → (result : IsLineResult moment old ran taken new) → MachineRun opening moment (at_first opening entry) steps lines acknowledged
       → MachineRun opening moment (at_first opening entry) (steps ++ taken) (lines ++ ran ∷ []) (acknowledged ++ result.made)
   pub commits : (opening : Base) (moment : ℤ) (entry : Devices) (steps taken : List Step) (lines : List RunLine) (acknowledged : List Commit) (old new : Place) (ran : RunLine) → StandsAt opening entry steps lines acknowledged old
-      → (result : IsLineResult moment old ran taken new) → LineCommits opening entry.mail.tree steps lines acknowledged
-      → LineCommits opening entry.mail.tree (steps ++ taken) (lines ++ ran ∷ []) (acknowledged ++ result.made)
+      → (result : IsLineResult moment old ran taken new) → LineCommits opening moment entry.mail.tree steps lines acknowledged
+      → LineCommits opening moment entry.mail.tree (steps ++ taken) (lines ++ ran ∷ []) (acknowledged ++ result.made)
   pub answers : (opening : Base) (moment : ℤ) (entry : Devices) (steps taken : List Step) (lines : List RunLine) (acknowledged : List Commit) (old new : Place) (ran : RunLine) → StandsAt opening entry steps lines acknowledged old
       → IsLineResult moment old ran taken new → LineAnswers opening moment (at_first opening entry) steps lines → LineAnswers opening moment (at_first opening entry) (steps ++ taken) (lines ++ ran ∷ [])
   pub given : (opening : Base) (moment : ℤ) (entry : Devices) (steps taken : List Step) (lines : List RunLine) (acknowledged : List Commit) (old new : Place) (ran : RunLine) → StandsAt opening entry steps lines acknowledged old
-      → IsLineResult moment old ran taken new → GivenAlong opening steps (at_first opening entry) lines entry.mail old.mail
-      → GivenAlong opening (steps ++ taken) (at_first opening entry) (lines ++ ran ∷ []) entry.mail new.mail
+      → IsLineResult moment old ran taken new → GivenAlong opening moment steps (at_first opening entry) lines entry.mail old.mail
+      → GivenAlong opening moment (steps ++ taken) (at_first opening entry) (lines ++ ran ∷ []) entry.mail new.mail
   pub clocks : (opening : Base) (moment : ℤ) (entry : Devices) (steps taken : List Step) (lines : List RunLine) (acknowledged : List Commit) (old new : Place) (ran : RunLine) → StandsAt opening entry steps lines acknowledged old
       → IsLineResult moment old ran taken new → length old.writer.acked ≡ appends steps → length new.writer.acked ≡ appends (steps ++ taken)
 
@@ -144,11 +148,11 @@ module _ (laws : Laws) (moment : ℤ) (opening : Base) (entry : Devices) (lines 
         (laws.stands opening moment entry (steps_at before old) taken (lines_at lines before) some.acknowledged old new (line, h.log) some.at (is-result moment lines line before after old new noted h));
     machine_run = both moment lines line before after old new noted h (λ steps ran. MachineRun opening moment (at_first opening entry) steps ran (some.acknowledged ++ h.run.answered.made))
         (laws.machine_run opening moment entry (steps_at before old) taken (lines_at lines before) some.acknowledged old new (line, h.log) some.at (is-result moment lines line before after old new noted h) some.machine_run);
-    line_commits = both moment lines line before after old new noted h (λ steps ran. LineCommits opening entry.mail.tree steps ran (some.acknowledged ++ h.run.answered.made))
+    line_commits = both moment lines line before after old new noted h (λ steps ran. LineCommits opening moment entry.mail.tree steps ran (some.acknowledged ++ h.run.answered.made))
         (laws.commits opening moment entry (steps_at before old) taken (lines_at lines before) some.acknowledged old new (line, h.log) some.at (is-result moment lines line before after old new noted h) some.line_commits);
     line_answers = both moment lines line before after old new noted h (λ steps ran. LineAnswers opening moment (at_first opening entry) steps ran)
         (laws.answers opening moment entry (steps_at before old) taken (lines_at lines before) some.acknowledged old new (line, h.log) some.at (is-result moment lines line before after old new noted h) some.line_answers);
-    given = both moment lines line before after old new noted h (λ steps ran. GivenAlong opening steps (at_first opening entry) ran entry.mail new.mail)
+    given = both moment lines line before after old new noted h (λ steps ran. GivenAlong opening moment steps (at_first opening entry) ran entry.mail new.mail)
         (laws.given opening moment entry (steps_at before old) taken (lines_at lines before) some.acknowledged old new (line, h.log) some.at (is-result moment lines line before after old new noted h) some.given);
     clocks = both moment lines line before after old new noted h (λ steps ran. length new.writer.acked ≡ appends steps)
         (laws.clocks opening moment entry (steps_at before old) taken (lines_at lines before) some.acknowledged old new (line, h.log) some.at (is-result moment lines line before after old new noted h) some.clocks);
@@ -194,25 +198,25 @@ noted-none rooms place lines h begun_none acked_none = record {
 -- the laws before the first line
 pub record FirstLaws : Type 0 where
   pub stands : (opening : Base) (entry : Devices) (place : Place) → place.writer.shown ≡ opening → place.writer.begun ≡ [] → place.writer.acked ≡ [] → place.writer.closed ≡ None → place.mail ≡ entry.mail
-      → place.disk_faults ≡ entry.disk.faults → StandsAt opening entry [] [] [] place
+      → place.disk_faults ≡ entry.disk.faults → place.left ≡ max_mail_bytes → StandsAt opening entry [] [] [] place
   pub machine_run : (opening : Base) (moment : ℤ) (entry : Devices) → MachineRun opening moment (at_first opening entry) [] [] []
-  pub commits : (opening : Base) (entry : Devices) → LineCommits opening entry.mail.tree [] [] []
+  pub commits : (opening : Base) (moment : ℤ) (entry : Devices) → LineCommits opening moment entry.mail.tree [] [] []
   pub answers : (opening : Base) (moment : ℤ) (entry : Devices) → LineAnswers opening moment (at_first opening entry) [] []
-  pub given : (opening : Base) (entry : Devices) → GivenAlong opening [] (at_first opening entry) [] entry.mail entry.mail
+  pub given : (opening : Base) (moment : ℤ) (entry : Devices) → GivenAlong opening moment [] (at_first opening entry) [] entry.mail entry.mail
 
 pub some-none : FirstLaws → (moment : ℤ) (entry : Devices) (rooms : Rooms) (place : Place) (lines : ℕ) → HasRooms lines rooms → place.writer.begun ≡ [] → place.writer.acked ≡ [] → place.writer.closed ≡ None
-    → entry.mail ≡ place.mail → entry.disk.faults ≡ place.disk_faults → HasRunSome moment place.writer.shown entry [] rooms place
-some-none laws moment entry rooms place lines h begun_none acked_none alive mail disk =
+    → entry.mail ≡ place.mail → entry.disk.faults ≡ place.disk_faults → place.left ≡ max_mail_bytes → HasRunSome moment place.writer.shown entry [] rooms place
+some-none laws moment entry rooms place lines h begun_none acked_none alive mail disk left =
     let opening : Base = place.writer.shown in
     let none : [] ≡ steps_at rooms place = sym (nothing-of place.writer.begun rooms.marks.0 h.marks) in
     record {
       acknowledged = [];
-      at = subst (λ (l : List Step). StandsAt opening entry l [] [] place) none (laws.stands opening entry place refl begun_none acked_none alive (sym mail) (sym disk));
+      at = subst (λ (l : List Step). StandsAt opening entry l [] [] place) none (laws.stands opening entry place refl begun_none acked_none alive (sym mail) (sym disk) left);
       machine_run = subst (λ (l : List Step). MachineRun opening moment (at_first opening entry) l [] []) none (laws.machine_run opening moment entry);
-      line_commits = subst (λ (l : List Step). LineCommits opening entry.mail.tree l [] []) none (laws.commits opening entry);
+      line_commits = subst (λ (l : List Step). LineCommits opening moment entry.mail.tree l [] []) none (laws.commits opening moment entry);
       line_answers = subst (λ (l : List Step). LineAnswers opening moment (at_first opening entry) l []) none (laws.answers opening moment entry);
-      given = subst (λ (l : List Step). GivenAlong opening l (at_first opening entry) [] entry.mail place.mail) none
-          (subst (λ (m : ObservedMail). GivenAlong opening [] (at_first opening entry) [] entry.mail m) mail (laws.given opening entry));
+      given = subst (λ (l : List Step). GivenAlong opening moment l (at_first opening entry) [] entry.mail place.mail) none
+          (subst (λ (m : ObservedMail). GivenAlong opening moment [] (at_first opening entry) [] entry.mail m) mail (laws.given opening moment entry));
       clocks = ap length acked_none ∙ ap appends none;
     }
 

@@ -1,3 +1,4 @@
+pub mod Changing
 pub mod Line
 pub mod Loop
 pub mod Marks
@@ -5,3 +6,4 @@ pub mod Outcomes
 pub mod Rooms
 pub mod Run
 pub mod Session
+pub mod Showing

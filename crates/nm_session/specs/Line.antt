@@ -1,19 +1,21 @@
 -- How one line ends: what it made, why, and what it says.
-use Rattle.std.specs.Prelude.{◌≡◌, ℕ, ℤ, ◌+◌, ◌≤◌, List, [], ◌∷◌, ◌++◌, length, map, Option, None, Some, Result, Ok, Err}
+use Rattle.std.specs.Prelude.{◌≡◌, ◌&&◌, ℕ, ℤ, Bool, ◌+◌, ◌≤◌, List, [], ◌∷◌, ◌++◌, is_some, length, map, not, Option, None, Some, Result, Ok, Err}
 use Rattle.std.specs.Option.{option_to_list}
+use Rattle.nm_answer.specs.Answer.{answer}
 use Rattle.nm_answer.specs.declared.request.Request.{Request}
 use Rattle.nm_base.specs.Limits.{max_commits}
 use Rattle.nm_base.specs.declared.memory.NoMemory.{NoMemory}
 use Rattle.nm_commit.specs.declared.change.Commit.{Commit}
 use Rattle.nm_disk.specs.Observed.{ObservedDisk}
+use Rattle.nm_faults.specs.Faults.{Counts}
 use Rattle.nm_history.specs.Given.{AsksMail}
-use Rattle.nm_history.specs.LineAnswers.{HasCause, line_text, script_answer}
-use Rattle.nm_history.specs.LineCommits.{Makes}
+use Rattle.nm_history.specs.LineAnswers.{HasCause, line_text}
+use Rattle.nm_history.specs.LineCommits.{IsOnItsWay, Makes}
 use Rattle.nm_history.specs.LineResult.{HasMade, Place, before_at}
-use Rattle.nm_history.specs.Lines.{RunLine, closed_after}
+use Rattle.nm_history.specs.Lines.{RunLine, closed_after, tree_behind}
 use Rattle.nm_history.specs.MachineRun.{replied_where, reply_to}
 use Rattle.nm_history.specs.PrintedOut.{IsNumbered}
-use Rattle.nm_history.specs.Requests.{own_query, refused_query}
+use Rattle.nm_history.specs.Requests.{refused_text_of}
 use Rattle.nm_index.specs.declared.base.Base.{Base}
 use Rattle.nm_log.specs.ParsedLine.{parse_line}
 use Rattle.nm_log.specs.Replies.{refusal_line, status_of}
@@ -21,9 +23,9 @@ use Rattle.nm_log.specs.declared.log.LineLog.{LineLog}
 use Rattle.nm_log.specs.declared.outcome.Outcome.{Outcome}
 use Rattle.nm_log.specs.declared.outcome.Outcome.TheVariants as outcomes
 use Rattle.nm_log.specs.declared.script.ScriptLine.{ScriptLine}
-use Rattle.nm_log.specs.declared.script.CommandText.{CommandText}
 use Rattle.nm_maildir.specs.Observed.{ObservedMail}
 use Rattle.nm_maildir.specs.declared.given.Given.{Given}
+use Rattle.nm_scan.specs.Bodies.{left_after}
 use Rattle.nm_session.specs.Marks.{line_marks, reply_mark}
 use Rattle.nm_session.specs.Rooms.{AreSpares}
 use Rattle.nm_session.specs.declared.answering.Answered.{Answered}
@@ -33,40 +35,48 @@ use Rattle.nm_session.specs.declared.rooms.Rooms.{Rooms}
 use Rattle.nm_writer.specs.Writer.{WriterState}
 
 -- where a session stands
-abbrev pub place_at : WriterState → ObservedMail → ObservedDisk → Place
-place_at writer mail disk = record { writer = writer; mail = mail; disk_faults = disk.faults }
+abbrev pub place_at : WriterState → ObservedMail → ObservedDisk → ℕ → Place
+place_at writer mail disk left = record { writer = writer; mail = mail; disk_faults = disk.faults; left = left }
+
+-- the writer was closed in between
+abbrev pub newly_closed : WriterState → WriterState → Bool
+newly_closed old new = is_some new.closed && not (is_some old.closed)
 
 -- an open writer has acknowledged all that it began
 abbrev pub IsEven : WriterState → Type 0
 IsEven writer = writer.closed ≡ None → length writer.begun ≡ length writer.acked
 
--- A line was run and ended so: what it made and asked, and why it ended so.
-pub record IsAnswered (old : Place) (line : CommandText) (noted : List Given) (outcome : Outcome) (new : Place) : Type 0 where
+-- A line was run and ended so, and the disk failed in it or not: what it made and asked, and why it ended so.
+pub record IsAnswered (moment : ℤ) (old : Place) (line : ScriptLine) (noted : List Given) (outcome : Outcome) (failed : Bool) (new : Place) : Type 0 where
   pub made : List Commit
   pub flight : List Commit
   pub has_made : HasMade old.writer made flight new.writer
-  pub makes : Makes outcome old.mail.tree old.writer.shown line noted (length old.writer.acked + length made) made flight
-  pub closed : new.writer.closed ≡ closed_after old.writer.closed outcome new.disk_faults
-  pub asks : AsksMail (parse_line line) old.mail new.mail old.writer.shown.files noted
-  pub tree : new.mail.tree ≡ old.mail.tree
+  pub makes : Makes outcome moment old.mail.tree old.writer.shown line noted (length old.writer.acked + length made) made flight
+  pub on_its_way : IsOnItsWay failed flight
+  pub closed : new.writer.closed ≡ closed_after old.writer.closed failed new.disk_faults
+  pub asks : AsksMail outcome (parse_line line) old.writer.shown moment old.left old.mail new.mail noted
+  pub tree : new.mail.tree ≡ tree_behind (parse_line line) noted old.mail.tree
+  pub left : new.left ≡ left_after old.left noted
   pub mail_never_falls : old.mail.faults ≤ new.mail.faults
   pub disk_never_falls : old.disk_faults ≤ new.disk_faults
-  pub cause : HasCause outcome (parse_line line) (before_at old) new.mail.faults new.disk_faults
+  pub cause : HasCause outcome (parse_line line) line.input (before_at old) old.writer.shown moment noted new.mail.faults failed
+  pub disk : Counts failed old.disk_faults new.disk_faults
 
 -- What it says, and the mark of its reply where it went well.
-pub record IsSaid (moment : ℤ) (old : Place) (line : CommandText) (noted : List Given) (done : Answered) (new : Place) : Type 0 where
-  pub text : done.text ≡ line_text done.outcome (parse_line line) old.writer.shown new.writer.shown moment noted
+pub record IsSaid (moment : ℤ) (old : Place) (line : ScriptLine) (noted : List Given) (done : Answered) (new : Place) : Type 0 where
+  pub text : done.text ≡ line_text done.outcome (parse_line line) line.input old.writer.shown new.writer.shown moment noted
   pub reply : (lane revision : ℕ) → option_to_list done.reply ≡ map reply_mark (replied_where done.outcome (parse_line line) lane revision done.text)
 
 -- It was answered, or found no memory for it.
-abbrev pub Ends : ℤ → Place → CommandText → List Given → Result Answered NoMemory → Place → Type 0
-Ends moment old line noted (Ok done) new = IsAnswered old line noted done.outcome new × IsSaid moment old line noted done new
-Ends moment old line noted (Err error) new = IsAnswered old line noted outcomes.NoMemory new
+abbrev pub Ends : ℤ → Place → ScriptLine → List Given → Result Answered NoMemory → Place → Type 0
+Ends moment old line noted (Ok done) new =
+    IsAnswered moment old line noted done.outcome (newly_closed old.writer new.writer) new × IsSaid moment old line noted done new
+Ends moment old line noted (Err error) new = IsAnswered moment old line noted outcomes.NoMemory (newly_closed old.writer new.writer) new
 
 -- A line was run, and its log says so.
 pub record IsRun (moment : ℤ) (old : Place) (ran : RunLine) (reply : Option Mark) (new : Place) : Type 0 where
-  pub answered : IsAnswered old ran.0.text ran.1.given ran.1.outcome new
-  pub text : ran.1.text ≡ line_text ran.1.outcome (parse_line ran.0.text) old.writer.shown new.writer.shown moment ran.1.given
+  pub answered : IsAnswered moment old ran.0 ran.1.given ran.1.outcome ran.1.disk_failed new
+  pub text : ran.1.text ≡ line_text ran.1.outcome (parse_line ran.0) ran.0.input old.writer.shown new.writer.shown moment ran.1.given
   pub reply_is : option_to_list reply ≡ map reply_mark (reply_to ran)
   pub numbers : IsNumbered ran.0 ran.1
   pub revision : ran.1.revision ≡ new.writer.shown.revision
@@ -101,6 +111,6 @@ abbrev pub refused_or : Request → List ℕ → Option Outcome → Answered
 refused_or request text None = replied_with request text
 refused_or request text (Some outcome) = refused_with outcome
 
--- what a request is answered that changes nothing, on this index
-abbrev pub IsReadOff : ℤ → Base → Request → Answered → Type 0
-IsReadOff moment index request done = done ≡ refused_or request (script_answer request index index moment []) (refused_query (own_query request))
+-- what a request is answered that asks no device, by its input, on this index
+abbrev pub IsReadOff : ℤ → Base → Request → List ℕ → Answered → Type 0
+IsReadOff moment index request input done = done ≡ refused_or request (answer request input index index moment []) (refused_text_of request input)

@@ -60,7 +60,7 @@ pub record HasRunSome (moment : ℤ) (opening : Base) (entry : Devices) (lines :
   pub acknowledged : List Commit
   pub at : StandsAt opening entry (steps_at rooms place) (lines_at lines rooms) acknowledged place
   pub machine_run : MachineRun opening moment (at_first opening entry) (steps_at rooms place) (lines_at lines rooms) acknowledged
-  pub line_commits : LineCommits opening entry.mail.tree (steps_at rooms place) (lines_at lines rooms) acknowledged
+  pub line_commits : LineCommits opening moment entry.mail.tree (steps_at rooms place) (lines_at lines rooms) acknowledged
   pub line_answers : LineAnswers opening moment (at_first opening entry) (steps_at rooms place) (lines_at lines rooms)
-  pub given : GivenAlong opening (steps_at rooms place) (at_first opening entry) (lines_at lines rooms) entry.mail place.mail
+  pub given : GivenAlong opening moment (steps_at rooms place) (at_first opening entry) (lines_at lines rooms) entry.mail place.mail
   pub clocks : length place.writer.acked ≡ appends (steps_at rooms place)

@@ -1,4 +1,4 @@
--- The outcome of a refused `new`.
+-- The outcome of a refused `new` or `tag`.
 use Rattle.std.specs.Prelude.{Bool, true, false}
 use Rattle.nm_log.specs.declared.outcome.Outcome.{Outcome}
 use Rattle.nm_log.specs.declared.outcome.Outcome.TheVariants as outcomes
@@ -12,14 +12,10 @@ outcome_of (errors.Closed fault) = outcomes.Closed fault
 outcome_of (errors.Limit limit) = outcomes.Limit limit
 outcome_of errors.NoMemory = outcomes.NoMemory
 
--- the disk failed in the line
-abbrev pub is_disk_fault : Outcome → Bool
-is_disk_fault outcomes.Ok = false
-is_disk_fault (outcomes.Usage word kind) = false
-is_disk_fault (outcomes.BadQuery at kind) = false
-is_disk_fault (outcomes.BadDate at) = false
-is_disk_fault outcomes.MailFault = false
-is_disk_fault outcomes.DiskFault = true
-is_disk_fault (outcomes.Closed fault) = false
-is_disk_fault (outcomes.Limit limit) = false
-is_disk_fault outcomes.NoMemory = false
+-- a device failed, and a commit may be on its way
+abbrev pub is_fault : WriteError → Bool
+is_fault errors.MailFault = true
+is_fault errors.DiskFault = true
+is_fault (errors.Closed fault) = false
+is_fault (errors.Limit limit) = false
+is_fault errors.NoMemory = false

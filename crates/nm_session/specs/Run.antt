@@ -23,9 +23,9 @@ pub record HasRun (moment : ℤ) (opening : Base) (entry : Devices) (lines : Lis
   pub acknowledged : List Commit
   pub logs : AreLogsOf lines log.lines
   pub machine_run : MachineRun opening moment (at_first opening entry) log.steps (zip lines log.lines) acknowledged
-  pub line_commits : LineCommits opening entry.mail.tree log.steps (zip lines log.lines) acknowledged
+  pub line_commits : LineCommits opening moment entry.mail.tree log.steps (zip lines log.lines) acknowledged
   pub line_answers : LineAnswers opening moment (at_first opening entry) log.steps (zip lines log.lines)
-  pub given : GivenAlong opening log.steps (at_first opening entry) (zip lines log.lines) entry.mail mail
+  pub given : GivenAlong opening moment log.steps (at_first opening entry) (zip lines log.lines) entry.mail mail
   pub faults : (behind_all (at_first opening entry) (zip lines log.lines)).disk_faults ≡ disk_faults
   pub clocks : length log.acked ≡ appends log.steps
 

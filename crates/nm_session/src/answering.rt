@@ -1,31 +1,34 @@
 //! The answer to one line: what it asks for is done, and its text is made.
 
-ghost use Rattle.std.specs.Prelude.{◌≡◌, ◌≢◌, ℕ, ℤ, List, [], false, None, IfOk, IfSome, MatchResult};
-ghost use Rattle.nm_answer.specs.NewText.{new_text};
+ghost use Rattle.std.specs.Prelude.{◌≡◌, ◌≢◌, ℕ, List, [], true, IfOk, IfSome, None};
 ghost use Rattle.nm_dates.specs.Seconds.{IsMoment};
 ghost use Rattle.nm_disk.specs.Observed.{ObservedDisk};
 ghost use Rattle.nm_history.specs.Requests.{query_outcome};
 ghost use Rattle.nm_index.specs.declared.base.Base.{Base};
-ghost use Rattle.nm_log.specs.ParsedLine.{parse_line};
-ghost use Rattle.nm_log.specs.Replies.{refusal_line};
 ghost use Rattle.nm_log.specs.declared.line_parser.ParsedLine.TheVariants as asked;
-ghost use Rattle.nm_log.specs.declared.script.CommandText.{CommandText};
+ghost use Rattle.nm_log.specs.ParsedLine.{parse_line};
+ghost use Rattle.nm_log.specs.declared.script.ScriptLine.{ScriptLine};
+ghost use Rattle.nm_scan.specs.Bodies.{left_after};
 ghost use Rattle.nm_session.specs.Line.{Ends, IsEven, IsReadOff, place_at, refused_with, replied_with};
-ghost use Rattle.nm_session.specs.Outcomes.{is_disk_fault, outcome_of};
+ghost use Rattle.nm_session.specs.Showing.{show_outcome};
 ghost use Rattle.nm_writer.specs.Durable.{IsDurable};
-ghost use Rattle.nm_writer.specs.Writer.{StandsOnIndex};
+ghost use Rattle.nm_writer.specs.Writer.{StandsOnIndex, WriterState};
 
+use crate::changing::{run_new, run_restore, run_tag};
 use crate::marks::Mark;
-use nm_answer::{NewReport, Request};
-use nm_base::{Copies, CountAsk, DumpAsk, Many, NoMemory, SearchAsk};
+use crate::showing::{ShowFault, show_messages};
+use nm_answer::Request;
+use nm_base::{Copies, CountAsk, DumpAsk, Limit, Many, NoMemory, SearchAsk, ShowAsk};
+use nm_batch::read_queries;
 use nm_disk::Disk;
 use nm_dump::dump_reply;
-use nm_log::{CommandText, Outcome, ParsedLine, Setting, new_reply, parse_line, refusal_text};
+use nm_log::{Outcome, ParsedLine, ScriptLine, Setting, parse_line, refusal_text};
 use nm_maildir::{Given, Maildir};
 use nm_query::{QueryError, parse};
-use nm_render::{count_reply, search_reply};
+use nm_render::{count_reply, counts_reply, search_reply};
 use nm_state::Snapshot;
-use nm_writer::{WriteError, Writer};
+use nm_tags::LineError;
+use nm_writer::Writer;
 use std::alloc::Global;
 
 /// What came of a line beside its commits.
@@ -37,25 +40,28 @@ pub(crate) struct Answered {
     pub(crate) reply: Option<Mark>,
 }
 
-/// Reads what the line asks for, and does it.
+/// Reads what the line asks for, and does it. `left` is how many bytes may still be shown.
 pub(crate) fn answer<M: Maildir, D: Disk>(
     alloc: Global,
     setting: &Setting,
-    line: &CommandText,
+    line: &ScriptLine,
     writer: &mut Writer,
     mail: &mut M,
     disk: &mut D,
+    left: u64,
     given: &mut Many<Given>,
 ) -> Result<Answered, NoMemory>
     requires moment { IsMoment setting.now.moment }
     requires fresh { given.old ≡ [] }
     requires even { IsEven writer.old }
     requires stands { writer.old.closed ≡ None → IfSome (D.observed disk.old).told (λ moments. StandsOnIndex moments.present writer.old) }
-    ensures ends { Ends setting.now.moment (place_at writer.old (M.observed mail.old) (D.observed disk.old)) line.now given.new result (place_at writer.new (M.observed mail.new) (D.observed disk.new)) }
+    ensures ends { Ends setting.now.moment (place_at writer.old (M.observed mail.old) (D.observed disk.old) left) line.now given.new result
+        (place_at writer.new (M.observed mail.new) (D.observed disk.new) (left_after left given.new)) }
     ensures stands { writer.new.closed ≡ None → IfSome (D.observed disk.new).told (λ moments. StandsOnIndex moments.present writer.new) }
     ensures durable { (entry : ObservedDisk) (opening : Base) → IsDurable entry opening (D.observed disk.old) writer.old
         → IsDurable entry opening (D.observed disk.new) writer.new }
 {
+    let input = line.input.as_slice();
     match parse_line(alloc, line)? {
         ParsedLine::Usage { word, kind } => refuse(alloc, Outcome::Usage { word, kind }),
         ParsedLine::Request(Request::New) => run_new(alloc, writer, mail, disk, given),
@@ -64,6 +70,7 @@ pub(crate) fn answer<M: Maildir, D: Disk>(
             setting,
             writer.snapshot(),
             ask,
+            input,
         ),
         ParsedLine::Request(Request::Search(ask)) => run_search(
             alloc,
@@ -72,74 +79,37 @@ pub(crate) fn answer<M: Maildir, D: Disk>(
             ask,
         ),
         ParsedLine::Request(Request::Dump(ask)) => run_dump(alloc, setting, writer.snapshot(), ask),
+        ParsedLine::Request(Request::Show(ask)) => run_show(
+            alloc,
+            setting,
+            writer.snapshot(),
+            ask,
+            left,
+            mail,
+            given,
+        ),
+        ParsedLine::Request(Request::Tag(ask)) => run_tag(
+            alloc, setting, writer, mail, disk, ask, input, given,
+        ),
+        ParsedLine::Request(Request::Restore(ask)) => run_restore(
+            alloc, setting, writer, mail, disk, ask, input, given,
+        ),
     }
 }
 
-/// Takes in what has come and lets go what is gone. The text of a disk fault is made before, since a commit may then be on its way.
-fn run_new<M: Maildir, D: Disk>(
-    alloc: Global,
-    writer: &mut Writer,
-    mail: &mut M,
-    disk: &mut D,
-    given: &mut Many<Given>,
-) -> Result<Answered, NoMemory>
-    requires fresh { given.old ≡ [] }
-    requires even { IsEven writer.old }
-    requires stands { writer.old.closed ≡ None → IfSome (D.observed disk.old).told (λ moments. StandsOnIndex moments.present writer.old) }
-    ensures ends { (moment : ℤ) (line : CommandText) → parse_line line ≡ asked.Request Request.New
-        → Ends moment (place_at writer.old (M.observed mail.old) (D.observed disk.old)) line given.new result (place_at writer.new (M.observed mail.new) (D.observed disk.new)) }
-    ensures stands { writer.new.closed ≡ None → IfSome (D.observed disk.new).told (λ moments. StandsOnIndex moments.present writer.new) }
-    ensures durable { (entry : ObservedDisk) (opening : Base) → IsDurable entry opening (D.observed disk.old) writer.old
-        → IsDurable entry opening (D.observed disk.new) writer.new }
-{
-    let disk_fault = refusal_text(alloc, &Outcome::DiskFault)?;
-    match writer.new_mail(mail, disk, given) {
-        Ok(report) => reply_new(alloc, &report),
-        Err(error) => refuse_new(alloc, error, disk_fault),
-    }
-}
-
-/// The reply of a `new`.
-fn reply_new(alloc: Global, report: &NewReport) -> Result<Answered, NoMemory>
-    ensures { IfOk result (λ done. done ≡ replied_with Request.New (new_text report.now)) }
-{
-    let text = new_reply(alloc, report)?;
-    replied(Request::New, text)
-}
-
-/// The refusal of a `new`; where the disk failed it wants no memory.
-fn refuse_new(alloc: Global, error: WriteError, disk_fault: Many<u8>) -> Result<Answered, NoMemory>
-    requires { disk_fault ≡ refusal_line Outcome.DiskFault }
-    ensures { MatchResult result
-        (λ done. done ≡ refused_with (outcome_of error))
-        (λ _. is_disk_fault (outcome_of error) ≡ false) }
-{
-    match error {
-        WriteError::MailFault => refuse(alloc, Outcome::MailFault),
-        WriteError::DiskFault => Ok(Answered {
-            outcome: Outcome::DiskFault,
-            text: disk_fault,
-            reply: None,
-        }),
-        WriteError::Closed { fault } => refuse(alloc, Outcome::Closed { fault }),
-        WriteError::Limit(limit) => refuse(alloc, Outcome::Limit(limit)),
-        WriteError::NoMemory => Err(NoMemory),
-    }
-}
-
-/// Counts over the index that is shown, where the query has a tree. A script has no input for a count with batch, so there is
-/// nothing for it to count.
+/// Counts over the index that is shown, where the query has a tree, or each query of the input.
 fn run_count(
     alloc: Global,
     setting: &Setting,
     snapshot: &Snapshot,
     ask: CountAsk,
+    input: &[u8],
 ) -> Result<Answered, NoMemory>
     requires moment { IsMoment setting.now.moment }
-    ensures { IfOk result (IsReadOff setting.now.moment snapshot.now (Request.Count ask)) }
+    ensures { IfOk result (IsReadOff setting.now.moment snapshot.now (Request.Count ask) input.now) }
 {
     if ask.batch {
-        return replied(Request::Count(ask), Many::new(alloc));
+        return count_each(alloc, setting, snapshot, ask, input);
     }
     match parse(alloc, ask.query.as_str()) {
         Ok(query) => {
@@ -147,6 +117,28 @@ fn run_count(
             replied(Request::Count(ask), text)
         }
         Err(error) => refuse_query(alloc, error),
+    }
+}
+
+/// Counts over each query of the input.
+fn count_each(
+    alloc: Global,
+    setting: &Setting,
+    snapshot: &Snapshot,
+    ask: CountAsk,
+    input: &[u8],
+) -> Result<Answered, NoMemory>
+    requires moment { IsMoment setting.now.moment }
+    requires batch { ask.batch ≡ true }
+    ensures { IfOk result (IsReadOff setting.now.moment snapshot.now (Request.Count ask) input.now) }
+{
+    match read_queries(alloc, input) {
+        Ok(queries) => {
+            let text = counts_reply(alloc, snapshot, &ask, queries.as_slice(), setting.moment)?;
+            replied(Request::Count(ask), text)
+        }
+        Err(LineError::BadLine { line, kind }) => refuse(alloc, Outcome::BadLine { line, kind }),
+        Err(LineError::NoMemory) => Err(NoMemory),
     }
 }
 
@@ -158,7 +150,7 @@ fn run_search(
     ask: SearchAsk,
 ) -> Result<Answered, NoMemory>
     requires moment { IsMoment setting.now.moment }
-    ensures { IfOk result (IsReadOff setting.now.moment snapshot.now (Request.Search ask)) }
+    ensures { IfOk result (λ done. (input : List ℕ) → IsReadOff setting.now.moment snapshot.now (Request.Search ask) input done) }
 {
     match parse(alloc, ask.query.as_str()) {
         Ok(query) => {
@@ -177,7 +169,7 @@ fn run_dump(
     ask: DumpAsk,
 ) -> Result<Answered, NoMemory>
     requires moment { IsMoment setting.now.moment }
-    ensures { IfOk result (IsReadOff setting.now.moment snapshot.now (Request.Dump ask)) }
+    ensures { IfOk result (λ done. (input : List ℕ) → IsReadOff setting.now.moment snapshot.now (Request.Dump ask) input done) }
 {
     match parse(alloc, ask.query.as_str()) {
         Ok(query) => {
@@ -188,8 +180,55 @@ fn run_dump(
     }
 }
 
+/// Shows messages of the index that is shown, where the query has a tree.
+fn run_show<M: Maildir>(
+    alloc: Global,
+    setting: &Setting,
+    snapshot: &Snapshot,
+    ask: ShowAsk,
+    left: u64,
+    mail: &mut M,
+    given: &mut Many<Given>,
+) -> Result<Answered, NoMemory>
+    requires moment { IsMoment setting.now.moment }
+    requires fresh { given.old ≡ [] }
+    ensures { (line : ScriptLine) (writer : WriterState) (disk : ObservedDisk) → parse_line line ≡ asked.Request (Request.Show ask) → writer.shown ≡ snapshot.now
+        → Ends setting.now.moment (place_at writer (M.observed mail.old) disk left) line given.new result (place_at writer (M.observed mail.new) disk (left_after left given.new)) }
+{
+    match parse(alloc, ask.query.as_str()) {
+        Ok(query) => match show_messages(
+            alloc,
+            snapshot,
+            &ask,
+            &query,
+            setting.moment,
+            left,
+            mail,
+            given,
+        ) {
+            Ok(text) => replied(Request::Show(ask), text),
+            Err(fault) => refuse_show(alloc, fault),
+        },
+        Err(error) => refuse_query(alloc, error),
+    }
+}
+
+/// The refusal of a show.
+fn refuse_show(alloc: Global, fault: ShowFault) -> Result<Answered, NoMemory>
+    ensures some { IfOk result (λ _. fault ≢ ShowFault.NoMemory) }
+    ensures refused { IfOk result (λ done. done ≡ refused_with (show_outcome fault)) }
+{
+    match fault {
+        ShowFault::NotOne { found } => refuse(alloc, Outcome::NotOne { found }),
+        ShowFault::Gone { path } => refuse(alloc, Outcome::Gone { path }),
+        ShowFault::MailFault => refuse(alloc, Outcome::MailFault),
+        ShowFault::ShowBytes => refuse(alloc, Outcome::Limit(Limit::ShowBytes)),
+        ShowFault::NoMemory => Err(NoMemory),
+    }
+}
+
 /// The refusal of a text that is no query.
-fn refuse_query(alloc: Global, error: QueryError) -> Result<Answered, NoMemory>
+pub(crate) fn refuse_query(alloc: Global, error: QueryError) -> Result<Answered, NoMemory>
     ensures some { IfOk result (λ _. error ≢ QueryError.NoMemory) }
     ensures refused { IfOk result (λ done. done ≡ refused_with (query_outcome error)) }
 {
@@ -202,7 +241,7 @@ fn refuse_query(alloc: Global, error: QueryError) -> Result<Answered, NoMemory>
 }
 
 /// The line went well.
-fn replied(request: Request, text: Many<u8>) -> Result<Answered, NoMemory>
+pub(crate) fn replied(request: Request, text: Many<u8>) -> Result<Answered, NoMemory>
     ensures { IfOk result (λ done. done ≡ replied_with request text) }
 {
     let copied = text.copy()?;
@@ -217,7 +256,7 @@ fn replied(request: Request, text: Many<u8>) -> Result<Answered, NoMemory>
 }
 
 /// The line is refused.
-fn refuse(alloc: Global, outcome: Outcome) -> Result<Answered, NoMemory>
+pub(crate) fn refuse(alloc: Global, outcome: Outcome) -> Result<Answered, NoMemory>
     ensures { IfOk result (λ done. done ≡ refused_with outcome) }
 {
     let text = refusal_text(alloc, &outcome)?;

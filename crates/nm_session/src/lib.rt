@@ -3,11 +3,13 @@
 #![tactic(auto)]
 
 mod answering;
+mod changing;
 mod line;
 mod marks;
 mod rooms;
 mod running;
 mod session;
+mod showing;
 mod steps;
 
 pub use session::run_session;

@@ -4,12 +4,11 @@
 ghost use Rattle.std.specs.Prelude.{◌≡◌, ◌+◌, ◌<◌, ◌≤◌, ◌++◌, ◌∷◌, [], codes, length, replicate, IfOk, if◌then◌else◌};
 ghost use Rattle.std.specs.Option.{option_to_list};
 ghost use Rattle.nm_session.specs.Marks.{marks_for};
-ghost use Rattle.nm_session.specs.Outcomes.{is_disk_fault};
 ghost use Rattle.nm_session.specs.Rooms.{AreSpares, HasRooms};
 
 use crate::marks::Mark;
 use nm_base::{Many, NoMemory, Room};
-use nm_log::{LineLog, Outcome};
+use nm_log::LineLog;
 use nm_machine::Step;
 use std::alloc::Global;
 
@@ -87,33 +86,16 @@ pub(crate) fn take_spare(spares: &mut Many<Many<u8>>) -> Many<u8>
 /// Notes a line: its log, and its marks, where it made so many commits.
 pub(crate) fn note(rooms: &mut Rooms, log: LineLog, made: usize, reply: Option<Mark>)
     requires logs { 0 < rooms.old.logs.1 }
-    requires marks { length (marks_for made (is_disk_fault log.outcome) (option_to_list reply)) ≤ rooms.old.marks.1 }
+    requires marks { length (marks_for made log.disk_failed (option_to_list reply)) ≤ rooms.old.marks.1 }
     ensures logs { rooms.new.logs.0 ≡ rooms.old.logs.0 ++ log ∷ [] }
     ensures logs_spare { rooms.new.logs.1 + 1 ≡ rooms.old.logs.1 }
-    ensures marks { rooms.new.marks.0 ≡ rooms.old.marks.0 ++ marks_for made (is_disk_fault log.outcome) (option_to_list reply) }
-    ensures marks_spare { rooms.new.marks.1 + length (marks_for made (is_disk_fault log.outcome) (option_to_list reply)) ≡ rooms.old.marks.1 }
+    ensures marks { rooms.new.marks.0 ≡ rooms.old.marks.0 ++ marks_for made log.disk_failed (option_to_list reply) }
+    ensures marks_spare { rooms.new.marks.1 + length (marks_for made log.disk_failed (option_to_list reply)) ≡ rooms.old.marks.1 }
     ensures steps { rooms.new.steps ≡ rooms.old.steps }
     ensures spares { rooms.new.spares ≡ rooms.old.spares }
 {
-    let failed = is_disk_fault(&log.outcome);
-    push_marks(&mut rooms.marks, made, failed, reply);
+    push_marks(&mut rooms.marks, made, log.disk_failed, reply);
     rooms.logs.push_spare(log);
-}
-
-fn is_disk_fault(outcome: &Outcome) -> bool
-    ensures { result ≡ is_disk_fault outcome.now }
-{
-    match outcome {
-        Outcome::DiskFault => true,
-        Outcome::Ok
-        | Outcome::Usage { .. }
-        | Outcome::BadQuery { .. }
-        | Outcome::BadDate { .. }
-        | Outcome::MailFault
-        | Outcome::Closed { .. }
-        | Outcome::Limit(_)
-        | Outcome::NoMemory => false,
-    }
 }
 
 fn push_marks(marks: &mut Room<Mark>, made: usize, in_flight: bool, reply: Option<Mark>)

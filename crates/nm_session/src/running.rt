@@ -28,6 +28,9 @@ use nm_maildir::Maildir;
 use nm_writer::Writer;
 use std::alloc::Global;
 
+/// The most bytes that all lines may show.
+const MAX_SHOWN: u64 = 67_108_864;
+
 /// Runs the lines in their order over the index that was opened, and tells what each did.
 pub(crate) fn run_lines<M: Maildir, D: Disk>(
     alloc: Global,
@@ -52,11 +55,11 @@ pub(crate) fn run_lines<M: Maildir, D: Disk>(
 {
     let mut rooms = rooms;
     let mut writer = writer;
-    run_each(alloc, setting, lines, &mut rooms, &mut writer, mail, disk);
+    let _ = run_each(alloc, setting, lines, &mut rooms, &mut writer, mail, disk);
     finish(rooms, writer)
 }
 
-/// Runs the lines, and notes each in the rooms.
+/// Runs the lines, and notes each in the rooms. It says how many bytes may still be shown.
 fn run_each<M: Maildir, D: Disk>(
     alloc: Global,
     setting: &Setting,
@@ -65,15 +68,15 @@ fn run_each<M: Maildir, D: Disk>(
     writer: &mut Writer,
     mail: &mut M,
     disk: &mut D,
-)
+) -> u64
     requires moment { IsMoment setting.now.moment }
     requires rooms { HasRooms (length lines.now) rooms.old }
     requires fresh { (writer.old.begun ≡ []) × (writer.old.acked ≡ []) × (writer.old.closed ≡ None) }
     requires stands { IfSome (D.observed disk.old).told (λ moments. StandsOnIndex moments.present writer.old) }
-    ensures noted { HasNoted lines.now rooms.new (place_at writer.new (M.observed mail.new) (D.observed disk.new)) }
+    ensures noted { HasNoted lines.now rooms.new (place_at writer.new (M.observed mail.new) (D.observed disk.new) result) }
     ensures steps { rooms.new.steps ≡ rooms.old.steps }
     ensures ran { (entry : Devices) → entry.mail ≡ M.observed mail.old → entry.disk.faults ≡ (D.observed disk.old).faults
-        → HasRunSome setting.now.moment writer.old.shown entry lines.now rooms.new (place_at writer.new (M.observed mail.new) (D.observed disk.new)) }
+        → HasRunSome setting.now.moment writer.old.shown entry lines.now rooms.new (place_at writer.new (M.observed mail.new) (D.observed disk.new) result) }
     ensures durable { (entry : ObservedDisk) (opening : Base) → IsDurable entry opening (D.observed disk.old) writer.old
         → IsDurable entry opening (D.observed disk.new) writer.new }
 {
@@ -88,9 +91,11 @@ fn run_each<M: Maildir, D: Disk>(
     a_line_more_keeps_the_answers();
     a_line_more_keeps_the_given();
     a_line_more_keeps_the_clocks();
+    let mut left = MAX_SHOWN;
     'lines: for line in lines {
-        run_line(alloc, setting, line, rooms, writer, mail, disk);
+        left = run_line(alloc, setting, line, rooms, writer, mail, disk, left);
     }
+    left
 }
 
 /// The log of the lines that were noted; it takes no memory.

@@ -1,5 +1,5 @@
 -- The whole statement of a session, from its parts.
-use Rattle.std.proofs.Common.{◌≡◌, inl, ℕ, Bool, true, false, List, [], ◌∷◌, Option, None, Some, IfSome, Result, Ok, Err, refl, sym, arith, subst}
+use Rattle.std.proofs.Common.{◌≡◌, ◌<◌, ◌≤◌, inl, inr, ℕ, Bool, true, false, List, [], ◌∷◌, Option, None, Some, IfSome, length, Result, Ok, Err, refl, sym, ap, ◌∙◌, arith, subst}
 use Rattle.std.specs.List.{zip}
 use Rattle.nm_command.specs.Requests.{request_of}
 use Rattle.nm_command.specs.declared.command_error.CommandError.{CommandError}
@@ -7,7 +7,7 @@ use Rattle.nm_command.specs.declared.command_error.CommandError.TheVariants as c
 use Rattle.nm_command.specs.declared.request.Request as asks
 use Rattle.nm_disk.specs.Images.{IsImage}
 use Rattle.nm_disk.specs.Observed.{Moments, ObservedDisk}
-use Rattle.nm_history.specs.Call.{Devices, Ran, Refused, call_fault, call_lines, call_of, devices, fault_by, fault_in_query, fault_of_command, fault_of_query, fault_of_session, is_session, lines_by}
+use Rattle.nm_history.specs.Call.{Devices, Ran, Refused, call_fault, call_lines, call_of, call_reads, devices, fault_by, fault_in_query, fault_of_command, fault_of_input, fault_of_query, fault_of_session, input_fault, input_fault_by, is_session, line_refusal, lines_by, reads_by}
 use Rattle.nm_history.specs.CrashPrefix.{CrashPrefix, KeepsCommits}
 use Rattle.nm_history.specs.Given.{GivenAlong}
 use Rattle.nm_history.specs.History.{History}
@@ -16,16 +16,17 @@ use Rattle.nm_history.specs.LineCommits.{LineCommits}
 use Rattle.nm_history.specs.Lines.{RunLine, at_first}
 use Rattle.nm_history.specs.MachineRun.{MachineRun}
 use Rattle.nm_history.specs.PrintedOut.{Prints, StreamAppends, final_message, printed_by}
-use Rattle.nm_history.specs.Refusals.{IsRefusedFor, TakesInput}
+use Rattle.nm_history.specs.Refusals.{IsRead, IsRefusedFor, TakesInput}
 use Rattle.nm_history.specs.Status.{status_by}
-use Rattle.nm_history.specs.Requests.{own_query}
+use Rattle.nm_history.specs.Requests.{first_bad_line, own_query}
 use Rattle.nm_index.specs.Index.{empty_index}
-use Rattle.nm_faults.specs.Faults.{HasRisen}
+use Rattle.std.specs.Str.Lines.{lines}
+use Rattle.nm_base.specs.Limits.{max_input_bytes, max_lines}
 use Rattle.nm_io.specs.Taking.{HasTakeCause}
 use Rattle.nm_io.specs.declared.taking.TakeError.{TakeError}
 use Rattle.nm_io.specs.declared.taking.TakeError.TheVariants as takes
 use Rattle.nm_journal.specs.Journal.{IfTold}
-use Rattle.nm_log.specs.ParsedLine.{parse_line}
+use Rattle.nm_log.specs.ParsedLine.{parse_single}
 use Rattle.nm_log.specs.Refusals.{refused_line, refused_status}
 use Rattle.nm_log.specs.declared.line_parser.ParsedLine.{ParsedLine}
 use Rattle.nm_log.specs.declared.line_parser.ParsedLine.TheVariants as asked
@@ -35,7 +36,6 @@ use Rattle.nm_log.specs.declared.log.SessionLog.{SessionLog}
 use Rattle.nm_log.specs.declared.log.Setting.{Setting}
 use Rattle.nm_log.specs.declared.refusal.Refusal.{Refusal}
 use Rattle.nm_log.specs.declared.refusal.Refusal.TheVariants as refusals
-use Rattle.nm_log.specs.declared.script.CommandText.TheVariants.{Words}
 use Rattle.nm_log.specs.declared.script.ScriptLine.{ScriptLine}
 use Rattle.nm_io.specs.Observed.{ObservedStream}
 use Rattle.nm_maildir.specs.Observed.{ObservedMail}
@@ -44,8 +44,9 @@ use Rattle.nm_query.specs.declared.query.Query.{Query}
 use Rattle.nm_query.specs.declared.query_error.QueryError.{QueryError}
 use Rattle.nm_query.specs.declared.query_error.QueryError.TheVariants as query_errors
 use Rattle.nm_session.specs.Run.{HasRun}
+use Rattle.nm_tags.specs.declared.line_error.LineKind.{LineKind}
 use Rattle.nm_session.specs.Session.{HasOpenCause, IsSession, IsUnopened}
-use Rattle.nm_top.specs.Ending.{Refuses, ended_with, refusal_of}
+use Rattle.nm_top.specs.Ending.{Refuses, ended_with, refusal_of, take_refusal}
 use Rattle.nm_top.specs.RefusalLaws.{RefusalLaws}
 use Rattle.nm_writer.specs.declared.open_error.OpenError.{OpenError}
 use Rattle.nm_writer.specs.declared.open_error.OpenError.TheVariants as errors
@@ -68,9 +69,9 @@ unasked laws disk image = record { every_moment = unasked-told laws disk.told im
 module _ (laws : RefusalLaws) (refusal : Refusal) (input : List ℕ) (words : List (List ℕ)) (setting : Setting) (entry after : Devices)
     (cause : (done : Done) → IsRefusedFor refusal input (call_of words setting entry after done)) (kept : CrashPrefix entry.disk after.disk [] [])
     (same_mail : after.mail ≡ entry.mail) (same_out : after.out ≡ entry.out) where
-  given-none : GivenAlong empty_index [] (at_first empty_index entry) (zip (call_lines words input) no_logs) entry.mail after.mail
-  given-none = subst (λ (m : ObservedMail). GivenAlong empty_index [] (at_first empty_index entry) (zip (call_lines words input) no_logs) entry.mail m) (sym same_mail)
-      (subst (λ (l : List RunLine). GivenAlong empty_index [] (at_first empty_index entry) l entry.mail entry.mail) (sym (none-run (call_lines words input))) (laws.given empty_index entry))
+  given-none : GivenAlong empty_index setting.moment [] (at_first empty_index entry) (zip (call_lines words input) no_logs) entry.mail after.mail
+  given-none = subst (λ (m : ObservedMail). GivenAlong empty_index setting.moment [] (at_first empty_index entry) (zip (call_lines words input) no_logs) entry.mail m) (sym same_mail)
+      (subst (λ (l : List RunLine). GivenAlong empty_index setting.moment [] (at_first empty_index entry) l entry.mail entry.mail) (sym (none-run (call_lines words input))) (laws.given empty_index setting.moment entry))
 
   ended-history : Prints (Some (refused_line refusal)) entry.err after.err → History (call_of words setting entry after (ended_with (refused_status refusal)))
   ended-history says = (
@@ -82,7 +83,7 @@ module _ (laws : RefusalLaws) (refusal : Refusal) (input : List ℕ) (words : Li
       acknowledged = [];
       opening_index = tt;
       machine_run = subst (λ (l : List RunLine). MachineRun empty_index setting.moment (at_first empty_index entry) [] l []) (sym (none-run (call_lines words input))) (laws.run empty_index setting.moment entry);
-      line_commits = subst (λ (l : List RunLine). LineCommits empty_index entry.mail.tree [] l []) (sym (none-run (call_lines words input))) (laws.commits empty_index entry);
+      line_commits = subst (λ (l : List RunLine). LineCommits empty_index setting.moment entry.mail.tree [] l []) (sym (none-run (call_lines words input))) (laws.commits empty_index setting.moment entry);
       line_answers = subst (λ (l : List RunLine). LineAnswers empty_index setting.moment (at_first empty_index entry) [] l) (sym (none-run (call_lines words input))) (laws.answers empty_index setting.moment entry);
       given = record { along = given-none; disk = tt };
       printed_out = (cause (ended_with (refused_status refusal)), record { lines = refl; steps = refl; acked = refl; mail = same_mail; out = same_out; says = says });
@@ -109,6 +110,7 @@ abbrev is_of_words : Refusal → Bool
 is_of_words (refusals.Usage word kind) = true
 is_of_words (refusals.BadQuery at kind) = true
 is_of_words (refusals.BadDate at) = true
+is_of_words (refusals.BadLine line kind) = false
 is_of_words refusals.ReadFault = false
 is_of_words refusals.DiskFault = false
 is_of_words (refusals.BadIndex file at) = false
@@ -143,7 +145,7 @@ of-command (asked.Request request) refusal e = of-query (own_query request) refu
 
 of-words : (session : Bool) (words : List (List ℕ)) (refusal : Refusal) → fault_by session words ≡ Some refusal → is_of_words refusal ≡ true
 of-words true words refusal e = of-session (request_of words) refusal e
-of-words false words refusal e = of-command (parse_line (Words words)) refusal e
+of-words false words refusal e = of-command (parse_single words) refusal e
 
 -- the cause of a refusal for the words
 caused-by-words : (refusal : Refusal) (input : List ℕ) (words : List (List ℕ)) (setting : Setting) (mail : ObservedMail) (disk : ObservedDisk) (old out err said : ObservedStream) (done : Done)
@@ -151,6 +153,7 @@ caused-by-words : (refusal : Refusal) (input : List ℕ) (words : List (List ℕ
 caused-by-words (refusals.Usage word kind) input words setting mail disk old out err said done of_words e = (e, (refl, refl))
 caused-by-words (refusals.BadQuery at kind) input words setting mail disk old out err said done of_words e = (e, (refl, refl))
 caused-by-words (refusals.BadDate at) input words setting mail disk old out err said done of_words e = (e, (refl, refl))
+caused-by-words (refusals.BadLine line kind) input words setting mail disk old out err said done of_words e = absurd (cc)
 caused-by-words refusals.ReadFault input words setting mail disk old out err said done of_words e = absurd (cc)
 caused-by-words refusals.DiskFault input words setting mail disk old out err said done of_words e = absurd (cc)
 caused-by-words (refusals.BadIndex file at) input words setting mail disk old out err said done of_words e = absurd (cc)
@@ -165,32 +168,45 @@ words-history laws refusal words setting mail disk old out err said image e done
     unasked-history laws refusal [] words setting mail disk old old out err said image
     (λ d. caused-by-words refusal [] words setting mail disk old out err said d (of-words (is_session words) words refusal e) e) done ends
 
--- a fault of the input has its cause
-pub read-risen : (error : TakeError) (before now : ℕ) → error ≡ takes.ReadFault → HasTakeCause {T = List ℕ} before now (Err error) → HasRisen before now
-read-risen error before now is cause = subst (λ (e : TakeError). HasTakeCause {T = List ℕ} before now (Err e)) is cause
+-- the cause of a refusal for an error of reading the input
+take-cause : (error : TakeError) (words : List (List ℕ)) (setting : Setting) (mail : ObservedMail) (disk : ObservedDisk) (old new out err said : ObservedStream) (done : Done) → call_fault words ≡ None → call_reads words ≡ true
+    → HasTakeCause {T = List ℕ} old.faults new.faults (Err error) → (error ≡ takes.TooLong → IfSome old.bytes (λ bytes. max_input_bytes < length bytes))
+    → IsRefusedFor (take_refusal error) [] (call_of words setting (devices mail disk old out err) (devices mail disk new out said) done)
+take-cause takes.ReadFault words setting mail disk old new out err said done sound reads cause long = (sound, reads, cause, refl)
+take-cause takes.TooLong words setting mail disk old new out err said done sound reads cause long = (inr (sound, reads, long refl), refl)
+take-cause takes.NoMemory words setting mail disk old new out err said done sound reads cause long = tt
+
+-- a call whose input is not read
+pub take-history : RefusalLaws → (error : TakeError) (refusal : Refusal) (words : List (List ℕ)) (setting : Setting) (mail : ObservedMail) (disk : ObservedDisk) (old new out err said : ObservedStream)
+    → IfSome disk.told (λ moments. IsImage moments.present moments.present.now) → refusal ≡ take_refusal error → call_fault words ≡ None → call_reads words ≡ true
+    → HasTakeCause {T = List ℕ} old.faults new.faults (Err error) → (error ≡ takes.TooLong → IfSome old.bytes (λ bytes. max_input_bytes < length bytes))
+    → (done : Done) → Refuses refusal err said done → History (call_of words setting (devices mail disk old out err) (devices mail disk new out said) done)
+take-history laws error refusal words setting mail disk old new out err said image is sound reads cause long done ends =
+    unasked-history laws (take_refusal error) [] words setting mail disk old new out err said image
+    (λ d. take-cause error words setting mail disk old new out err said d sound reads cause long) done (subst (λ (r : Refusal). Refuses r err said done) is ends)
 
 -- the cause of a refusal for an error of opening
-open-cause : (error : OpenError) (input : List ℕ) (words : List (List ℕ)) (setting : Setting) (entry after : Devices) (done : Done) → call_fault words ≡ None → TakesInput (is_session words) input entry.input after.input
-    → HasOpenCause entry.disk after.disk error → IsRefusedFor (refusal_of error) input (call_of words setting entry after done)
-open-cause errors.DiskFault input words setting entry after done sound takes cause = (record { words = sound; takes = takes }, cause)
-open-cause (errors.BadIndex file at) input words setting entry after done sound takes cause = (record { words = sound; takes = takes }, cause.0, cause.1)
-open-cause errors.NoMemory input words setting entry after done sound takes cause = tt
+open-cause : (error : OpenError) (input : List ℕ) (words : List (List ℕ)) (setting : Setting) (entry after : Devices) (done : Done) → call_fault words ≡ None → TakesInput (call_reads words) (is_session words) input entry.input after.input
+    → input_fault words input ≡ None → HasOpenCause entry.disk after.disk error → IsRefusedFor (refusal_of error) input (call_of words setting entry after done)
+open-cause errors.DiskFault input words setting entry after done sound takes right cause = (record { words = sound; takes = takes; lines = right }, cause)
+open-cause (errors.BadIndex file at) input words setting entry after done sound takes right cause = (record { words = sound; takes = takes; lines = right }, cause.0, cause.1)
+open-cause errors.NoMemory input words setting entry after done sound takes right cause = tt
 
 -- a call for which no index is opened
 pub unopened-history : RefusalLaws → (error : OpenError) (refusal : Refusal) (input : List ℕ) (words : List (List ℕ)) (setting : Setting) (mail new_mail : ObservedMail) (disk new_disk : ObservedDisk) (old new out err said : ObservedStream)
-    → refusal ≡ refusal_of error → call_fault words ≡ None → TakesInput (is_session words) input old new → IsUnopened mail new_mail disk new_disk error
+    → refusal ≡ refusal_of error → call_fault words ≡ None → TakesInput (call_reads words) (is_session words) input old new → input_fault words input ≡ None → IsUnopened mail new_mail disk new_disk error
     → (done : Done) → Refuses refusal err said done → History (call_of words setting (devices mail disk old out err) (devices new_mail new_disk new out said) done)
-unopened-history laws error refusal input words setting mail new_mail disk new_disk old new out err said is sound takes unopened done ends =
+unopened-history laws error refusal input words setting mail new_mail disk new_disk old new out err said is sound takes right unopened done ends =
     refused-history laws (refusal_of error) input words setting (devices mail disk old out err) (devices new_mail new_disk new out said)
-    (λ d. open-cause error input words setting (devices mail disk old out err) (devices new_mail new_disk new out said) d sound takes unopened.cause)
+    (λ d. open-cause error input words setting (devices mail disk old out err) (devices new_mail new_disk new out said) d sound takes right unopened.cause)
     unopened.crash_prefix unopened.mail refl done (subst (λ (r : Refusal). Refuses r err said done) is ends)
 
 -- a call that runs its lines
 pub ran-history : (input : List ℕ) (words : List (List ℕ)) (setting : Setting) (entry after : Devices) (script : List ScriptLine) (status : ℕ) (log : SessionLog) (out_failed : Bool)
-    → call_fault words ≡ None → TakesInput (is_session words) input entry.input after.input → script ≡ call_lines words input
+    → call_fault words ≡ None → TakesInput (call_reads words) (is_session words) input entry.input after.input → input_fault words input ≡ None → script ≡ call_lines words input
     → IsSession setting.moment entry script after.mail after.disk log → StreamAppends out_failed entry.out after.out (printed_by (is_session words) log.lines) → Prints (final_message (is_session words) log.lines out_failed) entry.err after.err
     → status ≡ status_by (is_session words) log.lines out_failed → History (call_of words setting entry after (record { status = status; log = log }))
-ran-history input words setting entry after script status log out_failed sound takes same session out says is =
+ran-history input words setting entry after script status log out_failed sound takes right same session out says is =
     let run : HasRun setting.moment session.opening entry (call_lines words input) after.mail after.disk.faults log =
     subst (λ (ls : List ScriptLine). HasRun setting.moment session.opening entry ls after.mail after.disk.faults log) same session.run in (
       session.opening,
@@ -204,7 +220,7 @@ ran-history input words setting entry after script status log out_failed sound t
         line_commits = run.line_commits;
         line_answers = run.line_answers;
         given = record { along = run.given; disk = run.faults };
-        printed_out = (record { words = sound; takes = takes }, record { lines = run.logs; out = out; says = says });
+        printed_out = (record { words = sound; takes = takes; lines = right }, record { lines = run.logs; out = out; says = says });
         crash_prefix = session.crash_prefix;
         status = is;
       },
@@ -212,11 +228,43 @@ ran-history input words setting entry after script status log out_failed sound t
 
 -- and so in terms of whether it is a session
 pub ran-by : (session : Bool) (input : List ℕ) (words : List (List ℕ)) (setting : Setting) (entry after : Devices) (script : List ScriptLine) (status : ℕ) (log : SessionLog) (out_failed : Bool)
-    → is_session words ≡ session → call_fault words ≡ None → TakesInput session input entry.input after.input → script ≡ lines_by session words input
+    → is_session words ≡ session → call_fault words ≡ None → TakesInput (call_reads words) session input entry.input after.input → input_fault_by session words input ≡ None → script ≡ lines_by session words input
     → IsSession setting.moment entry script after.mail after.disk log → StreamAppends out_failed entry.out after.out (printed_by session log.lines)
     → Prints (final_message session log.lines out_failed) entry.err after.err → status ≡ status_by session log.lines out_failed → History (call_of words setting entry after (record { status = status; log = log }))
 ran-by session input words setting entry after script status log out_failed is sound =
-    subst (λ (b : Bool). TakesInput b input entry.input after.input → script ≡ lines_by b words input → IsSession setting.moment entry script after.mail after.disk log
+    subst (λ (b : Bool). TakesInput (call_reads words) b input entry.input after.input → input_fault_by b words input ≡ None → script ≡ lines_by b words input → IsSession setting.moment entry script after.mail after.disk log
     → StreamAppends out_failed entry.out after.out (printed_by b log.lines) → Prints (final_message b log.lines out_failed) entry.err after.err → status ≡ status_by b log.lines out_failed
     → History (call_of words setting entry after (record { status = status; log = log }))) is
-    (λ takes same session_is out says status_is. ran-history input words setting entry after script status log out_failed sound takes same session_is out says status_is)
+    (λ takes right same session_is out says status_is. ran-history input words setting entry after script status log out_failed sound takes right same session_is out says status_is)
+
+-- the call reads its input where its command does, and where it is a session
+pub reads-as : (session reads : Bool) (words : List (List ℕ)) → is_session words ≡ session → reads_by session words ≡ reads → call_reads words ≡ reads
+reads-as session reads words is read = ap (λ (b : Bool). reads_by b words) is ∙ read
+
+pub session-reads : (words : List (List ℕ)) → is_session words ≡ true → call_reads words ≡ true
+session-reads words is = ap (λ (b : Bool). reads_by b words) is
+
+-- what refuses the lines of a command is a line of them
+line-is : (fault : Option (ℕ × LineKind)) (refusal : Refusal) → line_refusal fault ≡ Some refusal → (line : ℕ) × (kind : LineKind) × (refusal ≡ refusals.BadLine line kind)
+line-is None refusal e = absurd (cc)
+line-is (Some bad) refusal e = let same : refusals.BadLine bad.0 bad.1 ≡ refusal = cc in (bad.0, bad.1, sym same)
+
+input-is : (parsed : ParsedLine) (input : List ℕ) (refusal : Refusal) → fault_of_input parsed input ≡ Some refusal → (line : ℕ) × (kind : LineKind) × (refusal ≡ refusals.BadLine line kind)
+input-is (asked.Usage word kind) input refusal e = absurd (cc)
+input-is (asked.Request request) input refusal e = line-is (first_bad_line request input) refusal e
+
+-- a call that is refused for a line of its input
+pub lines-cause : (words : List (List ℕ)) (input : List ℕ) (refusal : Refusal) (setting : Setting) (mail : ObservedMail) (disk : ObservedDisk) (old new out err said : ObservedStream) (done : Done)
+    → call_fault words ≡ None → is_session words ≡ false → IsRead input old new → fault_of_input (parse_single words) input ≡ Some refusal
+    → IsRefusedFor refusal input (call_of words setting (devices mail disk old out err) (devices mail disk new out said) done)
+lines-cause words input refusal setting mail disk old new out err said done sound single read e =
+    let bad = input-is (parse_single words) input refusal e in
+    subst (λ (r : Refusal). IsRefusedFor r input (call_of words setting (devices mail disk old out err) (devices mail disk new out said) done)) (sym bad.2)
+    (sound, read, ap (λ (b : Bool). input_fault_by b words input) single ∙ (e ∙ ap (λ (r : Refusal). Some r) bad.2), refl)
+
+-- what a single command takes of its input, and what a session does
+pub single-takes : (input : List ℕ) (old new : ObservedStream) → IsRead input old new → TakesInput true false input old new
+single-takes input old new read = (read, λ (session : false ≡ true). absurd (cc))
+
+pub session-takes : (words : List (List ℕ)) (input : List ℕ) (old new : ObservedStream) → is_session words ≡ true → IsRead input old new → length (lines input) ≤ max_lines → TakesInput (call_reads words) true input old new
+session-takes words input old new is read few = subst (λ (b : Bool). TakesInput b true input old new) (sym (session-reads words is)) (read, λ session. few)

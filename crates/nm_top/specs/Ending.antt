@@ -1,7 +1,10 @@
 -- How a call ends that ran no line.
 use Rattle.std.specs.Prelude.{◌≡◌, ℕ, [], Some}
 use Rattle.nm_history.specs.PrintedOut.{Prints}
+use Rattle.nm_base.specs.declared.limit.Limit.TheVariants.{InputBytes}
 use Rattle.nm_io.specs.Observed.{ObservedStream}
+use Rattle.nm_io.specs.declared.taking.TakeError.{TakeError}
+use Rattle.nm_io.specs.declared.taking.TakeError.TheVariants as takes
 use Rattle.nm_log.specs.Refusals.{refused_line, refused_status}
 use Rattle.nm_log.specs.declared.log.Done.{Done}
 use Rattle.nm_log.specs.declared.refusal.Refusal.{Refusal}
@@ -23,3 +26,9 @@ abbrev pub refusal_of : OpenError → Refusal
 refusal_of errors.DiskFault = refusals.DiskFault
 refusal_of (errors.BadIndex file at) = refusals.BadIndex file at
 refusal_of errors.NoMemory = refusals.NoMemory
+
+-- an error of reading the input, as the call is refused for it
+abbrev pub take_refusal : TakeError → Refusal
+take_refusal takes.ReadFault = refusals.ReadFault
+take_refusal takes.TooLong = refusals.Limit InputBytes
+take_refusal takes.NoMemory = refusals.NoMemory

@@ -167,6 +167,9 @@ fn fault_of(outcome: &Outcome) -> Option<u8>
         | Outcome::Usage { .. }
         | Outcome::BadQuery { .. }
         | Outcome::BadDate { .. }
+        | Outcome::BadLine { .. }
+        | Outcome::NotOne { .. }
+        | Outcome::Gone { .. }
         | Outcome::Closed { .. }
         | Outcome::Limit(_)
         | Outcome::NoMemory => None,
@@ -188,6 +191,9 @@ fn wants_memory(outcome: &Outcome) -> bool
         | Outcome::Usage { .. }
         | Outcome::BadQuery { .. }
         | Outcome::BadDate { .. }
+        | Outcome::BadLine { .. }
+        | Outcome::NotOne { .. }
+        | Outcome::Gone { .. }
         | Outcome::MailFault
         | Outcome::DiskFault
         | Outcome::Closed { .. }

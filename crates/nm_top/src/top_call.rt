@@ -2,17 +2,18 @@
 
 ghost use Rattle.std.specs.Prelude.{◌≡◌, ℕ, Bool, true, false, List, ◌≤◌, None, pos, ◌≤ℤ◌};
 ghost use Rattle.nm_dates.specs.Seconds.{IsMoment};
-ghost use Rattle.nm_history.specs.Call.{call_fault, call_of, devices, is_session, lines_by};
+ghost use Rattle.nm_history.specs.Call.{call_fault, call_of, call_reads, command_reads, devices, input_fault_by, is_session, lines_by};
 ghost use Rattle.nm_history.specs.Complete.{IsComplete};
 ghost use Rattle.nm_history.specs.History.{History};
-ghost use Rattle.nm_history.specs.Refusals.{TakesInput};
+ghost use Rattle.nm_history.specs.Refusals.{IsRead, TakesInput};
 ghost use Rattle.nm_io.specs.Observed.{ObservedStream};
-ghost use Rattle.nm_top.specs.Ending.{refusal_of};
+ghost use Rattle.nm_log.specs.ParsedLine.{parse_single};
+ghost use Rattle.nm_top.specs.Ending.{refusal_of, take_refusal};
 
 use crate::ending::{print_all, refuse, say_last, status_of_run};
 use crate::laws::refusal_laws;
-use crate::words::{fault_of, is_session, single_script};
-use nm_base::{Limit, NoMemory, Text};
+use crate::words::{fault_of, is_session, lines_fault, reads_lines, single_script};
+use nm_base::{Limit, Many, NoMemory, Text};
 use nm_disk::Disk;
 use nm_history::a_history_is_complete;
 use nm_io::{Sink, Source, TakeError, take_all};
@@ -26,8 +27,8 @@ use std::alloc::Global;
 const MAX_INPUT: u64 = 67_108_864;
 
 /// Runs the command that the words name over the index that the disk holds and the mail folder. `session` reads a script from `input`,
-/// runs its lines and prints their replies, each behind a header, to `out`; any other is run as the one line, and its reply stands
-/// alone. `err` gains at most one line. It takes what memory it needs and waits for nobody.
+/// runs its lines and prints their replies, each behind a header, to `out`; any other is run as the one line, over the lines of `input`
+/// where it reads some, and its reply stands alone. `err` gains at most one line. It takes what memory it needs and waits for nobody.
 pub fn notmuch<M: Maildir, D: Disk, I: Source, O: Sink, E: Sink>(
     alloc: Global,
     words: &[Text],
@@ -98,14 +99,19 @@ fn run_call<M: Maildir, D: Disk, I: Source, O: Sink, E: Sink>(
         (devices (M.observed mail.old) (D.observed disk.old) (I.observed input.old) (O.observed out.old) (E.observed err.old))
         (devices (M.observed mail.new) (D.observed disk.new) (I.observed input.new) (O.observed out.new) (E.observed err.new)) result) }
 {
+    refusal_laws();
     if is_session(words) {
         return read_and_run(alloc, setting, mail, disk, input, out, err);
     }
-    run_single(alloc, words, setting, mail, disk, out, err)
+    match reads_lines(alloc, words) {
+        Ok(true) => read_lines_and_run(alloc, words, setting, mail, disk, input, out, err),
+        Ok(false) => run_alone(alloc, words, setting, mail, disk, out, err),
+        Err(NoMemory) => refuse(alloc, err, &Refusal::NoMemory),
+    }
 }
 
-/// Runs a single command, which leaves the input as it is.
-fn run_single<M: Maildir, D: Disk, O: Sink, E: Sink>(
+/// Runs a single command that leaves the input as it is.
+fn run_alone<M: Maildir, D: Disk, O: Sink, E: Sink>(
     alloc: Global,
     words: &[Text],
     setting: &Setting,
@@ -117,12 +123,14 @@ fn run_single<M: Maildir, D: Disk, O: Sink, E: Sink>(
     requires moment { IsMoment setting.now.moment }
     requires sound { call_fault words.now ≡ None }
     requires single { is_session words.now ≡ false }
+    requires unread { command_reads (parse_single words.now) ≡ false }
     ensures { (input : ObservedStream) → History (call_of words.now setting.now
         (devices (M.observed mail.old) (D.observed disk.old) input (O.observed out.old) (E.observed err.old))
         (devices (M.observed mail.new) (D.observed disk.new) input (O.observed out.new) (E.observed err.new)) result) }
 {
     refusal_laws();
-    match single_script(alloc, words) {
+    let input = Many::new(alloc);
+    match single_script(alloc, words, input) {
         Ok(script) => run_lines(
             alloc,
             setting,
@@ -133,6 +141,71 @@ fn run_single<M: Maildir, D: Disk, O: Sink, E: Sink>(
             out,
             err,
         ),
+        Err(NoMemory) => refuse(alloc, err, &Refusal::NoMemory),
+    }
+}
+
+/// Reads the lines that a single command asks for, before any other device is asked, and runs it.
+fn read_lines_and_run<M: Maildir, D: Disk, I: Source, O: Sink, E: Sink>(
+    alloc: Global,
+    words: &[Text],
+    setting: &Setting,
+    mail: &mut M,
+    disk: &mut D,
+    input: &mut I,
+    out: &mut O,
+    err: &mut E,
+) -> Done
+    requires moment { IsMoment setting.now.moment }
+    requires sound { call_fault words.now ≡ None }
+    requires single { is_session words.now ≡ false }
+    requires read { command_reads (parse_single words.now) ≡ true }
+    ensures { History (call_of words.now setting.now
+        (devices (M.observed mail.old) (D.observed disk.old) (I.observed input.old) (O.observed out.old) (E.observed err.old))
+        (devices (M.observed mail.new) (D.observed disk.new) (I.observed input.new) (O.observed out.new) (E.observed err.new)) result) }
+{
+    refusal_laws();
+    match take_all(alloc, input, MAX_INPUT) {
+        Ok(bytes) => run_over(alloc, words, setting, bytes, mail, disk, out, err),
+        Err(error) => refuse(alloc, err, &take_refusal(error)),
+    }
+}
+
+/// Runs a single command over the input that was read, where each of its lines is of its form.
+fn run_over<M: Maildir, D: Disk, O: Sink, E: Sink>(
+    alloc: Global,
+    words: &[Text],
+    setting: &Setting,
+    bytes: Many<u8>,
+    mail: &mut M,
+    disk: &mut D,
+    out: &mut O,
+    err: &mut E,
+) -> Done
+    requires moment { IsMoment setting.now.moment }
+    requires sound { call_fault words.now ≡ None }
+    requires single { is_session words.now ≡ false }
+    requires read { command_reads (parse_single words.now) ≡ true }
+    ensures { (old new : ObservedStream) → IsRead bytes old new → History (call_of words.now setting.now
+        (devices (M.observed mail.old) (D.observed disk.old) old (O.observed out.old) (E.observed err.old))
+        (devices (M.observed mail.new) (D.observed disk.new) new (O.observed out.new) (E.observed err.new)) result) }
+{
+    refusal_laws();
+    match lines_fault(alloc, words, bytes.as_slice()) {
+        Ok(None) => match single_script(alloc, words, bytes) {
+            Ok(script) => run_lines(
+                alloc,
+                setting,
+                false,
+                script.as_slice(),
+                mail,
+                disk,
+                out,
+                err,
+            ),
+            Err(NoMemory) => refuse(alloc, err, &Refusal::NoMemory),
+        },
+        Ok(Some(refusal)) => refuse(alloc, err, &refusal),
         Err(NoMemory) => refuse(alloc, err, &Refusal::NoMemory),
     }
 }
@@ -168,9 +241,7 @@ fn read_and_run<M: Maildir, D: Disk, I: Source, O: Sink, E: Sink>(
             Err(ScriptError::Limit(_)) => refuse(alloc, err, &Refusal::Limit(Limit::Lines)),
             Err(ScriptError::NoMemory) => refuse(alloc, err, &Refusal::NoMemory),
         },
-        Err(TakeError::ReadFault) => refuse(alloc, err, &Refusal::ReadFault),
-        Err(TakeError::TooLong) => refuse(alloc, err, &Refusal::Limit(Limit::InputBytes)),
-        Err(TakeError::NoMemory) => refuse(alloc, err, &Refusal::NoMemory),
+        Err(error) => refuse(alloc, err, &take_refusal(error)),
     }
 }
 
@@ -187,7 +258,7 @@ fn run_lines<M: Maildir, D: Disk, O: Sink, E: Sink>(
 ) -> Done
     requires moment { IsMoment setting.now.moment }
     ensures { (words : List (List ℕ)) (input : List ℕ) (old new : ObservedStream) → is_session words ≡ session → call_fault words ≡ None
-        → TakesInput session input old new → script.now ≡ lines_by session words input → History (call_of words setting.now
+        → TakesInput (call_reads words) session input old new → input_fault_by session words input ≡ None → script.now ≡ lines_by session words input → History (call_of words setting.now
         (devices (M.observed mail.old) (D.observed disk.old) old (O.observed out.old) (E.observed err.old))
         (devices (M.observed mail.new) (D.observed disk.new) new (O.observed out.new) (E.observed err.new)) result) }
 {
@@ -212,5 +283,16 @@ fn refusal_of(error: OpenError) -> Refusal
         OpenError::DiskFault => Refusal::DiskFault,
         OpenError::BadIndex { file, at } => Refusal::BadIndex { file, at },
         OpenError::NoMemory => Refusal::NoMemory,
+    }
+}
+
+/// An error of reading the input, as the call is refused for it.
+fn take_refusal(error: TakeError) -> Refusal
+    ensures { result ≡ take_refusal error }
+{
+    match error {
+        TakeError::ReadFault => Refusal::ReadFault,
+        TakeError::TooLong => Refusal::Limit(Limit::InputBytes),
+        TakeError::NoMemory => Refusal::NoMemory,
     }
 }

@@ -2,18 +2,23 @@
 
 ghost use Rattle.std.specs.Prelude.{◌≡◌, ◌≢◌, [], ◌∷◌, Some, IfOk};
 ghost use Rattle.nm_command.specs.Requests.{request_of};
-ghost use Rattle.nm_history.specs.Call.{call_fault, fault_in_query, fault_of_command, fault_of_query, fault_of_session, is_session, query_refusal};
-ghost use Rattle.nm_history.specs.Requests.{own_query};
-ghost use Rattle.nm_log.specs.ParsedLine.{parse_line};
+ghost use Rattle.nm_history.specs.Call.{call_fault, command_reads, fault_in_query, fault_of_command, fault_of_input, fault_of_query, fault_of_session, is_session, line_refusal, query_refusal};
+ghost use Rattle.nm_answer.specs.BatchLines.{queries_in, taggings_in};
+ghost use Rattle.nm_answer.specs.DumpReading.{read_dump};
+ghost use Rattle.nm_history.specs.Requests.{bad_line_in, first_bad_line, own_query};
+ghost use Rattle.nm_log.specs.ParsedLine.{parse_single};
 ghost use Rattle.nm_log.specs.Script.{single_line};
 ghost use Rattle.nm_log.specs.declared.script.CommandText.TheVariants as texts;
 ghost use Rattle.nm_query.specs.Answers.{answer_of};
 
 use nm_answer::Request;
-use nm_base::{Copies, Many, NoMemory, Text};
+use nm_base::{Copies, Many, NoMemory, ReadForm, Text};
+use nm_batch::{read_queries, read_taggings};
 use nm_command::{CommandError, command};
-use nm_log::{CommandText, ParsedLine, Refusal, ScriptLine, parse_line};
+use nm_dump::read_dump;
+use nm_log::{CommandText, ParsedLine, Refusal, ScriptLine, parse_single, reads_input};
 use nm_query::{QueryError, parse};
+use nm_tags::LineError;
 use std::alloc::Global;
 
 /// Whether the words begin a session.
@@ -47,12 +52,86 @@ fn session_fault(alloc: Global, words: &[Text]) -> Result<Option<Refusal>, NoMem
 }
 
 fn command_fault(alloc: Global, words: &[Text]) -> Result<Option<Refusal>, NoMemory>
-    ensures { IfOk result (λ fault. fault ≡ fault_of_command (parse_line (texts.Words words.now))) }
+    ensures { IfOk result (λ fault. fault ≡ fault_of_command (parse_single words.now)) }
 {
-    let text = words_text(alloc, words)?;
-    match parse_line(alloc, &text)? {
+    match parse_single(alloc, words)? {
         ParsedLine::Usage { word, kind } => Ok(Some(Refusal::Usage { word, kind })),
         ParsedLine::Request(request) => request_fault(alloc, &request),
+    }
+}
+
+/// Whether the command reads lines from its input.
+pub(crate) fn reads_lines(alloc: Global, words: &[Text]) -> Result<bool, NoMemory>
+    ensures { IfOk result (λ reads. reads ≡ command_reads (parse_single words.now)) }
+{
+    match parse_single(alloc, words)? {
+        ParsedLine::Usage { .. } => Ok(false),
+        ParsedLine::Request(request) => Ok(reads_input(&request)),
+    }
+}
+
+/// What refuses a command for the lines that it reads, if anything does.
+pub(crate) fn lines_fault(
+    alloc: Global,
+    words: &[Text],
+    input: &[u8],
+) -> Result<Option<Refusal>, NoMemory>
+    ensures { IfOk result (λ fault. fault ≡ fault_of_input (parse_single words.now) input.now) }
+{
+    match parse_single(alloc, words)? {
+        ParsedLine::Usage { .. } => Ok(None),
+        ParsedLine::Request(request) => bad_line(alloc, &request, input),
+    }
+}
+
+fn bad_line(alloc: Global, request: &Request, input: &[u8]) -> Result<Option<Refusal>, NoMemory>
+    ensures { IfOk result (λ fault. fault ≡ line_refusal (first_bad_line request.now input.now)) }
+{
+    match request {
+        Request::New | Request::Search(_) | Request::Dump(_) | Request::Show(_) => Ok(None),
+        Request::Count(ask) => {
+            if ask.batch {
+                return queries_fault(alloc, input);
+            }
+            Ok(None)
+        }
+        Request::Tag(ask) => {
+            if ask.batch {
+                return taggings_fault(alloc, input, ask.clear);
+            }
+            Ok(None)
+        }
+        Request::Restore(ask) => dump_fault(alloc, input, ask.form),
+    }
+}
+
+fn queries_fault(alloc: Global, input: &[u8]) -> Result<Option<Refusal>, NoMemory>
+    ensures { IfOk result (λ fault. fault ≡ line_refusal (bad_line_in (queries_in input.now))) }
+{
+    match read_queries(alloc, input) {
+        Ok(_) => Ok(None),
+        Err(LineError::BadLine { line, kind }) => Ok(Some(Refusal::BadLine { line, kind })),
+        Err(LineError::NoMemory) => Err(NoMemory),
+    }
+}
+
+fn taggings_fault(alloc: Global, input: &[u8], clear: bool) -> Result<Option<Refusal>, NoMemory>
+    ensures { IfOk result (λ fault. fault ≡ line_refusal (bad_line_in (taggings_in clear input.now))) }
+{
+    match read_taggings(alloc, input, clear) {
+        Ok(_) => Ok(None),
+        Err(LineError::BadLine { line, kind }) => Ok(Some(Refusal::BadLine { line, kind })),
+        Err(LineError::NoMemory) => Err(NoMemory),
+    }
+}
+
+fn dump_fault(alloc: Global, input: &[u8], form: ReadForm) -> Result<Option<Refusal>, NoMemory>
+    ensures { IfOk result (λ fault. fault ≡ line_refusal (bad_line_in (read_dump input.now form))) }
+{
+    match read_dump(alloc, input, form) {
+        Ok(_) => Ok(None),
+        Err(LineError::BadLine { line, kind }) => Ok(Some(Refusal::BadLine { line, kind })),
+        Err(LineError::NoMemory) => Err(NoMemory),
     }
 }
 
@@ -71,7 +150,7 @@ fn request_fault(alloc: Global, request: &Request) -> Result<Option<Refusal>, No
     ensures { IfOk result (λ fault. fault ≡ fault_of_query (own_query request.now)) }
 {
     match request {
-        Request::New => Ok(None),
+        Request::New | Request::Restore(_) => Ok(None),
         Request::Count(ask) => {
             if ask.batch {
                 return Ok(None);
@@ -80,6 +159,13 @@ fn request_fault(alloc: Global, request: &Request) -> Result<Option<Refusal>, No
         }
         Request::Search(ask) => query_fault(alloc, ask.query.as_str()),
         Request::Dump(ask) => query_fault(alloc, ask.query.as_str()),
+        Request::Show(ask) => query_fault(alloc, ask.query.as_str()),
+        Request::Tag(ask) => {
+            if ask.batch {
+                return Ok(None);
+            }
+            query_fault(alloc, ask.query.as_str())
+        }
     }
 }
 
@@ -104,12 +190,20 @@ fn refused_query(error: QueryError) -> Result<Option<Refusal>, NoMemory>
     }
 }
 
-/// The words of a single command as the one line that is run.
-pub(crate) fn single_script(alloc: Global, words: &[Text]) -> Result<Many<ScriptLine>, NoMemory>
-    ensures { IfOk result (λ script. script ≡ single_line words.now) }
+/// The words of a single command as the one line that is run, with the input that it reads.
+pub(crate) fn single_script(
+    alloc: Global,
+    words: &[Text],
+    input: Many<u8>,
+) -> Result<Many<ScriptLine>, NoMemory>
+    ensures { IfOk result (λ script. script ≡ single_line words.now input) }
 {
     let text = words_text(alloc, words)?;
     let mut script = Many::new(alloc);
-    script.push(ScriptLine { number: 1, text })?;
+    script.push(ScriptLine {
+        number: 1,
+        text,
+        input,
+    })?;
     Ok(script)
 }

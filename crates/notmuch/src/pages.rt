@@ -17,7 +17,12 @@ Commands
   search QUERY    --output=summary|threads|messages|files|tags  --format=text|json
                   --sort=newest-first|oldest-first  --offset=N  --limit=N  --exclude=true|false
   count [QUERY]   --output=messages|threads|files  --exclude=true|false
+                  --batch: each line of standard input is a query
+  show QUERY      --format=text|raw  --exclude=true|false
+  tag +TAG QUERY  +TAG sets a tag, -TAG takes it off, -- ends them  --remove-all
+                  --batch: each line of standard input is such changes and a query
   dump [QUERY]    --format=batch-tag|sup
+  restore < DUMP  --accumulate  --format=auto|batch-tag|sup
   session         run the lines of a script on standard input, as '0 search from:ann'
 
 Queries
@@ -26,8 +31,9 @@ Queries
   joined by 'and', 'or', 'xor', 'not' and parentheses; * is every message
 
 Status
-  0 well, 1 a query is refused, 2 words are refused, 3 the mail folder failed, 4 the index
-  failed, 5 the input failed, 6 the output failed, 7 no memory, 8 no index, 9 a limit
+  0 well, 1 a query or a line of the input is refused, or raw form found not one file,
+  2 words are refused, 3 the mail folder failed, 4 the index failed, 5 the input failed,
+  6 the output failed, 7 no memory, 8 no index, 9 a limit
 ";
 
 pub(crate) const VERSION: &[u8] = b"notmuch (Beharoky) 0.1\n";

@@ -1,7 +1,10 @@
 //! Rows on the lines of scripts: what a line asks for, or how it is refused; and the lines of a script with their numbers.
 
 use nm_answer::Request;
-use nm_base::{CountAsk, DumpAsk, DumpForm, Many, NoMemory, Output, SearchAsk, Text, UsageKind};
+use nm_base::{
+    CountAsk, DumpAsk, DumpForm, Many, NoMemory, Output, ReadForm, RestoreAsk, SearchAsk, ShowAsk,
+    TagAsk, Text, UsageKind,
+};
 use nm_io::MemSink;
 use nm_log::{
     CommandText, ParsedLine, ScriptError, ScriptLine, parse_line, print_usage, read_script,
@@ -23,8 +26,12 @@ pub fn requests(alloc: Global, row: &Row<'_>) -> Result<Vec<u8>, RowError> {
 }
 
 fn add_request(alloc: Global, answers: &mut Lines, line: &[u8]) -> Result<(), RowError> {
-    let text = CommandText::Line(Many::from_slice(alloc, line)?);
-    let parsed = parse_line(alloc, &text)?;
+    let line = ScriptLine {
+        number: 1,
+        text: CommandText::Line(Many::from_slice(alloc, line)?),
+        input: Many::new(alloc),
+    };
+    let parsed = parse_line(alloc, &line)?;
     add_parsed(alloc, answers, &parsed)
 }
 
@@ -34,6 +41,9 @@ fn add_parsed(alloc: Global, answers: &mut Lines, parsed: &ParsedLine) -> Result
         ParsedLine::Request(Request::Count(ask)) => Ok(add_count(answers, ask)?),
         ParsedLine::Request(Request::Search(ask)) => Ok(add_search(answers, ask)?),
         ParsedLine::Request(Request::Dump(ask)) => Ok(add_dump(answers, ask)?),
+        ParsedLine::Request(Request::Show(ask)) => Ok(add_show(answers, ask)?),
+        ParsedLine::Request(Request::Tag(ask)) => Ok(add_tag(answers, ask)?),
+        ParsedLine::Request(Request::Restore(ask)) => Ok(add_restore(answers, ask)?),
         ParsedLine::Usage { word, kind } => Ok(add_refusal(alloc, answers, *kind, word)?),
     }
 }
@@ -67,6 +77,48 @@ fn add_dump(answers: &mut Lines, ask: &DumpAsk) -> Result<(), AllocError> {
         DumpForm::Sup => b"dump sup:",
     })?;
     answers.push_after_blank(ask.query.as_bytes())
+}
+
+/// `show QUERY` behind its form.
+fn add_show(answers: &mut Lines, ask: &ShowAsk) -> Result<(), AllocError> {
+    answers.line(if ask.raw {
+        b"show raw".as_slice()
+    } else {
+        b"show text"
+    })?;
+    answers.push(if ask.exclude {
+        b", exclude true:".as_slice()
+    } else {
+        b", exclude false:"
+    })?;
+    answers.push_after_blank(ask.query.as_bytes())
+}
+
+/// `tag CHANGES: QUERY`, behind whether it clears and whether it reads lines.
+fn add_tag(answers: &mut Lines, ask: &TagAsk) -> Result<(), AllocError> {
+    answers.line(b"tag")?;
+    answers.push(if ask.clear { b" clear".as_slice() } else { b"" })?;
+    answers.push(if ask.batch { b" batch".as_slice() } else { b"" })?;
+    'ops: for op in ask.ops.as_slice() {
+        answers.push(if op.add { b" +".as_slice() } else { b" -" })?;
+        answers.push(op.tag.text().as_bytes())?;
+    }
+    answers.push(b":")?;
+    answers.push_after_blank(ask.query.as_bytes())
+}
+
+/// `restore`, behind it the form that it reads and whether tags stay.
+fn add_restore(answers: &mut Lines, ask: &RestoreAsk) -> Result<(), AllocError> {
+    answers.line(match ask.form {
+        ReadForm::Auto => b"restore form=auto".as_slice(),
+        ReadForm::BatchTag => b"restore form=batch-tag",
+        ReadForm::Sup => b"restore form=sup",
+    })?;
+    answers.push(if ask.accumulate {
+        b" accumulate=yes".as_slice()
+    } else {
+        b" accumulate=no"
+    })
 }
 
 fn add_options(answers: &mut Lines, ask: &CountAsk) -> Result<(), AllocError> {
@@ -144,6 +196,18 @@ fn add_lines(alloc: Global, answers: &mut Lines, script: &[ScriptLine]) -> Resul
         if let CommandText::Line(text) = &line.text {
             answers.push(text.as_slice())?;
         }
+        add_input(answers, line.input.as_slice())?;
+    }
+    Ok(())
+}
+
+/// The lines that a command reads, each behind a bar.
+fn add_input(answers: &mut Lines, input: &[u8]) -> Result<(), AllocError> {
+    let Some((_, lines)) = input.split_last() else {
+        return Ok(());
+    };
+    'lines: for line in lines.split(|b| *b == b'\n') {
+        answers.line_of(b"|", line)?;
     }
     Ok(())
 }

@@ -1,5 +1,6 @@
 use Rattle.std.proofs.Common.{List, length, take, refl, ◌∙◌, subst}
 use Rattle.std.proofs.lemmas.List.{take_all}
+use Rattle.nm_base.specs.Limits.{max_mail_bytes}
 use Rattle.nm_log.specs.declared.script.ScriptLine.{ScriptLine}
 use Rattle.nm_session.specs.Line.{place_at}
 use Rattle.nm_session.specs.Loop.{HasNoted, HasRunSome}
@@ -10,7 +11,7 @@ pub returns : goal.returns
 returns g c =
     let mail = g.M.Maildir in
     let disk = g.D.Disk in
-    let place = place_at c.lines.writer (mail.observed c.lines.mail) (disk.observed c.lines.disk) in
+    let place = place_at c.lines.writer (mail.observed c.lines.mail) (disk.observed c.lines.disk) c.lines.left in
     let all = take_all c.lines.line-index c.args.lines.now c.lines-test.false in
     record {
       noted = subst (λ (l : List ScriptLine). HasNoted l c.lines.rooms place) all c.lines.invariant.noted;
@@ -23,7 +24,7 @@ pub lines-init : goal.lines-init
 lines-init g c =
     let mail = g.M.Maildir in
     let disk = g.D.Disk in
-    let place = place_at c.args.writer.now (mail.observed c.args.mail.now) (disk.observed c.args.disk.now) in
+    let place = place_at c.args.writer.now (mail.observed c.args.mail.now) (disk.observed c.args.disk.now) max_mail_bytes in
     let rooms = c.requires.rooms in
     let fresh = c.requires.fresh in
     record {
@@ -36,7 +37,7 @@ lines-init g c =
         commits = c.no_line_makes_no_commit.ensures;
         answers = c.no_line_is_answered.ensures;
         given = c.nothing_is_given_to_no_line.ensures;
-      }) c.args.setting.now.moment entry c.args.rooms.now place (length c.args.lines.now) rooms fresh.0 fresh.1 fresh.2 mail_is disk_is;
+      }) c.args.setting.now.moment entry c.args.rooms.now place (length c.args.lines.now) rooms fresh.0 fresh.1 fresh.2 mail_is disk_is refl;
       stands = λ alive. c.requires.stands;
       durable = λ entry opening h. h;
     }
@@ -45,9 +46,9 @@ pub lines-preserved : goal.lines-preserved
 lines-preserved g c =
     let mail = g.M.Maildir in
     let disk = g.D.Disk in
-    let old = place_at c.lines.writer (mail.observed c.lines.mail) (disk.observed c.lines.disk) in
-    let done = c.run_line in
-    let new = place_at done.new.writer (mail.observed done.new.mail) (disk.observed done.new.disk) in
+    let old = place_at c.lines.writer (mail.observed c.lines.mail) (disk.observed c.lines.disk) c.lines.left in
+    let done = c.run_line-left in
+    let new = place_at done.new.writer (mail.observed done.new.mail) (disk.observed done.new.disk) done.result in
     let before = take c.lines.line-index c.args.lines.now in
     let line = c.line-item.result in
     let so_far = c.lines.invariant in
@@ -68,8 +69,8 @@ lines-preserved g c =
       durable = λ entry opening h. done.ensures.durable entry opening (so_far.durable entry opening h);
     }
 
-pub run_line-requires : goal.run_line-requires
-run_line-requires g c = record {
+pub run_line-left-requires : goal.run_line-left-requires
+run_line-left-requires g c = record {
   moment = c.requires.moment;
   spare = spare-next c.lines.line-index (length c.args.lines.now) (length c.lines.writer.begun) c.lines.rooms c.lines-test.true c.lines.invariant.spare;
   even = c.lines.invariant.noted.even;

@@ -14,7 +14,7 @@ abbrev pub invariant-lines : goal.invariant-lines
 invariant-lines g l =
     let mail = g.M.Maildir in
     let disk = g.D.Disk in
-    let place = place_at l.writer (mail.observed l.mail) (disk.observed l.disk) in
+    let place = place_at l.writer (mail.observed l.mail) (disk.observed l.disk) l.left in
     record {
       noted : HasNoted (take l.line-index l.lines) l.rooms place;
       spare : SpareFrom l.line-index (length l.lines) (length l.writer.begun) l.rooms;

@@ -7,7 +7,7 @@ returns g c =
     let mail = g.M.Maildir in
     let disk = g.D.Disk in
     let done = c.run_each in
-    let place = place_at done.new.writer (mail.observed done.new.mail) (disk.observed done.new.disk) in
+    let place = place_at done.new.writer (mail.observed done.new.mail) (disk.observed done.new.disk) done.result in
     record {
       ran = λ entry mail_is disk_is. has-run c.args.setting.now.moment c.args.writer.shown entry c.args.lines.now done.new.rooms place c.finish.result done.ensures.noted
           (done.ensures.ran entry mail_is disk_is) c.finish.ensures;
@@ -19,6 +19,6 @@ finish-requires g c =
     let mail = g.M.Maildir in
     let disk = g.D.Disk in
     let done = c.run_each in
-    let place = place_at done.new.writer (mail.observed done.new.mail) (disk.observed done.new.disk) in
+    let place = place_at done.new.writer (mail.observed done.new.mail) (disk.observed done.new.disk) done.result in
     let fit = steps-fit c.args.lines.now c.args.rooms done.new.rooms place c.requires.rooms done.ensures.noted done.ensures.steps in
     record { none = fit.0; room = fit.1 }

@@ -5,7 +5,7 @@ use Rattle.std.proofs.lemmas.Str.{is_utf8-from_IsUtf8, IsUtf8-from_is_utf8}
 use Rattle.nm_base.specs.declared.refusals.UsageKind.TheVariants as kinds
 use Rattle.nm_log.specs.ParsedLine.{parse_words, refused}
 use Rattle.nm_log.specs.Words.{words_of}
-use Rattle.nm_log.proofs.line_parser.parse_script.Goals as goal
+use Rattle.nm_log.proofs.line_parser.parse_text.Goals as goal
 
 is_false : (b : Bool) → (b ≡ true → ⊥) → b ≡ false
 is_false true h = absurd (h refl)
