@@ -3,10 +3,11 @@
 
     tools/checks.py          all of them; silent and 0 where all is well, else a line for each fault, and 1
 
-None proves anything. One runs the program that `rt ci` has built, over the mail of examples/."""
+None proves anything. One runs the program that `rt ci` has built, over a copy of the mail of examples/."""
 import functools
 import os
 import re
+import shutil
 import subprocess
 import sys
 import tempfile
@@ -169,8 +170,8 @@ def section(text, title):
 
 
 def blocks(text):
-    """The indented blocks of a text."""
-    found = re.findall(r"(?:(?<=\n\n)|\A)((?:    [^\n]*\n)+)", text)
+    """The indented blocks of a text; an empty line between two indented ones is of the block."""
+    found = re.findall(r"(?:(?<=\n\n)|\A)((?:    [^\n]*\n)(?:\n*    [^\n]*\n)*)", text)
     return ["".join(f"{line[4:]}\n" for line in it.splitlines()) for it in found]
 
 
@@ -190,7 +191,8 @@ def tour_is_true():
         yield "README.md: the tour was not run: crates/notmuch/out/notmuch is not built"
         return
     with tempfile.TemporaryDirectory() as folder:
-        os.symlink(f"{ROOT}/examples/mail", f"{folder}/mail")
+        # A copy, since `tag` renames files.
+        shutil.copytree(f"{ROOT}/examples/mail", f"{folder}/mail")
         for name, script, printed in zip(SCRIPTS, found[::2], found[1::2]):
             if read(f"{ROOT}/examples/{name}") != script:
                 yield f"README.md: a script of the tour is not examples/{name}"
@@ -205,9 +207,10 @@ def rows_of_documents_are_right():
     text = read(f"{ROOT}/docs/TESTING.md")
     programs = {"reading one mail": "rows_mail", "queries and dates": "rows_query", "what queries find": "rows_eval"}
     programs |= {"sessions": "rows_session", "the index": "rows_index", "names, flags, lines of tag changes and dumps": "rows_names"}
-    programs |= {"words of commands": "rows_command", "what searches are answered and how dumps are written": "rows_render"}
+    programs |= {"words of commands": "rows_command", "replies and on the lines of an input": "rows_render"}
     for title, crate in ((f"### Rows on {it}", program) for it, program in programs.items()):
         if f"\n{title}\n" not in text:
+            yield f"docs/TESTING.md: it has no section {title[4:]}"
             continue
         part = text.partition(title)[2].partition("\n### ")[0]
         table = "\n".join(re.findall(r"^```text\n(.*?)^```", part, re.M | re.S))
@@ -228,6 +231,23 @@ def readme_names_all_crates():
     rows = [cells(it)[0] for it in read(f"{ROOT}/README.md").splitlines() if it.startswith("| `")]
     named = [it for row in rows for it in quoted(row) if re.fullmatch(r"[a-z]\w*", it)]
     yield from (f"README.md: it has no row for {it}" for it in crates() if it not in named)
+
+
+def manual_has_what_help_has():
+    """The manual page has each command, option and value that the program's help names, and mandoc warns of nothing in it."""
+    page = read(f"{ROOT}/man/notmuch.1")
+    told = read(f"{ROOT}/crates/notmuch/src/pages.rt").partition("HELP")[2].partition('";')[0]
+    part = told.partition("\nCommands\n")[2].partition("\n\n")[0]
+    for it in re.findall(r"^  ([a-z]+)\b", part, re.M):
+        if f"\n.Ss {it}\n" not in page:
+            yield f"man/notmuch.1: it has no section on {it}"
+    for name, values in set(re.findall(r"--([a-z-]+)(?:=([a-z|-]+))?", told)):
+        lines = [it for it in page.splitlines() if re.search(rf"Fl -{name}(?![a-z-])", it)]
+        if not any(all(f"Cm {value}" in it for value in values.split("|") if value) for it in lines):
+            yield f"man/notmuch.1: it has no --{name}{f'={values}' if values else ''}"
+    if shutil.which("mandoc"):
+        said = subprocess.run(["mandoc", "-Tlint", "-Wwarning", f"{ROOT}/man/notmuch.1"], capture_output=True, check=False).stdout
+        yield from (f"man/notmuch.1: {it}" for it in said.decode(errors="replace").splitlines())
 
 
 def links_lead_somewhere():
@@ -292,6 +312,7 @@ CHECKS = [
     readme_names_all_crates,
     tour_is_true,
     rows_of_documents_are_right,
+    manual_has_what_help_has,
     links_lead_somewhere,
     named_files_are_there,
     messages_are_clean,

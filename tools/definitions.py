@@ -205,7 +205,7 @@ class Reach:
                     where = source.uses.get(it)
                     if where:
                         self.follow_type(TOP_CRATE if where == "crate" else where, it)
-                return source.path, re.findall(r"^    ensures (\w+)", found[1], re.M)
+                return source.path, re.findall(r"^    ensures (?:(\w+) )?\{\s*([^\s{}]+)", found[1], re.M)
         sys.exit(f"definitions: no call {TOP_CALL} in {TOP_CRATE}")
 
 
@@ -220,12 +220,19 @@ def told_of(file, name):
     return file.said[name] or (f"`{lines[0]}`" if is_short else "")
 
 
+def told_clauses(clauses):
+    """How the clauses of the top call are called: each by its name, or where it has none by the first word that it says."""
+    told = [f"`{name}`" if name else f"one without a name, which begins with `{word}`" for name, word in clauses]
+    if not told:
+        sys.exit(f"definitions: no clause of {TOP_CALL} was found")
+    return f"its clause is {told[0]}" if len(told) == 1 else f"its clauses are {', '.join(told[:-1])} and {told[-1]}"
+
+
 def page():
     """The text of docs/DEFINITIONS.md, and the definitions of more than a line that have no comment."""
     reach = Reach()
     path, clauses = reach.begin()
-    told = " and ".join(f"`{it}`" for it in clauses)
-    lines, bare = [HEAD, f"The call is `{TOP_CALL}` in `{path}`, and its clauses are {told}."], []
+    lines, bare = [HEAD, f"The call is `{TOP_CALL}` in `{path}`, and {told_clauses(clauses)}."], []
     rank = {it: at for at, it in enumerate(reversed(reach.crates))}
     # (dicts keep the order in which files were reached)
     for crate in sorted({it.split("/")[1] for it in reach.reached}, key=rank.get):
