@@ -2,7 +2,7 @@
 use Rattle.std.specs.Prelude.{ℕ, ◌+◌, Bool, ◌==◌, not, List, [], ◌∷◌, ◌++◌, length, filter, map, codes, if◌then◌else◌}
 use Rattle.std.specs.List.{flat_map}
 use Rattle.std.specs.Fmt.{decimal}
-use Rattle.nm_base.specs.Order.{has_text, in_order}
+use Rattle.nm_base.specs.Order.{has_text, sorted}
 use Rattle.nm_base.specs.declared.facts.Facts.{Facts}
 use Rattle.nm_base.specs.declared.refusals.Skip.{Skip}
 use Rattle.nm_base.specs.declared.refusals.Skip.TheVariants as skips
@@ -59,7 +59,7 @@ listed_in (given.Renamed from to answer ∷ more) = listed_in more
 
 -- the paths of the index that are not listed, by their bytes
 abbrev pub gone : List (List ℕ × Facts) → List (List ℕ) → List (List ℕ)
-gone files listed = filter (λ path. not (has_text listed path)) (in_order (paths_of files))
+gone files listed = filter (λ path. not (has_text listed path)) (sorted (paths_of files))
 
 -- the path, where the answer is that mail lies there
 abbrev pub mail_at : List ℕ → ReadAnswer → List (List ℕ)
@@ -91,7 +91,7 @@ skip_given (given.Renamed from to answer) = []
 
 -- the ids of the mails, each once
 abbrev pub ids_of : List (List ℕ × Facts) → List (List ℕ)
-ids_of files = in_order (map (λ file. file.1.id) files)
+ids_of files = sorted (map (λ file. file.1.id) files)
 
 -- the messages of the second that the first lacks
 abbrev pub only_in : List (List ℕ × Facts) → List (List ℕ × Facts) → List (List ℕ)

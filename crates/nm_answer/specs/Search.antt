@@ -3,7 +3,7 @@
 use Rattle.std.specs.Prelude.{ℕ, ℤ, pos, ◌-ℤ◌, Bool, List, [], ◌∷◌, ◌++◌, map, nat_eq, codes, if◌then◌else◌}
 use Rattle.std.specs.List.{filter_map, flat_map}
 use Rattle.hex.specs.Hex.{encode_lower}
-use Rattle.nm_base.specs.Order.{in_order}
+use Rattle.nm_base.specs.Order.{sorted}
 use Rattle.nm_base.specs.declared.asks.SearchAsk.{SearchAsk}
 use Rattle.nm_base.specs.declared.forms.Output.{Output}
 use Rattle.nm_base.specs.declared.forms.Output.TheVariants.{Summary, Threads, Messages, Files, Tags}
@@ -42,7 +42,7 @@ paths_of_all index ids = map (λ file. file.0) (files_of_all index ids)
 
 -- the tags of messages, in byte order
 abbrev pub tags_of_all : Base → List (List ℕ) → List (List ℕ)
-tags_of_all index ids = in_order (flat_map (tags_of index) ids)
+tags_of_all index ids = sorted (flat_map (tags_of index) ids)
 
 -- ---- printed
 

@@ -25,7 +25,3 @@ insert texts text = insert_key (slice_cmp nat_cmp) texts text
 -- the texts in order, each once
 abbrev pub sorted : List (List ℕ) → List (List ℕ)
 sorted texts = fold insert [] texts
-
--- the same
-abbrev pub in_order : List (List ℕ) → List (List ℕ)
-in_order texts = fold (insert_key (slice_cmp nat_cmp)) [] texts

@@ -5,7 +5,7 @@ use Rattle.std.specs.Cmp.Lexicographic.{pointwise, slice_cmp, texts_ties, nat_li
 use Rattle.std.specs.Ordering.{eq_by_cmp, nat_cmp}
 use Rattle.std.proofs.lemmas.List.{map-append}
 use Rattle.std.proofs.lemmas.Map.Keys.{IsDistinct-from_sorted, IsDistinct-head, IsDistinct-tail}
-use Rattle.nm_base.specs.Order.{has_text, in_order, same_text}
+use Rattle.nm_base.specs.Order.{has_text, same_text, sorted}
 use Rattle.nm_base.specs.declared.facts.Facts.{Facts}
 use Rattle.nm_base.specs.Limits.{IsDate}
 use Rattle.nm_commit.specs.Files.{FitChanges, changed, files_after, has_id, has_path, paths_of, without_path}
@@ -21,8 +21,8 @@ use Rattle.nm_plan.specs.NameTags.{commit_of, follow_names, live_of, named_tags,
 use Rattle.nm_plan.specs.Plan.{AreArrivals, add_of, all_arrivals, batch_commit, batch_commits, drop_of, gone_commit, gone_files, message_ids, new_commits}
 use Rattle.std.specs.List.Sorted.{IsStrictlySortedBy}
 use Rattle.nm_plan.proofs.FoldLemmas.{batch-files, new-files, next-files}
-use Rattle.nm_plan.proofs.OrderLemmas.{in_order-sorted}
-use Rattle.nm_plan.proofs.SetLemmas.{bytes_same, has_text-filter, has_text-in_order}
+use Rattle.nm_plan.proofs.OrderLemmas.{IsSorted-sorted}
+use Rattle.nm_plan.proofs.SetLemmas.{bytes_same, has_text-filter, has_text-sorted}
 
 -- no text stands twice
 abbrev pub IsApart : List (List ℕ) → Type 0
@@ -215,14 +215,14 @@ pub fit-new : (follow : (index : Base) (commits : List Commit) → (folded index
     → AreArrivals index.files (all_arrivals batches) → FitInTurn index (new_commits index listed batches)
 fit-new follow index listed batches are =
     let arrivals : List (List ℕ × Facts) = all_arrivals batches in
-    let paths : List (List ℕ) = in_order (paths_of index.files) in
+    let paths : List (List ℕ) = sorted (paths_of index.files) in
     let made : Base = folded index (batch_commits index batches) in
     let adds_fit : FitChanges index.files (map add_of arrivals) = fit-adds index.files arrivals (apart-once (paths_of arrivals) are.once) are.fresh are.dated in
     let there : (path : List ℕ) → has_text paths path ≡ true → has_path (index.files ++ arrivals) path ≡ true =
     λ path h. ap (λ (l : List (List ℕ)). has_text l path) (paths-append index.files arrivals) ∙ (has_text-append (paths_of index.files) (paths_of arrivals) path
-    ∙ ap (λ b. b || has_text (paths_of arrivals) path) (sym (has_text-in_order (paths_of index.files) path) ∙ h)) in
+    ∙ ap (λ b. b || has_text (paths_of arrivals) path) (sym (has_text-sorted (paths_of index.files) path) ∙ h)) in
     let drops_fit : FitChanges (index.files ++ arrivals) (map drop_of (gone index.files listed)) = fit-drops (index.files ++ arrivals) (gone index.files listed)
-    (apart-filter (λ path. not (has_text listed path)) paths (apart-rising paths (in_order-sorted (paths_of index.files))))
+    (apart-filter (λ path. not (has_text listed path)) paths (apart-rising paths (IsSorted-sorted (paths_of index.files))))
     (every-filter _ (λ path. not (has_text listed path)) paths (every-map (λ path. has_text paths path ≡ true) (λ path. has_path (index.files ++ arrivals) path ≡ true) paths there (every-in paths))) in
     fit-append index (batch_commits index batches) (gone_commit made index.files listed) (fit-batches follow index batches adds_fit)
     (fit-commit follow made (map drop_of (gone index.files listed)) (message_ids (gone_files index.files listed))
@@ -259,5 +259,5 @@ left-listed follow index listed batches path all =
     ∙ (has_text-filter (λ p. not (has_text gone_paths p)) (paths_of (index.files ++ arrivals)) path
     ∙ (ap (λ b. b && not (has_text gone_paths path)) (ap (λ (l : List (List ℕ)). has_text l path) (paths-append index.files arrivals) ∙ has_text-append (paths_of index.files) (paths_of arrivals) path)
     ∙ (ap (λ b. (has_path index.files path || has_path arrivals path) && not b)
-    (has_text-filter (λ p. not (has_text listed p)) (in_order (paths_of index.files)) path ∙ ap (λ b. b && not (has_text listed path)) (has_text-in_order (paths_of index.files) path))
+    (has_text-filter (λ p. not (has_text listed p)) (sorted (paths_of index.files)) path ∙ ap (λ b. b && not (has_text listed path)) (has_text-sorted (paths_of index.files) path))
     ∙ truth-table (has_text listed path) (has_path index.files path) (has_path arrivals path) (listed-arrival listed (paths_of arrivals) path all)))))

@@ -4,7 +4,7 @@ use Rattle.std.specs.List.{flat_map, list_any}
 use Rattle.std.proofs.lemmas.List.Folds.{list_any-append}
 use Rattle.nm_base.specs.Limits.{max_files}
 use Rattle.nm_base.specs.MailPath.{is_mail_path}
-use Rattle.nm_base.specs.Order.{has_text, in_order, insert, same_text}
+use Rattle.nm_base.specs.Order.{has_text, insert, same_text, sorted}
 use Rattle.nm_base.specs.declared.limit.Limit.{Limit}
 use Rattle.nm_base.specs.declared.limit.Limit.TheVariants as limits
 use Rattle.nm_maildir.specs.Tree.{Tree, listing_of}
@@ -191,7 +191,7 @@ through : (tree : Tree) (listed : List (List ℕ)) (result : Result Walk Limit) 
 through tree listed (Err limit) e = absurd (cc)
 through tree listed (Ok walk) e = (walk, refl, ap listed_or e)
 
-pub listed-are : (tree : Tree) (listed : List (List ℕ)) → scanned tree ≡ Ok listed → listed ≡ in_order (mail_of tree)
+pub listed-are : (tree : Tree) (listed : List (List ℕ)) → scanned tree ≡ Ok listed → listed ≡ sorted (mail_of tree)
 listed-are tree listed e =
     let t = through tree listed (walked_through tree) e in
     sym t.2 ∙ (all-counted (met_in 33 tree []) not_begun t.0 t.1).0

@@ -8,7 +8,7 @@ ghost use Rattle.nm_maildir.specs.Tree.{Tree};
 ghost use Rattle.nm_maildir.specs.declared.given.Given.{Given};
 ghost use Rattle.nm_plan.specs.Plan.{all_arrivals};
 ghost use Rattle.nm_scan.specs.Batches.{HasReadBatch, HasReadBatches, HasReadSome, ReadsBatches, StopsInBatch, full_answers, full_bytes, len_at_all};
-ghost use Rattle.nm_base.specs.Order.{has_text, in_order};
+ghost use Rattle.nm_base.specs.Order.{has_text, sorted};
 ghost use Rattle.nm_scan.specs.Bodies.{left_after};
 ghost use Rattle.nm_scan.specs.Walking.{scanned};
 ghost use Rattle.nm_scan.specs.Mail.{IsMailAt, mail_of};
@@ -56,7 +56,7 @@ pub fn a_batch_that_stops_is_unfinished()
 
 /// A walk that passes no limit lists what it met, each path once, and that is the mail of the tree: all of it, and nothing else.
 pub fn a_walk_lists_the_mail_of_the_tree()
-    ensures met { (tree : Tree) (listed : List (List ℕ)) → scanned tree ≡ Ok listed → listed ≡ in_order (mail_of tree) }
+    ensures met { (tree : Tree) (listed : List (List ℕ)) → scanned tree ≡ Ok listed → listed ≡ sorted (mail_of tree) }
     ensures mail { (tree : Tree) (path : List ℕ) → IsTrue (has_text (mail_of tree) path) → IsMailAt tree path }
     ensures all { (tree : Tree) (listed : List (List ℕ)) (path : List ℕ) → scanned tree ≡ Ok listed → IsMailAt tree path → IsTrue (has_text (mail_of tree) path) }
 {}

@@ -1,15 +1,12 @@
 -- Kept rows in the map that they are kept in: each stands at its bytes.
 use Rattle.std.specs.Prelude.{◌≡◌, ℕ, false, List, Contains}
-use Rattle.std.specs.Cmp.Lexicographic.{slice_cmp}
-use Rattle.std.specs.List.Sorted.{IsStrictlySortedBy}
 use Rattle.std.specs.Map.{keys_of}
-use Rattle.std.specs.Ordering.{nat_cmp}
-use Rattle.nm_base.specs.Order.{same_text}
+use Rattle.nm_base.specs.Order.{IsSorted, same_text}
 use Rattle.nm_base.specs.declared.facts.LinkRow.{LinkRow}
 use Rattle.nm_index.specs.Index.{row_bytes}
 
 pub record AreKept (kept : List (List ℕ × LinkRow)) : Type 0 where
-  pub sorted : IsStrictlySortedBy (slice_cmp nat_cmp) (keys_of kept)
+  pub sorted : IsSorted (keys_of kept)
   pub keyed : (entry : List ℕ × LinkRow) → Contains kept entry → entry.0 ≡ row_bytes entry.1
 
 -- none of the rows is of the mail

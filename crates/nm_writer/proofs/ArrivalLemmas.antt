@@ -4,14 +4,13 @@ use Rattle.std.specs.List.{AllByRecursion, flat_map, IsDistinct}
 use Rattle.std.specs.Cmp.Lexicographic.{slice_cmp, texts_ties, nat_list_eq_equiv}
 use Rattle.std.specs.Ordering.{eq_by_cmp, nat_cmp}
 use Rattle.std.proofs.lemmas.Map.Keys.{IsDistinct-cons, IsDistinct-from_sorted}
-use Rattle.nm_base.specs.Order.{has_text, same_text}
+use Rattle.nm_base.specs.Order.{IsSorted, has_text, same_text}
 use Rattle.nm_base.specs.declared.facts.Facts.{Facts}
 use Rattle.nm_base.specs.Limits.{IsDate}
 use Rattle.nm_commit.specs.Files.{has_path, paths_of}
 use Rattle.nm_maildir.specs.declared.given.ReadAnswer.{ReadAnswer}
 use Rattle.nm_maildir.specs.declared.given.ReadAnswer.TheVariants as answers
 use Rattle.nm_plan.specs.Plan.{AreArrivals, to_read}
-use Rattle.nm_scan.specs.Listing.{IsRising}
 use Rattle.nm_scan.specs.Reading.{mail_in}
 use Rattle.nm_writer.specs.Batch.{AreUnknown}
 
@@ -29,7 +28,7 @@ distinct-same [] h = tt
 distinct-same (text ∷ texts) h = (unequal text texts h.0, distinct-same texts h.1)
 
 -- rising texts stand once each
-distinct-rising : (texts : List (List ℕ)) → IsRising texts → IsDistinct same_text texts
+distinct-rising : (texts : List (List ℕ)) → IsSorted texts → IsDistinct same_text texts
 distinct-rising texts h = distinct-same texts (IsDistinct-from_sorted (slice_cmp nat_cmp) texts h)
 
 -- a filter keeps what holds of every text
@@ -101,7 +100,7 @@ not-true true h = sym h
 not-true false h = refl
 
 -- the listed paths that an index lacks are unknown to it, each once
-pub are-unknown : (files : List (List ℕ × Facts)) (listed : List (List ℕ)) → IsRising listed → AreUnknown files (to_read files listed)
+pub are-unknown : (files : List (List ℕ × Facts)) (listed : List (List ℕ)) → IsSorted listed → AreUnknown files (to_read files listed)
 are-unknown files listed rising = record {
   once = distinct-filter (λ path. not (has_path files path)) listed (distinct-rising listed rising);
   fresh = every-map (λ path. not (has_path files path) ≡ true) (λ path. has_path files path ≡ false) (to_read files listed) (λ path h. not-true (has_path files path) h) (every-kept (λ path. not (has_path files path)) listed);

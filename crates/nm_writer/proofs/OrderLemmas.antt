@@ -7,7 +7,7 @@ use Rattle.std.specs.List.Sorted.{IsStrictlySortedBy}
 use Rattle.std.specs.Ordering.{nat_cmp, ordering_reverse}
 use Rattle.std.specs.declared.cmp.Ordering.{Ordering}
 use Rattle.std.specs.declared.cmp.Ordering.TheVariants.{Less, Equal, Greater}
-use Rattle.nm_base.specs.Order.{in_order}
+use Rattle.nm_base.specs.Order.{sorted}
 
 pub turned : (x y : List ℕ) (answer : Ordering) → slice_cmp nat_cmp x y ≡ answer → slice_cmp nat_cmp y x ≡ ordering_reverse answer
 turned x y answer is = nat_list_cmp_total.antisymm y x ∙ ap ordering_reverse is
@@ -29,22 +29,22 @@ all_put P (x ∷ xs) key all here = all_put_by P x xs key (slice_cmp nat_cmp key
 sorted_put_by : (x : List ℕ) (xs : List (List ℕ)) (key : List ℕ) (answer : Ordering) → slice_cmp nat_cmp key x ≡ answer → IsStrictlySortedBy (slice_cmp nat_cmp) (x ∷ xs)
     → IsStrictlySortedBy (slice_cmp nat_cmp) (insert_key (slice_cmp nat_cmp) xs key) → IsStrictlySortedBy (slice_cmp nat_cmp) (insert_key (slice_cmp nat_cmp) (x ∷ xs) key)
 unfolding IsStrictlySortedBy
-sorted_put_by x xs key Less is sorted rest = rw is ((is, above_all key x xs sorted.0 is), sorted)
-sorted_put_by x xs key Equal is sorted rest = rw is sorted
-sorted_put_by x xs key Greater is sorted rest = rw is (all_put (λ y. slice_cmp nat_cmp x y ≡ Less) xs key sorted.0 (turned key x Greater is), rest)
+sorted_put_by x xs key Less is rising rest = rw is ((is, above_all key x xs rising.0 is), rising)
+sorted_put_by x xs key Equal is rising rest = rw is rising
+sorted_put_by x xs key Greater is rising rest = rw is (all_put (λ y. slice_cmp nat_cmp x y ≡ Less) xs key rising.0 (turned key x Greater is), rest)
 
 sorted_put : (xs : List (List ℕ)) (key : List ℕ) → IsStrictlySortedBy (slice_cmp nat_cmp) xs → IsStrictlySortedBy (slice_cmp nat_cmp) (insert_key (slice_cmp nat_cmp) xs key)
 unfolding IsStrictlySortedBy
-sorted_put [] key sorted = (tt, tt)
-sorted_put (x ∷ xs) key sorted = sorted_put_by x xs key (slice_cmp nat_cmp key x) refl sorted (sorted_put xs key sorted.1)
+sorted_put [] key rising = (tt, tt)
+sorted_put (x ∷ xs) key rising = sorted_put_by x xs key (slice_cmp nat_cmp key x) refl rising (sorted_put xs key rising.1)
 
 sorted_fold : (texts keys : List (List ℕ)) → IsStrictlySortedBy (slice_cmp nat_cmp) keys → IsStrictlySortedBy (slice_cmp nat_cmp) (fold (insert_key (slice_cmp nat_cmp)) keys texts)
-sorted_fold [] keys sorted = sorted
-sorted_fold (text ∷ texts) keys sorted = sorted_fold texts (insert_key (slice_cmp nat_cmp) keys text) (sorted_put keys text sorted)
+sorted_fold [] keys rising = rising
+sorted_fold (text ∷ texts) keys rising = sorted_fold texts (insert_key (slice_cmp nat_cmp) keys text) (sorted_put keys text rising)
 
 none_sorted : IsStrictlySortedBy (slice_cmp nat_cmp) []
 unfolding IsStrictlySortedBy
 none_sorted = tt
 
-pub in_order-sorted : (texts : List (List ℕ)) → IsStrictlySortedBy (slice_cmp nat_cmp) (in_order texts)
-in_order-sorted texts = sorted_fold texts [] none_sorted
+pub IsSorted-sorted : (texts : List (List ℕ)) → IsStrictlySortedBy (slice_cmp nat_cmp) (sorted texts)
+IsSorted-sorted texts = sorted_fold texts [] none_sorted

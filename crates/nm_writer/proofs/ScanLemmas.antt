@@ -9,7 +9,6 @@ use Rattle.nm_maildir.specs.Tree.{Tree}
 use Rattle.nm_maildir.specs.declared.given.Given.{Given}
 use Rattle.nm_maildir.specs.declared.given.Given.TheVariants as given
 use Rattle.nm_plan.specs.Plan.{gone_files, message_ids, to_read}
-use Rattle.nm_scan.specs.Listing.{IsRising}
 use Rattle.nm_scan.specs.Walking.{scanned}
 use Rattle.nm_scan.specs.Reading.{HasRead, NotesReads, answers_at, read_with}
 use Rattle.nm_scan.specs.Scanning.{AsksNew}
@@ -57,7 +56,7 @@ gone-end files listed paths start rest found sorted same begins none so_far =
 
 -- the listing and the first of the paths were asked
 pub asked_reading : (old mid new : ObservedMail) (files : List (List ℕ × Facts)) (before noted0 noted : List Given) (listed paths : List (List ℕ)) → mid.tree ≡ old.tree → mid.reads ≡ old.reads → before ≡ [] → noted0 ≡ before ++ given.Listed listed ∷ []
-    → IsRising listed → IfSome old.tree (λ t. scanned t ≡ Ok listed) → paths ≡ to_read files listed → HasRead mid new noted0 noted paths → AsksNew old new files noted
+    → IsSorted listed → IfSome old.tree (λ t. scanned t ≡ Ok listed) → paths ≡ to_read files listed → HasRead mid new noted0 noted paths → AsksNew old new files noted
 asked_reading old mid new files before noted0 noted listed paths same_tree same none is rising told paths_are h' =
     let h : HasRead mid new noted0 noted (to_read files listed) = subst (λ (l : List (List ℕ)). HasRead mid new noted0 noted l) paths_are h' in
     let reading = h.reading in
@@ -78,12 +77,12 @@ asked_reading old mid new files before noted0 noted listed paths same_tree same 
 
 -- the listing alone was asked
 pub asked_listing : (old mid : ObservedMail) (files : List (List ℕ × Facts)) (before noted : List Given) (listed : List (List ℕ)) → mid.tree ≡ old.tree → mid.reads ≡ old.reads → before ≡ [] → noted ≡ before ++ given.Listed listed ∷ []
-    → IsRising listed → IfSome old.tree (λ t. scanned t ≡ Ok listed) → AsksNew old mid files noted
+    → IsSorted listed → IfSome old.tree (λ t. scanned t ≡ Ok listed) → AsksNew old mid files noted
 asked_listing old mid files before noted listed same_tree same none is rising told =
     asked_reading old mid mid files before noted noted listed (to_read files listed) same_tree same none is rising told refl (read_none mid noted (to_read files listed))
 
 -- what was listed is compared with the index
-pub has_listed : (tree : Option Tree) (files : List (List ℕ × Facts)) (before noted : List Given) (listed unknown away ids : List (List ℕ)) → before ≡ [] → noted ≡ before ++ given.Listed listed ∷ [] → IsRising listed
+pub has_listed : (tree : Option Tree) (files : List (List ℕ × Facts)) (before noted : List Given) (listed unknown away ids : List (List ℕ)) → before ≡ [] → noted ≡ before ++ given.Listed listed ∷ [] → IsSorted listed
     → IfSome tree (λ t. scanned t ≡ Ok listed) → unknown ≡ to_read files listed → away ≡ gone files listed → ids ≡ message_ids (gone_files files listed)
     → HasListed tree files noted (record { unknown = unknown; gone = away; gone_ids = ids })
 has_listed tree files before noted listed unknown away ids none is rising told unknown_are gone_are ids_are = record {

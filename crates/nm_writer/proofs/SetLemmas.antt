@@ -6,7 +6,7 @@ use Rattle.std.specs.Cmp.Lexicographic.{pointwise, slice_cmp, texts_ties}
 use Rattle.std.specs.Cmp.Lexicographic as lexicographic
 use Rattle.std.specs.Ordering.{nat_cmp, match_ordering, is_eq}
 use Rattle.std.specs.BTreeSet.{insert_key}
-use Rattle.nm_base.specs.Order.{has_text, in_order, same_text}
+use Rattle.nm_base.specs.Order.{has_text, same_text, sorted}
 
 -- texts that compare alike are one
 same_by_cmp : (a b : List ℕ) → slice_cmp nat_cmp a b ≡ Equal → same_text a b ≡ true
@@ -57,8 +57,8 @@ has_text-fold (x ∷ xs) keys p =
     ∙ (ap (λ b. b || has_text xs p) (has_text-put keys x p) ∙ (or_assoc (same_text p x) (has_text keys p) (has_text xs p) ∙ or_swap (same_text p x) (has_text keys p) (has_text xs p)))
 
 -- a set has what the list has that it was made of
-pub has_text-in_order : (texts : List (List ℕ)) (p : List ℕ) → has_text (in_order texts) p ≡ has_text texts p
-has_text-in_order texts p = has_text-fold texts [] p
+pub has_text-sorted : (texts : List (List ℕ)) (p : List ℕ) → has_text (sorted texts) p ≡ has_text texts p
+has_text-sorted texts p = has_text-fold texts [] p
 
 -- of a filter
 kept_case : (keep : List ℕ → Bool) (x p : List ℕ) (xs : List (List ℕ)) (b c : Bool) → keep x ≡ b → same_text p x ≡ c → has_text (filter keep xs) p ≡ (has_text xs p && keep p)

@@ -1,11 +1,9 @@
 //! What a `new` reports, from the snapshots before and after it and from what was noted.
 
 ghost use Rattle.std.specs.Prelude.{◌≡◌, ◌++◌, List, IfOk, OnOk, fold, length, if◌then◌else◌};
-ghost use Rattle.std.specs.BTreeSet.{insert_key};
-ghost use Rattle.std.specs.Cmp.Lexicographic.{slice_cmp};
 ghost use Rattle.std.specs.List.{flat_map};
-ghost use Rattle.std.specs.Ordering.{nat_cmp};
 ghost use Rattle.nm_answer.specs.NewText.{mail_given, only_in, skip_at, skip_given};
+ghost use Rattle.nm_base.specs.Order.{insert};
 ghost use Rattle.nm_commit.specs.Files.{has_id};
 ghost use Rattle.nm_commit.specs.declared.change.Commit.{Commit};
 ghost use Rattle.nm_index.specs.Index.{folded};
@@ -97,7 +95,7 @@ fn add_if_lacking(
     id: &MessageId,
     ids: &mut TextSet<MessageId>,
 ) -> Result<(), NoMemory>
-    ensures { OnOk result (ids.new ≡ fold (insert_key (slice_cmp nat_cmp)) ids.old (lacking first.now.files id.now)) }
+    ensures { OnOk result (ids.new ≡ fold insert ids.old (lacking first.now.files id.now)) }
 {
     if has_message(first, id) {
         return Ok(());

@@ -2,8 +2,9 @@
 
 ghost use Rattle.std.specs.Prelude.{◌≡◌, ◌∷◌, ◌++◌, [], Err, IfErr, IfOk, OnErr, OnOk};
 ghost use Rattle.nm_answer.specs.NewText.{gone};
+ghost use Rattle.nm_base.specs.Order.{IsSorted};
 ghost use Rattle.nm_plan.specs.Plan.{gone_files, message_ids, to_read};
-ghost use Rattle.nm_scan.specs.Listing.{IsRising, PassesListing};
+ghost use Rattle.nm_scan.specs.Listing.{PassesListing};
 ghost use Rattle.nm_scan.specs.Walking.{is_scan_fault};
 ghost use Rattle.nm_base.specs.declared.limit.Limit.{Limit};
 ghost use Rattle.nm_faults.specs.Faults.{HasCauseOf};
@@ -62,7 +63,7 @@ fn note_listed(
     noted: &mut Many<Given>,
 ) -> Result<(), NoMemory>
     ensures ok { OnOk result (noted.new ≡ noted.old ++ Given.Listed listed.now ∷ []) }
-    ensures rising { OnOk result (IsRising listed.now) }
+    ensures rising { OnOk result (IsSorted listed.now) }
     ensures err { OnErr result (noted.new ≡ noted.old) }
 {
     let paths = listed.to_list(alloc)?;
