@@ -1,13 +1,14 @@
 -- What a search tells of a thread: its first message that matches, how many there are, who wrote them, and their tags.
-use Rattle.std.specs.Prelude.{ℕ, zero, suc, ℤ, pos, Bool, ◌||◌, ◌==◌, ◌-ℤ◌, not, nat_lt, int_lt, List, [], ◌∷◌, ◌++◌, length, filter, map, take, drop, codes, Some, if◌then◌else◌}
+use Rattle.std.specs.Prelude.{ℕ, zero, suc, ℤ, pos, Bool, ◌||◌, ◌==◌, not, nat_lt, int_lt, List, [], ◌∷◌, ◌++◌, length, filter, map, take, drop, codes, Some, if◌then◌else◌}
 use Rattle.std.specs.Fmt.{decimal}
 use Rattle.std.specs.List.{flat_map}
+use Rattle.nm_base.specs.Limits.{min_date}
 use Rattle.nm_base.specs.Order.{has_text, same_text}
 use Rattle.nm_base.specs.declared.asks.SearchAsk.{SearchAsk}
 use Rattle.nm_base.specs.declared.facts.Facts.{Facts}
 use Rattle.nm_base.specs.declared.facts.Mailbox.{Mailbox}
 use Rattle.nm_dates.specs.Calendar.{date_of, date_text}
-use Rattle.nm_dates.specs.Seconds.{day_of}
+use Rattle.nm_dates.specs.Seconds.{day_of, last_shown_second}
 use Rattle.nm_index.specs.Index.{live_ids, rows_of}
 use Rattle.nm_index.specs.declared.base.Base.{Base}
 use Rattle.nm_text.specs.Case.{same_ignoring_case}
@@ -46,7 +47,7 @@ shown text = map shown_byte text
 
 -- the day of a date, as YYYY-MM-DD; a date that no mail has, which lies before the year 1 or after 9999, as the nearest day
 abbrev pub in_range : ℤ → ℤ
-in_range date = if int_lt date (pos 0 -ℤ pos 62135596800) then pos 0 -ℤ pos 62135596800 else if int_lt (pos 253402300799) date then pos 253402300799 else date
+in_range date = if int_lt date min_date then min_date else if int_lt last_shown_second date then last_shown_second else date
 
 abbrev pub shown_day : ℤ → List ℕ
 shown_day date = date_text (date_of (day_of (in_range date)))

@@ -1,6 +1,7 @@
 -- Paths below the mail folder: 1 to 4,096 bytes, components with one `/` between them.
 use Rattle.std.specs.Prelude.{ℕ, Bool, true, false, ◌&&◌, ◌==◌, not, List, [], ◌∷◌}
 use Rattle.std.specs.List.{list_all, slice_split}
+use Rattle.nm_base.specs.Limits.{max_path_bytes}
 use Rattle.nm_base.specs.Bounds.{fits_length}
 
 -- what stands between the `/`
@@ -22,4 +23,4 @@ is_path_text text = has_no_zero text && list_all is_component (components_of tex
 
 -- a path, of the right length too
 abbrev pub is_mail_path : List ℕ → Bool
-is_mail_path text = fits_length 4096 text && is_path_text text
+is_mail_path text = fits_length max_path_bytes text && is_path_text text

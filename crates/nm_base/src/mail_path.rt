@@ -2,6 +2,7 @@
 
 ghost use Rattle.std.specs.Prelude.{◌≡◌, ◌==◌, IsTrue};
 ghost use Rattle.std.specs.List.{list_all, slice_split};
+ghost use Rattle.nm_base.specs.Limits.{max_path_bytes};
 ghost use Rattle.nm_base.specs.Bounds.{checked};
 ghost use Rattle.nm_base.specs.MailPath.{components_of, has_no_zero, is_component, is_mail_path, is_path_text};
 
@@ -31,7 +32,7 @@ impl Model for MailPath {
 
 impl MailPath {
     pub fn new(text: Text) -> Result<MailPath, BadValue>
-        ensures { result ≡ checked 4096 is_path_text text }
+        ensures { result ≡ checked max_path_bytes is_path_text text }
     {
         if !fits(text.as_bytes(), 4096) {
             return Err(BadValue::Length);

@@ -9,6 +9,7 @@ use Rattle.std.specs.Str.Parse.{ParsesUnsigned, digits_value}
 use Rattle.std.proofs.lemmas.Bool.Decides.{nat_tests}
 use Rattle.std.proofs.lemmas.Fmt.{decimal_nonempty, digits_decimal, digits_value-decimal, length-decimal-le}
 use Rattle.std.proofs.lemmas.Str.Parse.{IsNumeralModel, numerals_by_value, parse_digits}
+use Rattle.nm_base.specs.Limits.{max_date}
 use Rattle.nm_command.specs.Numbers.{are_digits, moment_in, number_in, workers_in}
 
 pub own : IsNumeralModel (λ ds. list_all is_ascii_digit ds ≡ true) (digits_value 10)
@@ -30,7 +31,7 @@ beyond width max text error (Err other) is h digits = λ small.
 number_beyond : (n : ℕ) → (n < 2 ^ 32 → ⊥) → nat_le n 4294967295 ≡ false
 number_beyond n h = grind (arith, nat_tests)
 
-moment_beyond : (n : ℕ) → (n < 2 ^ 64 → ⊥) → nat_le n 253000000000 ≡ false
+moment_beyond : (n : ℕ) → (n < 2 ^ 64 → ⊥) → nat_le n max_date ≡ false
 moment_beyond n h = grind (arith, nat_tests)
 
 pub number-refused : {E : Type 0} (text : List ℕ) (error : E) (r : Result ℕ E) → r ≡ Err error → ParsesUnsigned 32 10 text r → are_digits 10 text ≡ true → None ≡ number_in text
@@ -41,7 +42,7 @@ number-refused text error r is h digits =
 pub moment-refused : {E : Type 0} (text : List ℕ) (error : E) (r : Result ℕ E) → r ≡ Err error → ParsesUnsigned 64 10 text r → are_digits 12 text ≡ true → None ≡ moment_in text
 moment-refused text error r is h digits =
     ap (λ v. cond v (Some (pos (digits_value 10 text))) None) (sym (moment_beyond (digits_value 10 text) (beyond 64 12 text error r is h digits)))
-    ∙ ap (λ v. cond (v && nat_le (digits_value 10 text) 253000000000) (Some (pos (digits_value 10 text))) None) (sym digits)
+    ∙ ap (λ v. cond (v && nat_le (digits_value 10 text) max_date) (Some (pos (digits_value 10 text))) None) (sym digits)
 
 -- a number in decimal digits is read back
 are-digits : (max : ℕ) (text : List ℕ) → 0 < length text → length text ≤ max → list_all is_ascii_digit text ≡ true → are_digits max text ≡ true
@@ -53,7 +54,7 @@ digits-back max n one short few = are-digits max (decimal n) (decimal_nonempty n
 number_small : (n : ℕ) → nat_le n 4294967295 ≡ true → n < 10 ^ 10
 number_small n h = grind (arith, nat_tests)
 
-moment_small : (n : ℕ) → nat_le n 253000000000 ≡ true → n < 10 ^ 12
+moment_small : (n : ℕ) → nat_le n max_date ≡ true → n < 10 ^ 12
 moment_small n h = grind (arith, nat_tests)
 
 pub number-back : (n : ℕ) → nat_le n 4294967295 ≡ true → number_in (decimal n) ≡ Some n
@@ -64,12 +65,12 @@ number-back n h =
     ∙ ap (λ m. cond (nat_le m 4294967295) (Some m) None) (digits_value-decimal own n few)
     ∙ ap (λ v. cond v (Some n) None) h
 
-pub moment-back : (n : ℕ) → nat_le n 253000000000 ≡ true → moment_in (decimal n) ≡ Some (pos n)
+pub moment-back : (n : ℕ) → nat_le n max_date ≡ true → moment_in (decimal n) ≡ Some (pos n)
 moment-back n h =
     let below = moment_small n h in
     let few : n < 2 ^ 64 = omega (arith, below) in
-    ap (λ v. cond (v && nat_le (digits_value 10 (decimal n)) 253000000000) (Some (pos (digits_value 10 (decimal n)))) None) (digits-back 12 n (omega arith) below few)
-    ∙ ap (λ m. cond (nat_le m 253000000000) (Some (pos m)) None) (digits_value-decimal own n few)
+    ap (λ v. cond (v && nat_le (digits_value 10 (decimal n)) max_date) (Some (pos (digits_value 10 (decimal n)))) None) (digits-back 12 n (omega arith) below few)
+    ∙ ap (λ m. cond (nat_le m max_date) (Some (pos m)) None) (digits_value-decimal own n few)
     ∙ ap (λ v. cond v (Some (pos n)) None) h
 
 in_workers : (n : ℕ) → nat_le n 16 ≡ true → nat_le n 4294967295 ≡ true

@@ -4,6 +4,7 @@ use Rattle.std.specs.Char.{is_ascii_digit}
 use Rattle.std.specs.List.{list_all}
 use Rattle.std.specs.Option.{option_and_then}
 use Rattle.std.specs.Str.Parse.{digits_value}
+use Rattle.nm_base.specs.Limits.{max_date}
 
 -- 1 to `max` decimal digits and nothing else
 abbrev pub are_digits : ℕ → List ℕ → Bool
@@ -23,7 +24,7 @@ workers_in text = option_and_then (λ number. if nat_le 1 number && nat_le numbe
 
 -- 1 to 12 digits that say at most 253,000,000,000
 abbrev pub is_moment : List ℕ → Bool
-is_moment text = are_digits 12 text && nat_le (digits_value 10 text) 253000000000
+is_moment text = are_digits 12 text && nat_le (digits_value 10 text) max_date
 
 -- the second that the text says, where it says one
 abbrev pub moment_in : List ℕ → Option ℤ

@@ -2,6 +2,7 @@
 use Rattle.std.specs.Prelude.{ℕ, ℤ, pos, negsuc, Bool, true, false, ◌&&◌, nat_eq, nat_le, nat_lt, List, [], ◌∷◌, ◌++◌, length, map, Option, Some, None, codes, if◌then◌else◌}
 use Rattle.std.specs.Fmt.{decimal}
 use Rattle.std.specs.List.{list_all}
+use Rattle.nm_base.specs.Limits.{max_date}
 use Rattle.nm_base.specs.Tag.{is_tag}
 use Rattle.nm_base.specs.declared.forms.DumpForm.{DumpForm}
 use Rattle.nm_base.specs.declared.forms.DumpForm.TheVariants.{BatchTag, Sup}
@@ -146,7 +147,7 @@ leading_spelled leading =
 -- a moment is a second from 0 to 253,000,000,000, where one is told
 abbrev pub moment_fits : Option ℤ → Bool
 moment_fits None = true
-moment_fits (Some (pos second)) = nat_le second 253000000000
+moment_fits (Some (pos second)) = nat_le second max_date
 moment_fits (Some (negsuc second)) = false
 
 -- all these options can say this: folders have names, and there are 1 to 16 workers

@@ -3,6 +3,7 @@
 ghost use Rattle.std.specs.Prelude.{◌≡◌, ◌⊎◌, ◌≤◌, ◌≤ℤ◌, IfOk, IfSome, MatchOption, MatchResult, None, Ok, Err, Some, codes, length, map, pos};
 ghost use Rattle.std.specs.List.{list_all, take_while};
 ghost use Rattle.std.specs.Option.{option_and_then};
+ghost use Rattle.nm_base.specs.Limits.{max_date};
 ghost use Rattle.nm_command.specs.Leading.{are_distinct, are_options, cut_option, is_option, leading_of, may_be};
 ghost use Rattle.nm_command.specs.Numbers.{moment_in, workers_in};
 ghost use Rattle.nm_command.specs.Options.{begins_with_dashes};
@@ -70,7 +71,7 @@ pub fn head(alloc: Global, words: &[Text]) -> Result<Leading, HeadError>
     // The command begins within the words.
     ensures rest { IfOk result (λ leading. leading.rest ≤ length words.now) }
     ensures workers { IfOk result (λ leading. (1 ≤ leading.workers) × (leading.workers ≤ 16)) }
-    ensures moment { IfOk result (λ leading. IfSome leading.moment (λ second. (pos 0 ≤ℤ second) × (second ≤ℤ pos 253000000000))) }
+    ensures moment { IfOk result (λ leading. IfSome leading.moment (λ second. (pos 0 ≤ℤ second) × (second ≤ℤ pos max_date))) }
 {
     let options = leading_words(words);
     if !are_options(options) {
@@ -204,7 +205,7 @@ fn workers_given(words: &[Text]) -> u32
 
 fn moment_given(words: &[Text]) -> Option<i64>
     ensures value { result ≡ option_and_then moment_in (meaning_of (codes "--moment") (map cut_option words.now)) }
-    ensures within { IfSome result (λ second. (pos 0 ≤ℤ second) × (second ≤ℤ pos 253000000000)) }
+    ensures within { IfSome result (λ second. (pos 0 ≤ℤ second) × (second ≤ℤ pos max_date)) }
 {
     match value_given(words, "--moment") {
         Some(value) => moment(value),

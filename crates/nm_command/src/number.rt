@@ -3,6 +3,7 @@
 ghost use Rattle.std.specs.Prelude.{◌≡◌, ◌&&◌, nat_le, pos, Some, None, if◌then◌else◌};
 ghost use Rattle.std.specs.Char.{is_ascii_digit};
 ghost use Rattle.std.specs.List.{list_all};
+ghost use Rattle.nm_base.specs.Limits.{max_date};
 ghost use Rattle.nm_command.specs.Numbers.{are_digits, moment_in, number_in, workers_in};
 
 const MAX_DIGITS: usize = 10;
@@ -59,7 +60,7 @@ pub(crate) fn moment(text: &str) -> Option<i64>
 }
 
 fn if_moment(second: u64) -> Option<i64>
-    ensures { result ≡ (if nat_le second 253000000000 then Some (pos second) else None) }
+    ensures { result ≡ (if nat_le second max_date then Some (pos second) else None) }
 {
     if second <= MAX_MOMENT {
         return Some(second as i64);

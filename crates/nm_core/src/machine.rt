@@ -1,6 +1,7 @@
 //! The machine's state and its steps; whoever steps it learns whether the step is lawful.
 
 ghost use Rattle.std.specs.Prelude.{◌≡◌, ◌↔◌, ◌≤◌, ◌≤ℤ◌, ◌++◌, [], ◌∷◌, length, pos, replicate, true, IfOk, IsTrue, OnErr, OnOk};
+ghost use Rattle.nm_base.specs.Limits.{max_date};
 ghost use Rattle.nm_commit.specs.Files.{Fits};
 ghost use Rattle.nm_core.specs.Core.{Acknowledges, Answers};
 ghost use Rattle.nm_dates.specs.Seconds.{IsMoment};
@@ -105,7 +106,7 @@ impl Core {
     /// which a reply is given. A commit for which an index has no more numbers finds no memory.
     pub fn step(&mut self, step: &Step, moment: i64) -> Result<(), CoreError>
         requires from_1970 { pos 0 ≤ℤ moment }
-        requires moment { moment ≤ℤ pos 253000000000 }
+        requires moment { moment ≤ℤ pos max_date }
         ensures answer { Answers moment self.old step.now result self.new }
         ensures order { InOrder self.new.met self.new.machine }
     {

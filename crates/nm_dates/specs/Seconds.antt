@@ -1,6 +1,7 @@
 -- Which seconds an end stands for, counted from 1970-01-01 00:00:00 UTC.
 use Rattle.std.specs.Prelude.{ℕ, ◌*◌, Bool, true, ◌&&◌, nat_le, ℤ, pos, negsuc, ◌+ℤ◌, ◌-ℤ◌, ◌*ℤ◌, ◌≤ℤ◌, int_le, int_lt, if◌then◌else◌}
 use Rattle.std.specs.Int.{int_div_euclid}
+use Rattle.nm_base.specs.Limits.{max_date, min_date}
 use Rattle.jiff_core.specs.Calendar.{days_in_month}
 use Rattle.nm_dates.specs.Calendar.{date_of, day_number, first_day, is_date, is_month, is_year, months_before}
 use Rattle.nm_dates.specs.declared.days.Civil.{Civil}
@@ -10,16 +11,17 @@ use Rattle.nm_dates.specs.declared.end.End.{End}
 use Rattle.nm_dates.specs.declared.end.End.TheVariants.{Second, Year, Month, Day, Today, Yesterday, Ago}
 use Rattle.nm_dates.specs.declared.seconds.Seconds.{Seconds}
 
-abbrev pub last_moment : ℤ
-last_moment = pos 253000000000
-
 -- a moment at which something may be asked
 abbrev pub IsMoment : ℤ → Type 0
-IsMoment moment = (pos 0 ≤ℤ moment) × (moment ≤ℤ last_moment)
+IsMoment moment = (pos 0 ≤ℤ moment) × (moment ≤ℤ pos max_date)
+
+-- the last second of the year 9999
+abbrev pub last_shown_second : ℤ
+last_shown_second = pos 253402300799
 
 -- a second from 0001-01-01 to 9999-12-31
 abbrev pub IsShownSecond : ℤ → Type 0
-IsShownSecond second = (negsuc 62135596799 ≤ℤ second) × (second ≤ℤ pos 253402300799)
+IsShownSecond second = (min_date ≤ℤ second) × (second ≤ℤ last_shown_second)
 
 -- the day that holds a second
 abbrev pub day_of : ℤ → ℤ

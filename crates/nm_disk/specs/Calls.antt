@@ -1,7 +1,8 @@
 -- What each call of a disk makes of what is observed of it.
 use Rattle.std.specs.Prelude.{◌≡◌, ◌⊎◌, ℕ, List, [], ◌∷◌, length, Option, None, Some, Result, MatchResult}
+use Rattle.nm_base.specs.Limits.{one_more}
 use Rattle.nm_base.specs.declared.memory.Failed.{Failed}
-use Rattle.nm_faults.specs.Faults.{HasCause, one_more}
+use Rattle.nm_faults.specs.Faults.{HasCause}
 use Rattle.nm_disk.specs.declared.state.DiskState.{DiskState}
 use Rattle.nm_disk.specs.declared.state.Range.{Range}
 use Rattle.nm_disk.specs.declared.disk.FileNo.{FileNo}

@@ -1,9 +1,8 @@
 -- A disk in memory: its moments are what its calls, one after the other, made of the files that it began with.
 use Rattle.std.specs.Prelude.{◌≡◌, ◌⊎◌, ℕ, ◌+◌, ◌==◌, min, Bool, true, false, ◌&&◌, ◌||◌, nat_lt, List, [], ◌∷◌, ◌++◌, length, take, replicate, fold, Option, None, Some, Result, MatchResult, MatchBool, if◌then◌else◌}
-use Rattle.nm_base.specs.Limits.{max_count}
+use Rattle.nm_base.specs.Limits.{max_count, one_more}
 use Rattle.nm_base.specs.declared.memory.Failed.{Failed}
 use Rattle.nm_faults.specs.Calls.{CallCounts, counted, is_next_listed}
-use Rattle.nm_faults.specs.Faults.{one_more}
 use Rattle.nm_disk.specs.declared.disk.FileNo.{FileNo}
 use Rattle.nm_disk.specs.declared.state.Range.{Range}
 use Rattle.nm_disk.specs.declared.stopping.Pick.{Pick}

@@ -6,7 +6,7 @@ ghost use Rattle.nm_extract.specs.Date.{date_of, kept_second, second_of};
 
 use jiff::Timestamp;
 use jiff::fmt::rfc2822::DateTimeParser;
-use nm_base::NoMemory;
+use nm_base::{NoMemory, is_date};
 use nm_header::{HeaderList, plain};
 use nm_text::trimmed;
 use std::alloc::Global;
@@ -34,15 +34,12 @@ fn second_of(alloc: Global, text: &str) -> Result<i64, NoMemory>
     }
 }
 
-/// The second, where it is from the year 1 up to the last one that is taken; else 0.
+/// The second, where it is a date; else 0.
 fn kept_second(second: i64) -> i64
     ensures value { result ≡ kept_second second }
     ensures range { IsDate result }
 {
-    if second < -62_135_596_800 {
-        return 0;
-    }
-    if second > 253_000_000_000 {
+    if !is_date(second) {
         return 0;
     }
     second

@@ -1,7 +1,7 @@
 -- The calls of an object in memory, which fails at listed ones. Calls are counted from 1.
 use Rattle.std.specs.Prelude.{ℕ, Bool, ◌==◌, List, if◌then◌else◌}
 use Rattle.std.specs.List.{list_any}
-use Rattle.nm_faults.specs.Faults.{one_more}
+use Rattle.nm_base.specs.Limits.{one_more}
 
 -- the calls that are to fail, how many were made, and how many of these failed
 pub record CallCounts : Type 0 where

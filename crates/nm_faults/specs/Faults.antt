@@ -1,11 +1,7 @@
 -- Faults of the outside: each object counts its own, in a number below 2 ^ 64 that never falls.
-use Rattle.std.specs.Prelude.{◌≡◌, ℕ, ◌+◌, ◌<◌, ◌≤◌, Bool, true, false, min, Result, MatchResult}
+use Rattle.std.specs.Prelude.{◌≡◌, ℕ, ◌<◌, ◌≤◌, Bool, true, false, Result, MatchResult}
 use Rattle.nm_base.specs.Limits.{max_count}
 use Rattle.nm_base.specs.declared.memory.Failed.{Failed}
-
--- one more, in a count that stops at its type's end
-abbrev pub one_more : ℕ → ℕ
-one_more count = min (count + 1) max_count
 
 -- The count rose. One that stands at its type's end may count as risen.
 abbrev pub HasRisen : ℕ → ℕ → Type 0

@@ -1,7 +1,8 @@
 //! A count of faults; every object of the outside has one.
 
 ghost use Rattle.std.specs.Prelude.{◌≡◌};
-ghost use Rattle.nm_faults.specs.Faults.{HasRisen, one_more};
+ghost use Rattle.nm_base.specs.Limits.{one_more};
+ghost use Rattle.nm_faults.specs.Faults.{HasRisen};
 
 use std::marker::Model;
 

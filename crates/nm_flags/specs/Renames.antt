@@ -1,6 +1,7 @@
 -- The files that have to be renamed for the tags of their message.
 use Rattle.std.specs.Prelude.{ℕ, false, not, nat_lt, List, [], ◌∷◌, length, Option, None, Some, codes, if◌then◌else◌}
 use Rattle.std.specs.List.{flat_map}
+use Rattle.nm_base.specs.Limits.{max_path_bytes}
 use Rattle.nm_base.specs.Order.{same_text}
 use Rattle.nm_base.specs.Tags.{has_tag}
 use Rattle.nm_name.specs.Renaming.{renamed}
@@ -20,7 +21,7 @@ asked_flags tags = record {
 
 -- the new path, unless it would have more than 4,096 bytes
 abbrev pub target : List ℕ → Option (List ℕ)
-target path = (if nat_lt 4096 (length path) then None else Some path)
+target path = (if nat_lt max_path_bytes (length path) then None else Some path)
 
 -- a file whose path isn't the one that carries the flags is to be renamed to that
 abbrev pub rename_to : List ℕ → List ℕ → List Rename

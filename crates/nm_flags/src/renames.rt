@@ -1,6 +1,7 @@
 //! The files that have to be renamed for the tags of their message; `tag` renames them.
 
 ghost use Rattle.std.specs.Prelude.{◌≡◌, ◌++◌, ◌<◌, length, true, IfOk, OnOk};
+ghost use Rattle.nm_base.specs.Limits.{max_path_bytes};
 ghost use Rattle.nm_base.specs.Tag.{is_tag};
 ghost use Rattle.nm_base.specs.Tags.{has_tag};
 ghost use Rattle.nm_name.specs.Renaming.{renamed};
@@ -85,7 +86,7 @@ fn add_target(plan: &mut Many<Rename>, path: &MailPath, to: MailPath) -> Result<
 
 /// A file whose new path would be too long; that is no path, so it isn't the file's own.
 fn add_long(plan: &mut Many<Rename>, path: &MailPath, flags: Flags) -> Result<(), NoMemory>
-    requires { 4096 < length (renamed path.now flags) }
+    requires { max_path_bytes < length (renamed path.now flags) }
     ensures { OnOk result (plan.new ≡ plan.old ++ rename_to path.now (renamed path.now flags)) }
 {
     let _ = flags;

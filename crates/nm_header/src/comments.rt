@@ -1,6 +1,7 @@
 //! How far a comment, a quoted text or a pair goes, for `plain`.
 
 ghost use Rattle.std.specs.Prelude.{◌≡◌, ◌∷◌, ◌<◌, ◌≤◌, IsUtf8, length, take, drop, true};
+ghost use Rattle.nm_base.specs.Limits.{max_count};
 ghost use Rattle.nm_header.specs.Comments.{comment_len, depth_after, is_comment, lexemes_of};
 
 use nm_text::{is_special, pair_len, quoted_len};
@@ -45,7 +46,7 @@ fn comment_len(text: &[u8]) -> usize
 /// How many comments are open after the pair.
 fn depth_after(depth: usize, pair: &[u8]) -> usize
     requires low { 0 < depth }
-    requires high { depth < 18446744073709551615 }
+    requires high { depth < max_count }
     ensures { result ≡ depth_after depth pair.now }
 {
     if is_special(b')', pair) {

@@ -1,8 +1,8 @@
 //! A sink in memory, which tells what it took; rows and tests read it.
 
 ghost use Rattle.std.specs.Prelude.{◌≡◌, [], ◌&&◌, not, is_err, IsErr, IsOk, IsTrue, OnErr, if◌then◌else◌};
+ghost use Rattle.nm_base.specs.Limits.{one_more};
 ghost use Rattle.nm_faults.specs.Calls.{counted, is_next_listed};
-ghost use Rattle.nm_faults.specs.Faults.{one_more};
 ghost use Rattle.nm_io.specs.Memory.{observed_sink};
 ghost use Rattle.nm_io.specs.Observed.{Flushes, Puts};
 

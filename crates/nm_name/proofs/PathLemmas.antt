@@ -10,6 +10,7 @@ use Rattle.nm_base.specs.MailPath.{components_of, has_no_zero, is_component, is_
 use Rattle.std.specs.Prelude.{IsTrue, if◌then◌else◌}
 use Rattle.std.specs.Char.{is_ascii_alphabetic}
 use Rattle.std.proofs.lemmas.Bool.{eqb-true, false_from_ne_true, false≢true, not_from_false}
+use Rattle.nm_base.specs.Limits.{max_path_bytes}
 use Rattle.nm_base.specs.Bounds.{fits_length}
 use Rattle.nm_base.specs.MailPath.{is_mail_path}
 use Rattle.nm_name.specs.Cuts.{IsCutLast, cut_last, holds}
@@ -142,7 +143,7 @@ stem_parts name (Some cut) joins zero slash = (
 -- the path of a mail, cut before its name, and the letters that it is to carry
 module _ (path folder name letters : List ℕ) (is : IsTrue (is_mail_path path)) (cut : IsCutLast 47 path (folder, name)) (are : AreLetters letters) where
   whole : is_path_text (folder ++ 47 ∷ name) ≡ true
-  whole = sym (ap is_path_text cut.0) ∙ (and_parts (fits_length 4096 path) (is_path_text path) is).1
+  whole = sym (ap is_path_text cut.0) ∙ (and_parts (fits_length max_path_bytes path) (is_path_text path) is).1
 
   stem : (has_no_zero (stem_of name) ≡ true) × (holds 47 (stem_of name) ≡ false)
   stem = stem_parts name (cut_last 58 name) (cut_joins 58 name) (back_zero folder name whole) cut.1

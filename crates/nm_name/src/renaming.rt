@@ -1,6 +1,7 @@
 //! The path that carries the flags which are asked for; `tag` renames files so.
 
 ghost use Rattle.std.specs.Prelude.{◌≡◌, ◌++◌, ◌<◌, ◌∷◌, [], filter, true, if◌then◌else◌, IfErr, IfOk, OnOk, codes, length, string_bytes};
+ghost use Rattle.nm_base.specs.Limits.{max_path_bytes};
 ghost use Rattle.nm_base.specs.MailPath.{is_path_text};
 ghost use Rattle.nm_name.specs.Cuts.{IsCutLast, holds};
 ghost use Rattle.nm_name.specs.Names.{letters_of, name_of};
@@ -50,7 +51,7 @@ impl From<AllocError> for NameError {
 /// keeps its path, and so does one whose name has anything but `2,` and ASCII letters behind its last `:`.
 pub fn with_flags(alloc: Global, path: &MailPath, flags: Flags) -> Result<MailPath, NameError>
     ensures ok { IfOk result (λ target. target ≡ renamed path.now flags) }
-    ensures long { IfErr result (λ e. e ≡ NameError.Long → 4096 < length (renamed path.now flags)) }
+    ensures long { IfErr result (λ e. e ≡ NameError.Long → max_path_bytes < length (renamed path.now flags)) }
 {
     let text = path.text().as_str();
     let Some((folder, name)) = cut_at_last(text, b'/') else {
@@ -82,7 +83,7 @@ fn placed(
     requires cut { IsCutLast 47 path.now (folder.now, name.now) }
     requires letters { AreLetters letters.now }
     ensures ok { IfOk result (λ target. target ≡ placed path.now folder.now name.now letters.now) }
-    ensures long { IfErr result (λ e. e ≡ NameError.Long → 4096 < length (placed path.now folder.now name.now letters.now)) }
+    ensures long { IfErr result (λ e. e ≡ NameError.Long → max_path_bytes < length (placed path.now folder.now name.now letters.now)) }
 {
     let kind = name_of(folder);
     if kind == "new" {
@@ -114,7 +115,7 @@ fn may_be_renamed(name: &str) -> bool
 fn path_of(text: String) -> Result<MailPath, NameError>
     requires { is_path_text (string_bytes text) ≡ true }
     ensures ok { IfOk result (λ path. path ≡ string_bytes text) }
-    ensures long { IfErr result (λ e. e ≡ NameError.Long → 4096 < length (string_bytes text)) }
+    ensures long { IfErr result (λ e. e ≡ NameError.Long → max_path_bytes < length (string_bytes text)) }
 {
     match MailPath::new(Text::from_string(text)?) {
         Ok(path) => Ok(path),
@@ -134,7 +135,7 @@ fn in_cur(
     requires cut { IsCutLast 47 path.now (folder.now, name.now) }
     requires letters { AreLetters letters.now }
     ensures ok { IfOk result (λ target. target ≡ parent_of folder.now ++ codes "cur/" ++ marked name.now letters.now) }
-    ensures long { IfErr result (λ e. e ≡ NameError.Long → 4096 < length (parent_of folder.now ++ codes "cur/" ++ marked name.now letters.now)) }
+    ensures long { IfErr result (λ e. e ≡ NameError.Long → max_path_bytes < length (parent_of folder.now ++ codes "cur/" ++ marked name.now letters.now)) }
 {
     let _ = path.text();
     let text = text_in_cur(alloc, folder, name, letters)?;
@@ -172,7 +173,7 @@ fn in_same(
     requires cut { IsCutLast 47 path.now (folder.now, name.now) }
     requires letters { AreLetters letters.now }
     ensures ok { IfOk result (λ target. target ≡ folder.now ++ 47 ∷ marked name.now letters.now) }
-    ensures long { IfErr result (λ e. e ≡ NameError.Long → 4096 < length (folder.now ++ 47 ∷ marked name.now letters.now)) }
+    ensures long { IfErr result (λ e. e ≡ NameError.Long → max_path_bytes < length (folder.now ++ 47 ∷ marked name.now letters.now)) }
 {
     let _ = path.text();
     let text = text_in_same(alloc, folder, name, letters)?;

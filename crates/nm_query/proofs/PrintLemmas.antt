@@ -3,6 +3,7 @@ use Rattle.std.proofs.Common.{◌≡◌, ◌≢◌, ℕ, ◌+◌, ◌≤◌, tru
 use Rattle.std.specs.Prelude.{Ok, Err, codes, nat_lt}
 use Rattle.std.proofs.lemmas.Bool.Decides.{nat_tests}
 use Rattle.std.proofs.lemmas.List.{append-nil}
+use Rattle.nm_base.specs.Limits.{max_query_bytes}
 use Rattle.nm_base.specs.declared.limit.Limit.TheVariants.{QueryBytes, QueryDepth}
 use Rattle.nm_query.specs.Answers.{answer_of, structured, tokened}
 use Rattle.nm_query.specs.Grammar.{IsAnd, IsOperand, IsOr, IsQuery, IsXor, a_term, alone, an_or, enclosed, more_ands, more_groups, more_xors, negated, nothing, one_and, one_group, one_operand, one_xor, placed}
@@ -48,12 +49,12 @@ enclosed-tokens : (text : List ℕ) (at : ℕ) (tokens : List Placed) → tokens
 enclosed-tokens text at tokens read =
     ap (λ x. elim x [ Ok tokens ↦ Ok (placed at Open ∷ tokens) | Err refusal ↦ Err refusal ]) (tokens-beside text (41 ∷ []) (at + 1) tokens (placed (at + 1 + length text + 1) Close ∷ []) read refl)
 
-fits_or_not : (n : ℕ) → nat_lt 65536 n ≡ false → n ≤ 65536
+fits_or_not : (n : ℕ) → nat_lt max_query_bytes n ≡ false → n ≤ max_query_bytes
 fits_or_not n h = grind (arith, nat_tests)
 
 pub read_or_passes : (text : List ℕ) (tokens : List Placed) (query : Query) → tokens_of text ≡ Ok tokens → IsQuery tokens query → IsReadOrPasses text query
 read_or_passes text tokens query cut is =
-    elim (nat_lt 65536 (length text)) as (λ v. nat_lt 65536 (length text) ≡ v → IsReadOrPasses text query) [
+    elim (nat_lt max_query_bytes (length text)) as (λ v. nat_lt max_query_bytes (length text) ≡ v → IsReadOrPasses text query) [
       | true ↦ λ long. inr (inl (ap (λ v. cond v (Err (Limit QueryBytes)) (tokened (tokens_of text))) long))
       | false ↦ λ short. elim (is_too_deep tokens) as (λ v. is_too_deep tokens ≡ v → IsReadOrPasses text query) [
         | true ↦ λ deep. inr (inr (ap (λ v. cond v (Err (Limit QueryBytes)) (tokened (tokens_of text))) short ∙ ap tokened cut ∙ ap (λ v. cond v (Err (Limit QueryDepth)) (structured tokens)) deep))
@@ -105,10 +106,10 @@ group-two kind other first second = elim kind as (λ kind. Paired kind other fir
 term-at : (text : List ℕ) (item : Item) (at : ℕ) → (term : IsTerm text item) → tokens_from 0 at text ≡ Ok (placed (term.at + at) (Term item) ∷ [])
 term-at text item at term = tokens-moved text 0 at at (placed term.at (Term item) ∷ []) (omega arith) term.cut
 
-is_short : (n : ℕ) → n ≤ 65536 → nat_lt 65536 n ≡ false
+is_short : (n : ℕ) → n ≤ max_query_bytes → nat_lt max_query_bytes n ≡ false
 is_short n h = grind (arith, nat_tests)
 
-pub terms-beside : (first second : List ℕ) (one other : Item) → IsTerm first one → IsTerm second other → length (beside first second) ≤ 65536 → answer_of (beside first second) ≡ Ok (side_by_side one other)
+pub terms-beside : (first second : List ℕ) (one other : Item) → IsTerm first one → IsTerm second other → length (beside first second) ≤ max_query_bytes → answer_of (beside first second) ≡ Ok (side_by_side one other)
 terms-beside first second one other is is_too short =
     let place : ℕ = 0 + length first + 1 in
     ap (λ v. cond v (Err (Limit QueryBytes)) (tokened (tokens_of (beside first second)))) (is_short (length (beside first second)) short)

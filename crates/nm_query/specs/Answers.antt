@@ -1,5 +1,6 @@
 -- What a text is as a query: a tree, or the one refusal.
 use Rattle.std.specs.Prelude.{◌≡◌, ℕ, ◌≤◌, false, List, length, nat_lt, Some, None, Result, Ok, Err, if◌then◌else◌}
+use Rattle.nm_base.specs.Limits.{max_query_bytes}
 use Rattle.nm_base.specs.declared.limit.Limit.TheVariants.{QueryBytes, QueryDepth}
 use Rattle.nm_query.specs.Faults.{structure_fault}
 use Rattle.nm_query.specs.Grammar.{IsQuery}
@@ -25,12 +26,12 @@ tokened tokens = elim tokens [ Ok tokens ↦ nested tokens | Err refusal ↦ Err
 
 -- what a text is as a query
 abbrev pub answer_of : List ℕ → Result Query QueryError
-answer_of text = if nat_lt 65536 (length text) then Err (Limit QueryBytes) else tokened (tokens_of text)
+answer_of text = if nat_lt max_query_bytes (length text) then Err (Limit QueryBytes) else tokened (tokens_of text)
 
 -- the text is a query of at most 65,536 bytes that nests at most 64 deep, and the grammar reads it so
 pub record IsRead (text : List ℕ) (query : Query) : Type 0 where
   pub tokens : List Placed
-  pub short : length text ≤ 65536
+  pub short : length text ≤ max_query_bytes
   pub cut : tokens_of text ≡ Ok tokens
   pub shallow : is_too_deep tokens ≡ false
   pub read : IsQuery tokens query

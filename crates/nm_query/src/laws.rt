@@ -1,6 +1,7 @@
 //! What follows from the definitions of queries. These functions run no code: their clauses are the laws.
 
 ghost use Rattle.std.specs.Prelude.{◌≡◌, ◌≢◌, ◌≤◌, ◌↔◌, ◌++◌, ℕ, List, [], None, Ok, codes, length};
+ghost use Rattle.nm_base.specs.Limits.{max_query_bytes};
 ghost use Rattle.nm_query.specs.Answers.{IsRead, answer_of};
 ghost use Rattle.nm_query.specs.Faults.{structure_fault};
 ghost use Rattle.nm_query.specs.Grammar.{IsQuery};
@@ -38,7 +39,7 @@ pub fn a_printed_tree_is_read_back()
 /// Two terms side by side are joined by Or where both are tags, ids, threads, folders or paths, and else by And.
 pub fn two_terms_of_a_kind_are_joined_by_or()
     ensures kind { (text : List ℕ) → (item : Item) → IsTerm text item → item.kind ≡ kind_of item.query }
-    ensures joined { (first : List ℕ) → (second : List ℕ) → (item : Item) → (other : Item) → IsTerm first item → IsTerm second other → length (beside first second) ≤ 65536 → answer_of (beside first second) ≡ Ok (side_by_side item other) }
+    ensures joined { (first : List ℕ) → (second : List ℕ) → (item : Item) → (other : Item) → IsTerm first item → IsTerm second other → length (beside first second) ≤ max_query_bytes → answer_of (beside first second) ≡ Ok (side_by_side item other) }
 {}
 
 /// A tag, an id, a type and a folder can be written in quotes, whatever text they are.

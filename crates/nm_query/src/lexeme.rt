@@ -2,6 +2,7 @@
 
 ghost use Rattle.std.specs.Prelude.{◌≡◌, ◌+◌, ◌-◌, ◌<◌, ◌≤◌, Err, IfOk, length, true};
 ghost use Rattle.std.specs.Str.{IsCharBoundary};
+ghost use Rattle.nm_base.specs.Limits.{max_query_bytes};
 ghost use Rattle.nm_query.specs.Lexemes.{begins_run, field_term, further_at, goes_on, lexeme_at, name_term, passed, quoted_term, run_token, sign_at, token_of, unfielded_at, unprefixed_at, word_at};
 ghost use Rattle.nm_query.specs.Prefixes.{CutsOff};
 ghost use Rattle.nm_query.specs.Values.{quoted_value};
@@ -24,7 +25,7 @@ pub(crate) fn lexeme_at(
     text: &str,
 ) -> Result<Result<Lexeme, QueryError>, NoMemory>
     requires some { 0 < length text.now }
-    requires place { at + length text.now ≤ 65536 }
+    requires place { at + length text.now ≤ max_query_bytes }
     ensures value { IfOk result (λ lexeme. lexeme ≡ lexeme_at at text.now) }
     ensures cut { IfOk result (λ lexeme. IfOk lexeme (λ lexeme. CutsOff text.now lexeme.len)) }
 {
@@ -92,7 +93,7 @@ fn quoted_term(alloc: Global, at: u32, text: &str) -> Result<Result<Lexeme, Quer
 /// A `-` or a `+` where a byte that is no white space follows at once, or a word.
 fn sign_at(alloc: Global, at: u32, text: &str) -> Result<Result<Lexeme, QueryError>, NoMemory>
     requires some { begins_run text.now ≡ true }
-    requires place { at + length text.now ≤ 65536 }
+    requires place { at + length text.now ≤ max_query_bytes }
     ensures value { IfOk result (λ lexeme. lexeme ≡ sign_at at text.now) }
     ensures cut { IfOk result (λ lexeme. IfOk lexeme (λ lexeme. CutsOff text.now lexeme.len)) }
 {
@@ -109,7 +110,7 @@ fn sign_at(alloc: Global, at: u32, text: &str) -> Result<Result<Lexeme, QueryErr
 /// A term with or without a prefix, or an operator that is a word.
 fn word_at(alloc: Global, at: u32, text: &str) -> Result<Result<Lexeme, QueryError>, NoMemory>
     requires some { begins_run text.now ≡ true }
-    requires place { at + length text.now ≤ 65536 }
+    requires place { at + length text.now ≤ max_query_bytes }
     ensures value { IfOk result (λ lexeme. lexeme ≡ word_at at text.now) }
     ensures cut { IfOk result (λ lexeme. IfOk lexeme (λ lexeme. CutsOff text.now lexeme.len)) }
 {
@@ -121,7 +122,7 @@ fn word_at(alloc: Global, at: u32, text: &str) -> Result<Result<Lexeme, QueryErr
 
 fn unfielded_at(alloc: Global, at: u32, text: &str) -> Result<Result<Lexeme, QueryError>, NoMemory>
     requires some { begins_run text.now ≡ true }
-    requires place { at + length text.now ≤ 65536 }
+    requires place { at + length text.now ≤ max_query_bytes }
     ensures value { IfOk result (λ lexeme. lexeme ≡ unfielded_at at text.now) }
     ensures cut { IfOk result (λ lexeme. IfOk lexeme (λ lexeme. CutsOff text.now lexeme.len)) }
 {
@@ -133,7 +134,7 @@ fn unfielded_at(alloc: Global, at: u32, text: &str) -> Result<Result<Lexeme, Que
 
 fn further_at(alloc: Global, at: u32, text: &str) -> Result<Result<Lexeme, QueryError>, NoMemory>
     requires some { begins_run text.now ≡ true }
-    requires place { at + length text.now ≤ 65536 }
+    requires place { at + length text.now ≤ max_query_bytes }
     ensures value { IfOk result (λ lexeme. lexeme ≡ further_at at text.now) }
     ensures cut { IfOk result (λ lexeme. IfOk lexeme (λ lexeme. CutsOff text.now lexeme.len)) }
 {
@@ -146,7 +147,7 @@ fn further_at(alloc: Global, at: u32, text: &str) -> Result<Result<Lexeme, Query
 /// A run: an operator or words.
 fn unprefixed_at(alloc: Global, at: u32, text: &str) -> Result<Result<Lexeme, QueryError>, NoMemory>
     requires some { begins_run text.now ≡ true }
-    requires place { at + length text.now ≤ 65536 }
+    requires place { at + length text.now ≤ max_query_bytes }
     ensures value { IfOk result (λ lexeme. lexeme ≡ unprefixed_at at text.now) }
     ensures cut { IfOk result (λ lexeme. IfOk lexeme (λ lexeme. CutsOff text.now lexeme.len)) }
 {
@@ -174,7 +175,7 @@ fn field_term(
     prefix: FieldPrefix,
     text: &str,
 ) -> Result<Result<Lexeme, QueryError>, NoMemory>
-    requires place { at + prefix.len + length text.now ≤ 65536 }
+    requires place { at + prefix.len + length text.now ≤ max_query_bytes }
     ensures value { IfOk result (λ lexeme. lexeme ≡ field_term at prefix text.now) }
     ensures cut { IfOk result (λ lexeme. IfOk lexeme (λ lexeme. (prefix.len ≤ lexeme.len) × IsCharBoundary text.now (lexeme.len - prefix.len))) }
 {
@@ -198,7 +199,7 @@ fn name_term(
     prefix: NamePrefix,
     text: &str,
 ) -> Result<Result<Lexeme, QueryError>, NoMemory>
-    requires place { at + prefix.len + length text.now ≤ 65536 }
+    requires place { at + prefix.len + length text.now ≤ max_query_bytes }
     ensures value { IfOk result (λ lexeme. lexeme ≡ name_term at prefix text.now) }
     ensures cut { IfOk result (λ lexeme. IfOk lexeme (λ lexeme. (prefix.len ≤ lexeme.len) × IsCharBoundary text.now (lexeme.len - prefix.len))) }
 {

@@ -2,6 +2,7 @@
 
 ghost use Rattle.std.specs.Prelude.{◌≡◌, ◌+◌, ◌*◌, ◌<◌, ◌≤◌, Err, IfOk, IsTrue, false, length, slice_index};
 ghost use Rattle.std.specs.List.{list_all};
+ghost use Rattle.nm_base.specs.Limits.{max_query_bytes};
 ghost use Rattle.nm_query.specs.Terms.{before_dots, begins_with_dots, date_query, end_at, ends_with, field_query, folder_path_query, hex_number, hex_value, is_hex_digit, is_pattern, is_same_end, lacks_value, may_be_empty, name_query, named_query, one_date, optional_end, path_query, range_query, run_query, said_query, second_place, tag_query, takes_pattern, term_kind, thread_number, thread_query, two_dates, with_hex_digit, words_query};
 
 use crate::prefixes::Name;
@@ -118,7 +119,7 @@ pub(crate) fn name_query(
     name: Name,
     value: &Value,
 ) -> Result<Result<Query, QueryError>, NoMemory>
-    requires { value.now.quoted ≡ false → from + length value.now.said ≤ 65536 }
+    requires { value.now.quoted ≡ false → from + length value.now.said ≤ max_query_bytes }
     ensures { IfOk result (λ query. query ≡ name_query at from name value.now) }
 {
     if lacks_value(name, value) {
@@ -152,7 +153,7 @@ fn named_query(
     name: Name,
     value: &Value,
 ) -> Result<Result<Query, QueryError>, NoMemory>
-    requires { value.now.quoted ≡ false → from + length value.now.said ≤ 65536 }
+    requires { value.now.quoted ≡ false → from + length value.now.said ≤ max_query_bytes }
     ensures { IfOk result (λ query. query ≡ named_query at from name value.now) }
 {
     match name {
@@ -273,7 +274,7 @@ fn path_query(alloc: Global, text: &str) -> Result<Query, NoMemory>
 
 /// A range of dates: cut at its first `..`; without one both ends are the same.
 fn date_query(from: u32, value: &Value) -> Result<Query, QueryError>
-    requires { value.now.quoted ≡ false → from + length value.now.said ≤ 65536 }
+    requires { value.now.quoted ≡ false → from + length value.now.said ≤ max_query_bytes }
     ensures { result ≡ date_query from value.now }
 {
     let text = value.said.as_str();
@@ -287,7 +288,7 @@ fn date_query(from: u32, value: &Value) -> Result<Query, QueryError>
 
 /// The place of the second end: a quoted range has one place.
 fn second_place(from: u32, quoted: bool, dots: usize) -> u32
-    requires { quoted ≡ false → from + dots ≤ 65536 }
+    requires { quoted ≡ false → from + dots ≤ max_query_bytes }
     ensures { result ≡ second_place from quoted dots }
 {
     if quoted {

@@ -1,6 +1,7 @@
 //! A text cut into tokens, for `parse`.
 
 ghost use Rattle.std.specs.Prelude.{◌≡◌, ◌≤◌, ◌++◌, [], IfOk, OnOk, length};
+ghost use Rattle.nm_base.specs.Limits.{max_query_bytes};
 ghost use Rattle.nm_query.specs.Tokens.{after_token, tokens_of};
 
 use crate::QueryError;
@@ -14,7 +15,7 @@ pub(crate) fn tokens(
     alloc: Global,
     text: &str,
 ) -> Result<Result<Many<Placed>, QueryError>, NoMemory>
-    requires { length text.now ≤ 65536 }
+    requires { length text.now ≤ max_query_bytes }
     ensures { IfOk result (λ tokens. tokens ≡ tokens_of text.now) }
 {
     let mut tokens = Many::new(alloc);

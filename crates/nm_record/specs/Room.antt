@@ -1,14 +1,10 @@
 -- The numbers that an index keeps to, and which of them it passes.
 use Rattle.std.specs.Prelude.{ℕ, ◌^◌, ◌||◌, nat_lt, length, Option, None, Some, if◌then◌else◌}
-use Rattle.nm_base.specs.Limits.{max_files}
+use Rattle.nm_base.specs.Limits.{max_files, max_index_bytes}
 use Rattle.nm_base.specs.declared.limit.Limit.{Limit}
 use Rattle.nm_base.specs.declared.limit.Limit.TheVariants.{Files, IndexBytes, Numbers}
 use Rattle.nm_index.specs.declared.base.Base.{Base}
 use Rattle.nm_record.specs.BaseBytes.{base_len}
-
--- the most bytes of an index
-abbrev pub max_index_bytes : ℕ
-max_index_bytes = 1073741824
 
 -- the most that the revision and the next number come to
 abbrev pub max_number : ℕ

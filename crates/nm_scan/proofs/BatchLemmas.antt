@@ -1,12 +1,13 @@
 -- A batch goes on path by path, until it is full, or no path is left, or the reading stops.
 use Rattle.std.proofs.Common.{◌≡◌, ◌⊎◌, inl, inr, ℕ, ◌+◌, ◌-◌, ◌<◌, ◌≤◌, List, [], ◌∷◌, ◌++◌, Option, None, Some, IfSome, length, take, refl, sym, ap, ◌∙◌, subst, append_assoc, length-append, zero, suc, arith}
 use Rattle.std.proofs.Math.Seq.{take-append-add, take-append_seam}
+use Rattle.nm_base.specs.Limits.{full_bytes}
 use Rattle.nm_base.specs.declared.facts.Facts.{Facts}
 use Rattle.nm_maildir.specs.Observed.{ObservedMail}
 use Rattle.nm_maildir.specs.Tree.{Tree}
 use Rattle.nm_maildir.specs.declared.given.Given.{Given}
 use Rattle.nm_scan.proofs.ReadLemmas.{begun_read, next_read, read_with-more}
-use Rattle.nm_scan.specs.Batches.{HasReadBatch, IsBatch, IsOpen, StopsInBatch, full_answers, full_bytes, len_at, len_at_all}
+use Rattle.nm_scan.specs.Batches.{HasReadBatch, IsBatch, IsOpen, StopsInBatch, full_answers, len_at, len_at_all}
 use Rattle.nm_scan.specs.Reading.{AsksOnce, HasReadAll, NotesReads, read_with}
 
 -- the batch has no path yet and lacks all bytes, or it was open before the last of its paths

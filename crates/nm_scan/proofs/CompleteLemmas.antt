@@ -2,14 +2,14 @@
 use Rattle.std.proofs.Common.{◌≡◌, ◌⊎◌, inl, inr, ℕ, zero, suc, ◌+◌, ◌==◌, Bool, true, false, ◌||◌, List, [], ◌∷◌, ◌++◌, Result, Ok, Err, filter, fold, map, refl, sym, ap, ◌∙◌, cond, codes, nat_le}
 use Rattle.std.specs.List.{flat_map, list_any}
 use Rattle.std.proofs.lemmas.List.Folds.{list_any-append}
-use Rattle.nm_base.specs.Limits.{max_files}
+use Rattle.nm_base.specs.Limits.{max_files, max_folders}
 use Rattle.nm_base.specs.MailPath.{is_mail_path}
 use Rattle.nm_base.specs.Order.{has_text, insert, same_text, sorted}
 use Rattle.nm_base.specs.declared.limit.Limit.{Limit}
 use Rattle.nm_base.specs.declared.limit.Limit.TheVariants as limits
 use Rattle.nm_maildir.specs.Tree.{Tree, listing_of}
 use Rattle.nm_scan.specs.Mail.{IsMailAt, IsReached, below, mail_of, paths_met, root}
-use Rattle.nm_scan.specs.Walking.{Met, counts, file, folder, inside, is_walked, mail_met, max_folders, met_in, not_begun, part_met, paths_in, paths_walked, scanned, walked, walked_through, with_met}
+use Rattle.nm_scan.specs.Walking.{Met, counts, file, folder, inside, is_walked, mail_met, met_in, not_begun, part_met, paths_in, paths_walked, scanned, walked, walked_through, with_met}
 use Rattle.nm_scan.specs.declared.walking.Walk.{Walk}
 use Rattle.nm_scan.proofs.MailLemmas.{meets, meets-both, met-files, or-left, or-right, or-split, same-is, same-self}
 use Rattle.nm_scan.proofs.WalkLemmas.{err-stays}

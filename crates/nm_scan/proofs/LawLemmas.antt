@@ -2,13 +2,14 @@
 use Rattle.std.proofs.Common.{◌≡◌, ◌⊎◌, inl, inr, ℕ, ◌+◌, ◌<◌, ◌≤◌, List, [], ◌∷◌, ◌++◌, Option, None, Some, IfSome, length, take, refl, sym, ap, ◌∙◌, subst, append-nil, append_assoc, length-append, arith}
 use Rattle.std.proofs.Math.Seq.{take-append-add, take-append_seam}
 use Rattle.std.proofs.lemmas.Grind.{flat_map-append}
+use Rattle.nm_base.specs.Limits.{full_bytes}
 use Rattle.nm_base.specs.declared.facts.Facts.{Facts}
 use Rattle.nm_maildir.specs.Observed.{ObservedMail}
 use Rattle.nm_maildir.specs.Tree.{Tree}
 use Rattle.nm_maildir.specs.declared.given.Given.{Given}
 use Rattle.nm_plan.specs.Plan.{all_arrivals}
 use Rattle.nm_scan.proofs.ReadLemmas.{NotesReads-append, Reads-append, begun_read, more_read, no_arrivals, notes-none, read_with-more}
-use Rattle.nm_scan.specs.Batches.{HasReadBatch, HasReadBatches, HasReadSome, IsBatch, IsFull, IsOpen, IsUnfinished, ReadsBatches, StopsInBatch, full_answers, full_bytes, len_at_all}
+use Rattle.nm_scan.specs.Batches.{HasReadBatch, HasReadBatches, HasReadSome, IsBatch, IsFull, IsOpen, IsUnfinished, ReadsBatches, StopsInBatch, full_answers, len_at_all}
 use Rattle.nm_scan.specs.Reading.{HasReadAll, NotesReads, Reads, read_with}
 
 abbrev Batches : Type 0

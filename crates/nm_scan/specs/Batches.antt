@@ -1,7 +1,7 @@
 -- How a `new` reads the files that the index lacks: in batches, one after the other. A batch is closed at 256 answers, or once the
 -- bytes that it found reach 67,108,864, or where no file is left.
 use Rattle.std.specs.Prelude.{◌≡◌, ◌⊎◌, ℕ, ◌+◌, ◌<◌, ◌≤◌, List, [], ◌∷◌, ◌++◌, length, take, Option, IfSome}
-use Rattle.nm_base.specs.Limits.{max_mail_bytes}
+use Rattle.nm_base.specs.Limits.{full_bytes, max_mail_bytes}
 use Rattle.nm_base.specs.declared.facts.Facts.{Facts}
 use Rattle.nm_maildir.specs.Observed.{ObservedMail}
 use Rattle.nm_maildir.specs.Tree.{Tree, got_of}
@@ -14,10 +14,6 @@ use Rattle.nm_scan.specs.Reading.{HasRead, HasReadAll, NotesReads, Reads}
 -- the answers that close a batch
 abbrev pub full_answers : ℕ
 full_answers = 256
-
--- the bytes that close it
-abbrev pub full_bytes : ℕ
-full_bytes = 67108864
 
 -- how many bytes a read finds
 abbrev pub found_len : Got → ℕ

@@ -1,9 +1,10 @@
 -- Which files of a tree are its mail, in words of its folders: what a walk through it finds.
 use Rattle.std.specs.Prelude.{◌≡◌, ℕ, ◌+◌, IsTrue, List, [], ◌∷◌, ◌++◌, codes}
+use Rattle.nm_base.specs.Limits.{max_depth}
 use Rattle.nm_base.specs.MailPath.{is_mail_path}
 use Rattle.nm_base.specs.Order.{has_text}
 use Rattle.nm_maildir.specs.Tree.{Tree, listing_of}
-use Rattle.nm_scan.specs.Walking.{Met, counts, file, folder, inside, is_walked, max_depth, met_in}
+use Rattle.nm_scan.specs.Walking.{Met, counts, file, folder, inside, is_walked, met_in}
 
 -- the paths of the files that were met
 abbrev pub paths_met : List Met → List (List ℕ)

@@ -2,7 +2,7 @@
 -- passed first.
 use Rattle.std.specs.Prelude.{◌≡◌, ℕ, zero, suc, ◌+◌, ◌==◌, Bool, true, false, not, List, [], ◌∷◌, ◌++◌, filter, fold, map, codes, nat_le, Result, Ok, Err, if◌then◌else◌}
 use Rattle.std.specs.List.{flat_map}
-use Rattle.nm_base.specs.Limits.{max_files}
+use Rattle.nm_base.specs.Limits.{max_depth, max_files, max_folders}
 use Rattle.nm_base.specs.MailPath.{is_mail_path}
 use Rattle.nm_base.specs.Order.{has_text, insert}
 use Rattle.nm_base.specs.declared.limit.Limit.{Limit}
@@ -14,14 +14,6 @@ use Rattle.nm_scan.specs.declared.scan_error.ScanError.{ScanError}
 use Rattle.nm_scan.specs.declared.scan_error.ScanError.TheVariants as scan_errors
 use Rattle.nm_scan.specs.declared.walking.Walk.{Walk}
 use Rattle.nm_scan.specs.declared.walking.Folder.{Folder}
-
--- the most folders that a walk lists
-abbrev pub max_folders : ℕ
-max_folders = 65536
-
--- the most components of a folder that is listed
-abbrev pub max_depth : ℕ
-max_depth = 32
 
 -- a file counts where its name does not begin with a dot
 abbrev pub counts : List ℕ → Bool

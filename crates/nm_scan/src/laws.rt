@@ -2,12 +2,13 @@
 //! code: their clauses are the laws.
 
 ghost use Rattle.std.specs.Prelude.{◌≡◌, ℕ, ◌<◌, IsTrue, List, [], ◌∷◌, ◌++◌, Ok, Option, Some, length};
+ghost use Rattle.nm_base.specs.Limits.{full_bytes};
 ghost use Rattle.nm_base.specs.declared.facts.Facts.{Facts};
 ghost use Rattle.nm_maildir.specs.Observed.{ObservedMail};
 ghost use Rattle.nm_maildir.specs.Tree.{Tree};
 ghost use Rattle.nm_maildir.specs.declared.given.Given.{Given};
 ghost use Rattle.nm_plan.specs.Plan.{all_arrivals};
-ghost use Rattle.nm_scan.specs.Batches.{HasReadBatch, HasReadBatches, HasReadSome, ReadsBatches, StopsInBatch, full_answers, full_bytes, len_at_all};
+ghost use Rattle.nm_scan.specs.Batches.{HasReadBatch, HasReadBatches, HasReadSome, ReadsBatches, StopsInBatch, full_answers, len_at_all};
 ghost use Rattle.nm_base.specs.Order.{has_text, sorted};
 ghost use Rattle.nm_scan.specs.Bodies.{left_after};
 ghost use Rattle.nm_scan.specs.Walking.{scanned};

@@ -1,11 +1,12 @@
 //! The walk through a tree of Maildirs; `new` begins with it. A folder's listing is let go once its names are taken.
 
 ghost use Rattle.std.specs.Prelude.{IsTrue, ◌≡◌, ◌-◌, ◌<◌, ◌≤◌, ◌++◌, ◌∷◌, [], false, IfErr, IfOk, IfSome, OnErr, OnOk, filter, map, Ok, Err, reverse};
+ghost use Rattle.nm_base.specs.Limits.{max_folders};
 ghost use Rattle.nm_base.specs.Order.{has_text};
 ghost use Rattle.nm_base.specs.declared.limit.Limit.{Limit};
 ghost use Rattle.nm_faults.specs.Faults.{HasCauseOf};
 ghost use Rattle.nm_maildir.specs.Tree.{listing_of};
-ghost use Rattle.nm_scan.specs.Walking.{Walks, counts, file, folder_inside, inside, is_scan_fault, is_walk_error, is_walked, mail_met, max_folders, met_in, part_met, paths_in, scanned, to_come, walked, with_folder};
+ghost use Rattle.nm_scan.specs.Walking.{Walks, counts, file, folder_inside, inside, is_scan_fault, is_walk_error, is_walked, mail_met, met_in, part_met, paths_in, scanned, to_come, walked, with_folder};
 
 use crate::ScanError;
 use nm_base::{Limit, MailPath, Many, NoMemory, Text, TextSet};

@@ -6,7 +6,7 @@ use Rattle.std.specs.Map.{values_of}
 use Rattle.std.specs.Option.{is_some}
 use Rattle.std.proofs.lemmas.Bool.{lt-ltb, le-ltb, ltb-false, or_left, or_right}
 use Rattle.std.proofs.lemmas.List.Sums.{sum_by-cons}
-use Rattle.nm_base.specs.Limits.{max_count, max_files}
+use Rattle.nm_base.specs.Limits.{max_count, max_files, max_index_bytes}
 use Rattle.nm_base.specs.declared.limit.Limit.{Limit}
 use Rattle.nm_base.specs.declared.limit.Limit.TheVariants.{Files, IndexBytes, Numbers}
 use Rattle.nm_base.specs.declared.facts.Facts.{Facts}
@@ -16,7 +16,7 @@ use Rattle.nm_index.specs.Index.{row_bytes, with_revision}
 use Rattle.nm_index.specs.declared.base.Base.{Base}
 use Rattle.nm_record.specs.BaseBytes.{base_len, entry_bytes}
 use Rattle.nm_record.specs.Commits.{arrival_grammar, tagging_grammar}
-use Rattle.nm_record.specs.Room.{limit_passed, max_index_bytes, max_number}
+use Rattle.nm_record.specs.Room.{limit_passed, max_number}
 use Rattle.nm_record.specs.Tags.{tags_grammar}
 use Rattle.nm_threads.specs.Labels.{entries_of}
 use Rattle.nm_state.specs.Counts.{AreCounts}

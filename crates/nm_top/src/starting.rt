@@ -1,6 +1,7 @@
 //! The program: reads its leading options, opens the folders that they name, and makes the call of the words behind them; `main` makes it.
 
 ghost use Rattle.std.specs.Prelude.{◌≡◌, ◌≤◌, Ok, Some, pos, length, ◌≤ℤ◌, IfSome};
+ghost use Rattle.nm_base.specs.Limits.{max_date};
 ghost use Rattle.nm_command.specs.Leading.{leading_of};
 ghost use Rattle.nm_history.specs.Call.{devices};
 ghost use Rattle.nm_history.specs.PrintedOut.{Prints};
@@ -39,7 +40,7 @@ pub fn program<M: MailFolder, D: DiskFolder, I: Source, O: Sink, E: Sink>(
     err: &mut E,
 ) -> Done
     requires from_1970 { pos 0 ≤ℤ start.now.moment }
-    requires moment { start.now.moment ≤ℤ pos 253000000000 }
+    requires moment { start.now.moment ≤ℤ pos max_date }
     ensures { IsProgram start.now words.now
         (devices (M.observed mail.old) (D.observed disk.old) (I.observed input.old) (O.observed out.old) (E.observed err.old))
         (devices (M.observed mail.new) (D.observed disk.new) (I.observed input.new) (O.observed out.new) (E.observed err.new)) result }
@@ -67,9 +68,9 @@ fn open_and_call<M: MailFolder, D: DiskFolder, I: Source, O: Sink, E: Sink>(
     requires rest { leading.now.rest ≤ length words.now }
     requires some_worker { 1 ≤ leading.now.workers }
     requires few_workers { leading.now.workers ≤ 16 }
-    requires named { IfSome leading.now.moment (λ second. (pos 0 ≤ℤ second) × (second ≤ℤ pos 253000000000)) }
+    requires named { IfSome leading.now.moment (λ second. (pos 0 ≤ℤ second) × (second ≤ℤ pos max_date)) }
     requires from_1970 { pos 0 ≤ℤ start.now.moment }
-    requires moment { start.now.moment ≤ℤ pos 253000000000 }
+    requires moment { start.now.moment ≤ℤ pos max_date }
     ensures { IsProgram start.now words.now
         (devices (M.observed mail.old) (D.observed disk.old) (I.observed input.old) (O.observed out.old) (E.observed err.old))
         (devices (M.observed mail.new) (D.observed disk.new) (I.observed input.new) (O.observed out.new) (E.observed err.new)) result }
@@ -96,9 +97,9 @@ fn open_index_and_call<M: MailFolder, D: DiskFolder, I: Source, O: Sink, E: Sink
     requires rest { leading.now.rest ≤ length words.now }
     requires some_worker { 1 ≤ leading.now.workers }
     requires few_workers { leading.now.workers ≤ 16 }
-    requires named { IfSome leading.now.moment (λ second. (pos 0 ≤ℤ second) × (second ≤ℤ pos 253000000000)) }
+    requires named { IfSome leading.now.moment (λ second. (pos 0 ≤ℤ second) × (second ≤ℤ pos max_date)) }
     requires from_1970 { pos 0 ≤ℤ start.now.moment }
-    requires moment { start.now.moment ≤ℤ pos 253000000000 }
+    requires moment { start.now.moment ≤ℤ pos max_date }
     ensures { IsProgram start.now words.now
         (devices (M.observed mail.old) (D.observed disk.old) (I.observed input.old) (O.observed out.old) (E.observed err.old))
         (devices (M.observed mail.new) (D.observed disk.new) (I.observed input.new) (O.observed out.new) (E.observed err.new)) result }
@@ -125,14 +126,14 @@ fn command_words<'a>(words: &'a [Text], leading: &Leading) -> &'a [Text]
 fn setting_by(start: &Start, leading: &Leading) -> Setting
     requires some_worker { 1 ≤ leading.now.workers }
     requires few_workers { leading.now.workers ≤ 16 }
-    requires named { IfSome leading.now.moment (λ second. (pos 0 ≤ℤ second) × (second ≤ℤ pos 253000000000)) }
+    requires named { IfSome leading.now.moment (λ second. (pos 0 ≤ℤ second) × (second ≤ℤ pos max_date)) }
     requires from_1970 { pos 0 ≤ℤ start.now.moment }
-    requires moment { start.now.moment ≤ℤ pos 253000000000 }
+    requires moment { start.now.moment ≤ℤ pos max_date }
     ensures value { result ≡ setting_by start.now leading.now }
     ensures some_worker { 1 ≤ result.workers }
     ensures few_workers { result.workers ≤ 16 }
     ensures from_1970 { pos 0 ≤ℤ result.moment }
-    ensures moment { result.moment ≤ℤ pos 253000000000 }
+    ensures moment { result.moment ≤ℤ pos max_date }
 {
     match leading.moment {
         Some(moment) => setting_at(start, leading, moment),

@@ -1,6 +1,7 @@
 //! The top call: the words, the lines, the run, each ending; `main` makes it.
 
 ghost use Rattle.std.specs.Prelude.{◌≡◌, ℕ, Bool, true, false, List, ◌≤◌, None, pos, ◌≤ℤ◌};
+ghost use Rattle.nm_base.specs.Limits.{max_date};
 ghost use Rattle.nm_dates.specs.Seconds.{IsMoment};
 ghost use Rattle.nm_history.specs.Call.{call_fault, call_of, call_reads, command_reads, devices, input_fault_by, is_session, lines_by};
 ghost use Rattle.nm_history.specs.Complete.{IsComplete};
@@ -42,7 +43,7 @@ pub fn notmuch<M: Maildir, D: Disk, I: Source, O: Sink, E: Sink>(
     requires some_worker { 1 ≤ setting.now.workers }
     requires few_workers { setting.now.workers ≤ 16 }
     requires from_1970 { pos 0 ≤ℤ setting.now.moment }
-    requires moment { setting.now.moment ≤ℤ pos 253000000000 }
+    requires moment { setting.now.moment ≤ℤ pos max_date }
 
     // The statement of a call, over its actual log.
     ensures history { History (call_of words.now setting.now

@@ -1,6 +1,6 @@
 -- What a commit leaves, and what commits one after the other leave, of the writer and of the disk.
 use Rattle.std.specs.Prelude.{◌≡◌, ◌⊎◌, ℕ, ◌<◌, ◌≤◌, Bool, true, false, List, [], ◌∷◌, ◌++◌, None, Some, length, Result, Ok, Err}
-use Rattle.nm_base.specs.Limits.{max_commits}
+use Rattle.nm_base.specs.Limits.{max_commit_bytes, max_commits}
 use Rattle.nm_base.specs.declared.limit.Limit.{Limit}
 use Rattle.nm_base.specs.declared.limit.Limit.TheVariants as limits
 use Rattle.nm_commit.specs.declared.change.Commit.{Commit}
@@ -12,10 +12,6 @@ use Rattle.nm_writer.specs.StoredIndex.{HoldsIndex}
 use Rattle.nm_writer.specs.Writer.{WriterState}
 use Rattle.nm_writer.specs.declared.write_error.WriteError.{WriteError}
 use Rattle.nm_writer.specs.declared.write_error.WriteError.TheVariants as errors
-
--- the most bytes of a commit
-abbrev pub max_commit_bytes : ℕ
-max_commit_bytes = 1073741824
 
 -- The limit that a commit passes where so many were begun before and this index is shown: how many they are, its bytes, or the first
 -- that the index after it passes.

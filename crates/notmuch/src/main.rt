@@ -5,6 +5,7 @@
 mod pages;
 
 ghost use Rattle.std.specs.Prelude.{pos, ◌≤ℤ◌};
+ghost use Rattle.nm_base.specs.Limits.{max_date};
 
 use nm_base::{Many, NoMemory, Text, UsageKind};
 use nm_disk::FileDisk;
@@ -126,7 +127,7 @@ fn read_words<R: Env + AllocGlobal>(rt: &R, alloc: Global) -> Result<Many<Text>,
 /// Seconds since 1970-01-01 00:00:00 UTC, or 0 where the clock tells none.
 fn present_second(rt: &impl Clock) -> i64
     ensures from_1970 { pos 0 ≤ℤ result }
-    ensures moment { result ≤ℤ pos 253000000000 }
+    ensures moment { result ≤ℤ pos max_date }
 {
     let seconds = seconds_since_1970(rt).min(LAST_MOMENT);
     seconds as i64

@@ -1,6 +1,7 @@
 -- What the report says of the rows: a line for each, and how many went right, went wrong, or could not be read.
-use Rattle.std.specs.Prelude.{ℕ, ◌≡◌, ◌<◌, ◌+◌, List, ◌++◌, min, codes}
+use Rattle.std.specs.Prelude.{ℕ, ◌≡◌, ◌<◌, ◌+◌, List, ◌++◌, codes}
 use Rattle.std.specs.Fmt.{decimal}
+use Rattle.nm_base.specs.Limits.{max_count, one_more}
 
 -- the lines so far, and the counts
 pub record Reported : Type 0 where
@@ -12,10 +13,6 @@ pub record Reported : Type 0 where
 -- how many rows were told
 abbrev pub told : Reported → ℕ
 told report = report.ok + report.wrong + report.broken
-
--- one more, in a count that stops at its type's end
-abbrev pub one_more : ℕ → ℕ
-one_more count = min (count + 1) 18446744073709551615
 
 -- a row of this name went right
 abbrev pub with_right : Reported → List ℕ → Reported
@@ -37,7 +34,7 @@ with_broken old number why = record old {
 
 -- one row more was told; a count stops at its type's end
 abbrev pub TellsOneMore : Reported → Reported → Type 0
-TellsOneMore old new = told old < 18446744073709551615 → told new ≡ told old + 1
+TellsOneMore old new = told old < max_count → told new ≡ told old + 1
 
 -- the whole report: the lines, and the counts in its last line
 abbrev pub whole : Reported → List ℕ

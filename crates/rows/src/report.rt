@@ -2,7 +2,8 @@
 
 ghost use Rattle.std.specs.Prelude.{◌≡◌, ℕ, List, [], ◌++◌, IfErr, IfOk, OnOk, codes};
 ghost use Rattle.std.specs.Fmt.{decimal};
-ghost use Rattle.rows.specs.Report.{TellsOneMore, one_more, whole, with_broken, with_right, with_wrong};
+ghost use Rattle.nm_base.specs.Limits.{one_more};
+ghost use Rattle.rows.specs.Report.{TellsOneMore, whole, with_broken, with_right, with_wrong};
 
 use crate::{RowError, escaped};
 use nm_base::{Many, NoMemory};

@@ -1,5 +1,6 @@
 use Rattle.std.proofs.Common.{◌≡◌, ◌≤◌, ◌-◌, IfSome, reverse}
-use Rattle.nm_scan.specs.Walking.{max_folders, to_come, walked, walked_through}
+use Rattle.nm_base.specs.Limits.{max_folders}
+use Rattle.nm_scan.specs.Walking.{to_come, walked, walked_through}
 use Rattle.nm_scan.proofs.walking.list_paths.Given as goal
 
 -- what is still to come, from here on, ends as the whole walk does

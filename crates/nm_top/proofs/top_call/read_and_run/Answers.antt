@@ -1,5 +1,6 @@
 use Rattle.std.proofs.Common.{inr, ℕ, List, [], ◌<◌, ◌≤◌, Err, length, refl, ap, ◌∙◌, subst}
 use Rattle.std.specs.Str.Lines.{lines}
+use Rattle.nm_base.specs.Limits.{max_lines}
 use Rattle.nm_base.specs.declared.limit.Limit.TheVariants as limits
 use Rattle.nm_log.specs.Script.{IsScriptFault, script_lines}
 use Rattle.nm_log.specs.declared.refusal.Refusal.TheVariants as refusals
@@ -15,7 +16,7 @@ returns-in-Err-Limit g c = λ words is sound.
       inr (
         sound,
         session-reads words is,
-        (is, record { bytes = c.in-Ok.ensures.consumed; end = c.in-Ok.ensures.end; within = c.in-Ok.ensures.within; sound = c.in-Ok.ensures.cause }, subst (λ (bytes : List ℕ). 4096 < length (lines bytes)) c.as_slice.ensures fault.1),
+        (is, record { bytes = c.in-Ok.ensures.consumed; end = c.in-Ok.ensures.end; within = c.in-Ok.ensures.within; sound = c.in-Ok.ensures.cause }, subst (λ (bytes : List ℕ). max_lines < length (lines bytes)) c.as_slice.ensures fault.1),
       ),
       refl,
     )) c.refuse.result c.refuse.ensures
@@ -37,5 +38,5 @@ returns-in-Ok-read_script g c = λ words is sound.
     let new = g.I.Source.observed c.take_all.new.source in
     c.run_lines.ensures words c.in-Ok.bytes old new is sound
     (session-takes words c.in-Ok.bytes old new is (record { bytes = c.in-Ok.ensures.consumed; end = c.in-Ok.ensures.end; within = c.in-Ok.ensures.within; sound = c.in-Ok.ensures.cause })
-    (subst (λ (bytes : List ℕ). length (lines bytes) ≤ 4096) c.as_slice.ensures c.in-Ok-read_script.ensures.few)) refl
+    (subst (λ (bytes : List ℕ). length (lines bytes) ≤ max_lines) c.as_slice.ensures c.in-Ok-read_script.ensures.few)) refl
     (c.as_slice-in-Ok-read_script.ensures ∙ (c.in-Ok-read_script.ensures.ok ∙ ap script_lines c.as_slice.ensures))
