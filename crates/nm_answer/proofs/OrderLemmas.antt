@@ -88,18 +88,18 @@ module _ {X : Type 0} (rank : X → ℤ) (r : ℤ) where
   front_by item first items false is less rises =
       skip item (first ∷ items) is ∙ sym (append-nil (filter is_r (first ∷ items))) ∙ sym (ap (λ rest. filter is_r (first ∷ items) ++ rest) (skip item [] is))
 
-  behind_by : (item first : X) (items : List X) (test : Bool) → is_r first ≡ test → filter is_r (at_rank rank items item) ≡ filter is_r items ++ filter is_r (item ∷ [])
+  after_by : (item first : X) (items : List X) (test : Bool) → is_r first ≡ test → filter is_r (at_rank rank items item) ≡ filter is_r items ++ filter is_r (item ∷ [])
       → filter is_r (first ∷ at_rank rank items item) ≡ filter is_r (first ∷ items) ++ filter is_r (item ∷ [])
-  behind_by item first items true is rest =
+  after_by item first items true is rest =
       take_in first (at_rank rank items item) is ∙ ap (λ more. first ∷ more) rest ∙ sym (ap (λ front. front ++ filter is_r (item ∷ [])) (take_in first items is))
-  behind_by item first items false is rest =
+  after_by item first items false is rest =
       skip first (at_rank rank items item) is ∙ rest ∙ sym (ap (λ front. front ++ filter is_r (item ∷ [])) (skip first items is))
 
   same_by : (item first : X) (items : List X) (test : Bool) → int_lt (rank item) (rank first) ≡ test → Rises rank (first ∷ items)
       → filter is_r (at_rank rank items item) ≡ filter is_r items ++ filter is_r (item ∷ [])
       → filter is_r (cond test (item ∷ first ∷ items) (first ∷ at_rank rank items item)) ≡ filter is_r (first ∷ items) ++ filter is_r (item ∷ [])
   same_by item first items true is rises rest = front_by item first items (is_r item) refl is rises
-  same_by item first items false is rises rest = behind_by item first items (is_r first) refl rest
+  same_by item first items false is rises rest = after_by item first items (is_r first) refl rest
 
   same_more : (item : X) (items : List X) → Rises rank items → filter is_r (at_rank rank items item) ≡ filter is_r items ++ filter is_r (item ∷ [])
   same_more item [] rises = refl

@@ -96,13 +96,13 @@ abbrev pub is_reply : List ℕ → Bool
 is_reply subject = same_ignoring_case (take 3 (trimmed_start subject)) (codes "re:")
 
 -- what stands behind it and the white space after it
-abbrev pub behind_reply : List ℕ → List ℕ
-behind_reply subject = trimmed_start (drop 3 (trimmed_start subject))
+abbrev pub after_reply : List ℕ → List ℕ
+after_reply subject = trimmed_start (drop 3 (trimmed_start subject))
 
 -- the subject without the first such marks, so many at most
 unfoldable pub without_replies : ℕ → List ℕ → List ℕ
 without_replies zero subject = subject
-without_replies (suc n) subject = if is_reply subject then without_replies n (behind_reply subject) else subject
+without_replies (suc n) subject = if is_reply subject then without_replies n (after_reply subject) else subject
 
 -- without all that stand at its front
 abbrev pub bare_subject : List ℕ → List ℕ

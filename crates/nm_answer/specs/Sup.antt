@@ -3,7 +3,7 @@ use Rattle.std.specs.Prelude.{ℕ, ◌-◌, Bool, true, ◌==◌, ◌&&◌, nat_
 use Rattle.nm_base.specs.Tag.{is_tag}
 use Rattle.nm_base.specs.declared.tag_op.TagOp.{TagOp}
 use Rattle.nm_text.specs.WhiteSpace.{trimmed_start}
-use Rattle.nm_tags.specs.TagLines.{begins_with_space, behind_first_word, first_word, words_in}
+use Rattle.nm_tags.specs.TagLines.{after_first_word, begins_with_space, first_word, words_in}
 use Rattle.nm_tags.specs.declared.line_error.LineKind.{LineKind}
 use Rattle.nm_tags.specs.declared.line_error.LineKind.TheVariants as kinds
 use Rattle.nm_answer.specs.BatchTag.{checked_id}
@@ -41,4 +41,4 @@ sup_asked None tags = Err kinds.Form
 abbrev pub read_sup : List ℕ → Result (List ℕ × List TagOp) LineKind
 read_sup text =
     if begins_with_space text then Err kinds.Form
-    else sup_asked (checked_id (Some (first_word text))) (inside (trimmed_start (behind_first_word text)))
+    else sup_asked (checked_id (Some (first_word text))) (inside (trimmed_start (after_first_word text)))

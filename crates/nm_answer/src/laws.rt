@@ -16,7 +16,7 @@ ghost use Rattle.nm_answer.specs.Words.{has_words};
 
 /// A list has words exactly where they stand in it one behind the other; the last one may be the front of a word where that
 /// is asked.
-pub fn words_stand_one_behind_the_other()
+pub fn words_stand_one_after_the_other()
     ensures whole { (words list : List (List ℕ)) → IsTrue (has_words false words list) ↔ Stand words list }
     ensures front { (words list : List (List ℕ)) (last : List ℕ) → IsTrue (has_words true (words ++ last ∷ []) list) ↔ StandWithFront words last list }
 {}

@@ -12,7 +12,7 @@ mod tagging;
 pub use laws::{
     a_tag_excludes_unless_it_is_named, a_tree_names_the_tags_of_its_queries,
     a_tree_passes_as_its_queries_do, the_matches_are_the_live_messages_that_pass,
-    words_stand_one_behind_the_other,
+    words_stand_one_after_the_other,
 };
 pub use report::NewReport;
 pub use request::Request;

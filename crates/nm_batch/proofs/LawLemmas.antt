@@ -31,16 +31,16 @@ module _ {T : Type 0} where
     all_read number [] items e = record { sound = refl; asked = cc }
     all_read number (line ∷ more) items e =
         let here = first_read (read line) (read_each read (number + 1) more) number items e in
-        let behind = all_read (number + 1) more here.1 here.2 in
+        let after = all_read (number + 1) more here.1 here.2 in
         record {
-          sound = ap (λ b. b && are_sound read more) here.0 ∙ behind.sound;
-          asked = here.3 ∙ ap (cons_option (asked_of (read line))) behind.asked;
+          sound = ap (λ b. b && are_sound read more) here.0 ∙ after.sound;
+          asked = here.3 ∙ ap (cons_option (asked_of (read line))) after.asked;
         }
 
     -- what is known of the line that is told, where the first line has the number `here`
     abbrev Told : ℕ → List (List ℕ) → ℕ → LineKind → Type 0
     Told here lines number kind =
-        (before : List (List ℕ)) × (bad : List ℕ) × (behind : List (List ℕ)) × (lines ≡ before ++ bad ∷ behind)
+        (before : List (List ℕ)) × (bad : List ℕ) × (after : List (List ℕ)) × (lines ≡ before ++ bad ∷ after)
         × (number ≡ here + length before) × (are_sound read before ≡ true) × (read bad ≡ Err kind)
 
     told_here : (here number : ℕ) (kind : LineKind) (line : List ℕ) (more : List (List ℕ)) → (read line ≡ Err kind) × (number ≡ here)
@@ -64,7 +64,7 @@ module _ {T : Type 0} where
         record {
           before = found.0;
           line = found.1;
-          behind = found.2;
+          after = found.2;
           cut = found.3;
           place = omega (arith, found.4);
           sound = found.5;

@@ -21,8 +21,8 @@ pub record AreRead {T : Type 0} (read : List ℕ → Result (Option T) LineKind)
 pub record IsFirstBad {T : Type 0} (read : List ℕ → Result (Option T) LineKind) (lines : List (List ℕ)) (number : ℕ) (kind : LineKind) : Type 0 where
   pub before : List (List ℕ)
   pub line : List ℕ
-  pub behind : List (List ℕ)
-  pub cut : lines ≡ before ++ line ∷ behind
+  pub after : List (List ℕ)
+  pub cut : lines ≡ before ++ line ∷ after
   pub place : number ≡ length before + 1
   pub sound : are_sound read before ≡ true
   pub fault : read line ≡ Err kind

@@ -14,8 +14,8 @@ query_of-more first [] word = refl
 query_of-more first (second ∷ words) word =
     ap (λ rest. first ++ 32 ∷ rest) (query_of-more second words word) ∙ sym (append_assoc first (32 ∷ query_of (second ∷ words)) (32 ∷ word))
 
-is_behind : (n : ℕ) → nat_lt 0 (suc n) ≡ true
-is_behind n = grind (arith, nat_tests)
+is_after : (n : ℕ) → nat_lt 0 (suc n) ≡ true
+is_after n = grind (arith, nat_tests)
 
 pub query_of-turn : (words : List (List ℕ)) (at : ℕ) (query after d : List ℕ) → at < length words → query ≡ query_of (take at words) →
     after ≡ cond (nat_lt 0 at) (query ++ 32 ∷ []) query ++ get_or words at d → after ≡ query_of (take (at + 1) words)
@@ -24,7 +24,7 @@ query_of-turn (first ∷ words) zero query after d within is h = h ∙ ap (λ (x
 query_of-turn (first ∷ words) (suc n) query after d within is h =
     let word = get_or (first ∷ words) (suc n) d in
     h
-    ∙ ap (λ v. cond v (query ++ 32 ∷ []) query ++ word) (is_behind n)
+    ∙ ap (λ v. cond v (query ++ 32 ∷ []) query ++ word) (is_after n)
     ∙ append_assoc query (32 ∷ []) word
     ∙ ap (λ (x : List ℕ). x ++ 32 ∷ word) is
     ∙ sym (query_of-more first (take n words) word)

@@ -40,9 +40,9 @@ sign_below : (sign : ℕ) → (sign == 43 || sign == 45) ≡ true → sign < 128
 sign_below sign h = grind (arith, nat_tests)
 
 -- a tag word may be cut behind its sign
-pub cut_behind_sign : (word : List ℕ) → IsUtf8 word → is_tag_word word ≡ true → IsCharBoundary word 1
-cut_behind_sign [] u h = absurd (cc)
-cut_behind_sign (sign ∷ tag) u h = IsCharBoundary-after_ascii (sign ∷ tag) 0 u (omega arith) (sign_below sign (and-left _ _ h))
+pub cut_after_sign : (word : List ℕ) → IsUtf8 word → is_tag_word word ≡ true → IsCharBoundary word 1
+cut_after_sign [] u h = absurd (cc)
+cut_after_sign (sign ∷ tag) u h = IsCharBoundary-after_ascii (sign ∷ tag) 0 u (omega arith) (sign_below sign (and-left _ _ h))
 
 -- a tag behind `-` makes no `--`
 tag-differs : (tag : List ℕ) → is_tag tag ≡ true → same_text (45 ∷ tag) (codes "--") ≡ false

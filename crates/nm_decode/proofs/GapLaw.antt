@@ -68,14 +68,14 @@ white-first : (b : ℕ) → is_white_space b ≡ true → eqb b 61 ≡ false
 white-first b h = grind (arith, nat_tests)
 
 -- the first word behind a gap
-first-behind : (gap rest : List ℕ) (word : EncodedWord) → is_all_white_space gap ≡ true → first_word rest ≡ Some (record { at = 0; word = word })
+first-after : (gap rest : List ℕ) (word : EncodedWord) → is_all_white_space gap ≡ true → first_word rest ≡ Some (record { at = 0; word = word })
     → first_word (gap ++ rest) ≡ Some (record { at = length gap; word = word })
-first-behind [] rest word h e = e
-first-behind (b ∷ gap) rest word h e =
+first-after [] rest word h e = e
+first-after (b ∷ gap) rest word h e =
     let p = and_parts (is_white_space b) (list_all is_white_space gap) h in
     let n : length gap + 1 ≡ length (b ∷ gap) = omega arith in
     ap (λ o. or_later o (first_word (gap ++ rest))) (other-first b (gap ++ rest) (white-first b p.0))
-    ∙ ap (or_later None) (first-behind gap rest word p.1 e)
+    ∙ ap (or_later None) (first-after gap rest word p.1 e)
     ∙ ap (λ i. Some (record { at = i; word = word })) n
 
 -- the cut of a text at the word behind a gap
@@ -86,7 +86,7 @@ cut-word {word} {text} w n gap rest h =
     let end = length gap + (word_in w).len in
     let k : length (gap ++ word) ≡ end = length-append gap word ∙ ap (λ i. length gap + i) (length-word w) in
     let d : drop end all ≡ rest = ap (drop end) (sym (append_assoc gap word rest)) ∙ drop_at (gap ++ word) rest end k in
-    ap (cut_found (cut_words n) all) (first-behind gap (word ++ rest) (word_in w) h (first-here w rest))
+    ap (cut_found (cut_words n) all) (first-after gap (word ++ rest) (word_in w) h (first-here w rest))
     ∙ ap (λ front. and_then_cut front text (cut_words n (drop end all))) (take_at gap (word ++ rest) (length gap) refl)
     ∙ ap (λ xs. and_then_cut gap text (cut_words n xs)) d
 

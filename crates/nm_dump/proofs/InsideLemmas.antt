@@ -13,8 +13,8 @@ two_bytes text e =
     grind (arith, nat_tests)
 
 -- behind the opening one
-pub cut_behind : (text : List ℕ) → IsUtf8 text → is_in_parentheses text ≡ true → IsCharBoundary text 1
-cut_behind text u e =
+pub cut_after_first : (text : List ℕ) → IsUtf8 text → is_in_parentheses text ≡ true → IsCharBoundary text 1
+cut_after_first text u e =
     let first = (and_parts (nat_le 2 (length text)) _ (and_parts (nat_le 2 (length text) && slice_index text 0 == 40) _ e).0).1 in
     let long = two_bytes text e in
     let low : slice_index text 0 < 128 = grind (arith, nat_tests) in

@@ -13,7 +13,7 @@ use Rattle.nm_base.specs.Tag.{is_tag}
 use Rattle.nm_base.specs.declared.forms.DumpForm.TheVariants.{Sup}
 use Rattle.nm_base.specs.declared.forms.ReadForm.TheVariants as forms
 use Rattle.nm_text.specs.WhiteSpace.{trimmed_start}
-use Rattle.nm_tags.specs.TagLines.{begins_comment, begins_with_space, behind_first_word, first_word, words_in, words_upto}
+use Rattle.nm_tags.specs.TagLines.{after_first_word, begins_comment, begins_with_space, first_word, words_in, words_upto}
 use Rattle.nm_tags.specs.declared.line_error.LineKind.TheVariants as kinds
 use Rattle.nm_answer.specs.BatchTag.{checked_id}
 use Rattle.nm_answer.specs.Dump.{dump_text, sup_line}
@@ -78,7 +78,7 @@ dark_len (b ∷ word) h =
 last_word : (text word : List ℕ) → trimmed_start text ≡ word → list_all is_dark word ≡ true → first_word text ≡ word
 last_word text word e h = ap (before_first is_white_space) e ∙ (ap (λ n. take n word) (dark_len word h) ∙ take_all (length word) word (omega arith))
 
-nothing_after : (text word : List ℕ) → trimmed_start text ≡ word → list_all is_dark word ≡ true → behind_first_word text ≡ []
+nothing_after : (text word : List ℕ) → trimmed_start text ≡ word → list_all is_dark word ≡ true → after_first_word text ≡ []
 nothing_after text word e h = ap (λ w. drop (length w) (trimmed_start text)) (last_word text word e h) ∙ (ap (drop (length word)) e ∙ drop-length word)
 
 no_words : (n : ℕ) → words_upto n [] ≡ []
@@ -90,19 +90,19 @@ words_joined : (n : ℕ) (tags : List (List ℕ)) (text : List ℕ) → length t
     → trimmed_start text ≡ join_with_byte 32 tags → words_upto n text ≡ tags
 words_joined zero [] text l h d e = refl
 words_joined zero (tag ∷ tags) text l h d e = absurd (omega arith)
-words_joined (suc n) [] text l h d e = ap (λ w. cond (length w == 0) [] (w ∷ words_upto n (behind_first_word text))) (last_word text [] e refl)
+words_joined (suc n) [] text l h d e = ap (λ w. cond (length w == 0) [] (w ∷ words_upto n (after_first_word text))) (last_word text [] e refl)
 words_joined (suc n) (tag ∷ []) text l h d e =
     let dark : list_all is_dark tag ≡ true = (and_parts (list_all is_dark tag) _ d).0 in
-    ap (λ w. cond (length w == 0) [] (w ∷ words_upto n (behind_first_word text))) (last_word text tag e dark)
-    ∙ (ap (λ b. cond b [] (tag ∷ words_upto n (behind_first_word text))) (some_tag tag h.0.2)
+    ap (λ w. cond (length w == 0) [] (w ∷ words_upto n (after_first_word text))) (last_word text tag e dark)
+    ∙ (ap (λ b. cond b [] (tag ∷ words_upto n (after_first_word text))) (some_tag tag h.0.2)
     ∙ (ap (λ t. tag ∷ words_upto n t) (nothing_after text tag e dark) ∙ ap (λ words. tag ∷ words) (no_words n)))
 words_joined (suc n) (tag ∷ next ∷ tags) text l h d e =
     let rest = join_with_byte 32 (next ∷ tags) in
     let dark : list_all is_dark tag ≡ true = (and_parts (list_all is_dark tag) _ d).0 in
     let others : without_spaces (next ∷ tags) ≡ true = (and_parts (list_all is_dark tag) _ d).1 in
     let next_dark : list_all is_dark next ≡ true = (and_parts (list_all is_dark next) _ others).0 in
-    ap (λ w. cond (length w == 0) [] (w ∷ words_upto n (behind_first_word text))) (first_is text tag rest e dark)
-    ∙ (ap (λ b. cond b [] (tag ∷ words_upto n (behind_first_word text))) (some_tag tag h.0.2)
+    ap (λ w. cond (length w == 0) [] (w ∷ words_upto n (after_first_word text))) (first_is text tag rest e dark)
+    ∙ (ap (λ b. cond b [] (tag ∷ words_upto n (after_first_word text))) (some_tag tag h.0.2)
     ∙ (ap (λ t. tag ∷ words_upto n t) (after_is text tag rest e dark)
     ∙ ap (λ words. tag ∷ words) (words_joined n (next ∷ tags) (32 ∷ rest) (omega arith) h.1 others (spaced_first next tags h.1.0.2 next_dark))))
 
@@ -162,8 +162,8 @@ sup_read id tags u is h d =
     let starts : trimmed_start text ≡ id ++ 32 ∷ more = some_id id (32 ∷ more) is dark in
     let checked : checked_id (Some id) ≡ Some id = ap (λ b. cond (b && is_message_id id) (Some id) None) u ∙ ap (λ b. cond b (Some id) None) is in
     ap read_sup (line_is id tags)
-    ∙ (ap (λ b. cond b (Err kinds.Form) (sup_asked (checked_id (Some (first_word text))) (inside (trimmed_start (behind_first_word text))))) (no_space id (32 ∷ more) is dark)
-    ∙ (ap (λ w. sup_asked (checked_id (Some w)) (inside (trimmed_start (behind_first_word text)))) (first_is text id more starts dark)
+    ∙ (ap (λ b. cond b (Err kinds.Form) (sup_asked (checked_id (Some (first_word text))) (inside (trimmed_start (after_first_word text))))) (no_space id (32 ∷ more) is dark)
+    ∙ (ap (λ w. sup_asked (checked_id (Some w)) (inside (trimmed_start (after_first_word text)))) (first_is text id more starts dark)
     ∙ (ap (λ t. sup_asked (checked_id (Some id)) (inside (trimmed_start t))) (after_is text id more starts dark)
     ∙ (ap (sup_asked (checked_id (Some id))) (inside_is (join_with_byte 32 tags))
     ∙ (ap (λ found. sup_asked found (Some (join_with_byte 32 tags))) checked

@@ -15,7 +15,7 @@ use Rattle.nm_base.specs.declared.tag_op.TagOp.{TagOp}
 use Rattle.nm_text.specs.WhiteSpace.{trimmed, trimmed_end, trimmed_start}
 use Rattle.nm_tags.specs.Decoding.{decoded_tag}
 use Rattle.nm_tags.specs.Encoding.{encoded_tag}
-use Rattle.nm_tags.specs.TagLines.{asked_in, asked_upto, behind_first_word, first_word, is_tag_word, op_of, query_after, with_op}
+use Rattle.nm_tags.specs.TagLines.{after_first_word, asked_in, asked_upto, first_word, is_tag_word, op_of, query_after, with_op}
 use Rattle.nm_tags.specs.declared.line_error.LineKind.TheVariants as kinds
 use Rattle.nm_answer.specs.BatchTag.{id_of_query, read_batch_tag, with_id}
 use Rattle.nm_answer.specs.Dump.{changes_line, written_id, written_tag}
@@ -38,7 +38,7 @@ first_is text word more e h =
     ∙ (ap (λ n. take n (word ++ 32 ∷ more)) (dark_len word more h) ∙ take-append_seam word (32 ∷ more))
 
 -- with the white space after it
-pub after_is : (text word more : List ℕ) → trimmed_start text ≡ word ++ 32 ∷ more → list_all is_dark word ≡ true → behind_first_word text ≡ 32 ∷ more
+pub after_is : (text word more : List ℕ) → trimmed_start text ≡ word ++ 32 ∷ more → list_all is_dark word ≡ true → after_first_word text ≡ 32 ∷ more
 after_is text word more e h =
     ap (λ w. drop (length w) (trimmed_start text)) (first_is text word more e h)
     ∙ (ap (drop (length word)) e ∙ drop-append_seam word (32 ∷ more))
@@ -62,8 +62,8 @@ space_first (tag ∷ tags) query = refl
 query_is : (text query : List ℕ) → trimmed_start text ≡ query_part query → query_after text ≡ trimmed (32 ∷ query)
 query_is text query e =
     let dashes : first_word text ≡ 45 ∷ 45 ∷ [] = first_is text (45 ∷ 45 ∷ []) query e refl in
-    let behind : behind_first_word text ≡ 32 ∷ query = after_is text (45 ∷ 45 ∷ []) query e refl in
-    ap (λ w. trimmed (cond (same_text w (codes "--")) (behind_first_word text) text)) dashes ∙ ap trimmed behind
+    let after : after_first_word text ≡ 32 ∷ query = after_is text (45 ∷ 45 ∷ []) query e refl in
+    ap (λ w. trimmed (cond (same_text w (codes "--")) (after_first_word text) text)) dashes ∙ ap trimmed after
 
 -- a tag is read as it was written
 abbrev pub ReadsTags : Type 0
@@ -78,15 +78,15 @@ tags_asked : ReadsTags → (n : ℕ) (tags : List (List ℕ)) (text query : List
 tags_asked reads zero [] text query l h e = ap (λ q. Some ([], q)) (query_is text query e)
 tags_asked reads zero (tag ∷ tags) text query l h e = absurd (omega arith)
 tags_asked reads (suc n) [] text query l h e =
-    ap (λ w. cond (is_tag_word w) (with_op (op_of w) (asked_upto n (behind_first_word text))) (Some ([], query_after text))) (first_is text (45 ∷ 45 ∷ []) query e refl)
+    ap (λ w. cond (is_tag_word w) (with_op (op_of w) (asked_upto n (after_first_word text))) (Some ([], query_after text))) (first_is text (45 ∷ 45 ∷ []) query e refl)
     ∙ ap (λ q. Some ([], q)) (query_is text query e)
 tags_asked reads (suc n) (tag ∷ tags) text query l h e =
     let word = 43 ∷ encoded_tag tag in
     let more = flat_map written_tag tags ++ query_part query in
     let line : trimmed_start text ≡ word ++ 32 ∷ more =
     e ∙ (append_assoc (word ++ 32 ∷ []) (flat_map written_tag tags) (query_part query) ∙ append_assoc word (32 ∷ []) more) in
-    ap (λ w. cond (is_tag_word w) (with_op (op_of w) (asked_upto n (behind_first_word text))) (Some ([], query_after text))) (first_is text word more line (tag_dark tag))
-    ∙ (ap (λ op. with_op op (asked_upto n (behind_first_word text))) (op_from (encoded_tag tag) tag (reads tag h.0.0 h.0.1 h.0.2))
+    ap (λ w. cond (is_tag_word w) (with_op (op_of w) (asked_upto n (after_first_word text))) (Some ([], query_after text))) (first_is text word more line (tag_dark tag))
+    ∙ (ap (λ op. with_op op (asked_upto n (after_first_word text))) (op_from (encoded_tag tag) tag (reads tag h.0.0 h.0.1 h.0.2))
     ∙ (ap (λ t. with_op (Some (set_tag tag)) (asked_upto n t)) (after_is text word more line (tag_dark tag))
     ∙ ap (with_op (Some (set_tag tag))) (tags_asked reads n tags (32 ∷ more) query (omega arith) h.1 (space_first tags query))))
 

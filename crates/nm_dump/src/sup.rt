@@ -20,13 +20,13 @@ pub(crate) fn read_sup(
     if begins_with_space(text) {
         return Ok(Err(LineKind::Form));
     }
-    let Some((word, behind)) = next_word(text) else {
+    let Some((word, after)) = next_word(text) else {
         return Ok(Err(LineKind::Form));
     };
     let Some(id) = checked_id(alloc, word.as_bytes())? else {
         return Ok(Err(LineKind::Form));
     };
-    let Some(tags) = inside(without_space(behind)) else {
+    let Some(tags) = inside(without_space(after)) else {
         return Ok(Err(LineKind::Form));
     };
     match set_all(alloc, tags)? {

@@ -53,11 +53,11 @@ stripped folder path rest strips = strip_prefix_is Decides-eqb path folder (Some
 pub below_where : (folder path rest : List ℕ) → path ≡ front_of folder ++ rest → is_below folder path ≡ true
 below_where folder path rest is = (starts_is Decides-eqb path (front_of folder) (is_below folder path) refl).1 rest is
 
-pub behind : (folder path : List ℕ) → is_below folder path ≡ true → path ≡ front_of folder ++ drop (length (front_of folder)) path
-behind folder path is = (starts_is Decides-eqb path (front_of folder) (is_below folder path) refl).0 is
+pub after_front : (folder path : List ℕ) → is_below folder path ≡ true → path ≡ front_of folder ++ drop (length (front_of folder)) path
+after_front folder path is = (starts_is Decides-eqb path (front_of folder) (is_below folder path) refl).0 is
 
 pub not_below : (folder path : List ℕ) → ((rest : List ℕ) → path ≢ front_of folder ++ rest) → is_below folder path ≡ false
-not_below folder path none = false_from_ne_true (is_below folder path) (λ is. none (drop (length (front_of folder)) path) (behind folder path is))
+not_below folder path none = false_from_ne_true (is_below folder path) (λ is. none (drop (length (front_of folder)) path) (after_front folder path is))
 
 pub in_where : (folder path rest : List ℕ) → path ≡ front_of folder ++ rest → is_in folder path ≡ not (list_any (is_byte 47) rest)
 in_where folder path rest is =
@@ -77,9 +77,9 @@ inside_by : (folder path rest : List ℕ) (b : ℕ) (name : List ℕ) → path �
     → is_in (front_of folder ++ b ∷ name) path ≡ is_in (b ∷ name) rest
 inside_by folder path rest b name is true below =
     let last = drop (length (front_of (b ∷ name))) rest in
-    let whole = is ∙ ap (λ r. front_of folder ++ r) (behind (b ∷ name) rest below) ∙ sym (append_assoc (front_of folder) (front_of (b ∷ name)) last)
+    let whole = is ∙ ap (λ r. front_of folder ++ r) (after_front (b ∷ name) rest below) ∙ sym (append_assoc (front_of folder) (front_of (b ∷ name)) last)
     ∙ ap (λ front. front ++ last) (sym (front_inside (front_of folder) b name)) in
-    in_where (front_of folder ++ b ∷ name) path last whole ∙ sym (in_where (b ∷ name) rest last (behind (b ∷ name) rest below))
+    in_where (front_of folder ++ b ∷ name) path last whole ∙ sym (in_where (b ∷ name) rest last (after_front (b ∷ name) rest below))
 inside_by folder path rest b name is false below =
     not_in (front_of folder ++ b ∷ name) path (not_below (front_of folder ++ b ∷ name) path (λ more whole.
     let inner = append_cancel_left (front_of folder) rest (front_of (b ∷ name) ++ more)

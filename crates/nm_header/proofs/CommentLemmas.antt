@@ -54,8 +54,8 @@ closed_by depth pair h e =
     ] refl e
 
 -- what follows that `)` is text
-pub behind_close : (text xs left pair behind : List ℕ) (n : ℕ) → text ≡ xs ++ left → pair ≡ take n left → behind ≡ drop n left → pair ≡ 41 ∷ [] → IsUtf8 text → IsUtf8 (drop (length text - length behind) text)
-behind_close text xs left pair behind n e f b special u =
+pub after_close : (text xs left pair behind : List ℕ) (n : ℕ) → text ≡ xs ++ left → pair ≡ take n left → behind ≡ drop n left → pair ≡ 41 ∷ [] → IsUtf8 text → IsUtf8 (drop (length text - length behind) text)
+after_close text xs left pair behind n e f b special u =
     let whole : left ≡ 41 ∷ behind = sym (take-append-drop n left) ∙ ap (λ x. x ++ drop n left) (sym f ∙ special) ∙ ap (λ x. 41 ∷ x) (sym b) in
     let parts : text ≡ xs ++ 41 ∷ behind = e ∙ ap (λ x. xs ++ x) whole in
     let apart : text ≡ (xs ++ 41 ∷ []) ++ behind = parts ∙ sym (append_assoc xs (41 ∷ []) behind) in

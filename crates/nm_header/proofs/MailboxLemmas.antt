@@ -94,10 +94,10 @@ no_angle [] e = refl
 no_angle (b ∷ t) e = fourth_of (44 == b) (59 == b) (58 == b) (60 == b) e
 
 -- ---- lists of lexemes
-before_behind : (p : List ℕ → Bool) (before rest : List (List ℕ)) → list_any p before ≡ false → before_first p (before ++ rest) ≡ before ++ before_first p rest
-before_behind p [] rest none = refl
-before_behind p (x ∷ before) rest none =
-    before_first-no p x (before ++ rest) (or_parts (p x) (list_any p before) none).0 ∙ ap (λ l. x ∷ l) (before_behind p before rest (or_parts (p x) (list_any p before) none).1)
+before_after : (p : List ℕ → Bool) (before rest : List (List ℕ)) → list_any p before ≡ false → before_first p (before ++ rest) ≡ before ++ before_first p rest
+before_after p [] rest none = refl
+before_after p (x ∷ before) rest none =
+    before_first-no p x (before ++ rest) (or_parts (p x) (list_any p before) none).0 ∙ ap (λ l. x ∷ l) (before_after p before rest (or_parts (p x) (list_any p before) none).1)
 
 pub drop_before : (p : List ℕ → Bool) (before rest : List (List ℕ)) → list_any p before ≡ false → position_or_len p rest ≡ 0 → drop (position_or_len p (before ++ rest)) (before ++ rest) ≡ rest
 drop_before p [] rest none stop = ap (λ k. drop k rest) stop
@@ -110,10 +110,10 @@ split_whole p [] none = refl
 split_whole p (x ∷ xs) none =
     slice_split-cons_no p x xs (or_parts (p x) (list_any p xs) none).0 ∙ ap (onto_first x) (split_whole p xs (or_parts (p x) (list_any p xs) none).1)
 
-split_behind : (p : List ℕ → Bool) (xs : List (List ℕ)) (y : List ℕ) (ys : List (List ℕ)) → list_any p xs ≡ false → p y ≡ true → slice_split p (xs ++ y ∷ ys) ≡ xs ∷ slice_split p ys
-split_behind p [] y ys none e = slice_split-cons_yes p y ys e
-split_behind p (x ∷ xs) y ys none e =
-    slice_split-cons_no p x (xs ++ y ∷ ys) (or_parts (p x) (list_any p xs) none).0 ∙ ap (onto_first x) (split_behind p xs y ys (or_parts (p x) (list_any p xs) none).1 e)
+split_after : (p : List ℕ → Bool) (xs : List (List ℕ)) (y : List ℕ) (ys : List (List ℕ)) → list_any p xs ≡ false → p y ≡ true → slice_split p (xs ++ y ∷ ys) ≡ xs ∷ slice_split p ys
+split_after p [] y ys none e = slice_split-cons_yes p y ys e
+split_after p (x ∷ xs) y ys none e =
+    slice_split-cons_no p x (xs ++ y ∷ ys) (or_parts (p x) (list_any p xs) none).0 ∙ ap (onto_first x) (split_after p xs y ys (or_parts (p x) (list_any p xs) none).1 e)
 
 split_front : (p : List ℕ → Bool) (xs ys part : List (List ℕ)) (parts : List (List (List ℕ))) → list_any p xs ≡ false → slice_split p ys ≡ part ∷ parts → slice_split p (xs ++ ys) ≡ (xs ++ part) ∷ parts
 split_front p [] ys part parts none e = e
@@ -147,10 +147,10 @@ has_colon : (before : List (List ℕ)) (c : List ℕ) (part : List (List ℕ)) �
 has_colon [] c part e = ap (λ v. v || list_any is_colon part) e
 has_colon (x ∷ before) c part e = or_true (is_colon x) (list_any is_colon (before ++ c ∷ part)) (has_colon before c part e)
 
-colon_behind : (before : List (List ℕ)) (c : List ℕ) (part : List (List ℕ)) → is_colon c ≡ true → after_colon (before ++ c ∷ part) ≡ after_colon part
-colon_behind [] c part e = colon_first c part e
-colon_behind (x ∷ before) c part e =
-    ap (λ v. cond v (after_colon (before ++ c ∷ part)) (cond (is_colon x) (before ++ c ∷ part) (x ∷ (before ++ c ∷ part)))) (has_colon before c part e) ∙ colon_behind before c part e
+colon_after : (before : List (List ℕ)) (c : List ℕ) (part : List (List ℕ)) → is_colon c ≡ true → after_colon (before ++ c ∷ part) ≡ after_colon part
+colon_after [] c part e = colon_first c part e
+colon_after (x ∷ before) c part e =
+    ap (λ v. cond v (after_colon (before ++ c ∷ part)) (cond (is_colon x) (before ++ c ∷ part) (x ∷ (before ++ c ∷ part)))) (has_colon before c part e) ∙ colon_after before c part e
 
 -- ---- the mailboxes of a text, part by part
 pub in_end : (lexemes : List (List ℕ)) → list_any (begins_with part_ends) lexemes ≡ false → mailboxes_in lexemes ≡ mailbox_in lexemes
@@ -159,7 +159,7 @@ in_end lexemes none =
 
 pub in_separator : (lexemes : List (List ℕ)) (t : List ℕ) (rest : List (List ℕ)) → list_any (begins_with part_ends) lexemes ≡ false → is_separator t ≡ true → mailboxes_in (lexemes ++ t ∷ rest) ≡ mailbox_in lexemes ++ mailboxes_in rest
 in_separator lexemes t rest none e =
-    ap (flat_map (λ part. mailbox_in (after_colon part))) (split_behind is_separator lexemes t rest (none_of is_separator (begins_with part_ends) no_separator lexemes none) e) ∙ ap (λ x. mailbox_in x ++ mailboxes_in rest) (colon_none lexemes (none_of is_colon (begins_with part_ends) no_colon lexemes none))
+    ap (flat_map (λ part. mailbox_in (after_colon part))) (split_after is_separator lexemes t rest (none_of is_separator (begins_with part_ends) no_separator lexemes none) e) ∙ ap (λ x. mailbox_in x ++ mailboxes_in rest) (colon_none lexemes (none_of is_colon (begins_with part_ends) no_colon lexemes none))
 
 in_colon : (lexemes : List (List ℕ)) (c : List ℕ) (rest : List (List ℕ)) → list_any (begins_with part_ends) lexemes ≡ false → is_colon c ≡ true → is_separator c ≡ false → mailboxes_in (lexemes ++ c ∷ rest) ≡ mailboxes_in rest
 in_colon lexemes c rest none e f =
@@ -169,7 +169,7 @@ in_colon lexemes c rest none e f =
     let split : slice_split is_separator rest ≡ part ∷ parts = s.2 in
     let front : slice_split is_separator (c ∷ rest) ≡ (c ∷ part) ∷ parts = slice_split-cons_no is_separator c rest f ∙ ap (onto_first c) split in
     let whole : slice_split is_separator (lexemes ++ c ∷ rest) ≡ (lexemes ++ c ∷ part) ∷ parts = split_front is_separator lexemes (c ∷ rest) (c ∷ part) parts (none_of is_separator (begins_with part_ends) no_separator lexemes none) front in
-    ap (flat_map (λ x. mailbox_in (after_colon x))) whole ∙ ap (λ x. mailbox_in x ++ flat_map (λ y. mailbox_in (after_colon y)) parts) (colon_behind lexemes c part e) ∙ sym (ap (flat_map (λ x. mailbox_in (after_colon x))) split)
+    ap (flat_map (λ x. mailbox_in (after_colon x))) whole ∙ ap (λ x. mailbox_in x ++ flat_map (λ y. mailbox_in (after_colon y)) parts) (colon_after lexemes c part e) ∙ sym (ap (flat_map (λ x. mailbox_in (after_colon x))) split)
 
 special_lexeme : (b : ℕ) (text : List ℕ) → list_any (λ s. s == b) part_ends ≡ true → mailbox_lexeme_more b text ≡ 0
 special_lexeme b text e =
@@ -247,7 +247,7 @@ angle_from text behind b m s e special =
     let none : list_any is_angle before ≡ false = none_of is_angle (begins_with name_ends) no_angle before s.none in
     let goes_on : begins_with part_ends (b ∷ more) ≡ false = ap (λ x. list_any (λ s. s == x) part_ends) special in
     let angle : is_angle (b ∷ more) ≡ true = ap (λ x. list_any (λ s. s == x) (60 ∷ [])) special in
-    let part : lexemes_before part_ends text ≡ before ++ (b ∷ more) ∷ others = ap (before_first (begins_with part_ends)) lexemes ∙ before_behind (begins_with part_ends) before ((b ∷ more) ∷ rest) no_end ∙ ap (λ x. before ++ x) (before_first-no (begins_with part_ends) (b ∷ more) rest goes_on) in
+    let part : lexemes_before part_ends text ≡ before ++ (b ∷ more) ∷ others = ap (before_first (begins_with part_ends)) lexemes ∙ before_after (begins_with part_ends) before ((b ∷ more) ∷ rest) no_end ∙ ap (λ x. before ++ x) (before_first-no (begins_with part_ends) (b ∷ more) rest goes_on) in
     let stop : position_or_len is_angle ((b ∷ more) ∷ others) ≡ 0 = ap (λ v. cond (not v) (1 + position_or_len is_angle others) 0) angle in
     let front : before_first is_angle (before ++ (b ∷ more) ∷ others) ≡ before = before_is is_angle before ((b ∷ more) ∷ others) none stop in
     let back : drop (position_or_len is_angle (before ++ (b ∷ more) ∷ others)) (before ++ (b ∷ more) ∷ others) ≡ (b ∷ more) ∷ others = drop_before is_angle before ((b ∷ more) ∷ others) none stop in

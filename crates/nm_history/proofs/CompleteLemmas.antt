@@ -32,7 +32,7 @@ use Rattle.nm_history.specs.Complete.{EndsWell, IsComplete, IsFinished, IsWithin
 use Rattle.nm_history.specs.Given.{GivenAlong, IsGiven}
 use Rattle.nm_history.specs.History.{History}
 use Rattle.nm_history.specs.LineAnswers.{HasAnswer, HasCause, LineAnswers}
-use Rattle.nm_history.specs.Lines.{Along, Before, RunLine, at_first, behind, behind_all, lines_run}
+use Rattle.nm_history.specs.Lines.{Along, Before, RunLine, after_line, after_lines, at_first, lines_run}
 use Rattle.nm_history.specs.PrintedOut.{AreLogsOf, PrintedOut, StreamAppends}
 use Rattle.nm_history.specs.Refusals.{IsInputPassed, IsRead, PassesBefore, TakesInput}
 use Rattle.nm_history.specs.Requests.{bad_line_in, first_bad_line}
@@ -49,12 +49,12 @@ logs-length (line ∷ script) (log ∷ logs) h = ap suc (logs-length script logs
 
 mail-grows : (opening : Base) (moment : ℤ) (steps : List Step) (before : Before) (done : List RunLine) (old new : ObservedMail) → GivenAlong opening moment steps before done old new → old.faults ≤ new.faults
 mail-grows opening moment steps before [] old new h = omega (arith, ap (λ (m : ObservedMail). m.faults) h)
-mail-grows opening moment steps before (ran ∷ done) old new h = omega (arith, h.1.never_falls, mail-grows opening moment steps (behind before ran) done h.0 new h.2)
+mail-grows opening moment steps before (ran ∷ done) old new h = omega (arith, h.1.never_falls, mail-grows opening moment steps (after_line before ran) done h.0 new h.2)
 
 disk-grows : (opening : Base) (moment : ℤ) (steps : List Step) (before : Before) (done : List RunLine) (old new : ObservedMail) → GivenAlong opening moment steps before done old new
-    → before.disk_faults ≤ (behind_all before done).disk_faults
+    → before.disk_faults ≤ (after_lines before done).disk_faults
 disk-grows opening moment steps before [] old new h = omega arith
-disk-grows opening moment steps before (ran ∷ done) old new h = omega (arith, h.1.disk_never_falls, disk-grows opening moment steps (behind before ran) done h.0 new h.2)
+disk-grows opening moment steps before (ran ∷ done) old new h = omega (arith, h.1.disk_never_falls, disk-grows opening moment steps (after_line before ran) done h.0 new h.2)
 
 -- where the disk's count stands the disk did not fail
 disk-well : (failed : Bool) (before now : ℕ) → Counts failed before now → now ≤ before → before < max_count → failed ≡ true → ⊥
@@ -83,19 +83,19 @@ logs-of done = map (λ ran. ran.1) done
 
 quiet-lines : (opening : Base) (moment : ℤ) (steps : List Step) (before : Before) (done : List RunLine) (old new : ObservedMail)
     → GivenAlong opening moment steps before done old new → Along (HasAnswer opening moment steps) before done → before.mail_faults ≡ old.faults
-    → new.faults ≤ old.faults → old.faults < max_count → (behind_all before done).disk_faults ≤ before.disk_faults → before.disk_faults < max_count
+    → new.faults ≤ old.faults → old.faults < max_count → (after_lines before done).disk_faults ≤ before.disk_faults → before.disk_faults < max_count
     → first_fault (logs-of done) ≡ None
 quiet-lines opening moment steps before [] old new h answers same m room d space = refl
 quiet-lines opening moment steps before (ran ∷ done) old new h answers same m room d space =
-    let mail = mail-grows opening moment steps (behind before ran) done h.0 new h.2 in
-    let disk = disk-grows opening moment steps (behind before ran) done h.0 new h.2 in
+    let mail = mail-grows opening moment steps (after_line before ran) done h.0 new h.2 in
+    let disk = disk-grows opening moment steps (after_line before ran) done h.0 new h.2 in
     let noted = h.1.noted in
     let rises = h.1.never_falls in
     let disk_rises = h.1.disk_never_falls in
     let well : ran.1.disk_failed ≡ true → ⊥ = disk-well ran.1.disk_failed before.disk_faults ran.1.disk_faults answers.0.disk (omega arith) space in
     let first = quiet-line _ _ before _ moment ran.1.given ran.1.mail_faults ran.1.disk_faults ran.1.disk_failed (omega arith) (omega arith) well ran.1.outcome answers.0.cause in
     ap (λ (f : Option ℕ). fault_or f (first_fault (logs-of done))) first
-    ∙ quiet-lines opening moment steps (behind before ran) done h.0 new h.2 answers.1 noted (omega arith) (omega arith) (omega arith) (omega (arith, h.1.disk_never_falls))
+    ∙ quiet-lines opening moment steps (after_line before ran) done h.0 new h.2 answers.1 noted (omega arith) (omega arith) (omega arith) (omega (arith, h.1.disk_never_falls))
 
 -- what was read to its end is what was told
 read-is : (old new : Option (List ℕ)) (input read : List ℕ) → old ≡ Some input → Consumes old new read → IsAtEnd new → read ≡ input

@@ -81,10 +81,10 @@ module _ (line : ParsedLine) (input : List ℕ) (before : Before) (index : Base)
   closed-by (outcomes.Limit limit) (inr (inr may), h) = absurd (may-not may.0)
   closed-by outcomes.NoMemory h = inr refl
 
-pub closed-behind : (outcome : Outcome) (line : ParsedLine) (input : List ℕ) (before : Before) (index : Base) (moment : ℤ) (noted : List Given) (mail : ℕ) (failed : Bool) (fault : ℕ)
+pub closed-after : (outcome : Outcome) (line : ParsedLine) (input : List ℕ) (before : Before) (index : Base) (moment : ℤ) (noted : List Given) (mail : ℕ) (failed : Bool) (fault : ℕ)
     → before.closed ≡ Some fault → asks_to_write line ≡ true → refused_text_in line input ≡ None
     → HasCause outcome line input before index moment noted mail failed → (outcome ≡ outcomes.Closed fault) ⊎ (outcome ≡ outcomes.NoMemory)
-closed-behind outcome line input before index moment noted mail failed fault e writes right h = closed-by line input before index moment noted mail failed fault e writes right outcome h
+closed-after outcome line input before index moment noted mail failed fault e writes right h = closed-by line input before index moment noted mail failed fault e writes right outcome h
 
 -- neither a line of an input nor a query is refused as closed
 text-not-closed : (answered : Result Query QueryError) (fault : ℕ) → first_refusal (refused_text answered) None ≡ Some (outcomes.Closed fault) → ⊥

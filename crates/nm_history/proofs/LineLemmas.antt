@@ -16,7 +16,7 @@ use Rattle.nm_history.specs.Given.{Asks, GivenAlong}
 use Rattle.nm_history.specs.LineAnswers.{HasAnswer, HasCause, LineAnswers}
 use Rattle.nm_history.specs.LineCommits.{EachMakes, IsOnItsWay, LineCommits, Makes, MakesCommits}
 use Rattle.nm_history.specs.LineResult.{IsLineResult, Place, StandsAt, before_at, begin_step, commit_steps, line_steps, reply_step}
-use Rattle.nm_history.specs.Lines.{Along, Before, IsIndexAt, RunLine, at_first, begun, begun_by, behind, behind_all, closed_after, tree_after, tree_after_all}
+use Rattle.nm_history.specs.Lines.{Along, Before, IsIndexAt, RunLine, after_line, after_lines, at_first, begun, begun_by, closed_after, tree_after, tree_after_all}
 use Rattle.nm_history.specs.MachineRun.{Replied, reply_to}
 
 pub fold-append : {A B : Type 0} (f : A → B → A) (a : A) (xs ys : List B) → fold f a (xs ++ ys) ≡ fold f (fold f a xs) ys
@@ -123,21 +123,21 @@ module _ (opening : Base) (moment : ℤ) (entry : Devices) (steps taken : List S
   shown-all =
       result.has_made.shown ∙ ap (λ (i : Base). folded i result.made) at.shown ∙ sym (fold-append committed opening acknowledged result.made)
 
-  pub revision-before : (behind_all (at_first opening entry) lines).revision ≡ opening.revision + length acknowledged
+  pub revision-before : (after_lines (at_first opening entry) lines).revision ≡ opening.revision + length acknowledged
   revision-before =
       ap (λ (b : Before). b.revision) at.before ∙ ap (λ (i : Base). i.revision) at.shown ∙ revision-folded opening acknowledged
 
   pub revision-after : ran.1.revision ≡ opening.revision + length (acknowledged ++ result.made)
   revision-after = result.revision ∙ ap (λ (i : Base). i.revision) shown-all ∙ revision-folded opening (acknowledged ++ result.made)
 
-  behind-is : behind (before_at old) ran ≡ before_at new
-  behind-is =
+  after-is : after_line (before_at old) ran ≡ before_at new
+  after-is =
       before-is _ _ _ _ _ _ _ _ _ _ result.revision result.mail_faults result.disk_faults
       (ap (λ n. closed_after old.writer.closed ran.1.disk_failed n) result.disk_faults ∙ sym result.closed) (sym result.left)
 
-  pub before-next : behind_all (at_first opening entry) (lines ++ ran ∷ []) ≡ before_at new
+  pub before-next : after_lines (at_first opening entry) (lines ++ ran ∷ []) ≡ before_at new
   before-next =
-      fold-append behind (at_first opening entry) lines (ran ∷ []) ∙ ap (λ (b : Before). behind b ran) at.before ∙ behind-is
+      fold-append after_line (at_first opening entry) lines (ran ∷ []) ∙ ap (λ (b : Before). after_line b ran) at.before ∙ after-is
 
   pub stands-more : StandsAt opening entry (steps ++ taken) (lines ++ ran ∷ []) (acknowledged ++ result.made) new
   stands-more = record {
@@ -243,7 +243,7 @@ module _ (opening : Base) (moment : ℤ) (entry : Devices) (steps taken : List S
     text = result.text;
   }
 
-  answers-more : (before : Before) (done : List RunLine) → behind_all before done ≡ before_at old → Along (HasAnswer opening moment steps) before done
+  answers-more : (before : Before) (done : List RunLine) → after_lines before done ≡ before_at old → Along (HasAnswer opening moment steps) before done
       → Along (HasAnswer opening moment (steps ++ taken)) before (done ++ ran ∷ [])
   answers-more before [] e h = (subst (λ (b : Before). HasAnswer opening moment (steps ++ taken) b ran) (sym e) has-answer, tt)
   answers-more before (first ∷ done) e h = (
@@ -257,7 +257,7 @@ module _ (opening : Base) (moment : ℤ) (entry : Devices) (steps taken : List S
       status = h.0.status;
       text = h.0.text;
     },
-    answers-more (behind before first) done e h.1,
+    answers-more (after_line before first) done e h.1,
   )
 
   pub line-answers-more : LineAnswers opening moment (at_first opening entry) steps lines → LineAnswers opening moment (at_first opening entry) (steps ++ taken) (lines ++ ran ∷ [])
@@ -275,7 +275,7 @@ module _ (opening : Base) (moment : ℤ) (entry : Devices) (steps taken : List S
     disk_never_falls = omega (arith, result.disk_never_falls, result.disk_faults);
   }
 
-  given-along : (before : Before) (done : List RunLine) (first_mail : ObservedMail) → behind_all before done ≡ before_at old → GivenAlong opening moment steps before done first_mail old.mail
+  given-along : (before : Before) (done : List RunLine) (first_mail : ObservedMail) → after_lines before done ≡ before_at old → GivenAlong opening moment steps before done first_mail old.mail
       → GivenAlong opening moment (steps ++ taken) before (done ++ ran ∷ []) first_mail new.mail
   given-along before [] first_mail e h = (
     new.mail,
@@ -294,7 +294,7 @@ module _ (opening : Base) (moment : ℤ) (entry : Devices) (steps taken : List S
       never_falls = h.1.never_falls;
       disk_never_falls = h.1.disk_never_falls;
     },
-    given-along (behind before first) done h.0 e h.2,
+    given-along (after_line before first) done h.0 e h.2,
   )
 
   pub given-more : GivenAlong opening moment steps (at_first opening entry) lines entry.mail old.mail

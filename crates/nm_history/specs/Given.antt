@@ -17,7 +17,7 @@ use Rattle.nm_scan.specs.declared.bodies_error.BodiesError.{BodiesError}
 use Rattle.nm_scan.specs.declared.bodies_error.BodiesError.TheVariants as stops
 use Rattle.nm_writer.specs.Renamed.{AsksRenames}
 use Rattle.nm_history.specs.Call.{Devices, Ending, Ran, Refused}
-use Rattle.nm_history.specs.Lines.{Before, IsIndexAt, RunLine, behind, behind_all, tree_after}
+use Rattle.nm_history.specs.Lines.{Before, IsIndexAt, RunLine, after_line, after_lines, tree_after}
 use Rattle.nm_history.specs.Requests.{paths_to_show}
 
 -- nothing was asked, and nothing given
@@ -69,7 +69,7 @@ pub record Asks (opening : Base) (moment : ℤ) (steps : List Step) (before : Be
 abbrev pub GivenAlong : Base → ℤ → List Step → Before → List RunLine → ObservedMail → ObservedMail → Type 0
 GivenAlong opening moment steps before [] old new = new ≡ old
 GivenAlong opening moment steps before (ran ∷ more) old new =
-    (mid : ObservedMail) × Asks opening moment steps before ran old mid × GivenAlong opening moment steps (behind before ran) more mid new
+    (mid : ObservedMail) × Asks opening moment steps before ran old mid × GivenAlong opening moment steps (after_line before ran) more mid new
 
 -- where the script was run, the disk has failed as often at the return as behind the last line
 abbrev pub DiskAtReturn : Ending → Before → ObservedDisk → Type 0
@@ -79,4 +79,4 @@ DiskAtReturn (Refused refusal) last after = Unit {0}
 -- What the lines asked the folder and what it gave, and the faults at the return.
 pub record IsGiven (opening : Base) (moment : ℤ) (steps : List Step) (first : Before) (lines : List RunLine) (ending : Ending) (entry after : Devices) : Type 0 where
   pub along : GivenAlong opening moment steps first lines entry.mail after.mail
-  pub disk : DiskAtReturn ending (behind_all first lines) after.disk
+  pub disk : DiskAtReturn ending (after_lines first lines) after.disk

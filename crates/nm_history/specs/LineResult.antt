@@ -17,7 +17,7 @@ use Rattle.nm_history.specs.Call.{Devices}
 use Rattle.nm_history.specs.Given.{AsksMail}
 use Rattle.nm_history.specs.LineAnswers.{HasCause, line_text}
 use Rattle.nm_history.specs.LineCommits.{IsOnItsWay, Makes}
-use Rattle.nm_history.specs.Lines.{Before, RunLine, at_first, begun, behind_all, closed_after, tree_after, tree_after_all}
+use Rattle.nm_history.specs.Lines.{Before, RunLine, after_lines, at_first, begun, closed_after, tree_after, tree_after_all}
 use Rattle.nm_history.specs.MachineRun.{Replied, reply_to}
 use Rattle.nm_history.specs.PrintedOut.{IsNumbered}
 
@@ -96,5 +96,5 @@ pub record StandsAt (opening : Base) (entry : Devices) (steps : List Step) (line
   pub none_open : place.writer.closed ≡ None → flight ≡ []
   pub acked : length place.writer.acked ≡ length acknowledged
   pub shown : place.writer.shown ≡ folded opening acknowledged
-  pub before : behind_all (at_first opening entry) lines ≡ before_at place
+  pub before : after_lines (at_first opening entry) lines ≡ before_at place
   pub tree : place.mail.tree ≡ tree_after_all entry.mail.tree lines

@@ -77,8 +77,8 @@ abbrev pub closed_after : Option ℕ → Bool → ℕ → Option ℕ
 closed_after closed failed faults = if failed then Some faults else closed
 
 -- behind a line stands what its log says
-abbrev pub behind : Before → RunLine → Before
-behind before ran = record {
+abbrev pub after_line : Before → RunLine → Before
+after_line before ran = record {
   revision = ran.1.revision;
   mail_faults = ran.1.mail_faults;
   disk_faults = ran.1.disk_faults;
@@ -87,13 +87,13 @@ behind before ran = record {
 }
 
 -- behind all these lines
-abbrev pub behind_all : Before → List RunLine → Before
-behind_all before lines = fold behind before lines
+abbrev pub after_lines : Before → List RunLine → Before
+after_lines before lines = fold after_line before lines
 
 -- it is so of each line, with what stands before it
 abbrev pub Along : (Before → RunLine → Type 0) → Before → List RunLine → Type 0
 Along holds before [] = Unit {0}
-Along holds before (ran ∷ more) = holds before ran × Along holds (behind before ran) more
+Along holds before (ran ∷ more) = holds before ran × Along holds (after_line before ran) more
 
 -- ---- the tree of the mail folder
 
@@ -104,19 +104,19 @@ given_in tree (given.Read path answer) = tree
 given_in tree (given.Renamed from to answer) = tree_with {E = MailError} tree from to (Ok answer)
 
 -- the tree, where the folder tells it, behind a line that was given this: a `tag` and a `restore` alone rename files
-abbrev pub tree_behind : ParsedLine → List Given → Option Tree → Option Tree
-tree_behind (asked.Request New) noted tree = tree
-tree_behind (asked.Request (Count ask)) noted tree = tree
-tree_behind (asked.Request (Search ask)) noted tree = tree
-tree_behind (asked.Request (Dump ask)) noted tree = tree
-tree_behind (asked.Request (Show ask)) noted tree = tree
-tree_behind (asked.Request (Tag ask)) noted tree = option_map (λ t. fold given_in t noted) tree
-tree_behind (asked.Request (Restore ask)) noted tree = option_map (λ t. fold given_in t noted) tree
-tree_behind (asked.Usage word kind) noted tree = tree
+abbrev pub tree_after_line : ParsedLine → List Given → Option Tree → Option Tree
+tree_after_line (asked.Request New) noted tree = tree
+tree_after_line (asked.Request (Count ask)) noted tree = tree
+tree_after_line (asked.Request (Search ask)) noted tree = tree
+tree_after_line (asked.Request (Dump ask)) noted tree = tree
+tree_after_line (asked.Request (Show ask)) noted tree = tree
+tree_after_line (asked.Request (Tag ask)) noted tree = option_map (λ t. fold given_in t noted) tree
+tree_after_line (asked.Request (Restore ask)) noted tree = option_map (λ t. fold given_in t noted) tree
+tree_after_line (asked.Usage word kind) noted tree = tree
 
 -- behind a line that was run
 abbrev pub tree_after : Option Tree → RunLine → Option Tree
-tree_after tree ran = tree_behind (parse_line ran.0) ran.1.given tree
+tree_after tree ran = tree_after_line (parse_line ran.0) ran.1.given tree
 
 -- behind all these lines
 abbrev pub tree_after_all : Option Tree → List RunLine → Option Tree

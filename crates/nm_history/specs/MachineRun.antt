@@ -13,7 +13,7 @@ use Rattle.nm_machine.specs.Machine as machine
 use Rattle.nm_machine.specs.Machine.{Machine, in_flight}
 use Rattle.nm_machine.specs.declared.step.Step.{Step}
 use Rattle.nm_machine.specs.declared.step.Step.TheVariants.{Begin, Append, Show, See, Meet, Reply, Crash, Reopen}
-use Rattle.nm_history.specs.Lines.{Before, RunLine, behind_all, begun}
+use Rattle.nm_history.specs.Lines.{Before, RunLine, after_lines, begun}
 
 -- lanes 0 to 15
 abbrev pub lane_count : ℕ
@@ -111,4 +111,4 @@ pub record MachineRun (opening : Base) (moment : ℤ) (first : Before) (steps : 
   pub replies : replies_from (machine.start opening lane_count) steps ≡ flat_map reply_to lines
   pub begun_are : begun steps ≡ acknowledged ++ in_flight last.flight
   pub rest : IsAtRest opening acknowledged last
-  pub revision : (behind_all first lines).revision ≡ opening.revision + length acknowledged
+  pub revision : (after_lines first lines).revision ≡ opening.revision + length acknowledged

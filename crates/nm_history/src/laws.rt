@@ -22,7 +22,7 @@ ghost use Rattle.nm_history.specs.Complete.{IsComplete};
 ghost use Rattle.nm_history.specs.CrashPrefix.{KeepsCommits};
 ghost use Rattle.nm_history.specs.History.{History};
 ghost use Rattle.nm_history.specs.LineAnswers.{HasCause};
-ghost use Rattle.nm_history.specs.Lines.{Before, IsIndexAt, tree_behind};
+ghost use Rattle.nm_history.specs.Lines.{Before, IsIndexAt, tree_after_line};
 ghost use Rattle.nm_history.specs.Requests.{asks_to_tag, asks_to_write, refused_text_in};
 ghost use Rattle.nm_history.specs.Status.{first_fault, session_status};
 
@@ -36,7 +36,7 @@ pub fn an_index_at_a_revision_is_one()
 
 /// Behind a fault of the disk a line that would change the index, and whose texts are right, is told that it is closed, and by which fault;
 /// or it wants memory.
-pub fn what_writes_behind_a_disk_fault_is_closed()
+pub fn what_writes_after_a_disk_fault_is_closed()
     ensures { (outcome : Outcome) (line : ParsedLine) (input : List ℕ) (before : Before) (index : Base) (moment : ℤ) (noted : List Given) (mail : ℕ) (failed : Bool) (fault : ℕ)
         → before.closed ≡ Some fault → asks_to_write line ≡ true → refused_text_in line input ≡ None
         → HasCause outcome line input before index moment noted mail failed → (outcome ≡ Outcome.Closed fault) ⊎ (outcome ≡ Outcome.NoMemory) }
@@ -92,6 +92,6 @@ pub fn a_call_that_reads_nothing_is_not_refused_for_its_input()
 /// the tree as it is.
 pub fn the_tree_follows_renames()
     ensures moved { (line : ParsedLine) (tree : Tree) (noted : List Given) (from to : List ℕ) → asks_to_tag line ≡ true
-        → tree_behind line (noted ++ Given.Renamed from to Renamed.Moved ∷ []) (Some tree) ≡ option_map (λ t. moved t from to) (tree_behind line noted (Some tree)) }
-    ensures still { (line : ParsedLine) (tree : Option Tree) (noted : List Given) → asks_to_tag line ≡ false → tree_behind line noted tree ≡ tree }
+        → tree_after_line line (noted ++ Given.Renamed from to Renamed.Moved ∷ []) (Some tree) ≡ option_map (λ t. moved t from to) (tree_after_line line noted (Some tree)) }
+    ensures still { (line : ParsedLine) (tree : Option Tree) (noted : List Given) → asks_to_tag line ≡ false → tree_after_line line noted tree ≡ tree }
 {}

@@ -7,7 +7,7 @@ use Rattle.nm_disk.specs.ImageLaws.{ComesOf}
 use Rattle.nm_disk.specs.Images.{IsImage, MayLeave, overwritten}
 use Rattle.nm_disk.specs.Observed.{Moments, bytes_now, later}
 use Rattle.nm_journal.proofs.MomentLemmas.{goes_both, goes_from, goes_map, goes_then, through_map, through_then}
-use Rattle.nm_journal.proofs.RecordLemmas.{either, gate_opened, kept_behind, length_past_gate, next_gate, of_staged, staged}
+use Rattle.nm_journal.proofs.RecordLemmas.{either, gate_opened, kept_after, length_past_gate, next_gate, of_staged, staged}
 use Rattle.nm_journal.proofs.WriteLemmas.{failed_write, synced_well, write_and_sync}
 use Rattle.nm_journal.specs.Frame.{framed}
 use Rattle.nm_journal.specs.Journal.{IsBeforeOrAfter, JournalState, StandsOn}
@@ -62,17 +62,17 @@ on_ok (Err e) f p = tt
 
 module _ (file : FileNo) (gate : ℕ) (body piece : List ℕ) (framed_it : piece ≡ framed body) where
   -- the write of the frame has room behind the gate
-  pub room_behind : (x : Option Moments) → IfSome x ReadsAnImage
+  pub room_after : (x : Option Moments) → IfSome x ReadsAnImage
       → IfSome x (λ moments. (start : ℕ) × (bodies : List (List ℕ)) × EndsAt moments.present file start gate bodies)
       → IfSome x (λ moments. gate + 1 ≤ length (bytes_now moments file))
-  room_behind None reads ends = tt
-  room_behind (Some moments) reads ends =
+  room_after None reads ends = tt
+  room_after (Some moments) reads ends =
       length_past_gate ends.0 gate ends.1 (bytes_now moments file) ends.2.ends (ends.2.every (bytes_now moments file) (reads file))
 
   -- what the frame's write leaves has the records
   torn_frame : (old : Moments) (start : ℕ) (bodies : List (List ℕ)) → EndsAt old.present file start gate bodies
       → (before after : List ℕ) → MayLeave old.present file before → ComesOf (gate + 1) (length piece) before after → HasRecords start bodies after
-  torn_frame old start bodies at before after left comes = kept_behind start gate (length piece) bodies before after at.ends (at.every before left) comes
+  torn_frame old start bodies at before after left comes = kept_after start gate (length piece) bodies before after at.ends (at.every before left) comes
 
   whole_frame : (old : Moments) (start : ℕ) (bodies : List (List ℕ)) → EndsAt old.present file start gate bodies → ReadsAnImage old
       → HasStaged start bodies body (overwritten (bytes_now old file) (gate + 1) piece)

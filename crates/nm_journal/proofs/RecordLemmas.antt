@@ -53,9 +53,9 @@ begins_as start n c d front rest x e is long same =
     ∙ ap (λ l. front ++ l) (drop_more c n 0 long)
 
 -- A write behind the closed gate leaves the records as they are.
-pub kept_behind : (start gate n : ℕ) (bodies : List (List ℕ)) (d c : List ℕ) → gate ≡ start + length (records_of bodies) → HasRecords start bodies d → ComesOf (gate + 1) n d c
+pub kept_after : (start gate n : ℕ) (bodies : List (List ℕ)) (d c : List ℕ) → gate ≡ start + length (records_of bodies) → HasRecords start bodies d → ComesOf (gate + 1) n d c
     → HasRecords start bodies c
-kept_behind start gate n bodies d c e has comes =
+kept_after start gate n bodies d c e has comes =
     let long : start + length (records_of bodies) + 1 + length has.rest ≡ length d = length-rest start d (records_of bodies) has.rest has.gate has.is in
     let in_d : gate < length d = omega (arith, long, e) in
     let in_c : gate < length c = omega (arith, in_d, comes.no_shorter) in
@@ -73,12 +73,12 @@ kept_behind start gate n bodies d c e has comes =
 -- The frame stands behind the closed gate once it is written there.
 pub staged : (start gate : ℕ) (bodies : List (List ℕ)) (body d : List ℕ) → gate ≡ start + length (records_of bodies) → HasRecords start bodies d
     → HasStaged start bodies body (overwritten d (gate + 1) (framed body))
-unfolding kept_behind
+unfolding kept_after
 staged start gate bodies body d e has =
     let long : start + length (records_of bodies) + 1 + length has.rest ≡ length d = length-rest start d (records_of bodies) has.rest has.gate has.is in
     let c = overwritten d (gate + 1) (framed body) in
     let comes : ComesOf (gate + 1) (length (framed body)) d c = overwritten_comes_of d (framed body) (gate + 1) in
-    let kept = kept_behind start gate (length (framed body)) bodies d c e has comes in
+    let kept = kept_after start gate (length (framed body)) bodies d c e has comes in
     let front : length (take (gate + 1) d) ≡ gate + 1 = length-take-le (gate + 1) d (omega (arith, long, e)) in
     let behind : drop (gate + 1) c ≡ framed body ++ drop (gate + 1 + length (framed body)) d =
     ap (drop (gate + 1)) (append_assoc (take (gate + 1) d) (framed body) (drop (gate + 1 + length (framed body)) d))
@@ -119,7 +119,7 @@ over_gate : (start gate x : ℕ) (bodies : List (List ℕ)) (body d c : List ℕ
     → get_or c gate 0 ≡ x → drop start c ≡ records_of bodies ++ x ∷ (framed body ++ drop (gate + 1 + length (framed body)) c)
 over_gate start gate x bodies body d c e has comes at_gate =
     let fb = framed body in
-    let behind_d : drop (gate + 1) d ≡ fb ++ has.rest =
+    let after_d : drop (gate + 1) d ≡ fb ++ has.rest =
     ap (λ k. drop k d) (omega (arith, e)) ∙ sym (drop-drop (length (records_of bodies) + 1) start d) ∙ ap (drop (length (records_of bodies) + 1)) has.is
     ∙ ap (drop (length (records_of bodies) + 1)) (sym (append_assoc (records_of bodies) (has.gate ∷ []) (fb ++ has.rest)))
     ∙ drop_at (records_of bodies ++ has.gate ∷ []) (fb ++ has.rest) (length (records_of bodies) + 1) (length-append (records_of bodies) (has.gate ∷ [])) in
@@ -136,13 +136,13 @@ over_gate start gate x bodies body d c e has comes at_gate =
     get_or-drop (gate + 1) c place 0
     ∙ comes.elsewhere (gate + 1 + place) (omega (arith, below, in_d)) (after_within gate 1 (gate + 1 + place) (omega arith))
     ∙ sym (get_or-drop (gate + 1) d place 0)) in
-    let body_is : take (length fb) (drop (gate + 1) c) ≡ fb = body_same ∙ ap (take (length fb)) behind_d ∙ take_at fb has.rest (length fb) refl in
-    let behind_c : drop (gate + 1) c ≡ fb ++ drop (gate + 1 + length fb) c =
+    let body_is : take (length fb) (drop (gate + 1) c) ≡ fb = body_same ∙ ap (take (length fb)) after_d ∙ take_at fb has.rest (length fb) refl in
+    let after_c : drop (gate + 1) c ≡ fb ++ drop (gate + 1 + length fb) c =
     sym (take-append-drop (length fb) (drop (gate + 1) c)) ∙ ap (λ l. l ++ drop (length fb) (drop (gate + 1) c)) body_is
     ∙ ap (λ l. fb ++ l) (drop-drop (length fb) (gate + 1) c) in
     begins_as start gate c d (records_of bodies) (fb ++ has.rest) has.gate e has.is (omega (arith, in_c)) same
     ∙ ap (λ b. records_of bodies ++ b ∷ drop (gate + 1) c) at_gate
-    ∙ ap (λ l. records_of bodies ++ x ∷ l) behind_c
+    ∙ ap (λ l. records_of bodies ++ x ∷ l) after_c
 
 -- with the gate open the new record is there
 opened : (start : ℕ) (bodies : List (List ℕ)) (body c rest : List ℕ) → AreBodies bodies → length body < 2 ^ 32

@@ -80,9 +80,9 @@ blank_below : (b : ℕ) → is_blank b ≡ true → b < 128
 blank_below b e = grind (arith, nat_tests)
 
 -- a text may be cut behind a blank in front
-pub cut_behind_blank : (text : List ℕ) → IsUtf8 text → begins_blank text ≡ true → IsCharBoundary text 1
-cut_behind_blank [] u e = absurd (cc)
-cut_behind_blank (b ∷ bs) u e = IsCharBoundary-after_ascii (b ∷ bs) 0 u (omega arith) (blank_below b e)
+pub cut_after_blank : (text : List ℕ) → IsUtf8 text → begins_blank text ≡ true → IsCharBoundary text 1
+cut_after_blank [] u e = absurd (cc)
+cut_after_blank (b ∷ bs) u e = IsCharBoundary-after_ascii (b ∷ bs) 0 u (omega arith) (blank_below b e)
 
 -- a text may be cut before its first blank
 pub cut_before_blank : (text : List ℕ) (end : ℕ) → end ≡ position_or_len is_blank text → end ≤ length text → IsCharBoundary text end

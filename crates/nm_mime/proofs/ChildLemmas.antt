@@ -113,8 +113,8 @@ spans_next delimiters end bytes rest line after n from len place next e l a stop
     sym same ∙ all ∙ ap (λ x. x ∷ spans_in delimiters end more) span ∙ ap (λ x. span_at from len ∷ x) (sym goes_on ∙ ap (λ x. spans_in delimiters end (lines_of x)) (sym d))
 
 -- ---- how far a part goes: what follows a line
-pub behind_is : (bytes rest line : List ℕ) (n next : ℕ) → rest ≡ drop next bytes → n ≤ length rest → line ≡ take n rest → drop n rest ≡ drop (next + length line) bytes
-behind_is bytes rest line n next r h l =
+pub after_is : (bytes rest line : List ℕ) (n next : ℕ) → rest ≡ drop next bytes → n ≤ length rest → line ≡ take n rest → drop n rest ≡ drop (next + length line) bytes
+after_is bytes rest line n next r h l =
     let long : length line ≡ n = ap length l ∙ length-take-le n rest h in
     ap (drop n) r ∙ drop-drop n next bytes ∙ ap (λ k. drop (next + k) bytes) (sym long)
 
@@ -123,13 +123,13 @@ pub end_size : (delimiters : Delimiters) (bytes rest line : List ℕ) (n next le
 end_size delimiters bytes rest line n next len more size r h e l goes m i =
     let behind : List ℕ = drop (next + length line) bytes in
     ap (λ k. size_so_far delimiters (next + length line) (next + k) (lines_of behind)) m
-    ∙ size_turn delimiters next len rest line behind n e l (sym (behind_is bytes rest line n next r h l)) goes
+    ∙ size_turn delimiters next len rest line behind n e l (sym (after_is bytes rest line n next r h l)) goes
     ∙ ap (λ x. size_so_far delimiters next len (lines_of x)) r ∙ i
 
 pub end_same : (delimiters : Delimiters) (end : ℕ) (bytes rest line : List ℕ) (n next : ℕ) → rest ≡ drop next bytes → n ≤ length rest → lines_of rest ≡ take n rest ∷ lines_of (drop n rest) → line ≡ take n rest → ends_part delimiters line ≡ false
     → spans_of delimiters end (drop next bytes) ≡ spans_of delimiters end bytes → spans_of delimiters end (drop (next + length line) bytes) ≡ spans_of delimiters end bytes
 end_same delimiters end bytes rest line n next r h e l goes i =
-    ap (spans_of delimiters end) (sym (behind_is bytes rest line n next r h l)) ∙ spans_skip delimiters end rest line n e l goes ∙ ap (spans_of delimiters end) r ∙ i
+    ap (spans_of delimiters end) (sym (after_is bytes rest line n next r h l)) ∙ spans_skip delimiters end rest line n e l goes ∙ ap (spans_of delimiters end) r ∙ i
 
 pub end_within : (bytes rest line : List ℕ) (n next : ℕ) → next ≤ length bytes → rest ≡ drop next bytes → n ≤ length rest → line ≡ take n rest → next + length line ≤ length bytes
 end_within bytes rest line n next h r k l =

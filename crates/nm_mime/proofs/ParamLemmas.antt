@@ -33,8 +33,8 @@ pub place_none : (p : ℕ → Bool) (text : List ℕ) → position p text ≡ No
 place_none p text e = let long : length text ≤ position_or_len p text = ltb-false (position_or_len p text) (length text) (none_of (ltb (position_or_len p text) (length text)) (position_or_len p text) e) in let most = prefix_len-le-length (λ x. not (p x)) text in omega arith
 
 -- the parameters one by one: the number of them counts for nothing where it is large enough
-behind_short : (text : List ℕ) → length (after_name text) ≤ length text → length (after_first is_semicolon (after_name text)) ≤ length text - 1
-behind_short text h = let one = after_less (after_name text) in omega arith
+after_short : (text : List ℕ) → length (after_name text) ≤ length text → length (after_first is_semicolon (after_name text)) ≤ length text - 1
+after_short text h = let one = after_less (after_name text) in omega arith
 
 value_short : (text : List ℕ) → length (after_value text) ≤ length text
 value_short [] = omega arith
@@ -94,13 +94,13 @@ pub unnamed_from : (name text : List ℕ) → begins_with 61 text ≡ false → 
 unnamed_from name [] e = refl
 unnamed_from name (b ∷ more) e = ap (λ v. cond v (kept_param name (value_in (trimmed_start more))) []) e
 
-pub named_behind : (text : List ℕ) → begins_with 61 text ≡ true → after_name text ≡ after_value (trimmed_start (drop 1 text))
-named_behind [] e = absurd (cc)
-named_behind (b ∷ more) e = ap (λ v. cond v (after_value (trimmed_start more)) (b ∷ more)) e
+pub named_after : (text : List ℕ) → begins_with 61 text ≡ true → after_name text ≡ after_value (trimmed_start (drop 1 text))
+named_after [] e = absurd (cc)
+named_after (b ∷ more) e = ap (λ v. cond v (after_value (trimmed_start more)) (b ∷ more)) e
 
-pub unnamed_behind : (text : List ℕ) → begins_with 61 text ≡ false → after_name text ≡ text
-unnamed_behind [] e = refl
-unnamed_behind (b ∷ more) e = ap (λ v. cond v (after_value (trimmed_start more)) (b ∷ more)) e
+pub unnamed_after : (text : List ℕ) → begins_with 61 text ≡ false → after_name text ≡ text
+unnamed_after [] e = refl
+unnamed_after (b ∷ more) e = ap (λ v. cond v (after_value (trimmed_start more)) (b ∷ more)) e
 
 pub drop_less : (n : ℕ) (text : List ℕ) → length (drop n text) ≤ length text
 drop_less n text = let long : length (drop n text) ≡ length text - n = length-drop n text in omega arith

@@ -168,25 +168,25 @@ back_utf8 text u = (quoted_cut (length text) [] text (omega arith) u).1
 pub run_utf8 : (text : List ℕ) → IsUtf8 text → IsUtf8 (before_first ends_value text)
 run_utf8 text u = before_utf8 ends_value value_end_small text u
 
-behind_value_utf8 : (text : List ℕ) → IsUtf8 text → IsUtf8 (after_value text)
-behind_value_utf8 [] u = u
-behind_value_utf8 (b ∷ more) u =
+after_value_utf8 : (text : List ℕ) → IsUtf8 text → IsUtf8 (after_value text)
+after_value_utf8 [] u = u
+after_value_utf8 (b ∷ more) u =
     elim (b == 34) as (λ v. (b == 34) ≡ v → IsUtf8 (cond v (after_quoted more) (b ∷ more))) [
       | true ↦ λ e. let sign : b ≡ 34 = eqb-true b 34 e in back_utf8 more (tail_utf8 b more (omega arith) u)
       | false ↦ λ e. u
     ] refl
 
-pub behind_name_utf8 : (text : List ℕ) → IsUtf8 text → IsUtf8 (after_name text)
-behind_name_utf8 [] u = u
-behind_name_utf8 (b ∷ more) u =
+pub after_name_utf8 : (text : List ℕ) → IsUtf8 text → IsUtf8 (after_name text)
+after_name_utf8 [] u = u
+after_name_utf8 (b ∷ more) u =
     elim (b == 61) as (λ v. (b == 61) ≡ v → IsUtf8 (cond v (after_value (trimmed_start more)) (b ∷ more))) [
-      | true ↦ λ e. let sign : b ≡ 61 = eqb-true b 61 e in behind_value_utf8 (trimmed_start more) (space_utf8 more (tail_utf8 b more (omega arith) u))
+      | true ↦ λ e. let sign : b ≡ 61 = eqb-true b 61 e in after_value_utf8 (trimmed_start more) (space_utf8 more (tail_utf8 b more (omega arith) u))
       | false ↦ λ e. u
     ] refl
 
 -- what stands behind a parameter of a text is text
 pub param_utf8 : (text : List ℕ) → IsUtf8 text → IsUtf8 (after_param text)
-param_utf8 text u = semicolon_utf8 (after_name (drop (position_or_len ends_name text) text)) (behind_name_utf8 (drop (position_or_len ends_name text) text) (rest_utf8 text u))
+param_utf8 text u = semicolon_utf8 (after_name (drop (position_or_len ends_name text) text)) (after_name_utf8 (drop (position_or_len ends_name text) text) (rest_utf8 text u))
 
 -- and so is what stands behind its sign and white space
 pub sign_utf8 : (text : List ℕ) → begins_with 61 text ≡ true → IsUtf8 text → IsUtf8 (trimmed_start (take (length text - 1) (drop 1 text)))

@@ -77,15 +77,15 @@ still-by file from to path true rest is apart more =
     ap (λ (t : Bool). same_text path (cond t to file.0) || rest) (ap (same_text from) (sym one) ∙ apart) ∙ ap (λ (t : Bool). t || rest) is
 still-by file from to path false rest is apart more = ap (λ (t : Bool). same_text path (moved_path from to file.0) || t) (more refl) ∙ or_true (same_text path (moved_path from to file.0))
 
-there-behind : (a b : Bool) → (a || b) ≡ true → a ≡ false → b ≡ true
-there-behind true b h k = absurd (cc)
-there-behind false b h k = h
+there-after : (a b : Bool) → (a || b) ≡ true → a ≡ false → b ≡ true
+there-after true b h k = absurd (cc)
+there-after false b h k = h
 
 pub moved-still : (files : List File) (from to path : List ℕ) → has_path files path ≡ true → same_text from path ≡ false → has_path (with_moved files from to) path ≡ true
 moved-still [] from to path h apart = absurd (cc)
 moved-still (file ∷ files) from to path h apart =
     still-by file from to path (same_text path file.0) (has_path (with_moved files from to) path) refl apart
-    (λ other. moved-still files from to path (there-behind (same_text path file.0) (has_path files path) h other) apart)
+    (λ other. moved-still files from to path (there-after (same_text path file.0) (has_path files path) h other) apart)
 
 first-moved : (file : File) (files : List File) (from to : List ℕ) (b : Bool) → same_text from file.0 ≡ b → has_path files file.0 ≡ false → same_text to file.0 ≡ false → has_path files to ≡ false
     → has_path (with_moved files from to) (cond b to file.0) ≡ false

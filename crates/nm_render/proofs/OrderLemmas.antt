@@ -30,13 +30,13 @@ module _ {X : Type 0} (rank : X → ℤ) where
   after : (i j : ℕ) → j < i → nat_cmp i j ≡ Greater
   after i j less = search (arith, less)
 
-  behind_by : (greater : Bool) (o : Ordering) → o ≡ Greater → ordering_then (cond greater Greater Equal) o ≡ Greater
-  behind_by true o is = refl
-  behind_by false o is = is
+  after_by : (greater : Bool) (o : Ordering) → o ≡ Greater → ordering_then (cond greater Greater Equal) o ≡ Greater
+  after_by true o is = refl
+  after_by false o is = is
 
   behind : (a b : ℤ) (i j : ℕ) → int_lt a b ≡ false → j < i → order (a, i) (b, j) ≡ Greater
   behind a b i j least less =
-      ap (λ t. ordering_then (cond t Less (cond (int_lt b a) Greater Equal)) (nat_cmp i j)) least ∙ behind_by (int_lt b a) (nat_cmp i j) (after i j less)
+      ap (λ t. ordering_then (cond t Less (cond (int_lt b a) Greater Equal)) (nat_cmp i j)) least ∙ after_by (int_lt b a) (nat_cmp i j) (after i j less)
 
   put_by : (entry : (ℤ × ℕ) × X) (entries : List ((ℤ × ℕ) × X)) (next : ℕ) (item : X) (test : Bool) → int_lt (rank item) (rank entry.1) ≡ test → IsPlaced next entry
       → map (λ e. e.1) (insert_entry order entries (rank item, next) item) ≡ at_rank rank (map (λ e. e.1) entries) item

@@ -6,7 +6,7 @@ use Rattle.std.proofs.lemmas.Slice.Eq.{bytes_eq-Decides}
 use Rattle.std.specs.List.{prefix_len}
 use Rattle.nm_base.specs.Bounds.{is_white_space}
 use Rattle.nm_answer.specs.Json.{joined}
-use Rattle.nm_answer.specs.Summary.{behind_reply, is_reply, without_replies}
+use Rattle.nm_answer.specs.Summary.{after_reply, is_reply, without_replies}
 use Rattle.nm_render.specs.Joined.{after_first}
 use Rattle.nm_text.specs.WhiteSpace.{trimmed_start}
 
@@ -20,21 +20,21 @@ long s is =
     let same = ap length ((bytes_eq-Decides (map to_ascii_lowercase front) (map to_ascii_lowercase (codes "re:"))).0 is) in
     omega (arith, length-map front to_ascii_lowercase, same, length-take 3 (trimmed_start s))
 
-pub shorter : (s : List ℕ) → is_reply s ≡ true → length (behind_reply s) < length s
+pub shorter : (s : List ℕ) → is_reply s ≡ true → length (after_reply s) < length s
 shorter s is = omega (arith, long s is, trimmed_len s, trimmed_len (drop 3 (trimmed_start s)), length-drop 3 (trimmed_start s))
 
 -- where there is one, the rest is without as many as are left
-pub one_less : (n : ℕ) (s whole : List ℕ) → length s ≤ n → is_reply s ≡ true → without_replies n s ≡ whole → (m : ℕ) × (length (behind_reply s) ≤ m) × (without_replies m (behind_reply s) ≡ whole)
+pub one_less : (n : ℕ) (s whole : List ℕ) → length s ≤ n → is_reply s ≡ true → without_replies n s ≡ whole → (m : ℕ) × (length (after_reply s) ≤ m) × (without_replies m (after_reply s) ≡ whole)
 unfolding without_replies
 one_less zero s whole fits is same = absurd (omega (arith, fits, shorter s is))
 one_less (suc n) s whole fits is same =
-    (n, omega (arith, fits, shorter s is), sym (ap (λ b. if b then without_replies n (behind_reply s) else s) is) ∙ same)
+    (n, omega (arith, fits, shorter s is), sym (ap (λ b. if b then without_replies n (after_reply s) else s) is) ∙ same)
 
 -- and where there is none that is all
 pub no_more : (n : ℕ) (s : List ℕ) → is_reply s ≡ false → without_replies n s ≡ s
 unfolding without_replies
 no_more zero s is = refl
-no_more (suc n) s is = ap (λ b. if b then without_replies n (behind_reply s) else s) is
+no_more (suc n) s is = ap (λ b. if b then without_replies n (after_reply s) else s) is
 
 -- texts that are joined: the first one, and each other behind what stands between
 pub joined-cons : (between first : List ℕ) (more : List (List ℕ)) → joined between (first ∷ more) ≡ first ++ after_first between more

@@ -7,7 +7,7 @@ use Rattle.std.proofs.lemmas.Str.{encode_ascii, inside_one, IsCharBoundary-after
 use Rattle.std.specs.Char.{to_ascii_lowercase}
 use Rattle.std.specs.List.{prefix_len, AllByRecursion}
 use lib.Utf8.{encode, encodes, low_scalar, scalar, scalars}
-use Rattle.nm_answer.specs.Summary.{bare_subject, behind_reply, is_reply, shown, shown_byte, without_replies}
+use Rattle.nm_answer.specs.Summary.{after_reply, bare_subject, is_reply, shown, shown_byte, without_replies}
 use Rattle.nm_base.specs.Bounds.{is_white_space}
 use Rattle.nm_text.specs.WhiteSpace.{trimmed_start}
 
@@ -83,7 +83,7 @@ behind_low [] (k ∷ marks) low same u = absurd (cc)
 behind_low (x ∷ xs) (k ∷ marks) low same u =
     behind_low xs marks low.1 (ap (drop 1) same) (after_low x xs (letter_low x k (ap (λ bytes. get_or bytes 0 0) same) low.0) u)
 
-reply_utf8 : (text : List ℕ) → is_reply text ≡ true → IsUtf8 text → IsUtf8 (behind_reply text)
+reply_utf8 : (text : List ℕ) → is_reply text ≡ true → IsUtf8 text → IsUtf8 (after_reply text)
 reply_utf8 text is u =
     let front = take 3 (trimmed_start text) in
     let same = (bytes_eq-Decides (map to_ascii_lowercase front) (map to_ascii_lowercase (codes "re:"))).0 is in
@@ -92,8 +92,8 @@ reply_utf8 text is u =
 without_utf8 : (n : ℕ) (text : List ℕ) → IsUtf8 text → IsUtf8 (without_replies n text)
 unfolding without_replies
 without_utf8 zero text u = u
-without_utf8 (suc n) text u = by (is_reply text) (λ is. without_utf8 n (behind_reply text) (reply_utf8 text is u)) refl where
-  by : (reply : Bool) → (is_reply text ≡ true → IsUtf8 (without_replies n (behind_reply text))) → is_reply text ≡ reply → IsUtf8 (if reply then without_replies n (behind_reply text) else text)
+without_utf8 (suc n) text u = by (is_reply text) (λ is. without_utf8 n (after_reply text) (reply_utf8 text is u)) refl where
+  by : (reply : Bool) → (is_reply text ≡ true → IsUtf8 (without_replies n (after_reply text))) → is_reply text ≡ reply → IsUtf8 (if reply then without_replies n (after_reply text) else text)
   by true rest is = rest is
   by false rest is = u
 

@@ -3,7 +3,7 @@
 ghost use Rattle.std.specs.Prelude.{◌≡◌, ◌≤◌, ◌++◌, length, IfOk, IsUtf8, OnOk, string_bytes};
 ghost use Rattle.nm_answer.specs.Json.{joined};
 ghost use Rattle.nm_render.specs.Joined.{after_first};
-ghost use Rattle.nm_answer.specs.Summary.{bare_subject, behind_reply, in_range, is_reply, shown, shown_byte, shown_day};
+ghost use Rattle.nm_answer.specs.Summary.{after_reply, bare_subject, in_range, is_reply, shown, shown_byte, shown_day};
 ghost use Rattle.nm_dates.specs.Seconds.{IsShownSecond};
 
 use nm_base::{Many, NoMemory, Text};
@@ -36,7 +36,7 @@ pub(crate) fn bare_subject(subject: &[u8]) -> &[u8]
 {
     let mut rest = subject;
     'replies: while is_reply(rest) {
-        rest = behind_reply(rest);
+        rest = after_reply(rest);
     }
     rest
 }
@@ -48,8 +48,8 @@ fn is_reply(subject: &[u8]) -> bool
     rest[..rest.len().min(3)].eq_ignore_ascii_case(b"re:")
 }
 
-fn behind_reply(subject: &[u8]) -> &[u8]
-    ensures value { result.now ≡ behind_reply subject.now }
+fn after_reply(subject: &[u8]) -> &[u8]
+    ensures value { result.now ≡ after_reply subject.now }
 {
     let rest = trimmed_start(subject);
     trimmed_start(&rest[rest.len().min(3)..])

@@ -54,11 +54,11 @@ one-batch t noted paths (arrivals ∷ more) some few small (read, rest, answers,
 
 -- a batch more
 
-behind_batches : (tree : Option Tree) (noted : List Given) (paths : List (List ℕ)) (batches : Batches) (left : List (List ℕ)) (answers : List Given) (read rest : List (List ℕ)) (arrivals : List (List ℕ × Facts))
+after_batches : (tree : Option Tree) (noted : List Given) (paths : List (List ℕ)) (batches : Batches) (left : List (List ℕ)) (answers : List Given) (read rest : List (List ℕ)) (arrivals : List (List ℕ × Facts))
     → ReadsBatches tree noted paths batches left → left ≡ read ++ rest → IsBatch tree read rest → Reads tree answers read arrivals → ReadsBatches tree (noted ++ answers) paths (batches ++ arrivals ∷ []) rest
-behind_batches tree noted paths [] left answers read rest arrivals h next batch reads =
+after_batches tree noted paths [] left answers read rest arrivals h next batch reads =
     (read, rest, answers, [], sym h.1 ∙ next, ap (λ (l : List Given). l ++ answers) h.0 ∙ sym (append-nil answers), batch, reads, (refl, refl))
-behind_batches tree noted paths (first ∷ more) left answers read rest arrivals (read0, rest0, answers0, others0, paths_are, noted_is, batch0, reads0, behind) next batch reads = (
+after_batches tree noted paths (first ∷ more) left answers read rest arrivals (read0, rest0, answers0, others0, paths_are, noted_is, batch0, reads0, behind) next batch reads = (
   read0,
   rest0,
   answers0,
@@ -67,7 +67,7 @@ behind_batches tree noted paths (first ∷ more) left answers read rest arrivals
   ap (λ (l : List Given). l ++ answers) noted_is ∙ append_assoc answers0 others0 answers,
   batch0,
   reads0,
-  behind_batches tree others0 rest0 more left answers read rest arrivals behind next batch reads,
+  after_batches tree others0 rest0 more left answers read rest arrivals behind next batch reads,
 )
 
 pub no-batches : (mail : ObservedMail) (noted : List Given) (paths : List (List ℕ)) → HasReadBatches mail mail noted noted paths [] paths
@@ -89,7 +89,7 @@ more-batches m0 m1 m2 n0 n1 n2 paths batches left rest arrivals h k =
         reading = subst (λ (l : List (List ℕ × Facts)). Reads m0.tree (h.all.noted ++ k.all.noted) (h.read ++ k.read) l) (sym mails) both.reading;
         mail = both.mail;
       };
-      reading = behind_batches m0.tree h.all.noted paths batches left k.all.noted k.read rest arrivals h.reading k.paths_are
+      reading = after_batches m0.tree h.all.noted paths batches left k.all.noted k.read rest arrivals h.reading k.paths_are
           (subst (λ (t : Option Tree). IsBatch t k.read rest) tree k.batch) (subst (λ (t : Option Tree). Reads t k.all.noted k.read arrivals) tree k.all.reading);
     }
 

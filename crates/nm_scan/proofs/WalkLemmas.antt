@@ -147,13 +147,13 @@ folder-done (Some t) walk at past new levels below dir lent_dir listing lent_nam
     let others : List Met = flat_map (λ name. met_in below t (inside dir name)) names in
     let one : List Met = part_met below t dir (codes "new") in
     let two : List Met = part_met below t dir (codes "cur") in
-    let behind_it : List Met = to_come t (reverse pending) in
-    ap (λ (n : ℕ). walked walk (met_in n t dir ++ behind_it)) some
-    ∙ (ap (λ (r : Result Walk Limit). fold with_met r ((one ++ (two ++ others)) ++ behind_it)) (subst (λ (n : ℕ). with_folder n walk ≡ Ok at) some here)
-    ∙ (ap (walked at) (append_assoc one (two ++ others) behind_it)
-    ∙ (walked-on at past one ((two ++ others) ++ behind_it) (first is)
-    ∙ (ap (walked past) (append_assoc two others behind_it)
-    ∙ (walked-on past new two (others ++ behind_it) (second is)
+    let after_it : List Met = to_come t (reverse pending) in
+    ap (λ (n : ℕ). walked walk (met_in n t dir ++ after_it)) some
+    ∙ (ap (λ (r : Result Walk Limit). fold with_met r ((one ++ (two ++ others)) ++ after_it)) (subst (λ (n : ℕ). with_folder n walk ≡ Ok at) some here)
+    ∙ (ap (walked at) (append_assoc one (two ++ others) after_it)
+    ∙ (walked-on at past one ((two ++ others) ++ after_it) (first is)
+    ∙ (ap (walked past) (append_assoc two others after_it)
+    ∙ (walked-on past new two (others ++ after_it) (second is)
     ∙ (ap (walked new) (others-come below t dir names (reverse pending))
     ∙ ap (λ (l : List Folder). walked new (to_come t l)) (ap (λ (l : Listing). map (folder_inside below dir) (filter is_walked l.dirs) ++ reverse pending) (sym is)
     ∙ (ap (λ (l : List (List ℕ)). map (folder_inside below dir) (filter is_walked l) ++ reverse pending) (sym same_names)

@@ -11,7 +11,7 @@ use Rattle.nm_history.specs.Given.{AsksMail}
 use Rattle.nm_history.specs.LineAnswers.{HasCause, NoneFailed, line_text}
 use Rattle.nm_history.specs.LineCommits.{FindsFor, Makes}
 use Rattle.nm_history.specs.LineResult.{HasMade, Place, before_at}
-use Rattle.nm_history.specs.Lines.{tree_behind}
+use Rattle.nm_history.specs.Lines.{tree_after_line}
 use Rattle.nm_history.specs.MachineRun.{replied_where}
 use Rattle.nm_history.specs.Requests.{first_bad_line, first_refusal, is_asking, is_writing, own_query, query_outcome, refused_closed, refused_line, refused_query, refused_reading, refused_text, refused_text_of, refused_unasked}
 use Rattle.nm_index.specs.declared.base.Base.{Base}
@@ -50,7 +50,7 @@ pub still-writer : (writer : WriterState) → newly_closed writer writer ≡ fal
 still-writer writer = not-closed writer.closed
 
 -- the tree stays where nothing was given
-pub tree-still : (line : ParsedLine) (tree : Option Tree) → tree ≡ tree_behind line [] tree
+pub tree-still : (line : ParsedLine) (tree : Option Tree) → tree ≡ tree_after_line line [] tree
 tree-still (asked.Request requests.New) tree = refl
 tree-still (asked.Request (requests.Count ask)) tree = refl
 tree-still (asked.Request (requests.Search ask)) tree = refl

@@ -10,7 +10,7 @@ use Rattle.nm_history.specs.Given.{AsksMail}
 use Rattle.nm_history.specs.LineAnswers.{HasCause}
 use Rattle.nm_history.specs.LineCommits.{IsOnItsWay, Makes}
 use Rattle.nm_history.specs.LineResult.{HasMade, Place, before_at}
-use Rattle.nm_history.specs.Lines.{closed_after, tree_behind}
+use Rattle.nm_history.specs.Lines.{closed_after, tree_after_line}
 use Rattle.nm_history.specs.Requests.{refused_closed}
 use Rattle.nm_index.specs.Fits.{FitInTurn}
 use Rattle.nm_index.specs.Index.{committed, folded}
@@ -135,7 +135,7 @@ counts-grow false before now h = omega (arith, h)
 
 module _ (moment : ℤ) (old new : Place) (line : ScriptLine) (noted : List Given) (request : Request) (is : parse_line line ≡ asked.Request request) (left : new.left ≡ left_after old.left noted)
     (asks : (outcome : Outcome) → AsksMail outcome (asked.Request request) old.writer.shown moment old.left old.mail new.mail noted)
-    (tree : new.mail.tree ≡ tree_behind (asked.Request request) noted old.mail.tree) where
+    (tree : new.mail.tree ≡ tree_after_line (asked.Request request) noted old.mail.tree) where
   pub answered-with : (outcome : Outcome) (made flight : List Commit) (failed : Bool) → newly_closed old.writer new.writer ≡ failed → HasMade old.writer made flight new.writer
       → Makes outcome moment old.mail.tree old.writer.shown line noted (length old.writer.acked + length made) made flight → IsOnItsWay failed flight
       → new.writer.closed ≡ closed_after old.writer.closed failed new.disk_faults → old.mail.faults ≤ new.mail.faults → Counts failed old.disk_faults new.disk_faults
@@ -150,7 +150,7 @@ module _ (moment : ℤ) (old new : Place) (line : ScriptLine) (noted : List Give
         on_its_way = way;
         closed = closed;
         asks = subst (λ (p : ParsedLine). AsksMail outcome p old.writer.shown moment old.left old.mail new.mail noted) (sym is) (asks outcome);
-        tree = subst (λ (p : ParsedLine). new.mail.tree ≡ tree_behind p noted old.mail.tree) (sym is) tree;
+        tree = subst (λ (p : ParsedLine). new.mail.tree ≡ tree_after_line p noted old.mail.tree) (sym is) tree;
         left = left;
         mail_never_falls = mail;
         disk_never_falls = counts-grow failed old.disk_faults new.disk_faults disk;

@@ -12,7 +12,7 @@ use Rattle.nm_history.specs.Given.{AsksMail, AsksShow}
 use Rattle.nm_history.specs.LineAnswers.{HasCause, NoneFailed}
 use Rattle.nm_history.specs.LineCommits.{Makes}
 use Rattle.nm_history.specs.LineResult.{Place, before_at}
-use Rattle.nm_history.specs.Lines.{tree_behind}
+use Rattle.nm_history.specs.Lines.{tree_after_line}
 use Rattle.nm_history.specs.Requests.{asks_to_tag, asks_to_write, first_refusal, found_to_show, passes_bytes, paths_to_show, refused_bytes, refused_closed, refused_gone, refused_number, refused_reading, refused_text, refused_unasked}
 use Rattle.nm_log.specs.ParsedLine.{parse_line}
 use Rattle.nm_log.specs.Replies.{is_well}
@@ -146,7 +146,7 @@ module _ (moment : ℤ) (writer : WriterState) (old_mail new_mail : ObservedMail
         closed = refl;
         asks = subst (λ (p : ParsedLine). AsksMail outcome p writer.shown moment left old_mail new_mail noted) (sym is)
             (subst (λ (l : List (List ℕ)). AsksShow outcome old_mail new_mail left l noted) paths-are asks);
-        tree = subst (λ (p : ParsedLine). new_mail.tree ≡ tree_behind p noted old_mail.tree) (sym is) tree;
+        tree = subst (λ (p : ParsedLine). new_mail.tree ≡ tree_after_line p noted old_mail.tree) (sym is) tree;
         left = refl;
         mail_never_falls = grows;
         disk_never_falls = omega arith;

@@ -17,7 +17,7 @@ use Rattle.nm_history.specs.Given.{AsksMail}
 use Rattle.nm_history.specs.LineAnswers.{NoneFailed}
 use Rattle.nm_history.specs.LineCommits.{AreDue, FindsFor, FindsRenames, MakesBefore, MakesTags, renames_left}
 use Rattle.nm_history.specs.LineResult.{Place, before_at}
-use Rattle.nm_history.specs.Lines.{given_in, tree_behind}
+use Rattle.nm_history.specs.Lines.{given_in, tree_after_line}
 use Rattle.nm_history.specs.Requests.{first_refusal, is_asking, is_tagging, is_writing, refused_closed, refused_reading, refused_text_of, refused_unasked}
 use Rattle.nm_index.specs.Fits.{FitInTurn}
 use Rattle.nm_index.specs.Index.{folded}
@@ -148,14 +148,14 @@ asks-in (requests.Tag ask) tags outcome index moment left old new noted h = h
 asks-in (requests.Restore ask) tags outcome index moment left old new noted h = h
 
 -- the tree behind it is the one that the renames leave
-behind-in : (request : Request) → is_tagging request ≡ true → (noted : List Given) (tree : Option Tree) → option_map (λ t. fold given_in t noted) tree ≡ tree_behind (asked.Request request) noted tree
-behind-in requests.New tags noted tree = absurd (cc)
-behind-in (requests.Count ask) tags noted tree = absurd (cc)
-behind-in (requests.Search ask) tags noted tree = absurd (cc)
-behind-in (requests.Dump ask) tags noted tree = absurd (cc)
-behind-in (requests.Show ask) tags noted tree = absurd (cc)
-behind-in (requests.Tag ask) tags noted tree = refl
-behind-in (requests.Restore ask) tags noted tree = refl
+after-in : (request : Request) → is_tagging request ≡ true → (noted : List Given) (tree : Option Tree) → option_map (λ t. fold given_in t noted) tree ≡ tree_after_line (asked.Request request) noted tree
+after-in requests.New tags noted tree = absurd (cc)
+after-in (requests.Count ask) tags noted tree = absurd (cc)
+after-in (requests.Search ask) tags noted tree = absurd (cc)
+after-in (requests.Dump ask) tags noted tree = absurd (cc)
+after-in (requests.Show ask) tags noted tree = absurd (cc)
+after-in (requests.Tag ask) tags noted tree = refl
+after-in (requests.Restore ask) tags noted tree = refl
 
 -- it may ask the folder, and change the index
 asking-in : (request : Request) → is_tagging request ≡ true → is_asking request ≡ true
@@ -218,8 +218,8 @@ module _ (moment : ℤ) (old new : Place) (line : ScriptLine) (noted : List Give
         due_are = due-in request kind line.input moment index noted rest;
       }
 
-  tree : new.mail.tree ≡ tree_behind (asked.Request request) noted old.mail.tree
-  tree = tree-is old.mail.tree new.mail.tree asks.more noted asks.noted asks.tree ∙ behind-in request kind noted old.mail.tree
+  tree : new.mail.tree ≡ tree_after_line (asked.Request request) noted old.mail.tree
+  tree = tree-is old.mail.tree new.mail.tree asks.more noted asks.noted asks.tree ∙ after-in request kind noted old.mail.tree
 
   asks-so : (outcome : Outcome) → AsksMail outcome (asked.Request request) index moment old.left old.mail new.mail noted
   asks-so outcome = asks-in request kind outcome index moment old.left old.mail new.mail noted asks

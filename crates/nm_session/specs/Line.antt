@@ -12,7 +12,7 @@ use Rattle.nm_history.specs.Given.{AsksMail}
 use Rattle.nm_history.specs.LineAnswers.{HasCause, line_text}
 use Rattle.nm_history.specs.LineCommits.{IsOnItsWay, Makes}
 use Rattle.nm_history.specs.LineResult.{HasMade, Place, before_at}
-use Rattle.nm_history.specs.Lines.{RunLine, closed_after, tree_behind}
+use Rattle.nm_history.specs.Lines.{RunLine, closed_after, tree_after_line}
 use Rattle.nm_history.specs.MachineRun.{replied_where, reply_to}
 use Rattle.nm_history.specs.PrintedOut.{IsNumbered}
 use Rattle.nm_history.specs.Requests.{refused_text_of}
@@ -55,7 +55,7 @@ pub record IsAnswered (moment : ℤ) (old : Place) (line : ScriptLine) (noted : 
   pub on_its_way : IsOnItsWay failed flight
   pub closed : new.writer.closed ≡ closed_after old.writer.closed failed new.disk_faults
   pub asks : AsksMail outcome (parse_line line) old.writer.shown moment old.left old.mail new.mail noted
-  pub tree : new.mail.tree ≡ tree_behind (parse_line line) noted old.mail.tree
+  pub tree : new.mail.tree ≡ tree_after_line (parse_line line) noted old.mail.tree
   pub left : new.left ≡ left_after old.left noted
   pub mail_never_falls : old.mail.faults ≤ new.mail.faults
   pub disk_never_falls : old.disk_faults ≤ new.disk_faults

@@ -20,9 +20,9 @@ begin_of_first [] = []
 begin_of_first (commit ∷ commits) = steps.Begin commit ∷ []
 
 -- the commits behind the first
-abbrev pub behind_first : List Commit → List Commit
-behind_first [] = []
-behind_first (commit ∷ commits) = commits
+abbrev pub after_first_commit : List Commit → List Commit
+after_first_commit [] = []
+after_first_commit (commit ∷ commits) = commits
 
 -- the steps that a mark stands for, where these commits come next
 abbrev pub steps_by : Mark → List Commit → List Step
@@ -32,8 +32,8 @@ steps_by (marks.Reply request text) commits = steps.Reply 0 request text ∷ []
 
 -- the commits that come next behind it
 abbrev pub left_by : Mark → List Commit → List Commit
-left_by marks.Made commits = behind_first commits
-left_by marks.Begun commits = behind_first commits
+left_by marks.Made commits = after_first_commit commits
+left_by marks.Begun commits = after_first_commit commits
 left_by (marks.Reply request text) commits = commits
 
 -- the steps that the marks stand for, with these commits

@@ -9,7 +9,7 @@ use Rattle.nm_history.specs.CrashPrefix.{appends}
 use Rattle.nm_history.specs.Given.{GivenAlong}
 use Rattle.nm_history.specs.LineAnswers.{LineAnswers}
 use Rattle.nm_history.specs.LineCommits.{LineCommits}
-use Rattle.nm_history.specs.Lines.{at_first, begun, behind_all}
+use Rattle.nm_history.specs.Lines.{after_lines, at_first, begun}
 use Rattle.nm_history.specs.MachineRun.{MachineRun}
 use Rattle.nm_history.specs.PrintedOut.{AreLogsOf}
 use Rattle.nm_index.specs.declared.base.Base.{Base}
@@ -26,7 +26,7 @@ pub record HasRun (moment : ℤ) (opening : Base) (entry : Devices) (lines : Lis
   pub line_commits : LineCommits opening moment entry.mail.tree log.steps (zip lines log.lines) acknowledged
   pub line_answers : LineAnswers opening moment (at_first opening entry) log.steps (zip lines log.lines)
   pub given : GivenAlong opening moment log.steps (at_first opening entry) (zip lines log.lines) entry.mail mail
-  pub faults : (behind_all (at_first opening entry) (zip lines log.lines)).disk_faults ≡ disk_faults
+  pub faults : (after_lines (at_first opening entry) (zip lines log.lines)).disk_faults ≡ disk_faults
   pub clocks : length log.acked ≡ appends log.steps
 
 -- No commit that was acknowledged is lost since the entry; the clocks never fall.

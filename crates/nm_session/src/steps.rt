@@ -2,7 +2,7 @@
 
 ghost use Rattle.std.specs.Prelude.{◌≡◌, ◌+◌, ◌≤◌, ◌++◌, length};
 ghost use Rattle.std.specs.Vec.Iter.{into_iter_items, into_iter_len};
-ghost use Rattle.nm_session.specs.Marks.{begin_of_first, behind_first, left_by, steps_by, steps_of, steps_of_first};
+ghost use Rattle.nm_session.specs.Marks.{after_first_commit, begin_of_first, left_by, steps_by, steps_of, steps_of_first};
 
 use crate::marks::Mark;
 use nm_base::{Many, Room};
@@ -49,7 +49,7 @@ fn push_made(commits: &mut IntoIter<Commit, Global>, steps: &mut Room<Step>)
     requires room { length (steps_of_first (into_iter_items commits.old)) ≤ steps.old.1 }
     ensures list { steps.new.0 ≡ steps.old.0 ++ steps_of_first (into_iter_items commits.old) }
     ensures spare { steps.new.1 + length (steps_of_first (into_iter_items commits.old)) ≡ steps.old.1 }
-    ensures left { into_iter_items commits.new ≡ behind_first (into_iter_items commits.old) }
+    ensures left { into_iter_items commits.new ≡ after_first_commit (into_iter_items commits.old) }
     ensures whole { into_iter_len commits.new ≡ length (into_iter_items commits.new) }
 {
     if let Some(commit) = commits.next() {
@@ -65,7 +65,7 @@ fn push_begun(commits: &mut IntoIter<Commit, Global>, steps: &mut Room<Step>)
     requires room { length (begin_of_first (into_iter_items commits.old)) ≤ steps.old.1 }
     ensures list { steps.new.0 ≡ steps.old.0 ++ begin_of_first (into_iter_items commits.old) }
     ensures spare { steps.new.1 + length (begin_of_first (into_iter_items commits.old)) ≡ steps.old.1 }
-    ensures left { into_iter_items commits.new ≡ behind_first (into_iter_items commits.old) }
+    ensures left { into_iter_items commits.new ≡ after_first_commit (into_iter_items commits.old) }
     ensures whole { into_iter_len commits.new ≡ length (into_iter_items commits.new) }
 {
     if let Some(commit) = commits.next() {

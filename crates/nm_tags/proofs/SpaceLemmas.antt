@@ -45,9 +45,9 @@ pub utf8_trimmed : (text : List ℕ) → IsUtf8 text → IsUtf8 (trimmed text)
 utf8_trimmed text u = utf8_trimmed_end (trimmed_start text) (utf8_trimmed_start text u)
 
 -- a text may be cut behind white space in front
-pub cut_behind_space : (text : List ℕ) → IsUtf8 text → begins_with_space text ≡ true → IsCharBoundary text 1
-cut_behind_space [] u e = absurd (cc)
-cut_behind_space (b ∷ more) u e = IsCharBoundary-after_ascii (b ∷ more) 0 u (omega arith) (space_below b e)
+pub cut_after_space : (text : List ℕ) → IsUtf8 text → begins_with_space text ≡ true → IsCharBoundary text 1
+cut_after_space [] u e = absurd (cc)
+cut_after_space (b ∷ more) u e = IsCharBoundary-after_ascii (b ∷ more) 0 u (omega arith) (space_below b e)
 
 -- white space in front is taken off
 pub one_space_first : (text : List ℕ) → begins_with_space text ≡ true → trimmed_start (drop 1 text) ≡ trimmed_start text

@@ -25,13 +25,13 @@ abbrev pub first_word : List ℕ → List ℕ
 first_word text = before_first is_white_space (trimmed_start text)
 
 -- the text behind it
-abbrev pub behind_first_word : List ℕ → List ℕ
-behind_first_word text = drop (length (first_word text)) (trimmed_start text)
+abbrev pub after_first_word : List ℕ → List ℕ
+after_first_word text = drop (length (first_word text)) (trimmed_start text)
 
 -- at most n words of a text
 abbrev pub words_upto : ℕ → List ℕ → List (List ℕ)
 words_upto zero text = []
-words_upto (suc n) text = if length (first_word text) == 0 then [] else first_word text ∷ words_upto n (behind_first_word text)
+words_upto (suc n) text = if length (first_word text) == 0 then [] else first_word text ∷ words_upto n (after_first_word text)
 
 -- all words of a text, which are fewer than its bytes
 abbrev pub words_in : List ℕ → List (List ℕ)
@@ -49,7 +49,7 @@ op_of (sign ∷ encoded) = elim (decoded_tag encoded) [ Some tag ↦ Some (recor
 
 -- a `--` may stand before the query
 abbrev pub query_after : List ℕ → List ℕ
-query_after text = trimmed (if same_text (first_word text) (codes "--") then behind_first_word text else text)
+query_after text = trimmed (if same_text (first_word text) (codes "--") then after_first_word text else text)
 
 -- one operation before others, where all are there
 abbrev pub with_op : Option TagOp → Option (List TagOp × List ℕ) → Option (List TagOp × List ℕ)
@@ -61,7 +61,7 @@ with_op None asked = None
 abbrev pub asked_upto : ℕ → List ℕ → Option (List TagOp × List ℕ)
 asked_upto zero text = Some ([], query_after text)
 asked_upto (suc n) text =
-    if is_tag_word (first_word text) then with_op (op_of (first_word text)) (asked_upto n (behind_first_word text)) else Some ([], query_after text)
+    if is_tag_word (first_word text) then with_op (op_of (first_word text)) (asked_upto n (after_first_word text)) else Some ([], query_after text)
 
 -- what all tag words at the front ask for, and the query behind them; a text has fewer words than bytes
 abbrev pub asked_in : List ℕ → Option (List TagOp × List ℕ)

@@ -111,8 +111,8 @@ pub fn changes_of(alloc: Global, text: &str) -> Result<Option<(Many<TagOp>, Text
     ensures { IfOk result (λ asked. asked ≡ asked_in text.now) }
 {
     match read_ops(alloc, text)? {
-        Some((ops, behind)) => {
-            let query = query_after(alloc, behind)?;
+        Some((ops, after)) => {
+            let query = query_after(alloc, after)?;
             Ok(Some((ops, query)))
         }
         None => Ok(None),
@@ -143,7 +143,7 @@ fn next_tag_word(text: &str) -> Option<(&str, &str)>
     ensures shorter { IfSome result (λ cut. length cut.1.now < length text.now) }
 {
     match next_word(text) {
-        Some((word, behind)) if is_tag_word(word) => Some((word, behind)),
+        Some((word, after)) if is_tag_word(word) => Some((word, after)),
         _ => None,
     }
 }

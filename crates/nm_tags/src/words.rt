@@ -4,7 +4,7 @@ ghost use Rattle.std.specs.Prelude.{◌≡◌, ◌≤◌, ◌<◌, [], ◌∷◌
 ghost use Rattle.std.specs.List.{position_or_len};
 ghost use Rattle.nm_base.specs.Bounds.{is_white_space};
 ghost use Rattle.nm_text.specs.WhiteSpace.{trimmed, trimmed_end, trimmed_start};
-ghost use Rattle.nm_tags.specs.TagLines.{begins_with_space, behind_first_word, first_word, is_tag_word, query_after, words_in};
+ghost use Rattle.nm_tags.specs.TagLines.{after_first_word, begins_with_space, first_word, is_tag_word, query_after, words_in};
 
 use nm_base::{NoMemory, Text};
 use nm_text::{as_text, is_white_space};
@@ -13,19 +13,19 @@ use std::alloc::Global;
 /// The first word of a text and the text behind it; nothing where there is white space alone.
 pub fn next_word(text: &str) -> Option<(&str, &str)>
     ensures first { MatchOption result (first_word text.now ≡ []) (λ cut. cut.0.now ≡ first_word text.now) }
-    ensures behind { IfSome result (λ cut. cut.1.now ≡ behind_first_word text.now) }
+    ensures after { IfSome result (λ cut. cut.1.now ≡ after_first_word text.now) }
     ensures words { MatchOption result (words_in text.now ≡ []) (λ cut. words_in text.now ≡ cut.0.now ∷ words_in cut.1.now) }
     ensures shorter { IfSome result (λ cut. length cut.1.now < length text.now) }
 {
     match cut_word(text) {
-        Some((word, behind)) => Some((word, behind)),
+        Some((word, after)) => Some((word, after)),
         None => None,
     }
 }
 
 fn cut_word(text: &str) -> Option<(&str, &str)>
     ensures first { MatchOption result (first_word text.now ≡ []) (λ cut. cut.0.now ≡ first_word text.now) }
-    ensures behind { IfSome result (λ cut. cut.1.now ≡ behind_first_word text.now) }
+    ensures after { IfSome result (λ cut. cut.1.now ≡ after_first_word text.now) }
     ensures some { MatchOption result (length (trimmed_start text.now) ≡ 0) (λ cut. 0 < length (trimmed_start text.now)) }
 {
     let rest = without_space(text);
@@ -74,7 +74,7 @@ pub(crate) fn query_after(alloc: Global, text: &str) -> Result<Text, NoMemory>
     ensures { IfOk result (λ query. query ≡ query_after text.now) }
 {
     match next_word(text) {
-        Some((word, behind)) if word == "--" => trimmed(alloc, behind),
+        Some((word, after)) if word == "--" => trimmed(alloc, after),
         _ => trimmed(alloc, text),
     }
 }

@@ -1,6 +1,6 @@
 -- The depth that was counted is that of the pairs so far.
 use Rattle.std.proofs.Common.{sym, ◌∙◌, ◌++◌, arith, refl, []}
-use Rattle.nm_header.proofs.CommentLemmas.{behind_close, closed_by, comment_begin, comment_end, comment_sum, depth_rise, front_more}
+use Rattle.nm_header.proofs.CommentLemmas.{after_close, closed_by, comment_begin, comment_end, comment_sum, depth_rise, front_more}
 use Rattle.nm_header.proofs.comments.comment_len.Goals as goal
 
 pub pairs-init : goal.pairs-init
@@ -13,7 +13,7 @@ pairs-init c = record {
 }
 
 pub returns-then-depth-eq0-clause-after : goal.returns-then-depth-eq0-clause-after
-returns-then-depth-eq0-clause-after c = λ u. behind_close c.args.text.now c.pairs.invariant.front.0 c.pairs.left.now c.split_at.result.0.now c.split_at.result.1.now c.pair_len.result c.pairs.invariant.front.1 c.split_at.ensures.front c.split_at.ensures.back (closed_by c.pairs.depth c.split_at.result.0.now c.pairs.invariant.low (sym c.depth_after-depth.ensures ∙ c.if-depth-eq0.true)) u
+returns-then-depth-eq0-clause-after c = λ u. after_close c.args.text.now c.pairs.invariant.front.0 c.pairs.left.now c.split_at.result.0.now c.split_at.result.1.now c.pair_len.result c.pairs.invariant.front.1 c.split_at.ensures.front c.split_at.ensures.back (closed_by c.pairs.depth c.split_at.result.0.now c.pairs.invariant.low (sym c.depth_after-depth.ensures ∙ c.if-depth-eq0.true)) u
 
 pub pairs-preserved : goal.pairs-preserved
 pairs-preserved c =

@@ -1,10 +1,10 @@
-use Rattle.nm_journal.proofs.AppendLemmas.{room_behind, stage_failed, stage_goes, stage_stands}
+use Rattle.nm_journal.proofs.AppendLemmas.{room_after, stage_failed, stage_goes, stage_stands}
 use Rattle.nm_journal.proofs.ClockLemmas.{then-on, ticked}
 use Rattle.nm_journal.proofs.append.stage.Goals as goal
 
 pub write_at-requires : goal.write_at-requires
 write_at-requires g c =
-    room_behind c.args.file c.args.gate c.args.frame.now c.bytes.result.now c.bytes.ensures.bytes
+    room_after c.args.file c.args.gate c.args.frame.now c.bytes.result.now c.bytes.ensures.bytes
     (g.D.Disk.observed c.args.disk.now).told (g.D.Disk.reads_an_image c.args.disk.now) c.requires.ends
 
 pub returns-in_err-write_at-clause-any_moment : goal.returns-in_err-write_at-clause-any_moment

@@ -1,10 +1,10 @@
 use Rattle.std.proofs.Common.{sym, ◌∙◌, ap}
 use Rattle.nm_log.specs.Words.{words_of}
-use Rattle.nm_log.proofs.Cuts.{cut_behind_blank, words_of-blank}
+use Rattle.nm_log.proofs.Cuts.{cut_after_blank, words_of-blank}
 use Rattle.nm_log.proofs.words.without_blanks.Goals as goal
 
 pub range_from-rest-requires : goal.range_from-rest-requires
-range_from-rest-requires c = λ _. cut_behind_blank c.blanks.rest.now c.blanks.invariant.1 (sym c.begins_with_blank.ensures ∙ c.blanks-test.true)
+range_from-rest-requires c = λ _. cut_after_blank c.blanks.rest.now c.blanks.invariant.1 (sym c.begins_with_blank.ensures ∙ c.blanks-test.true)
 
 pub blanks-preserved : goal.blanks-preserved
 blanks-preserved c =

@@ -5,12 +5,12 @@ use Rattle.nm_render.proofs.Utf8Lemmas.{bare_utf8}
 use Rattle.nm_render.proofs.shown.bare_subject.Goals as goal
 
 pub replies-smaller : goal.replies-smaller
-replies-smaller c = search (shorter c.replies.rest.now (sym c.is_reply.ensures ∙ c.replies-test.true), c.behind_reply-rest.ensures.value)
+replies-smaller c = search (shorter c.replies.rest.now (sym c.is_reply.ensures ∙ c.replies-test.true), c.after_reply-rest.ensures.value)
 
 pub replies-preserved : goal.replies-preserved
 replies-preserved c =
     let so_far = c.replies.invariant in
-    search (one_less so_far.0 c.replies.rest.now (bare_subject c.args.subject.now) so_far.1 (sym c.is_reply.ensures ∙ c.replies-test.true) so_far.2, c.behind_reply-rest.ensures.value)
+    search (one_less so_far.0 c.replies.rest.now (bare_subject c.args.subject.now) so_far.1 (sym c.is_reply.ensures ∙ c.replies-test.true) so_far.2, c.after_reply-rest.ensures.value)
 
 pub returns-clause-value : goal.returns-clause-value
 returns-clause-value c =
