@@ -4,7 +4,7 @@ use Rattle.std.specs.Prelude.{length, slice_get}
 use Rattle.std.proofs.lemmas.List.{length_push}
 use Rattle.nm_codec.specs.declared.read_error.ReadError.{ReadError}
 use Rattle.nm_codec.specs.declared.read_error.ReadError.TheVariants as errors
-use Rattle.nm_codec.specs.Reading.{◌>>=◌, GivesUnlessWanted, Place, Reading, follows, items_at, last_of, rising_items_at, tested_at}
+use Rattle.nm_codec.specs.Reading.{◌>>=◌, GivesUnlessNoMemory, Place, Reading, follows, items_at, last_of, rising_items_at, tested_at}
 
 -- what was read before, and what is still read
 abbrev pub with_front : {A : Type 0} → List A → Reading (List A) → Reading (List A)
@@ -41,7 +41,7 @@ module _ {A : Type 0} (read : List ℕ → Reading A) (front : List A) (count i 
 
 -- an item that is not read
 pub stops : {A : Type 0} (read : List ℕ → Reading A) (front : List A) (count i : ℕ) (total : Reading (List A)) (old mid new last : Place) (e : ReadError) → mid.len ≡ old.len → i < count
-    → with_front front (items_at read (count - i) mid.rest) ≡ total → GivesUnlessWanted mid (Err e) new (read mid.rest) → GivesUnlessWanted old (Err e) last total
+    → with_front front (items_at read (count - i) mid.rest) ≡ total → GivesUnlessNoMemory mid (Err e) new (read mid.rest) → GivesUnlessNoMemory old (Err e) last total
 stops read front count i total old mid new last errors.NoMemory same lt so_far gives = tt
 stops read front count i total old mid new last (errors.Bad at) same lt so_far gives =
     (omega (arith, gives.0, same), faulty read front count i mid.rest total (mid.len - at) lt gives.1 so_far ∙ ap (λ n. Err (n - at)) same)
@@ -84,7 +84,7 @@ module _ {A : Type 0} (below : A → A → Bool) (read : List ℕ → Reading A)
 
 -- an item that is not read, or does not follow
 pub falls : {A : Type 0} (below : A → A → Bool) (read : List ℕ → Reading A) (front : List A) (count i : ℕ) (total : Reading (List A)) (old mid new last : Place) (e : ReadError) → mid.len ≡ old.len → i < count
-    → with_front front (rising_items_at below read (last_of front) (count - i) mid.rest) ≡ total → GivesUnlessWanted mid (Err e) new (tested_at (follows below (last_of front)) read mid.rest) → GivesUnlessWanted old (Err e) last total
+    → with_front front (rising_items_at below read (last_of front) (count - i) mid.rest) ≡ total → GivesUnlessNoMemory mid (Err e) new (tested_at (follows below (last_of front)) read mid.rest) → GivesUnlessNoMemory old (Err e) last total
 falls below read front count i total old mid new last errors.NoMemory same lt so_far gives = tt
 falls below read front count i total old mid new last (errors.Bad at) same lt so_far gives =
     (omega (arith, gives.0, same), risen_fault below read front count i mid.rest total (mid.len - at) lt gives.1 so_far ∙ ap (λ n. Err (n - at)) same)

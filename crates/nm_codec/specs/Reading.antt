@@ -125,16 +125,16 @@ Gives old (Ok x) new read = (read ≡ Ok (x, new.rest)) × (new.len ≡ old.len)
 Gives old (Err bad) new read = (bad.at ≤ old.len) × (read ≡ Err (old.len - bad.at))
 
 -- as `Gives`, unless memory ran out
-abbrev pub GivesUnlessWanted : {A : Type 0} → Place → Result A ReadError → Place → Reading A → Type 0
-GivesUnlessWanted old (Ok x) new read = (read ≡ Ok (x, new.rest)) × (new.len ≡ old.len)
-GivesUnlessWanted old (Err errors.NoMemory) new read = Unit {0}
-GivesUnlessWanted old (Err (errors.Bad at)) new read = (at ≤ old.len) × (read ≡ Err (old.len - at))
+abbrev pub GivesUnlessNoMemory : {A : Type 0} → Place → Result A ReadError → Place → Reading A → Type 0
+GivesUnlessNoMemory old (Ok x) new read = (read ≡ Ok (x, new.rest)) × (new.len ≡ old.len)
+GivesUnlessNoMemory old (Err errors.NoMemory) new read = Unit {0}
+GivesUnlessNoMemory old (Err (errors.Bad at)) new read = (at ≤ old.len) × (read ≡ Err (old.len - at))
 
 -- what was answered for all of the bytes is what reading gives, unless memory ran out
-abbrev pub AnswersUnlessWanted : {A : Type 0} → List ℕ → Result A ReadError → Result A ℕ → Type 0
-AnswersUnlessWanted bytes (Ok x) read = read ≡ Ok x
-AnswersUnlessWanted bytes (Err errors.NoMemory) read = Unit {0}
-AnswersUnlessWanted bytes (Err (errors.Bad at)) read = (at ≤ length bytes) × (read ≡ Err (length bytes - at))
+abbrev pub AnswersUnlessNoMemory : {A : Type 0} → List ℕ → Result A ReadError → Result A ℕ → Type 0
+AnswersUnlessNoMemory bytes (Ok x) read = read ≡ Ok x
+AnswersUnlessNoMemory bytes (Err errors.NoMemory) read = Unit {0}
+AnswersUnlessNoMemory bytes (Err (errors.Bad at)) read = (at ≤ length bytes) × (read ≡ Err (length bytes - at))
 
 -- the last of some items, if there is one
 abbrev pub last_of : {A : Type 0} → List A → Option A

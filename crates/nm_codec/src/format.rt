@@ -4,7 +4,7 @@
 ghost use Rattle.std.specs.Prelude.{◌≡◌, ◌<◌, ◌^◌, ◌++◌, length, min, Bool, OnOk};
 ghost use Rattle.nm_base.specs.Limits.{max_count};
 ghost use Rattle.nm_codec.specs.Grammar.{Grammar};
-ghost use Rattle.nm_codec.specs.Reading.{GivesUnlessWanted};
+ghost use Rattle.nm_codec.specs.Reading.{GivesUnlessNoMemory};
 
 use crate::{ReadError, Reader, Writer};
 use nm_base::NoMemory;
@@ -21,7 +21,7 @@ pub trait Format {
 
     /// Takes a value from the front of the bytes that are left.
     fn read(alloc: Global, reader: &mut Reader<'_>) -> Result<Self::Value, ReadError>
-        ensures { GivesUnlessWanted reader.old result reader.new (grammar.read reader.old.rest) };
+        ensures { GivesUnlessNoMemory reader.old result reader.new (grammar.read reader.old.rest) };
 
     /// How many bytes a value has, up to 2^64 - 1. It looks at every part of the value and takes no memory.
     fn len(value: &Self::Value) -> u64

@@ -4,7 +4,7 @@ ghost use Rattle.std.specs.Prelude.{◌≡◌, ◌++◌, ◌<◌, ◌^◌, lengt
 ghost use Rattle.std.specs.List.{flat_map, list_all};
 ghost use Rattle.nm_base.specs.Limits.{max_count};
 ghost use Rattle.nm_codec.specs.Grammar.{list_grammar};
-ghost use Rattle.nm_codec.specs.Reading.{GivesUnlessWanted, items_at, list_at};
+ghost use Rattle.nm_codec.specs.Reading.{GivesUnlessNoMemory, items_at, list_at};
 ghost use Rattle.nm_codec.specs.Spelling.{list_bytes};
 
 use crate::{Format, ReadError, Reader, Writer};
@@ -46,7 +46,7 @@ fn read_items<F: Format>(
     count: u32,
     reader: &mut Reader<'_>,
 ) -> Result<Many<F::Value>, ReadError>
-    ensures { GivesUnlessWanted reader.old result reader.new (items_at (F.grammar).read count reader.old.rest) }
+    ensures { GivesUnlessNoMemory reader.old result reader.new (items_at (F.grammar).read count reader.old.rest) }
 {
     let mut items = Many::new(alloc);
     'items: for _ in 0..count {

@@ -33,9 +33,9 @@ impl From<Bad> for ReadError {
 
 impl From<NoMemory> for ReadError {
     ghost use Rattle.std.specs.Prelude.{◌≡◌};
-    ghost use Rattle.nm_codec.specs.declared.read_error.ReadError.TheVariants.{NoMemory as Wanted};
+    ghost use Rattle.nm_codec.specs.declared.read_error.ReadError.TheVariants.{NoMemory as OutOfMemory};
 
-    ghost from_gives = { λ _ e. e ≡ Wanted };
+    ghost from_gives = { λ _ e. e ≡ OutOfMemory };
 
     fn from(_: NoMemory) -> ReadError {
         ReadError::NoMemory

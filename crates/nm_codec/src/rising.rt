@@ -4,7 +4,7 @@ ghost use Rattle.std.specs.Prelude.{◌≡◌, ◌&&◌, ◌++◌, ◌-◌, None
 ghost use Rattle.std.specs.List.{list_all};
 ghost use Rattle.std.specs.Option.{option_copied};
 ghost use Rattle.nm_codec.specs.Grammar.{rising_grammar};
-ghost use Rattle.nm_codec.specs.Reading.{GivesUnlessWanted, follows, is_below, is_rising, last_of, rising_items_at, tested_at};
+ghost use Rattle.nm_codec.specs.Reading.{GivesUnlessNoMemory, follows, is_below, is_rising, last_of, rising_items_at, tested_at};
 
 use crate::{Format, ListOf, ReadError, Reader, Writer};
 use nm_base::{Many, NoMemory};
@@ -49,7 +49,7 @@ fn read_items<F: Format>(
 ) -> Result<Many<F::Value>, ReadError>
 where
     F::Value: Ord,
-    ensures { GivesUnlessWanted reader.old result reader.new (rising_items_at (is_below F.Value.cmp) F.grammar.read None count reader.old.rest) }
+    ensures { GivesUnlessNoMemory reader.old result reader.new (rising_items_at (is_below F.Value.cmp) F.grammar.read None count reader.old.rest) }
 {
     let mut items: Many<F::Value> = Many::new(alloc);
     'items: for _ in 0..count {
@@ -68,7 +68,7 @@ fn read_next<F: Format>(
 ) -> Result<F::Value, ReadError>
 where
     F::Value: Ord,
-    ensures { GivesUnlessWanted reader.old result reader.new (tested_at (follows (is_below F.Value.cmp) (last_of before.now)) F.grammar.read reader.old.rest) }
+    ensures { GivesUnlessNoMemory reader.old result reader.new (tested_at (follows (is_below F.Value.cmp) (last_of before.now)) F.grammar.read reader.old.rest) }
 {
     let at = reader.at();
     let item = F::read(alloc, reader)?;

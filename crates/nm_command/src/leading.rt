@@ -44,10 +44,10 @@ pub enum HeadError {
 }
 
 impl From<NoMemory> for HeadError {
-    ghost use Rattle.nm_command.specs.declared.leading.HeadError.TheVariants.{NoMemory as Wanted};
+    ghost use Rattle.nm_command.specs.declared.leading.HeadError.TheVariants.{NoMemory as OutOfMemory};
     ghost use Rattle.std.specs.Prelude.{◌≡◌};
 
-    ghost from_gives = { λ _ e. e ≡ Wanted };
+    ghost from_gives = { λ _ e. e ≡ OutOfMemory };
 
     fn from(_: NoMemory) -> HeadError {
         HeadError::NoMemory

@@ -53,7 +53,7 @@ Acknowledges old (Ok done) new = (commit : Commit) × (old.machine.flight ≡ So
 Acknowledges old (Err NotNow) new = (old.machine.flight ≡ None) × (new ≡ old)
 Acknowledges old (Err NoMemory) new = new ≡ old
 
--- A step is taken, or refused because it is not allowed; a refusal, as want of memory, leaves all as it was.
+-- A step is taken, or refused because it is not allowed; a refusal, as running out of memory, leaves all as it was.
 abbrev pub Answers : {T : Type 0} → ℤ → Kept → Step → Result T CoreError → Kept → Type 0
 Answers moment old step (Ok done) new = Takes moment old.machine step new.machine × (new.met ≡ met_after old.met old.machine step)
 Answers moment old step (Err NotNow) new = ¬ IsAllowed moment old.machine step × (new ≡ old)

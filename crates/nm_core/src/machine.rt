@@ -31,9 +31,9 @@ pub enum CoreError {
 }
 
 impl From<NoMemory> for CoreError {
-    ghost use Rattle.nm_core.specs.declared.machine.CoreError.TheVariants.{NoMemory as Wanted};
+    ghost use Rattle.nm_core.specs.declared.machine.CoreError.TheVariants.{NoMemory as OutOfMemory};
 
-    ghost from_gives = { λ _ e. e ≡ Wanted };
+    ghost from_gives = { λ _ e. e ≡ OutOfMemory };
 
     fn from(_: NoMemory) -> CoreError {
         CoreError::NoMemory

@@ -1,5 +1,5 @@
 //! Reading one mail: bodies and header text as Unicode; quoted-printable, base64, charsets and encoded words.
-//! Damage never stops it; want of memory is the only refusal.
+//! Damage never stops it; running out of memory is the only refusal.
 #![tactic(auto)]
 
 mod charset;

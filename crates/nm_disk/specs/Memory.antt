@@ -23,8 +23,8 @@ pub record MemState : Type 0 where
   pub events : List Event
   pub made : ℕ
   pub calls : CallCounts
-  pub met : ℕ
-  pub wanted : ℕ
+  pub faults : ℕ
+  pub out_of_memory : ℕ
 
 -- the state that a deed leaves; a read gives only the first bytes of a write that failed
 abbrev pub after_deed : DiskState → Deed → DiskState
@@ -52,7 +52,7 @@ abbrev pub observed_mem : MemState → ObservedDisk
 observed_mem disk = record {
   told = Some (moments_of disk.start disk.events);
   clock = min (length disk.events) max_count;
-  faults = min (disk.met + disk.wanted) max_count;
+  faults = min (disk.faults + disk.out_of_memory) max_count;
 }
 
 -- the deed writes
@@ -94,8 +94,8 @@ fresh_disk files = record {
   events = [];
   made = 0;
   calls = record { failing = []; made = 0; faults = 0 };
-  met = 0;
-  wanted = 0;
+  faults = 0;
+  out_of_memory = 0;
 }
 
 -- what a read gives, which is as at the making where nothing was written
@@ -108,7 +108,7 @@ abbrev pub called : MemState → MemState
 called disk = record disk {
   made = one_more disk.made;
   calls = counted disk.calls;
-  met = if is_next_listed disk.calls then one_more disk.met else disk.met;
+  faults = if is_next_listed disk.calls then one_more disk.faults else disk.faults;
 }
 
 -- what the present call did
@@ -117,7 +117,7 @@ noted disk deed = record disk { events = disk.events ++ record { call = disk.mad
 
 -- one call more that found no memory
 abbrev pub starved : MemState → MemState
-starved disk = record disk { wanted = one_more disk.wanted }
+starved disk = record disk { out_of_memory = one_more disk.out_of_memory }
 
 -- the deed writes these bytes over what a read gives
 abbrev pub LeavesFiles : Deed → FileNo → ℕ → List ℕ → Type 0
@@ -128,8 +128,8 @@ LeavesFiles deed file at taken =
 abbrev pub KeepsFiles : Deed → Type 0
 KeepsFiles deed = (state : DiskState) → (after_deed state deed).now ≡ state.now
 
--- A call that was not listed did `good`, or found no memory and did nothing; one that was listed did `bad`, or nothing for
--- want of memory.
+-- A call that was not listed did `good`, or found no memory and did nothing; one that was listed did `bad`, or nothing
+-- running out of memory.
 abbrev pub IsNoted : {T : Type 0} → MemState → MemState → Result T Failed → Deed → Deed → Type 0
 IsNoted old new result good bad =
     MatchResult result

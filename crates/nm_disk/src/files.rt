@@ -81,7 +81,7 @@ fn overwrite_within(
     ensures err { OnErr result (bytes.new ≡ bytes.old) }
 {
     let within = piece.len().min(bytes.len() - at);
-    // What lies past the end comes first: it alone may want memory.
+    // What lies past the end comes first: it alone may run out of memory.
     bytes.extend_from_slice(&piece[within..])?;
     let mut vec = mem::replace(bytes, Many::new(alloc)).into_vec();
     vec[at..at + within].copy_from_slice(&piece[..within]);

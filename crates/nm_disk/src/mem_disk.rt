@@ -29,8 +29,8 @@ pub struct MemDisk {
     events: Room<Event>,
     made: u64,
     calls: Calls,
-    met: Faults,
-    wanted: Faults,
+    faults: Faults,
+    out_of_memory: Faults,
 }
 
 impl Model for MemDisk {
@@ -39,7 +39,7 @@ impl Model for MemDisk {
 
     ghost Value = { MemState };
 
-    ghost view = { λ d. record { start = d.start; events = d.events.0; made = d.made; calls = d.calls; met = d.met; wanted = d.wanted } };
+    ghost view = { λ d. record { start = d.start; events = d.events.0; made = d.made; calls = d.calls; faults = d.faults; out_of_memory = d.out_of_memory } };
 
     ghost invariant = { λ d. files_now d.start d.current ≡ (moments_of d.start d.events.0).present.now };
 }
@@ -68,8 +68,8 @@ impl MemDisk {
             events: Room::new(alloc),
             made: 0,
             calls: Calls::new(Many::new(alloc)),
-            met: Faults::new(),
-            wanted: Faults::new(),
+            faults: Faults::new(),
+            out_of_memory: Faults::new(),
         }
     }
 
@@ -88,10 +88,10 @@ impl MemDisk {
     }
 
     /// How many calls answered `Failed` because there was no memory.
-    pub fn wanted(&self) -> u64
-        ensures { result ≡ self.now.wanted }
+    pub fn out_of_memory(&self) -> u64
+        ensures { result ≡ self.now.out_of_memory }
     {
-        self.wanted.count()
+        self.out_of_memory.count()
     }
 
     /// What a read gives of a file.
@@ -112,7 +112,7 @@ impl MemDisk {
         self.made = self.made.saturating_add(1);
         let fails = self.calls.count();
         if fails {
-            self.met.add();
+            self.faults.add();
         }
         fails
     }
@@ -121,7 +121,7 @@ impl MemDisk {
     fn starve(&mut self)
         ensures { self.new ≡ starved self.old }
     {
-        self.wanted.add();
+        self.out_of_memory.add();
     }
 
     /// Writes the first `taken` bytes, and keeps what was done.
@@ -280,7 +280,7 @@ impl Disk for MemDisk {
     }
 
     fn faults(&self) -> u64 {
-        self.met.count().saturating_add(self.wanted.count())
+        self.faults.count().saturating_add(self.out_of_memory.count())
     }
 }
 

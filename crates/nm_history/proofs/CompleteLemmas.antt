@@ -1,4 +1,4 @@
--- A session in which nothing fails ends with status 0, or 7 for want of memory.
+-- A session in which nothing fails ends with status 0, or 7 out of memory.
 use Rattle.std.proofs.Common.{◌≡◌, ◌≢◌, ℕ, ℤ, ◌<◌, ◌≤◌, ◌⊎◌, inl, inr, Bool, true, false, List, [], ◌∷◌, ◌++◌, Option, None, Some, IfSome, if◌then◌else◌, length, map, refl, sym, ap, ◌∙◌, subst, append-nil, arith, suc}
 use Rattle.std.specs.Io.KnownBytes.{Consumes, IsAtEnd}
 use Rattle.std.specs.Str.Lines.{lines}
@@ -36,7 +36,7 @@ use Rattle.nm_history.specs.Lines.{Along, Before, RunLine, after_line, after_lin
 use Rattle.nm_history.specs.PrintedOut.{AreLogsOf, PrintedOut, StreamAppends}
 use Rattle.nm_history.specs.Refusals.{IsInputPassed, IsRead, PassesBefore, TakesInput}
 use Rattle.nm_history.specs.Requests.{bad_line_in, first_bad_line}
-use Rattle.nm_history.specs.Status.{Status, any_wants_memory, fault_of, fault_or, first_fault, session_status, single_status, status_by, status_of_fault, write_fault}
+use Rattle.nm_history.specs.Status.{Status, any_is_out_of_memory, fault_of, fault_or, first_fault, session_status, single_status, status_by, status_of_fault, write_fault}
 
 -- each line has its log
 logs-length : (script : List ScriptLine) (logs : List LineLog) → AreLogsOf script logs → length logs ≡ length script
@@ -143,10 +143,10 @@ left-status false = inl refl
 
 quiet-status : (logs : List LineLog) (out_failed : Bool) → first_fault logs ≡ None → out_failed ≡ false → (session_status logs out_failed ≡ 0) ⊎ (session_status logs out_failed ≡ 7)
 quiet-status logs out_failed none quiet =
-    let is : session_status logs out_failed ≡ status_of_fault None (any_wants_memory logs) =
-    ap (λ (f : Option ℕ). status_of_fault (fault_or f (write_fault out_failed)) (any_wants_memory logs)) none
-    ∙ ap (λ (b : Bool). status_of_fault (write_fault b) (any_wants_memory logs)) quiet in
-    elim (left-status (any_wants_memory logs)) [
+    let is : session_status logs out_failed ≡ status_of_fault None (any_is_out_of_memory logs) =
+    ap (λ (f : Option ℕ). status_of_fault (fault_or f (write_fault out_failed)) (any_is_out_of_memory logs)) none
+    ∙ ap (λ (b : Bool). status_of_fault (write_fault b) (any_is_out_of_memory logs)) quiet in
+    elim (left-status (any_is_out_of_memory logs)) [
       | inl zero ↦ inl (is ∙ zero)
       | inr seven ↦ inr (is ∙ seven)
     ]

@@ -18,7 +18,7 @@ use Rattle.nm_query.specs.Answers.{answer_of}
 use Rattle.nm_query.specs.declared.query.Query.{Query}
 use Rattle.nm_query.specs.declared.query_error.QueryError.{QueryError}
 use Rattle.nm_query.specs.declared.query_error.QueryError.TheVariants as query_errors
-use Rattle.nm_history.specs.Status.{any_wants_memory, fault_of, fault_or, first_fault, session_status, status_of_fault, write_fault}
+use Rattle.nm_history.specs.Status.{any_is_out_of_memory, fault_of, fault_or, first_fault, session_status, status_of_fault, write_fault}
 
 -- beginnings of one list with one length are one
 same-front : (xs ys more others : List Commit) → xs ++ more ≡ ys ++ others → length xs ≡ length ys → xs ≡ ys
@@ -126,7 +126,7 @@ status-is front back log out_failed status none is =
     let first : first_fault (front ++ log ∷ back) ≡ Some status =
     first-append front (log ∷ back) ∙ ap (λ (f : Option ℕ). fault_or f (fault_or (fault_of log.outcome) (first_fault back))) none
     ∙ ap (λ (f : Option ℕ). fault_or f (first_fault back)) is in
-    ap (λ (f : Option ℕ). status_of_fault (fault_or f (write_fault out_failed)) (any_wants_memory (front ++ log ∷ back))) first
+    ap (λ (f : Option ℕ). status_of_fault (fault_or f (write_fault out_failed)) (any_is_out_of_memory (front ++ log ∷ back))) first
 
 pub disk-status : (front back : List LineLog) (log : LineLog) (out_failed : Bool) → first_fault front ≡ None → log.outcome ≡ outcomes.DiskFault
     → session_status (front ++ log ∷ back) out_failed ≡ 4

@@ -53,7 +53,7 @@ IsRefusedReading outcome line input before index moment noted =
     MayAsk line input before × (refused_reading line index moment before.left noted ≡ Some outcome)
 
 -- Why a line ends so, on its index, by what the mail folder gave, with the folder's count of faults behind the line, and whether the disk failed in
--- it: the device that it names failed, and no other, but that behind a fault of the folder the disk may fail in what sets tags. Want of memory is free.
+-- it: the device that it names failed, and no other, but that behind a fault of the folder the disk may fail in what sets tags. Running out of memory is free.
 abbrev pub HasCause : Outcome → ParsedLine → List ℕ → Before → Base → ℤ → List Given → ℕ → Bool → Type 0
 HasCause outcomes.Ok line input before index moment noted mail failed =
     MayAsk line input before × (refused_reading line index moment before.left noted ≡ None) × NoneFailed before.mail_faults mail failed

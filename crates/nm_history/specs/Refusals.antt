@@ -60,7 +60,7 @@ PassesBefore limit input call =
 abbrev pub IsUnasked : Call → Type 0
 IsUnasked call = (call.after.input ≡ call.entry.input) × DiskUnasked call
 
--- The cause of a refusal, in the order in which they are met: the words, the input, the index on the disk. Want of memory alone is free.
+-- The cause of a refusal, in the order in which they are met: the words, the input, the index on the disk. Running out of memory alone is free.
 abbrev pub IsRefusedFor : Refusal → List ℕ → Call → Type 0
 IsRefusedFor (refusals.Usage word kind) input call =
     (call_fault call.words ≡ Some (refusals.Usage word kind)) × IsUnasked call

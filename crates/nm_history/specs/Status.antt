@@ -37,32 +37,32 @@ first_fault (log ∷ logs) = fault_or (fault_of log.outcome) (first_fault logs)
 abbrev pub write_fault : Bool → Option ℕ
 write_fault out_failed = if out_failed then Some 6 else None
 
--- the line ended for want of memory
-abbrev pub wants_memory : Outcome → Bool
-wants_memory outcomes.Ok = false
-wants_memory (outcomes.Usage word kind) = false
-wants_memory (outcomes.BadQuery at kind) = false
-wants_memory (outcomes.BadDate at) = false
-wants_memory (outcomes.BadLine line kind) = false
-wants_memory (outcomes.NotOne found) = false
-wants_memory (outcomes.Gone path) = false
-wants_memory outcomes.MailFault = false
-wants_memory outcomes.DiskFault = false
-wants_memory (outcomes.Closed fault) = false
-wants_memory (outcomes.Limit limit) = false
-wants_memory outcomes.NoMemory = true
+-- the line ended out of memory
+abbrev pub is_out_of_memory : Outcome → Bool
+is_out_of_memory outcomes.Ok = false
+is_out_of_memory (outcomes.Usage word kind) = false
+is_out_of_memory (outcomes.BadQuery at kind) = false
+is_out_of_memory (outcomes.BadDate at) = false
+is_out_of_memory (outcomes.BadLine line kind) = false
+is_out_of_memory (outcomes.NotOne found) = false
+is_out_of_memory (outcomes.Gone path) = false
+is_out_of_memory outcomes.MailFault = false
+is_out_of_memory outcomes.DiskFault = false
+is_out_of_memory (outcomes.Closed fault) = false
+is_out_of_memory (outcomes.Limit limit) = false
+is_out_of_memory outcomes.NoMemory = true
 
-abbrev pub any_wants_memory : List LineLog → Bool
-any_wants_memory logs = list_any (λ log. wants_memory log.outcome) logs
+abbrev pub any_is_out_of_memory : List LineLog → Bool
+any_is_out_of_memory logs = list_any (λ log. is_out_of_memory log.outcome) logs
 
 -- the status of a fault, or where there is none 7 for a line that wanted memory, else 0
 abbrev pub status_of_fault : Option ℕ → Bool → ℕ
 status_of_fault (Some status) wanted = status
 status_of_fault None wanted = if wanted then 7 else 0
 
--- The first fault of a device, else a line's want of memory.
+-- The first fault of a device, else a line that ended out of memory.
 abbrev pub session_status : List LineLog → Bool → ℕ
-session_status logs out_failed = status_of_fault (fault_or (first_fault logs) (write_fault out_failed)) (any_wants_memory logs)
+session_status logs out_failed = status_of_fault (fault_or (first_fault logs) (write_fault out_failed)) (any_is_out_of_memory logs)
 
 -- The status of a single command: that of its outcome, and where it went well and the output failed 6.
 abbrev pub single_status : List LineLog → Bool → ℕ

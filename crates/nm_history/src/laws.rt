@@ -35,7 +35,7 @@ pub fn an_index_at_a_revision_is_one()
 {}
 
 /// Behind a fault of the disk a line that would change the index, and whose texts are right, is told that it is closed, and by which fault;
-/// or it wants memory.
+/// or it is out of memory.
 pub fn what_writes_after_a_disk_fault_is_closed()
     ensures { (outcome : Outcome) (line : ParsedLine) (input : List ℕ) (before : Before) (index : Base) (moment : ℤ) (noted : List Given) (mail : ℕ) (failed : Bool) (fault : ℕ)
         → before.closed ≡ Some fault → asks_to_write line ≡ true → refused_text_in line input ≡ None

@@ -13,7 +13,7 @@ pub record SourceState : Type 0 where
 pub record SinkState : Type 0 where
   pub bytes : List ℕ
   pub calls : CallCounts
-  pub wanted : ℕ
+  pub out_of_memory : ℕ
 
 abbrev pub observed_source : SourceState → ObservedStream
 observed_source source = record { bytes = Some source.bytes; faults = source.calls.faults }
@@ -22,5 +22,5 @@ observed_source source = record { bytes = Some source.bytes; faults = source.cal
 abbrev pub observed_sink : SinkState → ObservedStream
 observed_sink sink = record {
   bytes = Some sink.bytes;
-  faults = min (sink.calls.faults + sink.wanted) max_count;
+  faults = min (sink.calls.faults + sink.out_of_memory) max_count;
 }

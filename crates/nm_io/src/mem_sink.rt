@@ -17,7 +17,7 @@ use std::marker::Model;
 pub struct MemSink {
     bytes: Many<u8>,
     calls: Calls,
-    wanted: Faults,
+    out_of_memory: Faults,
 }
 
 impl Model for MemSink {
@@ -25,18 +25,18 @@ impl Model for MemSink {
 
     ghost Value = { SinkState };
 
-    ghost view = { λ s. record { bytes = s.bytes; calls = s.calls; wanted = s.wanted } };
+    ghost view = { λ s. record { bytes = s.bytes; calls = s.calls; out_of_memory = s.out_of_memory } };
 }
 
 impl MemSink {
     /// Empty. `failing` are the numbers of the calls that are to fail, the first call being 1.
     pub fn new(alloc: Global, failing: Many<u64>) -> MemSink
-        ensures { result ≡ record { bytes = []; calls = record { failing = failing; made = 0; faults = 0 }; wanted = 0 } }
+        ensures { result ≡ record { bytes = []; calls = record { failing = failing; made = 0; faults = 0 }; out_of_memory = 0 } }
     {
         MemSink {
             bytes: Many::new(alloc),
             calls: Calls::new(failing),
-            wanted: Faults::new(),
+            out_of_memory: Faults::new(),
         }
     }
 
@@ -48,10 +48,10 @@ impl MemSink {
     }
 
     /// How many calls answered `Failed` because there was no memory.
-    pub fn wanted(&self) -> u64
-        ensures { result ≡ self.now.wanted }
+    pub fn out_of_memory(&self) -> u64
+        ensures { result ≡ self.now.out_of_memory }
     {
-        self.wanted.count()
+        self.out_of_memory.count()
     }
 }
 
@@ -65,14 +65,14 @@ impl Sink for MemSink {
         ensures calls { self.new.calls ≡ counted self.old.calls }
 
         // It fails at a listed call, or because there was no memory.
-        ensures wanted { self.new.wanted ≡ (if is_err result && not (is_next_listed self.old.calls) then one_more self.old.wanted else self.old.wanted) }
+        ensures out_of_memory { self.new.out_of_memory ≡ (if is_err result && not (is_next_listed self.old.calls) then one_more self.old.out_of_memory else self.old.out_of_memory) }
         ensures listed { IsTrue (is_next_listed self.old.calls) → IsErr result }
     {
         if self.calls.count() {
             return Err(Failed);
         }
         if self.bytes.extend_from_slice(bytes).is_err() {
-            self.wanted.add();
+            self.out_of_memory.add();
             return Err(Failed);
         }
         Ok(())

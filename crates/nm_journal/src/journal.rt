@@ -38,9 +38,9 @@ impl From<Failed> for JournalError {
 
 impl From<NoMemory> for JournalError {
     ghost use Rattle.std.specs.Prelude.{◌≡◌};
-    ghost use Rattle.nm_journal.specs.declared.journal.JournalError.TheVariants.{NoMemory as Wanted};
+    ghost use Rattle.nm_journal.specs.declared.journal.JournalError.TheVariants.{NoMemory as OutOfMemory};
 
-    ghost from_gives = { λ _ e. e ≡ Wanted };
+    ghost from_gives = { λ _ e. e ≡ OutOfMemory };
 
     fn from(_: NoMemory) -> JournalError {
         JournalError::NoMemory
@@ -49,9 +49,9 @@ impl From<NoMemory> for JournalError {
 
 impl From<AllocError> for JournalError {
     ghost use Rattle.std.specs.Prelude.{◌≡◌};
-    ghost use Rattle.nm_journal.specs.declared.journal.JournalError.TheVariants.{NoMemory as Wanted};
+    ghost use Rattle.nm_journal.specs.declared.journal.JournalError.TheVariants.{NoMemory as OutOfMemory};
 
-    ghost from_gives = { λ _ e. e ≡ Wanted };
+    ghost from_gives = { λ _ e. e ≡ OutOfMemory };
 
     fn from(_: AllocError) -> JournalError {
         JournalError::NoMemory

@@ -57,7 +57,7 @@ line_request name (asked.Tag ask) = Request (asks_for.Tag ask)
 line_request name (asked.Restore ask) = Request (asks_for.Restore ask)
 line_request name asked.Session = refused kinds.Lane name
 
--- or the word of them that is at fault; want of memory is no fault of words
+-- or the word of them that is at fault; running out of memory is no fault of words
 abbrev pub parse_answer : List ℕ → Result asks.Request CommandError → ParsedLine
 parse_answer name (Ok request) = line_request name request
 parse_answer name (Err (errors.Usage word kind)) = refused kind word

@@ -32,7 +32,7 @@ impl<R> FolderMail<R> {
     }
 }
 
-/// Counts a failure of the system; want of memory is none.
+/// Counts a failure of the system; running out of memory is none.
 fn count_fault(faults: &mut Faults, error: FolderError) -> MailError
     ensures { Counts (is_mail_fault result) faults.old faults.new }
 {

@@ -14,7 +14,7 @@ use nm_header::HeaderList;
 use std::alloc::Global;
 
 /// Reads the parts of a mail one by one, each before those in it. Its memory follows how deep the parts stand, not
-/// how many there are. After want of memory it tells nothing.
+/// how many there are. Once it ran out of memory it tells nothing.
 #[derive(Debug, Drop)]
 pub struct PartReader<'a> {
     mail: &'a [u8],

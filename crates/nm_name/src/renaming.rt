@@ -25,10 +25,10 @@ pub enum NameError {
 }
 
 impl From<NoMemory> for NameError {
-    ghost use Rattle.nm_name.specs.declared.renaming.NameError.TheVariants.{NoMemory as Wanted};
+    ghost use Rattle.nm_name.specs.declared.renaming.NameError.TheVariants.{NoMemory as OutOfMemory};
     ghost use Rattle.std.specs.Prelude.{◌≡◌};
 
-    ghost from_gives = { λ _ e. e ≡ Wanted };
+    ghost from_gives = { λ _ e. e ≡ OutOfMemory };
 
     fn from(_: NoMemory) -> NameError {
         NameError::NoMemory
@@ -36,10 +36,10 @@ impl From<NoMemory> for NameError {
 }
 
 impl From<AllocError> for NameError {
-    ghost use Rattle.nm_name.specs.declared.renaming.NameError.TheVariants.{NoMemory as Wanted};
+    ghost use Rattle.nm_name.specs.declared.renaming.NameError.TheVariants.{NoMemory as OutOfMemory};
     ghost use Rattle.std.specs.Prelude.{◌≡◌};
 
-    ghost from_gives = { λ _ e. e ≡ Wanted };
+    ghost from_gives = { λ _ e. e ≡ OutOfMemory };
 
     fn from(_: AllocError) -> NameError {
         NameError::NoMemory

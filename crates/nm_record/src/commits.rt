@@ -6,7 +6,7 @@ ghost use Rattle.nm_base.specs.Limits.{max_count};
 ghost use Rattle.nm_base.specs.declared.facts.Facts.{Facts};
 ghost use Rattle.nm_commit.specs.Files.{Fits};
 ghost use Rattle.nm_commit.specs.declared.change.Commit.{Commit};
-ghost use Rattle.nm_codec.specs.Reading.{AnswersUnlessWanted, all_of};
+ghost use Rattle.nm_codec.specs.Reading.{AnswersUnlessNoMemory, all_of};
 ghost use Rattle.nm_record.specs.CommitGrammar.{commit_grammar};
 ghost use Rattle.nm_record.specs.Commits.{has_date};
 
@@ -43,17 +43,17 @@ pub fn read_commit(alloc: Global, bytes: &[u8]) -> Result<Commit, ReadError>
 
     // What is written of a commit is read as it.
     ensures only { (commit : Commit) → commit_grammar.is_value commit ≡ true → length (commit_grammar.bytes commit) < 2 ^ 32
-        → bytes.now ≡ commit_grammar.bytes commit → AnswersUnlessWanted bytes.now result (Ok commit) }
+        → bytes.now ≡ commit_grammar.bytes commit → AnswersUnlessNoMemory bytes.now result (Ok commit) }
 
     // Where the first byte stands that is not of a commit.
-    ensures exact { AnswersUnlessWanted bytes.now result (all_of commit_grammar.read bytes.now) }
+    ensures exact { AnswersUnlessNoMemory bytes.now result (all_of commit_grammar.read bytes.now) }
 {
     read_all(alloc, bytes)
 }
 
 #[tactic(auto, unfolding(nm_codec::specs::Reading::all_of))]
 fn read_all(alloc: Global, bytes: &[u8]) -> Result<Commit, ReadError>
-    ensures { AnswersUnlessWanted bytes.now result (all_of commit_grammar.read bytes.now) }
+    ensures { AnswersUnlessNoMemory bytes.now result (all_of commit_grammar.read bytes.now) }
 {
     let mut reader = Reader::new(bytes);
     let commit = CommitFormat::read(alloc, &mut reader)?;

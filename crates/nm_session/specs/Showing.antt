@@ -46,13 +46,13 @@ tells_not_one (Err faults.ShowBytes) = false
 tells_not_one (Err faults.NoMemory) = false
 
 -- there was no memory
-abbrev pub wants_memory : Result (List ℕ) ShowFault → Bool
-wants_memory (Ok text) = false
-wants_memory (Err (faults.NotOne found)) = false
-wants_memory (Err (faults.Gone path)) = false
-wants_memory (Err faults.MailFault) = false
-wants_memory (Err faults.ShowBytes) = false
-wants_memory (Err faults.NoMemory) = true
+abbrev pub is_out_of_memory : Result (List ℕ) ShowFault → Bool
+is_out_of_memory (Ok text) = false
+is_out_of_memory (Err (faults.NotOne found)) = false
+is_out_of_memory (Err (faults.Gone path)) = false
+is_out_of_memory (Err faults.MailFault) = false
+is_out_of_memory (Err faults.ShowBytes) = false
+is_out_of_memory (Err faults.NoMemory) = true
 
 -- the mail folder failed
 abbrev pub is_folder_fault : ShowFault → Bool
@@ -64,7 +64,7 @@ is_folder_fault faults.NoMemory = false
 
 -- What a show of this query leaves: raw form is refused of more or fewer messages than one, and only then; and what the reads say.
 pub record IsAfterShow (ask : ShowAsk) (index : Base) (moment : ℤ) (query : Query) (left : ℕ) (old new : ObservedMail) (noted : List Given) (result : Result (List ℕ) ShowFault) : Type 0 where
-  pub one : wants_memory result ≡ false → tells_not_one result ≡ is_not_one ask (shown_ids ask index moment query)
+  pub one : is_out_of_memory result ≡ false → tells_not_one result ≡ is_not_one ask (shown_ids ask index moment query)
   pub reads : IsAfterReads ask index (shown_ids ask index moment query) left old new noted result
 
 -- what a text, or a reading, is refused for

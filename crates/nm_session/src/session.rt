@@ -18,7 +18,7 @@ use nm_writer::{OpenError, Writer};
 use std::alloc::Global;
 
 /// Opens the index that the disk holds, and runs the lines over it and the mail folder, one after the other. All memory of the log
-/// is taken before the index is opened; a line that wants memory says so, and the next one runs.
+/// is taken before the index is opened; a line that runs out of memory says so, and the next one runs.
 pub fn run_session<M: Maildir, D: Disk>(
     alloc: Global,
     setting: &Setting,

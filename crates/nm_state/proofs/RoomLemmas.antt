@@ -26,7 +26,7 @@ use Rattle.nm_state.specs.Parts.{base_of}
 use Rattle.nm_state.specs.declared.parts.Parts.{Parts}
 use Rattle.nm_state.specs.declared.room.Counts.{Counts}
 use Rattle.nm_state.specs.declared.room.RoomError.{RoomError}
-use Rattle.nm_state.specs.declared.room.RoomError.TheVariants.{Limit as Passes, NoMemory as Wanted}
+use Rattle.nm_state.specs.declared.room.RoomError.TheVariants.{Limit as Passes, NoMemory as OutOfMemory}
 use Rattle.nm_state.proofs.KeyLemmas.{Contains_first, Contains_there}
 use Rattle.nm_state.proofs.MeasureLemmas.{values_len}
 
@@ -161,7 +161,7 @@ revision_within index e =
 abbrev limit_or : {X : Type 0} → Limit → Result X RoomError → Limit
 limit_or d (Ok x) = d
 limit_or d (Err (Passes l)) = l
-limit_or d (Err Wanted) = d
+limit_or d (Err OutOfMemory) = d
 
 pub same_limit : {X : Type 0} (a b : Limit) → ◌≡◌ {A = Result X RoomError} (Err (Passes a)) (Err (Passes b)) → a ≡ b
 same_limit a b e = ap (limit_or a) e

@@ -33,9 +33,9 @@ pub enum RoomError {
 
 impl From<NoMemory> for RoomError {
     ghost use Rattle.std.specs.Prelude.{◌≡◌};
-    ghost use Rattle.nm_state.specs.declared.room.RoomError.TheVariants.{NoMemory as Wanted};
+    ghost use Rattle.nm_state.specs.declared.room.RoomError.TheVariants.{NoMemory as OutOfMemory};
 
-    ghost from_gives = { λ _ e. e ≡ Wanted };
+    ghost from_gives = { λ _ e. e ≡ OutOfMemory };
 
     fn from(_: NoMemory) -> RoomError {
         RoomError::NoMemory

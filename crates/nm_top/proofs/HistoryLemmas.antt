@@ -104,7 +104,7 @@ pub unasked-history : RefusalLaws → (refusal : Refusal) (input : List ℕ) (wo
 unasked-history laws refusal input words setting mail disk old new out err said image cause done ends =
     refused-history laws refusal input words setting (devices mail disk old out err) (devices mail disk new out said) cause (unasked laws disk image) refl refl done ends
 
--- what refuses words is a fault of them, of a query in them, or want of memory
+-- what refuses words is a fault of them, of a query in them, or running out of memory
 
 abbrev is_of_words : Refusal → Bool
 is_of_words (refusals.Usage word kind) = true

@@ -23,7 +23,7 @@ disk-same old new told clock faults =
     ap (λ (t : Option Moments). disk-of t new.clock new.faults) told
     ∙ (ap (λ (n : ℕ). disk-of old.told n new.faults) clock ∙ ap (λ (n : ℕ). disk-of old.told old.clock n) faults)
 
--- the leading words are refused where the error is no want of memory
+-- the leading words are refused where the error is not that memory ran out
 pub refused-words : (words : List (List ℕ)) (error : HeadError) → error ≡ faults.Usage → (error ≡ faults.NoMemory) ⊎ (leading_of words ≡ Err error) → leading_of words ≡ Err faults.Usage
 refused-words words error is (inl other) = let both : faults.Usage ≡ faults.NoMemory = sym is ∙ other in absurd (cc)
 refused-words words error is (inr said) = said ∙ ap Err is

@@ -2,7 +2,7 @@
 
 ghost use Rattle.std.specs.Prelude.{◌≡◌, ℕ, Bool, List, true, false, None, Some, MatchOption, if◌then◌else◌};
 ghost use Rattle.nm_history.specs.PrintedOut.{Prints, StreamAppends, final_message, printed_by, refused_text, write_message};
-ghost use Rattle.nm_history.specs.Status.{any_wants_memory, fault_of, first_fault, fault_or, session_status, single_status, status_by, status_of_fault, wants_memory, write_fault};
+ghost use Rattle.nm_history.specs.Status.{any_is_out_of_memory, fault_of, first_fault, fault_or, session_status, single_status, status_by, status_of_fault, is_out_of_memory, write_fault};
 ghost use Rattle.nm_top.specs.Ending.{Refuses, ended_with};
 
 use nm_base::Many;
@@ -129,12 +129,12 @@ fn session_status(logs: &[LineLog], out_failed: bool) -> u8
 }
 
 fn status_without_fault(logs: &[LineLog], out_failed: bool) -> u8
-    ensures { result ≡ status_of_fault (write_fault out_failed) (any_wants_memory logs.now) }
+    ensures { result ≡ status_of_fault (write_fault out_failed) (any_is_out_of_memory logs.now) }
 {
     if out_failed {
         return 6;
     }
-    if any_wants_memory(logs) { 7 } else { 0 }
+    if any_is_out_of_memory(logs) { 7 } else { 0 }
 }
 
 /// The status of the first device that failed in a line.
@@ -176,14 +176,14 @@ fn fault_of(outcome: &Outcome) -> Option<u8>
     }
 }
 
-fn any_wants_memory(logs: &[LineLog]) -> bool
-    ensures { result ≡ any_wants_memory logs.now }
+fn any_is_out_of_memory(logs: &[LineLog]) -> bool
+    ensures { result ≡ any_is_out_of_memory logs.now }
 {
-    logs.iter().any(|log| wants_memory(&log.outcome))
+    logs.iter().any(|log| is_out_of_memory(&log.outcome))
 }
 
-fn wants_memory(outcome: &Outcome) -> bool
-    ensures { result ≡ wants_memory outcome.now }
+fn is_out_of_memory(outcome: &Outcome) -> bool
+    ensures { result ≡ is_out_of_memory outcome.now }
 {
     match outcome {
         Outcome::NoMemory => true,

@@ -19,9 +19,9 @@ pub enum OpenError {
 
 impl From<NoMemory> for OpenError {
     ghost use Rattle.std.specs.Prelude.{◌≡◌};
-    ghost use Rattle.nm_writer.specs.declared.open_error.OpenError.TheVariants.{NoMemory as Wanted};
+    ghost use Rattle.nm_writer.specs.declared.open_error.OpenError.TheVariants.{NoMemory as OutOfMemory};
 
-    ghost from_gives = { λ _ e. e ≡ Wanted };
+    ghost from_gives = { λ _ e. e ≡ OutOfMemory };
 
     fn from(_: NoMemory) -> OpenError {
         OpenError::NoMemory

@@ -23,9 +23,9 @@ pub enum WriteError {
 
 impl From<NoMemory> for WriteError {
     ghost use Rattle.std.specs.Prelude.{◌≡◌};
-    ghost use Rattle.nm_writer.specs.declared.write_error.WriteError.TheVariants.{NoMemory as Wanted};
+    ghost use Rattle.nm_writer.specs.declared.write_error.WriteError.TheVariants.{NoMemory as OutOfMemory};
 
-    ghost from_gives = { λ _ e. e ≡ Wanted };
+    ghost from_gives = { λ _ e. e ≡ OutOfMemory };
 
     fn from(_: NoMemory) -> WriteError {
         WriteError::NoMemory

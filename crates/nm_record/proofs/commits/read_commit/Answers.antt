@@ -1,6 +1,6 @@
 use Rattle.std.proofs.Common.{ap, subst, ◌∙◌, arith}
 use Rattle.nm_codec.specs.AllLaws.{all_again}
-use Rattle.nm_codec.specs.Reading.{AnswersUnlessWanted, all_of}
+use Rattle.nm_codec.specs.Reading.{AnswersUnlessNoMemory, all_of}
 use Rattle.nm_record.specs.CommitGrammar.{commit_grammar}
 use Rattle.nm_record.proofs.FoundLemmas.{is_found}
 use Rattle.nm_record.proofs.commits.read_commit.Goals as goal
@@ -10,4 +10,4 @@ returns-clause-found c = is_found c.args.bytes.now c.read_all.result (λ i. omeg
 
 pub returns-clause-only : goal.returns-clause-only
 returns-clause-only c = λ commit v short e.
-    subst (λ r. AnswersUnlessWanted c.args.bytes.now c.read_all.result r) (ap (all_of commit_grammar.read) e ∙ all_again commit_grammar commit v short) c.read_all.ensures
+    subst (λ r. AnswersUnlessNoMemory c.args.bytes.now c.read_all.result r) (ap (all_of commit_grammar.read) e ∙ all_again commit_grammar commit v short) c.read_all.ensures
