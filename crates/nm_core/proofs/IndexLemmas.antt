@@ -37,7 +37,7 @@ module _ (opening : Base) (made : List Made) (kept : indexes_of made ≡ indexes
 -- the machine once the commit that is begun is acknowledged
 module _ (opening : Base) (made : List Made) (one : Made) (shown : ℕ) (lanes : List ℕ) (up : Bool) where
   pub acknowledged : machine_of opening (made ++ one ∷ []) None shown lanes up ≡ with_commit (machine_of opening made (Some one) shown lanes up) one.commit
-  acknowledged = ap (λ commits. record { opening = opening; commits = commits; flight = None; shown = shown; lanes = lanes; up = up }) (map-append (λ (m : Made). m.commit) made (one ∷ []))
+  acknowledged = ap (λ commits. record { opening = opening; commits = commits; in_flight = None; shown = shown; lanes = lanes; up = up }) (map-append (λ (m : Made). m.commit) made (one ∷ []))
 
   pub order-more : (met : ℕ) → InOrder met (machine_of opening made (Some one) shown lanes up) → InOrder met (machine_of opening (made ++ one ∷ []) None shown lanes up)
   order-more met order = subst (InOrder met) (sym acknowledged) (record {

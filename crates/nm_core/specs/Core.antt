@@ -26,7 +26,7 @@ indexes_of made = map (λ one. one.index) made
 
 -- the commit that is begun
 abbrev pub begun_of : Option Made → Option Commit
-begun_of flight = option_map (λ one. one.commit) flight
+begun_of in_flight = option_map (λ one. one.commit) in_flight
 
 -- the index after each of the commits
 abbrev pub indexes_after : Base → List Commit → List Base
@@ -34,23 +34,23 @@ indexes_after index [] = []
 indexes_after index (commit ∷ commits) = committed index commit ∷ indexes_after (committed index commit) commits
 
 -- beside each commit stands the index after it; so with the one that is begun
-pub record AreIndexes (opening : Base) (made : List Made) (flight : Option Made) : Type 0 where
+pub record AreIndexes (opening : Base) (made : List Made) (in_flight : Option Made) : Type 0 where
   pub kept : indexes_of made ≡ indexes_after opening (commits_of made)
-  pub next : IfSome flight (λ one. one.index ≡ committed (folded opening (commits_of made)) one.commit)
+  pub next : IfSome in_flight (λ one. one.index ≡ committed (folded opening (commits_of made)) one.commit)
 
 -- the state with these parts
 abbrev pub machine_of : Base → List Made → Option Made → ℕ → List ℕ → Bool → Machine
-machine_of opening made flight shown lanes up =
-    record { opening = opening; commits = commits_of made; flight = begun_of flight; shown = shown; lanes = lanes; up = up }
+machine_of opening made in_flight shown lanes up =
+    record { opening = opening; commits = commits_of made; in_flight = begun_of in_flight; shown = shown; lanes = lanes; up = up }
 
 -- the machine once a commit is acknowledged
 abbrev pub with_commit : Machine → Commit → Machine
-with_commit m commit = record m { commits = m.commits ++ commit ∷ []; flight = None }
+with_commit m commit = record m { commits = m.commits ++ commit ∷ []; in_flight = None }
 
 -- The commit that is begun is acknowledged; where none is, that is not now.
 abbrev pub Acknowledges : {T : Type 0} → Kept → Result T CoreError → Kept → Type 0
-Acknowledges old (Ok done) new = (commit : Commit) × (old.machine.flight ≡ Some commit) × (new ≡ record { machine = with_commit old.machine commit; met = old.met })
-Acknowledges old (Err NotNow) new = (old.machine.flight ≡ None) × (new ≡ old)
+Acknowledges old (Ok done) new = (commit : Commit) × (old.machine.in_flight ≡ Some commit) × (new ≡ record { machine = with_commit old.machine commit; met = old.met })
+Acknowledges old (Err NotNow) new = (old.machine.in_flight ≡ None) × (new ≡ old)
 Acknowledges old (Err NoMemory) new = new ≡ old
 
 -- A step is taken, or refused because it is not allowed; a refusal, as running out of memory, leaves all as it was.

@@ -62,7 +62,7 @@ pub struct Core {
     alloc: Global,
     opening: Snapshot,
     commits: Many<Made>,
-    flight: Option<Made>,
+    in_flight: Option<Made>,
     shown: usize,
     /// For each lane, how many commits it sees.
     lanes: Many<usize>,
@@ -78,9 +78,9 @@ impl Model for Core {
 
     ghost Value = { Kept };
 
-    ghost view = { λ c. record { machine = machine_of c.opening c.commits c.flight c.shown c.lanes c.up; met = c.met } };
+    ghost view = { λ c. record { machine = machine_of c.opening c.commits c.in_flight c.shown c.lanes c.up; met = c.met } };
 
-    ghost invariant = { λ c. InOrder c.met (machine_of c.opening c.commits c.flight c.shown c.lanes c.up) × (0 < length c.lanes) × AreIndexes c.opening c.commits c.flight };
+    ghost invariant = { λ c. InOrder c.met (machine_of c.opening c.commits c.in_flight c.shown c.lanes c.up) × (0 < length c.lanes) × AreIndexes c.opening c.commits c.in_flight };
 }
 
 impl Core {
@@ -94,7 +94,7 @@ impl Core {
             alloc,
             opening,
             commits: Many::new(alloc),
-            flight: None,
+            in_flight: None,
             shown: 0,
             lanes: none_seeing(alloc, lanes as usize)?,
             up: true,
@@ -142,7 +142,7 @@ impl Core {
         }
         let index = index_with(self.last_index(), commit)?;
         let commit = commit.copy()?;
-        self.flight = Some(Made { commit, index });
+        self.in_flight = Some(Made { commit, index });
         Ok(())
     }
 
@@ -154,7 +154,7 @@ impl Core {
         if self.commits.len() != self.shown {
             return Ok(false);
         }
-        if self.flight.is_some() {
+        if self.in_flight.is_some() {
             return Ok(false);
         }
         self.last_index().fits(commit)
@@ -190,11 +190,11 @@ impl Core {
     fn acknowledge(&mut self) -> Result<(), CoreError>
         ensures { Acknowledges self.old result self.new }
     {
-        let Some(made) = &self.flight else {
+        let Some(made) = &self.in_flight else {
             return Err(CoreError::NotNow);
         };
         push_copy(&mut self.commits, made)?;
-        self.flight = None;
+        self.in_flight = None;
         Ok(())
     }
 
@@ -266,7 +266,7 @@ impl Core {
                 return Err(error);
             }
         }
-        self.flight = None;
+        self.in_flight = None;
         self.up = false;
         Ok(())
     }

@@ -129,7 +129,7 @@ abbrev pub KeepsFiles : Deed → Type 0
 KeepsFiles deed = (state : DiskState) → (after_deed state deed).now ≡ state.now
 
 -- A call that was not listed did `good`, or found no memory and did nothing; one that was listed did `bad`, or nothing
--- running out of memory.
+-- where memory ran out.
 abbrev pub IsNoted : {T : Type 0} → MemState → MemState → Result T Failed → Deed → Deed → Type 0
 IsNoted old new result good bad =
     MatchResult result

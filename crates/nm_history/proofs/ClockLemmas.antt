@@ -27,22 +27,22 @@ appends-commits : (made : List Commit) → appends (flat_map commit_steps made) 
 appends-commits [] = refl
 appends-commits (commit ∷ made) = ap (λ n. suc n) (appends-commits made)
 
-appends-flight : (flight : List Commit) → appends (map begin_step flight) ≡ 0
+appends-flight : (in_flight : List Commit) → appends (map begin_step in_flight) ≡ 0
 appends-flight [] = refl
-appends-flight (commit ∷ flight) = appends-flight flight
+appends-flight (commit ∷ in_flight) = appends-flight in_flight
 
 appends-replies : (replies : List Replied) → appends (map reply_step replies) ≡ 0
 appends-replies [] = refl
 appends-replies (replied ∷ replies) = appends-replies replies
 
-appends-line : (made flight : List Commit) (replies : List Replied) → appends (line_steps made flight replies) ≡ length made
-appends-line made flight replies =
+appends-line : (made in_flight : List Commit) (replies : List Replied) → appends (line_steps made in_flight replies) ≡ length made
+appends-line made in_flight replies =
     omega (
       arith,
-      appends-append (flat_map commit_steps made) (map begin_step flight ++ map reply_step replies),
+      appends-append (flat_map commit_steps made) (map begin_step in_flight ++ map reply_step replies),
       appends-commits made,
-      appends-append (map begin_step flight) (map reply_step replies),
-      appends-flight flight,
+      appends-append (map begin_step in_flight) (map reply_step replies),
+      appends-flight in_flight,
       appends-replies replies,
     )
 
@@ -58,5 +58,5 @@ clocks-more opening moment entry steps taken lines acknowledged old new ran at r
       h,
       appends-append steps taken,
       ap appends result.steps,
-      appends-line result.made result.flight (reply_to ran),
+      appends-line result.made result.in_flight (reply_to ran),
     )

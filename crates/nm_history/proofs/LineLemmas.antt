@@ -32,21 +32,21 @@ begun-commits : (made : List Commit) → begun (flat_map commit_steps made) ≡ 
 begun-commits [] = refl
 begun-commits (commit ∷ made) = ap (λ (l : List Commit). commit ∷ l) (begun-commits made)
 
-begun-flight : (flight : List Commit) → begun (map begin_step flight) ≡ flight
+begun-flight : (in_flight : List Commit) → begun (map begin_step in_flight) ≡ in_flight
 begun-flight [] = refl
-begun-flight (commit ∷ flight) = ap (λ (l : List Commit). commit ∷ l) (begun-flight flight)
+begun-flight (commit ∷ in_flight) = ap (λ (l : List Commit). commit ∷ l) (begun-flight in_flight)
 
 begun-replies : (replies : List Replied) → begun (map reply_step replies) ≡ []
 begun-replies [] = refl
 begun-replies (replied ∷ replies) = begun-replies replies
 
-pub begun-line : (made flight : List Commit) (replies : List Replied) → begun (line_steps made flight replies) ≡ made ++ flight
-begun-line made flight replies =
-    begun-append (flat_map commit_steps made) (map begin_step flight ++ map reply_step replies)
-    ∙ ap (λ (l : List Commit). l ++ begun (map begin_step flight ++ map reply_step replies)) (begun-commits made)
-    ∙ ap (λ (l : List Commit). made ++ l) (begun-append (map begin_step flight) (map reply_step replies)
-    ∙ ap (λ (l : List Commit). l ++ begun (map reply_step replies)) (begun-flight flight)
-    ∙ ap (λ (l : List Commit). flight ++ l) (begun-replies replies) ∙ append-nil flight)
+pub begun-line : (made in_flight : List Commit) (replies : List Replied) → begun (line_steps made in_flight replies) ≡ made ++ in_flight
+begun-line made in_flight replies =
+    begun-append (flat_map commit_steps made) (map begin_step in_flight ++ map reply_step replies)
+    ∙ ap (λ (l : List Commit). l ++ begun (map begin_step in_flight ++ map reply_step replies)) (begun-commits made)
+    ∙ ap (λ (l : List Commit). made ++ l) (begun-append (map begin_step in_flight) (map reply_step replies)
+    ∙ ap (λ (l : List Commit). l ++ begun (map reply_step replies)) (begun-flight in_flight)
+    ∙ ap (λ (l : List Commit). in_flight ++ l) (begun-replies replies) ∙ append-nil in_flight)
 
 -- the revision after commits
 
@@ -66,37 +66,37 @@ nil-right (x ∷ xs) ys e = absurd (cc)
 
 -- what was on its way before a line, or what the line made, is nothing
 abbrev pub Apart : List Commit → List Commit → List Commit → Type 0
-Apart way made flight = (way ≡ []) ⊎ (made ++ flight ≡ [])
+Apart way made in_flight = (way ≡ []) ⊎ (made ++ in_flight ≡ [])
 
-pub weave : (acknowledged way made flight : List Commit) → Apart way made flight → (acknowledged ++ way) ++ (made ++ flight) ≡ (acknowledged ++ made) ++ (way ++ flight)
-weave acknowledged way made flight (inl none) =
-    ap (λ (l : List Commit). (acknowledged ++ l) ++ (made ++ flight)) none
-    ∙ ap (λ (l : List Commit). l ++ (made ++ flight)) (append-nil acknowledged)
-    ∙ sym (append_assoc acknowledged made flight)
-    ∙ sym (ap (λ (l : List Commit). (acknowledged ++ made) ++ (l ++ flight)) none)
-weave acknowledged way made flight (inr none) =
+pub weave : (acknowledged way made in_flight : List Commit) → Apart way made in_flight → (acknowledged ++ way) ++ (made ++ in_flight) ≡ (acknowledged ++ made) ++ (way ++ in_flight)
+weave acknowledged way made in_flight (inl none) =
+    ap (λ (l : List Commit). (acknowledged ++ l) ++ (made ++ in_flight)) none
+    ∙ ap (λ (l : List Commit). l ++ (made ++ in_flight)) (append-nil acknowledged)
+    ∙ sym (append_assoc acknowledged made in_flight)
+    ∙ sym (ap (λ (l : List Commit). (acknowledged ++ made) ++ (l ++ in_flight)) none)
+weave acknowledged way made in_flight (inr none) =
     ap (λ (l : List Commit). (acknowledged ++ way) ++ l) none
     ∙ append-nil (acknowledged ++ way)
-    ∙ sym (ap (λ (l : List Commit). l ++ way) (ap (λ (l : List Commit). acknowledged ++ l) (nil-left made flight none) ∙ append-nil acknowledged))
-    ∙ sym (ap (λ (l : List Commit). (acknowledged ++ made) ++ l) (ap (λ (l : List Commit). way ++ l) (nil-right made flight none) ∙ append-nil way))
+    ∙ sym (ap (λ (l : List Commit). l ++ way) (ap (λ (l : List Commit). acknowledged ++ l) (nil-left made in_flight none) ∙ append-nil acknowledged))
+    ∙ sym (ap (λ (l : List Commit). (acknowledged ++ made) ++ l) (ap (λ (l : List Commit). way ++ l) (nil-right made in_flight none) ∙ append-nil way))
 
 -- a line leaves at most one commit on its way, and none where the writer stays open
 
-pub one-on-way : (failed : Bool) (flight : List Commit) → IsOnItsWay failed flight → (flight ≡ []) ⊎ ((commit : Commit) × (flight ≡ commit ∷ []))
+pub one-on-way : (failed : Bool) (in_flight : List Commit) → IsOnItsWay failed in_flight → (in_flight ≡ []) ⊎ ((commit : Commit) × (in_flight ≡ commit ∷ []))
 one-on-way failed [] h = inl refl
 one-on-way failed (commit ∷ []) h = inr (commit, refl)
 one-on-way true (commit ∷ other ∷ more) h = absurd (omega (arith, h))
 one-on-way false (commit ∷ other ∷ more) h = absurd (omega (arith, h))
 
 -- the writer that is open behind a line was open before it, and the line left nothing on its way
-still-open : (failed : Bool) (closed : Option ℕ) (faults : ℕ) (flight : List Commit) → IsOnItsWay failed flight → closed_after closed failed faults ≡ None → (closed ≡ None) × (flight ≡ [])
+still-open : (failed : Bool) (closed : Option ℕ) (faults : ℕ) (in_flight : List Commit) → IsOnItsWay failed in_flight → closed_after closed failed faults ≡ None → (closed ≡ None) × (in_flight ≡ [])
 still-open false closed faults [] h e = (e, refl)
 still-open false closed faults (commit ∷ more) h e = absurd (omega (arith, h))
-still-open true closed faults flight h e = absurd (cc)
+still-open true closed faults in_flight h e = absurd (cc)
 
-apart-by : (closed : Option ℕ) (way made flight : List Commit) → (closed ≡ None → way ≡ []) → (IsSome closed → made ++ flight ≡ []) → Apart way made flight
-apart-by None way made flight none idle = inl (none refl)
-apart-by (Some fault) way made flight none idle = inr (idle refl)
+apart-by : (closed : Option ℕ) (way made in_flight : List Commit) → (closed ≡ None → way ≡ []) → (IsSome closed → made ++ in_flight ≡ []) → Apart way made in_flight
+apart-by None way made in_flight none idle = inl (none refl)
+apart-by (Some fault) way made in_flight none idle = inr (idle refl)
 
 -- what stands before a line, by its parts
 abbrev before-with : ℕ → ℕ → ℕ → Option ℕ → ℕ → Before
@@ -109,15 +109,15 @@ before-is r m d c l s n e k o p q u v w =
 
 module _ (opening : Base) (moment : ℤ) (entry : Devices) (steps taken : List Step) (lines : List RunLine) (acknowledged : List Commit)
     (old new : Place) (ran : RunLine) (at : StandsAt opening entry steps lines acknowledged old) (result : IsLineResult moment old ran taken new) where
-  pub apart : Apart at.flight result.made result.flight
-  apart = apart-by old.writer.closed at.flight result.made result.flight at.none_open result.has_made.idle
+  pub apart : Apart at.in_flight result.made result.in_flight
+  apart = apart-by old.writer.closed at.in_flight result.made result.in_flight at.none_open result.has_made.idle
 
-  pub begun-all : begun (steps ++ taken) ≡ (acknowledged ++ result.made) ++ (at.flight ++ result.flight)
+  pub begun-all : begun (steps ++ taken) ≡ (acknowledged ++ result.made) ++ (at.in_flight ++ result.in_flight)
   begun-all =
       begun-append steps taken
       ∙ ap (λ (l : List Commit). l ++ begun taken) at.begun_are
-      ∙ ap (λ (l : List Commit). (acknowledged ++ at.flight) ++ l) (ap begun result.steps ∙ begun-line result.made result.flight (reply_to ran))
-      ∙ weave acknowledged at.flight result.made result.flight apart
+      ∙ ap (λ (l : List Commit). (acknowledged ++ at.in_flight) ++ l) (ap begun result.steps ∙ begun-line result.made result.in_flight (reply_to ran))
+      ∙ weave acknowledged at.in_flight result.made result.in_flight apart
 
   pub shown-all : new.writer.shown ≡ folded opening (acknowledged ++ result.made)
   shown-all =
@@ -141,14 +141,14 @@ module _ (opening : Base) (moment : ℤ) (entry : Devices) (steps taken : List S
 
   pub stands-more : StandsAt opening entry (steps ++ taken) (lines ++ ran ∷ []) (acknowledged ++ result.made) new
   stands-more = record {
-    flight = at.flight ++ result.flight;
+    in_flight = at.in_flight ++ result.in_flight;
     begun_are = begun-all;
     begun_by_writer =
-        result.has_made.begun_are ∙ ap (λ (l : List Commit). l ++ (result.made ++ result.flight)) at.begun_by_writer
-        ∙ weave acknowledged at.flight result.made result.flight apart;
+        result.has_made.begun_are ∙ ap (λ (l : List Commit). l ++ (result.made ++ result.in_flight)) at.begun_by_writer
+        ∙ weave acknowledged at.in_flight result.made result.in_flight apart;
     none_open = λ is_open.
-        let still = still-open ran.1.disk_failed old.writer.closed new.disk_faults result.flight result.on_its_way (sym result.closed ∙ is_open) in
-        ap (λ (l : List Commit). l ++ result.flight) (at.none_open still.0) ∙ still.1;
+        let still = still-open ran.1.disk_failed old.writer.closed new.disk_faults result.in_flight result.on_its_way (sym result.closed ∙ is_open) in
+        ap (λ (l : List Commit). l ++ result.in_flight) (at.none_open still.0) ∙ still.1;
     acked =
         ap length result.has_made.acked ∙ length-append old.writer.acked result.has_made.clocks
         ∙ ap (λ n. n + length result.has_made.clocks) at.acked ∙ ap (λ n. length acknowledged + n) result.has_made.one_each
@@ -159,37 +159,37 @@ module _ (opening : Base) (moment : ℤ) (entry : Devices) (steps taken : List S
   }
 
   -- the commits of the line
-  makes-commits : MakesCommits opening moment (tree_after_all entry.mail.tree lines) acknowledged ran result.made result.flight
+  makes-commits : MakesCommits opening moment (tree_after_all entry.mail.tree lines) acknowledged ran result.made result.in_flight
   makes-commits = record {
     revision = revision-after;
     makes =
         let count : length old.writer.acked + length result.made ≡ length (acknowledged ++ result.made) =
         ap (λ n. n + length result.made) at.acked ∙ sym (length-append acknowledged result.made) in
-        subst (λ n. Makes ran.1.outcome moment (tree_after_all entry.mail.tree lines) (folded opening acknowledged) ran.0 ran.1.given n result.made result.flight) count
-        (subst (λ (i : Base). Makes ran.1.outcome moment (tree_after_all entry.mail.tree lines) i ran.0 ran.1.given (length old.writer.acked + length result.made) result.made result.flight) at.shown
-        (subst (λ (t : Option Tree). Makes ran.1.outcome moment t old.writer.shown ran.0 ran.1.given (length old.writer.acked + length result.made) result.made result.flight) at.tree result.makes));
+        subst (λ n. Makes ran.1.outcome moment (tree_after_all entry.mail.tree lines) (folded opening acknowledged) ran.0 ran.1.given n result.made result.in_flight) count
+        (subst (λ (i : Base). Makes ran.1.outcome moment (tree_after_all entry.mail.tree lines) i ran.0 ran.1.given (length old.writer.acked + length result.made) result.made result.in_flight) at.shown
+        (subst (λ (t : Option Tree). Makes ran.1.outcome moment t old.writer.shown ran.0 ran.1.given (length old.writer.acked + length result.made) result.made result.in_flight) at.tree result.makes));
     on_its_way = result.on_its_way;
   }
 
   makes-more : (tree : Option Tree) (earlier commits : List Commit) (before : List RunLine) → tree_after_all tree before ≡ tree_after_all entry.mail.tree lines
       → EachMakes opening moment tree earlier before commits acknowledged
-      → EachMakes opening moment tree earlier (before ++ ran ∷ []) (commits ++ (result.made ++ result.flight)) (acknowledged ++ result.made)
+      → EachMakes opening moment tree earlier (before ++ ran ∷ []) (commits ++ (result.made ++ result.in_flight)) (acknowledged ++ result.made)
   makes-more tree earlier commits [] same h = (
     result.made,
-    result.flight,
+    result.in_flight,
     [],
-    ap (λ (l : List Commit). l ++ (result.made ++ result.flight)) h.0 ∙ ap (λ (l : List Commit). result.made ++ l) (sym (append-nil result.flight)),
-    subst (λ (t : Option Tree). MakesCommits opening moment t earlier ran result.made result.flight) (sym same)
-        (subst (λ (l : List Commit). MakesCommits opening moment (tree_after_all entry.mail.tree lines) l ran result.made result.flight) h.1 makes-commits),
+    ap (λ (l : List Commit). l ++ (result.made ++ result.in_flight)) h.0 ∙ ap (λ (l : List Commit). result.made ++ l) (sym (append-nil result.in_flight)),
+    subst (λ (t : Option Tree). MakesCommits opening moment t earlier ran result.made result.in_flight) (sym same)
+        (subst (λ (l : List Commit). MakesCommits opening moment (tree_after_all entry.mail.tree lines) l ran result.made result.in_flight) h.1 makes-commits),
     (refl, ap (λ (l : List Commit). l ++ result.made) h.1),
   )
   makes-more tree earlier commits (first ∷ before) same h = (
     h.0,
     h.1,
-    h.2 ++ (result.made ++ result.flight),
-    ap (λ (l : List Commit). l ++ (result.made ++ result.flight)) h.3
-        ∙ append_assoc h.0 (h.1 ++ h.2) (result.made ++ result.flight)
-        ∙ ap (λ (l : List Commit). h.0 ++ l) (append_assoc h.1 h.2 (result.made ++ result.flight)),
+    h.2 ++ (result.made ++ result.in_flight),
+    ap (λ (l : List Commit). l ++ (result.made ++ result.in_flight)) h.3
+        ∙ append_assoc h.0 (h.1 ++ h.2) (result.made ++ result.in_flight)
+        ∙ ap (λ (l : List Commit). h.0 ++ l) (append_assoc h.1 h.2 (result.made ++ result.in_flight)),
     h.4,
     makes-more (tree_after tree first) (earlier ++ h.0) h.2 before same h.5,
   )
@@ -198,7 +198,7 @@ module _ (opening : Base) (moment : ℤ) (entry : Devices) (steps taken : List S
       → LineCommits opening moment entry.mail.tree (steps ++ taken) (lines ++ ran ∷ []) (acknowledged ++ result.made)
   commits-more h =
       subst (λ (l : List Commit). EachMakes opening moment entry.mail.tree [] (lines ++ ran ∷ []) l (acknowledged ++ result.made))
-      (sym (begun-append steps taken ∙ ap (λ (l : List Commit). begun steps ++ l) (ap begun result.steps ∙ begun-line result.made result.flight (reply_to ran))))
+      (sym (begun-append steps taken ∙ ap (λ (l : List Commit). begun steps ++ l) (ap begun result.steps ∙ begun-line result.made result.in_flight (reply_to ran))))
       (makes-more entry.mail.tree [] (begun steps) lines refl h)
 
   -- an index stays where it is
@@ -215,7 +215,7 @@ module _ (opening : Base) (moment : ℤ) (entry : Devices) (steps taken : List S
   index-old : IsIndexAt opening (steps ++ taken) (before_at old).revision old.writer.shown
   index-old = index-more _ _ (record {
     front = acknowledged;
-    more = at.flight;
+    more = at.in_flight;
     begun_are = at.begun_are;
     revision_is = ap (λ (i : Base). i.revision) at.shown ∙ revision-folded opening acknowledged;
     index_is = at.shown;
@@ -224,7 +224,7 @@ module _ (opening : Base) (moment : ℤ) (entry : Devices) (steps taken : List S
   index-new : IsIndexAt opening (steps ++ taken) ran.1.revision new.writer.shown
   index-new = record {
     front = acknowledged ++ result.made;
-    more = at.flight ++ result.flight;
+    more = at.in_flight ++ result.in_flight;
     begun_are = begun-all;
     revision_is = revision-after;
     index_is = shown-all;

@@ -18,7 +18,7 @@ use Rattle.nm_index.specs.Fits.{FitInTurn}
 use Rattle.nm_index.specs.Index.{committed, folded}
 use Rattle.nm_index.specs.declared.base.Base.{Base}
 use Rattle.nm_machine.specs.Machine as machine
-use Rattle.nm_machine.specs.Machine.{Machine, in_flight, index_after}
+use Rattle.nm_machine.specs.Machine.{Machine, commits_in_flight, index_after}
 use Rattle.nm_machine.specs.declared.step.Step.{Step}
 use Rattle.nm_machine.specs.declared.step.Step.TheVariants as steps
 use Rattle.nm_maildir.specs.declared.given.Given.{Given}
@@ -44,7 +44,7 @@ fit-append : (index : Base) (commits more : List Commit) → FitInTurn index (co
 fit-append index [] more h = (tt, h)
 fit-append index (commit ∷ commits) more h = let rest = fit-append (committed index commit) commits more h.1 in ((h.0, rest.0), rest.1)
 
-none-on-way : (flight : Option Commit) → in_flight flight ≡ [] → flight ≡ None
+none-on-way : (in_flight : Option Commit) → commits_in_flight in_flight ≡ [] → in_flight ≡ None
 none-on-way None e = refl
 none-on-way (Some commit) e = absurd (cc)
 
@@ -67,13 +67,13 @@ module _ (moment : ℤ) where
 
   -- the commit on its way is there
   abbrev landed : Machine → List Commit → Machine
-  landed m arrived = record m { commits = m.commits ++ arrived; flight = None }
+  landed m arrived = record m { commits = m.commits ++ arrived; in_flight = None }
 
   -- a step that is no stop leaves the next state
   next-is : (m : Machine) (step : Step) (new : Machine) → is_stop step ≡ false → machine.Takes moment m step new → new ≡ next m step
   next-is m (steps.Begin commit) new e t = t.after
   next-is m steps.Append new e t =
-      t.after.2 ∙ ap (λ (f : Option Commit). landed m (in_flight f)) (sym t.after.1)
+      t.after.2 ∙ ap (λ (f : Option Commit). landed m (commits_in_flight f)) (sym t.after.1)
   next-is m steps.Show new e t = t.after
   next-is m (steps.See lane) new e t = t.after
   next-is m steps.Meet new e t = t.after
@@ -91,7 +91,7 @@ module _ (moment : ℤ) where
     pub last : Machine
     pub run : machine.Runs moment m taken last
     pub rest : IsAtRest opening acknowledged last
-    pub on_way : in_flight last.flight ≡ way
+    pub on_way : commits_in_flight last.in_flight ≡ way
     pub never : NeverStops taken
     pub replies_are : replies_from m taken ≡ replies
 
@@ -99,7 +99,7 @@ module _ (moment : ℤ) where
   replied-with revision request text = record { lane = 0; revision = revision; request = request; text = text }
 
   module _ (opening : Base) where
-    stays : (m : Machine) (acknowledged way : List Commit) → IsAtRest opening acknowledged m → in_flight m.flight ≡ way → Goes opening m [] acknowledged way []
+    stays : (m : Machine) (acknowledged way : List Commit) → IsAtRest opening acknowledged m → commits_in_flight m.in_flight ≡ way → Goes opening m [] acknowledged way []
     stays m acknowledged way rest on = record { last = m; run = refl; rest = rest; on_way = on; never = tt; replies_are = refl }
 
     goes-on : (m : Machine) (taken more : List Step) (mid mid_way acknowledged way : List Commit) (first_replies replies : List Replied)
@@ -122,14 +122,14 @@ module _ (moment : ℤ) where
         ap (λ (i : Base). folded i m.commits) rest.opening_is ∙ ap (folded opening) rest.commits
 
     -- a commit that fits is begun
-    begins : (m : Machine) (acknowledged : List Commit) (commit : Commit) → IsAtRest opening acknowledged m → in_flight m.flight ≡ []
+    begins : (m : Machine) (acknowledged : List Commit) (commit : Commit) → IsAtRest opening acknowledged m → commits_in_flight m.in_flight ≡ []
         → Fits (folded opening acknowledged).files commit → Goes opening m (begin_step commit ∷ []) acknowledged (commit ∷ []) []
     begins m acknowledged commit rest none fits = record {
-      last = record m { flight = Some commit };
+      last = record m { in_flight = Some commit };
       run = (
-        record m { flight = Some commit },
+        record m { in_flight = Some commit },
         record {
-          allowed = (rest.up, rest.shown, none-on-way m.flight none, subst (λ (i : Base). Fits i.files commit) (sym (index-is m acknowledged rest)) fits);
+          allowed = (rest.up, rest.shown, none-on-way m.in_flight none, subst (λ (i : Base). Fits i.files commit) (sym (index-is m acknowledged rest)) fits);
           after = refl;
         },
         refl,
@@ -141,11 +141,11 @@ module _ (moment : ℤ) where
     }
 
     -- it is there, and is shown
-    lands : (m : Machine) (acknowledged : List Commit) (commit : Commit) → IsAtRest opening acknowledged m → in_flight m.flight ≡ []
+    lands : (m : Machine) (acknowledged : List Commit) (commit : Commit) → IsAtRest opening acknowledged m → commits_in_flight m.in_flight ≡ []
         → Fits (folded opening acknowledged).files commit → Goes opening m (commit_steps commit) (acknowledged ++ commit ∷ []) [] []
     lands m acknowledged commit rest none fits =
-        let started : Machine = record m { flight = Some commit } in
-        let there : Machine = record started { commits = m.commits ++ commit ∷ []; flight = None } in
+        let started : Machine = record m { in_flight = Some commit } in
+        let there : Machine = record started { commits = m.commits ++ commit ∷ []; in_flight = None } in
         let shown : Machine = record there { shown = length there.commits; lanes = slice_set m.lanes 0 (length there.commits) } in
         let longer : length there.commits ≡ length m.commits + 1 = length-append m.commits (commit ∷ []) in
         record {
@@ -153,7 +153,7 @@ module _ (moment : ℤ) where
           run = (
             started,
             record {
-              allowed = (rest.up, rest.shown, none-on-way m.flight none, subst (λ (i : Base). Fits i.files commit) (sym (index-is m acknowledged rest)) fits);
+              allowed = (rest.up, rest.shown, none-on-way m.in_flight none, subst (λ (i : Base). Fits i.files commit) (sym (index-is m acknowledged rest)) fits);
               after = refl;
             },
             (there, record { allowed = (rest.up, cc); after = (commit, refl, refl) }, (shown, record { allowed = (rest.up, longer ∙ ap (λ n. n + 1) rest.shown); after = refl }, refl)),
@@ -172,7 +172,7 @@ module _ (moment : ℤ) where
         }
 
     -- commits that fit, one after the other
-    commits-go : (m : Machine) (acknowledged made : List Commit) → IsAtRest opening acknowledged m → in_flight m.flight ≡ []
+    commits-go : (m : Machine) (acknowledged made : List Commit) → IsAtRest opening acknowledged m → commits_in_flight m.in_flight ≡ []
         → FitInTurn (folded opening acknowledged) made → Goes opening m (flat_map commit_steps made) (acknowledged ++ made) [] []
     commits-go m acknowledged [] rest none fit =
         subst (λ (l : List Commit). Goes opening m [] l [] []) (sym (append-nil acknowledged)) (stays m acknowledged [] rest none)
@@ -185,36 +185,36 @@ module _ (moment : ℤ) where
         (goes-on m (commit_steps commit) (flat_map commit_steps made) (acknowledged ++ commit ∷ []) [] ((acknowledged ++ commit ∷ []) ++ made) [] [] [] first further)
 
     -- the one that a line leaves on its way
-    flight-goes : (m : Machine) (acknowledged flight : List Commit) → IsAtRest opening acknowledged m → in_flight m.flight ≡ []
-        → FitInTurn (folded opening acknowledged) flight → (flight ≡ []) ⊎ ((commit : Commit) × (flight ≡ commit ∷ []))
-        → Goes opening m (map begin_step flight) acknowledged flight []
-    flight-goes m acknowledged flight rest none fit (inl is) =
+    flight-goes : (m : Machine) (acknowledged in_flight : List Commit) → IsAtRest opening acknowledged m → commits_in_flight m.in_flight ≡ []
+        → FitInTurn (folded opening acknowledged) in_flight → (in_flight ≡ []) ⊎ ((commit : Commit) × (in_flight ≡ commit ∷ []))
+        → Goes opening m (map begin_step in_flight) acknowledged in_flight []
+    flight-goes m acknowledged in_flight rest none fit (inl is) =
         subst (λ (l : List Commit). Goes opening m (map begin_step l) acknowledged l []) (sym is) (stays m acknowledged [] rest none)
-    flight-goes m acknowledged flight rest none fit (inr one) =
+    flight-goes m acknowledged in_flight rest none fit (inr one) =
         subst (λ (l : List Commit). Goes opening m (map begin_step l) acknowledged l []) (sym one.1)
         (begins m acknowledged one.0 rest none (subst (λ (l : List Commit). FitInTurn (folded opening acknowledged) l) one.1 fit).0)
 
     -- what a line commits: nothing, or with nothing on its way before
-    writes-go : (m : Machine) (acknowledged way made flight : List Commit) → IsAtRest opening acknowledged m → in_flight m.flight ≡ way
-        → FitInTurn (folded opening acknowledged) (made ++ flight) → (flight ≡ []) ⊎ ((commit : Commit) × (flight ≡ commit ∷ []))
-        → (way ≡ []) ⊎ ((made ≡ []) × (flight ≡ []))
-        → Goes opening m (flat_map commit_steps made ++ map begin_step flight) (acknowledged ++ made) (way ++ flight) []
-    writes-go m acknowledged way made flight rest on fit one (inl none) =
-        let fits = fit-append (folded opening acknowledged) made flight fit in
+    writes-go : (m : Machine) (acknowledged way made in_flight : List Commit) → IsAtRest opening acknowledged m → commits_in_flight m.in_flight ≡ way
+        → FitInTurn (folded opening acknowledged) (made ++ in_flight) → (in_flight ≡ []) ⊎ ((commit : Commit) × (in_flight ≡ commit ∷ []))
+        → (way ≡ []) ⊎ ((made ≡ []) × (in_flight ≡ []))
+        → Goes opening m (flat_map commit_steps made ++ map begin_step in_flight) (acknowledged ++ made) (way ++ in_flight) []
+    writes-go m acknowledged way made in_flight rest on fit one (inl none) =
+        let fits = fit-append (folded opening acknowledged) made in_flight fit in
         let first = commits-go m acknowledged made rest (on ∙ none) fits.0 in
         let second =
-        flight-goes first.last (acknowledged ++ made) flight first.rest first.on_way
-        (subst (λ (i : Base). FitInTurn i flight) (sym (fold-append committed opening acknowledged made)) fits.1) one in
-        subst (λ (l : List Commit). Goes opening m (flat_map commit_steps made ++ map begin_step flight) (acknowledged ++ made) (l ++ flight) []) (sym none)
-        (goes-on m (flat_map commit_steps made) (map begin_step flight) (acknowledged ++ made) [] (acknowledged ++ made) flight [] [] first second)
-    writes-go m acknowledged way made flight rest on fit one (inr none) =
-        subst (λ (l : List Commit). Goes opening m (flat_map commit_steps l ++ map begin_step flight) (acknowledged ++ l) (way ++ flight) []) (sym none.0)
+        flight-goes first.last (acknowledged ++ made) in_flight first.rest first.on_way
+        (subst (λ (i : Base). FitInTurn i in_flight) (sym (fold-append committed opening acknowledged made)) fits.1) one in
+        subst (λ (l : List Commit). Goes opening m (flat_map commit_steps made ++ map begin_step in_flight) (acknowledged ++ made) (l ++ in_flight) []) (sym none)
+        (goes-on m (flat_map commit_steps made) (map begin_step in_flight) (acknowledged ++ made) [] (acknowledged ++ made) in_flight [] [] first second)
+    writes-go m acknowledged way made in_flight rest on fit one (inr none) =
+        subst (λ (l : List Commit). Goes opening m (flat_map commit_steps l ++ map begin_step in_flight) (acknowledged ++ l) (way ++ in_flight) []) (sym none.0)
         (subst (λ (l : List Commit). Goes opening m (map begin_step l) (acknowledged ++ []) (way ++ l) []) (sym none.1)
         (subst (λ (l : List Commit). Goes opening m [] l (way ++ []) []) (sym (append-nil acknowledged))
         (subst (λ (l : List Commit). Goes opening m [] acknowledged l []) (sym (append-nil way)) (stays m acknowledged way rest on))))
 
     -- a reply of the first lane, on all commits
-    reply-goes : (m : Machine) (acknowledged way : List Commit) (revision : ℕ) (request : Request) (text : List ℕ) → IsAtRest opening acknowledged m → in_flight m.flight ≡ way
+    reply-goes : (m : Machine) (acknowledged way : List Commit) (revision : ℕ) (request : Request) (text : List ℕ) → IsAtRest opening acknowledged m → commits_in_flight m.in_flight ≡ way
         → revision ≡ opening.revision + length acknowledged → is_reply (folded opening acknowledged) moment request text ≡ true
         → Goes opening m (steps.Reply 0 request text ∷ []) acknowledged way (replied-with revision request text ∷ [])
     reply-goes m acknowledged way revision request text rest on at right =
@@ -259,7 +259,7 @@ module _ (moment : ℤ) where
 
   -- the reply to a line, by its outcome
   answer-goes : (opening : Base) (m : Machine) (acknowledged way : List Commit) (outcome : Outcome) (parsed : ParsedLine) (input : List ℕ) (first : Before) (revision : ℕ) (text : List ℕ) (before : Base) (noted : List Given)
-      → (mail : ℕ) (failed : Bool) → HasCause outcome parsed input first before moment noted mail failed → IsAtRest opening acknowledged m → in_flight m.flight ≡ way → revision ≡ opening.revision + length acknowledged
+      → (mail : ℕ) (failed : Bool) → HasCause outcome parsed input first before moment noted mail failed → IsAtRest opening acknowledged m → commits_in_flight m.in_flight ≡ way → revision ≡ opening.revision + length acknowledged
       → text ≡ line_text outcome parsed input before (folded opening acknowledged) moment noted
       → Goes opening m (map reply_step (replied_where outcome parsed 0 revision text)) acknowledged way (replied_where outcome parsed 0 revision text)
   answer-goes opening m acknowledged way outcomes.Ok (asked.Request request) input first revision text before noted mail failed cause rest on at is =
@@ -281,43 +281,43 @@ module _ (moment : ℤ) where
   cancel [] ys zs e = e
   cancel (x ∷ xs) ys zs e = cancel xs ys zs (cc)
 
-  both-nil : (made flight : List Commit) → made ++ flight ≡ [] → (made ≡ []) × (flight ≡ [])
-  both-nil [] flight e = (refl, e)
-  both-nil (commit ∷ made) flight e = absurd (cc)
+  both-nil : (made in_flight : List Commit) → made ++ in_flight ≡ [] → (made ≡ []) × (in_flight ≡ [])
+  both-nil [] in_flight e = (refl, e)
+  both-nil (commit ∷ made) in_flight e = absurd (cc)
 
-  apart-both : (way made flight : List Commit) → (way ≡ []) ⊎ (made ++ flight ≡ []) → (way ≡ []) ⊎ ((made ≡ []) × (flight ≡ []))
-  apart-both way made flight (inl none) = inl none
-  apart-both way made flight (inr none) = inr (both-nil made flight none)
+  apart-both : (way made in_flight : List Commit) → (way ≡ []) ⊎ (made ++ in_flight ≡ []) → (way ≡ []) ⊎ ((made ≡ []) × (in_flight ≡ []))
+  apart-both way made in_flight (inl none) = inl none
+  apart-both way made in_flight (inr none) = inr (both-nil made in_flight none)
 
   module _ (opening : Base) (entry : Devices) (before taken : List Step) (lines : List RunLine) (acknowledged : List Commit)
       (old new : Place) (ran : RunLine) (at : StandsAt opening entry before lines acknowledged old) (result : IsLineResult moment old ran taken new) where
-    way-is : (h : MachineRun opening moment (at_first opening entry) before lines acknowledged) → in_flight h.last.flight ≡ at.flight
-    way-is h = cancel acknowledged (in_flight h.last.flight) at.flight (sym h.begun_are ∙ at.begun_are)
+    way-is : (h : MachineRun opening moment (at_first opening entry) before lines acknowledged) → commits_in_flight h.last.in_flight ≡ at.in_flight
+    way-is h = cancel acknowledged (commits_in_flight h.last.in_flight) at.in_flight (sym h.begun_are ∙ at.begun_are)
 
     line-goes : (h : MachineRun opening moment (at_first opening entry) before lines acknowledged)
-        → Goes opening h.last taken (acknowledged ++ result.made) (at.flight ++ result.flight) (reply_to ran)
+        → Goes opening h.last taken (acknowledged ++ result.made) (at.in_flight ++ result.in_flight) (reply_to ran)
     line-goes h =
         let writes =
-        writes-go opening h.last acknowledged at.flight result.made result.flight h.rest (way-is h)
-        (subst (λ (i : Base). FitInTurn i (result.made ++ result.flight)) at.shown result.has_made.fit)
-        (one-on-way ran.1.disk_failed result.flight result.on_its_way)
-        (apart-both at.flight result.made result.flight (apart opening moment entry before taken lines acknowledged old new ran at result)) in
+        writes-go opening h.last acknowledged at.in_flight result.made result.in_flight h.rest (way-is h)
+        (subst (λ (i : Base). FitInTurn i (result.made ++ result.in_flight)) at.shown result.has_made.fit)
+        (one-on-way ran.1.disk_failed result.in_flight result.on_its_way)
+        (apart-both at.in_flight result.made result.in_flight (apart opening moment entry before taken lines acknowledged old new ran at result)) in
         let shown : new.writer.shown ≡ folded opening (acknowledged ++ result.made) = shown-all opening moment entry before taken lines acknowledged old new ran at result in
         let said : ran.1.text ≡ line_text ran.1.outcome (parse_line ran.0) ran.0.input old.writer.shown (folded opening (acknowledged ++ result.made)) moment ran.1.given =
         subst (λ (i : Base). ran.1.text ≡ line_text ran.1.outcome (parse_line ran.0) ran.0.input old.writer.shown i moment ran.1.given) shown result.text in
         let answers =
-        answer-goes opening writes.last (acknowledged ++ result.made) (at.flight ++ result.flight) ran.1.outcome (parse_line ran.0) ran.0.input (before_at old) ran.1.revision ran.1.text old.writer.shown ran.1.given
+        answer-goes opening writes.last (acknowledged ++ result.made) (at.in_flight ++ result.in_flight) ran.1.outcome (parse_line ran.0) ran.0.input (before_at old) ran.1.revision ran.1.text old.writer.shown ran.1.given
         new.mail.faults ran.1.disk_failed result.cause writes.rest writes.on_way (revision-after opening moment entry before taken lines acknowledged old new ran at result) said in
         let replies : List Replied = replied_where ran.1.outcome (parse_line ran.0) 0 ran.1.revision ran.1.text in
         let all =
-        goes-on opening h.last (flat_map commit_steps result.made ++ map begin_step result.flight) (map reply_step replies) (acknowledged ++ result.made) (at.flight ++ result.flight)
-        (acknowledged ++ result.made) (at.flight ++ result.flight) [] replies writes answers in
-        let joined : (flat_map commit_steps result.made ++ map begin_step result.flight) ++ map reply_step replies ≡ line_steps result.made result.flight replies =
-        append_assoc (flat_map commit_steps result.made) (map begin_step result.flight) (map reply_step replies) in
-        subst (λ (l : List Step). Goes opening h.last l (acknowledged ++ result.made) (at.flight ++ result.flight) (reply_to ran)) (sym result.steps)
-        (subst (λ n. Goes opening h.last (line_steps result.made result.flight (replied_where ran.1.outcome (parse_line ran.0) n ran.1.revision ran.1.text))
-        (acknowledged ++ result.made) (at.flight ++ result.flight) (replied_where ran.1.outcome (parse_line ran.0) n ran.1.revision ran.1.text)) (sym result.numbers.lane)
-        (subst (λ (l : List Step). Goes opening h.last l (acknowledged ++ result.made) (at.flight ++ result.flight) replies) joined all))
+        goes-on opening h.last (flat_map commit_steps result.made ++ map begin_step result.in_flight) (map reply_step replies) (acknowledged ++ result.made) (at.in_flight ++ result.in_flight)
+        (acknowledged ++ result.made) (at.in_flight ++ result.in_flight) [] replies writes answers in
+        let joined : (flat_map commit_steps result.made ++ map begin_step result.in_flight) ++ map reply_step replies ≡ line_steps result.made result.in_flight replies =
+        append_assoc (flat_map commit_steps result.made) (map begin_step result.in_flight) (map reply_step replies) in
+        subst (λ (l : List Step). Goes opening h.last l (acknowledged ++ result.made) (at.in_flight ++ result.in_flight) (reply_to ran)) (sym result.steps)
+        (subst (λ n. Goes opening h.last (line_steps result.made result.in_flight (replied_where ran.1.outcome (parse_line ran.0) n ran.1.revision ran.1.text))
+        (acknowledged ++ result.made) (at.in_flight ++ result.in_flight) (replied_where ran.1.outcome (parse_line ran.0) n ran.1.revision ran.1.text)) (sym result.numbers.lane)
+        (subst (λ (l : List Step). Goes opening h.last l (acknowledged ++ result.made) (at.in_flight ++ result.in_flight) replies) joined all))
 
     pub run-more : MachineRun opening moment (at_first opening entry) before lines acknowledged
         → MachineRun opening moment (at_first opening entry) (before ++ taken) (lines ++ ran ∷ []) (acknowledged ++ result.made)

@@ -70,41 +70,41 @@ MakesFirst moment tree index line noted made =
 
 -- Behind a fault of the folder in a rename the tags are set; the commit of the files that were moved is made, or the disk failed in it, or
 -- something else refused it.
-pub record MakesTags (index wanted : Base) (noted : List Given) (made flight : List Commit) : Type 0 where
+pub record MakesTags (index wanted : Base) (noted : List Given) (made in_flight : List Commit) : Type 0 where
   pub moves : List Commit
   pub more : List Commit
   pub made_are : made ≡ tag_commit index wanted ++ moves
-  pub order : moves ++ (flight ++ more) ≡ move_commit noted
+  pub order : moves ++ (in_flight ++ more) ≡ move_commit noted
 
 -- What was made before the folder failed, while paths were left: by a `new` all that was due, by a `tag` or a `restore` the
 -- commit of the tags.
 abbrev pub MakesBefore : Request → List ℕ → ℤ → Base → List Given → List Commit → List Commit → List Commit → Type 0
-MakesBefore New input moment index noted due made flight = (made ≡ due) × (flight ≡ [])
-MakesBefore (Count ask) input moment index noted due made flight = (made ≡ due) × (flight ≡ [])
-MakesBefore (Search ask) input moment index noted due made flight = (made ≡ due) × (flight ≡ [])
-MakesBefore (Dump ask) input moment index noted due made flight = (made ≡ due) × (flight ≡ [])
-MakesBefore (Show ask) input moment index noted due made flight = (made ≡ due) × (flight ≡ [])
-MakesBefore (Tag ask) input moment index noted due made flight = MakesTags index (wanted_for (Tag ask) input moment index) noted made flight
-MakesBefore (Restore ask) input moment index noted due made flight = MakesTags index (wanted_for (Restore ask) input moment index) noted made flight
+MakesBefore New input moment index noted due made in_flight = (made ≡ due) × (in_flight ≡ [])
+MakesBefore (Count ask) input moment index noted due made in_flight = (made ≡ due) × (in_flight ≡ [])
+MakesBefore (Search ask) input moment index noted due made in_flight = (made ≡ due) × (in_flight ≡ [])
+MakesBefore (Dump ask) input moment index noted due made in_flight = (made ≡ due) × (in_flight ≡ [])
+MakesBefore (Show ask) input moment index noted due made in_flight = (made ≡ due) × (in_flight ≡ [])
+MakesBefore (Tag ask) input moment index noted due made in_flight = MakesTags index (wanted_for (Tag ask) input moment index) noted made in_flight
+MakesBefore (Restore ask) input moment index noted due made in_flight = MakesTags index (wanted_for (Restore ask) input moment index) noted made in_flight
 
 -- The folder failed with paths left, in a `new` or in what sets tags.
-pub record FailsBefore (moment : ℤ) (tree : Option Tree) (index : Base) (line : ScriptLine) (noted : List Given) (made flight : List Commit) : Type 0 where
+pub record FailsBefore (moment : ℤ) (tree : Option Tree) (index : Base) (line : ScriptLine) (noted : List Given) (made in_flight : List Commit) : Type 0 where
   pub path : List ℕ
   pub left : List (List ℕ)
   pub due : List Commit
   pub are_due : AreDue moment tree index line noted (path ∷ left) due
-  pub makes : MakesBefore are_due.request line.input moment index noted due made flight
+  pub makes : MakesBefore are_due.request line.input moment index noted due made in_flight
 
 -- nothing was made, and nothing is on its way
-pub record MakesNothing (made flight : List Commit) : Type 0 where
+pub record MakesNothing (made in_flight : List Commit) : Type 0 where
   pub made_are : made ≡ []
-  pub flight_is : flight ≡ []
+  pub in_flight_is : in_flight ≡ []
 
 -- The folder failed at a listing or in a show, and nothing was made; or with paths left.
 abbrev pub MakesToFault : ℤ → Option Tree → Base → ScriptLine → List Given → List Commit → List Commit → Type 0
-MakesToFault moment tree index line noted made flight =
-    ((asks_to_tag (parse_line line) ≡ false) × ((noted ≡ []) ⊎ (asks_to_write (parse_line line) ≡ false)) × MakesNothing made flight)
-    ⊎ FailsBefore moment tree index line noted made flight
+MakesToFault moment tree index line noted made in_flight =
+    ((asks_to_tag (parse_line line) ≡ false) × ((noted ≡ []) ⊎ (asks_to_write (parse_line line) ≡ false)) × MakesNothing made in_flight)
+    ⊎ FailsBefore moment tree index line noted made in_flight
 
 -- the query of the line passes the limit, or the mail folder passed it as it was listed, or a show passed its bytes
 abbrev pub PassesUnmade : Option Tree → ScriptLine → List Given → Limit → Type 0
@@ -121,35 +121,35 @@ MakesToLimit moment tree index line noted count made limit =
 -- The commits that a line makes, and the one that it leaves on its way, by its outcome: the disk may hold that one where it failed;
 -- where a limit is told, the next one would pass it. `count` is how many the session has then made.
 abbrev pub Makes : Outcome → ℤ → Option Tree → Base → ScriptLine → List Given → ℕ → List Commit → List Commit → Type 0
-Makes outcomes.Ok moment tree index line noted count made flight = AreDue moment tree index line noted [] made × (flight ≡ [])
-Makes (outcomes.Usage word kind) moment tree index line noted count made flight = MakesNothing made flight
-Makes (outcomes.BadQuery at kind) moment tree index line noted count made flight = MakesNothing made flight
-Makes (outcomes.BadDate at) moment tree index line noted count made flight = MakesNothing made flight
-Makes (outcomes.BadLine bad kind) moment tree index line noted count made flight = MakesNothing made flight
-Makes (outcomes.NotOne found) moment tree index line noted count made flight = MakesNothing made flight
-Makes (outcomes.Gone path) moment tree index line noted count made flight = MakesNothing made flight
-Makes outcomes.MailFault moment tree index line noted count made flight = MakesToFault moment tree index line noted made flight
-Makes outcomes.DiskFault moment tree index line noted count made flight = (commit : Commit) × StopsAt moment tree index line noted made commit × (flight ≡ commit ∷ [])
-Makes (outcomes.Closed fault) moment tree index line noted count made flight = MakesNothing made flight
-Makes (outcomes.Limit limit) moment tree index line noted count made flight = MakesToLimit moment tree index line noted count made limit × (flight ≡ [])
-Makes outcomes.NoMemory moment tree index line noted count made flight = MakesFirst moment tree index line noted made × (flight ≡ [])
+Makes outcomes.Ok moment tree index line noted count made in_flight = AreDue moment tree index line noted [] made × (in_flight ≡ [])
+Makes (outcomes.Usage word kind) moment tree index line noted count made in_flight = MakesNothing made in_flight
+Makes (outcomes.BadQuery at kind) moment tree index line noted count made in_flight = MakesNothing made in_flight
+Makes (outcomes.BadDate at) moment tree index line noted count made in_flight = MakesNothing made in_flight
+Makes (outcomes.BadLine bad kind) moment tree index line noted count made in_flight = MakesNothing made in_flight
+Makes (outcomes.NotOne found) moment tree index line noted count made in_flight = MakesNothing made in_flight
+Makes (outcomes.Gone path) moment tree index line noted count made in_flight = MakesNothing made in_flight
+Makes outcomes.MailFault moment tree index line noted count made in_flight = MakesToFault moment tree index line noted made in_flight
+Makes outcomes.DiskFault moment tree index line noted count made in_flight = (commit : Commit) × StopsAt moment tree index line noted made commit × (in_flight ≡ commit ∷ [])
+Makes (outcomes.Closed fault) moment tree index line noted count made in_flight = MakesNothing made in_flight
+Makes (outcomes.Limit limit) moment tree index line noted count made in_flight = MakesToLimit moment tree index line noted count made limit × (in_flight ≡ [])
+Makes outcomes.NoMemory moment tree index line noted count made in_flight = MakesFirst moment tree index line noted made × (in_flight ≡ [])
 
 -- One commit is on its way behind a line in which the disk failed, and none behind another.
 abbrev pub IsOnItsWay : Bool → List Commit → Type 0
-IsOnItsWay failed flight = length flight ≡ (if failed then 1 else 0)
+IsOnItsWay failed in_flight = length in_flight ≡ (if failed then 1 else 0)
 
 -- What a line makes of the commits before it, and the revision that it leaves.
-pub record MakesCommits (opening : Base) (moment : ℤ) (tree : Option Tree) (earlier : List Commit) (ran : RunLine) (made flight : List Commit) : Type 0 where
+pub record MakesCommits (opening : Base) (moment : ℤ) (tree : Option Tree) (earlier : List Commit) (ran : RunLine) (made in_flight : List Commit) : Type 0 where
   pub revision : ran.1.revision ≡ opening.revision + length (earlier ++ made)
-  pub makes : Makes ran.1.outcome moment tree (folded opening earlier) ran.0 ran.1.given (length (earlier ++ made)) made flight
-  pub on_its_way : IsOnItsWay ran.1.disk_failed flight
+  pub makes : Makes ran.1.outcome moment tree (folded opening earlier) ran.0 ran.1.given (length (earlier ++ made)) made in_flight
+  pub on_its_way : IsOnItsWay ran.1.disk_failed in_flight
 
 -- The lines make the commits one after the other, behind these earlier ones, the tree being as the renames of the lines before leave it; in the
 -- end these were acknowledged.
 abbrev pub EachMakes : Base → ℤ → Option Tree → List Commit → List RunLine → List Commit → List Commit → Type 0
 EachMakes opening moment tree earlier [] commits acknowledged = (commits ≡ []) × (acknowledged ≡ earlier)
 EachMakes opening moment tree earlier (ran ∷ more) commits acknowledged =
-    (made flight later : List Commit) × (commits ≡ made ++ (flight ++ later)) × MakesCommits opening moment tree earlier ran made flight
+    (made in_flight later : List Commit) × (commits ≡ made ++ (in_flight ++ later)) × MakesCommits opening moment tree earlier ran made in_flight
     × EachMakes opening moment (tree_after tree ran) (earlier ++ made) more later acknowledged
 
 -- The commits of the log are those of its lines, and of them these were acknowledged.

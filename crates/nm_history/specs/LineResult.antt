@@ -51,15 +51,15 @@ reply_step replied = Reply replied.lane replied.request replied.text
 
 -- the commits of a line one after the other, the one that it leaves on its way, and its reply
 abbrev pub line_steps : List Commit → List Commit → List Replied → List Step
-line_steps made flight replies = flat_map commit_steps made ++ (map begin_step flight ++ map reply_step replies)
+line_steps made in_flight replies = flat_map commit_steps made ++ (map begin_step in_flight ++ map reply_step replies)
 
 -- What the writer has made of a line: these commits are shown and acknowledged, and this one is on its way.
-pub record HasMade (old : WriterState) (made flight : List Commit) (new : WriterState) : Type 0 where
-  pub fit : FitInTurn old.shown (made ++ flight)
+pub record HasMade (old : WriterState) (made in_flight : List Commit) (new : WriterState) : Type 0 where
+  pub fit : FitInTurn old.shown (made ++ in_flight)
   -- a closed writer makes nothing
-  pub idle : IsSome old.closed → made ++ flight ≡ []
+  pub idle : IsSome old.closed → made ++ in_flight ≡ []
   pub shown : new.shown ≡ folded old.shown made
-  pub begun_are : new.begun ≡ old.begun ++ (made ++ flight)
+  pub begun_are : new.begun ≡ old.begun ++ (made ++ in_flight)
   pub clocks : List ℕ
   pub acked : new.acked ≡ old.acked ++ clocks
   pub one_each : length clocks ≡ length made
@@ -67,10 +67,10 @@ pub record HasMade (old : WriterState) (made flight : List Commit) (new : Writer
 -- A line was run: what it made, asked and said, and the steps that it took.
 pub record IsLineResult (moment : ℤ) (old : Place) (ran : RunLine) (taken : List Step) (new : Place) : Type 0 where
   pub made : List Commit
-  pub flight : List Commit
-  pub has_made : HasMade old.writer made flight new.writer
-  pub makes : Makes ran.1.outcome moment old.mail.tree old.writer.shown ran.0 ran.1.given (length old.writer.acked + length made) made flight
-  pub on_its_way : IsOnItsWay ran.1.disk_failed flight
+  pub in_flight : List Commit
+  pub has_made : HasMade old.writer made in_flight new.writer
+  pub makes : Makes ran.1.outcome moment old.mail.tree old.writer.shown ran.0 ran.1.given (length old.writer.acked + length made) made in_flight
+  pub on_its_way : IsOnItsWay ran.1.disk_failed in_flight
   pub closed : new.writer.closed ≡ closed_after old.writer.closed ran.1.disk_failed new.disk_faults
   pub asks : AsksMail ran.1.outcome (parse_line ran.0) old.writer.shown moment old.left old.mail new.mail ran.1.given
   pub tree : new.mail.tree ≡ tree_after old.mail.tree ran
@@ -85,15 +85,15 @@ pub record IsLineResult (moment : ℤ) (old : Place) (ran : RunLine) (taken : Li
   pub disk : Counts ran.1.disk_failed old.disk_faults new.disk_faults
   pub status : ran.1.status ≡ status_of ran.1.outcome
   pub text : ran.1.text ≡ line_text ran.1.outcome (parse_line ran.0) ran.0.input old.writer.shown new.writer.shown moment ran.1.given
-  pub steps : taken ≡ line_steps made flight (reply_to ran)
+  pub steps : taken ≡ line_steps made in_flight (reply_to ran)
 
 -- Where a session stands behind some lines, as the log tells it: these commits were acknowledged, and one may be on its way
 -- behind a fault of the disk.
 pub record StandsAt (opening : Base) (entry : Devices) (steps : List Step) (lines : List RunLine) (acknowledged : List Commit) (place : Place) : Type 0 where
-  pub flight : List Commit
-  pub begun_are : begun steps ≡ acknowledged ++ flight
-  pub begun_by_writer : place.writer.begun ≡ acknowledged ++ flight
-  pub none_open : place.writer.closed ≡ None → flight ≡ []
+  pub in_flight : List Commit
+  pub begun_are : begun steps ≡ acknowledged ++ in_flight
+  pub begun_by_writer : place.writer.begun ≡ acknowledged ++ in_flight
+  pub none_open : place.writer.closed ≡ None → in_flight ≡ []
   pub acked : length place.writer.acked ≡ length acknowledged
   pub shown : place.writer.shown ≡ folded opening acknowledged
   pub before : after_lines (at_first opening entry) lines ≡ before_at place

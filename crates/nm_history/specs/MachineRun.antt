@@ -10,7 +10,7 @@ use Rattle.nm_log.specs.declared.line_parser.ParsedLine.TheVariants as asked
 use Rattle.nm_log.specs.declared.outcome.Outcome.{Outcome}
 use Rattle.nm_log.specs.declared.outcome.Outcome.TheVariants as outcomes
 use Rattle.nm_machine.specs.Machine as machine
-use Rattle.nm_machine.specs.Machine.{Machine, in_flight}
+use Rattle.nm_machine.specs.Machine.{Machine, commits_in_flight}
 use Rattle.nm_machine.specs.declared.step.Step.{Step}
 use Rattle.nm_machine.specs.declared.step.Step.TheVariants.{Begin, Append, Show, See, Meet, Reply, Crash, Reopen}
 use Rattle.nm_history.specs.Lines.{Before, RunLine, after_lines, begun}
@@ -28,8 +28,8 @@ pub record Replied : Type 0 where
 
 -- the state after a step
 abbrev pub next : Machine → Step → Machine
-next m (Begin commit) = record m { flight = Some commit }
-next m Append = record m { commits = m.commits ++ in_flight m.flight; flight = None }
+next m (Begin commit) = record m { in_flight = Some commit }
+next m Append = record m { commits = m.commits ++ commits_in_flight m.in_flight; in_flight = None }
 next m Show = record m { shown = length m.commits; lanes = slice_set m.lanes 0 (length m.commits) }
 next m (See lane) = record m { lanes = slice_set m.lanes lane m.shown }
 next m Meet = record m { lanes = replicate (length m.lanes) m.shown }
@@ -109,6 +109,6 @@ pub record MachineRun (opening : Base) (moment : ℤ) (first : Before) (steps : 
   pub run : machine.Runs moment (machine.start opening lane_count) steps last
   pub never_stops : NeverStops steps
   pub replies : replies_from (machine.start opening lane_count) steps ≡ flat_map reply_to lines
-  pub begun_are : begun steps ≡ acknowledged ++ in_flight last.flight
+  pub begun_are : begun steps ≡ acknowledged ++ commits_in_flight last.in_flight
   pub rest : IsAtRest opening acknowledged last
   pub revision : (after_lines first lines).revision ≡ opening.revision + length acknowledged

@@ -4,7 +4,7 @@ use Rattle.std.proofs.lemmas.List.{length-replicate}
 use Rattle.nm_commit.specs.declared.change.Commit.{Commit}
 use Rattle.nm_index.specs.declared.base.Base.{Base}
 use Rattle.nm_machine.specs.Laws.{InOrder, NothingFalls, met_after}
-use Rattle.nm_machine.specs.Machine.{Machine, Takes, Runs, in_flight, left_by, start}
+use Rattle.nm_machine.specs.Machine.{Machine, Takes, Runs, commits_in_flight, left_by, start}
 use Rattle.nm_machine.specs.declared.step.Step.{Step}
 use Rattle.nm_machine.specs.declared.step.Step.TheVariants.{Begin, Append, Show, See, Meet, Reply, Crash, Reopen}
 
@@ -31,7 +31,7 @@ start_order opening lanes = record {
 
 -- a stop takes no commit away
 left_more : (m : Machine) (kept : Bool) → (more : List Commit) × (left_by m kept ≡ m.commits ++ more)
-left_more m true = (in_flight m.flight, refl)
+left_more m true = (commits_in_flight m.in_flight, refl)
 left_more m false = ([], sym (append-nil m.commits))
 
 length_more : (early late : List Commit) → (more : List Commit) × (late ≡ early ++ more) → length early ≤ length late

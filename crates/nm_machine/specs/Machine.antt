@@ -15,7 +15,7 @@ pub record Machine : Type 0 where
   -- those acknowledged, in their order
   pub commits : List Commit
   -- the one that is begun and not yet acknowledged
-  pub flight : Option Commit
+  pub in_flight : Option Commit
   -- how many of the commits are shown
   pub shown : ℕ
   -- for each lane, how many of the commits it sees
@@ -25,7 +25,7 @@ pub record Machine : Type 0 where
 
 -- the state at the start: nothing is committed, shown or seen
 abbrev pub start : Base → ℕ → Machine
-start opening lanes = record { opening = opening; commits = []; flight = None; shown = 0; lanes = replicate lanes 0; up = true }
+start opening lanes = record { opening = opening; commits = []; in_flight = None; shown = 0; lanes = replicate lanes 0; up = true }
 
 -- the index after the first n commits
 abbrev pub index_after : Machine → ℕ → Base
@@ -36,19 +36,19 @@ abbrev pub last_index : Machine → Base
 last_index m = folded m.opening m.commits
 
 -- a commit that is on its way
-abbrev pub in_flight : Option Commit → List Commit
-in_flight None = []
-in_flight (Some commit) = commit ∷ []
+abbrev pub commits_in_flight : Option Commit → List Commit
+commits_in_flight None = []
+commits_in_flight (Some commit) = commit ∷ []
 
 -- the commits that a stop leaves on the disk
 abbrev pub left_by : Machine → Bool → List Commit
-left_by m kept = (if kept then m.commits ++ in_flight m.flight else m.commits)
+left_by m kept = (if kept then m.commits ++ commits_in_flight m.in_flight else m.commits)
 
 -- where a step may be taken
 abbrev pub IsAllowed : ℤ → Machine → Step → Type 0
 -- all is shown, nothing is in flight, and the commit fits the index
-IsAllowed moment m (Begin commit) = (m.up ≡ true) × (length m.commits ≡ m.shown) × (m.flight ≡ None) × Fits (last_index m).files commit
-IsAllowed moment m Append = (m.up ≡ true) × IsSome m.flight
+IsAllowed moment m (Begin commit) = (m.up ≡ true) × (length m.commits ≡ m.shown) × (m.in_flight ≡ None) × Fits (last_index m).files commit
+IsAllowed moment m Append = (m.up ≡ true) × IsSome m.in_flight
 IsAllowed moment m Show = (m.up ≡ true) × (length m.commits ≡ m.shown + 1)
 -- the first lane sees by Show and Meet alone
 IsAllowed moment m (See lane) = (m.up ≡ true) × (1 ≤ lane) × (lane < length m.lanes)
@@ -57,18 +57,18 @@ IsAllowed moment m Meet = (m.up ≡ true) × (length m.commits ≡ m.shown)
 IsAllowed moment m (Reply lane request text) =
     (m.up ≡ true) × (lane < length m.lanes) × IsTrue (is_reply (index_after m (slice_index m.lanes lane)) moment request text)
 -- only a commit that is in flight may reach the disk in a stop
-IsAllowed moment m (Crash kept) = (m.up ≡ true) × ((kept ≡ false) ⊎ IsSome m.flight)
+IsAllowed moment m (Crash kept) = (m.up ≡ true) × ((kept ≡ false) ⊎ IsSome m.in_flight)
 IsAllowed moment m Reopen = m.up ≡ false
 
 -- what a step leaves
 abbrev pub Leaves : Machine → Step → Machine → Type 0
-Leaves old (Begin commit) new = new ≡ record old { flight = Some commit }
-Leaves old Append new = (commit : Commit) × (old.flight ≡ Some commit) × (new ≡ record old { commits = old.commits ++ commit ∷ []; flight = None })
+Leaves old (Begin commit) new = new ≡ record old { in_flight = Some commit }
+Leaves old Append new = (commit : Commit) × (old.in_flight ≡ Some commit) × (new ≡ record old { commits = old.commits ++ commit ∷ []; in_flight = None })
 Leaves old Show new = new ≡ record old { shown = length old.commits; lanes = slice_set old.lanes 0 (length old.commits) }
 Leaves old (See lane) new = new ≡ record old { lanes = slice_set old.lanes lane old.shown }
 Leaves old Meet new = new ≡ record old { lanes = replicate (length old.lanes) old.shown }
 Leaves old (Reply lane request text) new = new ≡ old
-Leaves old (Crash kept) new = new ≡ record old { commits = left_by old kept; flight = None; up = false }
+Leaves old (Crash kept) new = new ≡ record old { commits = left_by old kept; in_flight = None; up = false }
 Leaves old Reopen new = new ≡ record old { shown = length old.commits; lanes = replicate (length old.lanes) (length old.commits); up = true }
 
 -- the step is taken at this moment

@@ -126,7 +126,7 @@ pub idle : (moment : ℤ) (place : Place) (line : ScriptLine) (outcome : Outcome
 idle moment place line outcome makes asks cause =
     subst (λ (b : Bool). IsAnswered moment place line [] outcome b (stays-at place [])) (sym (still-writer place.writer)) (record {
       made = [];
-      flight = [];
+      in_flight = [];
       has_made = made-nothing place.writer;
       makes = makes;
       on_its_way = refl;
@@ -206,7 +206,7 @@ usage-ends moment place line noted word kind (Err error) none is said = found-no
 usage-ends moment place line noted word kind (Ok done) none is said =
     let outcome : Outcome = outcomes.Usage word kind in
     subst (λ (l : List Given). Ends moment place line l (Ok done) (stays-at place l)) (sym none) (subst (λ (d : Answered). Ends moment place line [] (Ok d) (stays-at place [])) (sym said) (
-      idle moment place line outcome (record { made_are = refl; flight_is = refl }) (asks-early outcome (parse_line line) place.writer.shown moment place.left place.mail refl)
+      idle moment place line outcome (record { made_are = refl; in_flight_is = refl }) (asks-early outcome (parse_line line) place.writer.shown moment place.left place.mail refl)
           (subst (λ (p : ParsedLine). HasCause outcome p line.input (before_at place) place.writer.shown moment [] place.mail.faults false) (sym is) (refl, none-failed place)),
       refused-said moment place (stays-at place []) line [] outcome refl,
     ))
@@ -272,9 +272,9 @@ module _ (moment : ℤ) (place : Place) (line : ScriptLine) (request : Request) 
   text-refused : (outcome : Outcome) → is_of_text outcome ≡ true → refused_text_of request line.input ≡ Some outcome → Ends moment place line [] (Ok (refused_with outcome)) (stays-at place [])
   text-refused outcomes.Ok of e = absurd (cc)
   text-refused (outcomes.Usage word kind) of e = absurd (cc)
-  text-refused (outcomes.BadQuery at kind) of e = early (outcomes.BadQuery at kind) refl refl (record { made_are = refl; flight_is = refl }) (refused-as _ place.writer.closed e, none-failed place)
-  text-refused (outcomes.BadDate at) of e = early (outcomes.BadDate at) refl refl (record { made_are = refl; flight_is = refl }) (refused-as _ place.writer.closed e, none-failed place)
-  text-refused (outcomes.BadLine bad kind) of e = early (outcomes.BadLine bad kind) refl refl (record { made_are = refl; flight_is = refl }) (refused-as _ place.writer.closed e, none-failed place)
+  text-refused (outcomes.BadQuery at kind) of e = early (outcomes.BadQuery at kind) refl refl (record { made_are = refl; in_flight_is = refl }) (refused-as _ place.writer.closed e, none-failed place)
+  text-refused (outcomes.BadDate at) of e = early (outcomes.BadDate at) refl refl (record { made_are = refl; in_flight_is = refl }) (refused-as _ place.writer.closed e, none-failed place)
+  text-refused (outcomes.BadLine bad kind) of e = early (outcomes.BadLine bad kind) refl refl (record { made_are = refl; in_flight_is = refl }) (refused-as _ place.writer.closed e, none-failed place)
   text-refused (outcomes.NotOne found) of e = absurd (cc)
   text-refused (outcomes.Gone path) of e = absurd (cc)
   text-refused outcomes.MailFault of e = absurd (cc)

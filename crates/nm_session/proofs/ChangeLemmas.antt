@@ -136,15 +136,15 @@ counts-grow false before now h = omega (arith, h)
 module _ (moment : ℤ) (old new : Place) (line : ScriptLine) (noted : List Given) (request : Request) (is : parse_line line ≡ asked.Request request) (left : new.left ≡ left_after old.left noted)
     (asks : (outcome : Outcome) → AsksMail outcome (asked.Request request) old.writer.shown moment old.left old.mail new.mail noted)
     (tree : new.mail.tree ≡ tree_after_line (asked.Request request) noted old.mail.tree) where
-  pub answered-with : (outcome : Outcome) (made flight : List Commit) (failed : Bool) → newly_closed old.writer new.writer ≡ failed → HasMade old.writer made flight new.writer
-      → Makes outcome moment old.mail.tree old.writer.shown line noted (length old.writer.acked + length made) made flight → IsOnItsWay failed flight
+  pub answered-with : (outcome : Outcome) (made in_flight : List Commit) (failed : Bool) → newly_closed old.writer new.writer ≡ failed → HasMade old.writer made in_flight new.writer
+      → Makes outcome moment old.mail.tree old.writer.shown line noted (length old.writer.acked + length made) made in_flight → IsOnItsWay failed in_flight
       → new.writer.closed ≡ closed_after old.writer.closed failed new.disk_faults → old.mail.faults ≤ new.mail.faults → Counts failed old.disk_faults new.disk_faults
       → HasCause outcome (asked.Request request) line.input (before_at old) old.writer.shown moment noted new.mail.faults failed
       → IsAnswered moment old line noted outcome (newly_closed old.writer new.writer) new
-  answered-with outcome made flight failed is_failed has_made makes way closed mail disk cause =
+  answered-with outcome made in_flight failed is_failed has_made makes way closed mail disk cause =
       subst (λ (b : Bool). IsAnswered moment old line noted outcome b new) (sym is_failed) (record {
         made = made;
-        flight = flight;
+        in_flight = in_flight;
         has_made = has_made;
         makes = makes;
         on_its_way = way;
@@ -160,18 +160,18 @@ module _ (moment : ℤ) (old new : Place) (line : ScriptLine) (noted : List Give
 
 -- a line that finds no memory for its text
 
-makes-first : (error : WriteError) (moment : ℤ) (tree : Option Tree) (index : Base) (line : ScriptLine) (noted : List Given) (count : ℕ) (made flight : List Commit) → is_fault error ≡ false
-    → Makes (outcome_of error) moment tree index line noted count made flight → Makes outcomes.NoMemory moment tree index line noted count made flight
-makes-first errors.MailFault moment tree index line noted count made flight sound h = absurd (cc)
-makes-first errors.DiskFault moment tree index line noted count made flight sound h = absurd (cc)
-makes-first (errors.Closed fault) moment tree index line noted count made flight sound h = (inl h.made_are, h.flight_is)
-makes-first (errors.Limit limit) moment tree index line noted count made flight sound (inl passes, h) = (inl passes.0, h)
-makes-first (errors.Limit limit) moment tree index line noted count made flight sound (inr (commit, stops, passed), h) = (inr (stops.left, stops.due, commit ∷ stops.more, stops.are_due, stops.order), h)
-makes-first errors.NoMemory moment tree index line noted count made flight sound h = h
+makes-first : (error : WriteError) (moment : ℤ) (tree : Option Tree) (index : Base) (line : ScriptLine) (noted : List Given) (count : ℕ) (made in_flight : List Commit) → is_fault error ≡ false
+    → Makes (outcome_of error) moment tree index line noted count made in_flight → Makes outcomes.NoMemory moment tree index line noted count made in_flight
+makes-first errors.MailFault moment tree index line noted count made in_flight sound h = absurd (cc)
+makes-first errors.DiskFault moment tree index line noted count made in_flight sound h = absurd (cc)
+makes-first (errors.Closed fault) moment tree index line noted count made in_flight sound h = (inl h.made_are, h.in_flight_is)
+makes-first (errors.Limit limit) moment tree index line noted count made in_flight sound (inl passes, h) = (inl passes.0, h)
+makes-first (errors.Limit limit) moment tree index line noted count made in_flight sound (inr (commit, stops, passed), h) = (inr (stops.left, stops.due, commit ∷ stops.more, stops.are_due, stops.order), h)
+makes-first errors.NoMemory moment tree index line noted count made in_flight sound h = h
 
-well-then-none : (moment : ℤ) (tree : Option Tree) (index : Base) (line : ScriptLine) (noted : List Given) (count : ℕ) (made flight : List Commit)
-    → Makes outcomes.Ok moment tree index line noted count made flight → Makes outcomes.NoMemory moment tree index line noted count made flight
-well-then-none moment tree index line noted count made flight h = (inr ([], made, [], h.0, sym (append-nil made)), h.1)
+well-then-none : (moment : ℤ) (tree : Option Tree) (index : Base) (line : ScriptLine) (noted : List Given) (count : ℕ) (made in_flight : List Commit)
+    → Makes outcomes.Ok moment tree index line noted count made in_flight → Makes outcomes.NoMemory moment tree index line noted count made in_flight
+well-then-none moment tree index line noted count made in_flight h = (inr ([], made, [], h.0, sym (append-nil made)), h.1)
 
 cause-well : (error : WriteError) (line : ParsedLine) (input : List ℕ) (place : Place) (moment : ℤ) (noted : List Given) (mail : ℕ) (failed : Bool) → is_fault error ≡ false
     → HasCause (outcome_of error) line input (before_at place) place.writer.shown moment noted mail failed → failed ≡ false
@@ -182,11 +182,11 @@ cause-well (errors.Limit limit) line input place moment noted mail failed sound 
 cause-well errors.NoMemory line input place moment noted mail failed sound h = h
 
 without : (moment : ℤ) (old new : Place) (line : ScriptLine) (noted : List Given) (outcome : Outcome) (failed : Bool) (h : IsAnswered moment old line noted outcome failed new)
-    → Makes outcomes.NoMemory moment old.mail.tree old.writer.shown line noted (length old.writer.acked + length h.made) h.made h.flight → failed ≡ false
+    → Makes outcomes.NoMemory moment old.mail.tree old.writer.shown line noted (length old.writer.acked + length h.made) h.made h.in_flight → failed ≡ false
     → AsksMail outcomes.NoMemory (parse_line line) old.writer.shown moment old.left old.mail new.mail noted → IsAnswered moment old line noted outcomes.NoMemory failed new
 without moment old new line noted outcome failed h makes well asks = record {
   made = h.made;
-  flight = h.flight;
+  in_flight = h.in_flight;
   has_made = h.has_made;
   makes = makes;
   on_its_way = h.on_its_way;
@@ -215,7 +215,7 @@ pub write-refused : (moment : ℤ) (old new : Place) (line : ScriptLine) (noted 
     → Ends moment old line noted result new
 write-refused moment old new line noted error (Err wanted) h asks said =
     without moment old new line noted (outcome_of error) (newly_closed old.writer new.writer) h
-    (makes-first error moment old.mail.tree old.writer.shown line noted (length old.writer.acked + length h.made) h.made h.flight said h.makes)
+    (makes-first error moment old.mail.tree old.writer.shown line noted (length old.writer.acked + length h.made) h.made h.in_flight said h.makes)
     (cause-well error (parse_line line) line.input old moment noted new.mail.faults (newly_closed old.writer new.writer) said h.cause) asks
 write-refused moment old new line noted error (Ok done) h asks said =
     subst (λ (d : Answered). Ends moment old line noted (Ok d) new) (sym said) (h, refused-said moment old new line noted (outcome_of error) (error-ill error))
@@ -225,4 +225,4 @@ pub write-wanted : (moment : ℤ) (old new : Place) (line : ScriptLine) (noted :
     → AsksMail outcomes.NoMemory (parse_line line) old.writer.shown moment old.left old.mail new.mail noted → IsAnswered moment old line noted outcomes.NoMemory (newly_closed old.writer new.writer) new
 write-wanted moment old new line noted h asks =
     without moment old new line noted outcomes.Ok (newly_closed old.writer new.writer) h
-    (well-then-none moment old.mail.tree old.writer.shown line noted (length old.writer.acked + length h.made) h.made h.flight h.makes) h.cause.2.disk_well asks
+    (well-then-none moment old.mail.tree old.writer.shown line noted (length old.writer.acked + length h.made) h.made h.in_flight h.makes) h.cause.2.disk_well asks

@@ -63,7 +63,7 @@ made-marks : (made : List Commit) → replicate (length made) marks.Made ≡ map
 made-marks [] = refl
 made-marks (commit ∷ made) = ap (λ (l : List Mark). marks.Made ∷ l) (made-marks made)
 
-flight-marks : (failed : Bool) (flight : List Commit) → IsOnItsWay failed flight → (if failed then marks.Begun ∷ [] else []) ≡ map begun_mark flight
+flight-marks : (failed : Bool) (in_flight : List Commit) → IsOnItsWay failed in_flight → (if failed then marks.Begun ∷ [] else []) ≡ map begun_mark in_flight
 flight-marks true [] h = absurd (omega (arith, h))
 flight-marks true (commit ∷ []) h = refl
 flight-marks true (commit ∷ other ∷ more) h = absurd (omega (arith, h))
@@ -77,16 +77,16 @@ count-made acked seen new clocks commits made is same added each =
     omega (arith, is, more, before, each)
 
 pub marks-are : (moment : ℤ) (old new : Place) (ran : RunLine) (reply : Option Mark) (seen : List ℕ) (made : ℕ) (run : IsRun moment old ran reply new) → seen ≡ old.writer.acked → made ≡ length new.writer.acked - length seen
-    → marks_for made ran.1.disk_failed (option_to_list reply) ≡ line_marks run.answered.made run.answered.flight (reply_to ran)
+    → marks_for made ran.1.disk_failed (option_to_list reply) ≡ line_marks run.answered.made run.answered.in_flight (reply_to ran)
 marks-are moment old new ran reply seen made run same is =
     let h : IsAnswered moment old ran.0 ran.1.given ran.1.outcome ran.1.disk_failed new = run.answered in
     let count : made ≡ length h.made = count-made old.writer.acked seen new.writer.acked h.has_made.clocks h.made made is same h.has_made.acked h.has_made.one_each in
-    let flight : (if ran.1.disk_failed then marks.Begun ∷ [] else []) ≡ map begun_mark h.flight =
-    flight-marks ran.1.disk_failed h.flight h.on_its_way in
+    let in_flight : (if ran.1.disk_failed then marks.Begun ∷ [] else []) ≡ map begun_mark h.in_flight =
+    flight-marks ran.1.disk_failed h.in_flight h.on_its_way in
     ap (λ n. marks_for n ran.1.disk_failed (option_to_list reply)) count
     ∙ (ap (λ (l : List Mark). l ++ ((if ran.1.disk_failed then marks.Begun ∷ [] else []) ++ option_to_list reply)) (made-marks h.made)
-    ∙ (ap (λ (l : List Mark). map made_mark h.made ++ (l ++ option_to_list reply)) flight
-    ∙ ap (λ (l : List Mark). map made_mark h.made ++ (map begun_mark h.flight ++ l)) run.reply_is))
+    ∙ (ap (λ (l : List Mark). map made_mark h.made ++ (l ++ option_to_list reply)) in_flight
+    ∙ ap (λ (l : List Mark). map made_mark h.made ++ (map begun_mark h.in_flight ++ l)) run.reply_is))
 
 -- a line has one reply at most
 
@@ -108,26 +108,26 @@ reply-few (outcomes.Closed fault) line lane revision text = omega arith
 reply-few (outcomes.Limit limit) line lane revision text = omega arith
 reply-few outcomes.NoMemory line lane revision text = omega arith
 
-line-marks-length : (made flight : List Commit) (replies : List Replied) → length (line_marks made flight replies) ≡ length made + (length flight + length replies)
-line-marks-length made flight replies =
-    length-append (map made_mark made) (map begun_mark flight ++ map reply_mark replies)
-    ∙ (ap (λ n. n + length (map begun_mark flight ++ map reply_mark replies)) (mapped made_mark made)
-    ∙ ap (λ n. length made + n) (length-append (map begun_mark flight) (map reply_mark replies)
-    ∙ (ap (λ n. n + length (map reply_mark replies)) (mapped begun_mark flight) ∙ ap (λ n. length flight + n) (mapped reply_mark replies))))
+line-marks-length : (made in_flight : List Commit) (replies : List Replied) → length (line_marks made in_flight replies) ≡ length made + (length in_flight + length replies)
+line-marks-length made in_flight replies =
+    length-append (map made_mark made) (map begun_mark in_flight ++ map reply_mark replies)
+    ∙ (ap (λ n. n + length (map begun_mark in_flight ++ map reply_mark replies)) (mapped made_mark made)
+    ∙ ap (λ n. length made + n) (length-append (map begun_mark in_flight) (map reply_mark replies)
+    ∙ (ap (λ n. n + length (map reply_mark replies)) (mapped begun_mark in_flight) ∙ ap (λ n. length in_flight + n) (mapped reply_mark replies))))
 
 -- the marks of a line are those of the commits that it began, and at most one more
 pub marks-few : (moment : ℤ) (old new : Place) (ran : RunLine) (reply : Option Mark) (seen : List ℕ) (made : ℕ) → IsRun moment old ran reply new → seen ≡ old.writer.acked → made ≡ length new.writer.acked - length seen
     → length (marks_for made ran.1.disk_failed (option_to_list reply)) + length old.writer.begun ≤ length new.writer.begun + 1
 marks-few moment old new ran reply seen made run same is =
     let h : IsAnswered moment old ran.0 ran.1.given ran.1.outcome ran.1.disk_failed new = run.answered in
-    let begun : length new.writer.begun ≡ length old.writer.begun + length (h.made ++ h.flight) = ap length h.has_made.begun_are ∙ length-append old.writer.begun (h.made ++ h.flight) in
+    let begun : length new.writer.begun ≡ length old.writer.begun + length (h.made ++ h.in_flight) = ap length h.has_made.begun_are ∙ length-append old.writer.begun (h.made ++ h.in_flight) in
     omega (
       arith,
       ap length (marks-are moment old new ran reply seen made run same is),
-      line-marks-length h.made h.flight (reply_to ran),
+      line-marks-length h.made h.in_flight (reply_to ran),
       reply-few ran.1.outcome (parse_line ran.0) ran.1.lane ran.1.revision ran.1.text,
       begun,
-      length-append h.made h.flight,
+      length-append h.made h.in_flight,
     )
 
 -- there is a place for each
@@ -143,15 +143,15 @@ marks-left moment old new ran reply seen made room left run same is taken = omeg
 
 -- an open writer has acknowledged all that it began, still
 
-still-alive : (failed : Bool) (closed : Option ℕ) (faults : ℕ) (flight : List Commit) → IsOnItsWay failed flight → closed_after closed failed faults ≡ None → (closed ≡ None) × (flight ≡ [])
+still-alive : (failed : Bool) (closed : Option ℕ) (faults : ℕ) (in_flight : List Commit) → IsOnItsWay failed in_flight → closed_after closed failed faults ≡ None → (closed ≡ None) × (in_flight ≡ [])
 still-alive false closed faults [] h e = (e, refl)
 still-alive false closed faults (commit ∷ more) h e = absurd (omega (arith, h))
-still-alive true closed faults flight h e = absurd (cc)
+still-alive true closed faults in_flight h e = absurd (cc)
 
 pub still-even : (moment : ℤ) (old new : Place) (line : ScriptLine) (noted : List Given) (outcome : Outcome) (failed : Bool) → IsAnswered moment old line noted outcome failed new → IsEven old.writer → IsEven new.writer
 still-even moment old new line noted outcome failed h even = λ alive.
-    let was : (old.writer.closed ≡ None) × (h.flight ≡ []) = still-alive failed old.writer.closed new.disk_faults h.flight h.on_its_way (sym h.closed ∙ alive) in
-    let begun : length new.writer.begun ≡ length old.writer.begun + length (h.made ++ h.flight) = ap length h.has_made.begun_are ∙ length-append old.writer.begun (h.made ++ h.flight) in
+    let was : (old.writer.closed ≡ None) × (h.in_flight ≡ []) = still-alive failed old.writer.closed new.disk_faults h.in_flight h.on_its_way (sym h.closed ∙ alive) in
+    let begun : length new.writer.begun ≡ length old.writer.begun + length (h.made ++ h.in_flight) = ap length h.has_made.begun_are ∙ length-append old.writer.begun (h.made ++ h.in_flight) in
     let acked : length new.writer.acked ≡ length old.writer.acked + length h.has_made.clocks = ap length h.has_made.acked ∙ length-append old.writer.acked h.has_made.clocks in
-    let none : length h.flight ≡ 0 = ap length was.1 in
-    omega (arith, begun, length-append h.made h.flight, none, acked, h.has_made.one_each, even was.0)
+    let none : length h.in_flight ≡ 0 = ap length was.1 in
+    omega (arith, begun, length-append h.made h.in_flight, none, acked, h.has_made.one_each, even was.0)

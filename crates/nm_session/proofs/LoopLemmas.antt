@@ -48,10 +48,10 @@ zip-more (first ∷ lines) [] line log h = absurd h
 zip-more (first ∷ lines) (other ∷ logs) line log h = ap (λ (l : List RunLine). (first, other) ∷ l) (zip-more lines logs line log h.1)
 
 module _ (moment : ℤ) (lines : List ScriptLine) (line : ScriptLine) (before after : Rooms) (old new : Place) (noted : HasNoted lines before old) (h : IsNoted moment old line before after new) where
-  pub is-result : IsLineResult moment old (line, h.log) (line_steps h.run.answered.made h.run.answered.flight (reply_to (line, h.log))) new
+  pub is-result : IsLineResult moment old (line, h.log) (line_steps h.run.answered.made h.run.answered.in_flight (reply_to (line, h.log))) new
   is-result = record {
     made = h.run.answered.made;
-    flight = h.run.answered.flight;
+    in_flight = h.run.answered.in_flight;
     has_made = h.run.answered.has_made;
     makes = h.run.answered.makes;
     on_its_way = h.run.answered.on_its_way;
@@ -72,50 +72,50 @@ module _ (moment : ℤ) (lines : List ScriptLine) (line : ScriptLine) (before af
     steps = refl;
   }
 
-  steps-are : steps_at after new ≡ steps_at before old ++ line_steps h.run.answered.made h.run.answered.flight (reply_to (line, h.log))
+  steps-are : steps_at after new ≡ steps_at before old ++ line_steps h.run.answered.made h.run.answered.in_flight (reply_to (line, h.log))
   steps-are =
       ap (λ (l : List Mark). steps_of l new.writer.begun) h.marks
-      ∙ (ap (λ (l : List Commit). steps_of (before.marks.0 ++ line_marks h.run.answered.made h.run.answered.flight (reply_to (line, h.log))) l) h.run.answered.has_made.begun_are
-      ∙ (steps-append before.marks.0 (line_marks h.run.answered.made h.run.answered.flight (reply_to (line, h.log))) old.writer.begun (h.run.answered.made ++ h.run.answered.flight) noted.stand
-      ∙ ap (λ (l : List Step). steps_at before old ++ l) (line-steps h.run.answered.made h.run.answered.flight (reply_to (line, h.log))
+      ∙ (ap (λ (l : List Commit). steps_of (before.marks.0 ++ line_marks h.run.answered.made h.run.answered.in_flight (reply_to (line, h.log))) l) h.run.answered.has_made.begun_are
+      ∙ (steps-append before.marks.0 (line_marks h.run.answered.made h.run.answered.in_flight (reply_to (line, h.log))) old.writer.begun (h.run.answered.made ++ h.run.answered.in_flight) noted.stand
+      ∙ ap (λ (l : List Step). steps_at before old ++ l) (line-steps h.run.answered.made h.run.answered.in_flight (reply_to (line, h.log))
       (reply-lane h.log.outcome (parse_line line) h.log.lane h.log.revision h.log.text h.run.numbers.lane))))
 
   lines-are : lines_at (lines ++ line ∷ []) after ≡ lines_at lines before ++ (line, h.log) ∷ []
   lines-are = ap (λ (l : List LineLog). zip (lines ++ line ∷ []) l) h.logs ∙ zip-more lines before.logs.0 line h.log noted.logs
 
-  few-taken : length (line_steps h.run.answered.made h.run.answered.flight (reply_to (line, h.log))) ≤ 3 * length (h.run.answered.made ++ h.run.answered.flight) + 1
+  few-taken : length (line_steps h.run.answered.made h.run.answered.in_flight (reply_to (line, h.log))) ≤ 3 * length (h.run.answered.made ++ h.run.answered.in_flight) + 1
   few-taken = omega (
     arith,
-    line-length h.run.answered.made h.run.answered.flight (reply_to (line, h.log)),
-    length-append h.run.answered.made h.run.answered.flight,
+    line-length h.run.answered.made h.run.answered.in_flight (reply_to (line, h.log)),
+    length-append h.run.answered.made h.run.answered.in_flight,
     reply-few h.log.outcome (parse_line line) h.log.lane h.log.revision h.log.text,
   )
 
   few-steps : length (steps_at after new) ≤ length (lines ++ line ∷ []) + 3 * length new.writer.begun
   few-steps =
-      let all : length (steps_at after new) ≡ length (steps_at before old) + length (line_steps h.run.answered.made h.run.answered.flight (reply_to (line, h.log))) =
-      ap length steps-are ∙ length-append (steps_at before old) (line_steps h.run.answered.made h.run.answered.flight (reply_to (line, h.log))) in
+      let all : length (steps_at after new) ≡ length (steps_at before old) + length (line_steps h.run.answered.made h.run.answered.in_flight (reply_to (line, h.log))) =
+      ap length steps-are ∙ length-append (steps_at before old) (line_steps h.run.answered.made h.run.answered.in_flight (reply_to (line, h.log))) in
       let longer : length (lines ++ line ∷ []) ≡ length lines + 1 = length-append lines (line ∷ []) in
-      let more : length new.writer.begun ≡ length old.writer.begun + length (h.run.answered.made ++ h.run.answered.flight) =
-      ap length h.run.answered.has_made.begun_are ∙ length-append old.writer.begun (h.run.answered.made ++ h.run.answered.flight) in
+      let more : length new.writer.begun ≡ length old.writer.begun + length (h.run.answered.made ++ h.run.answered.in_flight) =
+      ap length h.run.answered.has_made.begun_are ∙ length-append old.writer.begun (h.run.answered.made ++ h.run.answered.in_flight) in
       omega (arith, all, longer, more, noted.few, few-taken)
 
   pub noted-more : HasNoted (lines ++ line ∷ []) after new
   noted-more = record {
     logs = subst (λ (l : List LineLog). AreLogsOf (lines ++ line ∷ []) l) (sym h.logs) (logs-more lines before.logs.0 line h.log noted.logs h.run.numbers);
     stand = subst (λ (l : List Mark). StandFor l new.writer.begun) (sym h.marks)
-        (subst (λ (l : List Commit). StandFor (before.marks.0 ++ line_marks h.run.answered.made h.run.answered.flight (reply_to (line, h.log))) l) (sym h.run.answered.has_made.begun_are)
-        (stand-append before.marks.0 (line_marks h.run.answered.made h.run.answered.flight (reply_to (line, h.log))) old.writer.begun (h.run.answered.made ++ h.run.answered.flight) noted.stand
-        (line-stands h.run.answered.made h.run.answered.flight (reply_to (line, h.log)))));
+        (subst (λ (l : List Commit). StandFor (before.marks.0 ++ line_marks h.run.answered.made h.run.answered.in_flight (reply_to (line, h.log))) l) (sym h.run.answered.has_made.begun_are)
+        (stand-append before.marks.0 (line_marks h.run.answered.made h.run.answered.in_flight (reply_to (line, h.log))) old.writer.begun (h.run.answered.made ++ h.run.answered.in_flight) noted.stand
+        (line-stands h.run.answered.made h.run.answered.in_flight (reply_to (line, h.log)))));
     few = few-steps;
     within = h.within;
     even = still-even moment old new line h.log.given h.log.outcome h.log.disk_failed h.run.answered noted.even;
   }
 
   -- what is so of the steps and of the lines of both
-  both : (P : List Step → List RunLine → Type 0) → P (steps_at before old ++ line_steps h.run.answered.made h.run.answered.flight (reply_to (line, h.log))) (lines_at lines before ++ (line, h.log) ∷ []) → P (steps_at after new) (lines_at (lines ++ line ∷ []) after)
+  both : (P : List Step → List RunLine → Type 0) → P (steps_at before old ++ line_steps h.run.answered.made h.run.answered.in_flight (reply_to (line, h.log))) (lines_at lines before ++ (line, h.log) ∷ []) → P (steps_at after new) (lines_at (lines ++ line ∷ []) after)
   both P p = subst (λ (l : List Step). P l (lines_at (lines ++ line ∷ []) after)) (sym steps-are)
-      (subst (λ (l : List RunLine). P (steps_at before old ++ line_steps h.run.answered.made h.run.answered.flight (reply_to (line, h.log))) l) (sym lines-are) p)
+      (subst (λ (l : List RunLine). P (steps_at before old ++ line_steps h.run.answered.made h.run.answered.in_flight (reply_to (line, h.log))) l) (sym lines-are) p)
 
 -- the laws of a line more
 pub record Laws : Type 0 where
@@ -138,7 +138,7 @@ pub record Laws : Type 0 where
 module _ (laws : Laws) (moment : ℤ) (opening : Base) (entry : Devices) (lines : List ScriptLine) (line : ScriptLine) (before after : Rooms) (old new : Place)
     (noted : HasNoted lines before old) (h : IsNoted moment old line before after new) (some : HasRunSome moment opening entry lines before old) where
   abbrev taken : List Step
-  taken = line_steps h.run.answered.made h.run.answered.flight (reply_to (line, h.log))
+  taken = line_steps h.run.answered.made h.run.answered.in_flight (reply_to (line, h.log))
 
   pub some-more : HasRunSome moment opening entry (lines ++ line ∷ []) after new
   unfolding is-result

@@ -41,13 +41,13 @@ replies-stand : (replies : List Replied) → StandFor (map reply_mark replies) [
 replies-stand [] = tt
 replies-stand (replied ∷ replies) = replies-stand replies
 
-flight-stands : (flight : List Commit) (replies : List Replied) → StandFor (map begun_mark flight ++ map reply_mark replies) flight
+flight-stands : (in_flight : List Commit) (replies : List Replied) → StandFor (map begun_mark in_flight ++ map reply_mark replies) in_flight
 flight-stands [] replies = replies-stand replies
-flight-stands (commit ∷ flight) replies = flight-stands flight replies
+flight-stands (commit ∷ in_flight) replies = flight-stands in_flight replies
 
-pub line-stands : (made flight : List Commit) (replies : List Replied) → StandFor (line_marks made flight replies) (made ++ flight)
-line-stands [] flight replies = flight-stands flight replies
-line-stands (commit ∷ made) flight replies = line-stands made flight replies
+pub line-stands : (made in_flight : List Commit) (replies : List Replied) → StandFor (line_marks made in_flight replies) (made ++ in_flight)
+line-stands [] in_flight replies = flight-stands in_flight replies
+line-stands (commit ∷ made) in_flight replies = line-stands made in_flight replies
 
 -- their steps, where lane 0 replied
 
@@ -60,13 +60,13 @@ replies-steps (replied ∷ replies) zero =
     ap (λ (l : List Step). steps.Reply 0 replied.request replied.text ∷ l) (replies-steps replies zero.1)
     ∙ ap (λ n. steps.Reply n replied.request replied.text ∷ map reply_step replies) (sym zero.0)
 
-flight-steps : (flight : List Commit) (replies : List Replied) → OfLaneZero replies → steps_of (map begun_mark flight ++ map reply_mark replies) flight ≡ map begin_step flight ++ map reply_step replies
+flight-steps : (in_flight : List Commit) (replies : List Replied) → OfLaneZero replies → steps_of (map begun_mark in_flight ++ map reply_mark replies) in_flight ≡ map begin_step in_flight ++ map reply_step replies
 flight-steps [] replies zero = replies-steps replies zero
-flight-steps (commit ∷ flight) replies zero = ap (λ (l : List Step). steps.Begin commit ∷ l) (flight-steps flight replies zero)
+flight-steps (commit ∷ in_flight) replies zero = ap (λ (l : List Step). steps.Begin commit ∷ l) (flight-steps in_flight replies zero)
 
-pub line-steps : (made flight : List Commit) (replies : List Replied) → OfLaneZero replies → steps_of (line_marks made flight replies) (made ++ flight) ≡ line_steps made flight replies
-line-steps [] flight replies zero = flight-steps flight replies zero
-line-steps (commit ∷ made) flight replies zero = ap (λ (l : List Step). steps.Begin commit ∷ steps.Append ∷ steps.Show ∷ l) (line-steps made flight replies zero)
+pub line-steps : (made in_flight : List Commit) (replies : List Replied) → OfLaneZero replies → steps_of (line_marks made in_flight replies) (made ++ in_flight) ≡ line_steps made in_flight replies
+line-steps [] in_flight replies zero = flight-steps in_flight replies zero
+line-steps (commit ∷ made) in_flight replies zero = ap (λ (l : List Step). steps.Begin commit ∷ steps.Append ∷ steps.Show ∷ l) (line-steps made in_flight replies zero)
 
 asked-lane : (line : ParsedLine) (revision : ℕ) (text : List ℕ) → OfLaneZero (replied_where outcomes.Ok line 0 revision text)
 asked-lane (asked.Request request) revision text = (refl, tt)
@@ -99,14 +99,14 @@ commits-length : (made : List Commit) → length (flat_map commit_steps made) �
 commits-length [] = refl
 commits-length (commit ∷ made) = omega (arith, commits-length made)
 
-pub line-length : (made flight : List Commit) (replies : List Replied) → length (line_steps made flight replies) ≡ 3 * length made + (length flight + length replies)
-line-length made flight replies =
+pub line-length : (made in_flight : List Commit) (replies : List Replied) → length (line_steps made in_flight replies) ≡ 3 * length made + (length in_flight + length replies)
+line-length made in_flight replies =
     omega (
       arith,
-      length-append (flat_map commit_steps made) (map begin_step flight ++ map reply_step replies),
+      length-append (flat_map commit_steps made) (map begin_step in_flight ++ map reply_step replies),
       commits-length made,
-      length-append (map begin_step flight) (map reply_step replies),
-      mapped begin_step flight,
+      length-append (map begin_step in_flight) (map reply_step replies),
+      mapped begin_step in_flight,
       mapped reply_step replies,
     )
 

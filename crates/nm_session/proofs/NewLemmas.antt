@@ -66,7 +66,7 @@ module _ (moment : ℤ) (old new : Place) (line : ScriptLine) (noted : List Give
   new-answered P Q (Err errors.MailFault) (inl (none, same)) shut mail disk even =
       let alive : old.writer.closed ≡ None = alive-by {T = NewReport} old.writer.closed (Err errors.MailFault) P Q shut refl in
       answered-with moment old new line noted requests.New is left (λ outcome. asks) tree outcomes.MailFault [] [] false (still (ap (λ (w : WriterState). w.closed) same))
-      (made-none old.writer new.writer same) (inl (no-tag, inl none, record { made_are = refl; flight_is = refl })) refl (ap (λ (w : WriterState). w.closed) same) mail.0 disk
+      (made-none old.writer new.writer same) (inl (no-tag, inl none, record { made_are = refl; in_flight_is = refl })) refl (ap (λ (w : WriterState). w.closed) same) mail.0 disk
       (alive-asks old.writer.closed alive, refl, mail, λ (failed : false ≡ true). absurd (cc))
   new-answered P Q (Err errors.MailFault) (inr (path, rest, due, are, made)) shut mail disk even =
       let alive : old.writer.closed ≡ None = alive-by {T = NewReport} old.writer.closed (Err errors.MailFault) P Q shut refl in
@@ -83,7 +83,7 @@ module _ (moment : ℤ) (old new : Place) (line : ScriptLine) (noted : List Give
       (alive-asks old.writer.closed alive, refl, mail, refl)
   new-answered P Q (Err (errors.Closed fault)) after shut mail disk even =
       answered-with moment old new line noted requests.New is left (λ outcome. asks) tree (outcomes.Closed fault) [] [] false (still (ap (λ (w : WriterState). w.closed) after.2))
-      (made-none old.writer new.writer after.2) (record { made_are = refl; flight_is = refl }) refl (ap (λ (w : WriterState). w.closed) after.2) (omega (arith, mail)) disk
+      (made-none old.writer new.writer after.2) (record { made_are = refl; in_flight_is = refl }) refl (ap (λ (w : WriterState). w.closed) after.2) (omega (arith, mail)) disk
       (ap (λ (c : Option ℕ). refused_closed c true) after.0, none-failed mail)
   new-answered P Q (Err (errors.Limit limit)) (inl (none, passes, same)) shut mail disk even =
       let alive : old.writer.closed ≡ None = alive-by {T = NewReport} old.writer.closed (Err (errors.Limit limit)) P Q shut refl in

@@ -139,7 +139,7 @@ module _ (moment : ℤ) (writer : WriterState) (old_mail new_mail : ObservedMail
   answered outcome makes asks tree grows cause =
       subst (λ (b : Bool). IsAnswered moment old line noted outcome b new) (sym (still-writer writer)) (record {
         made = [];
-        flight = [];
+        in_flight = [];
         has_made = made-nothing writer;
         makes = makes;
         on_its_way = refl;
@@ -181,15 +181,15 @@ module _ (moment : ℤ) (writer : WriterState) (old_mail new_mail : ObservedMail
   show-refused (faults.NotOne found) h same some =
       let gone : refused_reading (asked.Request (requests.Show ask)) writer.shown moment left noted ≡ Some (outcomes.NotOne (length ids)) =
       reads-as true (passes_bytes left noted) (gone_path ask noted) h.reads.1 refl refl in
-      refused (outcomes.NotOne found) refl (record { made_are = refl; flight_is = refl }) h.reads.0 (ap (λ (m : ObservedMail). m.tree) h.reads.0.same) (omega (arith, same))
+      refused (outcomes.NotOne found) refl (record { made_are = refl; in_flight_is = refl }) h.reads.0 (ap (λ (m : ObservedMail). m.tree) h.reads.0.same) (omega (arith, same))
       ((may-ask, gone ∙ ap (λ n. Some (outcomes.NotOne n)) (sym h.reads.2)), none-fails same)
   show-refused (faults.Gone path) h same some =
       let paths = lead_paths writer.shown ids in
-      refused (outcomes.Gone path) refl (record { made_are = refl; flight_is = refl }) h.reads.0 (read-tree old_mail new_mail left noted paths h.reads.0) (omega (arith, same))
+      refused (outcomes.Gone path) refl (record { made_are = refl; in_flight_is = refl }) h.reads.0 (read-tree old_mail new_mail left noted paths h.reads.0) (omega (arith, same))
       ((may-ask, reads-as false false (Some path) (sym (h.one refl)) (read-passes old_mail new_mail left noted paths h.reads.0) h.reads.1), none-fails same)
   show-refused faults.MailFault h rose some =
       refused outcomes.MailFault refl
-      (inl (subst (λ (p : ParsedLine). asks-no-tag p) (sym is) refl, inr (subst (λ (p : ParsedLine). asks-no-write p) (sym is) refl), record { made_are = refl; flight_is = refl }))
+      (inl (subst (λ (p : ParsedLine). asks-no-tag p) (sym is) refl, inr (subst (λ (p : ParsedLine). asks-no-write p) (sym is) refl), record { made_are = refl; in_flight_is = refl }))
       h.reads (stop-tree old_mail new_mail left noted (lead_paths writer.shown ids) stops.MailFault h.reads) rose.0 (may-ask, refl, rose, λ (failed : false ≡ true). absurd (cc))
   show-refused faults.ShowBytes h same some =
       let paths = lead_paths writer.shown ids in

@@ -126,15 +126,15 @@ due-in (requests.Tag ask) tags input moment index noted left = refl
 due-in (requests.Restore ask) tags input moment index noted left = refl
 
 -- what it makes before the folder fails
-makes-in : (request : Request) → is_tagging request ≡ true → (input : List ℕ) (moment : ℤ) (index : Base) (noted : List Given) (due made flight : List Commit)
-    → MakesTags index (wanted_for request input moment index) noted made flight → MakesBefore request input moment index noted due made flight
-makes-in requests.New tags input moment index noted due made flight h = absurd (cc)
-makes-in (requests.Count ask) tags input moment index noted due made flight h = absurd (cc)
-makes-in (requests.Search ask) tags input moment index noted due made flight h = absurd (cc)
-makes-in (requests.Dump ask) tags input moment index noted due made flight h = absurd (cc)
-makes-in (requests.Show ask) tags input moment index noted due made flight h = absurd (cc)
-makes-in (requests.Tag ask) tags input moment index noted due made flight h = h
-makes-in (requests.Restore ask) tags input moment index noted due made flight h = h
+makes-in : (request : Request) → is_tagging request ≡ true → (input : List ℕ) (moment : ℤ) (index : Base) (noted : List Given) (due made in_flight : List Commit)
+    → MakesTags index (wanted_for request input moment index) noted made in_flight → MakesBefore request input moment index noted due made in_flight
+makes-in requests.New tags input moment index noted due made in_flight h = absurd (cc)
+makes-in (requests.Count ask) tags input moment index noted due made in_flight h = absurd (cc)
+makes-in (requests.Search ask) tags input moment index noted due made in_flight h = absurd (cc)
+makes-in (requests.Dump ask) tags input moment index noted due made in_flight h = absurd (cc)
+makes-in (requests.Show ask) tags input moment index noted due made in_flight h = absurd (cc)
+makes-in (requests.Tag ask) tags input moment index noted due made in_flight h = h
+makes-in (requests.Restore ask) tags input moment index noted due made in_flight h = h
 
 -- it asks the folder for renames
 asks-in : (request : Request) → is_tagging request ≡ true → (outcome : Outcome) (index : Base) (moment : ℤ) (left : ℕ) (old new : ObservedMail) (noted : List Given)
@@ -319,7 +319,7 @@ module _ (moment : ℤ) (old new : Place) (line : ScriptLine) (noted : List Give
       (may-ask old.writer.closed (alive-asks old.writer.closed alive), writing-in request kind, mail, refl)
   tag-answered P Q (Err (errors.Closed fault)) after shut mail disk idle even =
       answered-with moment old new line noted request is left asks-so tree (outcomes.Closed fault) [] [] false (still (ap (λ (w : WriterState). w.closed) after.2))
-      (made-none old.writer new.writer after.2) (record { made_are = refl; flight_is = refl }) refl (ap (λ (w : WriterState). w.closed) after.2) (omega (arith, mail)) (idle (closed-by {T = SyncReport} old.writer.closed fault (Err (errors.Closed fault)) P Q after.0 shut)) (
+      (made-none old.writer new.writer after.2) (record { made_are = refl; in_flight_is = refl }) refl (ap (λ (w : WriterState). w.closed) after.2) (omega (arith, mail)) (idle (closed-by {T = SyncReport} old.writer.closed fault (Err (errors.Closed fault)) P Q after.0 shut)) (
         ap (λ (r : Option Outcome). first_refusal r (refused_closed old.writer.closed (is_writing request))) right
             ∙ (ap (refused_closed old.writer.closed) (writing-in request kind) ∙ ap (λ (c : Option ℕ). refused_closed c true) after.0),
         none-failed mail,

@@ -49,10 +49,10 @@ IsEven writer = writer.closed ≡ None → length writer.begun ≡ length writer
 -- A line was run and ended so, and the disk failed in it or not: what it made and asked, and why it ended so.
 pub record IsAnswered (moment : ℤ) (old : Place) (line : ScriptLine) (noted : List Given) (outcome : Outcome) (failed : Bool) (new : Place) : Type 0 where
   pub made : List Commit
-  pub flight : List Commit
-  pub has_made : HasMade old.writer made flight new.writer
-  pub makes : Makes outcome moment old.mail.tree old.writer.shown line noted (length old.writer.acked + length made) made flight
-  pub on_its_way : IsOnItsWay failed flight
+  pub in_flight : List Commit
+  pub has_made : HasMade old.writer made in_flight new.writer
+  pub makes : Makes outcome moment old.mail.tree old.writer.shown line noted (length old.writer.acked + length made) made in_flight
+  pub on_its_way : IsOnItsWay failed in_flight
   pub closed : new.writer.closed ≡ closed_after old.writer.closed failed new.disk_faults
   pub asks : AsksMail outcome (parse_line line) old.writer.shown moment old.left old.mail new.mail noted
   pub tree : new.mail.tree ≡ tree_after_line (parse_line line) noted old.mail.tree
@@ -90,7 +90,7 @@ pub record IsNoted (moment : ℤ) (old : Place) (line : ScriptLine) (before afte
   pub reply : Option Mark
   pub run : IsRun moment old (line, log) reply new
   pub logs : after.logs.0 ≡ before.logs.0 ++ log ∷ []
-  pub marks : after.marks.0 ≡ before.marks.0 ++ line_marks run.answered.made run.answered.flight (reply_to (line, log))
+  pub marks : after.marks.0 ≡ before.marks.0 ++ line_marks run.answered.made run.answered.in_flight (reply_to (line, log))
   pub steps : after.steps ≡ before.steps
   pub logs_spare : after.logs.1 + 1 ≡ before.logs.1
   pub marks_spare : before.marks.1 + length old.writer.begun ≤ after.marks.1 + length new.writer.begun + 1

@@ -57,7 +57,7 @@ reply_mark replied = marks.Reply replied.request replied.text
 
 -- the marks of a line that made these commits, left this one on its way, and was replied to
 abbrev pub line_marks : List Commit → List Commit → List Replied → List Mark
-line_marks made flight replies = map made_mark made ++ (map begun_mark flight ++ map reply_mark replies)
+line_marks made in_flight replies = map made_mark made ++ (map begun_mark in_flight ++ map reply_mark replies)
 
 -- the marks where so many were made, one is on its way or none, and these are of replies
 abbrev pub marks_for : ℕ → Bool → List Mark → List Mark

@@ -5,11 +5,11 @@
 mod answering;
 mod changing;
 mod line;
+mod machine_steps;
 mod marks;
 mod rooms;
 mod running;
 mod session;
 mod showing;
-mod steps;
 
 pub use session::run_session;

@@ -14,8 +14,8 @@ ghost use Rattle.nm_writer.specs.Durable.{IsDurable};
 ghost use Rattle.nm_writer.specs.Writer.{StandsOnIndex};
 
 use crate::line::run_line;
+use crate::machine_steps::push_steps;
 use crate::rooms::Rooms;
-use crate::steps::push_steps;
 use nm_disk::Disk;
 use nm_history::{
     a_line_more_keeps_the_answers, a_line_more_keeps_the_clocks, a_line_more_keeps_the_commits,

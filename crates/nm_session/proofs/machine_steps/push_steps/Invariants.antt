@@ -1,7 +1,7 @@
 use Rattle.std.proofs.Common.{◌≡◌, ◌≤◌, ◌++◌, length}
 use Rattle.std.specs.Vec.Iter.{into_iter_items, into_iter_len}
 use Rattle.nm_session.specs.Marks.{steps_of}
-use Rattle.nm_session.proofs.steps.push_steps.Given as goal
+use Rattle.nm_session.proofs.machine_steps.push_steps.Given as goal
 
 -- the steps so far, and those of the marks that are left, are all
 abbrev pub invariant-marks : goal.invariant-marks
