@@ -37,7 +37,7 @@ impl MailPath {
         if !fits(text.as_bytes(), 4096) {
             return Err(BadValue::Length);
         }
-        if !lacks_zero(text.as_bytes()) {
+        if !has_no_zero(text.as_bytes()) {
             return Err(BadValue::Byte);
         }
         if !has_good_components(text.as_str()) {
@@ -60,7 +60,7 @@ impl Copies for MailPath {
     }
 }
 
-fn lacks_zero(bytes: &[u8]) -> bool
+fn has_no_zero(bytes: &[u8]) -> bool
     ensures { result ≡ has_no_zero bytes.now }
 {
     bytes.iter().all(|b| *b != 0)
@@ -70,14 +70,14 @@ fn has_good_components(text: &str) -> bool
     ensures { result ≡ list_all is_component (components_of text.now) }
 {
     'parts: for part in text.split('/') {
-        if !may_be_component(part.as_bytes()) {
+        if !is_component(part.as_bytes()) {
             return false;
         }
     }
     true
 }
 
-fn may_be_component(part: &[u8]) -> bool
+fn is_component(part: &[u8]) -> bool
     ensures { result ≡ is_component part.now }
 {
     match part {

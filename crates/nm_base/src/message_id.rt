@@ -35,7 +35,7 @@ impl MessageId {
         if !fits(text.as_bytes(), 1000) {
             return Err(BadValue::Length);
         }
-        if !has_id_bytes(text.as_bytes()) {
+        if !is_id_text(text.as_bytes()) {
             return Err(BadValue::Byte);
         }
         Ok(MessageId { text })
@@ -55,13 +55,13 @@ impl Copies for MessageId {
     }
 }
 
-fn has_id_bytes(bytes: &[u8]) -> bool
+fn is_id_text(bytes: &[u8]) -> bool
     ensures { result ≡ is_id_text bytes.now }
 {
-    bytes.iter().all(|b| may_be_in_id(*b))
+    bytes.iter().all(|b| is_id_byte(*b))
 }
 
-fn may_be_in_id(b: u8) -> bool
+fn is_id_byte(b: u8) -> bool
     ensures { result ≡ is_id_byte b }
 {
     !matches!(b, b' ' | b'\t' | b'\r' | b'\n' | b'<' | b'>')

@@ -34,7 +34,7 @@ impl Tag {
         if !fits(text.as_bytes(), 200) {
             return Err(BadValue::Length);
         }
-        if !begins_as_tag(text.as_bytes()) {
+        if !is_tag_text(text.as_bytes()) {
             return Err(BadValue::Byte);
         }
         Ok(Tag { text })
@@ -54,7 +54,7 @@ impl Copies for Tag {
     }
 }
 
-fn begins_as_tag(bytes: &[u8]) -> bool
+fn is_tag_text(bytes: &[u8]) -> bool
     ensures { result ≡ is_tag_text bytes.now }
 {
     match bytes {

@@ -16,7 +16,7 @@ pub(crate) fn fields(text: &[u8]) -> Option<(&[u8], &[u8], &[u8])>
     let (charset, rest) = segment(rest)?;
     let (encoding, rest) = segment(rest)?;
     let (encoded, rest) = segment(rest)?;
-    if !closes(rest) {
+    if !begins_with_equals(rest) {
         return None;
     }
     Some((charset, encoding, encoded))
@@ -52,7 +52,7 @@ fn segment(text: &[u8]) -> Option<(&[u8], &[u8])>
     Some((&text[..at], &text[at + 1..]))
 }
 
-fn closes(text: &[u8]) -> bool
+fn begins_with_equals(text: &[u8]) -> bool
     ensures value { result ≡ begins_with_equals (segments_of text.now) }
     ensures form { IsTrue result → (after : List ℕ) × (text.now ≡ 61 ∷ after) }
 {

@@ -27,17 +27,17 @@ fn push_line(out: &mut Vec<u8>, line: &[u8]) -> Result<(), NoMemory>
     ensures { OnOk result (out.new.items ≡ out.old.items ++ line_bytes line.now) }
 {
     let content = trimmed_end(line);
-    if has_last(content, b'=') {
+    if ends_with(content, b'=') {
         return push_unescaped(out, &content[..content.len() - 1]);
     }
     push_unescaped(out, content)?;
-    if has_last(line, b'\n') {
+    if ends_with(line, b'\n') {
         out.push(b'\n')?;
     }
     Ok(())
 }
 
-fn has_last(line: &[u8], byte: u8) -> bool
+fn ends_with(line: &[u8], byte: u8) -> bool
     ensures { result ≡ ends_with byte line.now }
 {
     match line.last() {

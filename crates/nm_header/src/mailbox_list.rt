@@ -72,7 +72,7 @@ fn mailbox(alloc: Global, text: &str, size: usize) -> Result<Mailbox, NoMemory>
     ensures { IfOk result (λ mailbox. mailbox ≡ mailbox_of (lexemes_before part_ends text.now)) }
 {
     let name_size = stop_len(text.as_bytes(), b",;:<");
-    if !has_angle(text.as_bytes(), name_size) {
+    if !is_angle(text.as_bytes(), name_size) {
         let address = without_white_space(alloc, &text[..size])?;
         let name = Text::new(alloc);
         return Ok(Mailbox { name, address });
@@ -82,7 +82,7 @@ fn mailbox(alloc: Global, text: &str, size: usize) -> Result<Mailbox, NoMemory>
     Ok(Mailbox { name, address })
 }
 
-fn has_angle(text: &[u8], at: usize) -> bool
+fn is_angle(text: &[u8], at: usize) -> bool
     requires { at ≤ length text.now }
     ensures { result ≡ is_angle (drop at text.now) }
 {

@@ -18,6 +18,6 @@ pub use line_parser::{ParsedLine, parse_line, parse_single, reads_input};
 pub use log::{Done, LineLog, SessionLog, Setting};
 pub use outcome::Outcome;
 pub use print::{print_lines, print_replies, print_text, print_usage};
-pub use refusal::{Refusal, print_refusal, refusal_status};
-pub use replies::{change_reply, is_well, line_status, new_reply, refusal_text, usage_text};
+pub use refusal::{Refusal, print_refusal, refused_status};
+pub use replies::{change_reply, is_well, line_status, new_text, refusal_line, usage_line};
 pub use script::{CommandText, ScriptError, ScriptLine, read_script};

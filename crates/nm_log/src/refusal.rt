@@ -36,7 +36,7 @@ pub enum Refusal {
 }
 
 /// The status of a call that was refused so.
-pub fn refusal_status(refusal: &Refusal) -> u8
+pub fn refused_status(refusal: &Refusal) -> u8
     ensures { result ≡ refused_status refusal.now }
 {
     match refusal {

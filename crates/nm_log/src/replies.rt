@@ -75,7 +75,7 @@ pub(crate) fn printed_kind(kind: UsageKind) -> &'static str
 }
 
 /// The line that refuses words.
-pub fn usage_text(alloc: Global, kind: UsageKind, word: &Text) -> Result<Many<u8>, NoMemory>
+pub fn usage_line(alloc: Global, kind: UsageKind, word: &Text) -> Result<Many<u8>, NoMemory>
     ensures { IfOk result (λ text. text ≡ usage_line kind word.now) }
 {
     let kind = printed_kind(kind);
@@ -194,12 +194,12 @@ fn limit_text(alloc: Global, limit: Limit) -> Result<Many<u8>, NoMemory>
 }
 
 /// The line of a refusal, empty for an Ok.
-pub fn refusal_text(alloc: Global, outcome: &Outcome) -> Result<Many<u8>, NoMemory>
+pub fn refusal_line(alloc: Global, outcome: &Outcome) -> Result<Many<u8>, NoMemory>
     ensures { IfOk result (λ text. text ≡ refusal_line outcome.now) }
 {
     match outcome {
         Outcome::Ok => Ok(Many::new(alloc)),
-        Outcome::Usage { word, kind } => usage_text(alloc, *kind, word),
+        Outcome::Usage { word, kind } => usage_line(alloc, *kind, word),
         Outcome::BadQuery { at, kind } => query_text(alloc, *kind, *at),
         Outcome::BadDate { at } => date_text(alloc, *at),
         Outcome::BadLine { line, kind } => bad_line(alloc, *line, *kind),
@@ -214,10 +214,10 @@ pub fn refusal_text(alloc: Global, outcome: &Outcome) -> Result<Many<u8>, NoMemo
 }
 
 /// The reply of `new`.
-pub fn new_reply(alloc: Global, report: &NewReport) -> Result<Many<u8>, NoMemory>
+pub fn new_text(alloc: Global, report: &NewReport) -> Result<Many<u8>, NoMemory>
     ensures { IfOk result (λ text. text ≡ new_text report.now) }
 {
-    if nothing_happened(report) {
+    if is_quiet(report) {
         return Many::from_slice(alloc, b"No new mail.\n");
     }
     let mut text = summary(alloc, report)?;
@@ -225,7 +225,7 @@ pub fn new_reply(alloc: Global, report: &NewReport) -> Result<Many<u8>, NoMemory
     Ok(text)
 }
 
-fn nothing_happened(report: &NewReport) -> bool
+fn is_quiet(report: &NewReport) -> bool
     ensures { result ≡ is_quiet report.now }
 {
     report.added == 0 && report.removed == 0 && report.skipped.is_empty()
@@ -277,7 +277,7 @@ fn add_skips(text: &mut Many<u8>, all: &[(MailPath, Skip)]) -> Result<(), NoMemo
 fn add_skip(text: &mut Many<u8>, skipped: &(MailPath, Skip)) -> Result<(), NoMemory>
     ensures { OnOk result (text.new ≡ text.old ++ skip_line skipped.now) }
 {
-    let why = printed_skip(skipped.1);
+    let why = skip_name(skipped.1);
     text.extend_from_slice(b"skipped: ")?;
     text.extend_from_slice(why.as_bytes())?;
     text.extend_from_slice(b" ")?;
@@ -286,7 +286,7 @@ fn add_skip(text: &mut Many<u8>, skipped: &(MailPath, Skip)) -> Result<(), NoMem
     Ok(())
 }
 
-fn printed_skip(skip: Skip) -> &'static str
+fn skip_name(skip: Skip) -> &'static str
     ensures { result.now ≡ skip_name skip }
 {
     match skip {

@@ -22,7 +22,7 @@ use nm_base::{Copies, CountAsk, DumpAsk, Limit, Many, NoMemory, SearchAsk, ShowA
 use nm_batch::read_queries;
 use nm_disk::Disk;
 use nm_dump::dump_reply;
-use nm_log::{Outcome, ParsedLine, ScriptLine, Setting, parse_line, refusal_text};
+use nm_log::{Outcome, ParsedLine, ScriptLine, Setting, parse_line, refusal_line};
 use nm_maildir::{Given, Maildir};
 use nm_query::{QueryError, parse};
 use nm_render::{count_reply, counts_reply, search_reply};
@@ -259,7 +259,7 @@ pub(crate) fn replied(request: Request, text: Many<u8>) -> Result<Answered, NoMe
 pub(crate) fn refuse(alloc: Global, outcome: Outcome) -> Result<Answered, NoMemory>
     ensures { IfOk result (λ done. done ≡ refused_with outcome) }
 {
-    let text = refusal_text(alloc, &outcome)?;
+    let text = refusal_line(alloc, &outcome)?;
     Ok(Answered {
         outcome,
         text,

@@ -24,7 +24,7 @@ use nm_base::{Copies, Many, MessageId, NoMemory, RestoreAsk, TagAsk};
 use nm_batch::read_taggings;
 use nm_disk::Disk;
 use nm_dump::{read_dump, restoring};
-use nm_log::{Outcome, Setting, change_reply, new_reply, refusal_text};
+use nm_log::{Outcome, Setting, change_reply, new_text, refusal_line};
 use nm_maildir::{Given, Maildir};
 use nm_plan::tag_commits_fit;
 use nm_query::{QueryError, parse};
@@ -43,8 +43,8 @@ pub(crate) struct FaultTexts {
 fn fault_texts(alloc: Global) -> Result<FaultTexts, NoMemory>
     ensures { IfOk result AreFaultTexts }
 {
-    let mail = refusal_text(alloc, &Outcome::MailFault)?;
-    let disk = refusal_text(alloc, &Outcome::DiskFault)?;
+    let mail = refusal_line(alloc, &Outcome::MailFault)?;
+    let disk = refusal_line(alloc, &Outcome::DiskFault)?;
     Ok(FaultTexts { mail, disk })
 }
 
@@ -77,7 +77,7 @@ pub(crate) fn run_new<M: Maildir, D: Disk>(
 fn reply_new(alloc: Global, report: &NewReport) -> Result<Answered, NoMemory>
     ensures { IfOk result (λ done. done ≡ replied_with Request.New (new_text report.now)) }
 {
-    let text = new_reply(alloc, report)?;
+    let text = new_text(alloc, report)?;
     replied(Request::New, text)
 }
 

@@ -9,7 +9,7 @@ use nm_base::Many;
 use nm_io::Sink;
 use nm_log::{
     Done, LineLog, Outcome, Refusal, SessionLog, is_well, line_status, print_lines, print_refusal,
-    print_replies, print_text, refusal_status,
+    print_replies, print_text, refused_status,
 };
 use std::alloc::Global;
 
@@ -70,7 +70,7 @@ pub(crate) fn refuse<E: Sink>(alloc: Global, err: &mut E, refusal: &Refusal) -> 
     ensures { Refuses refusal.now (E.observed err.old) (E.observed err.new) result }
 {
     let _ = print_refusal(err, refusal);
-    ended(alloc, refusal_status(refusal))
+    ended(alloc, refused_status(refusal))
 }
 
 /// Ends a program that makes no call, with its status and one line.

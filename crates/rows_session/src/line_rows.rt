@@ -8,7 +8,7 @@ use nm_base::{
 use nm_io::MemSink;
 use nm_log::{
     CommandText, ParsedLine, ScriptError, ScriptLine, parse_line, print_usage, read_script,
-    usage_text,
+    usage_line,
 };
 use rows::{Lines, Row, RowError, cut};
 use std::alloc::{AllocError, Global};
@@ -150,7 +150,7 @@ fn add_refusal(
     kind: UsageKind,
     word: &Text,
 ) -> Result<(), NoMemory> {
-    let text = usage_text(alloc, kind, word)?;
+    let text = usage_line(alloc, kind, word)?;
     add_text(
         answers,
         text.as_slice(),

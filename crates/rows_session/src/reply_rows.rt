@@ -3,7 +3,7 @@
 use crate::values::path;
 use nm_answer::NewReport;
 use nm_base::{MailPath, Many, Skip};
-use nm_log::new_reply;
+use nm_log::new_text;
 use rows::{Row, RowError};
 use std::alloc::Global;
 
@@ -20,7 +20,7 @@ pub fn answer(alloc: Global, row: &Row<'_>) -> Result<Vec<u8>, RowError> {
         b"=",
     ])?;
     let report = report(alloc, row)?;
-    Ok(new_reply(alloc, &report)?.into_vec())
+    Ok(new_text(alloc, &report)?.into_vec())
 }
 
 fn report(alloc: Global, row: &Row<'_>) -> Result<NewReport, RowError> {

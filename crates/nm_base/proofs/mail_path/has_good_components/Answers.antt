@@ -7,10 +7,10 @@ use Rattle.std.proofs.lemmas.List.Folds.{list_all_at}
 use Rattle.nm_base.specs.MailPath.{is_component, components_of}
 use Rattle.nm_base.proofs.mail_path.has_good_components.Goals as goal
 
-pub returns-then-not-may_be_component : goal.returns-then-not-may_be_component
-returns-then-not-may_be_component c =
+pub returns-then-not-is_component : goal.returns-then-not-is_component
+returns-then-not-is_component c =
     let t = YieldsList-turn (YieldsList-from_str_split {s = c.into_iter-part-iterator.result} 47 c.args.text.now (lit< tt) (cc) (cc) (cc)) c.parts.yielded _ c.parts.yielded_by _ _ c.in-Some.part c.in-Some.is c.next.ensures.steps in
-    sym (list_all_at is_component (components_of c.args.text.now) _ c.in-Some.part.now t.0 (ap is_component (sym t.1 ∙ sym c.as_bytes.ensures.value) ∙ (sym c.may_be_component.ensures ∙ c.if-not-may_be_component.true)))
+    sym (list_all_at is_component (components_of c.args.text.now) _ c.in-Some.part.now t.0 (ap is_component (sym t.1 ∙ sym c.as_bytes.ensures.value) ∙ (sym c.is_component.ensures ∙ c.if-not-is_component.true)))
 
 pub returns : goal.returns
 returns c =
