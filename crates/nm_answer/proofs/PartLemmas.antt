@@ -17,7 +17,7 @@ part_is offset None items = record {
   after = [];
   whole = sym (take-append-drop offset items) ∙ ap (λ rest. take offset items ++ rest) (sym (append-nil (drop offset items)));
   passed = length-take offset items;
-  most = λ n is. cc;
+  max = λ n is. cc;
   all = λ is. refl;
 }
 part_is offset (Some limit) items = record {
@@ -25,7 +25,7 @@ part_is offset (Some limit) items = record {
   after = drop limit (drop offset items);
   whole = sym (take-append-drop offset items) ∙ ap (λ rest. take offset items ++ rest) (sym (take-append-drop limit (drop offset items)));
   passed = length-take offset items;
-  most = λ n is. length-take limit (drop offset items) ∙ ap (min limit) (length-drop offset items) ∙ ap (λ m. min m (length items - offset)) (some_same limit n is);
+  max = λ n is. length-take limit (drop offset items) ∙ ap (min limit) (length-drop offset items) ∙ ap (λ m. min m (length items - offset)) (some_same limit n is);
   all = λ is. cc;
 }
 

@@ -23,5 +23,5 @@ pub record IsPart {X : Type 0} (offset : ℕ) (limit : Option ℕ) (items part :
   pub after : List X
   pub whole : items ≡ before ++ (part ++ after)
   pub passed : length before ≡ min offset (length items)
-  pub most : (n : ℕ) → limit ≡ Some n → length part ≡ min n (length items - offset)
+  pub max : (n : ℕ) → limit ≡ Some n → length part ≡ min n (length items - offset)
   pub all : limit ≡ None → after ≡ []

@@ -3,14 +3,14 @@ use Rattle.std.specs.Prelude.{ℕ, Bool, ◌&&◌, ◌||◌, ◌==◌, List, len
 use Rattle.nm_base.specs.declared.names.BadValue.{BadValue}
 use Rattle.nm_base.specs.declared.names.BadValue.TheVariants.{Length, Byte}
 
--- from one byte up to most bytes
+-- from one byte up to max bytes
 abbrev pub fits_length : ℕ → List ℕ → Bool
-fits_length most bytes = nat_le 1 (length bytes) && nat_le (length bytes) most
+fits_length max bytes = nat_le 1 (length bytes) && nat_le (length bytes) max
 
 -- the text itself where it has the length and passes the rule; a fault of length is told first
 abbrev pub checked : ℕ → (List ℕ → Bool) → List ℕ → Result (List ℕ) BadValue
-checked most rule text =
-    if fits_length most text then (if rule text then Ok text else Err Byte) else Err Length
+checked max rule text =
+    if fits_length max text then (if rule text then Ok text else Err Byte) else Err Length
 
 -- space, tab, CR or LF
 abbrev pub is_white_space : ℕ → Bool

@@ -16,8 +16,8 @@ pub enum BadValue {
     Byte,
 }
 
-pub(crate) fn fits(bytes: &[u8], most: usize) -> bool
-    ensures { result ≡ fits_length most bytes.now }
+pub(crate) fn fits(bytes: &[u8], max: usize) -> bool
+    ensures { result ≡ fits_length max bytes.now }
 {
-    !bytes.is_empty() && bytes.len() <= most
+    !bytes.is_empty() && bytes.len() <= max
 }

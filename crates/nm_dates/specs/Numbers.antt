@@ -13,10 +13,10 @@ with_digit number digit = number * 10 + (digit - 48)
 abbrev pub number_of : List ℕ → ℕ
 number_of digits = fold with_digit 0 digits
 
--- 1 to `most` digits and nothing else
+-- 1 to `max` digits and nothing else
 abbrev pub is_number : ℕ → List ℕ → Bool
-is_number most text = nat_le 1 (length text) && nat_le (length text) most && list_all is_digit text
+is_number max text = nat_le 1 (length text) && nat_le (length text) max && list_all is_digit text
 
--- the number that the text says, where it is 1 to `most` digits
+-- the number that the text says, where it is 1 to `max` digits
 abbrev pub number_in : ℕ → List ℕ → Option ℕ
-number_in most text = if is_number most text then Some (number_of text) else None
+number_in max text = if is_number max text then Some (number_of text) else None

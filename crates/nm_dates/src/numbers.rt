@@ -5,24 +5,24 @@ ghost use Rattle.std.specs.Bool.{OnTrue};
 ghost use Rattle.std.specs.List.{list_all};
 ghost use Rattle.nm_dates.specs.Numbers.{is_digit, is_number, number_in, number_of, with_digit};
 
-/// The number that the text says, where it is 1 to `most` digits and nothing else.
-pub(crate) fn number(text: &[u8], most: usize) -> Option<u64>
-    requires { most ≤ 12 }
-    ensures value { result ≡ number_in most text.now }
-    ensures bound { IfSome result (λ n. n < 10 ^ most) }
+/// The number that the text says, where it is 1 to `max` digits and nothing else.
+pub(crate) fn number(text: &[u8], max: usize) -> Option<u64>
+    requires { max ≤ 12 }
+    ensures value { result ≡ number_in max text.now }
+    ensures bound { IfSome result (λ n. n < 10 ^ max) }
 {
-    if !is_number(text, most) {
+    if !is_number(text, max) {
         return None;
     }
     Some(number_of(text))
 }
 
-fn is_number(text: &[u8], most: usize) -> bool
-    ensures value { result ≡ is_number most text.now }
-    ensures few { OnTrue result (length text.now ≤ most) }
+fn is_number(text: &[u8], max: usize) -> bool
+    ensures value { result ≡ is_number max text.now }
+    ensures few { OnTrue result (length text.now ≤ max) }
     ensures digits { OnTrue result (IsTrue (list_all is_digit text.now)) }
 {
-    if text.is_empty() || text.len() > most {
+    if text.is_empty() || text.len() > max {
         return false;
     }
     are_digits(text)

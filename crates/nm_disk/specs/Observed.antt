@@ -21,7 +21,7 @@ bytes_now moments file = bytes_of file moments.present.now
 
 -- at most so many of the bytes from the place on
 abbrev pub front_from : List ℕ → ℕ → ℕ → List ℕ
-front_from bytes at most = take most (drop at bytes)
+front_from bytes at max = take max (drop at bytes)
 
 -- one moment later, in this state
 abbrev pub later : Moments → DiskState → Moments

@@ -73,13 +73,13 @@ impl DiskState {
 }
 
 /// At most so many of the first bytes.
-pub(crate) fn front(bytes: &[u8], most: u64) -> &[u8]
-    ensures { result.now ≡ take most bytes.now }
+pub(crate) fn front(bytes: &[u8], max: u64) -> &[u8]
+    ensures { result.now ≡ take max bytes.now }
 {
-    if most >= bytes.len() as u64 {
+    if max >= bytes.len() as u64 {
         return bytes;
     }
-    &bytes[..most as usize]
+    &bytes[..max as usize]
 }
 
 fn note(

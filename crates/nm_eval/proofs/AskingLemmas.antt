@@ -61,5 +61,5 @@ checked_by true true text = refl
 checked_by true false text = tt
 checked_by false keeps text = tt
 
-pub checked_same : (most : ℕ) (rule : List ℕ → Bool) (text : List ℕ) → IfOk (checked most rule text) (λ id. id ≡ text)
-checked_same most rule text = checked_by (fits_length most text) (rule text) text
+pub checked_same : (max : ℕ) (rule : List ℕ → Bool) (text : List ℕ) → IfOk (checked max rule text) (λ id. id ≡ text)
+checked_same max rule text = checked_by (fits_length max text) (rule text) text

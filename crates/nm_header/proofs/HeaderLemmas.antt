@@ -4,7 +4,7 @@ use Rattle.std.specs.List.{concat, onto_first, take_while}
 use Rattle.std.proofs.lemmas.List.{length-take-le}
 use Rattle.std.proofs.lemmas.Bool.{eqb-true}
 use Rattle.std.proofs.lemmas.List.Sums.{take_while-cons}
-use Rattle.nm_text.specs.Cuts.{length_through}
+use Rattle.nm_text.specs.Cuts.{len_through}
 use Rattle.nm_header.specs.HeaderLines.{BeginsWithLine, LeavesOf, header_lines, is_empty_line, rest_of}
 use Rattle.nm_text.specs.Lines.{content, is_line_feed, lines_of}
 use Rattle.std.specs.Prelude.{is_some, position}
@@ -16,7 +16,7 @@ header_begins bs n e empty some within =
     let long : length (take n bs) ≡ n = length-take-le n bs within in
     record {
       header = ap (λ l. take_while (λ line. not (is_empty_line line)) l) e ∙ take_while-cons (λ line. not (is_empty_line line)) (take n bs) (lines_of (drop n bs)) ∙ ap (λ v. cond (not v) (take n bs ∷ header_lines (drop n bs)) []) empty;
-      rest = ap (λ l. length_through is_empty_line l) e ∙ ap (λ v. cond v (length (take n bs)) (length (take n bs) + rest_of (drop n bs))) empty ∙ ap (λ k. k + rest_of (drop n bs)) long;
+      rest = ap (λ l. len_through is_empty_line l) e ∙ ap (λ v. cond v (length (take n bs)) (length (take n bs) + rest_of (drop n bs))) empty ∙ ap (λ k. k + rest_of (drop n bs)) long;
       some = some;
       within = within;
     }
@@ -38,7 +38,7 @@ pub rest_after : (bs : List ℕ) (n : ℕ) → lines_of bs ≡ take n bs ∷ lin
 rest_after bs n e some within none =
     let long : length (take n bs) ≡ n = length-take-le n bs within in
     elim (is_empty_line (take n bs)) as (λ v. is_empty_line (take n bs) ≡ v → n ≡ rest_of bs) [
-      | true ↦ λ h. sym (ap (λ l. length_through is_empty_line l) e ∙ ap (λ v. cond v (length (take n bs)) (length (take n bs) + rest_of (drop n bs))) h ∙ long)
+      | true ↦ λ h. sym (ap (λ l. len_through is_empty_line l) e ∙ ap (λ v. cond v (length (take n bs)) (length (take n bs) + rest_of (drop n bs))) h ∙ long)
       | false ↦ λ h. let step = (header_begins bs n e h some within).header in absurd (let no : take n bs ∷ header_lines (drop n bs) ≡ [] = sym step ∙ none in cc)
     ] refl
 

@@ -8,7 +8,7 @@ use Rattle.std.proofs.lemmas.List.Splits.{slice_split-cons_no}
 use Rattle.nm_header.proofs.IdLemmas.{closed-cons}
 use Rattle.nm_base.specs.MessageId.{is_id_byte, is_id_text, is_message_id}
 use Rattle.nm_base.specs.Bounds.{fits_length, is_white_space}
-use Rattle.nm_text.specs.Cuts.{length_through}
+use Rattle.nm_text.specs.Cuts.{len_through}
 use Rattle.nm_header.specs.Ids.{closed, ids_in, ids_of, is_greater_than}
 use Rattle.nm_header.specs.Laws.{line_after_header, put_together, written}
 use Rattle.nm_header.specs.HeaderLines.{header_lines, is_empty_line, rest_of}
@@ -16,16 +16,16 @@ use Rattle.nm_text.specs.Lines.{lines_of}
 use Rattle.nm_text.specs.WhiteSpace.{without_white_space}
 
 -- lines up to the first that passes, that one, and what is left
-all_lines : (p : List ℕ → Bool) (lines : List (List ℕ)) → concat (take_while (λ l. not (p l)) lines) ++ (concat (take 1 (drop (length (take_while (λ l. not (p l)) lines)) lines)) ++ drop (length_through p lines) (concat lines)) ≡ concat lines
+all_lines : (p : List ℕ → Bool) (lines : List (List ℕ)) → concat (take_while (λ l. not (p l)) lines) ++ (concat (take 1 (drop (length (take_while (λ l. not (p l)) lines)) lines)) ++ drop (len_through p lines) (concat lines)) ≡ concat lines
 all_lines p [] = refl
 all_lines p (line ∷ lines) =
     let front : List (List ℕ) = take_while (λ l. not (p l)) lines in
     let one : take_while (λ l. not (p l)) (line ∷ lines) ≡ cond (not (p line)) (line ∷ front) [] = take_while-cons (λ l. not (p l)) line lines in
-    ap (λ f. concat f ++ (concat (take 1 (drop (length f) (line ∷ lines))) ++ drop (length_through p (line ∷ lines)) (line ++ concat lines))) one ∙ elim (p line) as (λ v. concat (cond (not v) (line ∷ front) []) ++ (concat (take 1 (drop (length (cond (not v) (line ∷ front) [])) (line ∷ lines))) ++ drop (cond v (length line) (length line + length_through p lines)) (line ++ concat lines)) ≡ line ++ concat lines) [
+    ap (λ f. concat f ++ (concat (take 1 (drop (length f) (line ∷ lines))) ++ drop (len_through p (line ∷ lines)) (line ++ concat lines))) one ∙ elim (p line) as (λ v. concat (cond (not v) (line ∷ front) []) ++ (concat (take 1 (drop (length (cond (not v) (line ∷ front) [])) (line ∷ lines))) ++ drop (cond v (length line) (length line + len_through p lines)) (line ++ concat lines)) ≡ line ++ concat lines) [
       | true ↦ ap (λ x. x ++ drop (length line) (line ++ concat lines)) (append-nil line) ∙ ap (λ x. line ++ x) (drop_at line (concat lines) (length line) refl)
       | false ↦
-          let rest : drop (length line + length_through p lines) (line ++ concat lines) ≡ drop (length_through p lines) (concat lines) = sym (drop-drop (length_through p lines) (length line) (line ++ concat lines)) ∙ ap (drop (length_through p lines)) (drop_at line (concat lines) (length line) refl) in
-          ap (λ x. (line ++ concat front) ++ (concat (take 1 (drop (length front) lines)) ++ x)) rest ∙ append_assoc line (concat front) (concat (take 1 (drop (length front) lines)) ++ drop (length_through p lines) (concat lines)) ∙ ap (λ x. line ++ x) (all_lines p lines)
+          let rest : drop (length line + len_through p lines) (line ++ concat lines) ≡ drop (len_through p lines) (concat lines) = sym (drop-drop (len_through p lines) (length line) (line ++ concat lines)) ∙ ap (drop (len_through p lines)) (drop_at line (concat lines) (length line) refl) in
+          ap (λ x. (line ++ concat front) ++ (concat (take 1 (drop (length front) lines)) ++ x)) rest ∙ append_assoc line (concat front) (concat (take 1 (drop (length front) lines)) ++ drop (len_through p lines) (concat lines)) ∙ ap (λ x. line ++ x) (all_lines p lines)
     ]
 
 pub together : (bytes : List ℕ) → concat (lines_of bytes) ≡ bytes → put_together bytes ≡ bytes

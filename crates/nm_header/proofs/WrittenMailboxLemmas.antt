@@ -9,7 +9,7 @@ use Rattle.std.proofs.lemmas.List.Folds.{concat-append, list_any-append}
 use Rattle.std.proofs.lemmas.List.Splits.{join_with_byte-slice_split, length-slice_split, slice_split-cons_no, slice_split-cons_yes}
 use Rattle.nm_base.specs.Bounds.{is_white_space}
 use Rattle.nm_base.specs.declared.facts.Mailbox.{Mailbox}
-use Rattle.nm_text.specs.Cuts.{is_byte, length_through}
+use Rattle.nm_text.specs.Cuts.{is_byte, len_through}
 use Rattle.nm_text.specs.QuotedStrings.{is_special, pair_more, pairs_of, quoted_len, unquoted, unquoted_pair}
 use Rattle.nm_text.specs.WhiteSpace.{is_all_white_space, without_white_space}
 use Rattle.nm_header.specs.Comments.{comment_len, lexeme_more, lexemes_of, plain_of, shown}
@@ -67,18 +67,18 @@ escaped_inside b = elim (b == 34 || b == 92) as (λ v. (b == 34 || b == 92) ≡ 
   | false ↦ λ e. (or_of_two (b == 34) (b == 92) e).0
 ] refl
 
-through-escaped : (name : List ℕ) (pairs : List (List ℕ)) → length_through (is_special 34) (map escaped name ++ (34 ∷ []) ∷ pairs) ≡ length (flat_map escaped name) + 1
+through-escaped : (name : List ℕ) (pairs : List (List ℕ)) → len_through (is_special 34) (map escaped name ++ (34 ∷ []) ∷ pairs) ≡ length (flat_map escaped name) + 1
 through-escaped [] pairs = refl
 through-escaped (b ∷ name) pairs =
     let others : List (List ℕ) = map escaped name ++ (34 ∷ []) ∷ pairs in
     let long : length (escaped b ++ flat_map escaped name) ≡ length (escaped b) + length (flat_map escaped name) = length-append (escaped b) (flat_map escaped name) in
-    let next : length_through (is_special 34) others ≡ length (flat_map escaped name) + 1 = through-escaped name pairs in
-    ap (λ v. cond v (length (escaped b)) (length (escaped b) + length_through (is_special 34) others)) (escaped_inside b) ∙ (let sum : length (escaped b) + length_through (is_special 34) others ≡ length (escaped b ++ flat_map escaped name) + 1 = omega arith in sum)
+    let next : len_through (is_special 34) others ≡ length (flat_map escaped name) + 1 = through-escaped name pairs in
+    ap (λ v. cond v (length (escaped b)) (length (escaped b) + len_through (is_special 34) others)) (escaped_inside b) ∙ (let sum : length (escaped b) + len_through (is_special 34) others ≡ length (escaped b ++ flat_map escaped name) + 1 = omega arith in sum)
 
 -- how far a quoted name goes
 quoted_len-escaped : (name rest : List ℕ) → quoted_len (flat_map escaped name ++ 34 ∷ rest) ≡ length (flat_map escaped name) + 1
 quoted_len-escaped name rest =
-    ap (length_through (is_special 34)) (pairs-escaped name (34 ∷ rest) ∙ ap (λ l. map escaped name ++ l) (cut-cons pair_more 34 rest)) ∙ through-escaped name (pairs_of rest)
+    ap (len_through (is_special 34)) (pairs-escaped name (34 ∷ rest) ∙ ap (λ l. map escaped name ++ l) (cut-cons pair_more 34 rest)) ∙ through-escaped name (pairs_of rest)
 
 unquoted_pair-escaped : (b : ℕ) → unquoted_pair (escaped b) ≡ b ∷ []
 unquoted_pair-escaped b = elim (b == 34 || b == 92) as (λ v. (b == 34 || b == 92) ≡ v → unquoted_pair (cond v (92 ∷ b ∷ []) (b ∷ [])) ≡ b ∷ []) [

@@ -1,7 +1,7 @@
 -- The lines of a header (RFC 5322, section 2.1): those before the first empty one.
 use Rattle.std.specs.Prelude.{◌≡◌, ℕ, ◌+◌, ◌<◌, ◌≤◌, Bool, ◌==◌, not, List, ◌∷◌, length, take, drop}
 use Rattle.std.specs.List.{take_while}
-use Rattle.nm_text.specs.Cuts.{length_through}
+use Rattle.nm_text.specs.Cuts.{len_through}
 use Rattle.nm_text.specs.Lines.{content, lines_of}
 
 -- it has nothing but its end
@@ -14,7 +14,7 @@ header_lines bytes = take_while (λ line. not (is_empty_line line)) (lines_of by
 
 -- where the body begins: after the first empty line, or at the end
 abbrev pub rest_of : List ℕ → ℕ
-rest_of bytes = length_through is_empty_line (lines_of bytes)
+rest_of bytes = len_through is_empty_line (lines_of bytes)
 
 -- the first n bytes are a line of the header
 pub record BeginsWithLine (bytes : List ℕ) (n : ℕ) : Type 0 where

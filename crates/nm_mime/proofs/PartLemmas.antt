@@ -2,7 +2,7 @@
 use Rattle.std.proofs.Common.{◌≡◌, ℕ, ◌+◌, ◌-◌, ◌≤◌, Bool, true, false, cond, List, [], ◌∷◌, ◌++◌, Option, length, drop, refl, ap, subst, ◌∙◌, arith, length-drop, length-append, codes}
 use Rattle.std.specs.List.{concat}
 use Rattle.std.proofs.lemmas.List.{length-take-le}
-use Rattle.nm_text.specs.Cuts.{length_through}
+use Rattle.nm_text.specs.Cuts.{len_through}
 use Rattle.nm_header.specs.Fields.{header_of}
 use Rattle.nm_header.specs.HeaderLines.{is_empty_line, rest_of}
 use Rattle.nm_text.specs.Lines.{lines_of}
@@ -34,12 +34,12 @@ opening_made entity rest type disposition encoding params kind charset boundary 
     ap (λ x. made entity rest encoding x charset attached filename role boundary) ek ∙ ap (λ x. made entity rest encoding type.kind x attached filename role boundary) c ∙ ap (λ x. made entity rest encoding type.kind (value_of type.params (codes "charset")) x filename role boundary) ea ∙ ap (λ x. made entity rest encoding type.kind (value_of type.params (codes "charset")) (is_attachment disposition) x role boundary) f ∙ ap (λ x. made entity rest encoding type.kind (value_of type.params (codes "charset")) (is_attachment disposition) (filename_of disposition type.params) x boundary) r ∙ ap (λ x. made entity rest encoding type.kind (value_of type.params (codes "charset")) (is_attachment disposition) (filename_of disposition type.params) (role_of (is_attachment disposition) entity.signature entity.depth type.kind (boundary_of type) encoding) x) b
 
 -- ---- where the content begins
-through_short : (test : List ℕ → Bool) (lines : List (List ℕ)) → length_through test lines ≤ length (concat lines)
+through_short : (test : List ℕ → Bool) (lines : List (List ℕ)) → len_through test lines ≤ length (concat lines)
 through_short test [] = omega arith
 through_short test (line ∷ lines) =
     let more = through_short test lines in
     let long : length (line ++ concat lines) ≡ length line + length (concat lines) = length-append line (concat lines) in
-    elim (test line) as (λ v. cond v (length line) (length line + length_through test lines) ≤ length (line ++ concat lines)) [ true ↦ omega arith | false ↦ omega arith ]
+    elim (test line) as (λ v. cond v (length line) (length line + len_through test lines) ≤ length (line ++ concat lines)) [ true ↦ omega arith | false ↦ omega arith ]
 
 pub rest_short : (bytes : List ℕ) → rest_of bytes ≤ length bytes
 rest_short bytes = subst (λ n. rest_of bytes ≤ n) (lines_long bytes) (through_short is_empty_line (lines_of bytes))

@@ -7,7 +7,7 @@ ghost use Rattle.nm_shared.specs.Runs.{flat, HaveItems};
 ghost use Rattle.nm_shared.specs.Spot.{IsSpotOf};
 
 use crate::run::Run;
-use crate::runs::{cut_run, most_items};
+use crate::runs::{cut_run, max_items};
 use crate::search::{Spot, spot_of};
 use nm_base::Copies;
 
@@ -30,6 +30,6 @@ pub fn spot_with_room<K: Ord + Copies, V: Copies>(runs: &mut Vec<Run<(K, V)>>, k
 fn is_full<T>(runs: &[Run<T>], at: usize) -> bool {
     match runs.get(at) {
         None => false,
-        Some(run) => run.len() >= most_items(at, runs.len()),
+        Some(run) => run.len() >= max_items(at, runs.len()),
     }
 }

@@ -54,7 +54,7 @@ pub fn cut_run<T: Copies>(runs: &mut Vec<Run<T>>, at: usize) -> Result<(), NoMem
         return Ok(());
     };
     let items = run.as_slice();
-    if items.len() < most_items(at, runs.len()) {
+    if items.len() < max_items(at, runs.len()) {
         return Ok(());
     }
     let middle = middle_of(items.len(), at + 1 < runs.len());
@@ -66,7 +66,7 @@ pub fn cut_run<T: Copies>(runs: &mut Vec<Run<T>>, at: usize) -> Result<(), NoMem
 }
 
 /// How many items the run at `at` may have, of so many runs.
-pub fn most_items(at: usize, runs: usize) -> usize
+pub fn max_items(at: usize, runs: usize) -> usize
     ensures { 1 < result }
 {
     if runs < MANY_RUNS || at.saturating_add(1) < runs {

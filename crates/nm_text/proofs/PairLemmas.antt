@@ -4,7 +4,7 @@ use Rattle.std.specs.Prelude.{IsUtf8}
 use Rattle.std.specs.List.{flat_map}
 use Rattle.std.proofs.lemmas.Bool.{eqb-true, eqb-false}
 use Rattle.std.proofs.lemmas.List.{append-nil, length-take-le, take-append-drop}
-use Rattle.nm_text.specs.Cuts.{length_through}
+use Rattle.nm_text.specs.Cuts.{len_through}
 use Rattle.nm_text.specs.QuotedStrings.{is_special, pair_more, pairs_of, quoted_len, unquoted, unquoted_pair}
 use Rattle.nm_text.proofs.CutLemmas.{cut-cons, cut-nil}
 use Rattle.nm_text.proofs.Utf8Lemmas.{drop_ascii}
@@ -40,16 +40,16 @@ pair_escaped (b ∷ c ∷ text) h e =
     ] refl
 
 pub quoted-nil : quoted_len [] ≡ 0
-quoted-nil = ap (length_through (is_special 34)) (cut-nil pair_more)
+quoted-nil = ap (len_through (is_special 34)) (cut-nil pair_more)
 
 -- the first pair closes the quoted text, or it is one of it
 pub quoted_stop : (text : List ℕ) (n : ℕ) → pairs_of text ≡ take n text ∷ pairs_of (drop n text) → n ≤ length text → is_special 34 (take n text) ≡ true → quoted_len text ≡ n
 quoted_stop text n e within sign =
-    ap (length_through (is_special 34)) e ∙ ap (λ v. cond v (length (take n text)) (length (take n text) + quoted_len (drop n text))) sign ∙ length-take-le n text within
+    ap (len_through (is_special 34)) e ∙ ap (λ v. cond v (length (take n text)) (length (take n text) + quoted_len (drop n text))) sign ∙ length-take-le n text within
 
 pub quoted_on : (text : List ℕ) (n : ℕ) → pairs_of text ≡ take n text ∷ pairs_of (drop n text) → n ≤ length text → is_special 34 (take n text) ≡ false → quoted_len text ≡ n + quoted_len (drop n text)
 quoted_on text n e within sign =
-    ap (length_through (is_special 34)) e ∙ ap (λ v. cond v (length (take n text)) (length (take n text) + quoted_len (drop n text))) sign ∙ ap (λ k. k + quoted_len (drop n text)) (length-take-le n text within)
+    ap (len_through (is_special 34)) e ∙ ap (λ v. cond v (length (take n text)) (length (take n text) + quoted_len (drop n text))) sign ∙ ap (λ k. k + quoted_len (drop n text)) (length-take-le n text within)
 
 pub quoted_end : (text left : List ℕ) → (length left == 0) ≡ true → quoted_len text + length left ≡ quoted_len left + length text → length text ≡ quoted_len text
 quoted_end text [] e sum = let none : quoted_len [] ≡ 0 = quoted-nil in omega arith

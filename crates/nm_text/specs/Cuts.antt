@@ -16,6 +16,6 @@ unfoldable pub cut : (ℕ → List ℕ → ℕ) → List ℕ → List (List ℕ)
 cut more xs = cut_upto (length xs) more xs
 
 -- how many bytes stand in the lexemes up to the first that passes the test, and in that one
-abbrev pub length_through : (List ℕ → Bool) → List (List ℕ) → ℕ
-length_through test [] = 0
-length_through test (x ∷ xs) = if test x then length x else length x + length_through test xs
+abbrev pub len_through : (List ℕ → Bool) → List (List ℕ) → ℕ
+len_through test [] = 0
+len_through test (x ∷ xs) = if test x then length x else length x + len_through test xs

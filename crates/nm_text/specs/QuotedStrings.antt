@@ -2,7 +2,7 @@
 -- A pair is taken with the first byte of its character alone: the others of it are no specials.
 use Rattle.std.specs.Prelude.{ℕ, Bool, false, ◌==◌, List, [], ◌∷◌, if◌then◌else◌}
 use Rattle.std.specs.List.{flat_map}
-use Rattle.nm_text.specs.Cuts.{cut, length_through}
+use Rattle.nm_text.specs.Cuts.{cut, len_through}
 
 -- a `\` takes the next byte with it
 abbrev pub pair_more : ℕ → List ℕ → ℕ
@@ -20,7 +20,7 @@ is_special special (b ∷ c ∷ more) = false
 
 -- a quoted string goes on behind its `"` to the next `"`, or to the end
 abbrev pub quoted_len : List ℕ → ℕ
-quoted_len text = length_through (is_special 34) (pairs_of text)
+quoted_len text = len_through (is_special 34) (pairs_of text)
 
 -- a pair without its `\`; a `"` that is in no pair is nothing
 abbrev pub unquoted_pair : List ℕ → List ℕ
