@@ -6,7 +6,7 @@ use Rattle.std.specs.Str.Lines.{lines}
 use Rattle.nm_base.specs.declared.tag_op.TagOp.{TagOp}
 use Rattle.nm_query.specs.Answers.{answer_of}
 use Rattle.nm_query.specs.declared.query.Query.{Query}
-use Rattle.nm_tags.specs.TagLines.{judged}
+use Rattle.nm_tags.specs.TagLines.{classified}
 use Rattle.nm_tags.specs.declared.line_error.LineKind.{LineKind}
 use Rattle.nm_tags.specs.declared.line_error.LineKind.TheVariants as kinds
 use Rattle.nm_answer.specs.declared.tagging.Tagging.{Tagging}
@@ -46,7 +46,7 @@ tagging_by clear ops text = elim (line_query text) [ Ok query ↦ Ok (Some (reco
 
 -- what a line asks for, nothing where it is passed over, or its fault: its words come before its query
 abbrev pub tag_line : Bool → List ℕ → Result (Option Tagging) LineKind
-tag_line clear line = elim (judged clear line) [ Ok None ↦ Ok None | Ok (Some asked) ↦ tagging_by clear asked.0 asked.1 | Err kind ↦ Err kind ]
+tag_line clear line = elim (classified clear line) [ Ok None ↦ Ok None | Ok (Some asked) ↦ tagging_by clear asked.0 asked.1 | Err kind ↦ Err kind ]
 
 -- the changes of an input
 abbrev pub taggings_in : Bool → List ℕ → Result (List Tagging) (ℕ × LineKind)

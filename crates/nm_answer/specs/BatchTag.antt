@@ -22,13 +22,13 @@ unquoted (byte ∷ next ∷ more) =
     if byte == 34 then (if next == 34 then with_byte 34 (unquoted more) else None) else with_byte byte (unquoted (next ∷ more))
 
 -- the text as it is, unless it has a `)`
-abbrev pub plain : List ℕ → Option (List ℕ)
-plain text = if has_parenthesis text then None else Some text
+abbrev pub unencoded : List ℕ → Option (List ℕ)
+unencoded text = if has_parenthesis text then None else Some text
 
 -- the text of an id: in quotes, or as it is
 abbrev pub id_text : List ℕ → Option (List ℕ)
 id_text [] = None
-id_text (first ∷ more) = if first == 34 then unquoted more else plain (first ∷ more)
+id_text (first ∷ more) = if first == 34 then unquoted more else unencoded (first ∷ more)
 
 -- the text where it is an id
 abbrev pub checked_id : Option (List ℕ) → Option (List ℕ)

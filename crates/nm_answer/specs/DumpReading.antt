@@ -43,8 +43,8 @@ read_line BatchTag text = read_batch_tag text
 read_line Sup text = read_sup text
 
 -- what one line asks for, nothing where it is passed over, or its fault
-abbrev pub judged : DumpForm → List ℕ → Result (Option (List ℕ × List TagOp)) LineKind
-judged form line =
+abbrev pub classified : DumpForm → List ℕ → Result (Option (List ℕ × List TagOp)) LineKind
+classified form line =
     if not (is_utf8 line) then Err kinds.Utf8
     else (if is_passed_over line then Ok None
     else elim (read_line form line) [ Ok asked ↦ Ok (Some asked) | Err kind ↦ Err kind ])
@@ -59,7 +59,7 @@ then_lines number (Err kind) read = Err (number, kind)
 -- what the lines ask for, the first of them having this number, or the first fault with the number of its line
 abbrev pub read_lines : DumpForm → ℕ → List (List ℕ) → Result (List Wanted) (ℕ × LineKind)
 read_lines form number [] = Ok []
-read_lines form number (line ∷ more) = then_lines number (judged form line) (read_lines form (number + 1) more)
+read_lines form number (line ∷ more) = then_lines number (classified form line) (read_lines form (number + 1) more)
 
 -- lines are ended by LF or CR LF, and counted from 1
 abbrev pub read_dump : List ℕ → ReadForm → Result (List Wanted) (ℕ × LineKind)

@@ -8,7 +8,7 @@ use crate::lines::{LineReader, read_lines};
 use crate::queries::line_query;
 use nm_answer::Tagging;
 use nm_base::{Many, NoMemory, TagOp, Text};
-use nm_tags::{LineError, LineKind, judged};
+use nm_tags::{LineError, LineKind, classified};
 use std::alloc::Global;
 
 /// Reads the changes of tags of an input, each with the query that it is for. Empty lines and comments are passed over; the
@@ -36,7 +36,7 @@ impl LineReader for TagLines {
         alloc: Global,
         line: &[u8],
     ) -> Result<Result<Option<Tagging>, LineKind>, NoMemory> {
-        match judged(alloc, line, self.clear)? {
+        match classified(alloc, line, self.clear)? {
             Ok(None) => Ok(Ok(None)),
             Ok(Some((ops, text))) => tagging_by(alloc, self.clear, ops, &text),
             Err(kind) => Ok(Err(kind)),

@@ -23,7 +23,7 @@ use Rattle.nm_answer.specs.DumpReading.{is_passed_over, read_dump}
 use Rattle.nm_answer.specs.Sup.{inside, is_in_parentheses, read_sup, set_all, set_before, sup_asked, with_tags}
 use Rattle.nm_dump.proofs.ByteLemmas.{append_all, ascii_from_low, both, dark_inner, id_dark, is_dark, is_false, is_inner, weaker}
 use Rattle.nm_dump.proofs.TagLineLemmas.{after_is, first_is}
-use Rattle.nm_dump.proofs.WholeLemmas.{judged_by, messages_read, IsReadBack}
+use Rattle.nm_dump.proofs.WholeLemmas.{classified_by, messages_read, IsReadBack}
 
 -- ---- texts that begin with an id or a tag
 
@@ -205,7 +205,7 @@ sup_read_back [] h f = tt
 sup_read_back (message ∷ more) h f = (
   (
     sup_inner message.0 message.1 h.0.1 f.0.1,
-    judged_by Sup (sup_line message.0 message.1) (message.0, map set_tag message.1) (sup_text message.0 message.1 h.0.0 h.0.2) (sup_stays message.0 message.1 h.0.1 f.0.0)
+    classified_by Sup (sup_line message.0 message.1) (message.0, map set_tag message.1) (sup_text message.0 message.1 h.0.0 h.0.2) (sup_stays message.0 message.1 h.0.1 f.0.0)
         (sup_read message.0 message.1 h.0.0 h.0.1 h.0.2 f.0.1),
   ),
   sup_read_back more h.1 f.1,

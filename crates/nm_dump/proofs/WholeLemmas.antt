@@ -20,7 +20,7 @@ use Rattle.nm_tags.specs.declared.line_error.LineKind.TheVariants as kinds
 use Rattle.nm_answer.specs.Dump.{changes_line, doubled, dump_text, message_line, quoted, wants_quotes, written_id, written_tag}
 use Rattle.nm_dump.specs.Tags.{set_tag}
 use Rattle.nm_dump.specs.ReadBack.{wanted_from, AreMessages}
-use Rattle.nm_answer.specs.DumpReading.{begins_changes, is_passed_over, judged, read_dump, read_line, read_lines, then_lines, told_form}
+use Rattle.nm_answer.specs.DumpReading.{begins_changes, classified, is_passed_over, read_dump, read_line, read_lines, then_lines, told_form}
 use Rattle.nm_dump.proofs.ByteLemmas.{append_all, ascii_from_low, dark_inner, holds_at, is_dark, is_inner, is_low, parts_all, tag_dark, tag_low, weaker, written_id_dark}
 use Rattle.nm_dump.proofs.TagLineLemmas.{line_read, ReadsTags}
 
@@ -124,9 +124,9 @@ changes_tell id [] = refl
 changes_tell id (tag ∷ tags) = refl
 
 -- a text that is not passed over is judged by its form
-pub judged_by : (form : DumpForm) (line : List ℕ) (asked : List ℕ × List TagOp) → is_utf8 line ≡ true → is_passed_over line ≡ false → read_line form line ≡ Ok asked
-    → judged form line ≡ Ok (Some asked)
-judged_by form line asked text stays read =
+pub classified_by : (form : DumpForm) (line : List ℕ) (asked : List ℕ × List TagOp) → is_utf8 line ≡ true → is_passed_over line ≡ false → read_line form line ≡ Ok asked
+    → classified form line ≡ Ok (Some asked)
+classified_by form line asked text stays read =
     ap (λ b. cond (not b) (Err kinds.Utf8) (cond (is_passed_over line) (Ok None) (elim (read_line form line) [ Ok asked ↦ Ok (Some asked) | Err kind ↦ Err kind ]))) text
     ∙ (ap (λ b. cond b (Ok None) (elim (read_line form line) [ Ok asked ↦ Ok (Some asked) | Err kind ↦ Err kind ])) stays
     ∙ ap (λ (r : Result (List ℕ × List TagOp) LineKind). elim r [ Ok asked ↦ Ok (Some asked) | Err kind ↦ Err kind ]) read)
@@ -137,7 +137,7 @@ judged_by form line asked text stays read =
 abbrev pub IsReadBack : DumpForm → List ℕ × List (List ℕ) → Type 0
 IsReadBack form message =
     (list_all is_inner (message_line form message.0 message.1) ≡ true)
-    × (judged form (message_line form message.0 message.1) ≡ Ok (Some (message.0, map set_tag message.1)))
+    × (classified form (message_line form message.0 message.1) ≡ Ok (Some (message.0, map set_tag message.1)))
 
 changes_read_back : ReadsTags → (messages : List (List ℕ × List (List ℕ))) → AreMessages messages → AllByRecursion (IsReadBack BatchTag) messages
 changes_read_back reads [] h = tt
@@ -145,7 +145,7 @@ changes_read_back reads (message ∷ more) h =
     let line = changes_line message.0 message.1 in (
       (
         changes_inner message.0 message.1 h.0.1,
-        judged_by BatchTag line (message.0, map set_tag message.1) (changes_text message.0 message.1 h.0.0) (changes_stay message.0 message.1) (line_read reads message.0 message.1 h.0.0 h.0.1 h.0.2),
+        classified_by BatchTag line (message.0, map set_tag message.1) (changes_text message.0 message.1 h.0.0) (changes_stay message.0 message.1) (line_read reads message.0 message.1 h.0.0 h.0.1 h.0.2),
       ),
       changes_read_back reads more h.1,
     )

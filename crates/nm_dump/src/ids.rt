@@ -2,7 +2,7 @@
 
 ghost use Rattle.std.specs.Prelude.{◌≡◌, ◌<◌, [], length, IfOk, IfSome, MatchOption, None, Some};
 ghost use Rattle.nm_answer.specs.Dump.{has_parenthesis};
-ghost use Rattle.nm_answer.specs.BatchTag.{checked_id, id_of_query, id_text, plain, unquoted, with_byte};
+ghost use Rattle.nm_answer.specs.BatchTag.{checked_id, id_of_query, id_text, unencoded, unquoted, with_byte};
 
 use nm_base::{Many, MessageId, NoMemory, Text};
 use nm_tags::text_of;
@@ -41,12 +41,12 @@ fn id_text(alloc: Global, bytes: &[u8]) -> Result<Option<Many<u8>>, NoMemory>
     match bytes {
         [] => Ok(None),
         [b'"', more @ ..] => unquoted(alloc, more),
-        _ => plain(alloc, bytes),
+        _ => unencoded(alloc, bytes),
     }
 }
 
-fn plain(alloc: Global, bytes: &[u8]) -> Result<Option<Many<u8>>, NoMemory>
-    ensures { IfOk result (λ text. text ≡ plain bytes.now) }
+fn unencoded(alloc: Global, bytes: &[u8]) -> Result<Option<Many<u8>>, NoMemory>
+    ensures { IfOk result (λ text. text ≡ unencoded bytes.now) }
 {
     if has_parenthesis(bytes) {
         return Ok(None);

@@ -3,7 +3,7 @@
 ghost use Rattle.std.specs.Prelude.{◌≡◌, ◌+◌, ◌<◌, [], ◌∷◌, length, IfOk, MatchOption, MatchResult, Ok, Err, if◌then◌else◌};
 ghost use Rattle.std.specs.Str.Lines.{lines};
 ghost use Rattle.nm_answer.specs.BatchTag.{read_batch_tag};
-ghost use Rattle.nm_answer.specs.DumpReading.{begins_changes, form_of, is_passed_over, judged, read_dump, read_line, told_form, IsDumpFault};
+ghost use Rattle.nm_answer.specs.DumpReading.{begins_changes, classified, form_of, is_passed_over, read_dump, read_line, told_form, IsDumpFault};
 
 use crate::ids::id_of_query;
 use crate::sup::read_sup;
@@ -25,7 +25,7 @@ pub fn read_dump(alloc: Global, bytes: &[u8], form: ReadForm) -> Result<Many<Wan
     'lines: while let Some((line, more)) = next_content(rest) {
         number = next_number(number)?;
         rest = more;
-        match judge(alloc, line, form)? {
+        match classified(alloc, line, form)? {
             Ok(None) => {}
             Ok(Some((id, ops))) => read.push(Wanted {
                 line: number,
@@ -106,12 +106,12 @@ fn is_passed_over(line: &[u8]) -> bool
 }
 
 /// What the line asks for, nothing where it is passed over, or its fault.
-fn judge(
+fn classified(
     alloc: Global,
     line: &[u8],
     form: DumpForm,
 ) -> Result<Result<Option<(MessageId, Many<TagOp>)>, LineKind>, NoMemory>
-    ensures { IfOk result (λ answer. answer ≡ judged form line.now) }
+    ensures { IfOk result (λ answer. answer ≡ classified form line.now) }
 {
     let Some(text) = text_of(line) else {
         return Ok(Err(LineKind::Utf8));

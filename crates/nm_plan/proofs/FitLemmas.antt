@@ -18,7 +18,7 @@ use Rattle.nm_answer.specs.NewText.{gone}
 use Rattle.nm_index.specs.Fits.{FitInTurn}
 use Rattle.nm_answer.specs.View.{tags_of}
 use Rattle.nm_plan.specs.NameTags.{commit_of, follow_names, live_of, named_tags, set_tags}
-use Rattle.nm_plan.specs.Plan.{AreArrivals, add_of, all_arrivals, batch_commit, batch_commits, drop_of, gone_commit, gone_files, message_ids, new_commits}
+use Rattle.nm_plan.specs.Plan.{AreAdded, add_of, all_added, batch_commit, batch_commits, drop_of, message_ids, new_commits, removed_commit, removed_files}
 use Rattle.std.specs.List.Sorted.{IsStrictlySortedBy}
 use Rattle.nm_plan.proofs.FoldLemmas.{batch-files, new-files, next-files}
 use Rattle.nm_plan.proofs.OrderLemmas.{IsSorted-sorted}
@@ -96,12 +96,12 @@ not_there files file path none other =
     ∙ (ap (λ b. b || (same_text path file.0 || false)) none ∙ ap (λ b. b || false) (nat_list_eq_equiv.symm path file.0 ∙ other)))
 
 -- what has come lies where none lay
-fit-adds : (files arrivals : List (List ℕ × Facts)) → IsApart (paths_of arrivals) → AllByRecursion (λ path. has_path files path ≡ false) (paths_of arrivals) → AllByRecursion (λ arrival. IsDate arrival.1.date) arrivals → FitChanges files (map add_of arrivals)
+fit-adds : (files added : List (List ℕ × Facts)) → IsApart (paths_of added) → AllByRecursion (λ path. has_path files path ≡ false) (paths_of added) → AllByRecursion (λ arrival. IsDate arrival.1.date) added → FitChanges files (map add_of added)
 fit-adds files [] apart none dated = tt
-fit-adds files (arrival ∷ arrivals) apart none dated = (
+fit-adds files (arrival ∷ added) apart none dated = (
   (none.0, dated.0),
-  fit-adds (files ++ (arrival.0, arrival.1) ∷ []) arrivals apart.1
-      (every-both (λ path. has_path files path ≡ false) (λ path. same_text arrival.0 path ≡ false) (λ path. has_path (files ++ arrival ∷ []) path ≡ false) (paths_of arrivals) (λ path. not_there files arrival path) none.1 apart.0) dated.1,
+  fit-adds (files ++ (arrival.0, arrival.1) ∷ []) added apart.1
+      (every-both (λ path. has_path files path ≡ false) (λ path. same_text arrival.0 path ≡ false) (λ path. has_path (files ++ arrival ∷ []) path ≡ false) (paths_of added) (λ path. not_there files arrival path) none.1 apart.0) dated.1,
 )
 
 paths-cond : (b : Bool) (file : List ℕ × Facts) (files : List (List ℕ × Facts)) → paths_of (cond b (file ∷ files) files) ≡ cond b (file.0 ∷ paths_of files) (paths_of files)
@@ -200,32 +200,32 @@ fit-back files (change ∷ changes) more h = fit-back (changed files change) cha
 
 -- so the commits of batches fit where all their mails do
 fit-batches : (follow : (index : Base) (commits : List Commit) → (folded index commits).files ≡ files_after index.files commits) (index : Base) (batches : List (List (List ℕ × Facts)))
-    → FitChanges index.files (map add_of (all_arrivals batches)) → FitInTurn index (batch_commits index batches)
+    → FitChanges index.files (map add_of (all_added batches)) → FitInTurn index (batch_commits index batches)
 fit-batches follow index [] h = tt
-fit-batches follow index (arrivals ∷ batches) h =
-    let adds : List Change = map add_of arrivals in
-    let more : List Change = map add_of (all_arrivals batches) in
-    let next : Base = folded index (batch_commit index arrivals) in
-    let both : FitChanges index.files (adds ++ more) = subst (FitChanges index.files) (map-append add_of arrivals (all_arrivals batches)) h in
-    fit-append index (batch_commit index arrivals) (batch_commits next batches) (fit-commit follow index adds (message_ids arrivals) (fit-front index.files adds more both))
-    (fit-batches follow next batches (subst (λ (files : List (List ℕ × Facts)). FitChanges files more) (sym (next-files follow index arrivals)) (fit-back index.files adds more both)))
+fit-batches follow index (added ∷ batches) h =
+    let adds : List Change = map add_of added in
+    let more : List Change = map add_of (all_added batches) in
+    let next : Base = folded index (batch_commit index added) in
+    let both : FitChanges index.files (adds ++ more) = subst (FitChanges index.files) (map-append add_of added (all_added batches)) h in
+    fit-append index (batch_commit index added) (batch_commits next batches) (fit-commit follow index adds (message_ids added) (fit-front index.files adds more both))
+    (fit-batches follow next batches (subst (λ (files : List (List ℕ × Facts)). FitChanges files more) (sym (next-files follow index added)) (fit-back index.files adds more both)))
 
 -- the commits of a `new` fit, one after the other
 pub fit-new : (follow : (index : Base) (commits : List Commit) → (folded index commits).files ≡ files_after index.files commits) (index : Base) (listed : List (List ℕ)) (batches : List (List (List ℕ × Facts)))
-    → AreArrivals index.files (all_arrivals batches) → FitInTurn index (new_commits index listed batches)
+    → AreAdded index.files (all_added batches) → FitInTurn index (new_commits index listed batches)
 fit-new follow index listed batches are =
-    let arrivals : List (List ℕ × Facts) = all_arrivals batches in
+    let added : List (List ℕ × Facts) = all_added batches in
     let paths : List (List ℕ) = sorted (paths_of index.files) in
     let made : Base = folded index (batch_commits index batches) in
-    let adds_fit : FitChanges index.files (map add_of arrivals) = fit-adds index.files arrivals (apart-once (paths_of arrivals) are.once) are.fresh are.dated in
-    let there : (path : List ℕ) → has_text paths path ≡ true → has_path (index.files ++ arrivals) path ≡ true =
-    λ path h. ap (λ (l : List (List ℕ)). has_text l path) (paths-append index.files arrivals) ∙ (has_text-append (paths_of index.files) (paths_of arrivals) path
-    ∙ ap (λ b. b || has_text (paths_of arrivals) path) (sym (has_text-sorted (paths_of index.files) path) ∙ h)) in
-    let drops_fit : FitChanges (index.files ++ arrivals) (map drop_of (gone index.files listed)) = fit-drops (index.files ++ arrivals) (gone index.files listed)
+    let adds_fit : FitChanges index.files (map add_of added) = fit-adds index.files added (apart-once (paths_of added) are.once) are.fresh are.dated in
+    let there : (path : List ℕ) → has_text paths path ≡ true → has_path (index.files ++ added) path ≡ true =
+    λ path h. ap (λ (l : List (List ℕ)). has_text l path) (paths-append index.files added) ∙ (has_text-append (paths_of index.files) (paths_of added) path
+    ∙ ap (λ b. b || has_text (paths_of added) path) (sym (has_text-sorted (paths_of index.files) path) ∙ h)) in
+    let drops_fit : FitChanges (index.files ++ added) (map drop_of (gone index.files listed)) = fit-drops (index.files ++ added) (gone index.files listed)
     (apart-filter (λ path. not (has_text listed path)) paths (apart-rising paths (IsSorted-sorted (paths_of index.files))))
-    (every-filter _ (λ path. not (has_text listed path)) paths (every-map (λ path. has_text paths path ≡ true) (λ path. has_path (index.files ++ arrivals) path ≡ true) paths there (every-in paths))) in
-    fit-append index (batch_commits index batches) (gone_commit made index.files listed) (fit-batches follow index batches adds_fit)
-    (fit-commit follow made (map drop_of (gone index.files listed)) (message_ids (gone_files index.files listed))
+    (every-filter _ (λ path. not (has_text listed path)) paths (every-map (λ path. has_text paths path ≡ true) (λ path. has_path (index.files ++ added) path ≡ true) paths there (every-in paths))) in
+    fit-append index (batch_commits index batches) (removed_commit made index.files listed) (fit-batches follow index batches adds_fit)
+    (fit-commit follow made (map drop_of (gone index.files listed)) (message_ids (removed_files index.files listed))
     (subst (λ (files : List (List ℕ × Facts)). FitChanges files (map drop_of (gone index.files listed))) (sym (follow index (batch_commits index batches) ∙ batch-files follow index batches)) drops_fit))
 
 -- one of the texts that are all listed is listed
@@ -249,15 +249,15 @@ truth-table false false false h = refl
 
 -- after a `new` a file is there where it was listed, and was there before or has come
 pub left-listed : (follow : (index : Base) (commits : List Commit) → (folded index commits).files ≡ files_after index.files commits) (index : Base) (listed : List (List ℕ)) (batches : List (List (List ℕ × Facts))) (path : List ℕ)
-    → AllByRecursion (λ arrived. IsTrue (has_text listed arrived)) (paths_of (all_arrivals batches))
-    → has_path (folded index (new_commits index listed batches)).files path ≡ (has_text listed path && (has_path index.files path || has_path (all_arrivals batches) path))
+    → AllByRecursion (λ arrived. IsTrue (has_text listed arrived)) (paths_of (all_added batches))
+    → has_path (folded index (new_commits index listed batches)).files path ≡ (has_text listed path && (has_path index.files path || has_path (all_added batches) path))
 left-listed follow index listed batches path all =
-    let arrivals : List (List ℕ × Facts) = all_arrivals batches in
+    let added : List (List ℕ × Facts) = all_added batches in
     let gone_paths : List (List ℕ) = gone index.files listed in
     ap (λ (files : List (List ℕ × Facts)). has_path files path) (follow index (new_commits index listed batches) ∙ new-files follow index listed batches)
-    ∙ (ap (λ (l : List (List ℕ)). has_text l path) (paths-filter (λ p. not (has_text gone_paths p)) (index.files ++ arrivals))
-    ∙ (has_text-filter (λ p. not (has_text gone_paths p)) (paths_of (index.files ++ arrivals)) path
-    ∙ (ap (λ b. b && not (has_text gone_paths path)) (ap (λ (l : List (List ℕ)). has_text l path) (paths-append index.files arrivals) ∙ has_text-append (paths_of index.files) (paths_of arrivals) path)
-    ∙ (ap (λ b. (has_path index.files path || has_path arrivals path) && not b)
+    ∙ (ap (λ (l : List (List ℕ)). has_text l path) (paths-filter (λ p. not (has_text gone_paths p)) (index.files ++ added))
+    ∙ (has_text-filter (λ p. not (has_text gone_paths p)) (paths_of (index.files ++ added)) path
+    ∙ (ap (λ b. b && not (has_text gone_paths path)) (ap (λ (l : List (List ℕ)). has_text l path) (paths-append index.files added) ∙ has_text-append (paths_of index.files) (paths_of added) path)
+    ∙ (ap (λ b. (has_path index.files path || has_path added path) && not b)
     (has_text-filter (λ p. not (has_text listed p)) (sorted (paths_of index.files)) path ∙ ap (λ b. b && not (has_text listed path)) (has_text-sorted (paths_of index.files) path))
-    ∙ truth-table (has_text listed path) (has_path index.files path) (has_path arrivals path) (listed-arrival listed (paths_of arrivals) path all)))))
+    ∙ truth-table (has_text listed path) (has_path index.files path) (has_path added path) (listed-arrival listed (paths_of added) path all)))))

@@ -13,12 +13,12 @@ use Rattle.nm_index.specs.Index.{applied, folded}
 use Rattle.nm_index.specs.declared.base.Base.{Base}
 use Rattle.nm_answer.specs.View.{tags_of}
 use Rattle.nm_plan.specs.NameTags.{commit_of, follow_names, live_of, named_tags, set_tags}
-use Rattle.nm_plan.specs.Plan.{add_of, all_arrivals, batch_commit, batch_commits, drop_of, files_after_new, gone_commit, gone_files, message_ids, new_commits}
+use Rattle.nm_plan.specs.Plan.{add_of, all_added, batch_commit, batch_commits, drop_of, files_after_new, message_ids, new_commits, removed_commit, removed_files}
 
 -- what has come, one by one
-pub fold-adds : (files arrivals : List (List ℕ × Facts)) → fold changed files (map add_of arrivals) ≡ files ++ arrivals
+pub fold-adds : (files added : List (List ℕ × Facts)) → fold changed files (map add_of added) ≡ files ++ added
 fold-adds files [] = sym (append-nil files)
-fold-adds files (arrival ∷ arrivals) = fold-adds (files ++ (arrival.0, arrival.1) ∷ []) arrivals ∙ append_assoc files (arrival ∷ []) arrivals
+fold-adds files (arrival ∷ added) = fold-adds (files ++ (arrival.0, arrival.1) ∷ []) added ∙ append_assoc files (arrival ∷ []) added
 
 -- two filters one after the other
 filter-cond : (b c : Bool) (file : List ℕ × Facts) (p q : List ℕ × Facts → Bool) (rest : List (List ℕ × Facts)) → p file ≡ b → q file ≡ c
@@ -71,26 +71,26 @@ commit_of-files index (change ∷ changes) ids =
 
 module _ (follow : (index : Base) (commits : List Commit) → (folded index commits).files ≡ files_after index.files commits) where
   -- the files after the commit of a batch
-  pub next-files : (index : Base) (arrivals : List (List ℕ × Facts)) → (folded index (batch_commit index arrivals)).files ≡ fold changed index.files (map add_of arrivals)
-  next-files index arrivals = follow index (batch_commit index arrivals) ∙ commit_of-files index (map add_of arrivals) (message_ids arrivals)
+  pub next-files : (index : Base) (added : List (List ℕ × Facts)) → (folded index (batch_commit index added)).files ≡ fold changed index.files (map add_of added)
+  next-files index added = follow index (batch_commit index added) ∙ commit_of-files index (map add_of added) (message_ids added)
 
   -- the files after the commits of the batches
-  pub batch-files : (index : Base) (batches : List (List (List ℕ × Facts))) → files_after index.files (batch_commits index batches) ≡ index.files ++ all_arrivals batches
+  pub batch-files : (index : Base) (batches : List (List (List ℕ × Facts))) → files_after index.files (batch_commits index batches) ≡ index.files ++ all_added batches
   batch-files index [] = sym (append-nil index.files)
-  batch-files index (arrivals ∷ batches) =
-      let next : Base = folded index (batch_commit index arrivals) in
-      fold-append files_with index.files (batch_commit index arrivals) (batch_commits next batches)
-      ∙ (ap (λ (l : List (List ℕ × Facts)). files_after l (batch_commits next batches)) (sym (follow index (batch_commit index arrivals)))
+  batch-files index (added ∷ batches) =
+      let next : Base = folded index (batch_commit index added) in
+      fold-append files_with index.files (batch_commit index added) (batch_commits next batches)
+      ∙ (ap (λ (l : List (List ℕ × Facts)). files_after l (batch_commits next batches)) (sym (follow index (batch_commit index added)))
       ∙ (batch-files next batches
-      ∙ (ap (λ (l : List (List ℕ × Facts)). l ++ all_arrivals batches) (next-files index arrivals ∙ fold-adds index.files arrivals) ∙ append_assoc index.files arrivals (all_arrivals batches))))
+      ∙ (ap (λ (l : List (List ℕ × Facts)). l ++ all_added batches) (next-files index added ∙ fold-adds index.files added) ∙ append_assoc index.files added (all_added batches))))
 
   -- the files after a `new`
-  pub new-files : (index : Base) (listed : List (List ℕ)) (batches : List (List (List ℕ × Facts))) → files_after index.files (new_commits index listed batches) ≡ files_after_new index.files listed (all_arrivals batches)
+  pub new-files : (index : Base) (listed : List (List ℕ)) (batches : List (List (List ℕ × Facts))) → files_after index.files (new_commits index listed batches) ≡ files_after_new index.files listed (all_added batches)
   new-files index listed batches =
       let drops = map drop_of (gone index.files listed) in
       let made : Base = folded index (batch_commits index batches) in
-      fold-append files_with index.files (batch_commits index batches) (gone_commit made index.files listed)
-      ∙ (ap (λ (l : List (List ℕ × Facts)). files_after l (gone_commit made index.files listed)) (sym (follow index (batch_commits index batches)))
-      ∙ (commit_of-files made drops (message_ids (gone_files index.files listed))
+      fold-append files_with index.files (batch_commits index batches) (removed_commit made index.files listed)
+      ∙ (ap (λ (l : List (List ℕ × Facts)). files_after l (removed_commit made index.files listed)) (sym (follow index (batch_commits index batches)))
+      ∙ (commit_of-files made drops (message_ids (removed_files index.files listed))
       ∙ (ap (λ (l : List (List ℕ × Facts)). fold changed l drops) (follow index (batch_commits index batches) ∙ batch-files index batches)
-      ∙ fold-drops (index.files ++ all_arrivals batches) (gone index.files listed))))
+      ∙ fold-drops (index.files ++ all_added batches) (gone index.files listed))))

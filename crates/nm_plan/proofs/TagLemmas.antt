@@ -161,14 +161,14 @@ module _ (others : (index : Base) (id other : List ℕ) (tags : Texts) → same_
       let mid : Base = fold with_entry index (facts.id ∷ facts.links) in
       other-by (has_id mid.files facts.id) mid facts.id id (first_tags facts.marks) apart ∙ ap (λ (t : Tagged). unwrap_or (lookup (is_at (slice_cmp nat_cmp id)) t) []) (entries-tags (facts.id ∷ facts.links) index)
 
-  adds-tags : (arrivals : List (List ℕ × Facts)) (index : Base) (id : List ℕ) → has_id arrivals id ≡ false → tags_of (fold applied index (map add_of arrivals)) id ≡ tags_of index id
+  adds-tags : (added : List (List ℕ × Facts)) (index : Base) (id : List ℕ) → has_id added id ≡ false → tags_of (fold applied index (map add_of added)) id ≡ tags_of index id
   adds-tags [] index id none = refl
-  adds-tags (arrival ∷ arrivals) index id none =
-      let apart = neither (same_text id arrival.1.id) (has_id arrivals id) none in
-      adds-tags arrivals (with_mail index arrival.0 arrival.1) id apart.1 ∙ mail-tags index arrival.0 arrival.1 id apart.0
+  adds-tags (arrival ∷ added) index id none =
+      let apart = neither (same_text id arrival.1.id) (has_id added id) none in
+      adds-tags added (with_mail index arrival.0 arrival.1) id apart.1 ∙ mail-tags index arrival.0 arrival.1 id apart.0
 
   -- so what has come leaves the tags of all other messages
-  pub batch-tags : (index : Base) (arrivals : List (List ℕ × Facts)) (id : List ℕ) → has_id arrivals id ≡ false → tags_of (folded index (commit_of index (map add_of arrivals) (map (λ file. file.1.id) arrivals))) id ≡ tags_of index id
+  pub batch-tags : (index : Base) (added : List (List ℕ × Facts)) (id : List ℕ) → has_id added id ≡ false → tags_of (folded index (commit_of index (map add_of added) (map (λ file. file.1.id) added))) id ≡ tags_of index id
   batch-tags index [] id none = refl
-  batch-tags index (arrival ∷ arrivals) id none =
-      tags-stay index (add_of arrival) (map add_of arrivals) (map (λ file. file.1.id) (arrival ∷ arrivals)) id none ∙ adds-tags (arrival ∷ arrivals) index id none
+  batch-tags index (arrival ∷ added) id none =
+      tags-stay index (add_of arrival) (map add_of added) (map (λ file. file.1.id) (arrival ∷ added)) id none ∙ adds-tags (arrival ∷ added) index id none

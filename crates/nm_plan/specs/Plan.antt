@@ -34,29 +34,29 @@ abbrev pub message_ids : List (List ℕ × Facts) → List (List ℕ)
 message_ids files = map (λ file. file.1.id) files
 
 -- the files that are not listed any more
-abbrev pub gone_files : List (List ℕ × Facts) → List (List ℕ) → List (List ℕ × Facts)
-gone_files files listed = filter (λ file. not (has_text listed file.0)) files
+abbrev pub removed_files : List (List ℕ × Facts) → List (List ℕ) → List (List ℕ × Facts)
+removed_files files listed = filter (λ file. not (has_text listed file.0)) files
 
 -- The commit of the mails that a batch found, where it found some: they come, and their messages get the tags that names say.
 abbrev pub batch_commit : Base → List (List ℕ × Facts) → List Commit
-batch_commit index arrivals = commit_of index (map add_of arrivals) (message_ids arrivals)
+batch_commit index added = commit_of index (map add_of added) (message_ids added)
 
 -- The commit of what isn't listed any more of these files, where there is something: it goes, and so do tags by names.
-abbrev pub gone_commit : Base → List (List ℕ × Facts) → List (List ℕ) → List Commit
-gone_commit index files listed = commit_of index (map drop_of (gone files listed)) (message_ids (gone_files files listed))
+abbrev pub removed_commit : Base → List (List ℕ × Facts) → List (List ℕ) → List Commit
+removed_commit index files listed = commit_of index (map drop_of (gone files listed)) (message_ids (removed_files files listed))
 
 -- one commit after the other for each batch in which mails were found
 abbrev pub batch_commits : Base → List (List (List ℕ × Facts)) → List Commit
 batch_commits index [] = []
-batch_commits index (arrivals ∷ batches) = batch_commit index arrivals ++ batch_commits (folded index (batch_commit index arrivals)) batches
+batch_commits index (added ∷ batches) = batch_commit index added ++ batch_commits (folded index (batch_commit index added)) batches
 
 -- the mails of all batches
-abbrev pub all_arrivals : List (List (List ℕ × Facts)) → List (List ℕ × Facts)
-all_arrivals batches = flat_map (λ arrivals. arrivals) batches
+abbrev pub all_added : List (List (List ℕ × Facts)) → List (List ℕ × Facts)
+all_added batches = flat_map (λ added. added) batches
 
 -- the commits of the mails that were found, batch by batch, and then that of what isn't listed any more
 abbrev pub new_commits : Base → List (List ℕ) → List (List (List ℕ × Facts)) → List Commit
-new_commits index listed batches = batch_commits index batches ++ gone_commit (folded index (batch_commits index batches)) index.files listed
+new_commits index listed batches = batch_commits index batches ++ removed_commit (folded index (batch_commits index batches)) index.files listed
 
 -- The commits that are due while these paths are left to read: nothing is removed before all are read.
 abbrev pub commits_so_far : Base → List (List ℕ) → List (List (List ℕ × Facts)) → List (List ℕ) → List Commit
@@ -78,10 +78,10 @@ due_commits (Restore ask) input moment index noted batches left = tag_commits in
 
 -- the files after a `new`: what has come stands behind what was there, and what is gone is away
 abbrev pub files_after_new : List (List ℕ × Facts) → List (List ℕ) → List (List ℕ × Facts) → List (List ℕ × Facts)
-files_after_new files listed arrivals = filter (λ file. not (has_text (gone files listed) file.0)) (files ++ arrivals)
+files_after_new files listed added = filter (λ file. not (has_text (gone files listed) file.0)) (files ++ added)
 
 -- Mails that have come: no two at one path, none where the index has a file, each with a date in the range.
-pub record AreArrivals (files arrivals : List (List ℕ × Facts)) : Type 0 where
-  pub once : IsDistinct same_text (paths_of arrivals)
-  pub fresh : AllByRecursion (λ path. has_path files path ≡ false) (paths_of arrivals)
-  pub dated : AllByRecursion (λ arrival. IsDate arrival.1.date) arrivals
+pub record AreAdded (files added : List (List ℕ × Facts)) : Type 0 where
+  pub once : IsDistinct same_text (paths_of added)
+  pub fresh : AllByRecursion (λ path. has_path files path ≡ false) (paths_of added)
+  pub dated : AllByRecursion (λ arrival. IsDate arrival.1.date) added

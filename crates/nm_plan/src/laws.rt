@@ -14,14 +14,14 @@ ghost use Rattle.nm_plan.specs.Apart.{AreApart};
 ghost use Rattle.nm_plan.specs.Numbering.{AreNumbered};
 ghost use Rattle.nm_answer.specs.View.{tags_of};
 ghost use Rattle.nm_plan.specs.NameTags.{commit_of, live_of, named_tags};
-ghost use Rattle.nm_plan.specs.Plan.{AreArrivals, all_arrivals, batch_commit, batch_commits, files_after_new, new_commits};
+ghost use Rattle.nm_plan.specs.Plan.{AreAdded, all_added, batch_commit, batch_commits, files_after_new, new_commits};
 
 use nm_index::{files_follow_their_commits, tags_of_others_stay};
 
 /// The commits of `new` fit the index, one after the other.
 pub fn new_commits_fit()
     ensures { (index : Base) (listed : List (List ℕ)) (batches : List (List (List ℕ × Facts)))
-        → AreArrivals index.files (all_arrivals batches) → FitInTurn index (new_commits index listed batches) }
+        → AreAdded index.files (all_added batches) → FitInTurn index (new_commits index listed batches) }
 {
     files_follow_their_commits();
 }
@@ -29,7 +29,7 @@ pub fn new_commits_fit()
 /// However the mails are parted into batches, what has come stands behind what was there, and what is gone is away.
 pub fn the_files_after_new()
     ensures { (index : Base) (listed : List (List ℕ)) (batches : List (List (List ℕ × Facts)))
-        → (folded index (new_commits index listed batches)).files ≡ files_after_new index.files listed (all_arrivals batches) }
+        → (folded index (new_commits index listed batches)).files ≡ files_after_new index.files listed (all_added batches) }
 {
     files_follow_their_commits();
 }
@@ -37,7 +37,7 @@ pub fn the_files_after_new()
 /// And before what is gone is away, the files are those that were there and those of the batches.
 pub fn the_files_after_batches()
     ensures { (index : Base) (batches : List (List (List ℕ × Facts)))
-        → (folded index (batch_commits index batches)).files ≡ index.files ++ all_arrivals batches }
+        → (folded index (batch_commits index batches)).files ≡ index.files ++ all_added batches }
 {
     files_follow_their_commits();
 }
@@ -45,9 +45,9 @@ pub fn the_files_after_batches()
 /// After a `new` a file is in the index where it was listed and either was there or has come.
 pub fn new_leaves_what_is_listed()
     ensures { (index : Base) (listed : List (List ℕ)) (batches : List (List (List ℕ × Facts))) (path : List ℕ)
-        → AllByRecursion (λ arrived. IsTrue (has_text listed arrived)) (paths_of (all_arrivals batches))
+        → AllByRecursion (λ arrived. IsTrue (has_text listed arrived)) (paths_of (all_added batches))
         → has_path (folded index (new_commits index listed batches)).files path
-        ≡ (has_text listed path && (has_path index.files path || has_path (all_arrivals batches) path)) }
+        ≡ (has_text listed path && (has_path index.files path || has_path (all_added batches) path)) }
 {
     files_follow_their_commits();
 }
@@ -74,8 +74,8 @@ pub fn tags_follow_the_names()
         → tags_of (folded index (commit_of index (change ∷ changes) ids)) id ≡ named_tags (fold applied index (change ∷ changes)) id }
     ensures others { (index : Base) (change : Change) (changes : List Change) (ids : List (List ℕ)) (id : List ℕ) → has_text ids id ≡ false
         → tags_of (folded index (commit_of index (change ∷ changes) ids)) id ≡ tags_of (fold applied index (change ∷ changes)) id }
-    ensures arrivals { (index : Base) (arrivals : List (List ℕ × Facts)) (id : List ℕ) → has_id arrivals id ≡ false
-        → tags_of (folded index (batch_commit index arrivals)) id ≡ tags_of index id }
+    ensures added { (index : Base) (added : List (List ℕ × Facts)) (id : List ℕ) → has_id added id ≡ false
+        → tags_of (folded index (batch_commit index added)) id ≡ tags_of index id }
 {
     tags_of_others_stay();
 }

@@ -15,10 +15,10 @@ abbrev IsBegun : Option Tree → List (List ℕ) → ℕ → Type 0
 IsBegun tree read bytes = ((read ≡ []) × (bytes ≡ full_bytes)) ⊎ ((before : List (List ℕ)) × (last : List ℕ) × (read ≡ before ++ last ∷ []) × IsOpen tree before)
 
 -- A batch goes on: the first of the paths were read, and so many answers and bytes lack until it is full.
-pub record InBatch (old now : ObservedMail) (old_noted noted : List Given) (paths rest : List (List ℕ)) (arrivals : List (List ℕ × Facts)) (answers bytes : ℕ) : Type 0 where
+pub record InBatch (old now : ObservedMail) (old_noted noted : List Given) (paths rest : List (List ℕ)) (added : List (List ℕ × Facts)) (answers bytes : ℕ) : Type 0 where
   pub read : List (List ℕ)
   pub paths_are : paths ≡ read ++ rest
-  pub all : HasReadAll old now old_noted noted read arrivals
+  pub all : HasReadAll old now old_noted noted read added
   pub answers_left : answers + length read ≡ full_answers
   pub bytes_left : IfSome old.tree (λ t. bytes ≡ full_bytes - len_at_all t read)
   pub begun : IsBegun old.tree read bytes
@@ -52,18 +52,18 @@ large-by None read bytes none left = tt
 large-by (Some t) read bytes none left = omega (arith, none, left)
 
 -- it begins
-pub in_batch : (mail : ObservedMail) (noted : List Given) (paths : List (List ℕ)) (arrivals : List (List ℕ × Facts)) (answers bytes : ℕ) → arrivals ≡ [] → answers ≡ full_answers → bytes ≡ full_bytes
-    → InBatch mail mail noted noted paths paths arrivals answers bytes
-in_batch mail noted paths arrivals answers bytes none many all = record {
+pub in_batch : (mail : ObservedMail) (noted : List Given) (paths : List (List ℕ)) (added : List (List ℕ × Facts)) (answers bytes : ℕ) → added ≡ [] → answers ≡ full_answers → bytes ≡ full_bytes
+    → InBatch mail mail noted noted paths paths added answers bytes
+in_batch mail noted paths added answers bytes none many all = record {
   read = [];
   paths_are = refl;
-  all = begun_read mail noted arrivals none;
+  all = begun_read mail noted added none;
   answers_left = omega (arith, many);
   bytes_left = all_bytes mail.tree bytes all;
   begun = inl (refl, all);
 }
 
-module _ (m0 m1 : ObservedMail) (n0 n1 : List Given) (paths rest : List (List ℕ)) (arrivals : List (List ℕ × Facts)) (answers bytes : ℕ) (h : InBatch m0 m1 n0 n1 paths rest arrivals answers bytes) where
+module _ (m0 m1 : ObservedMail) (n0 n1 : List Given) (paths rest : List (List ℕ)) (added : List (List ℕ × Facts)) (answers bytes : ℕ) (h : InBatch m0 m1 n0 n1 paths rest added answers bytes) where
   same_tree : m1.tree ≡ m0.tree
   same_tree = ap (λ (m : ObservedMail). m.tree) h.all.mail
 
@@ -72,12 +72,12 @@ module _ (m0 m1 : ObservedMail) (n0 n1 : List Given) (paths rest : List (List �
 
   -- it goes on by a path
   pub next_in_batch : (m2 : ObservedMail) (n2 : List Given) (path : List ℕ) (left : List (List ℕ)) (after : List (List ℕ × Facts)) (len answers_after bytes_after : ℕ) → rest ≡ path ∷ left → 0 < answers → 0 < bytes
-      → answers_after ≡ answers - 1 → bytes_after ≡ bytes - len → ((found : List (List ℕ × Facts)) × (after ≡ arrivals ++ found) × HasReadAll m1 m2 n1 n2 (path ∷ []) found) → IfSome m1.tree (λ t. len ≡ len_at t path)
+      → answers_after ≡ answers - 1 → bytes_after ≡ bytes - len → ((found : List (List ℕ × Facts)) × (after ≡ added ++ found) × HasReadAll m1 m2 n1 n2 (path ∷ []) found) → IfSome m1.tree (λ t. len ≡ len_at t path)
       → InBatch m0 m2 n0 n2 paths left after answers_after bytes_after
   next_in_batch m2 n2 path left after len answers_after bytes_after next few small fewer less found told = record {
     read = h.read ++ path ∷ [];
     paths_are = h.paths_are ∙ (ap (λ (l : List (List ℕ)). h.read ++ l) next ∙ sym (append_assoc h.read (path ∷ []) left));
-    all = next_read m0 m1 m2 n0 n1 n2 h.read path arrivals after h.all found;
+    all = next_read m0 m1 m2 n0 n1 n2 h.read path added after h.all found;
     answers_left = omega (arith, h.answers_left, few, fewer, length-append h.read (path ∷ []));
     bytes_left = fewer_bytes m0.tree h.read path bytes len bytes_after less h.bytes_left (subst (λ (t : Option Tree). IfSome t (λ t. len ≡ len_at t path)) same_tree told);
     begun = inr (h.read, path, refl, open-by few small);
@@ -100,8 +100,8 @@ module _ (m0 m1 : ObservedMail) (n0 n1 : List Given) (paths rest : List (List �
   batch-by (inl (none, all)) some why = absurd (never-empty none all some why)
   batch-by (inr (before, last, is, was)) some why = record { before = before; last = last; read_are = is; was_open = was; closed = closed-by why }
 
-  pub closed_batch : (left : List (List ℕ)) → 0 < length paths → left ≡ rest → (rest ≡ []) ⊎ ((answers ≡ 0) ⊎ (bytes ≡ 0)) → HasReadBatch m0 m1 n0 n1 paths left arrivals
-  closed_batch left some same why = subst (λ (l : List (List ℕ)). HasReadBatch m0 m1 n0 n1 paths l arrivals) (sym same) (record {
+  pub closed_batch : (left : List (List ℕ)) → 0 < length paths → left ≡ rest → (rest ≡ []) ⊎ ((answers ≡ 0) ⊎ (bytes ≡ 0)) → HasReadBatch m0 m1 n0 n1 paths left added
+  closed_batch left some same why = subst (λ (l : List (List ℕ)). HasReadBatch m0 m1 n0 n1 paths l added) (sym same) (record {
     read = h.read;
     paths_are = h.paths_are;
     batch = batch-by h.begun some why;

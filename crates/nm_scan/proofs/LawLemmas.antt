@@ -7,8 +7,8 @@ use Rattle.nm_base.specs.declared.facts.Facts.{Facts}
 use Rattle.nm_maildir.specs.Observed.{ObservedMail}
 use Rattle.nm_maildir.specs.Tree.{Tree}
 use Rattle.nm_maildir.specs.declared.given.Given.{Given}
-use Rattle.nm_plan.specs.Plan.{all_arrivals}
-use Rattle.nm_scan.proofs.ReadLemmas.{NotesReads-append, Reads-append, begun_read, more_read, no_arrivals, notes-none, read_with-more}
+use Rattle.nm_plan.specs.Plan.{all_added}
+use Rattle.nm_scan.proofs.ReadLemmas.{NotesReads-append, Reads-append, begun_read, more_read, no_added, notes-none, read_with-more}
 use Rattle.nm_scan.specs.Batches.{HasReadBatch, HasReadBatches, HasReadSome, IsBatch, IsFull, IsOpen, IsUnfinished, ReadsBatches, StopsInBatch, full_answers, len_at_all}
 use Rattle.nm_scan.specs.Reading.{HasReadAll, NotesReads, Reads, read_with}
 
@@ -17,16 +17,16 @@ Batches = List (List (List ℕ × Facts))
 
 -- the batches in one
 none_read : (tree : Option Tree) (noted : List Given) → noted ≡ [] → Reads tree noted [] []
-none_read tree noted none = subst (λ (l : List Given). Reads tree l [] []) (sym none) (record { notes = notes-none tree; mails = refl; dated = tt; told = no_arrivals tree })
+none_read tree noted none = subst (λ (l : List Given). Reads tree l [] []) (sym none) (record { notes = notes-none tree; mails = refl; dated = tt; told = no_added tree })
 
 pub in-one : (tree : Option Tree) (noted : List Given) (paths : List (List ℕ)) (batches : Batches) (left : List (List ℕ)) → ReadsBatches tree noted paths batches left
-    → (read : List (List ℕ)) × (paths ≡ read ++ left) × Reads tree noted read (all_arrivals batches)
+    → (read : List (List ℕ)) × (paths ≡ read ++ left) × Reads tree noted read (all_added batches)
 in-one tree noted paths [] left h = ([], sym h.1, none_read tree noted h.0)
-in-one tree noted paths (arrivals ∷ more) left (read, rest, answers, others, paths_are, noted_is, batch, reads, behind) =
+in-one tree noted paths (added ∷ more) left (read, rest, answers, others, paths_are, noted_is, batch, reads, behind) =
     let all = in-one tree others rest more left behind in (
       read ++ all.0,
       paths_are ∙ (ap (λ (l : List (List ℕ)). read ++ l) all.1 ∙ sym (append_assoc read all.0 left)),
-      subst (λ (l : List Given). Reads tree l (read ++ all.0) (arrivals ++ all_arrivals more)) (sym noted_is) (Reads-append tree answers others read all.0 arrivals (all_arrivals more) reads all.2),
+      subst (λ (l : List Given). Reads tree l (read ++ all.0) (added ++ all_added more)) (sym noted_is) (Reads-append tree answers others read all.0 added (all_added more) reads all.2),
     )
 
 -- few small files are one batch
@@ -37,7 +37,7 @@ len-front t (path ∷ read) rest = omega (arith, len-front t read rest)
 
 no_more : (tree : Option Tree) (noted : List Given) (batches : Batches) (left : List (List ℕ)) → ReadsBatches tree noted [] batches left → length batches ≡ 0
 no_more tree noted [] left h = refl
-no_more tree noted (arrivals ∷ more) left (read, rest, answers, others, paths_are, noted_is, batch, reads, behind) =
+no_more tree noted (added ∷ more) left (read, rest, answers, others, paths_are, noted_is, batch, reads, behind) =
     absurd (omega (arith, ap length paths_are ∙ length-append read rest, ap length batch.read_are ∙ length-append batch.before (batch.last ∷ [])))
 
 closed-last : (t : Tree) (read rest : List (List ℕ)) → length (read ++ rest) < full_answers → len_at_all t (read ++ rest) < full_bytes → (rest ≡ []) ⊎ IsFull (Some t) read → rest ≡ []
@@ -48,17 +48,17 @@ closed-last t read rest few small (inr (inr large)) = absurd (omega (arith, larg
 pub one-batch : (t : Tree) (noted : List Given) (paths : List (List ℕ)) (batches : Batches) → 0 < length paths → length paths < full_answers → len_at_all t paths < full_bytes → ReadsBatches (Some t) noted paths batches []
     → length batches ≡ 1
 one-batch t noted paths [] some few small h = absurd (omega (arith, some, ap length h.1))
-one-batch t noted paths (arrivals ∷ more) some few small (read, rest, answers, others, paths_are, noted_is, batch, reads, behind) =
+one-batch t noted paths (added ∷ more) some few small (read, rest, answers, others, paths_are, noted_is, batch, reads, behind) =
     let none : rest ≡ [] = closed-last t read rest (subst (λ (l : List (List ℕ)). length l < full_answers) paths_are few) (subst (λ (l : List (List ℕ)). len_at_all t l < full_bytes) paths_are small) batch.closed in
     omega (arith, no_more (Some t) others more [] (subst (λ (l : List (List ℕ)). ReadsBatches (Some t) others l more []) none behind))
 
 -- a batch more
 
-after_batches : (tree : Option Tree) (noted : List Given) (paths : List (List ℕ)) (batches : Batches) (left : List (List ℕ)) (answers : List Given) (read rest : List (List ℕ)) (arrivals : List (List ℕ × Facts))
-    → ReadsBatches tree noted paths batches left → left ≡ read ++ rest → IsBatch tree read rest → Reads tree answers read arrivals → ReadsBatches tree (noted ++ answers) paths (batches ++ arrivals ∷ []) rest
-after_batches tree noted paths [] left answers read rest arrivals h next batch reads =
+after_batches : (tree : Option Tree) (noted : List Given) (paths : List (List ℕ)) (batches : Batches) (left : List (List ℕ)) (answers : List Given) (read rest : List (List ℕ)) (added : List (List ℕ × Facts))
+    → ReadsBatches tree noted paths batches left → left ≡ read ++ rest → IsBatch tree read rest → Reads tree answers read added → ReadsBatches tree (noted ++ answers) paths (batches ++ added ∷ []) rest
+after_batches tree noted paths [] left answers read rest added h next batch reads =
     (read, rest, answers, [], sym h.1 ∙ next, ap (λ (l : List Given). l ++ answers) h.0 ∙ sym (append-nil answers), batch, reads, (refl, refl))
-after_batches tree noted paths (first ∷ more) left answers read rest arrivals (read0, rest0, answers0, others0, paths_are, noted_is, batch0, reads0, behind) next batch reads = (
+after_batches tree noted paths (first ∷ more) left answers read rest added (read0, rest0, answers0, others0, paths_are, noted_is, batch0, reads0, behind) next batch reads = (
   read0,
   rest0,
   answers0,
@@ -67,19 +67,19 @@ after_batches tree noted paths (first ∷ more) left answers read rest arrivals 
   ap (λ (l : List Given). l ++ answers) noted_is ∙ append_assoc answers0 others0 answers,
   batch0,
   reads0,
-  after_batches tree others0 rest0 more left answers read rest arrivals behind next batch reads,
+  after_batches tree others0 rest0 more left answers read rest added behind next batch reads,
 )
 
 pub no-batches : (mail : ObservedMail) (noted : List Given) (paths : List (List ℕ)) → HasReadBatches mail mail noted noted paths [] paths
 no-batches mail noted paths = record { read = []; paths_are = refl; all = begun_read mail noted [] refl; reading = (refl, refl) }
 
-pub more-batches : (m0 m1 m2 : ObservedMail) (n0 n1 n2 : List Given) (paths : List (List ℕ)) (batches : Batches) (left rest : List (List ℕ)) (arrivals : List (List ℕ × Facts)) → HasReadBatches m0 m1 n0 n1 paths batches left
-    → HasReadBatch m1 m2 n1 n2 left rest arrivals → HasReadBatches m0 m2 n0 n2 paths (batches ++ arrivals ∷ []) rest
-more-batches m0 m1 m2 n0 n1 n2 paths batches left rest arrivals h k =
+pub more-batches : (m0 m1 m2 : ObservedMail) (n0 n1 n2 : List Given) (paths : List (List ℕ)) (batches : Batches) (left rest : List (List ℕ)) (added : List (List ℕ × Facts)) → HasReadBatches m0 m1 n0 n1 paths batches left
+    → HasReadBatch m1 m2 n1 n2 left rest added → HasReadBatches m0 m2 n0 n2 paths (batches ++ added ∷ []) rest
+more-batches m0 m1 m2 n0 n1 n2 paths batches left rest added h k =
     let tree : m1.tree ≡ m0.tree = ap (λ (m : ObservedMail). m.tree) h.all.mail in
-    let both : HasReadAll m0 m2 n0 n2 (h.read ++ k.read) (all_arrivals batches ++ arrivals) = more_read m0 m1 m2 n0 n1 n2 h.read k.read (all_arrivals batches) arrivals h.all k.all in
-    let mails : all_arrivals (batches ++ arrivals ∷ []) ≡ all_arrivals batches ++ arrivals =
-    flat_map-append (λ (l : List (List ℕ × Facts)). l) batches (arrivals ∷ []) ∙ ap (λ (l : List (List ℕ × Facts)). all_arrivals batches ++ l) (append-nil arrivals) in
+    let both : HasReadAll m0 m2 n0 n2 (h.read ++ k.read) (all_added batches ++ added) = more_read m0 m1 m2 n0 n1 n2 h.read k.read (all_added batches) added h.all k.all in
+    let mails : all_added (batches ++ added ∷ []) ≡ all_added batches ++ added =
+    flat_map-append (λ (l : List (List ℕ × Facts)). l) batches (added ∷ []) ∙ ap (λ (l : List (List ℕ × Facts)). all_added batches ++ l) (append-nil added) in
     record {
       read = h.read ++ k.read;
       paths_are = h.paths_are ∙ (ap (λ (l : List (List ℕ)). h.read ++ l) k.paths_are ∙ sym (append_assoc h.read k.read rest));
@@ -89,8 +89,8 @@ more-batches m0 m1 m2 n0 n1 n2 paths batches left rest arrivals h k =
         reading = subst (λ (l : List (List ℕ × Facts)). Reads m0.tree (h.all.noted ++ k.all.noted) (h.read ++ k.read) l) (sym mails) both.reading;
         mail = both.mail;
       };
-      reading = after_batches m0.tree h.all.noted paths batches left k.all.noted k.read rest arrivals h.reading k.paths_are
-          (subst (λ (t : Option Tree). IsBatch t k.read rest) tree k.batch) (subst (λ (t : Option Tree). Reads t k.all.noted k.read arrivals) tree k.all.reading);
+      reading = after_batches m0.tree h.all.noted paths batches left k.all.noted k.read rest added h.reading k.paths_are
+          (subst (λ (t : Option Tree). IsBatch t k.read rest) tree k.batch) (subst (λ (t : Option Tree). Reads t k.all.noted k.read added) tree k.all.reading);
     }
 
 -- what was read so far

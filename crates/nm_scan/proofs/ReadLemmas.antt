@@ -117,9 +117,9 @@ answers_both : (tree : Option Tree) (xs ys : List (List ℕ × ReadAnswer)) (ps 
 answers_both None xs ys ps qs h k = tt
 answers_both (Some t) xs ys ps qs h k = ap (λ l. l ++ ys) h ∙ (ap (λ l. answers_at t ps ++ l) k ∙ sym (map-append (λ p. (p, answer_at t p)) ps qs))
 
-arrivals_both : (tree : Option Tree) (xs ys : List (List ℕ × Facts)) (ps qs : List (List ℕ)) → IfSome tree (λ t. xs ≡ flat_map (arrival_at t) ps) → IfSome tree (λ t. ys ≡ flat_map (arrival_at t) qs) → IfSome tree (λ t. xs ++ ys ≡ flat_map (arrival_at t) (ps ++ qs))
-arrivals_both None xs ys ps qs h k = tt
-arrivals_both (Some t) xs ys ps qs h k = ap (λ l. l ++ ys) h ∙ (ap (λ l. flat_map (arrival_at t) ps ++ l) k ∙ sym (flat_map-append (arrival_at t) ps qs))
+added_both : (tree : Option Tree) (xs ys : List (List ℕ × Facts)) (ps qs : List (List ℕ)) → IfSome tree (λ t. xs ≡ flat_map (arrival_at t) ps) → IfSome tree (λ t. ys ≡ flat_map (arrival_at t) qs) → IfSome tree (λ t. xs ++ ys ≡ flat_map (arrival_at t) (ps ++ qs))
+added_both None xs ys ps qs h k = tt
+added_both (Some t) xs ys ps qs h k = ap (λ l. l ++ ys) h ∙ (ap (λ l. flat_map (arrival_at t) ps ++ l) k ∙ sym (flat_map-append (arrival_at t) ps qs))
 
 pub NotesReads-append : (tree : Option Tree) (g k : List Given) (ps qs : List (List ℕ)) → NotesReads tree g ps → NotesReads tree k qs → NotesReads tree (g ++ k) (ps ++ qs)
 NotesReads-append tree g k ps qs h j = record {
@@ -135,19 +135,19 @@ Reads-append tree g k ps qs xs ys h j = record {
   notes = NotesReads-append tree g k ps qs h.notes j.notes;
   mails = map-append (λ file. file.0) xs ys ∙ (ap (λ l. l ++ paths_of ys) h.mails ∙ (ap (λ l. flat_map mail_in h.notes.reads ++ l) j.mails ∙ sym (flat_map-append mail_in h.notes.reads j.notes.reads)));
   dated = AllByRecursion-append (λ arrival. IsDate arrival.1.date) xs ys h.dated j.dated;
-  told = arrivals_both tree xs ys ps qs h.told j.told;
+  told = added_both tree xs ys ps qs h.told j.told;
 }
 
-pub no_arrivals : (tree : Option Tree) → IfSome tree (λ t. [] ≡ flat_map (arrival_at t) [])
-no_arrivals None = tt
-no_arrivals (Some t) = refl
+pub no_added : (tree : Option Tree) → IfSome tree (λ t. [] ≡ flat_map (arrival_at t) [])
+no_added None = tt
+no_added (Some t) = refl
 
 -- the loop has begun
-abbrev pub begun_read : (mail : ObservedMail) (noted : List Given) (arrivals : List (List ℕ × Facts)) → arrivals ≡ [] → HasReadAll mail mail noted noted [] arrivals
-begun_read mail noted arrivals none = record {
+abbrev pub begun_read : (mail : ObservedMail) (noted : List Given) (added : List (List ℕ × Facts)) → added ≡ [] → HasReadAll mail mail noted noted [] added
+begun_read mail noted added none = record {
   noted = [];
   noted_is = sym (append-nil noted);
-  reading = subst (λ (l : List (List ℕ × Facts)). Reads mail.tree [] [] l) (sym none) (record { notes = notes-none mail.tree; mails = refl; dated = tt; told = no_arrivals mail.tree });
+  reading = subst (λ (l : List (List ℕ × Facts)). Reads mail.tree [] [] l) (sym none) (record { notes = notes-none mail.tree; mails = refl; dated = tt; told = no_added mail.tree });
   mail = same_mail mail (after_reads mail []) refl (read_with-none mail.reads) refl;
 }
 

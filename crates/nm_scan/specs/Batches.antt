@@ -8,7 +8,7 @@ use Rattle.nm_maildir.specs.Tree.{Tree, got_of}
 use Rattle.nm_maildir.specs.declared.answers.Got.{Got}
 use Rattle.nm_maildir.specs.declared.answers.Got.TheVariants as got
 use Rattle.nm_maildir.specs.declared.given.Given.{Given}
-use Rattle.nm_plan.specs.Plan.{all_arrivals}
+use Rattle.nm_plan.specs.Plan.{all_added}
 use Rattle.nm_scan.specs.Reading.{HasRead, HasReadAll, NotesReads, Reads}
 
 -- the answers that close a batch
@@ -50,9 +50,9 @@ pub record IsBatch (tree : Option Tree) (read rest : List (List ℕ)) : Type 0 w
 -- The first of the paths were read in batches, one after the other, each noted; these mails were found in each, and these paths are left.
 abbrev pub ReadsBatches : Option Tree → List Given → List (List ℕ) → List (List (List ℕ × Facts)) → List (List ℕ) → Type 0
 ReadsBatches tree noted paths [] left = (noted ≡ []) × (left ≡ paths)
-ReadsBatches tree noted paths (arrivals ∷ more) left =
+ReadsBatches tree noted paths (added ∷ more) left =
     (read rest : List (List ℕ)) × (answers others : List Given) × (paths ≡ read ++ rest) × (noted ≡ answers ++ others)
-    × IsBatch tree read rest × Reads tree answers read arrivals × ReadsBatches tree others rest more left
+    × IsBatch tree read rest × Reads tree answers read added × ReadsBatches tree others rest more left
 
 -- Of a batch that is still open the first paths were read, which is noted, or none.
 pub record IsUnfinished (tree : Option Tree) (noted : List Given) (paths : List (List ℕ)) : Type 0 where
@@ -61,11 +61,11 @@ pub record IsUnfinished (tree : Option Tree) (noted : List Given) (paths : List 
   pub is_open : IsOpen tree (take answered paths)
 
 -- One batch of the paths was read, which is noted behind what was noted before; these are behind it, and these mails were found.
-pub record HasReadBatch (old new : ObservedMail) (old_noted new_noted : List Given) (paths rest : List (List ℕ)) (arrivals : List (List ℕ × Facts)) : Type 0 where
+pub record HasReadBatch (old new : ObservedMail) (old_noted new_noted : List Given) (paths rest : List (List ℕ)) (added : List (List ℕ × Facts)) : Type 0 where
   pub read : List (List ℕ)
   pub paths_are : paths ≡ read ++ rest
   pub batch : IsBatch old.tree read rest
-  pub all : HasReadAll old new old_noted new_noted read arrivals
+  pub all : HasReadAll old new old_noted new_noted read added
 
 -- The reading stopped in a batch: of its paths the first were read, which is noted behind what was noted before.
 pub record StopsInBatch (old new : ObservedMail) (old_noted new_noted : List Given) (paths : List (List ℕ)) : Type 0 where
@@ -77,7 +77,7 @@ pub record HasReadBatches (old new : ObservedMail) (old_noted new_noted : List G
     (left : List (List ℕ)) : Type 0 where
   pub read : List (List ℕ)
   pub paths_are : paths ≡ read ++ left
-  pub all : HasReadAll old new old_noted new_noted read (all_arrivals batches)
+  pub all : HasReadAll old new old_noted new_noted read (all_added batches)
   pub reading : ReadsBatches old.tree all.noted paths batches left
 
 -- The same, and of the next batch the first paths were read perhaps, where it stopped.

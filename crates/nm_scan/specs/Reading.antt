@@ -72,11 +72,11 @@ pub record NotesReads (tree : Option Tree) (noted : List Given) (paths : List (L
   pub told : IfSome tree (λ t. reads ≡ answers_at t paths)
 
 -- Each path was read, and the arrivals are those that were found to be mail.
-pub record Reads (tree : Option Tree) (noted : List Given) (paths : List (List ℕ)) (arrivals : List (List ℕ × Facts)) : Type 0 where
+pub record Reads (tree : Option Tree) (noted : List Given) (paths : List (List ℕ)) (added : List (List ℕ × Facts)) : Type 0 where
   pub notes : NotesReads tree noted paths
-  pub mails : paths_of arrivals ≡ flat_map mail_in notes.reads
-  pub dated : AllByRecursion (λ arrival. IsDate arrival.1.date) arrivals
-  pub told : IfSome tree (λ t. arrivals ≡ flat_map (arrival_at t) paths)
+  pub mails : paths_of added ≡ flat_map mail_in notes.reads
+  pub dated : AllByRecursion (λ arrival. IsDate arrival.1.date) added
+  pub told : IfSome tree (λ t. added ≡ flat_map (arrival_at t) paths)
 
 -- Of the paths the first were read, in order. Each answer is noted, but for the last where the reading stopped there.
 pub record ReadsFirst (old new : ObservedMail) (noted : List Given) (paths : List (List ℕ)) : Type 0 where
@@ -114,8 +114,8 @@ pub record HasRead (old new : ObservedMail) (old_noted new_noted : List Given) (
   pub tree : new.tree ≡ old.tree
 
 -- All the paths were read, and these arrivals were found.
-pub record HasReadAll (old new : ObservedMail) (old_noted new_noted : List Given) (paths : List (List ℕ)) (arrivals : List (List ℕ × Facts)) : Type 0 where
+pub record HasReadAll (old new : ObservedMail) (old_noted new_noted : List Given) (paths : List (List ℕ)) (added : List (List ℕ × Facts)) : Type 0 where
   pub noted : List Given
   pub noted_is : new_noted ≡ old_noted ++ noted
-  pub reading : Reads old.tree noted paths arrivals
+  pub reading : Reads old.tree noted paths added
   pub mail : new ≡ after_reads old paths

@@ -7,7 +7,7 @@ ghost use Rattle.nm_base.specs.declared.facts.Facts.{Facts};
 ghost use Rattle.nm_maildir.specs.Observed.{ObservedMail};
 ghost use Rattle.nm_maildir.specs.Tree.{Tree};
 ghost use Rattle.nm_maildir.specs.declared.given.Given.{Given};
-ghost use Rattle.nm_plan.specs.Plan.{all_arrivals};
+ghost use Rattle.nm_plan.specs.Plan.{all_added};
 ghost use Rattle.nm_scan.specs.Batches.{HasReadBatch, HasReadBatches, HasReadSome, ReadsBatches, StopsInBatch, full_answers, len_at_all};
 ghost use Rattle.nm_base.specs.Order.{has_text, sorted};
 ghost use Rattle.nm_scan.specs.Bodies.{left_after};
@@ -19,7 +19,7 @@ ghost use Rattle.nm_scan.specs.Reading.{Reads};
 pub fn batches_are_what_was_read()
     ensures { (tree : Option Tree) (noted : List Given) (paths : List (List ℕ)) (batches : List (List (List ℕ × Facts))) (left : List (List ℕ))
         → ReadsBatches tree noted paths batches left
-        → (read : List (List ℕ)) × (paths ≡ read ++ left) × Reads tree noted read (all_arrivals batches) }
+        → (read : List (List ℕ)) × (paths ≡ read ++ left) × Reads tree noted read (all_added batches) }
 {}
 
 /// Fewer than 256 paths with less than 67,108,864 bytes are read in one batch.
@@ -36,9 +36,9 @@ pub fn no_batch_is_read_at_first()
 /// One batch more is read of the paths that are left.
 pub fn a_batch_more_is_read()
     ensures { (old mid new : ObservedMail) (old_noted mid_noted new_noted : List Given) (paths : List (List ℕ)) (batches : List (List (List ℕ × Facts)))
-        (left rest : List (List ℕ)) (arrivals : List (List ℕ × Facts)) → HasReadBatches old mid old_noted mid_noted paths batches left
-        → HasReadBatch mid new mid_noted new_noted left rest arrivals
-        → HasReadBatches old new old_noted new_noted paths (batches ++ arrivals ∷ []) rest }
+        (left rest : List (List ℕ)) (added : List (List ℕ × Facts)) → HasReadBatches old mid old_noted mid_noted paths batches left
+        → HasReadBatch mid new mid_noted new_noted left rest added
+        → HasReadBatches old new old_noted new_noted paths (batches ++ added ∷ []) rest }
 {}
 
 /// Between two batches no batch is unfinished.

@@ -35,21 +35,21 @@ pub fn read_batch<M: Maildir>(
 ) -> Result<Many<Mail>, MailError>
     requires whole { into_iter_len paths.old ≡ length (into_iter_items paths.old) }
     requires some { 0 < length (into_iter_items paths.old) }
-    ensures ok { IfOk result (λ arrivals. HasReadBatch (M.observed mail.old) (M.observed mail.new) noted.old noted.new
-        (into_iter_items paths.old) (into_iter_items paths.new) arrivals) }
+    ensures ok { IfOk result (λ added. HasReadBatch (M.observed mail.old) (M.observed mail.new) noted.old noted.new
+        (into_iter_items paths.old) (into_iter_items paths.new) added) }
     ensures err { IfErr result (λ _. StopsInBatch (M.observed mail.old) (M.observed mail.new) noted.old noted.new (into_iter_items paths.old)) }
     ensures whole { into_iter_len paths.new ≡ length (into_iter_items paths.new) }
     ensures cause { HasMailCause (M.observed mail.old).faults (M.observed mail.new).faults result }
 {
-    let mut arrivals = Many::new(alloc);
+    let mut added = Many::new(alloc);
     let mut answers = FULL_ANSWERS;
     let mut bytes = FULL_BYTES;
     'files: while let Some(path) = next_path(paths, answers, bytes) {
-        let found = read_next(alloc, mail, path, noted, &mut arrivals)?;
+        let found = read_next(alloc, mail, path, noted, &mut added)?;
         answers = answers.saturating_sub(1);
         bytes = bytes.saturating_sub(found);
     }
-    Ok(arrivals)
+    Ok(added)
 }
 
 /// The next path of a batch that lacks so many answers and bytes until it is full.
@@ -72,9 +72,9 @@ fn read_next<M: Maildir>(
     mail: &mut M,
     path: MailPath,
     noted: &mut Many<Given>,
-    arrivals: &mut Many<Mail>,
+    added: &mut Many<Mail>,
 ) -> Result<u64, MailError>
-    ensures ok { IfOk result (λ _. (found : List (List ℕ × Facts)) × (arrivals.new ≡ arrivals.old ++ found)
+    ensures ok { IfOk result (λ _. (found : List (List ℕ × Facts)) × (added.new ≡ added.old ++ found)
         × HasReadAll (M.observed mail.old) (M.observed mail.new) noted.old noted.new (path ∷ []) found) }
     ensures bytes { IfOk result (λ len. IfSome (M.observed mail.old).tree (λ t. len ≡ len_at t path)) }
     ensures err { IfErr result (λ _. AsksOnce (M.observed mail.old) (M.observed mail.new) path) }
@@ -84,7 +84,7 @@ fn read_next<M: Maildir>(
     let got = mail.read(&path, MAX_BYTES)?;
     let len = found_len(&got);
     let (answer, found) = classify(alloc, got)?;
-    note(path, answer, found, noted, arrivals)?;
+    note(path, answer, found, noted, added)?;
     Ok(len)
 }
 
@@ -104,14 +104,14 @@ fn note(
     answer: ReadAnswer,
     found: Option<Facts>,
     noted: &mut Many<Given>,
-    arrivals: &mut Many<Mail>,
+    added: &mut Many<Mail>,
 ) -> Result<(), NoMemory>
-    ensures ok { OnOk result ((noted.new ≡ noted.old ++ Given.Read path answer ∷ []) × (arrivals.new ≡ arrivals.old ++ arrival path found)) }
+    ensures ok { OnOk result ((noted.new ≡ noted.old ++ Given.Read path answer ∷ []) × (added.new ≡ added.old ++ arrival path found)) }
     ensures err { OnErr result (noted.new ≡ noted.old) }
 {
     let copied = path.copy()?;
     if let Some(facts) = found {
-        arrivals.push((path, facts))?;
+        added.push((path, facts))?;
     }
     noted.push(Given::Read {
         path: copied,

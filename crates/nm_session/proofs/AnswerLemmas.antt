@@ -31,9 +31,9 @@ use Rattle.nm_query.specs.declared.query.Query.{Query}
 use Rattle.nm_query.specs.declared.query_error.QueryError.{QueryError}
 use Rattle.nm_query.specs.declared.query_error.QueryError.TheVariants as query_errors
 use Rattle.nm_scan.specs.Bodies.{left_after}
-use Rattle.nm_session.specs.Line.{Ends, IsAnswered, IsReadOff, IsSaid, newly_closed, refused_or, refused_with, replied_with}
+use Rattle.nm_session.specs.Line.{Ends, IsLineAnswer, IsReadOff, IsSaid, newly_closed, refused_or, refused_with, replied_with}
 use Rattle.nm_session.specs.Marks.{reply_mark}
-use Rattle.nm_session.specs.declared.answering.Answered.{Answered}
+use Rattle.nm_session.specs.declared.answering.LineAnswer.{LineAnswer}
 use Rattle.nm_session.specs.declared.marks.Mark.TheVariants as marks
 use Rattle.nm_tags.specs.declared.line_error.LineKind.{LineKind}
 use Rattle.nm_writer.specs.Renamed.{TreesAlong}
@@ -122,9 +122,9 @@ pub idle : (moment : ℤ) (place : Place) (line : ScriptLine) (outcome : Outcome
     → Makes outcome moment place.mail.tree place.writer.shown line [] (length place.writer.acked + 0) [] []
     → AsksMail outcome (parse_line line) place.writer.shown moment place.left place.mail place.mail []
     → HasCause outcome (parse_line line) line.input (before_at place) place.writer.shown moment [] place.mail.faults false
-    → IsAnswered moment place line [] outcome (newly_closed place.writer place.writer) (stays-at place [])
+    → IsLineAnswer moment place line [] outcome (newly_closed place.writer place.writer) (stays-at place [])
 idle moment place line outcome makes asks cause =
-    subst (λ (b : Bool). IsAnswered moment place line [] outcome b (stays-at place [])) (sym (still-writer place.writer)) (record {
+    subst (λ (b : Bool). IsLineAnswer moment place line [] outcome b (stays-at place [])) (sym (still-writer place.writer)) (record {
       made = [];
       in_flight = [];
       has_made = made-nothing place.writer;
@@ -145,12 +145,12 @@ none-failed place = record { mail_same = refl; disk_well = refl }
 
 -- a line that finds no memory
 
-pub found-no-memory : (moment : ℤ) (place : Place) (line : ScriptLine) (noted : List Given) → noted ≡ [] → IsAnswered moment place line noted outcomes.NoMemory (newly_closed place.writer place.writer) (stays-at place noted)
+pub found-no-memory : (moment : ℤ) (place : Place) (line : ScriptLine) (noted : List Given) → noted ≡ [] → IsLineAnswer moment place line noted outcomes.NoMemory (newly_closed place.writer place.writer) (stays-at place noted)
 found-no-memory moment place line noted none =
-    subst (λ (l : List Given). IsAnswered moment place line l outcomes.NoMemory (newly_closed place.writer place.writer) (stays-at place l)) (sym none)
+    subst (λ (l : List Given). IsLineAnswer moment place line l outcomes.NoMemory (newly_closed place.writer place.writer) (stays-at place l)) (sym none)
     (idle moment place line outcomes.NoMemory (inl refl, refl) (asks-early outcomes.NoMemory (parse_line line) place.writer.shown moment place.left place.mail refl) refl)
 
-pub failed-ends : (moment : ℤ) (place : Place) (line : ScriptLine) (noted : List Given) (result : Result Answered NoMemory) → IsErr result → noted ≡ [] → Ends moment place line noted result (stays-at place noted)
+pub failed-ends : (moment : ℤ) (place : Place) (line : ScriptLine) (noted : List Given) (result : Result LineAnswer NoMemory) → IsErr result → noted ≡ [] → Ends moment place line noted result (stays-at place noted)
 failed-ends moment place line noted (Ok done) failed none = absurd (cc)
 failed-ends moment place line noted (Err error) failed none = found-no-memory moment place line noted none
 
@@ -200,12 +200,12 @@ replied-said moment old new line noted request text is said = record {
 
 -- words outside the grammar
 
-pub usage-ends : (moment : ℤ) (place : Place) (line : ScriptLine) (noted : List Given) (word : List ℕ) (kind : UsageKind) (result : Result Answered NoMemory) → noted ≡ [] → parse_line line ≡ asked.Usage word kind
+pub usage-ends : (moment : ℤ) (place : Place) (line : ScriptLine) (noted : List Given) (word : List ℕ) (kind : UsageKind) (result : Result LineAnswer NoMemory) → noted ≡ [] → parse_line line ≡ asked.Usage word kind
     → IfOk result (λ done. done ≡ refused_with (outcomes.Usage word kind)) → Ends moment place line noted result (stays-at place noted)
 usage-ends moment place line noted word kind (Err error) none is said = found-no-memory moment place line noted none
 usage-ends moment place line noted word kind (Ok done) none is said =
     let outcome : Outcome = outcomes.Usage word kind in
-    subst (λ (l : List Given). Ends moment place line l (Ok done) (stays-at place l)) (sym none) (subst (λ (d : Answered). Ends moment place line [] (Ok d) (stays-at place [])) (sym said) (
+    subst (λ (l : List Given). Ends moment place line l (Ok done) (stays-at place l)) (sym none) (subst (λ (d : LineAnswer). Ends moment place line [] (Ok d) (stays-at place [])) (sym said) (
       idle moment place line outcome (record { made_are = refl; in_flight_is = refl }) (asks-early outcome (parse_line line) place.writer.shown moment place.left place.mail refl)
           (subst (λ (p : ParsedLine). HasCause outcome p line.input (before_at place) place.writer.shown moment [] place.mail.faults false) (sym is) (refl, none-failed place)),
       refused-said moment place (stays-at place []) line [] outcome refl,
@@ -288,15 +288,15 @@ module _ (moment : ℤ) (place : Place) (line : ScriptLine) (request : Request) 
   refused-ends outcome e = text-refused outcome (text-refuses request line.input outcome e) e
 
 -- the same, where nothing is noted
-pub refused-ends-at : (moment : ℤ) (place : Place) (line : ScriptLine) (noted : List Given) (request : Request) (outcome : Outcome) (result : Result Answered NoMemory) → noted ≡ [] → parse_line line ≡ asked.Request request
+pub refused-ends-at : (moment : ℤ) (place : Place) (line : ScriptLine) (noted : List Given) (request : Request) (outcome : Outcome) (result : Result LineAnswer NoMemory) → noted ≡ [] → parse_line line ≡ asked.Request request
     → refused_text_of request line.input ≡ Some outcome → IfOk result (λ done. done ≡ refused_with outcome) → Ends moment place line noted result (stays-at place noted)
 refused-ends-at moment place line noted request outcome (Err error) none is e said = found-no-memory moment place line noted none
 refused-ends-at moment place line noted request outcome (Ok done) none is e said =
     subst (λ (l : List Given). Ends moment place line l (Ok done) (stays-at place l)) (sym none)
-    (subst (λ (d : Answered). Ends moment place line [] (Ok d) (stays-at place [])) (sym said) (refused-ends moment place line request is outcome e))
+    (subst (λ (d : LineAnswer). Ends moment place line [] (Ok d) (stays-at place [])) (sym said) (refused-ends moment place line request is outcome e))
 
 -- the query of a request is refused
-pub query-refused-ends : (moment : ℤ) (place : Place) (line : ScriptLine) (noted : List Given) (request : Request) (error : QueryError) (text : List ℕ) (result : Result Answered NoMemory) → noted ≡ [] → parse_line line ≡ asked.Request request
+pub query-refused-ends : (moment : ℤ) (place : Place) (line : ScriptLine) (noted : List Given) (request : Request) (error : QueryError) (text : List ℕ) (result : Result LineAnswer NoMemory) → noted ≡ [] → parse_line line ≡ asked.Request request
     → first_bad_line request line.input ≡ None → own_query request ≡ Some text → (error ≡ query_errors.NoMemory) ⊎ (answer_of text ≡ Err error) → IfOk result (λ _. error ≡ query_errors.NoMemory → ⊥)
     → IfOk result (λ done. done ≡ refused_with (query_outcome error)) → Ends moment place line noted result (stays-at place noted)
 query-refused-ends moment place line noted request error text (Err wanted) none is lines own said some done = found-no-memory moment place line noted none
@@ -388,10 +388,10 @@ module _ (moment : ℤ) (place : Place) (line : ScriptLine) (request : Request) 
   read-by None e = read-well e
   read-by (Some outcome) e = refused-ends moment place line request is outcome e
 
-pub reading-ends : (moment : ℤ) (place : Place) (line : ScriptLine) (noted : List Given) (request : Request) (shown : Base) (result : Result Answered NoMemory) → noted ≡ [] → parse_line line ≡ asked.Request request
+pub reading-ends : (moment : ℤ) (place : Place) (line : ScriptLine) (noted : List Given) (request : Request) (shown : Base) (result : Result LineAnswer NoMemory) → noted ≡ [] → parse_line line ≡ asked.Request request
     → is_asking request ≡ false → shown ≡ place.writer.shown → IfOk result (IsReadOff moment shown request line.input) → Ends moment place line noted result (stays-at place noted)
 reading-ends moment place line noted request shown (Err error) none is quiet same said = found-no-memory moment place line noted none
 reading-ends moment place line noted request shown (Ok done) none is quiet same said =
     let done_is : IsReadOff moment place.writer.shown request line.input done = subst (λ (b : Base). IsReadOff moment b request line.input done) same said in
     subst (λ (l : List Given). Ends moment place line l (Ok done) (stays-at place l)) (sym none)
-    (subst (λ (d : Answered). Ends moment place line [] (Ok d) (stays-at place [])) (sym done_is) (read-by moment place line request is quiet (refused_text_of request line.input) refl))
+    (subst (λ (d : LineAnswer). Ends moment place line [] (Ok d) (stays-at place [])) (sym done_is) (read-by moment place line request is quiet (refused_text_of request line.input) refl))

@@ -25,9 +25,9 @@ use Rattle.nm_log.specs.declared.script.ScriptLine.{ScriptLine}
 use Rattle.nm_maildir.specs.Tree.{Tree}
 use Rattle.nm_maildir.specs.declared.given.Given.{Given}
 use Rattle.nm_scan.specs.Bodies.{left_after}
-use Rattle.nm_session.specs.Line.{Ends, IsAnswered, IsEven, newly_closed, refused_with}
+use Rattle.nm_session.specs.Line.{Ends, IsEven, IsLineAnswer, newly_closed, refused_with}
 use Rattle.nm_session.specs.Outcomes.{is_fault, outcome_of}
-use Rattle.nm_session.specs.declared.answering.Answered.{Answered}
+use Rattle.nm_session.specs.declared.answering.LineAnswer.{LineAnswer}
 use Rattle.nm_session.proofs.AnswerLemmas.{made-nothing, refused-said}
 use Rattle.nm_writer.specs.Writer.{WriterState}
 use Rattle.nm_writer.specs.Writing.{FailsWithin, HasCommitted, IsPassed}
@@ -140,9 +140,9 @@ module _ (moment : ℤ) (old new : Place) (line : ScriptLine) (noted : List Give
       → Makes outcome moment old.mail.tree old.writer.shown line noted (length old.writer.acked + length made) made in_flight → IsOnItsWay failed in_flight
       → new.writer.closed ≡ closed_after old.writer.closed failed new.disk_faults → old.mail.faults ≤ new.mail.faults → Counts failed old.disk_faults new.disk_faults
       → HasCause outcome (asked.Request request) line.input (before_at old) old.writer.shown moment noted new.mail.faults failed
-      → IsAnswered moment old line noted outcome (newly_closed old.writer new.writer) new
+      → IsLineAnswer moment old line noted outcome (newly_closed old.writer new.writer) new
   answered-with outcome made in_flight failed is_failed has_made makes way closed mail disk cause =
-      subst (λ (b : Bool). IsAnswered moment old line noted outcome b new) (sym is_failed) (record {
+      subst (λ (b : Bool). IsLineAnswer moment old line noted outcome b new) (sym is_failed) (record {
         made = made;
         in_flight = in_flight;
         has_made = has_made;
@@ -181,9 +181,9 @@ cause-well (errors.Closed fault) line input place moment noted mail failed sound
 cause-well (errors.Limit limit) line input place moment noted mail failed sound h = h.1.disk_well
 cause-well errors.NoMemory line input place moment noted mail failed sound h = h
 
-without : (moment : ℤ) (old new : Place) (line : ScriptLine) (noted : List Given) (outcome : Outcome) (failed : Bool) (h : IsAnswered moment old line noted outcome failed new)
+without : (moment : ℤ) (old new : Place) (line : ScriptLine) (noted : List Given) (outcome : Outcome) (failed : Bool) (h : IsLineAnswer moment old line noted outcome failed new)
     → Makes outcomes.NoMemory moment old.mail.tree old.writer.shown line noted (length old.writer.acked + length h.made) h.made h.in_flight → failed ≡ false
-    → AsksMail outcomes.NoMemory (parse_line line) old.writer.shown moment old.left old.mail new.mail noted → IsAnswered moment old line noted outcomes.NoMemory failed new
+    → AsksMail outcomes.NoMemory (parse_line line) old.writer.shown moment old.left old.mail new.mail noted → IsLineAnswer moment old line noted outcomes.NoMemory failed new
 without moment old new line noted outcome failed h makes well asks = record {
   made = h.made;
   in_flight = h.in_flight;
@@ -208,8 +208,8 @@ error-ill (errors.Limit limit) = refl
 error-ill errors.NoMemory = refl
 
 -- a line that a writer refused
-pub write-refused : (moment : ℤ) (old new : Place) (line : ScriptLine) (noted : List Given) (error : WriteError) (result : Result Answered NoMemory)
-    → IsAnswered moment old line noted (outcome_of error) (newly_closed old.writer new.writer) new
+pub write-refused : (moment : ℤ) (old new : Place) (line : ScriptLine) (noted : List Given) (error : WriteError) (result : Result LineAnswer NoMemory)
+    → IsLineAnswer moment old line noted (outcome_of error) (newly_closed old.writer new.writer) new
     → AsksMail outcomes.NoMemory (parse_line line) old.writer.shown moment old.left old.mail new.mail noted
     → MatchResult result (λ done. done ≡ refused_with (outcome_of error)) (λ _. is_fault error ≡ false)
     → Ends moment old line noted result new
@@ -218,11 +218,11 @@ write-refused moment old new line noted error (Err wanted) h asks said =
     (makes-first error moment old.mail.tree old.writer.shown line noted (length old.writer.acked + length h.made) h.made h.in_flight said h.makes)
     (cause-well error (parse_line line) line.input old moment noted new.mail.faults (newly_closed old.writer new.writer) said h.cause) asks
 write-refused moment old new line noted error (Ok done) h asks said =
-    subst (λ (d : Answered). Ends moment old line noted (Ok d) new) (sym said) (h, refused-said moment old new line noted (outcome_of error) (error-ill error))
+    subst (λ (d : LineAnswer). Ends moment old line noted (Ok d) new) (sym said) (h, refused-said moment old new line noted (outcome_of error) (error-ill error))
 
 -- one that went well, and found no memory for its text
-pub write-wanted : (moment : ℤ) (old new : Place) (line : ScriptLine) (noted : List Given) → IsAnswered moment old line noted outcomes.Ok (newly_closed old.writer new.writer) new
-    → AsksMail outcomes.NoMemory (parse_line line) old.writer.shown moment old.left old.mail new.mail noted → IsAnswered moment old line noted outcomes.NoMemory (newly_closed old.writer new.writer) new
+pub write-wanted : (moment : ℤ) (old new : Place) (line : ScriptLine) (noted : List Given) → IsLineAnswer moment old line noted outcomes.Ok (newly_closed old.writer new.writer) new
+    → AsksMail outcomes.NoMemory (parse_line line) old.writer.shown moment old.left old.mail new.mail noted → IsLineAnswer moment old line noted outcomes.NoMemory (newly_closed old.writer new.writer) new
 write-wanted moment old new line noted h asks =
     without moment old new line noted outcomes.Ok (newly_closed old.writer new.writer) h
     (well-then-none moment old.mail.tree old.writer.shown line noted (length old.writer.acked + length h.made) h.made h.in_flight h.makes) h.cause.2.disk_well asks

@@ -18,36 +18,36 @@ use Rattle.nm_log.specs.declared.outcome.Outcome.{Outcome}
 use Rattle.nm_log.specs.declared.outcome.Outcome.TheVariants as outcomes
 use Rattle.nm_log.specs.declared.script.ScriptLine.{ScriptLine}
 use Rattle.nm_maildir.specs.declared.given.Given.{Given}
-use Rattle.nm_session.specs.Line.{Ends, IsAnswered, IsEven, IsRun, IsSaid, newly_closed}
+use Rattle.nm_session.specs.Line.{Ends, IsEven, IsLineAnswer, IsRun, IsSaid, newly_closed}
 use Rattle.nm_session.specs.Marks.{begun_mark, line_marks, made_mark, marks_for, reply_mark}
-use Rattle.nm_session.specs.declared.answering.Answered.{Answered}
+use Rattle.nm_session.specs.declared.answering.LineAnswer.{LineAnswer}
 use Rattle.nm_session.specs.declared.marks.Mark.{Mark}
 use Rattle.nm_session.specs.declared.marks.Mark.TheVariants as marks
 use Rattle.nm_session.proofs.MarkLemmas.{mapped}
 
 -- the answer, also where there was no memory for it
 
-abbrev without_memory : List ℕ → Answered
+abbrev without_memory : List ℕ → LineAnswer
 without_memory spare = record { outcome = outcomes.NoMemory; text = spare; reply = None }
 
-done-by : (moment : ℤ) (old new : Place) (line : ScriptLine) (noted : List Given) (answered : Result Answered NoMemory) (done : Answered) (spare : List ℕ) → spare ≡ codes "notmuch: no memory\n"
+done-by : (moment : ℤ) (old new : Place) (line : ScriptLine) (noted : List Given) (answered : Result LineAnswer NoMemory) (done : LineAnswer) (spare : List ℕ) → spare ≡ codes "notmuch: no memory\n"
     → MatchResult answered (λ got. done ≡ got) (λ error. done ≡ record { outcome = outcomes.NoMemory; text = spare; reply = None }) → Ends moment old line noted answered new
-    → IsAnswered moment old line noted done.outcome (newly_closed old.writer new.writer) new × IsSaid moment old line noted done new
+    → IsLineAnswer moment old line noted done.outcome (newly_closed old.writer new.writer) new × IsSaid moment old line noted done new
 done-by moment old new line noted (Ok got) done spare text is h =
-    subst (λ (d : Answered). IsAnswered moment old line noted d.outcome (newly_closed old.writer new.writer) new × IsSaid moment old line noted d new) (sym is) h
+    subst (λ (d : LineAnswer). IsLineAnswer moment old line noted d.outcome (newly_closed old.writer new.writer) new × IsSaid moment old line noted d new) (sym is) h
 done-by moment old new line noted (Err error) done spare text is h =
-    subst (λ (d : Answered). IsAnswered moment old line noted d.outcome (newly_closed old.writer new.writer) new × IsSaid moment old line noted d new) (sym (is ∙ ap without_memory text))
+    subst (λ (d : LineAnswer). IsLineAnswer moment old line noted d.outcome (newly_closed old.writer new.writer) new × IsSaid moment old line noted d new) (sym (is ∙ ap without_memory text))
     (h, record { text = refl; reply = λ lane revision. refl })
 
-pub is-run : (moment : ℤ) (old new : Place) (line : ScriptLine) (noted : List Given) (answered : Result Answered NoMemory) (done : Answered) (spare : List ℕ) (shown : Base) (revision status mail disk : ℕ) (failed : Bool)
+pub is-run : (moment : ℤ) (old new : Place) (line : ScriptLine) (noted : List Given) (answered : Result LineAnswer NoMemory) (done : LineAnswer) (spare : List ℕ) (shown : Base) (revision status mail disk : ℕ) (failed : Bool)
     → spare ≡ codes "notmuch: no memory\n" → MatchResult answered (λ got. done ≡ got) (λ error. done ≡ record { outcome = outcomes.NoMemory; text = spare; reply = None })
     → Ends moment old line noted answered new → revision ≡ shown.revision → shown ≡ new.writer.shown → status ≡ status_of done.outcome → mail ≡ new.mail.faults → disk ≡ new.disk_faults
     → failed ≡ newly_closed old.writer new.writer
     → IsRun moment old (line, record { phase = 0; lane = 0; line = line.number; revision = revision; status = status; outcome = done.outcome; text = done.text; given = noted; mail_faults = mail; disk_faults = disk; disk_failed = failed }) done.reply new
 is-run moment old new line noted answered done spare shown revision status mail disk failed text is ends at shown_is status_is mail_is disk_is failed_is =
-    let h : IsAnswered moment old line noted done.outcome (newly_closed old.writer new.writer) new × IsSaid moment old line noted done new = done-by moment old new line noted answered done spare text is ends in
+    let h : IsLineAnswer moment old line noted done.outcome (newly_closed old.writer new.writer) new × IsSaid moment old line noted done new = done-by moment old new line noted answered done spare text is ends in
     record {
-      answered = subst (λ (b : Bool). IsAnswered moment old line noted done.outcome b new) (sym failed_is) h.0;
+      answered = subst (λ (b : Bool). IsLineAnswer moment old line noted done.outcome b new) (sym failed_is) h.0;
       text = h.1.text;
       reply_is = h.1.reply 0 revision;
       numbers = record { phase = refl; lane = refl; number = refl };
@@ -79,7 +79,7 @@ count-made acked seen new clocks commits made is same added each =
 pub marks-are : (moment : ℤ) (old new : Place) (ran : RunLine) (reply : Option Mark) (seen : List ℕ) (made : ℕ) (run : IsRun moment old ran reply new) → seen ≡ old.writer.acked → made ≡ length new.writer.acked - length seen
     → marks_for made ran.1.disk_failed (option_to_list reply) ≡ line_marks run.answered.made run.answered.in_flight (reply_to ran)
 marks-are moment old new ran reply seen made run same is =
-    let h : IsAnswered moment old ran.0 ran.1.given ran.1.outcome ran.1.disk_failed new = run.answered in
+    let h : IsLineAnswer moment old ran.0 ran.1.given ran.1.outcome ran.1.disk_failed new = run.answered in
     let count : made ≡ length h.made = count-made old.writer.acked seen new.writer.acked h.has_made.clocks h.made made is same h.has_made.acked h.has_made.one_each in
     let in_flight : (if ran.1.disk_failed then marks.Begun ∷ [] else []) ≡ map begun_mark h.in_flight =
     flight-marks ran.1.disk_failed h.in_flight h.on_its_way in
@@ -119,7 +119,7 @@ line-marks-length made in_flight replies =
 pub marks-few : (moment : ℤ) (old new : Place) (ran : RunLine) (reply : Option Mark) (seen : List ℕ) (made : ℕ) → IsRun moment old ran reply new → seen ≡ old.writer.acked → made ≡ length new.writer.acked - length seen
     → length (marks_for made ran.1.disk_failed (option_to_list reply)) + length old.writer.begun ≤ length new.writer.begun + 1
 marks-few moment old new ran reply seen made run same is =
-    let h : IsAnswered moment old ran.0 ran.1.given ran.1.outcome ran.1.disk_failed new = run.answered in
+    let h : IsLineAnswer moment old ran.0 ran.1.given ran.1.outcome ran.1.disk_failed new = run.answered in
     let begun : length new.writer.begun ≡ length old.writer.begun + length (h.made ++ h.in_flight) = ap length h.has_made.begun_are ∙ length-append old.writer.begun (h.made ++ h.in_flight) in
     omega (
       arith,
@@ -148,7 +148,7 @@ still-alive false closed faults [] h e = (e, refl)
 still-alive false closed faults (commit ∷ more) h e = absurd (omega (arith, h))
 still-alive true closed faults in_flight h e = absurd (cc)
 
-pub still-even : (moment : ℤ) (old new : Place) (line : ScriptLine) (noted : List Given) (outcome : Outcome) (failed : Bool) → IsAnswered moment old line noted outcome failed new → IsEven old.writer → IsEven new.writer
+pub still-even : (moment : ℤ) (old new : Place) (line : ScriptLine) (noted : List Given) (outcome : Outcome) (failed : Bool) → IsLineAnswer moment old line noted outcome failed new → IsEven old.writer → IsEven new.writer
 still-even moment old new line noted outcome failed h even = λ alive.
     let was : (old.writer.closed ≡ None) × (h.in_flight ≡ []) = still-alive failed old.writer.closed new.disk_faults h.in_flight h.on_its_way (sym h.closed ∙ alive) in
     let begun : length new.writer.begun ≡ length old.writer.begun + length (h.made ++ h.in_flight) = ap length h.has_made.begun_are ∙ length-append old.writer.begun (h.made ++ h.in_flight) in

@@ -21,9 +21,9 @@ use Rattle.nm_log.specs.declared.script.ScriptLine.{ScriptLine}
 use Rattle.nm_maildir.specs.declared.given.Given.{Given}
 use Rattle.nm_scan.specs.Bodies.{left_after}
 use Rattle.nm_scan.specs.Scanning.{AsksNew}
-use Rattle.nm_session.specs.Line.{Ends, IsAnswered, IsEven, newly_closed, replied_with}
+use Rattle.nm_session.specs.Line.{Ends, IsEven, IsLineAnswer, newly_closed, replied_with}
 use Rattle.nm_session.specs.Outcomes.{outcome_of}
-use Rattle.nm_session.specs.declared.answering.Answered.{Answered}
+use Rattle.nm_session.specs.declared.answering.LineAnswer.{LineAnswer}
 use Rattle.nm_session.proofs.AnswerLemmas.{replied-said}
 use Rattle.nm_session.proofs.ChangeLemmas.{alive-asks, alive-by, answered-with, fit-front, gets-closed, made-failing, made-none, made-some, passed-by, stays-open, write-wanted}
 use Rattle.nm_writer.specs.New.{AreNewCommits, IsAfterNew}
@@ -57,7 +57,7 @@ module _ (moment : ℤ) (old new : Place) (line : ScriptLine) (noted : List Give
   pub new-answered : (P Q : Type 0) (result : Result NewReport WriteError) → IsAfterNew old.mail.tree noted old.writer new.disk_faults result new.writer
       → IfSome old.writer.closed (λ fault. (result ≡ Err (errors.Closed fault)) × P × Q)
       → HasCauseOf is_read_fault old.mail.faults new.mail.faults result → HasCauseOf is_write_fault old.disk_faults new.disk_faults result → IsEven old.writer
-      → IsAnswered moment old line noted (outcome_by result) (newly_closed old.writer new.writer) new
+      → IsLineAnswer moment old line noted (outcome_by result) (newly_closed old.writer new.writer) new
   new-answered P Q (Ok report) after shut mail disk even =
       let alive : old.writer.closed ≡ None = alive-by old.writer.closed (Ok report) P Q shut refl in
       answered-with moment old new line noted requests.New is left (λ outcome. asks) tree outcomes.Ok after.0.0 [] false (still after.0.2.closed)
@@ -114,10 +114,10 @@ module _ (moment : ℤ) (old new : Place) (line : ScriptLine) (noted : List Give
       (inr (after.0, after.1, stops.more, are-due after.0 after.1 after.2, stops.due_are), refl) refl stops.made.closed (omega (arith, mail)) disk refl
 
   -- what a `new` says that went well
-  pub new-ends : (report : NewReport) (result : Result Answered NoMemory) → IsAnswered moment old line noted outcomes.Ok (newly_closed old.writer new.writer) new
+  pub new-ends : (report : NewReport) (result : Result LineAnswer NoMemory) → IsLineAnswer moment old line noted outcomes.Ok (newly_closed old.writer new.writer) new
       → report ≡ report_of old.writer.shown.files new.writer.shown.files noted → IfOk result (λ done. done ≡ replied_with requests.New (new_text report))
       → Ends moment old line noted result new
   new-ends report (Err wanted) h reported said = write-wanted moment old new line noted h (asks-as outcomes.NoMemory)
   new-ends report (Ok done) h reported said =
-      subst (λ (d : Answered). Ends moment old line noted (Ok d) new) (sym said)
+      subst (λ (d : LineAnswer). Ends moment old line noted (Ok d) new) (sym said)
       (h, replied-said moment old new line noted requests.New (new_text report) is (ap new_text reported))

@@ -32,9 +32,9 @@ use Rattle.nm_query.specs.declared.query_error.QueryError.{QueryError}
 use Rattle.nm_scan.specs.Bodies.{AreBodies, HasReadBodies, StopsInBodies, body_len, bytes_given, left_after}
 use Rattle.nm_scan.specs.declared.bodies_error.BodiesError.{BodiesError}
 use Rattle.nm_scan.specs.declared.bodies_error.BodiesError.TheVariants as stops
-use Rattle.nm_session.specs.Line.{Ends, IsAnswered, newly_closed, refused_with, replied_with}
+use Rattle.nm_session.specs.Line.{Ends, IsLineAnswer, newly_closed, refused_with, replied_with}
 use Rattle.nm_session.specs.Showing.{AsksSome, IsAfterShow, is_folder_fault, show_outcome}
-use Rattle.nm_session.specs.declared.answering.Answered.{Answered}
+use Rattle.nm_session.specs.declared.answering.LineAnswer.{LineAnswer}
 use Rattle.nm_session.specs.declared.showing.ShowFault.{ShowFault}
 use Rattle.nm_session.specs.declared.showing.ShowFault.TheVariants as faults
 use Rattle.nm_session.proofs.AnswerLemmas.{made-nothing, refused-said, replied-said, still-writer}
@@ -135,9 +135,9 @@ module _ (moment : ℤ) (writer : WriterState) (old_mail new_mail : ObservedMail
   answered : (outcome : Outcome) → Makes outcome moment old_mail.tree writer.shown line noted (length writer.acked + 0) [] []
       → AsksShow outcome old_mail new_mail left (lead_paths writer.shown ids) noted → new_mail.tree ≡ old_mail.tree → old_mail.faults ≤ new_mail.faults
       → HasCause outcome (asked.Request (requests.Show ask)) line.input (before_at old) writer.shown moment noted new_mail.faults false
-      → IsAnswered moment old line noted outcome (newly_closed writer writer) new
+      → IsLineAnswer moment old line noted outcome (newly_closed writer writer) new
   answered outcome makes asks tree grows cause =
-      subst (λ (b : Bool). IsAnswered moment old line noted outcome b new) (sym (still-writer writer)) (record {
+      subst (λ (b : Bool). IsLineAnswer moment old line noted outcome b new) (sym (still-writer writer)) (record {
         made = [];
         in_flight = [];
         has_made = made-nothing writer;
@@ -161,7 +161,7 @@ module _ (moment : ℤ) (writer : WriterState) (old_mail new_mail : ObservedMail
   refused outcome ill makes asks tree grows cause = (answered outcome makes asks tree grows cause, refused-said moment old new line noted outcome ill)
 
   -- a line that found no memory, wherever
-  wanted : AsksSome old_mail new_mail left (lead_paths writer.shown ids) noted → old_mail.faults ≤ new_mail.faults → IsAnswered moment old line noted outcomes.NoMemory (newly_closed writer writer) new
+  wanted : AsksSome old_mail new_mail left (lead_paths writer.shown ids) noted → old_mail.faults ≤ new_mail.faults → IsLineAnswer moment old line noted outcomes.NoMemory (newly_closed writer writer) new
   wanted asks grows = answered outcomes.NoMemory (inl refl, refl) asks (some-tree old_mail new_mail left (lead_paths writer.shown ids) noted asks) grows refl
 
   show-well : (text : List ℕ) → IsAfterShow ask writer.shown moment query left old_mail new_mail noted (Ok text) → new_mail.faults ≡ old_mail.faults
@@ -216,13 +216,13 @@ module _ (moment : ℤ) (writer : WriterState) (old_mail new_mail : ObservedMail
   some-by (Err faults.ShowBytes) h = inr (inr (stops.ShowBytes, h.reads))
   some-by (Err faults.NoMemory) h = h.reads
 
-  pub shown-ends : (text : List ℕ) (result : Result Answered NoMemory) → IsAfterShow ask writer.shown moment query left old_mail new_mail noted (Ok text) → new_mail.faults ≡ old_mail.faults
+  pub shown-ends : (text : List ℕ) (result : Result LineAnswer NoMemory) → IsAfterShow ask writer.shown moment query left old_mail new_mail noted (Ok text) → new_mail.faults ≡ old_mail.faults
       → IfOk result (λ done. done ≡ replied_with (requests.Show ask) text) → Ends moment old line noted result new
-  shown-ends text (Ok done) h same said = subst (λ (d : Answered). Ends moment old line noted (Ok d) new) (sym said) (show-well text h same)
+  shown-ends text (Ok done) h same said = subst (λ (d : LineAnswer). Ends moment old line noted (Ok d) new) (sym said) (show-well text h same)
   shown-ends text (Err error) h same said = wanted (some-by (Ok text) h) (omega (arith, same))
 
-  pub unshown-ends : (fault : ShowFault) (result : Result Answered NoMemory) → IsAfterShow ask writer.shown moment query left old_mail new_mail noted (Err fault)
+  pub unshown-ends : (fault : ShowFault) (result : Result LineAnswer NoMemory) → IsAfterShow ask writer.shown moment query left old_mail new_mail noted (Err fault)
       → HasCauseOf {T = List ℕ} is_folder_fault old_mail.faults new_mail.faults (Err fault) → IfOk result (λ _. fault ≡ faults.NoMemory → ⊥) → IfOk result (λ done. done ≡ refused_with (show_outcome fault))
       → Ends moment old line noted result new
-  unshown-ends fault (Ok done) h cause some said = subst (λ (d : Answered). Ends moment old line noted (Ok d) new) (sym said) (show-refused fault h cause some)
+  unshown-ends fault (Ok done) h cause some said = subst (λ (d : LineAnswer). Ends moment old line noted (Ok d) new) (sym said) (show-refused fault h cause some)
   unshown-ends fault (Err error) h cause some said = wanted (some-by (Err fault) h) (grows-by (Err fault) cause)

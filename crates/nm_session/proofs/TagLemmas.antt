@@ -36,9 +36,9 @@ use Rattle.nm_plan.specs.Moving.{HasDoneAll, HasTried, move_commit, tag_commits}
 use Rattle.nm_plan.specs.Plan.{due_commits}
 use Rattle.nm_plan.specs.Tagging.{tag_commit}
 use Rattle.nm_scan.specs.Bodies.{left_after}
-use Rattle.nm_session.specs.Line.{Ends, IsAnswered, IsEven, newly_closed, replied_with}
+use Rattle.nm_session.specs.Line.{Ends, IsEven, IsLineAnswer, newly_closed, replied_with}
 use Rattle.nm_session.specs.Outcomes.{outcome_of}
-use Rattle.nm_session.specs.declared.answering.Answered.{Answered}
+use Rattle.nm_session.specs.declared.answering.LineAnswer.{LineAnswer}
 use Rattle.nm_session.proofs.AnswerLemmas.{replied-said}
 use Rattle.nm_session.proofs.ChangeLemmas.{alive-asks, alive-by, answered-with, closed-by, fit-front, folded-append, gets-closed, made-failing, made-none, made-some, passed-by, stays-open, write-wanted}
 use Rattle.nm_writer.specs.Renamed.{AnswersAlong, AsksRenames, TreesAlong}
@@ -253,7 +253,7 @@ module _ (moment : ℤ) (old new : Place) (line : ScriptLine) (noted : List Give
     abbrev front : (path : List ℕ) × (rest : List (List ℕ)) × (renames_left index wanted noted ≡ path ∷ rest)
     front = first-left (length (renames_done index wanted noted)) (renames_for index wanted) short
 
-    faulted : (moves more : List Commit) → move_commit noted ≡ moves ++ more → HasCommitted mid moves new.writer → IsAnswered moment old line noted outcomes.MailFault (newly_closed old.writer new.writer) new
+    faulted : (moves more : List Commit) → move_commit noted ≡ moves ++ more → HasCommitted mid moves new.writer → IsLineAnswer moment old line noted outcomes.MailFault (newly_closed old.writer new.writer) new
     faulted moves more order made =
         let all : HasCommitted old.writer (tag_commit index wanted ++ moves) new.writer = committed-then old.writer mid new.writer (tag_commit index wanted) moves tags made in
         let whole : due ≡ (tag_commit index wanted ++ moves) ++ more = ap (λ (l : List Commit). tag_commit index wanted ++ l) order ∙ sym (append_assoc (tag_commit index wanted) moves more) in
@@ -268,7 +268,7 @@ module _ (moment : ℤ) (old new : Place) (line : ScriptLine) (noted : List Give
         })) refl all.closed mail.0 (stands-by new.writer.closed (all.closed ∙ alive) disk)
         (may-ask old.writer.closed (alive-asks old.writer.closed alive), asking-in request kind, mail, λ (failed : false ≡ true). absurd (cc))
 
-    failed-moves : FailsWithin mid (move_commit noted) new.disk_faults new.writer → IsAnswered moment old line noted outcomes.MailFault (newly_closed old.writer new.writer) new
+    failed-moves : FailsWithin mid (move_commit noted) new.disk_faults new.writer → IsLineAnswer moment old line noted outcomes.MailFault (newly_closed old.writer new.writer) new
     failed-moves h =
         let all : FailsWithin old.writer due new.disk_faults new.writer = failing-then old.writer mid new.writer (tag_commit index wanted) (move_commit noted) new.disk_faults tags h in
         answered-with moment old new line noted request is left asks-so tree outcomes.MailFault all.done (all.commit ∷ []) true (gets-closed old.writer new.writer new.disk_faults alive all.closed)
@@ -282,7 +282,7 @@ module _ (moment : ℤ) (old new : Place) (line : ScriptLine) (noted : List Give
         })) refl all.closed mail.0 (rises-by new.writer.closed new.disk_faults all.closed disk)
         (may-ask old.writer.closed (alive-asks old.writer.closed alive), asking-in request kind, mail, λ (failed : true ≡ true). kind)
 
-    by-moves : (outcome : Result (Unit {0}) WriteError) → IsAfterCommits mid (move_commit noted) new.disk_faults outcome new.writer → IsAnswered moment old line noted outcomes.MailFault (newly_closed old.writer new.writer) new
+    by-moves : (outcome : Result (Unit {0}) WriteError) → IsAfterCommits mid (move_commit noted) new.disk_faults outcome new.writer → IsLineAnswer moment old line noted outcomes.MailFault (newly_closed old.writer new.writer) new
     by-moves (Ok done) h = faulted (move_commit noted) [] (sym (append-nil (move_commit noted))) h
     by-moves (Err errors.MailFault) h = absurd h
     by-moves (Err errors.DiskFault) h = failed-moves h
@@ -299,7 +299,7 @@ module _ (moment : ℤ) (old new : Place) (line : ScriptLine) (noted : List Give
       → IfSome old.writer.closed (λ fault. (result ≡ Err (errors.Closed fault)) × P × Q)
       → HasCauseOf is_read_fault old.mail.faults new.mail.faults result → (old.writer.closed ≡ None → Counts (is_some new.writer.closed) old.disk_faults new.disk_faults)
       → (Q → new.disk_faults ≡ old.disk_faults) → IsEven old.writer
-      → IsAnswered moment old line noted (outcome_by result) (newly_closed old.writer new.writer) new
+      → IsLineAnswer moment old line noted (outcome_by result) (newly_closed old.writer new.writer) new
   tag-answered P Q (Ok report) after shut mail disk idle even =
       let alive : old.writer.closed ≡ None = alive-by old.writer.closed (Ok report) P Q shut refl in
       answered-with moment old new line noted request is left asks-so tree outcomes.Ok due [] false (still after.2.closed)
@@ -347,10 +347,10 @@ module _ (moment : ℤ) (old new : Place) (line : ScriptLine) (noted : List Give
       refl stops.made.closed (omega (arith, mail)) (stands-by new.writer.closed (stops.made.closed ∙ alive) (disk alive)) refl
 
   -- what is said that went well
-  pub tag-ends : (report : SyncReport) (named : List (List ℕ)) (result : Result Answered NoMemory) → IsAnswered moment old line noted outcomes.Ok (newly_closed old.writer new.writer) new
+  pub tag-ends : (report : SyncReport) (named : List (List ℕ)) (result : Result LineAnswer NoMemory) → IsLineAnswer moment old line noted outcomes.Ok (newly_closed old.writer new.writer) new
       → report ≡ sync_report index wanted noted → named ≡ strangers_for request line.input index → IfOk result (λ done. done ≡ replied_with request (strangers_text named ++ sync_text report)) → Ends moment old line noted result new
   tag-ends report named (Err error) h reported strange said = write-wanted moment old new line noted h (asks-as outcomes.NoMemory)
   tag-ends report named (Ok done) h reported strange said =
       let text = ap (λ (r : SyncReport). strangers_text named ++ sync_text r) reported ∙ ap (λ (l : List (List ℕ)). strangers_text l ++ sync_text (sync_report index wanted noted)) strange in
-      subst (λ (d : Answered). Ends moment old line noted (Ok d) new) (sym said)
+      subst (λ (d : LineAnswer). Ends moment old line noted (Ok d) new) (sym said)
       (h, replied-said moment old new line noted request (strangers_text named ++ sync_text report) is (text ∙ answers-in request kind line.input index new.writer.shown moment noted))

@@ -28,7 +28,7 @@ use Rattle.nm_maildir.specs.declared.given.Given.{Given}
 use Rattle.nm_scan.specs.Bodies.{left_after}
 use Rattle.nm_session.specs.Marks.{line_marks, reply_mark}
 use Rattle.nm_session.specs.Rooms.{AreSpares}
-use Rattle.nm_session.specs.declared.answering.Answered.{Answered}
+use Rattle.nm_session.specs.declared.answering.LineAnswer.{LineAnswer}
 use Rattle.nm_session.specs.declared.marks.Mark.{Mark}
 use Rattle.nm_session.specs.declared.marks.Mark.TheVariants as marks
 use Rattle.nm_session.specs.declared.rooms.Rooms.{Rooms}
@@ -47,7 +47,7 @@ abbrev pub IsEven : WriterState → Type 0
 IsEven writer = writer.closed ≡ None → length writer.begun ≡ length writer.acked
 
 -- A line was run and ended so, and the disk failed in it or not: what it made and asked, and why it ended so.
-pub record IsAnswered (moment : ℤ) (old : Place) (line : ScriptLine) (noted : List Given) (outcome : Outcome) (failed : Bool) (new : Place) : Type 0 where
+pub record IsLineAnswer (moment : ℤ) (old : Place) (line : ScriptLine) (noted : List Given) (outcome : Outcome) (failed : Bool) (new : Place) : Type 0 where
   pub made : List Commit
   pub in_flight : List Commit
   pub has_made : HasMade old.writer made in_flight new.writer
@@ -63,19 +63,19 @@ pub record IsAnswered (moment : ℤ) (old : Place) (line : ScriptLine) (noted : 
   pub disk : Counts failed old.disk_faults new.disk_faults
 
 -- What it says, and the mark of its reply where it went well.
-pub record IsSaid (moment : ℤ) (old : Place) (line : ScriptLine) (noted : List Given) (done : Answered) (new : Place) : Type 0 where
+pub record IsSaid (moment : ℤ) (old : Place) (line : ScriptLine) (noted : List Given) (done : LineAnswer) (new : Place) : Type 0 where
   pub text : done.text ≡ line_text done.outcome (parse_line line) line.input old.writer.shown new.writer.shown moment noted
   pub reply : (lane revision : ℕ) → option_to_list done.reply ≡ map reply_mark (replied_where done.outcome (parse_line line) lane revision done.text)
 
 -- It was answered, or found no memory for it.
-abbrev pub Ends : ℤ → Place → ScriptLine → List Given → Result Answered NoMemory → Place → Type 0
+abbrev pub Ends : ℤ → Place → ScriptLine → List Given → Result LineAnswer NoMemory → Place → Type 0
 Ends moment old line noted (Ok done) new =
-    IsAnswered moment old line noted done.outcome (newly_closed old.writer new.writer) new × IsSaid moment old line noted done new
-Ends moment old line noted (Err error) new = IsAnswered moment old line noted outcomes.NoMemory (newly_closed old.writer new.writer) new
+    IsLineAnswer moment old line noted done.outcome (newly_closed old.writer new.writer) new × IsSaid moment old line noted done new
+Ends moment old line noted (Err error) new = IsLineAnswer moment old line noted outcomes.NoMemory (newly_closed old.writer new.writer) new
 
 -- A line was run, and its log says so.
 pub record IsRun (moment : ℤ) (old : Place) (ran : RunLine) (reply : Option Mark) (new : Place) : Type 0 where
-  pub answered : IsAnswered moment old ran.0 ran.1.given ran.1.outcome ran.1.disk_failed new
+  pub answered : IsLineAnswer moment old ran.0 ran.1.given ran.1.outcome ran.1.disk_failed new
   pub text : ran.1.text ≡ line_text ran.1.outcome (parse_line ran.0) ran.0.input old.writer.shown new.writer.shown moment ran.1.given
   pub reply_is : option_to_list reply ≡ map reply_mark (reply_to ran)
   pub numbers : IsNumbered ran.0 ran.1
@@ -99,18 +99,18 @@ pub record IsNoted (moment : ℤ) (old : Place) (line : ScriptLine) (before afte
   pub within : length new.writer.begun ≤ max_commits
 
 -- it went well, with this text
-abbrev pub replied_with : Request → List ℕ → Answered
+abbrev pub replied_with : Request → List ℕ → LineAnswer
 replied_with request text = record { outcome = outcomes.Ok; text = text; reply = Some (marks.Reply request text) }
 
 -- it is refused
-abbrev pub refused_with : Outcome → Answered
+abbrev pub refused_with : Outcome → LineAnswer
 refused_with outcome = record { outcome = outcome; text = refusal_line outcome; reply = None }
 
 -- the refusal of its query, if there is one, or else the text
-abbrev pub refused_or : Request → List ℕ → Option Outcome → Answered
+abbrev pub refused_or : Request → List ℕ → Option Outcome → LineAnswer
 refused_or request text None = replied_with request text
 refused_or request text (Some outcome) = refused_with outcome
 
 -- what a request is answered that asks no device, by its input, on this index
-abbrev pub IsReadOff : ℤ → Base → Request → List ℕ → Answered → Type 0
+abbrev pub IsReadOff : ℤ → Base → Request → List ℕ → LineAnswer → Type 0
 IsReadOff moment index request input done = done ≡ refused_or request (answer request input index index moment []) (refused_text_of request input)

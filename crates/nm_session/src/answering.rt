@@ -33,7 +33,7 @@ use std::alloc::Global;
 
 /// What came of a line beside its commits.
 #[derive(Drop)]
-pub(crate) struct Answered {
+pub(crate) struct LineAnswer {
     pub(crate) outcome: Outcome,
     pub(crate) text: Many<u8>,
     /// The mark of its reply, where it went well.
@@ -50,7 +50,7 @@ pub(crate) fn answer<M: Maildir, D: Disk>(
     disk: &mut D,
     left: u64,
     given: &mut Many<Given>,
-) -> Result<Answered, NoMemory>
+) -> Result<LineAnswer, NoMemory>
     requires moment { IsMoment setting.now.moment }
     requires fresh { given.old ≡ [] }
     requires even { IsEven writer.old }
@@ -104,7 +104,7 @@ fn run_count(
     snapshot: &Snapshot,
     ask: CountAsk,
     input: &[u8],
-) -> Result<Answered, NoMemory>
+) -> Result<LineAnswer, NoMemory>
     requires moment { IsMoment setting.now.moment }
     ensures { IfOk result (IsReadOff setting.now.moment snapshot.now (Request.Count ask) input.now) }
 {
@@ -127,7 +127,7 @@ fn count_each(
     snapshot: &Snapshot,
     ask: CountAsk,
     input: &[u8],
-) -> Result<Answered, NoMemory>
+) -> Result<LineAnswer, NoMemory>
     requires moment { IsMoment setting.now.moment }
     requires batch { ask.batch ≡ true }
     ensures { IfOk result (IsReadOff setting.now.moment snapshot.now (Request.Count ask) input.now) }
@@ -148,7 +148,7 @@ fn run_search(
     setting: &Setting,
     snapshot: &Snapshot,
     ask: SearchAsk,
-) -> Result<Answered, NoMemory>
+) -> Result<LineAnswer, NoMemory>
     requires moment { IsMoment setting.now.moment }
     ensures { IfOk result (λ done. (input : List ℕ) → IsReadOff setting.now.moment snapshot.now (Request.Search ask) input done) }
 {
@@ -167,7 +167,7 @@ fn run_dump(
     setting: &Setting,
     snapshot: &Snapshot,
     ask: DumpAsk,
-) -> Result<Answered, NoMemory>
+) -> Result<LineAnswer, NoMemory>
     requires moment { IsMoment setting.now.moment }
     ensures { IfOk result (λ done. (input : List ℕ) → IsReadOff setting.now.moment snapshot.now (Request.Dump ask) input done) }
 {
@@ -189,7 +189,7 @@ fn run_show<M: Maildir>(
     left: u64,
     mail: &mut M,
     given: &mut Many<Given>,
-) -> Result<Answered, NoMemory>
+) -> Result<LineAnswer, NoMemory>
     requires moment { IsMoment setting.now.moment }
     requires fresh { given.old ≡ [] }
     ensures { (line : ScriptLine) (writer : WriterState) (disk : ObservedDisk) → parse_line line ≡ asked.Request (Request.Show ask) → writer.shown ≡ snapshot.now
@@ -214,7 +214,7 @@ fn run_show<M: Maildir>(
 }
 
 /// The refusal of a show.
-fn refuse_show(alloc: Global, fault: ShowFault) -> Result<Answered, NoMemory>
+fn refuse_show(alloc: Global, fault: ShowFault) -> Result<LineAnswer, NoMemory>
     ensures some { IfOk result (λ _. fault ≢ ShowFault.NoMemory) }
     ensures refused { IfOk result (λ done. done ≡ refused_with (show_outcome fault)) }
 {
@@ -228,7 +228,7 @@ fn refuse_show(alloc: Global, fault: ShowFault) -> Result<Answered, NoMemory>
 }
 
 /// The refusal of a text that is no query.
-pub(crate) fn refuse_query(alloc: Global, error: QueryError) -> Result<Answered, NoMemory>
+pub(crate) fn refuse_query(alloc: Global, error: QueryError) -> Result<LineAnswer, NoMemory>
     ensures some { IfOk result (λ _. error ≢ QueryError.NoMemory) }
     ensures refused { IfOk result (λ done. done ≡ refused_with (query_outcome error)) }
 {
@@ -241,11 +241,11 @@ pub(crate) fn refuse_query(alloc: Global, error: QueryError) -> Result<Answered,
 }
 
 /// The line went well.
-pub(crate) fn replied(request: Request, text: Many<u8>) -> Result<Answered, NoMemory>
+pub(crate) fn replied(request: Request, text: Many<u8>) -> Result<LineAnswer, NoMemory>
     ensures { IfOk result (λ done. done ≡ replied_with request text) }
 {
     let copied = text.copy()?;
-    Ok(Answered {
+    Ok(LineAnswer {
         outcome: Outcome::Ok,
         text,
         reply: Some(Mark::Reply {
@@ -256,11 +256,11 @@ pub(crate) fn replied(request: Request, text: Many<u8>) -> Result<Answered, NoMe
 }
 
 /// The line is refused.
-pub(crate) fn refuse(alloc: Global, outcome: Outcome) -> Result<Answered, NoMemory>
+pub(crate) fn refuse(alloc: Global, outcome: Outcome) -> Result<LineAnswer, NoMemory>
     ensures { IfOk result (λ done. done ≡ refused_with outcome) }
 {
     let text = refusal_line(alloc, &outcome)?;
-    Ok(Answered {
+    Ok(LineAnswer {
         outcome,
         text,
         reply: None,

@@ -18,7 +18,7 @@ ghost use Rattle.nm_session.specs.Outcomes.{is_fault, outcome_of};
 ghost use Rattle.nm_writer.specs.Durable.{IsDurable};
 ghost use Rattle.nm_writer.specs.Writer.{StandsOnIndex};
 
-use crate::answering::{Answered, refuse, replied};
+use crate::answering::{LineAnswer, refuse, replied};
 use nm_answer::{NewReport, Request, SyncReport, Tagging};
 use nm_base::{Copies, Many, MessageId, NoMemory, RestoreAsk, TagAsk};
 use nm_batch::read_taggings;
@@ -55,7 +55,7 @@ pub(crate) fn run_new<M: Maildir, D: Disk>(
     mail: &mut M,
     disk: &mut D,
     given: &mut Many<Given>,
-) -> Result<Answered, NoMemory>
+) -> Result<LineAnswer, NoMemory>
     requires fresh { given.old ≡ [] }
     requires even { IsEven writer.old }
     requires stands { writer.old.closed ≡ None → IfSome (D.observed disk.old).told (λ moments. StandsOnIndex moments.present writer.old) }
@@ -74,7 +74,7 @@ pub(crate) fn run_new<M: Maildir, D: Disk>(
 }
 
 /// The reply of a `new`.
-fn reply_new(alloc: Global, report: &NewReport) -> Result<Answered, NoMemory>
+fn reply_new(alloc: Global, report: &NewReport) -> Result<LineAnswer, NoMemory>
     ensures { IfOk result (λ done. done ≡ replied_with Request.New (new_text report.now)) }
 {
     let text = new_text(alloc, report)?;
@@ -82,19 +82,19 @@ fn reply_new(alloc: Global, report: &NewReport) -> Result<Answered, NoMemory>
 }
 
 /// The refusal of what writes; where a device failed it wants no memory.
-fn refuse_write(alloc: Global, error: WriteError, texts: FaultTexts) -> Result<Answered, NoMemory>
+fn refuse_write(alloc: Global, error: WriteError, texts: FaultTexts) -> Result<LineAnswer, NoMemory>
     requires { AreFaultTexts texts }
     ensures { MatchResult result
         (λ done. done ≡ refused_with (outcome_of error))
         (λ _. is_fault error ≡ false) }
 {
     match error {
-        WriteError::MailFault => Ok(Answered {
+        WriteError::MailFault => Ok(LineAnswer {
             outcome: Outcome::MailFault,
             text: texts.mail,
             reply: None,
         }),
-        WriteError::DiskFault => Ok(Answered {
+        WriteError::DiskFault => Ok(LineAnswer {
             outcome: Outcome::DiskFault,
             text: texts.disk,
             reply: None,
@@ -123,7 +123,7 @@ pub(crate) fn run_tag<M: Maildir, D: Disk>(
     ask: TagAsk,
     input: &[u8],
     given: &mut Many<Given>,
-) -> Result<Answered, NoMemory>
+) -> Result<LineAnswer, NoMemory>
     requires moment { IsMoment setting.now.moment }
     requires fresh { given.old ≡ [] }
     requires even { IsEven writer.old }
@@ -158,7 +158,7 @@ pub(crate) fn run_restore<M: Maildir, D: Disk>(
     ask: RestoreAsk,
     input: &[u8],
     given: &mut Many<Given>,
-) -> Result<Answered, NoMemory>
+) -> Result<LineAnswer, NoMemory>
     requires moment { IsMoment setting.now.moment }
     requires fresh { given.old ≡ [] }
     requires even { IsEven writer.old }
@@ -185,7 +185,7 @@ fn change_tags<M: Maildir, D: Disk>(
     disk: &mut D,
     changes: Changes,
     given: &mut Many<Given>,
-) -> Result<Answered, NoMemory>
+) -> Result<LineAnswer, NoMemory>
     requires moment { IsMoment setting.now.moment }
     requires fresh { given.old ≡ [] }
     requires even { IsEven writer.old }
@@ -207,7 +207,7 @@ fn change_tags<M: Maildir, D: Disk>(
 }
 
 /// The reply of what set tags.
-fn reply_change(alloc: Global, changes: Changes, report: &SyncReport) -> Result<Answered, NoMemory>
+fn reply_change(alloc: Global, changes: Changes, report: &SyncReport) -> Result<LineAnswer, NoMemory>
     ensures { IfOk result (λ done. done ≡ replied_with changes.request (strangers_text changes.strangers ++ sync_text report.now)) }
 {
     let text = change_reply(alloc, &changes.strangers, report)?;

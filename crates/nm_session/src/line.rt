@@ -11,7 +11,7 @@ ghost use Rattle.nm_session.specs.Rooms.{HasSpare};
 ghost use Rattle.nm_writer.specs.Durable.{IsDurable};
 ghost use Rattle.nm_writer.specs.Writer.{StandsOnIndex};
 
-use crate::answering::{Answered, answer};
+use crate::answering::{LineAnswer, answer};
 use crate::marks::Mark;
 use crate::rooms::{Rooms, note, take_spare};
 use nm_base::{Many, NoMemory};
@@ -82,7 +82,7 @@ fn line_log<M: Maildir, D: Disk>(
     let mut given = Many::new(alloc);
     let was_closed = writer.is_closed();
     let answered = answer(alloc, setting, line, writer, mail, disk, left, &mut given);
-    let Answered {
+    let LineAnswer {
         outcome,
         text,
         reply,
@@ -111,12 +111,12 @@ fn newly_closed(before: bool, now: bool) -> bool
 }
 
 /// The answer, or that of a line that finds no memory.
-fn answered_or(answered: Result<Answered, NoMemory>, spare: Many<u8>) -> Answered
+fn answered_or(answered: Result<LineAnswer, NoMemory>, spare: Many<u8>) -> LineAnswer
     ensures { MatchResult answered (λ done. result ≡ done) (λ _. result ≡ record { outcome = Outcome.NoMemory; text = spare; reply = None }) }
 {
     match answered {
         Ok(done) => done,
-        Err(_) => Answered {
+        Err(_) => LineAnswer {
             outcome: Outcome::NoMemory,
             text: spare,
             reply: None,

@@ -87,8 +87,8 @@ abbrev pub is_passed_over : List ℕ → Bool
 is_passed_over line = length line == 0 || begins_comment (trimmed_start line)
 
 -- what one line asks for, nothing where it is passed over, or its fault
-abbrev pub judged : Bool → List ℕ → Result (Option (List TagOp × List ℕ)) LineKind
-judged clear line =
+abbrev pub classified : Bool → List ℕ → Result (Option (List TagOp × List ℕ)) LineKind
+classified clear line =
     if not (is_utf8 line) then Err kinds.Utf8
     else (if is_passed_over line then Ok None
     else elim (read_line clear line) [ Ok asked ↦ Ok (Some asked) | Err kind ↦ Err kind ])
@@ -103,7 +103,7 @@ then_lines number (Err kind) read = Err (number, kind)
 -- what the lines ask for, the first of them having this number, or the first fault with the number of its line
 abbrev pub read_lines : Bool → ℕ → List (List ℕ) → Result (List TagLine) (ℕ × LineKind)
 read_lines clear number [] = Ok []
-read_lines clear number (line ∷ more) = then_lines number (judged clear line) (read_lines clear (number + 1) more)
+read_lines clear number (line ∷ more) = then_lines number (classified clear line) (read_lines clear (number + 1) more)
 
 -- lines are ended by LF or CR LF, and counted from 1
 abbrev pub batch_lines : List ℕ → Bool → Result (List TagLine) (ℕ × LineKind)

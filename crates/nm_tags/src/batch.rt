@@ -2,7 +2,7 @@
 
 ghost use Rattle.std.specs.Prelude.{◌≡◌, ◌<◌, [], ◌∷◌, true, length, IfOk, IfSome, MatchOption, MatchResult, Some, None, Ok, Err};
 ghost use Rattle.std.specs.Str.Lines.{lines};
-ghost use Rattle.nm_tags.specs.TagLines.{asked_in, batch_lines, is_passed_over, is_tag_word, judged, op_of, query_after, read_line, with_op, IsLineFault};
+ghost use Rattle.nm_tags.specs.TagLines.{asked_in, batch_lines, classified, is_passed_over, is_tag_word, op_of, query_after, read_line, with_op, IsLineFault};
 
 use crate::decode::{decode_tag, text_of};
 use crate::words::{is_tag_word, next_word, query_after, without_space};
@@ -24,7 +24,7 @@ pub fn batch_lines(alloc: Global, bytes: &[u8], clear: bool) -> Result<Many<TagL
     'lines: while let Some((line, more)) = next_content(rest) {
         number += 1;
         rest = more;
-        match judged(alloc, line, clear)? {
+        match classified(alloc, line, clear)? {
             Ok(None) => {}
             Ok(Some((ops, query))) => read.push(TagLine {
                 line: number,
@@ -54,12 +54,12 @@ fn next_content(bytes: &[u8]) -> Option<(&[u8], &[u8])>
 }
 
 /// What one line asks for, without its end: nothing where it is passed over, or its fault.
-pub fn judged(
+pub fn classified(
     alloc: Global,
     line: &[u8],
     clear: bool,
 ) -> Result<Result<Option<(Many<TagOp>, Text)>, LineKind>, NoMemory>
-    ensures { IfOk result (λ answer. answer ≡ judged clear line.now) }
+    ensures { IfOk result (λ answer. answer ≡ classified clear line.now) }
 {
     let Some(text) = text_of(line) else {
         return Ok(Err(LineKind::Utf8));

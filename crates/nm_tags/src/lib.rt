@@ -13,7 +13,7 @@ mod wanted;
 mod words;
 
 pub use apply::apply_ops;
-pub use batch::{batch_lines, changes_of, judged};
+pub use batch::{batch_lines, changes_of, classified};
 pub use decode::{decode_tag, text_of};
 pub use encode::encode_tag;
 pub use laws::{

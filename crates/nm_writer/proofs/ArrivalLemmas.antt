@@ -10,7 +10,7 @@ use Rattle.nm_base.specs.Limits.{IsDate}
 use Rattle.nm_commit.specs.Files.{has_path, paths_of}
 use Rattle.nm_maildir.specs.declared.given.ReadAnswer.{ReadAnswer}
 use Rattle.nm_maildir.specs.declared.given.ReadAnswer.TheVariants as answers
-use Rattle.nm_plan.specs.Plan.{AreArrivals, to_read}
+use Rattle.nm_plan.specs.Plan.{AreAdded, to_read}
 use Rattle.nm_scan.specs.Reading.{mail_in}
 use Rattle.nm_writer.specs.Batch.{AreUnknown}
 
@@ -117,9 +117,9 @@ distinct-front [] more h = tt
 distinct-front (text ∷ texts) more h = (every-front _ texts more h.0, distinct-front texts more h.1)
 
 -- the mails that were read at the first of the paths are arrivals
-pub are-arrivals : (files : List (List ℕ × Facts)) (paths read left : List (List ℕ)) (arrivals : List (List ℕ × Facts)) (reads : List (List ℕ × ReadAnswer))
-    → AreUnknown files paths → paths ≡ read ++ left → map (λ read. read.0) reads ≡ read → paths_of arrivals ≡ flat_map mail_in reads → AllByRecursion (λ arrival. IsDate arrival.1.date) arrivals → AreArrivals files arrivals
-are-arrivals files paths read left arrivals reads unknown paths_are each mails dated =
+pub are-added : (files : List (List ℕ × Facts)) (paths read left : List (List ℕ)) (added : List (List ℕ × Facts)) (reads : List (List ℕ × ReadAnswer))
+    → AreUnknown files paths → paths ≡ read ++ left → map (λ read. read.0) reads ≡ read → paths_of added ≡ flat_map mail_in reads → AllByRecursion (λ arrival. IsDate arrival.1.date) added → AreAdded files added
+are-added files paths read left added reads unknown paths_are each mails dated =
     let once : IsDistinct same_text (map (λ read. read.0) reads) = subst (IsDistinct same_text) (sym each) (distinct-front read left (subst (IsDistinct same_text) paths_are unknown.once)) in
     let fresh : AllByRecursion (λ path. has_path files path ≡ false) (map (λ read. read.0) reads) =
     subst (AllByRecursion (λ path. has_path files path ≡ false)) (sym each) (every-front (λ path. has_path files path ≡ false) read left (subst (AllByRecursion (λ path. has_path files path ≡ false)) paths_are unknown.fresh)) in

@@ -9,10 +9,10 @@ use Rattle.nm_index.specs.Index.{committed, folded}
 use Rattle.nm_index.specs.declared.base.Base.{Base}
 use Rattle.nm_maildir.specs.Observed.{ObservedMail}
 use Rattle.nm_maildir.specs.declared.given.Given.{Given}
-use Rattle.nm_plan.specs.Plan.{AreArrivals, all_arrivals, batch_commit, batch_commits, new_commits}
+use Rattle.nm_plan.specs.Plan.{AreAdded, all_added, batch_commit, batch_commits, new_commits}
 use Rattle.nm_scan.specs.Batches.{HasReadBatch, HasReadBatches, HasReadSome, StopsInBatch}
 use Rattle.nm_scan.specs.Reading.{HasRead}
-use Rattle.nm_writer.proofs.ArrivalLemmas.{are-arrivals}
+use Rattle.nm_writer.proofs.ArrivalLemmas.{are-added}
 use Rattle.nm_writer.proofs.DoneLemmas.{fit-first, fit-second, made-made, none-made, then-made}
 use Rattle.nm_writer.specs.Batch.{AreUnknown, BatchFits, IsAfterBatch, IsAfterBatches, Reading}
 use Rattle.nm_writer.specs.Writer.{WriterState}
@@ -34,25 +34,25 @@ unread old new due faults before now (Err errors.NoMemory) after same = same
 
 -- one batch
 
-pub after-batch : (before now : Reading) (paths rest : List (List ℕ)) (arrivals : List (List ℕ × Facts)) (old new : WriterState) (faults : ℕ) (result : Result (Unit {0}) WriteError)
-    → HasReadBatch before.mail now.mail before.noted now.noted paths rest arrivals → IsAfterCommits old (batch_commit old.shown arrivals) faults result new → IsAfterBatch before now paths rest old faults result new
-after-batch before now paths rest arrivals old new faults (Ok done) read after = (arrivals, read, after)
-after-batch before now paths rest arrivals old new faults (Err errors.MailFault) read after = absurd after
-after-batch before now paths rest arrivals old new faults (Err errors.DiskFault) read after = (arrivals, read, after)
-after-batch before now paths rest arrivals old new faults (Err (errors.Closed fault)) read after = absurd after
-after-batch before now paths rest arrivals old new faults (Err (errors.Limit limit)) read after = (arrivals, read, after)
-after-batch before now paths rest arrivals old new faults (Err errors.NoMemory) read after = inr (arrivals, read, after)
+pub after-batch : (before now : Reading) (paths rest : List (List ℕ)) (added : List (List ℕ × Facts)) (old new : WriterState) (faults : ℕ) (result : Result (Unit {0}) WriteError)
+    → HasReadBatch before.mail now.mail before.noted now.noted paths rest added → IsAfterCommits old (batch_commit old.shown added) faults result new → IsAfterBatch before now paths rest old faults result new
+after-batch before now paths rest added old new faults (Ok done) read after = (added, read, after)
+after-batch before now paths rest added old new faults (Err errors.MailFault) read after = absurd after
+after-batch before now paths rest added old new faults (Err errors.DiskFault) read after = (added, read, after)
+after-batch before now paths rest added old new faults (Err (errors.Closed fault)) read after = absurd after
+after-batch before now paths rest added old new faults (Err (errors.Limit limit)) read after = (added, read, after)
+after-batch before now paths rest added old new faults (Err errors.NoMemory) read after = inr (added, read, after)
 
 -- the commits of one batch more
-commits-more : (index : Base) (batches : Batches) (arrivals : List (List ℕ × Facts))
-    → batch_commits index (batches ++ arrivals ∷ []) ≡ batch_commits index batches ++ batch_commit (folded index (batch_commits index batches)) arrivals
-commits-more index [] arrivals = append-nil (batch_commit index arrivals)
-commits-more index (first ∷ batches) arrivals =
+commits-more : (index : Base) (batches : Batches) (added : List (List ℕ × Facts))
+    → batch_commits index (batches ++ added ∷ []) ≡ batch_commits index batches ++ batch_commit (folded index (batch_commits index batches)) added
+commits-more index [] added = append-nil (batch_commit index added)
+commits-more index (first ∷ batches) added =
     let here : List Commit = batch_commit index first in
     let next : Base = folded index here in
-    ap (λ (l : List Commit). here ++ l) (commits-more next batches arrivals)
-    ∙ (sym (append_assoc here (batch_commits next batches) (batch_commit (folded next (batch_commits next batches)) arrivals))
-    ∙ ap (λ (b : Base). (here ++ batch_commits next batches) ++ batch_commit b arrivals) (sym (fold-append committed index here (batch_commits next batches))))
+    ap (λ (l : List Commit). here ++ l) (commits-more next batches added)
+    ∙ (sym (append_assoc here (batch_commits next batches) (batch_commit (folded next (batch_commits next batches)) added))
+    ∙ ap (λ (b : Base). (here ++ batch_commits next batches) ++ batch_commit b added) (sym (fold-append committed index here (batch_commits next batches))))
 
 -- Batches go on: the first of the paths were read, and a commit was made of each batch with mail.
 pub record InBatches (before now : Reading) (paths left : List (List ℕ)) (old new : WriterState) : Type 0 where
@@ -62,10 +62,10 @@ pub record InBatches (before now : Reading) (paths left : List (List ℕ)) (old 
 
 -- the laws by which they go on
 pub record Laws : Type 0 where
-  pub fits : (index : Base) (listed : List (List ℕ)) (batches : Batches) → AreArrivals index.files (all_arrivals batches) → FitInTurn index (new_commits index listed batches)
+  pub fits : (index : Base) (listed : List (List ℕ)) (batches : Batches) → AreAdded index.files (all_added batches) → FitInTurn index (new_commits index listed batches)
   pub first : (mail : ObservedMail) (noted : List Given) (paths : List (List ℕ)) → HasReadBatches mail mail noted noted paths [] paths
-  pub more : (old mid new : ObservedMail) (old_noted mid_noted new_noted : List Given) (paths : List (List ℕ)) (batches : Batches) (left rest : List (List ℕ)) (arrivals : List (List ℕ × Facts))
-      → HasReadBatches old mid old_noted mid_noted paths batches left → HasReadBatch mid new mid_noted new_noted left rest arrivals → HasReadBatches old new old_noted new_noted paths (batches ++ arrivals ∷ []) rest
+  pub more : (old mid new : ObservedMail) (old_noted mid_noted new_noted : List Given) (paths : List (List ℕ)) (batches : Batches) (left rest : List (List ℕ)) (added : List (List ℕ × Facts))
+      → HasReadBatches old mid old_noted mid_noted paths batches left → HasReadBatch mid new mid_noted new_noted left rest added → HasReadBatches old new old_noted new_noted paths (batches ++ added ∷ []) rest
   pub finished : (old new : ObservedMail) (old_noted new_noted : List Given) (paths : List (List ℕ)) (batches : Batches) (left : List (List ℕ)) → HasReadBatches old new old_noted new_noted paths batches left
       → HasReadSome old new old_noted new_noted paths batches left
   pub unfinished : (old mid new : ObservedMail) (old_noted mid_noted new_noted : List Given) (paths : List (List ℕ)) (batches : Batches) (left : List (List ℕ)) → HasReadBatches old mid old_noted mid_noted paths batches left
@@ -77,25 +77,25 @@ module _ (laws : Laws) where
       subst (λ (l : List (List ℕ)). InBatches before before paths l old old) (sym same) (record { batches = []; read = laws.first before.mail before.noted paths; made = none-made old })
 
   module _ (before mid : Reading) (paths left : List (List ℕ)) (old w : WriterState) (h : InBatches before mid paths left old w) where
-    more-are : (arrivals : List (List ℕ × Facts)) → batch_commits old.shown (h.batches ++ arrivals ∷ []) ≡ batch_commits old.shown h.batches ++ batch_commit w.shown arrivals
-    more-are arrivals = commits-more old.shown h.batches arrivals ∙ ap (λ (b : Base). batch_commits old.shown h.batches ++ batch_commit b arrivals) (sym h.made.shown)
+    more-are : (added : List (List ℕ × Facts)) → batch_commits old.shown (h.batches ++ added ∷ []) ≡ batch_commits old.shown h.batches ++ batch_commit w.shown added
+    more-are added = commits-more old.shown h.batches added ∙ ap (λ (b : Base). batch_commits old.shown h.batches ++ batch_commit b added) (sym h.made.shown)
 
     -- the commits of one batch more fit
     pub next_fits : AreUnknown old.shown.files paths → BatchFits w.shown mid left
-    next_fits unknown new rest arrivals k =
-        let all = laws.more before.mail mid.mail new.mail before.noted mid.noted new.noted paths h.batches left rest arrivals h.read k in
-        let are : AreArrivals old.shown.files (all_arrivals (h.batches ++ arrivals ∷ [])) =
-        are-arrivals old.shown.files paths all.read rest (all_arrivals (h.batches ++ arrivals ∷ [])) all.all.reading.notes.reads unknown all.paths_are all.all.reading.notes.each all.all.reading.mails all.all.reading.dated in
-        let fit : FitInTurn old.shown (batch_commits old.shown h.batches ++ batch_commit w.shown arrivals) =
-        subst (FitInTurn old.shown) (more-are arrivals) (fit-first old.shown (batch_commits old.shown (h.batches ++ arrivals ∷ [])) _ (laws.fits old.shown [] (h.batches ++ arrivals ∷ []) are)) in
-        subst (λ (b : Base). FitInTurn b (batch_commit w.shown arrivals)) (sym h.made.shown) (fit-second old.shown (batch_commits old.shown h.batches) (batch_commit w.shown arrivals) fit)
+    next_fits unknown new rest added k =
+        let all = laws.more before.mail mid.mail new.mail before.noted mid.noted new.noted paths h.batches left rest added h.read k in
+        let are : AreAdded old.shown.files (all_added (h.batches ++ added ∷ [])) =
+        are-added old.shown.files paths all.read rest (all_added (h.batches ++ added ∷ [])) all.all.reading.notes.reads unknown all.paths_are all.all.reading.notes.each all.all.reading.mails all.all.reading.dated in
+        let fit : FitInTurn old.shown (batch_commits old.shown h.batches ++ batch_commit w.shown added) =
+        subst (FitInTurn old.shown) (more-are added) (fit-first old.shown (batch_commits old.shown (h.batches ++ added ∷ [])) _ (laws.fits old.shown [] (h.batches ++ added ∷ []) are)) in
+        subst (λ (b : Base). FitInTurn b (batch_commit w.shown added)) (sym h.made.shown) (fit-second old.shown (batch_commits old.shown h.batches) (batch_commit w.shown added) fit)
 
     -- one batch more
     pub next_in_batches : (now : Reading) (rest : List (List ℕ)) (new : WriterState) (faults : ℕ) (done : Unit {0}) → IsAfterBatch {T = Unit {0}} mid now left rest w faults (Ok done) new → InBatches before now paths rest old new
-    next_in_batches now rest new faults done (arrivals, k, made) = record {
-      batches = h.batches ++ arrivals ∷ [];
-      read = laws.more before.mail mid.mail now.mail before.noted mid.noted now.noted paths h.batches left rest arrivals h.read k;
-      made = subst (λ (l : List Commit). HasCommitted old l new) (sym (more-are arrivals)) (made-made old w new (batch_commits old.shown h.batches) (batch_commit w.shown arrivals) h.made made);
+    next_in_batches now rest new faults done (added, k, made) = record {
+      batches = h.batches ++ added ∷ [];
+      read = laws.more before.mail mid.mail now.mail before.noted mid.noted now.noted paths h.batches left rest added h.read k;
+      made = subst (λ (l : List Commit). HasCommitted old l new) (sym (more-are added)) (made-made old w new (batch_commits old.shown h.batches) (batch_commit w.shown added) h.made made);
     }
 
     -- no path is left
@@ -106,20 +106,20 @@ module _ (laws : Laws) where
       h.made,
     )
 
-    some-finished : (now : Reading) (rest : List (List ℕ)) (arrivals : List (List ℕ × Facts)) → HasReadBatch mid.mail now.mail mid.noted now.noted left rest arrivals
-        → HasReadSome before.mail now.mail before.noted now.noted paths (h.batches ++ arrivals ∷ []) rest
-    some-finished now rest arrivals k =
-        laws.finished before.mail now.mail before.noted now.noted paths (h.batches ++ arrivals ∷ []) rest
-        (laws.more before.mail mid.mail now.mail before.noted mid.noted now.noted paths h.batches left rest arrivals h.read k)
+    some-finished : (now : Reading) (rest : List (List ℕ)) (added : List (List ℕ × Facts)) → HasReadBatch mid.mail now.mail mid.noted now.noted left rest added
+        → HasReadSome before.mail now.mail before.noted now.noted paths (h.batches ++ added ∷ []) rest
+    some-finished now rest added k =
+        laws.finished before.mail now.mail before.noted now.noted paths (h.batches ++ added ∷ []) rest
+        (laws.more before.mail mid.mail now.mail before.noted mid.noted now.noted paths h.batches left rest added h.read k)
 
     some-unfinished : (now : Reading) → StopsInBatch mid.mail now.mail mid.noted now.noted left → HasReadSome before.mail now.mail before.noted now.noted paths h.batches left
     some-unfinished now k = laws.unfinished before.mail mid.mail now.mail before.noted mid.noted now.noted paths h.batches left h.read k
 
-    refused : (new : WriterState) (arrivals : List (List ℕ × Facts)) (faults : ℕ) (error : WriteError) → IsAfterCommits {T = Unit {0}} w (batch_commit w.shown arrivals) faults (Err error) new
-        → IsAfterCommits {T = Unit {0}} old (batch_commits old.shown (h.batches ++ arrivals ∷ [])) faults (Err error) new
-    refused new arrivals faults error after =
-        subst (λ (l : List Commit). IsAfterCommits {T = Unit {0}} old l faults (Err error) new) (sym (more-are arrivals))
-        (then-made {T = Unit {0}} old w new (batch_commits old.shown h.batches) (batch_commit w.shown arrivals) faults (Err error) h.made after)
+    refused : (new : WriterState) (added : List (List ℕ × Facts)) (faults : ℕ) (error : WriteError) → IsAfterCommits {T = Unit {0}} w (batch_commit w.shown added) faults (Err error) new
+        → IsAfterCommits {T = Unit {0}} old (batch_commits old.shown (h.batches ++ added ∷ [])) faults (Err error) new
+    refused new added faults error after =
+        subst (λ (l : List Commit). IsAfterCommits {T = Unit {0}} old l faults (Err error) new) (sym (more-are added))
+        (then-made {T = Unit {0}} old w new (batch_commits old.shown h.batches) (batch_commit w.shown added) faults (Err error) h.made after)
 
     none-stopped : (new : WriterState) → new ≡ w → HasCommitted old (batch_commits old.shown h.batches) new
     none-stopped new same = subst (λ (x : WriterState). HasCommitted old (batch_commits old.shown h.batches) x) (sym same) h.made
@@ -134,16 +134,16 @@ module _ (laws : Laws) where
     pub refused_batches : (now : Reading) (rest : List (List ℕ)) (new : WriterState) (faults : ℕ) (error : WriteError) → 0 < length left → IsAfterBatch {T = Unit {0}} mid now left rest w faults (Err error) new
         → IsAfterBatches {T = Unit {0}} before now paths old faults (Err error) new
     refused_batches now rest new faults errors.MailFault some after = stopped-in now new faults left refl some after.0 after.1
-    refused_batches now rest new faults errors.DiskFault some (arrivals, k, fails) = (h.batches ++ arrivals ∷ [], rest, some-finished now rest arrivals k, refused new arrivals faults errors.DiskFault fails)
+    refused_batches now rest new faults errors.DiskFault some (added, k, fails) = (h.batches ++ added ∷ [], rest, some-finished now rest added k, refused new added faults errors.DiskFault fails)
     refused_batches now rest new faults (errors.Closed fault) some after = absurd after
-    refused_batches now rest new faults (errors.Limit limit) some (arrivals, k, passes) = (h.batches ++ arrivals ∷ [], rest, some-finished now rest arrivals k, refused new arrivals faults (errors.Limit limit) passes)
+    refused_batches now rest new faults (errors.Limit limit) some (added, k, passes) = (h.batches ++ added ∷ [], rest, some-finished now rest added k, refused new added faults (errors.Limit limit) passes)
     refused_batches now rest new faults errors.NoMemory some (inl (k, same)) =
         (h.batches, left, some-unfinished now k, record { done = batch_commits old.shown h.batches; more = []; due_are = sym (append-nil (batch_commits old.shown h.batches)); made = none-stopped new same })
-    refused_batches now rest new faults errors.NoMemory some (inr (arrivals, k, stops)) = (h.batches ++ arrivals ∷ [], rest, some-finished now rest arrivals k, refused new arrivals faults errors.NoMemory stops)
+    refused_batches now rest new faults errors.NoMemory some (inr (added, k, stops)) = (h.batches ++ added ∷ [], rest, some-finished now rest added k, refused new added faults errors.NoMemory stops)
 
 -- fewer paths are left
 pub batch_smaller : (before now : Reading) (paths rest : List (List ℕ)) (old new : WriterState) (faults : ℕ) (done : Unit {0}) → IsAfterBatch {T = Unit {0}} before now paths rest old faults (Ok done) new → length rest < length paths
-batch_smaller before now paths rest old new faults done (arrivals, k, made) =
+batch_smaller before now paths rest old new faults done (added, k, made) =
     omega (arith, ap length k.paths_are ∙ length-append k.read rest, ap length k.batch.read_are ∙ length-append k.batch.before (k.batch.last ∷ []))
 
 pub none_left : (paths : List (List ℕ)) → length paths ≡ 0 → paths ≡ []

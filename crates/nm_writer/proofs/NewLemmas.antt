@@ -10,11 +10,11 @@ use Rattle.nm_maildir.specs.Tree.{Tree}
 use Rattle.nm_maildir.specs.declared.given.Given.{Given}
 use Rattle.nm_index.specs.Index.{folded}
 use Rattle.nm_plan.specs.NameTags.{commit_of}
-use Rattle.nm_plan.specs.Plan.{AreArrivals, all_arrivals, batch_commits, commits_so_far, drop_of, gone_commit, gone_files, message_ids, new_commits}
+use Rattle.nm_plan.specs.Plan.{AreAdded, all_added, batch_commits, commits_so_far, drop_of, message_ids, new_commits, removed_commit, removed_files}
 use Rattle.nm_scan.specs.Batches.{HasReadSome, ReadsBatches}
 use Rattle.nm_scan.specs.Reading.{Reads}
 use Rattle.nm_scan.specs.Scanning.{FindsBatches}
-use Rattle.nm_writer.proofs.ArrivalLemmas.{are-arrivals, are-unknown}
+use Rattle.nm_writer.proofs.ArrivalLemmas.{are-added, are-unknown}
 use Rattle.nm_writer.proofs.DoneLemmas.{fit-first, fit-second, refused-more, then-made}
 use Rattle.nm_writer.specs.Batch.{AreUnknown, IsAfterBatches, Reading}
 use Rattle.nm_writer.specs.New.{AreNewCommits, HasListed, IsAfterNew}
@@ -30,9 +30,9 @@ Batches = List (List (List ℕ × Facts))
 
 -- the laws on batches that were read
 pub record Laws : Type 0 where
-  pub fits : (index : Base) (listed : List (List ℕ)) (batches : Batches) → AreArrivals index.files (all_arrivals batches) → FitInTurn index (new_commits index listed batches)
+  pub fits : (index : Base) (listed : List (List ℕ)) (batches : Batches) → AreAdded index.files (all_added batches) → FitInTurn index (new_commits index listed batches)
   pub in_one : (tree : Option Tree) (noted : List Given) (paths : List (List ℕ)) (batches : Batches) (left : List (List ℕ)) → ReadsBatches tree noted paths batches left
-      → (read : List (List ℕ)) × (paths ≡ read ++ left) × Reads tree noted read (all_arrivals batches)
+      → (read : List (List ℕ)) × (paths ≡ read ++ left) × Reads tree noted read (all_added batches)
 
 -- what is unknown was listed
 pub unknown-listed : (tree : Option Tree) (files : List (List ℕ × Facts)) (noted : List Given) (compared : Compared) → HasListed tree files noted compared → AreUnknown files compared.unknown
@@ -55,11 +55,11 @@ module _ (laws : Laws) (before now : Reading) (compared : Compared) (old : Write
   all-fit batches left some listed =
       let all = laws.in_one before.mail.tree some.answers compared.unknown batches left some.reading in
       laws.fits old.shown listed batches
-      (are-arrivals old.shown.files compared.unknown all.0 left (all_arrivals batches) all.2.notes.reads (unknown-listed before.mail.tree old.shown.files before.noted compared h) all.1 all.2.notes.each all.2.mails all.2.dated)
+      (are-added old.shown.files compared.unknown all.0 left (all_added batches) all.2.notes.reads (unknown-listed before.mail.tree old.shown.files before.noted compared h) all.1 all.2.notes.each all.2.mails all.2.dated)
 
   so_far-fit : (batches : Batches) (left listed : List (List ℕ)) → FitInTurn old.shown (new_commits old.shown listed batches) → FitInTurn old.shown (commits_so_far old.shown listed batches left)
   so_far-fit batches [] listed fit = fit
-  so_far-fit batches (path ∷ left) listed fit = fit-first old.shown (batch_commits old.shown batches) (gone_commit (folded old.shown (batch_commits old.shown batches)) old.shown.files listed) fit
+  so_far-fit batches (path ∷ left) listed fit = fit-first old.shown (batch_commits old.shown batches) (removed_commit (folded old.shown (batch_commits old.shown batches)) old.shown.files listed) fit
 
   -- the commits that are due of it
   are-new : (batches : Batches) (left : List (List ℕ)) → HasReadSome before.mail now.mail before.noted now.noted compared.unknown batches left
@@ -73,7 +73,7 @@ module _ (laws : Laws) (before now : Reading) (compared : Compared) (old : Write
 
   so_far-refused : (batches : Batches) (left listed : List (List ℕ)) (new : WriterState) (faults : ℕ) (error : WriteError) → IsAfterCommits {T = Unit {0}} old (batch_commits old.shown batches) faults (Err error) new
       → IsAfterCommits {T = Unit {0}} old (commits_so_far old.shown listed batches left) faults (Err error) new
-  so_far-refused batches [] listed new faults error after = refused-more (Unit {0}) (Unit {0}) old new (batch_commits old.shown batches) (gone_commit (folded old.shown (batch_commits old.shown batches)) old.shown.files listed) faults error after
+  so_far-refused batches [] listed new faults error after = refused-more (Unit {0}) (Unit {0}) old new (batch_commits old.shown batches) (removed_commit (folded old.shown (batch_commits old.shown batches)) old.shown.files listed) faults error after
   so_far-refused batches (path ∷ left) listed new faults error after = after
 
   -- the batches were not all read, or not all their commits made
@@ -92,12 +92,12 @@ module _ (laws : Laws) (before now : Reading) (compared : Compared) (old : Write
     gone-are : compared.gone ≡ gone old.shown.files (listed_in now.noted)
     gone-are = h.gone_are ∙ ap (λ (l : List Given). gone old.shown.files (listed_in l)) (sym (some.noted_is ∙ ap (λ (l : List Given). l ++ (some.answers ++ some.further)) h.noted_is))
 
-    ids-are : compared.gone_ids ≡ message_ids (gone_files old.shown.files (listed_in now.noted))
-    ids-are = h.ids_are ∙ ap (λ (l : List Given). message_ids (gone_files old.shown.files (listed_in l))) (sym (some.noted_is ∙ ap (λ (l : List Given). l ++ (some.answers ++ some.further)) h.noted_is))
+    ids-are : compared.gone_ids ≡ message_ids (removed_files old.shown.files (listed_in now.noted))
+    ids-are = h.ids_are ∙ ap (λ (l : List Given). message_ids (removed_files old.shown.files (listed_in l))) (sym (some.noted_is ∙ ap (λ (l : List Given). l ++ (some.answers ++ some.further)) h.noted_is))
 
     -- the commit of what is gone, on the index that the batches leave
     abbrev last : List Commit
-    last = gone_commit (folded old.shown (batch_commits old.shown batches)) old.shown.files (listed_in now.noted)
+    last = removed_commit (folded old.shown (batch_commits old.shown batches)) old.shown.files (listed_in now.noted)
 
     last-is : commit_of mid.shown (map drop_of compared.gone) compared.gone_ids ≡ last
     last-is =

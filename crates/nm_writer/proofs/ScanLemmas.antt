@@ -8,7 +8,7 @@ use Rattle.nm_maildir.specs.Observed.{ObservedMail}
 use Rattle.nm_maildir.specs.Tree.{Tree}
 use Rattle.nm_maildir.specs.declared.given.Given.{Given}
 use Rattle.nm_maildir.specs.declared.given.Given.TheVariants as given
-use Rattle.nm_plan.specs.Plan.{gone_files, message_ids, to_read}
+use Rattle.nm_plan.specs.Plan.{message_ids, removed_files, to_read}
 use Rattle.nm_scan.specs.Walking.{scanned}
 use Rattle.nm_scan.specs.Reading.{HasRead, NotesReads, answers_at, read_with}
 use Rattle.nm_scan.specs.Scanning.{AsksNew}
@@ -83,7 +83,7 @@ asked_listing old mid files before noted listed same_tree same none is rising to
 
 -- what was listed is compared with the index
 pub has_listed : (tree : Option Tree) (files : List (List ℕ × Facts)) (before noted : List Given) (listed unknown away ids : List (List ℕ)) → before ≡ [] → noted ≡ before ++ given.Listed listed ∷ [] → IsSorted listed
-    → IfSome tree (λ t. scanned t ≡ Ok listed) → unknown ≡ to_read files listed → away ≡ gone files listed → ids ≡ message_ids (gone_files files listed)
+    → IfSome tree (λ t. scanned t ≡ Ok listed) → unknown ≡ to_read files listed → away ≡ gone files listed → ids ≡ message_ids (removed_files files listed)
     → HasListed tree files noted (record { unknown = unknown; gone = away; gone_ids = ids })
 has_listed tree files before noted listed unknown away ids none is rising told unknown_are gone_are ids_are = record {
   listed = listed;

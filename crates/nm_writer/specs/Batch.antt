@@ -28,22 +28,22 @@ pub record Reading : Type 0 where
 -- whatever mails a batch of these paths finds, they fit the index
 abbrev pub BatchFits : Base → Reading → List (List ℕ) → Type 0
 BatchFits shown old paths =
-    (new : Reading) (rest : List (List ℕ)) (arrivals : List (List ℕ × Facts)) → HasReadBatch old.mail new.mail old.noted new.noted paths rest arrivals
-    → FitInTurn shown (batch_commit shown arrivals)
+    (new : Reading) (rest : List (List ℕ)) (added : List (List ℕ × Facts)) → HasReadBatch old.mail new.mail old.noted new.noted paths rest added
+    → FitInTurn shown (batch_commit shown added)
 
 -- What one batch leaves: it is read, and its commit is made where it found mail; or by the error the reading stops in it, or its commit is refused.
 abbrev pub IsAfterBatch : {T : Type 0} → Reading → Reading → List (List ℕ) → List (List ℕ) → WriterState → ℕ → Result T WriteError → WriterState → Type 0
 IsAfterBatch before now paths rest old faults (Ok done) new =
-    (arrivals : List (List ℕ × Facts)) × HasReadBatch before.mail now.mail before.noted now.noted paths rest arrivals × HasCommitted old (batch_commit old.shown arrivals) new
+    (added : List (List ℕ × Facts)) × HasReadBatch before.mail now.mail before.noted now.noted paths rest added × HasCommitted old (batch_commit old.shown added) new
 IsAfterBatch before now paths rest old faults (Err errors.MailFault) new = StopsInBatch before.mail now.mail before.noted now.noted paths × (new ≡ old)
 IsAfterBatch before now paths rest old faults (Err errors.DiskFault) new =
-    (arrivals : List (List ℕ × Facts)) × HasReadBatch before.mail now.mail before.noted now.noted paths rest arrivals × FailsWithin old (batch_commit old.shown arrivals) faults new
+    (added : List (List ℕ × Facts)) × HasReadBatch before.mail now.mail before.noted now.noted paths rest added × FailsWithin old (batch_commit old.shown added) faults new
 IsAfterBatch before now paths rest old faults (Err (errors.Closed fault)) new = ⊥
 IsAfterBatch before now paths rest old faults (Err (errors.Limit limit)) new =
-    (arrivals : List (List ℕ × Facts)) × HasReadBatch before.mail now.mail before.noted now.noted paths rest arrivals × PassesWithin old (batch_commit old.shown arrivals) limit new
+    (added : List (List ℕ × Facts)) × HasReadBatch before.mail now.mail before.noted now.noted paths rest added × PassesWithin old (batch_commit old.shown added) limit new
 IsAfterBatch before now paths rest old faults (Err errors.NoMemory) new =
     (StopsInBatch before.mail now.mail before.noted now.noted paths × (new ≡ old))
-    ⊎ ((arrivals : List (List ℕ × Facts)) × HasReadBatch before.mail now.mail before.noted now.noted paths rest arrivals × StopsWithin old (batch_commit old.shown arrivals) new)
+    ⊎ ((added : List (List ℕ × Facts)) × HasReadBatch before.mail now.mail before.noted now.noted paths rest added × StopsWithin old (batch_commit old.shown added) new)
 
 -- What all batches of these paths leave: a commit for each that found mail; or by the error those of the first.
 abbrev pub IsAfterBatches : {T : Type 0} → Reading → Reading → List (List ℕ) → WriterState → ℕ → Result T WriteError → WriterState → Type 0

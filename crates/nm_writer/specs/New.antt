@@ -9,7 +9,7 @@ use Rattle.nm_index.specs.declared.base.Base.{Base}
 use Rattle.nm_maildir.specs.Tree.{Tree}
 use Rattle.nm_maildir.specs.declared.given.Given.{Given}
 use Rattle.nm_maildir.specs.declared.given.Given.TheVariants.{Listed}
-use Rattle.nm_plan.specs.Plan.{commits_so_far, gone_files, message_ids, to_read}
+use Rattle.nm_plan.specs.Plan.{commits_so_far, message_ids, removed_files, to_read}
 use Rattle.nm_scan.specs.Listing.{IsListing, PassesListing}
 use Rattle.nm_scan.specs.Scanning.{FindsBatches}
 use Rattle.nm_writer.specs.Writer.{WriterState}
@@ -26,7 +26,7 @@ pub record HasListed (tree : Option Tree) (files : List (List ℕ × Facts)) (no
   pub noted_is : noted ≡ Listed listed ∷ []
   pub unknown_are : compared.unknown ≡ to_read files listed
   pub gone_are : compared.gone ≡ gone files listed
-  pub ids_are : compared.gone_ids ≡ message_ids (gone_files files listed)
+  pub ids_are : compared.gone_ids ≡ message_ids (removed_files files listed)
 
 -- The commits that are due while these paths are left to read; they fit the index one after the other.
 pub record AreNewCommits (tree : Option Tree) (shown : Base) (noted : List Given) (left : List (List ℕ)) (due : List Commit) : Type 0 where

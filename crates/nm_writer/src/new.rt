@@ -205,7 +205,7 @@ impl Writer {
             → IsDurable entry opening (D.observed disk.new) self.new }
     {
         match read_batch(self.alloc, mail, paths, noted) {
-            Ok(arrivals) => self.commit_arrivals(disk, arrivals),
+            Ok(added) => self.commit_added(disk, added),
             Err(MailError::Failed) => Err(WriteError::MailFault),
             Err(MailError::NoMemory) => Err(WriteError::NoMemory),
         }
@@ -213,22 +213,22 @@ impl Writer {
 
     /// Makes a commit of the mails, where there are some.
     #[tactic(auto, using(crate::proofs::DoneLemmas::stops))]
-    fn commit_arrivals<D: Disk>(
+    fn commit_added<D: Disk>(
         &mut self,
         disk: &mut D,
-        arrivals: Many<Mail>,
+        added: Many<Mail>,
     ) -> Result<(), WriteError>
         requires alive { self.old.closed ≡ None }
-        requires fit { FitInTurn self.old.shown (batch_commit self.old.shown arrivals) }
+        requires fit { FitInTurn self.old.shown (batch_commit self.old.shown added) }
         requires stands { IfSome (D.observed disk.old).told (λ moments. StandsOnIndex moments.present self.old) }
-        ensures after { IsAfterCommits self.old (batch_commit self.old.shown arrivals) (D.observed disk.new).faults result self.new }
+        ensures after { IsAfterCommits self.old (batch_commit self.old.shown added) (D.observed disk.new).faults result self.new }
         ensures cause { HasCauseOf is_write_fault (D.observed disk.old).faults (D.observed disk.new).faults result }
         ensures stands { self.new.closed ≡ None → IfSome (D.observed disk.new).told (λ moments. StandsOnIndex moments.present self.new) }
         ensures durable { (entry : ObservedDisk) (opening : Base) → IsDurable entry opening (D.observed disk.old) self.old
             → IsDurable entry opening (D.observed disk.new) self.new }
     {
-        let ids = ids_of(self.alloc, arrivals.as_slice())?;
-        let came = adds(self.alloc, arrivals)?;
+        let ids = ids_of(self.alloc, added.as_slice())?;
+        let came = adds(self.alloc, added)?;
         self.commit_some(disk, came, &ids)
     }
 
@@ -289,21 +289,21 @@ impl Writer {
 }
 
 /// The ids of the mails, in order.
-fn ids_of(alloc: Global, arrivals: &[Mail]) -> Result<Many<MessageId>, NoMemory>
-    ensures { IfOk result (λ ids. ids ≡ message_ids arrivals.now) }
+fn ids_of(alloc: Global, added: &[Mail]) -> Result<Many<MessageId>, NoMemory>
+    ensures { IfOk result (λ ids. ids ≡ message_ids added.now) }
 {
     let mut ids = Many::new(alloc);
-    'arrivals: for arrival in arrivals {
+    'added: for arrival in added {
         ids.push(arrival.1.id.copy()?)?;
     }
     Ok(ids)
 }
 
-fn adds(alloc: Global, arrivals: Many<Mail>) -> Result<Many<Change>, NoMemory>
-    ensures { IfOk result (λ changes. changes ≡ map add_of arrivals) }
+fn adds(alloc: Global, added: Many<Mail>) -> Result<Many<Change>, NoMemory>
+    ensures { IfOk result (λ changes. changes ≡ map add_of added) }
 {
     let mut changes = Many::new(alloc);
-    'arrivals: for (path, facts) in arrivals.into_vec() {
+    'added: for (path, facts) in added.into_vec() {
         let facts = Shared::new(alloc, facts)?;
         changes.push(Change::Add { path, facts })?;
     }

@@ -3,7 +3,7 @@
 ghost use Rattle.std.specs.Prelude.{◌≡◌, ◌∷◌, ◌++◌, [], Err, IfErr, IfOk, OnErr, OnOk};
 ghost use Rattle.nm_answer.specs.NewText.{gone};
 ghost use Rattle.nm_base.specs.Order.{IsSorted};
-ghost use Rattle.nm_plan.specs.Plan.{gone_files, message_ids, to_read};
+ghost use Rattle.nm_plan.specs.Plan.{message_ids, removed_files, to_read};
 ghost use Rattle.nm_scan.specs.Listing.{PassesListing};
 ghost use Rattle.nm_scan.specs.Walking.{is_scan_fault};
 ghost use Rattle.nm_base.specs.declared.limit.Limit.{Limit};
@@ -94,7 +94,7 @@ fn gone_ids(
     shown: &Snapshot,
     listed: &TextSet<MailPath>,
 ) -> Result<Many<MessageId>, NoMemory>
-    ensures { IfOk result (λ ids. ids ≡ message_ids (gone_files shown.now.files listed.now)) }
+    ensures { IfOk result (λ ids. ids ≡ message_ids (removed_files shown.now.files listed.now)) }
 {
     let mut ids = Many::new(alloc);
     'files: for file in shown.files_in_order() {

@@ -7,5 +7,5 @@ returns-clause-followed c = tags-followed c.tags_of_others_stay.ensures
 pub returns-clause-others : goal.returns-clause-others
 returns-clause-others c = tags-stay c.tags_of_others_stay.ensures
 
-pub returns-clause-arrivals : goal.returns-clause-arrivals
-returns-clause-arrivals c = batch-tags c.tags_of_others_stay.ensures
+pub returns-clause-added : goal.returns-clause-added
+returns-clause-added c = batch-tags c.tags_of_others_stay.ensures
