@@ -137,7 +137,7 @@ clash-told None P Q some p q apart = some refl
 clash-told (Some moments) P Q some p q apart = apart moments p q
 
 -- the statuses that are left
-left-status : (wanted : Bool) → (status_of_fault None wanted ≡ 0) ⊎ (status_of_fault None wanted ≡ 7)
+left-status : (out_of_memory : Bool) → (status_of_fault None out_of_memory ≡ 0) ⊎ (status_of_fault None out_of_memory ≡ 7)
 left-status true = inr refl
 left-status false = inl refl
 

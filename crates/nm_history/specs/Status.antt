@@ -55,10 +55,10 @@ is_out_of_memory outcomes.NoMemory = true
 abbrev pub any_is_out_of_memory : List LineLog → Bool
 any_is_out_of_memory logs = list_any (λ log. is_out_of_memory log.outcome) logs
 
--- the status of a fault, or where there is none 7 for a line that wanted memory, else 0
+-- the status of a fault, or where there is none 7 for a line that ended out of memory, else 0
 abbrev pub status_of_fault : Option ℕ → Bool → ℕ
-status_of_fault (Some status) wanted = status
-status_of_fault None wanted = if wanted then 7 else 0
+status_of_fault (Some status) out_of_memory = status
+status_of_fault None out_of_memory = if out_of_memory then 7 else 0
 
 -- The first fault of a device, else a line that ended out of memory.
 abbrev pub session_status : List LineLog → Bool → ℕ
