@@ -81,7 +81,7 @@ fn reply_new(alloc: Global, report: &NewReport) -> Result<LineAnswer, NoMemory>
     replied(Request::New, text)
 }
 
-/// The refusal of what writes; where a device failed it wants no memory.
+/// The refusal of what writes; where a device failed it takes no memory.
 fn refuse_write(alloc: Global, error: WriteError, texts: FaultTexts) -> Result<LineAnswer, NoMemory>
     requires { AreFaultTexts texts }
     ensures { MatchResult result
