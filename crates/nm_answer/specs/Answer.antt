@@ -17,13 +17,13 @@ use Rattle.nm_answer.specs.declared.request.Request.TheVariants.{New, Count, Sea
 -- the mail folder gave. A count, a search, a dump and a show look at the second index, a `tag` and a
 -- `restore` at the first.
 abbrev pub answer : Request → List ℕ → Base → Base → ℤ → List Given → List ℕ
-answer New input before index moment noted = new_text (report_of before.files index.files noted)
-answer (Count ask) input before index moment noted = count_answer ask input index moment
-answer (Search ask) input before index moment noted = search_answer ask index moment
-answer (Dump ask) input before index moment noted = dump_answer ask index moment
-answer (Show ask) input before index moment noted = show_answer ask index moment noted
-answer (Tag ask) input before index moment noted = change_answer (Tag ask) input before moment noted
-answer (Restore ask) input before index moment noted = change_answer (Restore ask) input before moment noted
+answer New input before index moment given = new_text (report_of before.files index.files given)
+answer (Count ask) input before index moment given = count_answer ask input index moment
+answer (Search ask) input before index moment given = search_answer ask index moment
+answer (Dump ask) input before index moment given = dump_answer ask index moment
+answer (Show ask) input before index moment given = show_answer ask index moment given
+answer (Tag ask) input before index moment given = change_answer (Tag ask) input before moment given
+answer (Restore ask) input before index moment given = change_answer (Restore ask) input before moment given
 
 -- The index alone says the reply. A `new`, a `tag` and a `restore` say what changed or did not, a count over the lines of an input needs these, and
 -- a show what the mail folder gave.

@@ -37,5 +37,5 @@ strangers_for (Restore ask) input index = strangers index (dump_lines ask input)
 
 -- what it is answered, by the index before it and by what became of the renames
 abbrev pub change_answer : Request → List ℕ → Base → ℤ → List Given → List ℕ
-change_answer request input before moment noted =
-    strangers_text (strangers_for request input before) ++ sync_text (sync_report before (wanted_for request input moment before) noted)
+change_answer request input before moment given =
+    strangers_text (strangers_for request input before) ++ sync_text (sync_report before (wanted_for request input moment before) given)

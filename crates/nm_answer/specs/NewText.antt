@@ -8,7 +8,7 @@ use Rattle.nm_base.specs.declared.refusals.Skip.{Skip}
 use Rattle.nm_base.specs.declared.refusals.Skip.TheVariants as skips
 use Rattle.nm_commit.specs.Files.{paths_of}
 use Rattle.nm_maildir.specs.declared.given.Given.{Given}
-use Rattle.nm_maildir.specs.declared.given.Given.TheVariants as given
+use Rattle.nm_maildir.specs.declared.given.Given.TheVariants as givens
 use Rattle.nm_maildir.specs.declared.given.ReadAnswer.{ReadAnswer}
 use Rattle.nm_maildir.specs.declared.given.ReadAnswer.TheVariants as answers
 use Rattle.nm_answer.specs.declared.report.NewReport.{NewReport}
@@ -53,9 +53,9 @@ new_text report = if is_quiet report then codes "No new mail.\n" else summary_li
 -- the paths that were listed
 abbrev pub listed_in : List Given → List (List ℕ)
 listed_in [] = []
-listed_in (given.Listed paths ∷ more) = paths
-listed_in (given.Read path answer ∷ more) = listed_in more
-listed_in (given.Renamed from to answer ∷ more) = listed_in more
+listed_in (givens.Listed paths ∷ more) = paths
+listed_in (givens.Read path answer ∷ more) = listed_in more
+listed_in (givens.Renamed from to answer ∷ more) = listed_in more
 
 -- the paths of the index that are not listed, by their bytes
 abbrev pub gone : List (List ℕ × Facts) → List (List ℕ) → List (List ℕ)
@@ -79,15 +79,15 @@ skip_at path (answers.Body bytes) = []
 
 -- the path of a read that found mail
 abbrev pub mail_given : Given → List (List ℕ)
-mail_given (given.Listed paths) = []
-mail_given (given.Read path answer) = mail_at path answer
-mail_given (given.Renamed from to answer) = []
+mail_given (givens.Listed paths) = []
+mail_given (givens.Read path answer) = mail_at path answer
+mail_given (givens.Renamed from to answer) = []
 
 -- what a read passes over
 abbrev pub skip_given : Given → List (List ℕ × Skip)
-skip_given (given.Listed paths) = []
-skip_given (given.Read path answer) = skip_at path answer
-skip_given (given.Renamed from to answer) = []
+skip_given (givens.Listed paths) = []
+skip_given (givens.Read path answer) = skip_at path answer
+skip_given (givens.Renamed from to answer) = []
 
 -- the ids of the mails, each once
 abbrev pub ids_of : List (List ℕ × Facts) → List (List ℕ)
@@ -99,10 +99,10 @@ only_in first second = filter (λ id. not (has_text (ids_of first) id)) (ids_of 
 
 -- what is told of the files and of the messages, from the index before and the one after, and what the folder answered
 abbrev pub report_of : List (List ℕ × Facts) → List (List ℕ × Facts) → List Given → NewReport
-report_of before after noted = record {
-  added = length (flat_map mail_given noted);
-  removed = length (gone before (listed_in noted));
+report_of before after given = record {
+  added = length (flat_map mail_given given);
+  removed = length (gone before (listed_in given));
   born = length (only_in before after);
   died = length (only_in after before);
-  skipped = flat_map skip_given noted;
+  skipped = flat_map skip_given given;
 }

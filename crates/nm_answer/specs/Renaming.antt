@@ -13,7 +13,7 @@ use Rattle.nm_index.specs.declared.base.Base.{Base}
 use Rattle.nm_maildir.specs.declared.answers.Renamed.{Renamed}
 use Rattle.nm_maildir.specs.declared.answers.Renamed.TheVariants as answers
 use Rattle.nm_maildir.specs.declared.given.Given.{Given}
-use Rattle.nm_maildir.specs.declared.given.Given.TheVariants as given
+use Rattle.nm_maildir.specs.declared.given.Given.TheVariants as givens
 use Rattle.nm_answer.specs.View.{message_paths, tags_of}
 use Rattle.nm_answer.specs.declared.sync_report.SyncReport.{SyncReport}
 use Rattle.nm_answer.specs.declared.sync_report.Unmoved.{Unmoved}
@@ -63,19 +63,19 @@ outcomes files (rename ∷ more) told =
 
 -- the answer to a rename, as it was noted
 abbrev pub answer_given : Given → List Renamed
-answer_given (given.Listed paths) = []
-answer_given (given.Read path answer) = []
-answer_given (given.Renamed from to answer) = answer ∷ []
+answer_given (givens.Listed paths) = []
+answer_given (givens.Read path answer) = []
+answer_given (givens.Renamed from to answer) = answer ∷ []
 
 -- what became of the renames that setting these tags asks for, by what the mail folder gave
 abbrev pub renames_done : Base → Base → List Given → List Outcome
-renames_done index wanted noted = outcomes index.files (renames_for index wanted) (flat_map answer_given noted)
+renames_done index wanted given = outcomes index.files (renames_for index wanted) (flat_map answer_given given)
 
 -- what is noted of a rename that was tried
 abbrev pub note_of : Outcome → List Given
 note_of (WasLong path) = []
 note_of (WasTaken path) = []
-note_of (WasTried from to answer) = given.Renamed from to answer ∷ []
+note_of (WasTried from to answer) = givens.Renamed from to answer ∷ []
 
 -- why a file that was tried keeps its name
 abbrev pub unmoved_by : List ℕ → Renamed → List (List ℕ × Unmoved)
@@ -91,7 +91,7 @@ unmoved_in (WasTried from to answer) = unmoved_by from answer
 
 -- what is told of the files that keep their names
 abbrev pub sync_report : Base → Base → List Given → SyncReport
-sync_report index wanted noted = record { unmoved = flat_map unmoved_in (renames_done index wanted noted) }
+sync_report index wanted given = record { unmoved = flat_map unmoved_in (renames_done index wanted given) }
 
 -- the word for why a file keeps its name
 abbrev pub unmoved_name : Unmoved → List ℕ

@@ -11,7 +11,7 @@ use Rattle.nm_base.specs.declared.facts.Mailbox.{Mailbox}
 use Rattle.nm_extract.specs.PartText.{bodies_of}
 use Rattle.nm_index.specs.declared.base.Base.{Base}
 use Rattle.nm_maildir.specs.declared.given.Given.{Given}
-use Rattle.nm_maildir.specs.declared.given.Given.TheVariants as given
+use Rattle.nm_maildir.specs.declared.given.Given.TheVariants as givens
 use Rattle.nm_maildir.specs.declared.given.ReadAnswer.{ReadAnswer}
 use Rattle.nm_maildir.specs.declared.given.ReadAnswer.TheVariants as answers
 use Rattle.nm_query.specs.Answers.{answer_of}
@@ -90,20 +90,20 @@ body_text (answers.Body bytes) = flat_map ended (bodies_of bytes)
 
 -- the same of what the folder gave
 abbrev pub given_text : Given → List ℕ
-given_text (given.Listed paths) = []
-given_text (given.Read path answer) = body_text answer
-given_text (given.Renamed from to answer) = []
+given_text (givens.Listed paths) = []
+given_text (givens.Read path answer) = body_text answer
+given_text (givens.Renamed from to answer) = []
 
 -- ---- the whole
 
 abbrev pub message_text : Base → List ℕ → Given → List ℕ
-message_text index id noted = head_text index id ++ (given_text noted ++ codes "end\n")
+message_text index id given = head_text index id ++ (given_text given ++ codes "end\n")
 
 -- messages one behind the other, each with what the folder gave for it
 abbrev pub messages_text : Base → List (List ℕ) → List Given → List ℕ
-messages_text index [] noted = []
+messages_text index [] given = []
 messages_text index (id ∷ ids) [] = []
-messages_text index (id ∷ ids) (first ∷ noted) = message_text index id first ++ messages_text index ids noted
+messages_text index (id ∷ ids) (first ∷ given) = message_text index id first ++ messages_text index ids given
 
 -- the bytes that a read found
 abbrev pub bytes_of : ReadAnswer → List ℕ
@@ -116,13 +116,13 @@ bytes_of (answers.Body bytes) = bytes
 -- those of the first read, as they are
 abbrev pub raw_text : List Given → List ℕ
 raw_text [] = []
-raw_text (given.Listed paths ∷ more) = []
-raw_text (given.Read path answer ∷ more) = bytes_of answer
-raw_text (given.Renamed from to answer ∷ more) = []
+raw_text (givens.Listed paths ∷ more) = []
+raw_text (givens.Read path answer ∷ more) = bytes_of answer
+raw_text (givens.Renamed from to answer ∷ more) = []
 
 -- what is shown of messages, which are one in raw form
 abbrev pub show_text : ShowAsk → Base → List (List ℕ) → List Given → List ℕ
-show_text ask index ids noted = if ask.raw then raw_text noted else messages_text index ids noted
+show_text ask index ids given = if ask.raw then raw_text given else messages_text index ids given
 
 -- the path, where a read found no bytes there
 abbrev pub path_lost : List ℕ → ReadAnswer → Option (List ℕ)
@@ -135,18 +135,18 @@ path_lost path (answers.Body bytes) = None
 -- that of the first read
 abbrev pub first_lost : List Given → Option (List ℕ)
 first_lost [] = None
-first_lost (given.Listed paths ∷ more) = None
-first_lost (given.Read path answer ∷ more) = path_lost path answer
-first_lost (given.Renamed from to answer ∷ more) = None
+first_lost (givens.Listed paths ∷ more) = None
+first_lost (givens.Read path answer ∷ more) = path_lost path answer
+first_lost (givens.Renamed from to answer ∷ more) = None
 
 -- the path of the file that raw form asks for, where it is gone; text form tells it in its place
 abbrev pub gone_path : ShowAsk → List Given → Option (List ℕ)
-gone_path ask noted = if ask.raw then first_lost noted else None
+gone_path ask given = if ask.raw then first_lost given else None
 
 -- the text over the messages that a query finds
 abbrev pub show_found : ShowAsk → Base → ℤ → Query → List Given → List ℕ
-show_found ask index moment query noted = show_text ask index (shown_ids ask index moment query) noted
+show_found ask index moment query given = show_text ask index (shown_ids ask index moment query) given
 
 -- what a show is answered; a text that is no query has no answer
 abbrev pub show_answer : ShowAsk → Base → ℤ → List Given → List ℕ
-show_answer ask index moment noted = elim (answer_of ask.query) [ Ok query ↦ show_found ask index moment query noted | Err refusal ↦ [] ]
+show_answer ask index moment given = elim (answer_of ask.query) [ Ok query ↦ show_found ask index moment query given | Err refusal ↦ [] ]

@@ -21,38 +21,38 @@ use Rattle.nm_history.specs.Lines.{Before, IsIndexAt, RunLine, after_line, after
 use Rattle.nm_history.specs.Requests.{paths_to_show}
 
 -- nothing was asked, and nothing given
-pub record AsksNothing (old new : ObservedMail) (noted : List Given) : Type 0 where
-  pub noted_is : noted ≡ []
+pub record AsksNothing (old new : ObservedMail) (given : List Given) : Type 0 where
+  pub given_is : given ≡ []
   pub same : new ≡ old
 
 -- What a show asks, by its outcome: where it went well, or the file that raw form asks for was gone, all files were read, each of at most the
 -- bytes that were left; where it failed or passed the bytes, the first of them; where it was refused before, none.
 abbrev pub AsksShow : Outcome → ObservedMail → ObservedMail → ℕ → List (List ℕ) → List Given → Type 0
-AsksShow outcomes.Ok old new left paths noted = HasReadBodies old new left [] noted paths
-AsksShow (outcomes.Usage word kind) old new left paths noted = AsksNothing old new noted
-AsksShow (outcomes.BadQuery at kind) old new left paths noted = AsksNothing old new noted
-AsksShow (outcomes.BadDate at) old new left paths noted = AsksNothing old new noted
-AsksShow (outcomes.BadLine line kind) old new left paths noted = AsksNothing old new noted
-AsksShow (outcomes.NotOne found) old new left paths noted = AsksNothing old new noted
-AsksShow (outcomes.Gone path) old new left paths noted = HasReadBodies old new left [] noted paths
-AsksShow outcomes.MailFault old new left paths noted = StopsInBodies old new left [] noted paths stops.MailFault
-AsksShow outcomes.DiskFault old new left paths noted = AsksNothing old new noted
-AsksShow (outcomes.Closed fault) old new left paths noted = AsksNothing old new noted
-AsksShow (outcomes.Limit limit) old new left paths noted = AsksNothing old new noted ⊎ StopsInBodies old new left [] noted paths stops.ShowBytes
-AsksShow outcomes.NoMemory old new left paths noted =
-    AsksNothing old new noted ⊎ (HasReadBodies old new left [] noted paths ⊎ ((error : BodiesError) × StopsInBodies old new left [] noted paths error))
+AsksShow outcomes.Ok old new left paths given = HasReadBodies old new left [] given paths
+AsksShow (outcomes.Usage word kind) old new left paths given = AsksNothing old new given
+AsksShow (outcomes.BadQuery at kind) old new left paths given = AsksNothing old new given
+AsksShow (outcomes.BadDate at) old new left paths given = AsksNothing old new given
+AsksShow (outcomes.BadLine line kind) old new left paths given = AsksNothing old new given
+AsksShow (outcomes.NotOne found) old new left paths given = AsksNothing old new given
+AsksShow (outcomes.Gone path) old new left paths given = HasReadBodies old new left [] given paths
+AsksShow outcomes.MailFault old new left paths given = StopsInBodies old new left [] given paths stops.MailFault
+AsksShow outcomes.DiskFault old new left paths given = AsksNothing old new given
+AsksShow (outcomes.Closed fault) old new left paths given = AsksNothing old new given
+AsksShow (outcomes.Limit limit) old new left paths given = AsksNothing old new given ⊎ StopsInBodies old new left [] given paths stops.ShowBytes
+AsksShow outcomes.NoMemory old new left paths given =
+    AsksNothing old new given ⊎ (HasReadBodies old new left [] given paths ⊎ ((error : BodiesError) × StopsInBodies old new left [] given paths error))
 
 -- What a line asks the folder, by its outcome, the index before it, the moment, and how many bytes may still be shown: a `new` a listing and
 -- reads, a show reads, a `tag` or a `restore` renames.
 abbrev pub AsksMail : Outcome → ParsedLine → Base → ℤ → ℕ → ObservedMail → ObservedMail → List Given → Type 0
-AsksMail outcome (asked.Request New) index moment left old new noted = AsksNew old new index.files noted
-AsksMail outcome (asked.Request (Count ask)) index moment left old new noted = AsksNothing old new noted
-AsksMail outcome (asked.Request (Search ask)) index moment left old new noted = AsksNothing old new noted
-AsksMail outcome (asked.Request (Dump ask)) index moment left old new noted = AsksNothing old new noted
-AsksMail outcome (asked.Request (Show ask)) index moment left old new noted = AsksShow outcome old new left (paths_to_show ask index moment) noted
-AsksMail outcome (asked.Request (Tag ask)) index moment left old new noted = AsksRenames old new [] noted
-AsksMail outcome (asked.Request (Restore ask)) index moment left old new noted = AsksRenames old new [] noted
-AsksMail outcome (asked.Usage word kind) index moment left old new noted = AsksNothing old new noted
+AsksMail outcome (asked.Request New) index moment left old new given = AsksNew old new index.files given
+AsksMail outcome (asked.Request (Count ask)) index moment left old new given = AsksNothing old new given
+AsksMail outcome (asked.Request (Search ask)) index moment left old new given = AsksNothing old new given
+AsksMail outcome (asked.Request (Dump ask)) index moment left old new given = AsksNothing old new given
+AsksMail outcome (asked.Request (Show ask)) index moment left old new given = AsksShow outcome old new left (paths_to_show ask index moment) given
+AsksMail outcome (asked.Request (Tag ask)) index moment left old new given = AsksRenames old new [] given
+AsksMail outcome (asked.Request (Restore ask)) index moment left old new given = AsksRenames old new [] given
+AsksMail outcome (asked.Usage word kind) index moment left old new given = AsksNothing old new given
 
 -- A line asks the folder for what it needs on the index before it; the folder's tree is as the renames leave it, and its faults are noted and
 -- never fall.

@@ -16,23 +16,23 @@ use Rattle.nm_history.specs.Requests.{asks_the_folder, asks_to_tag, asks_to_writ
 
 -- the text of a line that went well
 abbrev pub reply_text : ParsedLine → List ℕ → Base → Base → ℤ → List Given → List ℕ
-reply_text (asked.Request request) input before index moment noted = answer request input before index moment noted
-reply_text (asked.Usage word kind) input before index moment noted = []
+reply_text (asked.Request request) input before index moment given = answer request input before index moment given
+reply_text (asked.Usage word kind) input before index moment given = []
 
 -- the text of a line: the answer, or the line of its refusal
 abbrev pub line_text : Outcome → ParsedLine → List ℕ → Base → Base → ℤ → List Given → List ℕ
-line_text outcomes.Ok line input before index moment noted = reply_text line input before index moment noted
-line_text (outcomes.Usage word kind) line input before index moment noted = refusal_line (outcomes.Usage word kind)
-line_text (outcomes.BadQuery at kind) line input before index moment noted = refusal_line (outcomes.BadQuery at kind)
-line_text (outcomes.BadDate at) line input before index moment noted = refusal_line (outcomes.BadDate at)
-line_text (outcomes.BadLine bad kind) line input before index moment noted = refusal_line (outcomes.BadLine bad kind)
-line_text (outcomes.NotOne found) line input before index moment noted = refusal_line (outcomes.NotOne found)
-line_text (outcomes.Gone path) line input before index moment noted = refusal_line (outcomes.Gone path)
-line_text outcomes.MailFault line input before index moment noted = refusal_line outcomes.MailFault
-line_text outcomes.DiskFault line input before index moment noted = refusal_line outcomes.DiskFault
-line_text (outcomes.Closed fault) line input before index moment noted = refusal_line (outcomes.Closed fault)
-line_text (outcomes.Limit limit) line input before index moment noted = refusal_line (outcomes.Limit limit)
-line_text outcomes.NoMemory line input before index moment noted = refusal_line outcomes.NoMemory
+line_text outcomes.Ok line input before index moment given = reply_text line input before index moment given
+line_text (outcomes.Usage word kind) line input before index moment given = refusal_line (outcomes.Usage word kind)
+line_text (outcomes.BadQuery at kind) line input before index moment given = refusal_line (outcomes.BadQuery at kind)
+line_text (outcomes.BadDate at) line input before index moment given = refusal_line (outcomes.BadDate at)
+line_text (outcomes.BadLine bad kind) line input before index moment given = refusal_line (outcomes.BadLine bad kind)
+line_text (outcomes.NotOne found) line input before index moment given = refusal_line (outcomes.NotOne found)
+line_text (outcomes.Gone path) line input before index moment given = refusal_line (outcomes.Gone path)
+line_text outcomes.MailFault line input before index moment given = refusal_line outcomes.MailFault
+line_text outcomes.DiskFault line input before index moment given = refusal_line outcomes.DiskFault
+line_text (outcomes.Closed fault) line input before index moment given = refusal_line (outcomes.Closed fault)
+line_text (outcomes.Limit limit) line input before index moment given = refusal_line (outcomes.Limit limit)
+line_text outcomes.NoMemory line input before index moment given = refusal_line outcomes.NoMemory
 
 -- neither the mail folder failed, whose count is this, nor the disk
 pub record NoneFailed (before mail : ℕ) (failed : Bool) : Type 0 where
@@ -49,37 +49,37 @@ IsRefusedUnasked outcome line input before = refused_unasked line input before.c
 
 -- the line is refused so for what it found and read
 abbrev pub IsRefusedReading : Outcome → ParsedLine → List ℕ → Before → Base → ℤ → List Given → Type 0
-IsRefusedReading outcome line input before index moment noted =
-    MayAsk line input before × (refused_reading line index moment before.left noted ≡ Some outcome)
+IsRefusedReading outcome line input before index moment given =
+    MayAsk line input before × (refused_reading line index moment before.left given ≡ Some outcome)
 
 -- Why a line ends so, on its index, by what the mail folder gave, with the folder's count of faults behind the line, and whether the disk failed in
 -- it: the device that it names failed, and no other, but that behind a fault of the folder the disk may fail in what sets tags. Running out of memory is free.
 abbrev pub HasCause : Outcome → ParsedLine → List ℕ → Before → Base → ℤ → List Given → ℕ → Bool → Type 0
-HasCause outcomes.Ok line input before index moment noted mail failed =
-    MayAsk line input before × (refused_reading line index moment before.left noted ≡ None) × NoneFailed before.mail_faults mail failed
-HasCause (outcomes.Usage word kind) line input before index moment noted mail failed =
+HasCause outcomes.Ok line input before index moment given mail failed =
+    MayAsk line input before × (refused_reading line index moment before.left given ≡ None) × NoneFailed before.mail_faults mail failed
+HasCause (outcomes.Usage word kind) line input before index moment given mail failed =
     IsRefusedUnasked (outcomes.Usage word kind) line input before × NoneFailed before.mail_faults mail failed
-HasCause (outcomes.BadQuery at kind) line input before index moment noted mail failed =
+HasCause (outcomes.BadQuery at kind) line input before index moment given mail failed =
     IsRefusedUnasked (outcomes.BadQuery at kind) line input before × NoneFailed before.mail_faults mail failed
-HasCause (outcomes.BadDate at) line input before index moment noted mail failed =
+HasCause (outcomes.BadDate at) line input before index moment given mail failed =
     IsRefusedUnasked (outcomes.BadDate at) line input before × NoneFailed before.mail_faults mail failed
-HasCause (outcomes.BadLine bad kind) line input before index moment noted mail failed =
+HasCause (outcomes.BadLine bad kind) line input before index moment given mail failed =
     IsRefusedUnasked (outcomes.BadLine bad kind) line input before × NoneFailed before.mail_faults mail failed
-HasCause (outcomes.NotOne found) line input before index moment noted mail failed =
-    IsRefusedReading (outcomes.NotOne found) line input before index moment noted × NoneFailed before.mail_faults mail failed
-HasCause (outcomes.Gone path) line input before index moment noted mail failed =
-    IsRefusedReading (outcomes.Gone path) line input before index moment noted × NoneFailed before.mail_faults mail failed
-HasCause outcomes.MailFault line input before index moment noted mail failed =
+HasCause (outcomes.NotOne found) line input before index moment given mail failed =
+    IsRefusedReading (outcomes.NotOne found) line input before index moment given × NoneFailed before.mail_faults mail failed
+HasCause (outcomes.Gone path) line input before index moment given mail failed =
+    IsRefusedReading (outcomes.Gone path) line input before index moment given × NoneFailed before.mail_faults mail failed
+HasCause outcomes.MailFault line input before index moment given mail failed =
     MayAsk line input before × (asks_the_folder line ≡ true) × HasRisen before.mail_faults mail × (failed ≡ true → asks_to_tag line ≡ true)
-HasCause outcomes.DiskFault line input before index moment noted mail failed =
+HasCause outcomes.DiskFault line input before index moment given mail failed =
     MayAsk line input before × (asks_to_write line ≡ true) × (mail ≡ before.mail_faults) × (failed ≡ true)
-HasCause (outcomes.Closed fault) line input before index moment noted mail failed =
+HasCause (outcomes.Closed fault) line input before index moment given mail failed =
     IsRefusedUnasked (outcomes.Closed fault) line input before × NoneFailed before.mail_faults mail failed
-HasCause (outcomes.Limit limit) line input before index moment noted mail failed =
+HasCause (outcomes.Limit limit) line input before index moment given mail failed =
     (IsRefusedUnasked (outcomes.Limit limit) line input before
-    ⊎ (IsRefusedReading (outcomes.Limit limit) line input before index moment noted ⊎ (MayAsk line input before × (asks_to_write line ≡ true))))
+    ⊎ (IsRefusedReading (outcomes.Limit limit) line input before index moment given ⊎ (MayAsk line input before × (asks_to_write line ≡ true))))
     × NoneFailed before.mail_faults mail failed
-HasCause outcomes.NoMemory line input before index moment noted mail failed = failed ≡ false
+HasCause outcomes.NoMemory line input before index moment given mail failed = failed ≡ false
 
 -- A line's outcome has its cause, the disk's count rose where the line says that the disk failed in it, its status is that of the outcome, and
 -- its text is said on the index before it and the one that it leaves.

@@ -29,71 +29,71 @@ use Rattle.nm_history.specs.Requests.{asks_to_tag, asks_to_write, refused_unaske
 
 -- the paths of the files whose renames are left, once these were tried
 abbrev pub renames_left : Base → Base → List Given → List (List ℕ)
-renames_left index wanted noted = map (λ rename. rename.from) (drop (length (renames_done index wanted noted)) (renames_for index wanted))
+renames_left index wanted given = map (λ rename. rename.from) (drop (length (renames_done index wanted given)) (renames_for index wanted))
 
 -- of the renames that setting these tags asks for the first were tried, and those of these paths are left
-pub record FindsRenames (index wanted : Base) (noted : List Given) (left : List (List ℕ)) : Type 0 where
-  pub tried : HasTried index wanted noted
-  pub left_are : left ≡ renames_left index wanted noted
+pub record FindsRenames (index wanted : Base) (given : List Given) (left : List (List ℕ)) : Type 0 where
+  pub tried : HasTried index wanted given
+  pub left_are : left ≡ renames_left index wanted given
 
 -- What a request found in the mail folder, and the paths that are left to it: a `new` the mails of each batch and the paths left to read, a
 -- `tag` or a `restore` the files that were renamed and those left to rename.
 abbrev pub FindsFor : Request → List ℕ → ℤ → Option Tree → Base → List Given → List (List (List ℕ × Facts)) → List (List ℕ) → Type 0
-FindsFor New input moment tree index noted batches left = FindsBatches tree index.files noted batches left
-FindsFor (Count ask) input moment tree index noted batches left = (batches ≡ []) × (left ≡ [])
-FindsFor (Search ask) input moment tree index noted batches left = (batches ≡ []) × (left ≡ [])
-FindsFor (Dump ask) input moment tree index noted batches left = (batches ≡ []) × (left ≡ [])
-FindsFor (Show ask) input moment tree index noted batches left = (batches ≡ []) × (left ≡ [])
-FindsFor (Tag ask) input moment tree index noted batches left = (batches ≡ []) × FindsRenames index (wanted_for (Tag ask) input moment index) noted left
-FindsFor (Restore ask) input moment tree index noted batches left = (batches ≡ []) × FindsRenames index (wanted_for (Restore ask) input moment index) noted left
+FindsFor New input moment tree index given batches left = FindsBatches tree index.files given batches left
+FindsFor (Count ask) input moment tree index given batches left = (batches ≡ []) × (left ≡ [])
+FindsFor (Search ask) input moment tree index given batches left = (batches ≡ []) × (left ≡ [])
+FindsFor (Dump ask) input moment tree index given batches left = (batches ≡ []) × (left ≡ [])
+FindsFor (Show ask) input moment tree index given batches left = (batches ≡ []) × (left ≡ [])
+FindsFor (Tag ask) input moment tree index given batches left = (batches ≡ []) × FindsRenames index (wanted_for (Tag ask) input moment index) given left
+FindsFor (Restore ask) input moment tree index given batches left = (batches ≡ []) × FindsRenames index (wanted_for (Restore ask) input moment index) given left
 
 -- The commits that are due to the line while these paths are left, by its request, the moment, the index before it, and what the mail folder gave.
-pub record AreDue (moment : ℤ) (tree : Option Tree) (index : Base) (line : ScriptLine) (noted : List Given) (left : List (List ℕ)) (due : List Commit) : Type 0 where
+pub record AreDue (moment : ℤ) (tree : Option Tree) (index : Base) (line : ScriptLine) (given : List Given) (left : List (List ℕ)) (due : List Commit) : Type 0 where
   pub request : Request
   pub asked_for : parse_line line ≡ asked.Request request
   pub batches : List (List (List ℕ × Facts))
-  pub found : FindsFor request line.input moment tree index noted batches left
-  pub due_are : due ≡ due_commits request line.input moment index noted batches left
+  pub found : FindsFor request line.input moment tree index given batches left
+  pub due_are : due ≡ due_commits request line.input moment index given batches left
 
 -- due are the commits made, then this one, and perhaps more
-pub record StopsAt (moment : ℤ) (tree : Option Tree) (index : Base) (line : ScriptLine) (noted : List Given) (made : List Commit) (commit : Commit) : Type 0 where
+pub record StopsAt (moment : ℤ) (tree : Option Tree) (index : Base) (line : ScriptLine) (given : List Given) (made : List Commit) (commit : Commit) : Type 0 where
   pub left : List (List ℕ)
   pub due : List Commit
-  pub are_due : AreDue moment tree index line noted left due
+  pub are_due : AreDue moment tree index line given left due
   pub more : List Commit
   pub order : due ≡ made ++ commit ∷ more
 
 -- the first of the commits due were made, all of them perhaps; or none
 abbrev pub MakesFirst : ℤ → Option Tree → Base → ScriptLine → List Given → List Commit → Type 0
-MakesFirst moment tree index line noted made =
-    (made ≡ []) ⊎ ((left : List (List ℕ)) × (due more : List Commit) × AreDue moment tree index line noted left due × (due ≡ made ++ more))
+MakesFirst moment tree index line given made =
+    (made ≡ []) ⊎ ((left : List (List ℕ)) × (due more : List Commit) × AreDue moment tree index line given left due × (due ≡ made ++ more))
 
 -- Behind a fault of the folder in a rename the tags are set; the commit of the files that were moved is made, or the disk failed in it, or
 -- something else refused it.
-pub record MakesTags (index wanted : Base) (noted : List Given) (made in_flight : List Commit) : Type 0 where
+pub record MakesTags (index wanted : Base) (given : List Given) (made in_flight : List Commit) : Type 0 where
   pub moves : List Commit
   pub more : List Commit
   pub made_are : made ≡ tag_commit index wanted ++ moves
-  pub order : moves ++ (in_flight ++ more) ≡ move_commit noted
+  pub order : moves ++ (in_flight ++ more) ≡ move_commit given
 
 -- What was made before the folder failed, while paths were left: by a `new` all that was due, by a `tag` or a `restore` the
 -- commit of the tags.
 abbrev pub MakesBefore : Request → List ℕ → ℤ → Base → List Given → List Commit → List Commit → List Commit → Type 0
-MakesBefore New input moment index noted due made in_flight = (made ≡ due) × (in_flight ≡ [])
-MakesBefore (Count ask) input moment index noted due made in_flight = (made ≡ due) × (in_flight ≡ [])
-MakesBefore (Search ask) input moment index noted due made in_flight = (made ≡ due) × (in_flight ≡ [])
-MakesBefore (Dump ask) input moment index noted due made in_flight = (made ≡ due) × (in_flight ≡ [])
-MakesBefore (Show ask) input moment index noted due made in_flight = (made ≡ due) × (in_flight ≡ [])
-MakesBefore (Tag ask) input moment index noted due made in_flight = MakesTags index (wanted_for (Tag ask) input moment index) noted made in_flight
-MakesBefore (Restore ask) input moment index noted due made in_flight = MakesTags index (wanted_for (Restore ask) input moment index) noted made in_flight
+MakesBefore New input moment index given due made in_flight = (made ≡ due) × (in_flight ≡ [])
+MakesBefore (Count ask) input moment index given due made in_flight = (made ≡ due) × (in_flight ≡ [])
+MakesBefore (Search ask) input moment index given due made in_flight = (made ≡ due) × (in_flight ≡ [])
+MakesBefore (Dump ask) input moment index given due made in_flight = (made ≡ due) × (in_flight ≡ [])
+MakesBefore (Show ask) input moment index given due made in_flight = (made ≡ due) × (in_flight ≡ [])
+MakesBefore (Tag ask) input moment index given due made in_flight = MakesTags index (wanted_for (Tag ask) input moment index) given made in_flight
+MakesBefore (Restore ask) input moment index given due made in_flight = MakesTags index (wanted_for (Restore ask) input moment index) given made in_flight
 
 -- The folder failed with paths left, in a `new` or in what sets tags.
-pub record FailsBefore (moment : ℤ) (tree : Option Tree) (index : Base) (line : ScriptLine) (noted : List Given) (made in_flight : List Commit) : Type 0 where
+pub record FailsBefore (moment : ℤ) (tree : Option Tree) (index : Base) (line : ScriptLine) (given : List Given) (made in_flight : List Commit) : Type 0 where
   pub path : List ℕ
   pub left : List (List ℕ)
   pub due : List Commit
-  pub are_due : AreDue moment tree index line noted (path ∷ left) due
-  pub makes : MakesBefore are_due.request line.input moment index noted due made in_flight
+  pub are_due : AreDue moment tree index line given (path ∷ left) due
+  pub makes : MakesBefore are_due.request line.input moment index given due made in_flight
 
 -- nothing was made, and nothing is on its way
 pub record MakesNothing (made in_flight : List Commit) : Type 0 where
@@ -102,37 +102,37 @@ pub record MakesNothing (made in_flight : List Commit) : Type 0 where
 
 -- The folder failed at a listing or in a show, and nothing was made; or with paths left.
 abbrev pub MakesToFault : ℤ → Option Tree → Base → ScriptLine → List Given → List Commit → List Commit → Type 0
-MakesToFault moment tree index line noted made in_flight =
-    ((asks_to_tag (parse_line line) ≡ false) × ((noted ≡ []) ⊎ (asks_to_write (parse_line line) ≡ false)) × MakesNothing made in_flight)
-    ⊎ FailsBefore moment tree index line noted made in_flight
+MakesToFault moment tree index line given made in_flight =
+    ((asks_to_tag (parse_line line) ≡ false) × ((given ≡ []) ⊎ (asks_to_write (parse_line line) ≡ false)) × MakesNothing made in_flight)
+    ⊎ FailsBefore moment tree index line given made in_flight
 
 -- the query of the line passes the limit, or the mail folder passed it as it was listed, or a show passed its bytes
 abbrev pub PassesUnmade : Option Tree → ScriptLine → List Given → Limit → Type 0
-PassesUnmade tree line noted limit =
-    ((noted ≡ []) × (refused_unasked (parse_line line) line.input None ≡ Some (outcomes.Limit limit)))
-    ⊎ (((noted ≡ []) × PassesListing tree limit) ⊎ ((asks_to_write (parse_line line) ≡ false) × (limit ≡ ShowBytes)))
+PassesUnmade tree line given limit =
+    ((given ≡ []) × (refused_unasked (parse_line line) line.input None ≡ Some (outcomes.Limit limit)))
+    ⊎ (((given ≡ []) × PassesListing tree limit) ⊎ ((asks_to_write (parse_line line) ≡ false) × (limit ≡ ShowBytes)))
 
 -- The limit was passed outside a commit, and nothing was made; or the next commit would pass it.
 abbrev pub MakesToLimit : ℤ → Option Tree → Base → ScriptLine → List Given → ℕ → List Commit → Limit → Type 0
-MakesToLimit moment tree index line noted count made limit =
-    ((made ≡ []) × PassesUnmade tree line noted limit)
-    ⊎ ((commit : Commit) × StopsAt moment tree index line noted made commit × IsPassed count (folded index made) commit limit)
+MakesToLimit moment tree index line given count made limit =
+    ((made ≡ []) × PassesUnmade tree line given limit)
+    ⊎ ((commit : Commit) × StopsAt moment tree index line given made commit × IsPassed count (folded index made) commit limit)
 
 -- The commits that a line makes, and the one that it leaves on its way, by its outcome: the disk may hold that one where it failed;
 -- where a limit is told, the next one would pass it. `count` is how many the session has then made.
 abbrev pub Makes : Outcome → ℤ → Option Tree → Base → ScriptLine → List Given → ℕ → List Commit → List Commit → Type 0
-Makes outcomes.Ok moment tree index line noted count made in_flight = AreDue moment tree index line noted [] made × (in_flight ≡ [])
-Makes (outcomes.Usage word kind) moment tree index line noted count made in_flight = MakesNothing made in_flight
-Makes (outcomes.BadQuery at kind) moment tree index line noted count made in_flight = MakesNothing made in_flight
-Makes (outcomes.BadDate at) moment tree index line noted count made in_flight = MakesNothing made in_flight
-Makes (outcomes.BadLine bad kind) moment tree index line noted count made in_flight = MakesNothing made in_flight
-Makes (outcomes.NotOne found) moment tree index line noted count made in_flight = MakesNothing made in_flight
-Makes (outcomes.Gone path) moment tree index line noted count made in_flight = MakesNothing made in_flight
-Makes outcomes.MailFault moment tree index line noted count made in_flight = MakesToFault moment tree index line noted made in_flight
-Makes outcomes.DiskFault moment tree index line noted count made in_flight = (commit : Commit) × StopsAt moment tree index line noted made commit × (in_flight ≡ commit ∷ [])
-Makes (outcomes.Closed fault) moment tree index line noted count made in_flight = MakesNothing made in_flight
-Makes (outcomes.Limit limit) moment tree index line noted count made in_flight = MakesToLimit moment tree index line noted count made limit × (in_flight ≡ [])
-Makes outcomes.NoMemory moment tree index line noted count made in_flight = MakesFirst moment tree index line noted made × (in_flight ≡ [])
+Makes outcomes.Ok moment tree index line given count made in_flight = AreDue moment tree index line given [] made × (in_flight ≡ [])
+Makes (outcomes.Usage word kind) moment tree index line given count made in_flight = MakesNothing made in_flight
+Makes (outcomes.BadQuery at kind) moment tree index line given count made in_flight = MakesNothing made in_flight
+Makes (outcomes.BadDate at) moment tree index line given count made in_flight = MakesNothing made in_flight
+Makes (outcomes.BadLine bad kind) moment tree index line given count made in_flight = MakesNothing made in_flight
+Makes (outcomes.NotOne found) moment tree index line given count made in_flight = MakesNothing made in_flight
+Makes (outcomes.Gone path) moment tree index line given count made in_flight = MakesNothing made in_flight
+Makes outcomes.MailFault moment tree index line given count made in_flight = MakesToFault moment tree index line given made in_flight
+Makes outcomes.DiskFault moment tree index line given count made in_flight = (commit : Commit) × StopsAt moment tree index line given made commit × (in_flight ≡ commit ∷ [])
+Makes (outcomes.Closed fault) moment tree index line given count made in_flight = MakesNothing made in_flight
+Makes (outcomes.Limit limit) moment tree index line given count made in_flight = MakesToLimit moment tree index line given count made limit × (in_flight ≡ [])
+Makes outcomes.NoMemory moment tree index line given count made in_flight = MakesFirst moment tree index line given made × (in_flight ≡ [])
 
 -- One commit is on its way behind a line in which the disk failed, and none behind another.
 abbrev pub IsOnItsWay : Bool → List Commit → Type 0

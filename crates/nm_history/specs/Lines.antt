@@ -18,7 +18,7 @@ use Rattle.nm_maildir.specs.Observed.{tree_with}
 use Rattle.nm_maildir.specs.Tree.{Tree}
 use Rattle.nm_maildir.specs.declared.answers.MailError.{MailError}
 use Rattle.nm_maildir.specs.declared.given.Given.{Given}
-use Rattle.nm_maildir.specs.declared.given.Given.TheVariants as given
+use Rattle.nm_maildir.specs.declared.given.Given.TheVariants as givens
 use Rattle.nm_scan.specs.Bodies.{left_after}
 use Rattle.nm_history.specs.Call.{Call, Devices, call_lines}
 
@@ -99,20 +99,20 @@ Along holds before (ran ∷ more) = holds before ran × Along holds (after_line 
 
 -- a tree once this was given: a rename that moved a file changes it
 abbrev pub given_in : Tree → Given → Tree
-given_in tree (given.Listed paths) = tree
-given_in tree (given.Read path answer) = tree
-given_in tree (given.Renamed from to answer) = tree_with {E = MailError} tree from to (Ok answer)
+given_in tree (givens.Listed paths) = tree
+given_in tree (givens.Read path answer) = tree
+given_in tree (givens.Renamed from to answer) = tree_with {E = MailError} tree from to (Ok answer)
 
 -- the tree, where the folder tells it, behind a line that was given this: a `tag` and a `restore` alone rename files
 abbrev pub tree_after_line : ParsedLine → List Given → Option Tree → Option Tree
-tree_after_line (asked.Request New) noted tree = tree
-tree_after_line (asked.Request (Count ask)) noted tree = tree
-tree_after_line (asked.Request (Search ask)) noted tree = tree
-tree_after_line (asked.Request (Dump ask)) noted tree = tree
-tree_after_line (asked.Request (Show ask)) noted tree = tree
-tree_after_line (asked.Request (Tag ask)) noted tree = option_map (λ t. fold given_in t noted) tree
-tree_after_line (asked.Request (Restore ask)) noted tree = option_map (λ t. fold given_in t noted) tree
-tree_after_line (asked.Usage word kind) noted tree = tree
+tree_after_line (asked.Request New) given tree = tree
+tree_after_line (asked.Request (Count ask)) given tree = tree
+tree_after_line (asked.Request (Search ask)) given tree = tree
+tree_after_line (asked.Request (Dump ask)) given tree = tree
+tree_after_line (asked.Request (Show ask)) given tree = tree
+tree_after_line (asked.Request (Tag ask)) given tree = option_map (λ t. fold given_in t given) tree
+tree_after_line (asked.Request (Restore ask)) given tree = option_map (λ t. fold given_in t given) tree
+tree_after_line (asked.Usage word kind) given tree = tree
 
 -- behind a line that was run
 abbrev pub tree_after : Option Tree → RunLine → Option Tree

@@ -13,7 +13,7 @@ use Rattle.nm_log.specs.declared.line_parser.ParsedLine.TheVariants as asked
 use Rattle.nm_log.specs.declared.outcome.Outcome.{Outcome}
 use Rattle.nm_log.specs.declared.outcome.Outcome.TheVariants.{BadDate, BadLine, BadQuery, Closed, Gone, Limit, NoMemory, NotOne, Usage}
 use Rattle.nm_maildir.specs.declared.given.Given.{Given}
-use Rattle.nm_maildir.specs.declared.given.Given.TheVariants as given
+use Rattle.nm_maildir.specs.declared.given.Given.TheVariants as givens
 use Rattle.nm_query.specs.Answers.{answer_of}
 use Rattle.nm_query.specs.declared.query.Query.{Query}
 use Rattle.nm_query.specs.declared.query_error.QueryError.{QueryError}
@@ -152,12 +152,12 @@ refused_number ask ids = if is_not_one ask ids then Some (NotOne (length ids)) e
 -- a read, one after the other, found a file that has more bytes than are left, where fewer are left than a file may have
 abbrev pub passes_bytes : ℕ → List Given → Bool
 passes_bytes left [] = false
-passes_bytes left (given.Listed paths ∷ more) = passes_bytes left more
-passes_bytes left (given.Read path answer ∷ more) = is_over left answer || passes_bytes (left - body_len answer) more
-passes_bytes left (given.Renamed from to answer ∷ more) = passes_bytes left more
+passes_bytes left (givens.Listed paths ∷ more) = passes_bytes left more
+passes_bytes left (givens.Read path answer ∷ more) = is_over left answer || passes_bytes (left - body_len answer) more
+passes_bytes left (givens.Renamed from to answer ∷ more) = passes_bytes left more
 
 abbrev pub refused_bytes : ℕ → List Given → Option Outcome
-refused_bytes left noted = if passes_bytes left noted then Some (Limit ShowBytes) else None
+refused_bytes left given = if passes_bytes left given then Some (Limit ShowBytes) else None
 
 -- the file that raw form asks for is not there any more, or too long
 abbrev pub refused_gone : Option (List ℕ) → Option Outcome
@@ -166,16 +166,16 @@ refused_gone (Some path) = Some (Gone path)
 
 -- what a show is refused for, by what it finds and by what the mail folder gave
 abbrev pub refused_show : ShowAsk → Base → ℤ → ℕ → List Given → Option Outcome
-refused_show ask index moment left noted =
-    first_refusal (refused_number ask (found_to_show ask index moment)) (first_refusal (refused_bytes left noted) (refused_gone (gone_path ask noted)))
+refused_show ask index moment left given =
+    first_refusal (refused_number ask (found_to_show ask index moment)) (first_refusal (refused_bytes left given) (refused_gone (gone_path ask given)))
 
 -- How a line ends for what it found and read, where so many bytes were left to show: a show alone ends so.
 abbrev pub refused_reading : ParsedLine → Base → ℤ → ℕ → List Given → Option Outcome
-refused_reading (asked.Usage word kind) index moment left noted = None
-refused_reading (asked.Request New) index moment left noted = None
-refused_reading (asked.Request (Count ask)) index moment left noted = None
-refused_reading (asked.Request (Search ask)) index moment left noted = None
-refused_reading (asked.Request (Dump ask)) index moment left noted = None
-refused_reading (asked.Request (Show ask)) index moment left noted = refused_show ask index moment left noted
-refused_reading (asked.Request (Tag ask)) index moment left noted = None
-refused_reading (asked.Request (Restore ask)) index moment left noted = None
+refused_reading (asked.Usage word kind) index moment left given = None
+refused_reading (asked.Request New) index moment left given = None
+refused_reading (asked.Request (Count ask)) index moment left given = None
+refused_reading (asked.Request (Search ask)) index moment left given = None
+refused_reading (asked.Request (Dump ask)) index moment left given = None
+refused_reading (asked.Request (Show ask)) index moment left given = refused_show ask index moment left given
+refused_reading (asked.Request (Tag ask)) index moment left given = None
+refused_reading (asked.Request (Restore ask)) index moment left given = None

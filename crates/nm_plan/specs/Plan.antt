@@ -68,13 +68,13 @@ commits_so_far index listed batches (path ∷ left) = batch_commits index batche
 -- `restore` with the renames that were tried. What only reads
 -- makes none.
 abbrev pub due_commits : Request → List ℕ → ℤ → Base → List Given → List (List (List ℕ × Facts)) → List (List ℕ) → List Commit
-due_commits New input moment index noted batches left = commits_so_far index (listed_in noted) batches left
-due_commits (Count ask) input moment index noted batches left = []
-due_commits (Search ask) input moment index noted batches left = []
-due_commits (Dump ask) input moment index noted batches left = []
-due_commits (Show ask) input moment index noted batches left = []
-due_commits (Tag ask) input moment index noted batches left = tag_commits index (wanted_for (Tag ask) input moment index) noted
-due_commits (Restore ask) input moment index noted batches left = tag_commits index (wanted_for (Restore ask) input moment index) noted
+due_commits New input moment index given batches left = commits_so_far index (listed_in given) batches left
+due_commits (Count ask) input moment index given batches left = []
+due_commits (Search ask) input moment index given batches left = []
+due_commits (Dump ask) input moment index given batches left = []
+due_commits (Show ask) input moment index given batches left = []
+due_commits (Tag ask) input moment index given batches left = tag_commits index (wanted_for (Tag ask) input moment index) given
+due_commits (Restore ask) input moment index given batches left = tag_commits index (wanted_for (Restore ask) input moment index) given
 
 -- the files after a `new`: what has come stands behind what was there, and what is gone is away
 abbrev pub files_after_new : List (List ℕ × Facts) → List (List ℕ) → List (List ℕ × Facts) → List (List ℕ × Facts)

@@ -20,12 +20,12 @@ IsIdsFault ask ids NoMemory = ⊤
 
 -- of what the folder gave: the file that raw form asks for is gone
 abbrev pub IsTextFault : ShowAsk → List Given → ShowError → Type 0
-IsTextFault ask noted (NotOne found) = ⊥
-IsTextFault ask noted (Gone path) = gone_path ask noted ≡ Some path
-IsTextFault ask noted NoMemory = ⊤
+IsTextFault ask given (NotOne found) = ⊥
+IsTextFault ask given (Gone path) = gone_path ask given ≡ Some path
+IsTextFault ask given NoMemory = ⊤
 
 -- the same, where raw form is asked
 abbrev pub IsRawFault : List Given → ShowError → Type 0
-IsRawFault noted (NotOne found) = ⊥
-IsRawFault noted (Gone path) = first_lost noted ≡ Some path
-IsRawFault noted NoMemory = ⊤
+IsRawFault given (NotOne found) = ⊥
+IsRawFault given (Gone path) = first_lost given ≡ Some path
+IsRawFault given NoMemory = ⊤

@@ -119,7 +119,7 @@ module _ (m0 m1 : ObservedMail) (n0 n1 : List Given) (paths rest : List (List �
       record {
         first = record {
           noted = h.all.noted;
-          noted_is = unnoted ∙ h.all.noted_is;
+          given_is = unnoted ∙ h.all.given_is;
           reading = record {
             answered = length h.read;
             asked = length h.read + asks.asked;

@@ -55,7 +55,7 @@ pub record InBodies (old now : ObservedMail) (left rest : ℕ) (old_noted noted 
 
 pub begun_bodies : (mail : ObservedMail) (left : ℕ) (noted : List Given) → InBodies mail mail left left noted noted []
 begun_bodies mail left noted = record {
-  all = record { noted = []; noted_is = sym (append-nil noted); bodies = refl; mail = same_mail mail (after_reads mail []) refl (read_with-none mail.reads) refl };
+  all = record { noted = []; given_is = sym (append-nil noted); bodies = refl; mail = same_mail mail (after_reads mail []) refl (read_with-none mail.reads) refl };
   rest_is = omega arith;
 }
 
@@ -68,7 +68,7 @@ module _ (m0 m1 m2 : ObservedMail) (left rest : ℕ) (n0 n1 n2 : List Given) (re
   more_bodies rest_after one = record {
     all = record {
       noted = h.all.noted ++ given.Read path one.answer ∷ [];
-      noted_is = one.noted_is ∙ (ap (λ (l : List Given). l ++ given.Read path one.answer ∷ []) h.all.noted_is ∙ append_assoc n0 h.all.noted (given.Read path one.answer ∷ []));
+      given_is = one.given_is ∙ (ap (λ (l : List Given). l ++ given.Read path one.answer ∷ []) h.all.given_is ∙ append_assoc n0 h.all.noted (given.Read path one.answer ∷ []));
       bodies = bodies-more m0.tree left h.all.noted read path one.answer h.all.bodies
           (subst (λ (n : ℕ). IsBody m0.tree n path one.answer) h.rest_is (subst (λ (t : Option Tree). IsBody t rest path one.answer) same_tree one.body));
       mail = one.mail ∙ (ap (λ (m : ObservedMail). after_reads m (path ∷ [])) h.all.mail ∙ ap (λ (r : Option (List (List ℕ))). record { tree = m0.tree; reads = r; faults = m0.faults }) (read_with-more m0.reads read (path ∷ [])));

@@ -22,11 +22,11 @@ none_read tree noted none = subst (λ (l : List Given). Reads tree l [] []) (sym
 pub in-one : (tree : Option Tree) (noted : List Given) (paths : List (List ℕ)) (batches : Batches) (left : List (List ℕ)) → ReadsBatches tree noted paths batches left
     → (read : List (List ℕ)) × (paths ≡ read ++ left) × Reads tree noted read (all_added batches)
 in-one tree noted paths [] left h = ([], sym h.1, none_read tree noted h.0)
-in-one tree noted paths (added ∷ more) left (read, rest, answers, others, paths_are, noted_is, batch, reads, behind) =
+in-one tree noted paths (added ∷ more) left (read, rest, answers, others, paths_are, given_is, batch, reads, behind) =
     let all = in-one tree others rest more left behind in (
       read ++ all.0,
       paths_are ∙ (ap (λ (l : List (List ℕ)). read ++ l) all.1 ∙ sym (append_assoc read all.0 left)),
-      subst (λ (l : List Given). Reads tree l (read ++ all.0) (added ++ all_added more)) (sym noted_is) (Reads-append tree answers others read all.0 added (all_added more) reads all.2),
+      subst (λ (l : List Given). Reads tree l (read ++ all.0) (added ++ all_added more)) (sym given_is) (Reads-append tree answers others read all.0 added (all_added more) reads all.2),
     )
 
 -- few small files are one batch
@@ -37,7 +37,7 @@ len-front t (path ∷ read) rest = omega (arith, len-front t read rest)
 
 no_more : (tree : Option Tree) (noted : List Given) (batches : Batches) (left : List (List ℕ)) → ReadsBatches tree noted [] batches left → length batches ≡ 0
 no_more tree noted [] left h = refl
-no_more tree noted (added ∷ more) left (read, rest, answers, others, paths_are, noted_is, batch, reads, behind) =
+no_more tree noted (added ∷ more) left (read, rest, answers, others, paths_are, given_is, batch, reads, behind) =
     absurd (omega (arith, ap length paths_are ∙ length-append read rest, ap length batch.read_are ∙ length-append batch.before (batch.last ∷ [])))
 
 closed-last : (t : Tree) (read rest : List (List ℕ)) → length (read ++ rest) < full_answers → len_at_all t (read ++ rest) < full_bytes → (rest ≡ []) ⊎ IsFull (Some t) read → rest ≡ []
@@ -48,7 +48,7 @@ closed-last t read rest few small (inr (inr large)) = absurd (omega (arith, larg
 pub one-batch : (t : Tree) (noted : List Given) (paths : List (List ℕ)) (batches : Batches) → 0 < length paths → length paths < full_answers → len_at_all t paths < full_bytes → ReadsBatches (Some t) noted paths batches []
     → length batches ≡ 1
 one-batch t noted paths [] some few small h = absurd (omega (arith, some, ap length h.1))
-one-batch t noted paths (added ∷ more) some few small (read, rest, answers, others, paths_are, noted_is, batch, reads, behind) =
+one-batch t noted paths (added ∷ more) some few small (read, rest, answers, others, paths_are, given_is, batch, reads, behind) =
     let none : rest ≡ [] = closed-last t read rest (subst (λ (l : List (List ℕ)). length l < full_answers) paths_are few) (subst (λ (l : List (List ℕ)). len_at_all t l < full_bytes) paths_are small) batch.closed in
     omega (arith, no_more (Some t) others more [] (subst (λ (l : List (List ℕ)). ReadsBatches (Some t) others l more []) none behind))
 
@@ -58,13 +58,13 @@ after_batches : (tree : Option Tree) (noted : List Given) (paths : List (List �
     → ReadsBatches tree noted paths batches left → left ≡ read ++ rest → IsBatch tree read rest → Reads tree answers read added → ReadsBatches tree (noted ++ answers) paths (batches ++ added ∷ []) rest
 after_batches tree noted paths [] left answers read rest added h next batch reads =
     (read, rest, answers, [], sym h.1 ∙ next, ap (λ (l : List Given). l ++ answers) h.0 ∙ sym (append-nil answers), batch, reads, (refl, refl))
-after_batches tree noted paths (first ∷ more) left answers read rest added (read0, rest0, answers0, others0, paths_are, noted_is, batch0, reads0, behind) next batch reads = (
+after_batches tree noted paths (first ∷ more) left answers read rest added (read0, rest0, answers0, others0, paths_are, given_is, batch0, reads0, behind) next batch reads = (
   read0,
   rest0,
   answers0,
   others0 ++ answers,
   paths_are,
-  ap (λ (l : List Given). l ++ answers) noted_is ∙ append_assoc answers0 others0 answers,
+  ap (λ (l : List Given). l ++ answers) given_is ∙ append_assoc answers0 others0 answers,
   batch0,
   reads0,
   after_batches tree others0 rest0 more left answers read rest added behind next batch reads,
@@ -85,7 +85,7 @@ more-batches m0 m1 m2 n0 n1 n2 paths batches left rest added h k =
       paths_are = h.paths_are ∙ (ap (λ (l : List (List ℕ)). h.read ++ l) k.paths_are ∙ sym (append_assoc h.read k.read rest));
       all = record {
         noted = h.all.noted ++ k.all.noted;
-        noted_is = both.noted_is;
+        given_is = both.given_is;
         reading = subst (λ (l : List (List ℕ × Facts)). Reads m0.tree (h.all.noted ++ k.all.noted) (h.read ++ k.read) l) (sym mails) both.reading;
         mail = both.mail;
       };
@@ -108,12 +108,12 @@ finished m0 m1 n0 n1 paths batches left h =
     record {
       answers = h.all.noted;
       further = [];
-      noted_is = h.all.noted_is ∙ ap (λ (l : List Given). n0 ++ l) (sym (append-nil h.all.noted));
+      given_is = h.all.given_is ∙ ap (λ (l : List Given). n0 ++ l) (sym (append-nil h.all.noted));
       reading = h.reading;
       unfinished = none_unfinished m0.tree left;
       first = record {
         noted = h.all.noted;
-        noted_is = h.all.noted_is;
+        given_is = h.all.given_is;
         reading = record {
           answered = length h.read;
           asked = length h.read;
@@ -136,16 +136,16 @@ unfinished m0 m1 m2 n0 n1 n2 paths batches left h k =
     let answers : h.read ++ take answered left ≡ take (length h.read + answered) paths = sym (take-append-add h.read left answered) ∙ sym (ap (take (length h.read + answered)) h.paths_are) in
     let asks : h.read ++ take asked left ≡ take (length h.read + asked) paths = sym (take-append-add h.read left asked) ∙ sym (ap (take (length h.read + asked)) h.paths_are) in
     let notes : NotesReads m0.tree k.first.noted (take answered left) = subst (λ (t : Option Tree). NotesReads t k.first.noted (take answered left)) tree reading.notes in
-    let noted_is : n2 ≡ n0 ++ (h.all.noted ++ k.first.noted) = k.first.noted_is ∙ (ap (λ (l : List Given). l ++ k.first.noted) h.all.noted_is ∙ append_assoc n0 h.all.noted k.first.noted) in
+    let given_is : n2 ≡ n0 ++ (h.all.noted ++ k.first.noted) = k.first.given_is ∙ (ap (λ (l : List Given). l ++ k.first.noted) h.all.given_is ∙ append_assoc n0 h.all.noted k.first.noted) in
     record {
       answers = h.all.noted;
       further = k.first.noted;
-      noted_is = noted_is;
+      given_is = given_is;
       reading = h.reading;
       unfinished = record { answered = answered; notes = notes; is_open = subst (λ (t : Option Tree). IsOpen t (take answered left)) tree k.is_open };
       first = record {
         noted = h.all.noted ++ k.first.noted;
-        noted_is = noted_is;
+        given_is = given_is;
         reading = record {
           answered = length h.read + answered;
           asked = length h.read + asked;

@@ -51,7 +51,7 @@ no_answers (Some t) = refl
 
 -- nothing is noted
 abbrev pub notes-none : (tree : Option Tree) → NotesReads tree [] []
-notes-none tree = record { reads = []; noted_is = refl; each = refl; told = no_answers tree }
+notes-none tree = record { reads = []; given_is = refl; each = refl; told = no_answers tree }
 
 -- a call that read the path, or found no memory before
 pub asked_once : {T : Type 0} (old new : ObservedMail) (path : List ℕ) (result : Result T MailError) → new.tree ≡ old.tree → new.reads ≡ reads_after old.reads path result → AsksOnce old new path
@@ -93,7 +93,7 @@ told_arrival (Some t) path g found is h = ap (arrival path) is ∙ (arrival_is p
 one_read : (tree : Option Tree) (path : List ℕ) (g : Got) (classified : ReadAnswer × Option Facts) → Classifies g classified → IfSome tree (λ t. g ≡ got_of t path max_mail_bytes)
     → Reads tree (given.Read path classified.0 ∷ []) (path ∷ []) (arrival path classified.1)
 one_read tree path g classified h told = record {
-  notes = record { reads = (path, classified.0) ∷ []; noted_is = refl; each = refl; told = told_answer tree path g classified.0 h.answer told };
+  notes = record { reads = (path, classified.0) ∷ []; given_is = refl; each = refl; told = told_answer tree path g classified.0 h.answer told };
   mails = ap (λ (f : Option Facts). paths_of (arrival path f)) h.facts ∙ (mail_is path g ∙ (ap (mail_at path) (sym h.answer) ∙ sym (append-nil (mail_at path classified.0))));
   dated = dated_one path classified.1 h.dated;
   told = told_arrival tree path g classified.1 h.facts told;
@@ -103,7 +103,7 @@ pub one_read_all : (old new : ObservedMail) (noted new_noted : List Given) (path
     → new_noted ≡ noted ++ given.Read path classified.0 ∷ [] → new.tree ≡ old.tree → new.reads ≡ read_with old.reads (path ∷ []) → new.faults ≡ old.faults → HasReadAll old new noted new_noted (path ∷ []) (arrival path classified.1)
 one_read_all old new noted new_noted path g classified h told is tree read faults = record {
   noted = given.Read path classified.0 ∷ [];
-  noted_is = is;
+  given_is = is;
   reading = one_read old.tree path g classified h told;
   mail = same_mail new (after_reads old (path ∷ [])) tree read faults;
 }
@@ -124,7 +124,7 @@ added_both (Some t) xs ys ps qs h k = ap (λ l. l ++ ys) h ∙ (ap (λ l. flat_m
 pub NotesReads-append : (tree : Option Tree) (g k : List Given) (ps qs : List (List ℕ)) → NotesReads tree g ps → NotesReads tree k qs → NotesReads tree (g ++ k) (ps ++ qs)
 NotesReads-append tree g k ps qs h j = record {
   reads = h.reads ++ j.reads;
-  noted_is = ap (λ l. l ++ k) h.noted_is ∙ (ap (λ l. map read_of h.reads ++ l) j.noted_is ∙ sym (map-append read_of h.reads j.reads));
+  given_is = ap (λ l. l ++ k) h.given_is ∙ (ap (λ l. map read_of h.reads ++ l) j.given_is ∙ sym (map-append read_of h.reads j.reads));
   each = map-append (λ read. read.0) h.reads j.reads ∙ (ap (λ l. l ++ map (λ read. read.0) j.reads) h.each ∙ ap (λ l. ps ++ l) j.each);
   told = answers_both tree h.reads j.reads ps qs h.told j.told;
 }
@@ -146,7 +146,7 @@ no_added (Some t) = refl
 abbrev pub begun_read : (mail : ObservedMail) (noted : List Given) (added : List (List ℕ × Facts)) → added ≡ [] → HasReadAll mail mail noted noted [] added
 begun_read mail noted added none = record {
   noted = [];
-  noted_is = sym (append-nil noted);
+  given_is = sym (append-nil noted);
   reading = subst (λ (l : List (List ℕ × Facts)). Reads mail.tree [] [] l) (sym none) (record { notes = notes-none mail.tree; mails = refl; dated = tt; told = no_added mail.tree });
   mail = same_mail mail (after_reads mail []) refl (read_with-none mail.reads) refl;
 }
@@ -157,7 +157,7 @@ more_read m0 m1 m2 n0 n1 n2 ps qs xs ys h k =
     let tree : m1.tree ≡ m0.tree = ap (λ (m : ObservedMail). m.tree) h.mail in
     record {
       noted = h.noted ++ k.noted;
-      noted_is = k.noted_is ∙ (ap (λ l. l ++ k.noted) h.noted_is ∙ append_assoc n0 h.noted k.noted);
+      given_is = k.given_is ∙ (ap (λ l. l ++ k.noted) h.given_is ∙ append_assoc n0 h.noted k.noted);
       reading = Reads-append m0.tree h.noted k.noted ps qs xs ys h.reading (subst (λ (t : Option Tree). Reads t k.noted qs ys) tree k.reading);
       mail = k.mail ∙ (ap (λ (m : ObservedMail). after_reads m qs) h.mail ∙ ap (λ (r : Option (List (List ℕ))). record { tree = m0.tree; reads = r; faults = m0.faults }) (read_with-more m0.reads ps qs));
     }

@@ -85,7 +85,7 @@ pub record HasReadSome (old new : ObservedMail) (old_noted new_noted : List Give
     (left : List (List ℕ)) : Type 0 where
   pub answers : List Given
   pub further : List Given
-  pub noted_is : new_noted ≡ old_noted ++ (answers ++ further)
+  pub given_is : new_noted ≡ old_noted ++ (answers ++ further)
   pub reading : ReadsBatches old.tree answers paths batches left
   pub unfinished : IsUnfinished old.tree further left
   pub first : HasRead old new old_noted new_noted paths

@@ -82,7 +82,7 @@ AreBodies tree left noted (path ∷ paths) =
 -- All the paths were read, and nothing else was asked; that is noted behind what was noted before.
 pub record HasReadBodies (old new : ObservedMail) (left : ℕ) (old_noted new_noted : List Given) (paths : List (List ℕ)) : Type 0 where
   pub noted : List Given
-  pub noted_is : new_noted ≡ old_noted ++ noted
+  pub given_is : new_noted ≡ old_noted ++ noted
   pub bodies : AreBodies old.tree left noted paths
   pub mail : new ≡ after_reads old paths
 
@@ -98,7 +98,7 @@ IsStop NoMemory tree left path asked noted = (asked ≤ 1) × (noted ≡ [])
 pub record StopsAtBody (old new : ObservedMail) (left : ℕ) (old_noted new_noted : List Given) (path : List ℕ) (error : BodiesError) : Type 0 where
   pub asked : ℕ
   pub noted : List Given
-  pub noted_is : new_noted ≡ old_noted ++ noted
+  pub given_is : new_noted ≡ old_noted ++ noted
   pub why : IsStop error old.tree left path asked noted
   pub read : new.reads ≡ read_with old.reads (take asked (path ∷ []))
   pub tree : new.tree ≡ old.tree
@@ -123,7 +123,7 @@ is_folder_fault NoMemory = false
 -- a file was read, and so many bytes are left
 pub record HasReadBody (old new : ObservedMail) (left rest : ℕ) (old_noted new_noted : List Given) (path : List ℕ) : Type 0 where
   pub answer : ReadAnswer
-  pub noted_is : new_noted ≡ old_noted ++ given.Read path answer ∷ []
+  pub given_is : new_noted ≡ old_noted ++ given.Read path answer ∷ []
   pub body : IsBody old.tree left path answer
   pub rest_is : rest ≡ left - body_len answer
   pub mail : new ≡ after_reads old (path ∷ [])

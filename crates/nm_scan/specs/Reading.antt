@@ -67,7 +67,7 @@ after_reads mail paths = record { tree = mail.tree; reads = read_with mail.reads
 -- Each path was read, in order, and its answer is noted; a tree that is told says which answers these are.
 pub record NotesReads (tree : Option Tree) (noted : List Given) (paths : List (List ℕ)) : Type 0 where
   pub reads : List (List ℕ × ReadAnswer)
-  pub noted_is : noted ≡ map read_of reads
+  pub given_is : noted ≡ map read_of reads
   pub each : map (λ read. read.0) reads ≡ paths
   pub told : IfSome tree (λ t. reads ≡ answers_at t paths)
 
@@ -109,13 +109,13 @@ pub record AsksOnce (old new : ObservedMail) (path : List ℕ) : Type 0 where
 -- Of the paths the first were read, and that is noted behind what was noted before.
 pub record HasRead (old new : ObservedMail) (old_noted new_noted : List Given) (paths : List (List ℕ)) : Type 0 where
   pub noted : List Given
-  pub noted_is : new_noted ≡ old_noted ++ noted
+  pub given_is : new_noted ≡ old_noted ++ noted
   pub reading : ReadsFirst old new noted paths
   pub tree : new.tree ≡ old.tree
 
 -- All the paths were read, and these arrivals were found.
 pub record HasReadAll (old new : ObservedMail) (old_noted new_noted : List Given) (paths : List (List ℕ)) (added : List (List ℕ × Facts)) : Type 0 where
   pub noted : List Given
-  pub noted_is : new_noted ≡ old_noted ++ noted
+  pub given_is : new_noted ≡ old_noted ++ noted
   pub reading : Reads old.tree noted paths added
   pub mail : new ≡ after_reads old paths

@@ -17,7 +17,7 @@ pub record FindsBatches (tree : Option Tree) (files : List (List ℕ × Facts)) 
   pub listing : IsListing tree listed
   pub answers : List Given
   pub further : List Given
-  pub noted_is : noted ≡ Listed listed ∷ (answers ++ further)
+  pub given_is : noted ≡ Listed listed ∷ (answers ++ further)
   pub reading : ReadsBatches tree answers (to_read files listed) batches left
   pub unfinished : IsUnfinished tree further left
 
@@ -26,7 +26,7 @@ pub record ListsAndReads (old new : ObservedMail) (files : List (List ℕ × Fac
   pub listed : List (List ℕ)
   pub listing : IsListing old.tree listed
   pub answers : List Given
-  pub noted_is : noted ≡ Listed listed ∷ answers
+  pub given_is : noted ≡ Listed listed ∷ answers
   pub reading : ReadsFirst old new answers (to_read files listed)
 
 -- What a `new` asks and notes, however it ends: a listing that is not noted, and no read; or a listing, and then reads.

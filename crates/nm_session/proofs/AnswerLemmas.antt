@@ -84,24 +84,24 @@ is_early outcomes.NoMemory = true
 -- such a line asks nothing
 pub asks-early : (outcome : Outcome) (line : ParsedLine) (index : Base) (moment : ℤ) (left : ℕ) (mail : ObservedMail) → is_early outcome ≡ true → AsksMail outcome line index moment left mail mail []
 asks-early outcome (asked.Request requests.New) index moment left mail early = inl (refl, refl)
-asks-early outcome (asked.Request (requests.Count ask)) index moment left mail early = record { noted_is = refl; same = refl }
-asks-early outcome (asked.Request (requests.Search ask)) index moment left mail early = record { noted_is = refl; same = refl }
-asks-early outcome (asked.Request (requests.Dump ask)) index moment left mail early = record { noted_is = refl; same = refl }
+asks-early outcome (asked.Request (requests.Count ask)) index moment left mail early = record { given_is = refl; same = refl }
+asks-early outcome (asked.Request (requests.Search ask)) index moment left mail early = record { given_is = refl; same = refl }
+asks-early outcome (asked.Request (requests.Dump ask)) index moment left mail early = record { given_is = refl; same = refl }
 asks-early outcomes.Ok (asked.Request (requests.Show ask)) index moment left mail early = absurd (cc)
-asks-early (outcomes.Usage word kind) (asked.Request (requests.Show ask)) index moment left mail early = record { noted_is = refl; same = refl }
-asks-early (outcomes.BadQuery at kind) (asked.Request (requests.Show ask)) index moment left mail early = record { noted_is = refl; same = refl }
-asks-early (outcomes.BadDate at) (asked.Request (requests.Show ask)) index moment left mail early = record { noted_is = refl; same = refl }
-asks-early (outcomes.BadLine bad kind) (asked.Request (requests.Show ask)) index moment left mail early = record { noted_is = refl; same = refl }
-asks-early (outcomes.NotOne found) (asked.Request (requests.Show ask)) index moment left mail early = record { noted_is = refl; same = refl }
+asks-early (outcomes.Usage word kind) (asked.Request (requests.Show ask)) index moment left mail early = record { given_is = refl; same = refl }
+asks-early (outcomes.BadQuery at kind) (asked.Request (requests.Show ask)) index moment left mail early = record { given_is = refl; same = refl }
+asks-early (outcomes.BadDate at) (asked.Request (requests.Show ask)) index moment left mail early = record { given_is = refl; same = refl }
+asks-early (outcomes.BadLine bad kind) (asked.Request (requests.Show ask)) index moment left mail early = record { given_is = refl; same = refl }
+asks-early (outcomes.NotOne found) (asked.Request (requests.Show ask)) index moment left mail early = record { given_is = refl; same = refl }
 asks-early (outcomes.Gone path) (asked.Request (requests.Show ask)) index moment left mail early = absurd (cc)
 asks-early outcomes.MailFault (asked.Request (requests.Show ask)) index moment left mail early = absurd (cc)
 asks-early outcomes.DiskFault (asked.Request (requests.Show ask)) index moment left mail early = absurd (cc)
-asks-early (outcomes.Closed fault) (asked.Request (requests.Show ask)) index moment left mail early = record { noted_is = refl; same = refl }
-asks-early (outcomes.Limit limit) (asked.Request (requests.Show ask)) index moment left mail early = inl (record { noted_is = refl; same = refl })
-asks-early outcomes.NoMemory (asked.Request (requests.Show ask)) index moment left mail early = inl (record { noted_is = refl; same = refl })
+asks-early (outcomes.Closed fault) (asked.Request (requests.Show ask)) index moment left mail early = record { given_is = refl; same = refl }
+asks-early (outcomes.Limit limit) (asked.Request (requests.Show ask)) index moment left mail early = inl (record { given_is = refl; same = refl })
+asks-early outcomes.NoMemory (asked.Request (requests.Show ask)) index moment left mail early = inl (record { given_is = refl; same = refl })
 asks-early outcome (asked.Request (requests.Tag ask)) index moment left mail early = record { more = []; noted = refl; tree = no-renames mail.tree; reads = refl }
 asks-early outcome (asked.Request (requests.Restore ask)) index moment left mail early = record { more = []; noted = refl; tree = no-renames mail.tree; reads = refl }
-asks-early outcome (asked.Usage word kind) index moment left mail early = record { noted_is = refl; same = refl }
+asks-early outcome (asked.Usage word kind) index moment left mail early = record { given_is = refl; same = refl }
 
 pub made-nothing : (writer : WriterState) → HasMade writer [] [] writer
 made-nothing writer = record {
@@ -352,9 +352,9 @@ reads-nothing (requests.Restore ask) index moment left quiet = absurd (cc)
 
 asks-nothing : (request : Request) (index : Base) (moment : ℤ) (left : ℕ) (mail : ObservedMail) → is_asking request ≡ false → AsksMail outcomes.Ok (asked.Request request) index moment left mail mail []
 asks-nothing requests.New index moment left mail quiet = absurd (cc)
-asks-nothing (requests.Count ask) index moment left mail quiet = record { noted_is = refl; same = refl }
-asks-nothing (requests.Search ask) index moment left mail quiet = record { noted_is = refl; same = refl }
-asks-nothing (requests.Dump ask) index moment left mail quiet = record { noted_is = refl; same = refl }
+asks-nothing (requests.Count ask) index moment left mail quiet = record { given_is = refl; same = refl }
+asks-nothing (requests.Search ask) index moment left mail quiet = record { given_is = refl; same = refl }
+asks-nothing (requests.Dump ask) index moment left mail quiet = record { given_is = refl; same = refl }
 asks-nothing (requests.Show ask) index moment left mail quiet = absurd (cc)
 asks-nothing (requests.Tag ask) index moment left mail quiet = absurd (cc)
 asks-nothing (requests.Restore ask) index moment left mail quiet = absurd (cc)

@@ -47,31 +47,31 @@ abbrev pub IsEven : WriterState → Type 0
 IsEven writer = writer.closed ≡ None → length writer.begun ≡ length writer.acked
 
 -- A line was run and ended so, and the disk failed in it or not: what it made and asked, and why it ended so.
-pub record IsLineAnswer (moment : ℤ) (old : Place) (line : ScriptLine) (noted : List Given) (outcome : Outcome) (failed : Bool) (new : Place) : Type 0 where
+pub record IsLineAnswer (moment : ℤ) (old : Place) (line : ScriptLine) (given : List Given) (outcome : Outcome) (failed : Bool) (new : Place) : Type 0 where
   pub made : List Commit
   pub in_flight : List Commit
   pub has_made : HasMade old.writer made in_flight new.writer
-  pub makes : Makes outcome moment old.mail.tree old.writer.shown line noted (length old.writer.acked + length made) made in_flight
+  pub makes : Makes outcome moment old.mail.tree old.writer.shown line given (length old.writer.acked + length made) made in_flight
   pub on_its_way : IsOnItsWay failed in_flight
   pub closed : new.writer.closed ≡ closed_after old.writer.closed failed new.disk_faults
-  pub asks : AsksMail outcome (parse_line line) old.writer.shown moment old.left old.mail new.mail noted
-  pub tree : new.mail.tree ≡ tree_after_line (parse_line line) noted old.mail.tree
-  pub left : new.left ≡ left_after old.left noted
+  pub asks : AsksMail outcome (parse_line line) old.writer.shown moment old.left old.mail new.mail given
+  pub tree : new.mail.tree ≡ tree_after_line (parse_line line) given old.mail.tree
+  pub left : new.left ≡ left_after old.left given
   pub mail_never_falls : old.mail.faults ≤ new.mail.faults
   pub disk_never_falls : old.disk_faults ≤ new.disk_faults
-  pub cause : HasCause outcome (parse_line line) line.input (before_at old) old.writer.shown moment noted new.mail.faults failed
+  pub cause : HasCause outcome (parse_line line) line.input (before_at old) old.writer.shown moment given new.mail.faults failed
   pub disk : Counts failed old.disk_faults new.disk_faults
 
 -- What it says, and the mark of its reply where it went well.
-pub record IsSaid (moment : ℤ) (old : Place) (line : ScriptLine) (noted : List Given) (done : LineAnswer) (new : Place) : Type 0 where
-  pub text : done.text ≡ line_text done.outcome (parse_line line) line.input old.writer.shown new.writer.shown moment noted
+pub record IsSaid (moment : ℤ) (old : Place) (line : ScriptLine) (given : List Given) (done : LineAnswer) (new : Place) : Type 0 where
+  pub text : done.text ≡ line_text done.outcome (parse_line line) line.input old.writer.shown new.writer.shown moment given
   pub reply : (lane revision : ℕ) → option_to_list done.reply ≡ map reply_mark (replied_where done.outcome (parse_line line) lane revision done.text)
 
 -- It was answered, or found no memory for it.
 abbrev pub Ends : ℤ → Place → ScriptLine → List Given → Result LineAnswer NoMemory → Place → Type 0
-Ends moment old line noted (Ok done) new =
-    IsLineAnswer moment old line noted done.outcome (newly_closed old.writer new.writer) new × IsSaid moment old line noted done new
-Ends moment old line noted (Err error) new = IsLineAnswer moment old line noted outcomes.NoMemory (newly_closed old.writer new.writer) new
+Ends moment old line given (Ok done) new =
+    IsLineAnswer moment old line given done.outcome (newly_closed old.writer new.writer) new × IsSaid moment old line given done new
+Ends moment old line given (Err error) new = IsLineAnswer moment old line given outcomes.NoMemory (newly_closed old.writer new.writer) new
 
 -- A line was run, and its log says so.
 pub record IsRun (moment : ℤ) (old : Place) (ran : RunLine) (reply : Option Mark) (new : Place) : Type 0 where

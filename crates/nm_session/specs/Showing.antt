@@ -20,21 +20,21 @@ use Rattle.nm_session.specs.declared.showing.ShowFault.TheVariants as faults
 
 -- what a show that finds no memory has asked: nothing, or all files, or the first of them
 abbrev pub AsksSome : ObservedMail → ObservedMail → ℕ → List (List ℕ) → List Given → Type 0
-AsksSome old new left paths noted =
-    AsksNothing old new noted ⊎ (HasReadBodies old new left [] noted paths ⊎ ((error : BodiesError) × StopsInBodies old new left [] noted paths error))
+AsksSome old new left paths given =
+    AsksNothing old new given ⊎ (HasReadBodies old new left [] given paths ⊎ ((error : BodiesError) × StopsInBodies old new left [] given paths error))
 
 -- The messages that were found are shown: their files were read, and this is the text, or the file that raw form asks for is gone; or the
 -- reading stopped.
 abbrev pub IsAfterReads : ShowAsk → Base → List (List ℕ) → ℕ → ObservedMail → ObservedMail → List Given → Result (List ℕ) ShowFault → Type 0
-IsAfterReads ask index ids left old new noted (Ok text) =
-    HasReadBodies old new left [] noted (lead_paths index ids) × (gone_path ask noted ≡ None) × (text ≡ show_text ask index ids noted)
-IsAfterReads ask index ids left old new noted (Err (faults.NotOne found)) =
-    AsksNothing old new noted × (is_not_one ask ids ≡ true) × (found ≡ length ids)
-IsAfterReads ask index ids left old new noted (Err (faults.Gone path)) =
-    HasReadBodies old new left [] noted (lead_paths index ids) × (gone_path ask noted ≡ Some path)
-IsAfterReads ask index ids left old new noted (Err faults.MailFault) = StopsInBodies old new left [] noted (lead_paths index ids) stops.MailFault
-IsAfterReads ask index ids left old new noted (Err faults.ShowBytes) = StopsInBodies old new left [] noted (lead_paths index ids) stops.ShowBytes
-IsAfterReads ask index ids left old new noted (Err faults.NoMemory) = AsksSome old new left (lead_paths index ids) noted
+IsAfterReads ask index ids left old new given (Ok text) =
+    HasReadBodies old new left [] given (lead_paths index ids) × (gone_path ask given ≡ None) × (text ≡ show_text ask index ids given)
+IsAfterReads ask index ids left old new given (Err (faults.NotOne found)) =
+    AsksNothing old new given × (is_not_one ask ids ≡ true) × (found ≡ length ids)
+IsAfterReads ask index ids left old new given (Err (faults.Gone path)) =
+    HasReadBodies old new left [] given (lead_paths index ids) × (gone_path ask given ≡ Some path)
+IsAfterReads ask index ids left old new given (Err faults.MailFault) = StopsInBodies old new left [] given (lead_paths index ids) stops.MailFault
+IsAfterReads ask index ids left old new given (Err faults.ShowBytes) = StopsInBodies old new left [] given (lead_paths index ids) stops.ShowBytes
+IsAfterReads ask index ids left old new given (Err faults.NoMemory) = AsksSome old new left (lead_paths index ids) given
 
 -- the messages are not one where one is wanted, and this tells it
 abbrev pub tells_not_one : Result (List ℕ) ShowFault → Bool
@@ -63,9 +63,9 @@ is_folder_fault faults.ShowBytes = false
 is_folder_fault faults.NoMemory = false
 
 -- What a show of this query leaves: raw form is refused of more or fewer messages than one, and only then; and what the reads say.
-pub record IsAfterShow (ask : ShowAsk) (index : Base) (moment : ℤ) (query : Query) (left : ℕ) (old new : ObservedMail) (noted : List Given) (result : Result (List ℕ) ShowFault) : Type 0 where
+pub record IsAfterShow (ask : ShowAsk) (index : Base) (moment : ℤ) (query : Query) (left : ℕ) (old new : ObservedMail) (given : List Given) (result : Result (List ℕ) ShowFault) : Type 0 where
   pub one : is_out_of_memory result ≡ false → tells_not_one result ≡ is_not_one ask (shown_ids ask index moment query)
-  pub reads : IsAfterReads ask index (shown_ids ask index moment query) left old new noted result
+  pub reads : IsAfterReads ask index (shown_ids ask index moment query) left old new given result
 
 -- what a text, or a reading, is refused for
 abbrev pub show_fault : ShowError → ShowFault

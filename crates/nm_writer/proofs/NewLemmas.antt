@@ -46,7 +46,7 @@ module _ (laws : Laws) (before now : Reading) (compared : Compared) (old : Write
     listing = h.listing;
     answers = some.answers;
     further = some.further;
-    noted_is = some.noted_is ∙ ap (λ (l : List Given). l ++ (some.answers ++ some.further)) h.noted_is;
+    given_is = some.given_is ∙ ap (λ (l : List Given). l ++ (some.answers ++ some.further)) h.given_is;
     reading = subst (λ (l : List (List ℕ)). ReadsBatches before.mail.tree some.answers l batches left) h.unknown_are some.reading;
     unfinished = some.unfinished;
   }
@@ -90,10 +90,10 @@ module _ (laws : Laws) (before now : Reading) (compared : Compared) (old : Write
   -- they were
   module _ (mid : WriterState) (batches : Batches) (some : HasReadSome before.mail now.mail before.noted now.noted compared.unknown batches []) (made : HasCommitted old (batch_commits old.shown batches) mid) where
     gone-are : compared.gone ≡ gone old.shown.files (listed_in now.noted)
-    gone-are = h.gone_are ∙ ap (λ (l : List Given). gone old.shown.files (listed_in l)) (sym (some.noted_is ∙ ap (λ (l : List Given). l ++ (some.answers ++ some.further)) h.noted_is))
+    gone-are = h.gone_are ∙ ap (λ (l : List Given). gone old.shown.files (listed_in l)) (sym (some.given_is ∙ ap (λ (l : List Given). l ++ (some.answers ++ some.further)) h.given_is))
 
     ids-are : compared.gone_ids ≡ message_ids (removed_files old.shown.files (listed_in now.noted))
-    ids-are = h.ids_are ∙ ap (λ (l : List Given). message_ids (removed_files old.shown.files (listed_in l))) (sym (some.noted_is ∙ ap (λ (l : List Given). l ++ (some.answers ++ some.further)) h.noted_is))
+    ids-are = h.ids_are ∙ ap (λ (l : List Given). message_ids (removed_files old.shown.files (listed_in l))) (sym (some.given_is ∙ ap (λ (l : List Given). l ++ (some.answers ++ some.further)) h.given_is))
 
     -- the commit of what is gone, on the index that the batches leave
     abbrev last : List Commit

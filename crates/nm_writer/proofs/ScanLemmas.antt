@@ -35,13 +35,13 @@ none_more (Some paths) = ap Some (sym (append-nil paths))
 read_none : (mail : ObservedMail) (noted : List Given) (paths : List (List ℕ)) → HasRead mail mail noted noted paths
 read_none mail noted paths = record {
   noted = [];
-  noted_is = sym (append-nil noted);
+  given_is = sym (append-nil noted);
   reading = record {
     answered = 0;
     asked = 0;
     within = omega arith;
     last = (omega arith, omega arith);
-    notes = record { reads = []; noted_is = refl; each = refl; told = no_answers mail.tree };
+    notes = record { reads = []; given_is = refl; each = refl; told = no_answers mail.tree };
     read = none_more mail.reads;
   };
   tree = refl;
@@ -64,7 +64,7 @@ asked_reading old mid new files before noted0 noted listed paths same_tree same 
       listed = listed;
       listing = record { rising = rising; told = told };
       answers = h.noted;
-      noted_is = h.noted_is ∙ ap (λ l. l ++ h.noted) (is ∙ ap (λ l. l ++ given.Listed listed ∷ []) none);
+      given_is = h.given_is ∙ ap (λ l. l ++ h.noted) (is ∙ ap (λ l. l ++ given.Listed listed ∷ []) none);
       reading = record {
         answered = reading.answered;
         asked = reading.asked;
@@ -88,7 +88,7 @@ pub has_listed : (tree : Option Tree) (files : List (List ℕ × Facts)) (before
 has_listed tree files before noted listed unknown away ids none is rising told unknown_are gone_are ids_are = record {
   listed = listed;
   listing = record { rising = rising; told = told };
-  noted_is = is ∙ ap (λ (l : List Given). l ++ given.Listed listed ∷ []) none;
+  given_is = is ∙ ap (λ (l : List Given). l ++ given.Listed listed ∷ []) none;
   unknown_are = unknown_are;
   gone_are = gone_are;
   ids_are = ids_are;
@@ -97,4 +97,4 @@ has_listed tree files before noted listed unknown away ids none is rising told u
 -- and of what is unknown the first paths were read
 pub asks-some : (old new : ObservedMail) (files : List (List ℕ × Facts)) (noted0 noted : List Given) (compared : Compared) → HasListed old.tree files noted0 compared → HasRead old new noted0 noted compared.unknown → AsksNew old new files noted
 asks-some old new files noted0 noted compared h read =
-    asked_reading old old new files [] noted0 noted h.listed compared.unknown refl refl refl h.noted_is h.listing.rising h.listing.told h.unknown_are read
+    asked_reading old old new files [] noted0 noted h.listed compared.unknown refl refl refl h.given_is h.listing.rising h.listing.told h.unknown_are read

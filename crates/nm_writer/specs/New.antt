@@ -23,7 +23,7 @@ use Rattle.nm_writer.specs.declared.write_error.WriteError.TheVariants as errors
 pub record HasListed (tree : Option Tree) (files : List (List ℕ × Facts)) (noted : List Given) (compared : Compared) : Type 0 where
   pub listed : List (List ℕ)
   pub listing : IsListing tree listed
-  pub noted_is : noted ≡ Listed listed ∷ []
+  pub given_is : noted ≡ Listed listed ∷ []
   pub unknown_are : compared.unknown ≡ to_read files listed
   pub gone_are : compared.gone ≡ gone files listed
   pub ids_are : compared.gone_ids ≡ message_ids (removed_files files listed)

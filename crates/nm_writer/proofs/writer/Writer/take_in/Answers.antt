@@ -11,12 +11,12 @@ use Rattle.nm_writer.proofs.writer.Writer.take_in.Goals as goal
 pub returns-in_err-before-clause-asks : goal.returns-in_err-before-clause-asks
 returns-in_err-before-clause-asks g c =
     let h = c.requires.listed in
-    asked_listing _ (g.M.Maildir.observed c.args.mail.now) c.args.self.now.shown.files [] c.args.noted.now h.listed refl refl refl h.noted_is h.listing.rising h.listing.told
+    asked_listing _ (g.M.Maildir.observed c.args.mail.now) c.args.self.now.shown.files [] c.args.noted.now h.listed refl refl refl h.given_is h.listing.rising h.listing.told
 
 pub returns-in_err-went-clause-asks : goal.returns-in_err-went-clause-asks
 returns-in_err-went-clause-asks g c =
     let h = c.requires.listed in
-    asked_listing _ (g.M.Maildir.observed c.args.mail.now) c.args.self.now.shown.files [] c.args.noted.now h.listed refl refl refl h.noted_is h.listing.rising h.listing.told
+    asked_listing _ (g.M.Maildir.observed c.args.mail.now) c.args.self.now.shown.files [] c.args.noted.now h.listed refl refl refl h.given_is h.listing.rising h.listing.told
 
 pub take_in_batches-requires-clause-unknown : goal.take_in_batches-requires-clause-unknown
 take_in_batches-requires-clause-unknown g c = unknown-listed (g.M.Maildir.observed c.args.mail.now).tree c.args.self.now.shown.files c.args.noted.now c.args.compared c.requires.listed
