@@ -7,7 +7,7 @@ ghost use Rattle.nm_log.specs.Replies.{printed, printed_line, replies_alone, rep
 
 use crate::LineLog;
 use crate::header::header_of;
-use crate::replies::{is_well, printed_kind};
+use crate::replies::{is_well, kind_name};
 use nm_base::{Failed, UsageKind};
 use nm_io::Sink;
 
@@ -95,7 +95,7 @@ fn put_usage<E: Sink>(err: &mut E, kind: UsageKind, word: &str) -> Result<(), Fa
     ensures bytes { PutAppends (E.observed err.old).bytes (E.observed err.new).bytes result (usage_line kind word.now) }
     ensures cause { HasCause (E.observed err.old).faults (E.observed err.new).faults result }
 {
-    let kind = printed_kind(kind);
+    let kind = kind_name(kind);
     put_five(
         err,
         b"notmuch: usage: ",

@@ -7,7 +7,7 @@ ghost use Rattle.nm_log.specs.Refusals.{bad_index_line, file_name, refused_line,
 ghost use Rattle.nm_log.specs.Replies.{bad_line, date_line, limit_line, query_line};
 
 use crate::print::{print_text, print_usage, put_five, put_three};
-use crate::replies::{printed_limit, printed_line_kind, printed_query_kind};
+use crate::replies::{limit_name, line_kind_name, query_kind_name};
 use itoa::Buffer;
 use nm_base::{Failed, Limit, Text, UsageKind};
 use nm_disk::FileNo;
@@ -82,7 +82,7 @@ fn put_query<E: Sink>(err: &mut E, kind: QueryKind, at: u32) -> Result<(), Faile
     ensures cause { HasCause (E.observed err.old).faults (E.observed err.new).faults result }
 {
     let mut buffer = Buffer::new();
-    let name = printed_query_kind(kind);
+    let name = query_kind_name(kind);
     let place = buffer.format(at);
     put_query_place(err, name, place)
 }
@@ -116,7 +116,7 @@ fn put_bad_line<E: Sink>(err: &mut E, line: u32, kind: LineKind) -> Result<(), F
 {
     let mut buffer = Buffer::new();
     let place = buffer.format(line);
-    let name = printed_line_kind(kind);
+    let name = line_kind_name(kind);
     put_line_kind(err, place, name)
 }
 
@@ -173,7 +173,7 @@ fn put_bad_index<E: Sink>(err: &mut E, file: FileNo, at: u64) -> Result<(), Fail
     ensures cause { HasCause (E.observed err.old).faults (E.observed err.new).faults result }
 {
     let mut buffer = Buffer::new();
-    let name = printed_file(file);
+    let name = file_name(file);
     let place = buffer.format(at);
     put_place(err, name, place)
 }
@@ -193,7 +193,7 @@ fn put_place<E: Sink>(err: &mut E, name: &str, place: &str) -> Result<(), Failed
     )
 }
 
-fn printed_file(file: FileNo) -> &'static str
+fn file_name(file: FileNo) -> &'static str
     ensures { result.now ≡ file_name file }
 {
     match file {
@@ -216,6 +216,6 @@ fn put_limit<E: Sink>(err: &mut E, limit: Limit) -> Result<(), Failed>
     ensures bytes { PutAppends (E.observed err.old).bytes (E.observed err.new).bytes result (limit_line limit) }
     ensures cause { HasCause (E.observed err.old).faults (E.observed err.new).faults result }
 {
-    let name = printed_limit(limit);
+    let name = limit_name(limit);
     put_three(err, b"notmuch: limit: ", name.as_bytes(), b"\n")
 }

@@ -56,7 +56,7 @@ pub fn is_well(outcome: &Outcome) -> bool
 }
 
 /// The kind as it is printed.
-pub(crate) fn printed_kind(kind: UsageKind) -> &'static str
+pub(crate) fn kind_name(kind: UsageKind) -> &'static str
     ensures { result.now ≡ kind_name kind }
 {
     match kind {
@@ -78,7 +78,7 @@ pub(crate) fn printed_kind(kind: UsageKind) -> &'static str
 pub fn usage_line(alloc: Global, kind: UsageKind, word: &Text) -> Result<Many<u8>, NoMemory>
     ensures { IfOk result (λ text. text ≡ usage_line kind word.now) }
 {
-    let kind = printed_kind(kind);
+    let kind = kind_name(kind);
     let mut text = Many::from_slice(alloc, b"notmuch: usage: ")?;
     text.extend_from_slice(kind.as_bytes())?;
     text.extend_from_slice(b": ")?;
@@ -88,7 +88,7 @@ pub fn usage_line(alloc: Global, kind: UsageKind, word: &Text) -> Result<Many<u8
 }
 
 /// What is wrong with a query, as it is printed.
-pub(crate) fn printed_query_kind(kind: QueryKind) -> &'static str
+pub(crate) fn query_kind_name(kind: QueryKind) -> &'static str
     ensures { result.now ≡ query_kind_name kind }
 {
     match kind {
@@ -100,10 +100,10 @@ pub(crate) fn printed_query_kind(kind: QueryKind) -> &'static str
     }
 }
 
-fn query_text(alloc: Global, kind: QueryKind, at: u32) -> Result<Many<u8>, NoMemory>
+fn query_line(alloc: Global, kind: QueryKind, at: u32) -> Result<Many<u8>, NoMemory>
     ensures { IfOk result (λ text. text ≡ query_line kind at) }
 {
-    let kind = printed_query_kind(kind);
+    let kind = query_kind_name(kind);
     let mut text = Many::from_slice(alloc, b"notmuch: query: ")?;
     text.extend_from_slice(kind.as_bytes())?;
     text.extend_from_slice(b" at ")?;
@@ -112,7 +112,7 @@ fn query_text(alloc: Global, kind: QueryKind, at: u32) -> Result<Many<u8>, NoMem
     Ok(text)
 }
 
-fn date_text(alloc: Global, at: u32) -> Result<Many<u8>, NoMemory>
+fn date_line(alloc: Global, at: u32) -> Result<Many<u8>, NoMemory>
     ensures { IfOk result (λ text. text ≡ date_line at) }
 {
     let mut text = Many::from_slice(alloc, b"notmuch: date: at ")?;
@@ -122,7 +122,7 @@ fn date_text(alloc: Global, at: u32) -> Result<Many<u8>, NoMemory>
 }
 
 /// What is wrong with a line of an input, as it is printed.
-pub(crate) fn printed_line_kind(kind: LineKind) -> &'static str
+pub(crate) fn line_kind_name(kind: LineKind) -> &'static str
     ensures { result.now ≡ line_kind_name kind }
 {
     match kind {
@@ -136,7 +136,7 @@ pub(crate) fn printed_line_kind(kind: LineKind) -> &'static str
 fn bad_line(alloc: Global, line: u32, kind: LineKind) -> Result<Many<u8>, NoMemory>
     ensures { IfOk result (λ text. text ≡ bad_line line kind) }
 {
-    let kind = printed_line_kind(kind);
+    let kind = line_kind_name(kind);
     let mut text = Many::from_slice(alloc, b"notmuch: line ")?;
     add_number(&mut text, u64::from(line))?;
     text.extend_from_slice(b": ")?;
@@ -164,7 +164,7 @@ fn gone_line(alloc: Global, path: &MailPath) -> Result<Many<u8>, NoMemory>
 }
 
 /// The bound as it is printed.
-pub(crate) fn printed_limit(limit: Limit) -> &'static str
+pub(crate) fn limit_name(limit: Limit) -> &'static str
     ensures { result.now ≡ limit_name limit }
 {
     match limit {
@@ -183,10 +183,10 @@ pub(crate) fn printed_limit(limit: Limit) -> &'static str
     }
 }
 
-fn limit_text(alloc: Global, limit: Limit) -> Result<Many<u8>, NoMemory>
+fn limit_line(alloc: Global, limit: Limit) -> Result<Many<u8>, NoMemory>
     ensures { IfOk result (λ text. text ≡ limit_line limit) }
 {
-    let name = printed_limit(limit);
+    let name = limit_name(limit);
     let mut text = Many::from_slice(alloc, b"notmuch: limit: ")?;
     text.extend_from_slice(name.as_bytes())?;
     text.extend_from_slice(b"\n")?;
@@ -200,15 +200,15 @@ pub fn refusal_line(alloc: Global, outcome: &Outcome) -> Result<Many<u8>, NoMemo
     match outcome {
         Outcome::Ok => Ok(Many::new(alloc)),
         Outcome::Usage { word, kind } => usage_line(alloc, *kind, word),
-        Outcome::BadQuery { at, kind } => query_text(alloc, *kind, *at),
-        Outcome::BadDate { at } => date_text(alloc, *at),
+        Outcome::BadQuery { at, kind } => query_line(alloc, *kind, *at),
+        Outcome::BadDate { at } => date_line(alloc, *at),
         Outcome::BadLine { line, kind } => bad_line(alloc, *line, *kind),
         Outcome::NotOne { found } => not_one_line(alloc, *found),
         Outcome::Gone { path } => gone_line(alloc, path),
         Outcome::MailFault => Many::from_slice(alloc, b"notmuch: mail fault\n"),
         Outcome::DiskFault => Many::from_slice(alloc, b"notmuch: disk fault\n"),
         Outcome::Closed { .. } => Many::from_slice(alloc, b"notmuch: closed by a disk fault\n"),
-        Outcome::Limit(limit) => limit_text(alloc, *limit),
+        Outcome::Limit(limit) => limit_line(alloc, *limit),
         Outcome::NoMemory => Many::from_slice(alloc, b"notmuch: no memory\n"),
     }
 }
@@ -220,7 +220,7 @@ pub fn new_text(alloc: Global, report: &NewReport) -> Result<Many<u8>, NoMemory>
     if is_quiet(report) {
         return Many::from_slice(alloc, b"No new mail.\n");
     }
-    let mut text = summary(alloc, report)?;
+    let mut text = summary_line(alloc, report)?;
     add_skips(&mut text, report.skipped.as_slice())?;
     Ok(text)
 }
@@ -231,7 +231,7 @@ fn is_quiet(report: &NewReport) -> bool
     report.added == 0 && report.removed == 0 && report.skipped.is_empty()
 }
 
-fn summary(alloc: Global, report: &NewReport) -> Result<Many<u8>, NoMemory>
+fn summary_line(alloc: Global, report: &NewReport) -> Result<Many<u8>, NoMemory>
     ensures { IfOk result (λ text. text ≡ summary_line report.now) }
 {
     let numbers: [(&str, u64); 5] = [

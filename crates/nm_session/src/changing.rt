@@ -207,7 +207,11 @@ fn change_tags<M: Maildir, D: Disk>(
 }
 
 /// The reply of what set tags.
-fn reply_change(alloc: Global, changes: Changes, report: &SyncReport) -> Result<LineAnswer, NoMemory>
+fn reply_change(
+    alloc: Global,
+    changes: Changes,
+    report: &SyncReport,
+) -> Result<LineAnswer, NoMemory>
     ensures { IfOk result (λ done. done ≡ replied_with changes.request (strangers_text changes.strangers ++ sync_text report.now)) }
 {
     let text = change_reply(alloc, &changes.strangers, report)?;

@@ -213,11 +213,7 @@ impl Writer {
 
     /// Makes a commit of the mails, where there are some.
     #[tactic(auto, using(crate::proofs::DoneLemmas::stops))]
-    fn commit_added<D: Disk>(
-        &mut self,
-        disk: &mut D,
-        added: Many<Mail>,
-    ) -> Result<(), WriteError>
+    fn commit_added<D: Disk>(&mut self, disk: &mut D, added: Many<Mail>) -> Result<(), WriteError>
         requires alive { self.old.closed ≡ None }
         requires fit { FitInTurn self.old.shown (batch_commit self.old.shown added) }
         requires stands { IfSome (D.observed disk.old).told (λ moments. StandsOnIndex moments.present self.old) }
