@@ -4,7 +4,7 @@
 use crate::threads::id_of;
 use nm_base::{
     Copies, Facts, Field, FieldWords, MailPath, Mailbox, Many, Marks, MessageId, NoMemory, Tag,
-    Tags, Text, Word,
+    Tags, Text, WordList, is_word,
 };
 use nm_commit::{Change, Commit};
 use nm_shared::Shared;
@@ -187,11 +187,11 @@ fn links(alloc: Global, at: u64) -> Result<Many<MessageId>, NoMemory> {
     Ok(links)
 }
 
-fn words(alloc: Global) -> Result<Many<Word>, NoMemory> {
-    let mut words = Many::new(alloc);
+fn words(alloc: Global) -> Result<WordList, NoMemory> {
+    let mut words = WordList::new(alloc);
     for text in WORDS.split(' ') {
-        if let Ok(word) = Word::new(Text::of(alloc, text)?) {
-            words.push(word)?;
+        if is_word(text) {
+            words.push(text)?;
         }
     }
     Ok(words)

@@ -1,1 +1,2 @@
 mod SetLemmas
+mod WordListLemmas

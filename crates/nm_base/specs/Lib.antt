@@ -7,4 +7,5 @@ pub mod Stored
 pub mod Tag
 pub mod Tags
 pub mod Word
+pub mod WordList
 pub mod formers

@@ -1,6 +1,6 @@
 //! What the index knows of a mail; `nm_extract` makes it, commits and replies take it.
 
-use crate::{Copies, Many, MessageId, NoMemory, Text, Word};
+use crate::{Copies, Many, MessageId, NoMemory, Text, WordList};
 
 /// Where in a mail a word stands.
 #[derive(Clone, Copy, Debug, PartialEq, Eq, PartialOrd, Ord)]
@@ -20,10 +20,10 @@ pub struct Mailbox {
 }
 
 /// The words of one text of a mail, in their order.
-#[derive(Clone, Debug, Drop, PartialEq, Eq)]
+#[derive(Clone, Debug, Drop)]
 pub struct FieldWords {
     pub field: Field,
-    pub words: Many<Word>,
+    pub words: WordList,
 }
 
 /// What the parts of a mail say of it.
@@ -35,7 +35,7 @@ pub struct Marks {
 }
 
 /// What the index knows of a mail.
-#[derive(Clone, Debug, Drop, PartialEq, Eq)]
+#[derive(Clone, Debug, Drop)]
 pub struct Facts {
     pub id: MessageId,
     /// The ids of the mails that it answers or names, the own id left out, without repeats.

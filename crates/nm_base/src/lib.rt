@@ -2,6 +2,7 @@
 //! A contract sees a text as its bytes, a list as its items, and a struct as a record of these.
 #![tactic(auto)]
 
+mod across;
 mod asks;
 mod boxed;
 mod copies;
@@ -24,7 +25,9 @@ mod tags;
 mod text;
 mod text_set;
 mod word;
+mod word_list;
 
+pub use across::text_may_cross;
 pub use asks::{CountAsk, DumpAsk, RestoreAsk, SearchAsk, ShowAsk, TagAsk};
 pub use boxed::Boxed;
 pub use copies::Copies;
@@ -45,4 +48,5 @@ pub use tag_op::TagOp;
 pub use tags::Tags;
 pub use text::Text;
 pub use text_set::TextSet;
-pub use word::Word;
+pub use word::is_word;
+pub use word_list::{WordList, Words};

@@ -32,7 +32,8 @@ impl Model for Tags {
 impl Tags {
     /// No tag, which takes no memory.
     pub fn new(alloc: Global) -> Tags
-        ensures { result ≡ [] }
+        ensures list { result ≡ [] }
+        ensures sorted { IsSorted result }
     {
         Tags {
             set: TextSet::new(alloc),

@@ -1,2 +1,3 @@
 pub mod ItemLemmas
 pub mod Utf8Lemmas
+pub mod WordsLemmas

@@ -4,6 +4,7 @@ use Rattle.std.specs.Prelude.{◌≡◌, ℕ, ℤ, ◌<◌, ◌^◌, Bool, true,
 use Rattle.std.specs.List.{list_all}
 use Rattle.std.specs.Int.{w64}
 use Rattle.std.specs.Str.{is_utf8}
+use Rattle.nm_base.specs.Word.{is_word}
 use Rattle.nm_codec.specs.Reading.{IsBytes, Reading, Takes, coded_at, is_rising, list_at, mapped_at, pair_at, rising_at, signed_at, tested_at, text_at}
 use Rattle.nm_codec.specs.Spelling.{i64_bytes, list_bytes, text_bytes, u8_bytes}
 use Rattle.nm_codec.specs.TextLaws.{some_text, text_again, text_only}
@@ -109,3 +110,11 @@ rising_grammar below f = record {
   again = rising_again below f.read f.bytes f.is_value f.some f.again;
   only = rising_only below f.read f.bytes f.is_value f.only;
 }
+
+-- a word of a text
+abbrev pub word_grammar : Grammar (List ℕ)
+word_grammar = tested_grammar is_word text_grammar
+
+-- the words of a text, behind their count
+abbrev pub words_grammar : Grammar (List (List ℕ))
+words_grammar = list_grammar word_grammar

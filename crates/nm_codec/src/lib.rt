@@ -9,6 +9,7 @@ mod read_error;
 mod reader;
 mod rising;
 mod text;
+mod words;
 mod writer;
 
 pub use format::Format;
@@ -18,4 +19,5 @@ pub use read_error::{Bad, ReadError};
 pub use reader::Reader;
 pub use rising::RisingOf;
 pub use text::{TextFormat, text_len};
+pub use words::WordsFormat;
 pub use writer::Writer;

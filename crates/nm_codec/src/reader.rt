@@ -93,17 +93,28 @@ impl<'a> Reader<'a> {
         answer
     }
 
-    #[tactic(auto, unfolding(crate::specs::Reading::text_at), using(crate::proofs::Utf8Lemmas::utf8))]
     fn read_text(&mut self, alloc: Global) -> Result<Text, ReadError>
         ensures value { GivesUnlessWanted self.old result self.new (text_at self.old.rest) }
+        ensures len { self.new.len ≡ self.old.len }
+    {
+        let text = self.str()?;
+        Ok(Text::of(alloc, text)?)
+    }
+
+    /// A text as it stands in the bytes. After an error the reader stands somewhere behind its beginning.
+    #[tactic(auto, unfolding(crate::specs::Reading::text_at), using(crate::proofs::Utf8Lemmas::utf8))]
+    pub fn str(&mut self) -> Result<&'a str, Bad>
+        ensures value { MatchResult result
+            (λ text. (text_at self.old.rest ≡ Ok (text.now, self.new.rest)) × (self.new.len ≡ self.old.len))
+            (λ bad. (bad.at ≤ self.old.len) × (text_at self.old.rest ≡ Err (self.old.len - bad.at))) }
         ensures len { self.new.len ≡ self.old.len }
     {
         let at = self.at();
         let len = self.u32()?;
         let front = self.front(len as usize)?;
         match str::from_utf8(front) {
-            Ok(text) => Ok(Text::of(alloc, text)?),
-            Err(_) => Err(ReadError::Bad { at }),
+            Ok(text) => Ok(text),
+            Err(_) => Err(Bad { at }),
         }
     }
 

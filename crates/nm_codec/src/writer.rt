@@ -70,8 +70,17 @@ impl Writer {
         ensures ok { OnOk result (self.new ≡ self.old ++ text_bytes text.now) }
         ensures err { OnErr result (self.new ≡ self.old) }
     {
+        self.put_text_bytes(text.as_bytes())?;
+        Ok(())
+    }
+
+    /// The same of a text that is given by its bytes.
+    pub fn put_text_bytes(&mut self, bytes: &[u8]) -> Result<(), NoMemory>
+        requires { length bytes.now < 2 ^ 32 }
+        ensures ok { OnOk result (self.new ≡ self.old ++ text_bytes bytes.now) }
+        ensures err { OnErr result (self.new ≡ self.old) }
+    {
         let before = self.bytes.len();
-        let bytes = text.as_bytes();
         self.put_u32(bytes.len() as u32)?;
         if self.bytes.extend_from_slice(bytes).is_err() {
             self.bytes.truncate(before);

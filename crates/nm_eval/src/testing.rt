@@ -13,7 +13,7 @@ use crate::message::Message;
 use crate::places::{has_type, is_at_path, is_in_maildir};
 use crate::words::facts_have;
 use nm_answer::a_tree_passes_as_its_queries_do;
-use nm_base::{Field, Text, Word};
+use nm_base::{Field, Text, WordList};
 use nm_dates::{End, first_second, is_end, last_second};
 use nm_query::Query;
 
@@ -30,7 +30,7 @@ pub(crate) fn passes(query: &Query, message: &Message<'_>, moment: i64) -> bool
             field,
             words,
             starts,
-        } => have_words(message, *field, *starts, words.as_slice()),
+        } => have_words(message, *field, *starts, words),
         Query::Tag(tag) => message.has_tag(tag.as_str()),
         Query::Id(id) => message.has_id(id.as_str()),
         Query::Thread(number) => message.is_in_thread(*number),
@@ -140,7 +140,7 @@ fn odd_pass(queries: &[Query], message: &Message<'_>, moment: i64) -> bool
     is_odd
 }
 
-fn have_words(message: &Message<'_>, field: Option<Field>, starts: bool, words: &[Word]) -> bool
+fn have_words(message: &Message<'_>, field: Option<Field>, starts: bool, words: &WordList) -> bool
     ensures { result ≡ files_have field starts words.now message.now.files }
 {
     if words.is_empty() {

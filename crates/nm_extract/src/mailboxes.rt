@@ -4,10 +4,10 @@ ghost use Rattle.std.specs.Prelude.{◌≡◌, ◌++◌, IfOk, OnOk};
 ghost use Rattle.std.specs.List.{flat_map};
 ghost use Rattle.nm_extract.specs.Mailboxes.{field_mailboxes, mailbox_words, decoded_mailbox, decoded_mailboxes, to_of};
 
-use nm_base::{Copies, Mailbox, Many, NoMemory, Word};
+use nm_base::{Copies, Mailbox, Many, NoMemory, WordList};
 use nm_decode::encoded_words;
 use nm_header::{HeaderList, mailboxes};
-use nm_words::words;
+use nm_words::add_words;
 use std::alloc::Global;
 
 /// The mailboxes in the fields of a name that count, their names decoded.
@@ -72,22 +72,21 @@ fn decoded_mailbox(alloc: Global, mailbox: &Mailbox) -> Result<Mailbox, NoMemory
 pub(crate) fn words_of_mailboxes(
     alloc: Global,
     mailboxes: &[Mailbox],
-) -> Result<Many<Word>, NoMemory>
+) -> Result<WordList, NoMemory>
     ensures { IfOk result (λ found. found ≡ flat_map mailbox_words mailboxes.now) }
 {
-    let mut found = Vec::new(alloc);
+    let mut found = WordList::new(alloc);
     'mailboxes: for mailbox in mailboxes {
-        add_words(alloc, mailbox, &mut found)?;
+        add_mailbox(alloc, mailbox, &mut found)?;
     }
-    Ok(Many::from_vec(found))
+    found.shrink_to_fit();
+    Ok(found)
 }
 
-fn add_words(alloc: Global, mailbox: &Mailbox, found: &mut Vec<Word>) -> Result<(), NoMemory>
-    ensures { OnOk result (found.new.items ≡ found.old.items ++ mailbox_words mailbox.now) }
+fn add_mailbox(alloc: Global, mailbox: &Mailbox, found: &mut WordList) -> Result<(), NoMemory>
+    ensures { OnOk result (found.new ≡ found.old ++ mailbox_words mailbox.now) }
 {
-    let mut name = words(alloc, mailbox.name.as_str())?.into_vec();
-    let mut address = words(alloc, mailbox.address.as_str())?.into_vec();
-    found.append(&mut name)?;
-    found.append(&mut address)?;
+    add_words(alloc, mailbox.name.as_str(), found)?;
+    add_words(alloc, mailbox.address.as_str(), found)?;
     Ok(())
 }

@@ -2,7 +2,7 @@
 
 ghost use Rattle.std.specs.Prelude.{◌≡◌, IfOk};
 
-use nm_base::{Boxed, Copies, Field, Many, NoMemory, Text, Word};
+use nm_base::{Boxed, Copies, Field, Many, NoMemory, Text, WordList};
 use nm_dates::End;
 use std::alloc::Global;
 
@@ -15,7 +15,7 @@ pub enum Query {
     /// word where `starts` is set. No words are in every message.
     Words {
         field: Option<Field>,
-        words: Many<Word>,
+        words: WordList,
         starts: bool,
     },
     Tag(Text),

@@ -4,7 +4,6 @@ use Rattle.std.specs.Prelude.{ℕ, ℤ, List, refl}
 use Rattle.nm_base.specs.MessageId.{is_message_id}
 use Rattle.nm_base.specs.MailPath.{is_mail_path}
 use Rattle.nm_base.specs.Tag.{is_tag}
-use Rattle.nm_base.specs.Word.{is_word}
 use Rattle.nm_base.specs.Limits.{is_date}
 use Rattle.nm_base.specs.declared.facts.Mailbox.{Mailbox}
 use Rattle.nm_base.specs.declared.facts.Facts.{Facts}
@@ -13,16 +12,13 @@ use Rattle.nm_base.specs.declared.facts.FieldWords.{FieldWords}
 use Rattle.nm_base.specs.declared.facts.Marks.{Marks}
 use Rattle.nm_record.specs.CodeLaws.{date_fits, field_back, field_code_of, field_is_small, marks_back, marks_code_of, marks_are_small}
 use Rattle.nm_record.specs.Codes.{field_code, field_of, marks_code, marks_of}
-use Rattle.nm_codec.specs.Grammar.{Grammar, code_grammar, list_grammar, mapped_grammar, pair_grammar, signed_grammar, tested_grammar, text_grammar}
+use Rattle.nm_codec.specs.Grammar.{Grammar, code_grammar, list_grammar, mapped_grammar, pair_grammar, signed_grammar, tested_grammar, text_grammar, words_grammar}
 
 abbrev pub id_grammar : Grammar (List ℕ)
 id_grammar = tested_grammar is_message_id text_grammar
 
 abbrev pub tag_grammar : Grammar (List ℕ)
 tag_grammar = tested_grammar is_tag text_grammar
-
-abbrev pub word_grammar : Grammar (List ℕ)
-word_grammar = tested_grammar is_word text_grammar
 
 abbrev pub path_grammar : Grammar (List ℕ)
 path_grammar = tested_grammar is_mail_path text_grammar
@@ -47,7 +43,7 @@ field_words_of pair = record { field = pair.0; words = pair.1 }
 
 -- a field, and the words of one of its texts
 abbrev pub field_words_grammar : Grammar FieldWords
-field_words_grammar = mapped_grammar field_words_of (λ list. (list.field, list.words)) (λ list. refl) (λ pair. refl) (pair_grammar field_grammar (list_grammar word_grammar))
+field_words_grammar = mapped_grammar field_words_of (λ list. (list.field, list.words)) (λ list. refl) (λ pair. refl) (pair_grammar field_grammar words_grammar)
 
 -- the second of a mail, in the range of dates
 abbrev pub date_grammar : Grammar ℤ

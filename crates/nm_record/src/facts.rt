@@ -5,9 +5,9 @@ ghost use Rattle.nm_base.specs.Limits.{is_date, max_count};
 ghost use Rattle.nm_record.specs.Codes.{field_code, marks_code, marks_of};
 ghost use Rattle.nm_record.specs.Facts.{content_grammar, content_parts, date_grammar, facts_grammar, field_grammar, field_words_grammar, heading_grammar, heading_parts, mailbox_grammar, marks_grammar};
 
-use crate::names::{IdFormat, WordFormat};
+use crate::names::IdFormat;
 use nm_base::{Facts, Field, FieldWords, Mailbox, Marks, NoMemory, is_date};
-use nm_codec::{Format, ListOf, Pair, ReadError, Reader, TextFormat, Writer};
+use nm_codec::{Format, ListOf, Pair, ReadError, Reader, TextFormat, WordsFormat, Writer};
 use std::alloc::Global;
 
 pub(crate) struct FactsFormat;
@@ -95,21 +95,17 @@ impl Format for FieldWordsFormat {
 
     #[tactic(auto, unfolding(nm_codec::specs::Reading::mapped_at))]
     fn read(alloc: Global, reader: &mut Reader<'_>) -> Result<FieldWords, ReadError> {
-        let (field, words) = <Pair<FieldFormat, ListOf<WordFormat>> as Format>::read(
-            alloc, reader,
-        )?;
+        let (field, words) = <Pair<FieldFormat, WordsFormat> as Format>::read(alloc, reader)?;
         Ok(FieldWords { field, words })
     }
 
     fn len(value: &FieldWords) -> u64 {
-        FieldFormat::len(&value.field).saturating_add(<ListOf<WordFormat> as Format>::len(
-            &value.words,
-        ))
+        FieldFormat::len(&value.field).saturating_add(WordsFormat::len(&value.words))
     }
 
     fn write(value: &FieldWords, writer: &mut Writer) -> Result<(), NoMemory> {
         FieldFormat::write(&value.field, writer)?;
-        <ListOf<WordFormat> as Format>::write(&value.words, writer)
+        WordsFormat::write(&value.words, writer)
     }
 }
 

@@ -1,17 +1,15 @@
-//! Ids, tags, words and paths as texts that obey their rules; facts and changes are made of them.
+//! Ids, tags and paths as texts that obey their rules; facts and changes are made of them.
 
 ghost use Rattle.std.specs.Prelude.{true};
-ghost use Rattle.nm_record.specs.Facts.{id_grammar, path_grammar, tag_grammar, word_grammar};
+ghost use Rattle.nm_record.specs.Facts.{id_grammar, path_grammar, tag_grammar};
 
-use nm_base::{MailPath, MessageId, NoMemory, Tag, Word};
+use nm_base::{MailPath, MessageId, NoMemory, Tag};
 use nm_codec::{Format, ReadError, Reader, Writer, text_len};
 use std::alloc::Global;
 
 pub(crate) struct IdFormat;
 
 pub(crate) struct TagFormat;
-
-pub(crate) struct WordFormat;
 
 pub(crate) struct PathFormat;
 
@@ -61,31 +59,6 @@ impl Format for TagFormat {
     }
 
     fn write(value: &Tag, writer: &mut Writer) -> Result<(), NoMemory> {
-        writer.put_text(value.text())
-    }
-}
-
-impl Format for WordFormat {
-    type Value = Word;
-
-    ghost grammar = { word_grammar };
-
-    ghost asked = { λ word. true };
-
-    #[tactic(auto, unfolding(nm_codec::specs::Reading::tested_at))]
-    fn read(alloc: Global, reader: &mut Reader<'_>) -> Result<Word, ReadError> {
-        let at = reader.at();
-        match Word::new(reader.text(alloc)?) {
-            Ok(word) => Ok(word),
-            Err(_) => Err(ReadError::Bad { at }),
-        }
-    }
-
-    fn len(value: &Word) -> u64 {
-        text_len(value.text())
-    }
-
-    fn write(value: &Word, writer: &mut Writer) -> Result<(), NoMemory> {
         writer.put_text(value.text())
     }
 }

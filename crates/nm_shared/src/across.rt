@@ -1,6 +1,6 @@
 //! Proofs that what is shared may go to other threads and be read by several at once. No code runs; snapshots rest on it.
 
-use crate::{Shared, SharedList, SharedMap};
+use crate::{Hashed, HashedMap, Shared, SharedList, SharedMap};
 
 fn may_cross<T: Send + Sync>(_value: &T) {}
 
@@ -16,5 +16,10 @@ pub fn list_may_cross<T: Send + Sync>(list: &SharedList<T>) {
 
 /// So may a map.
 pub fn map_may_cross<K: Ord + Send + Sync, V: Send + Sync>(map: &SharedMap<K, V>) {
+    may_cross(map);
+}
+
+/// So may a map by hashes.
+pub fn hashed_may_cross<K: Hashed + Send + Sync, V: Send + Sync>(map: &HashedMap<K, V>) {
     may_cross(map);
 }

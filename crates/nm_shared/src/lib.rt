@@ -14,7 +14,7 @@ mod shared_list;
 mod shared_map;
 mod text_hash;
 
-pub use across::{list_may_cross, map_may_cross, value_may_cross};
+pub use across::{hashed_may_cross, list_may_cross, map_may_cross, value_may_cross};
 pub use hashed_map::{Hashed, HashedMap};
 pub use items::Items;
 pub use shared::Shared;

@@ -4,4 +4,4 @@
 mod pieces;
 mod text;
 
-pub use text::words;
+pub use text::{add_words, words};

@@ -5,7 +5,7 @@ ghost use Rattle.std.specs.List.{slice_split};
 ghost use Rattle.nm_words.specs.Words.{folded, is_cut, words_in};
 
 use caseless::default_case_fold_str;
-use nm_base::{Many, NoMemory, Text, Word};
+use nm_base::{NoMemory, WordList, is_word};
 use std::alloc::Global;
 
 /// The pieces of one word, without case, after those that were found before. `room` is for folding.
@@ -13,7 +13,7 @@ pub(crate) fn add_pieces(
     alloc: Global,
     word: &str,
     room: &mut String,
-    found: &mut Many<Word>,
+    found: &mut WordList,
 ) -> Result<(), NoMemory>
     ensures { OnOk result (found.new ≡ found.old ++ words_in (slice_split is_cut word.now)) }
 {
@@ -29,15 +29,16 @@ fn add_piece(
     alloc: Global,
     piece: &str,
     room: &mut String,
-    found: &mut Many<Word>,
+    found: &mut WordList,
 ) -> Result<(), NoMemory>
     ensures { OnOk result (found.new ≡ found.old ++ words_in (piece.now ∷ [])) }
 {
     fold(alloc, piece, room)?;
-    match Word::new(Text::of(alloc, room.as_str())?) {
-        Ok(word) => found.push(word),
-        Err(_) => Ok(()),
+    let word = room.as_str();
+    if !is_word(word) {
+        return Ok(());
     }
+    found.push(word)
 }
 
 /// Leaves the piece without case in `room`.

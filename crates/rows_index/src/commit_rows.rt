@@ -162,9 +162,10 @@ fn push_words(lines: &mut Lines, list: &FieldWords) -> Result<(), AllocError> {
     lines.push(b", words of ")?;
     lines.push(field_name(list.field))?;
     lines.push(b":")?;
-    'words: for word in list.words.as_slice() {
+    let mut words = list.words.words();
+    'words: while let Some(word) = words.take_first() {
         lines.push(b" ")?;
-        lines.push(word.text().as_bytes())?;
+        lines.push(word)?;
     }
     Ok(())
 }

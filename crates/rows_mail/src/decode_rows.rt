@@ -46,6 +46,6 @@ fn words_decoded(alloc: Global, input: &[u8]) -> Result<Vec<u8>, RowError> {
 fn words_of(alloc: Global, input: &[u8]) -> Result<Vec<u8>, RowError> {
     let found = words(alloc, text_of(input)?)?;
     let mut lines = Lines::new(alloc);
-    push_words(&mut lines, found.as_slice())?;
+    push_words(&mut lines, &found)?;
     Ok(lines.into_bytes())
 }

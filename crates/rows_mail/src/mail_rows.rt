@@ -146,7 +146,7 @@ fn push_lists(lines: &mut Lines, lists: &[FieldWords]) -> Result<(), RowError> {
         if !list.words.is_empty() {
             lines.push(b" ")?;
         }
-        push_words(lines, list.words.as_slice())?;
+        push_words(lines, &list.words)?;
     }
     Ok(())
 }

@@ -1,6 +1,6 @@
 //! Rows on values: the bounds of names, sets of tags, and lists.
 
-use nm_base::{BadValue, Copies, MailPath, Many, MessageId, Room, Tag, Tags, Text, Word};
+use nm_base::{BadValue, Copies, MailPath, Many, MessageId, Room, Tag, Tags, Text, is_word};
 use rows::{Lines, Row, RowError, cut, text_of};
 use std::alloc::Global;
 
@@ -45,7 +45,11 @@ fn push_verdicts(lines: &mut Lines, text: &Text) -> Result<(), RowError> {
     lines.push(b", tag")?;
     lines.push(verdict(Tag::new(text.copy()?).err()))?;
     lines.push(b", word")?;
-    lines.push(verdict(Word::new(text.copy()?).err()))?;
+    lines.push(if is_word(text.as_str()) {
+        b" ok".as_slice()
+    } else {
+        b" LENGTH".as_slice()
+    })?;
     lines.push(b", path")?;
     lines.push(verdict(MailPath::new(text.copy()?).err()))?;
     Ok(())

@@ -1,7 +1,7 @@
 //! Rows on queries: the tree of a text in one line, or the refusal with its place.
 
 use crate::date_rows::push_end;
-use nm_base::{Field, Limit, Text, Word};
+use nm_base::{Field, Limit, Text, WordList};
 use nm_dates::End;
 use nm_query::{Query, QueryError, QueryKind, parse};
 use rows::{Lines, RowError};
@@ -94,7 +94,7 @@ fn push_term(query: &Query, alloc: Global, lines: &mut Lines) -> Result<(), RowE
             field,
             words,
             starts,
-        } => push_words(lines, *field, words.as_slice(), *starts),
+        } => push_words(lines, *field, words, *starts),
         Query::Tag(text) => push_text(lines, b"tag", text),
         Query::Id(text) => push_text(lines, b"id", text),
         Query::Thread(number) => push_thread(alloc, lines, *number),
@@ -116,14 +116,15 @@ fn push_text(lines: &mut Lines, what: &[u8], text: &Text) -> Result<(), RowError
 fn push_words(
     lines: &mut Lines,
     field: Option<Field>,
-    words: &[Word],
+    words: &WordList,
     starts: bool,
 ) -> Result<(), RowError> {
     lines.push(field_name(field))?;
     lines.push(b":")?;
-    'words: for word in words {
+    let mut rest = words.words();
+    'words: while let Some(word) = rest.take_first() {
         lines.push(b" ")?;
-        lines.push(word.text().as_bytes())?;
+        lines.push(word)?;
     }
     if starts {
         lines.push(b"*")?;

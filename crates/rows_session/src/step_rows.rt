@@ -4,7 +4,7 @@ use crate::values::{id, path, tag, text};
 use nm_answer::Request;
 use nm_base::{
     CountAsk, Facts, Field, FieldWords, MailPath, Many, Marks, MessageId, NoMemory, Output, Tags,
-    Text, Word,
+    Text, WordList,
 };
 use nm_commit::{Change, Commit};
 use nm_machine::Step;
@@ -142,22 +142,15 @@ fn mail(alloc: Global, path: MailPath, id: MessageId, date: i64) -> Result<Chang
 }
 
 fn red_apples(alloc: Global) -> Result<Many<FieldWords>, NoMemory> {
-    let mut words = Many::new(alloc);
-    add_word(alloc, &mut words, "red")?;
-    add_word(alloc, &mut words, "apples")?;
+    let mut words = WordList::new(alloc);
+    words.push("red")?;
+    words.push("apples")?;
     let mut lists = Many::new(alloc);
     lists.push(FieldWords {
         field: Field::Subject,
         words,
     })?;
     Ok(lists)
-}
-
-fn add_word(alloc: Global, words: &mut Many<Word>, word: &str) -> Result<(), NoMemory> {
-    match Word::new(Text::of(alloc, word)?) {
-        Ok(word) => words.push(word),
-        Err(_) => Ok(()),
-    }
 }
 
 /// `REQUEST LANE QUERY TEXT`: a reply of the lane. What is absent is written `-`.

@@ -1,0 +1,147 @@
+//! The words of a text, in one block of bytes; `nm_words` makes them, the index keeps them, and queries look through them.
+
+ghost use Rattle.std.specs.Prelude.{◌≡◌, ◌↔◌, ◌<◌, ◌+◌, ◌*◌, [], ◌∷◌, ◌++◌, IsTrue, MatchOption, OnOk, OnErr, length, min, true};
+ghost use Rattle.std.specs.List.{flat_map, list_all};
+ghost use Rattle.nm_base.specs.Limits.{max_count};
+ghost use Rattle.nm_base.specs.Word.{is_word};
+ghost use Rattle.nm_base.specs.WordList.{is_kept, packed};
+
+use crate::{Copies, NoMemory};
+use std::alloc::Global;
+use std::marker::Model;
+
+/// The words of a text in their order, each of 1 to 200 bytes and UTF-8. A word takes its bytes and one more.
+#[derive(Clone, Debug, Drop)]
+pub struct WordList {
+    count: usize,
+    bytes: Vec<u8>,
+}
+
+/// The words of a list from some place on, seen as those.
+#[derive(Debug, Drop)]
+pub struct Words<'a> {
+    count: usize,
+    bytes: &'a [u8],
+}
+
+impl Model for WordList {
+    ghost use Rattle.std.specs.Prelude.{List, ℕ};
+    ghost use Rattle.nm_base.specs.WordList.{IsPacked, unpacked};
+
+    ghost Value = { List (List ℕ) };
+
+    ghost view = { λ list. unpacked list.count list.bytes.items };
+
+    ghost invariant = { λ list. IsPacked list.count list.bytes.items (unpacked list.count list.bytes.items) };
+}
+
+impl<'a> Model for Words<'a> {
+    ghost use Rattle.std.specs.Prelude.{List, ℕ};
+    ghost use Rattle.nm_base.specs.WordList.{unpacked};
+
+    ghost Value = { List (List ℕ) };
+
+    ghost view = { λ words. unpacked words.count words.bytes.now };
+}
+
+impl WordList {
+    /// No words, which take no memory.
+    pub fn new(alloc: Global) -> WordList
+        ensures { result ≡ [] }
+    {
+        WordList {
+            count: 0,
+            bytes: Vec::new(alloc),
+        }
+    }
+
+    pub fn len(&self) -> usize
+        ensures { result ≡ length self.now }
+    {
+        self.count
+    }
+
+    pub fn is_empty(&self) -> bool
+        ensures { IsTrue result ↔ (self.now ≡ []) }
+    {
+        self.count == 0
+    }
+
+    /// How many bytes the words have, each with one more.
+    pub fn bytes_len(&self) -> usize
+        ensures len { result ≡ length (packed self.now) }
+        ensures kept { list_all is_kept self.now ≡ true }
+    {
+        self.bytes.len()
+    }
+
+    /// All words from the first on.
+    pub fn words(&self) -> Words<'_>
+        ensures { result ≡ self.now }
+    {
+        Words {
+            count: self.count,
+            bytes: self.bytes.as_slice(),
+        }
+    }
+
+    /// Adds a word at the end.
+    pub fn push(&mut self, word: &str) -> Result<(), NoMemory>
+        requires { IsTrue (is_word word.now) }
+        ensures ok { OnOk result (self.new ≡ self.old ++ word.now ∷ []) }
+        ensures err { OnErr result (self.new ≡ self.old) }
+    {
+        self.bytes.push(word.len() as u8)?;
+        if self.bytes.extend_from_slice(word.as_bytes()).is_err() {
+            self.bytes.pop();
+            return Err(NoMemory);
+        }
+        self.count += 1;
+        Ok(())
+    }
+
+    /// Gives back the memory that no word fills.
+    pub fn shrink_to_fit(&mut self)
+        ensures { self.new ≡ self.old }
+    {
+        self.bytes.shrink_to_fit();
+    }
+}
+
+impl Copies for WordList {
+    fn copy(&self) -> Result<WordList, NoMemory> {
+        Ok(self.clone()?)
+    }
+}
+
+impl<'a> Words<'a> {
+    pub fn is_empty(&self) -> bool
+        ensures { IsTrue result ↔ (self.now ≡ []) }
+    {
+        self.count == 0 || self.bytes.is_empty()
+    }
+
+    /// Takes the first word.
+    pub fn take_first(&mut self) -> Option<&'a [u8]>
+        ensures { MatchOption result ((self.old ≡ []) × (self.new ≡ [])) (λ word. self.old ≡ word.now ∷ self.new) }
+    {
+        if self.count == 0 {
+            return None;
+        }
+        let (len, rest) = self.bytes.split_first()?;
+        let (word, rest) = rest.split_at(usize::from(*len).min(rest.len()));
+        self.count -= 1;
+        self.bytes = rest;
+        Some(word)
+    }
+
+    /// The same words once more.
+    pub fn again(&self) -> Words<'a>
+        ensures { result ≡ self.now }
+    {
+        Words {
+            count: self.count,
+            bytes: self.bytes,
+        }
+    }
+}
