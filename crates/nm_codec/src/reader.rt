@@ -2,7 +2,7 @@
 
 ghost use Rattle.std.specs.Prelude.{◌≡◌, ◌<◌, ◌≤◌, ◌+◌, ◌-◌, length, take, drop, MatchResult, OnErr, [], IsOk, ◌↔◌, IfErr};
 ghost use Rattle.std.specs.Int.{w8, w32, w64};
-ghost use Rattle.nm_codec.specs.Reading.{Gives, GivesUnlessWanted, number_at, signed_at, text_at};
+ghost use Rattle.nm_codec.specs.Reading.{Gives, GivesUnlessNoMemory, number_at, signed_at, text_at};
 
 use crate::{Bad, ReadError};
 use nm_base::Text;
@@ -82,7 +82,7 @@ impl<'a> Reader<'a> {
 
     /// A text, whose length stands before it.
     pub fn text(&mut self, alloc: Global) -> Result<Text, ReadError>
-        ensures value { GivesUnlessWanted self.old result self.new (text_at self.old.rest) }
+        ensures value { GivesUnlessNoMemory self.old result self.new (text_at self.old.rest) }
         ensures err { OnErr result (self.new ≡ self.old) }
     {
         let begin = self.rest;
@@ -94,7 +94,7 @@ impl<'a> Reader<'a> {
     }
 
     fn read_text(&mut self, alloc: Global) -> Result<Text, ReadError>
-        ensures value { GivesUnlessWanted self.old result self.new (text_at self.old.rest) }
+        ensures value { GivesUnlessNoMemory self.old result self.new (text_at self.old.rest) }
         ensures len { self.new.len ≡ self.old.len }
     {
         let text = self.str()?;

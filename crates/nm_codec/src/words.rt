@@ -4,7 +4,7 @@ ghost use Rattle.std.specs.Prelude.{◌≡◌, ◌++◌, ◌<◌, ◌≤◌, ◌
 ghost use Rattle.std.specs.List.{flat_map};
 ghost use Rattle.nm_base.specs.Word.{is_word};
 ghost use Rattle.nm_codec.specs.Grammar.{word_grammar, words_grammar};
-ghost use Rattle.nm_codec.specs.Reading.{GivesUnlessWanted, items_at};
+ghost use Rattle.nm_codec.specs.Reading.{GivesUnlessNoMemory, items_at};
 ghost use Rattle.nm_codec.specs.Spelling.{text_bytes};
 
 use crate::{Bad, Format, ReadError, Reader, Writer};
@@ -42,7 +42,7 @@ impl Format for WordsFormat {
 
 /// So many words, one after the other.
 fn read_words(alloc: Global, count: u32, reader: &mut Reader<'_>) -> Result<WordList, ReadError>
-    ensures { GivesUnlessWanted reader.old result reader.new (items_at word_grammar.read count reader.old.rest) }
+    ensures { GivesUnlessNoMemory reader.old result reader.new (items_at word_grammar.read count reader.old.rest) }
 {
     let mut words = WordList::new(alloc);
     'words: for _ in 0..count {
