@@ -221,8 +221,8 @@ write-refused moment old new line noted error (Ok done) h asks said =
     subst (λ (d : LineAnswer). Ends moment old line noted (Ok d) new) (sym said) (h, refused-said moment old new line noted (outcome_of error) (error-ill error))
 
 -- one that went well, and found no memory for its text
-pub write-wanted : (moment : ℤ) (old new : Place) (line : ScriptLine) (noted : List Given) → IsLineAnswer moment old line noted outcomes.Ok (newly_closed old.writer new.writer) new
+pub write-no-memory : (moment : ℤ) (old new : Place) (line : ScriptLine) (noted : List Given) → IsLineAnswer moment old line noted outcomes.Ok (newly_closed old.writer new.writer) new
     → AsksMail outcomes.NoMemory (parse_line line) old.writer.shown moment old.left old.mail new.mail noted → IsLineAnswer moment old line noted outcomes.NoMemory (newly_closed old.writer new.writer) new
-write-wanted moment old new line noted h asks =
+write-no-memory moment old new line noted h asks =
     without moment old new line noted outcomes.Ok (newly_closed old.writer new.writer) h
     (well-then-none moment old.mail.tree old.writer.shown line noted (length old.writer.acked + length h.made) h.made h.in_flight h.makes) h.cause.2.disk_well asks

@@ -25,7 +25,7 @@ use Rattle.nm_session.specs.Line.{Ends, IsEven, IsLineAnswer, newly_closed, repl
 use Rattle.nm_session.specs.Outcomes.{outcome_of}
 use Rattle.nm_session.specs.declared.answering.LineAnswer.{LineAnswer}
 use Rattle.nm_session.proofs.AnswerLemmas.{replied-said}
-use Rattle.nm_session.proofs.ChangeLemmas.{alive-asks, alive-by, answered-with, fit-front, gets-closed, made-failing, made-none, made-some, passed-by, stays-open, write-wanted}
+use Rattle.nm_session.proofs.ChangeLemmas.{alive-asks, alive-by, answered-with, fit-front, gets-closed, made-failing, made-none, made-some, passed-by, stays-open, write-no-memory}
 use Rattle.nm_writer.specs.New.{AreNewCommits, IsAfterNew}
 use Rattle.nm_writer.specs.Writer.{WriterState}
 use Rattle.nm_writer.specs.Writing.{FailsWithin, PassesWithin, StopsWithin, is_read_fault, is_write_fault}
@@ -117,7 +117,7 @@ module _ (moment : ℤ) (old new : Place) (line : ScriptLine) (noted : List Give
   pub new-ends : (report : NewReport) (result : Result LineAnswer NoMemory) → IsLineAnswer moment old line noted outcomes.Ok (newly_closed old.writer new.writer) new
       → report ≡ report_of old.writer.shown.files new.writer.shown.files noted → IfOk result (λ done. done ≡ replied_with requests.New (new_text report))
       → Ends moment old line noted result new
-  new-ends report (Err wanted) h reported said = write-wanted moment old new line noted h (asks-as outcomes.NoMemory)
+  new-ends report (Err error) h reported said = write-no-memory moment old new line noted h (asks-as outcomes.NoMemory)
   new-ends report (Ok done) h reported said =
       subst (λ (d : LineAnswer). Ends moment old line noted (Ok d) new) (sym said)
       (h, replied-said moment old new line noted requests.New (new_text report) is (ap new_text reported))

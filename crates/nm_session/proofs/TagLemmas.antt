@@ -40,7 +40,7 @@ use Rattle.nm_session.specs.Line.{Ends, IsEven, IsLineAnswer, newly_closed, repl
 use Rattle.nm_session.specs.Outcomes.{outcome_of}
 use Rattle.nm_session.specs.declared.answering.LineAnswer.{LineAnswer}
 use Rattle.nm_session.proofs.AnswerLemmas.{replied-said}
-use Rattle.nm_session.proofs.ChangeLemmas.{alive-asks, alive-by, answered-with, closed-by, fit-front, folded-append, gets-closed, made-failing, made-none, made-some, passed-by, stays-open, write-wanted}
+use Rattle.nm_session.proofs.ChangeLemmas.{alive-asks, alive-by, answered-with, closed-by, fit-front, folded-append, gets-closed, made-failing, made-none, made-some, passed-by, stays-open, write-no-memory}
 use Rattle.nm_writer.specs.Renamed.{AnswersAlong, AsksRenames, TreesAlong}
 use Rattle.nm_writer.specs.Tagged.{IsAfterTags}
 use Rattle.nm_writer.specs.Writer.{WriterState}
@@ -349,7 +349,7 @@ module _ (moment : ℤ) (old new : Place) (line : ScriptLine) (noted : List Give
   -- what is said that went well
   pub tag-ends : (report : SyncReport) (named : List (List ℕ)) (result : Result LineAnswer NoMemory) → IsLineAnswer moment old line noted outcomes.Ok (newly_closed old.writer new.writer) new
       → report ≡ sync_report index wanted noted → named ≡ strangers_for request line.input index → IfOk result (λ done. done ≡ replied_with request (strangers_text named ++ sync_text report)) → Ends moment old line noted result new
-  tag-ends report named (Err error) h reported strange said = write-wanted moment old new line noted h (asks-as outcomes.NoMemory)
+  tag-ends report named (Err error) h reported strange said = write-no-memory moment old new line noted h (asks-as outcomes.NoMemory)
   tag-ends report named (Ok done) h reported strange said =
       let text = ap (λ (r : SyncReport). strangers_text named ++ sync_text r) reported ∙ ap (λ (l : List (List ℕ)). strangers_text l ++ sync_text (sync_report index wanted noted)) strange in
       subst (λ (d : LineAnswer). Ends moment old line noted (Ok d) new) (sym said)
