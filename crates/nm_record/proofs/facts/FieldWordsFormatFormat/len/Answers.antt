@@ -1,6 +1,4 @@
-use Rattle.std.proofs.Common.{◌∙◌}
-use Rattle.nm_record.proofs.LenLemmas.{all_pass}
 use Rattle.nm_record.proofs.facts.FieldWordsFormatFormat.len.Goals as goal
 
 pub returns-clause-value : goal.returns-clause-value
-returns-clause-value c = c.len-2.ensures.value ∙ all_pass c.args.value.now.words
+returns-clause-value c = c.len-2.ensures.value
