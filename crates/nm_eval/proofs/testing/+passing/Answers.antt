@@ -16,8 +16,8 @@ passes-returns-in-Not t c =
 
 pub passes-returns-in-And : goal.passes-returns-in-And
 passes-returns-in-And t c =
-    let whole : list_all (λ query. passes query c.args.message.now c.args.moment) c.as_slice-in-And.result.now ≡ passes c.args.query.now c.args.message.now c.args.moment =
-    ap (λ queries. list_all (λ query. passes query c.args.message.now c.args.moment) queries) c.as_slice-in-And.ensures
+    let whole : list_all (λ query. passes query c.args.message.now c.args.moment) c.as_slice.result.now ≡ passes c.args.query.now c.args.message.now c.args.moment =
+    ap (λ queries. list_all (λ query. passes query c.args.message.now c.args.moment) queries) c.as_slice.ensures
     ∙ sym (c.a_tree_passes_as_its_queries_do.ensures.all c.in-And.queries c.args.message.now c.args.moment)
     ∙ ap (λ query. passes query c.args.message.now c.args.moment) (sym c.in-And.is) in
     search (rules, whole)
