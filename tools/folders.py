@@ -4,14 +4,15 @@
     tools/folders.py                 the built program, crates/notmuch/out/notmuch; silent and 0 where all is well, else a line for
                                      each fault, and 1
     tools/folders.py PROGRAM         another one
-    tools/folders.py --tell          also a line for each case: that it is well, or why it was passed over
+    tools/folders.py --tell          also a line for each case: that it is well, or why it was passed over; and how many were
 
-Each case has a folder of its own for mail and index, which is removed. After each run the mail must be what it was, but for files that `tag` renames. Cases on rights run
-the program as nobody where the script runs as root; the case on a full disk mounts a small one in a name space of its own, which goes
-with its process. A case that this machine cannot make, or of a command that is not there yet, is passed over."""
+Each case has a folder of its own for mail and index, which is removed. After each run the mail must be what it was, but for files that
+`tag` renames. Cases on rights run the program as nobody where the script runs as root; the case on a full disk mounts a small one in a
+name space of its own, which goes with its process. A case that this machine cannot make is passed over, and `--tell` says which."""
 import argparse
 import errno
 import os
+import re
 import shutil
 import subprocess
 import sys
@@ -20,7 +21,7 @@ import time
 
 sys.dont_write_bytecode = True
 sys.path.insert(0, os.path.dirname(os.path.abspath(__file__)))
-from definitions import ROOT  # noqa: E402
+from definitions import ROOT, read  # noqa: E402
 
 BUILT = f"{ROOT}/crates/notmuch/out/notmuch"
 SECONDS = 60
@@ -31,6 +32,10 @@ CANNOT_OPEN = "notmuch: cannot open\n"
 ONE_CAME = "Files: +1 -0, skipped 0. Messages: +1 -0.\n"
 # More bytes than a pipe holds.
 MANY_BYTES = 100_000
+# The most bytes of a mail, and of a batch of `new` before its last file; the most files of a batch.
+MAX_BYTES, BATCH = 67_108_864, 256
+# A header of a mail whose body no command prints.
+UNREAD = "Content-Type: application/octet-stream\n"
 MAX_TOLD = 200
 
 
@@ -72,9 +77,14 @@ class Place:
         with open(self.path(name), "wb") as file:
             file.write(text if isinstance(text, bytes) else text.encode())
 
-    def add_mail(self, name, subject="apples", text="hello", message_id=None):
-        header = f"From: Ann <ann@x.org>\nSubject: {subject}\nMessage-ID: <{message_id or name.replace('/', '.')}@x>\n"
+    def add_mail(self, name, subject="apples", text="hello", message_id=None, more=""):
+        header = f"From: Ann <ann@x.org>\nSubject: {subject}\nMessage-ID: <{message_id or name.replace('/', '.')}@x>\n{more}"
         self.write(f"mail/{name}", f"{header}\n{text}\n")
+
+    def add_long_mail(self, name, size, **how):
+        """A mail of so many bytes, which take no room on the disk."""
+        self.add_mail(name, more=UNREAD, **how)
+        os.truncate(self.path(f"mail/{name}"), size)
 
     def words(self, words, mail="mail", index="index"):
         return [self.program, f"--mail={mail}", f"--index={index}", *words]
@@ -84,20 +94,14 @@ class Place:
         pipes = {"stdin": subprocess.PIPE, "stdout": subprocess.PIPE, "stderr": subprocess.PIPE}
         return subprocess.Popen(words, cwd=self.folder, **{**pipes, **self.who, **how})
 
-    def wants(self, status, out, err, *words, streams=None, moved=(), **folders):
+    def wants(self, status, out, err, *words, streams=None, given="", moved=(), **folders):
         """Runs the program, and holds what it says against this. It must leave the mail as it was, but for what it moves."""
         kept = tree(self.path("mail"))
         for before, after in moved:
             kept[os.fsencode(self.path(f"mail/{after}"))] = kept.pop(os.fsencode(self.path(f"mail/{before}")))
         run = self.begin(self.words(words, **folders), **(streams or {}))
-        self.wants_end(run, (status, out, err), " ".join(words))
+        self.wants_end(run, (status, out, err), " ".join(words), given.encode())
         self.wants_that(tree(self.path("mail")) == kept, f"{' '.join(words)}: the mail folder is not what it should be")
-
-    def needs(self, command):
-        """Passes over a case of a command that the program does not have yet."""
-        told_of = subprocess.run([self.program, "--help"], capture_output=True, timeout=SECONDS, check=False).stdout.decode()
-        if f"\n  {command} " not in told_of:
-            raise Skipped(f"there is no command {command} yet")
 
     def wants_end(self, run, wanted, words, given=b""):
         """Gives a run its input, waits for its end, and holds what it says against what is wanted."""
@@ -125,6 +129,24 @@ class Place:
             for name in [".", *folders, *names]:
                 os.chown(f"{at}/{name}", NOBODY["user"], NOBODY["group"])
         self.who = NOBODY
+
+
+def page(name):
+    """A page that the program prints, by its source."""
+    found = re.search(rf'{name}: &\[u8\] = b"(?:\\\n)?(.*?)(?<!\\)";', read(f"{ROOT}/crates/notmuch/src/pages.rt"), re.S)
+    return found[1].replace('\\"', '"').replace("\\n", "\n")
+
+
+def pages_are_printed_and_nothing_is_opened(place):
+    shutil.rmtree(place.path("mail"))
+    for word, name in ("--help", "HELP"), ("--version", "VERSION"):
+        place.wants_end(place.begin([place.program, word]), (0, page(name), ""), word)
+        place.wants_end(place.begin([place.program, word, "x"]), (2, "", "notmuch: usage\n"), f"{word} x")
+    reader, writer = os.pipe()
+    os.close(reader)
+    place.wants_end(place.begin([place.program, "--help"], stdout=writer), (6, "", ""), "--help to a closed pipe")
+    os.close(writer)
+    place.wants_that(not os.listdir(place.folder), "a page made a folder")
 
 
 def leading_words_that_are_no_options_are_refused(place):
@@ -235,6 +257,70 @@ def a_bad_index_is_told_and_kept(place):
     place.wants(0, "1\n", "", "count")
 
 
+def a_half_made_head_is_made_anew(place):
+    os.mkdir(place.path("index"))
+    place.write("index/head.tmp", b"\0" * 64)
+    place.add_mail("new/1")
+    place.wants(0, ONE_CAME, "", "new")
+    place.wants(0, "1\n", "", "count")
+    there = sorted(os.listdir(place.path("index")))
+    place.wants_that(there == ["a", "b", "head"], f"the index has the files {there}")
+
+
+def bytes_behind_the_closed_gate_are_not_read(place):
+    """What an append leaves that was stopped before its gate was opened."""
+    place.add_mail("new/1", subject="first", text="word " * 100)
+    place.wants(0, ONE_CAME, "", "new")
+    with open(place.path("index/head"), "rb") as file:
+        whole = file.read()
+    # The length and some of the body of a record that never came to be; and a record whose gate is open, behind the closed one.
+    for torn in b"\0\0\2\1half of a body", b"\1\0\0\0\5hello\0":
+        place.write("index/head", whole + torn)
+        place.wants(0, "1\n", "", "count")
+        with open(place.path("index/head"), "rb") as file:
+            place.wants_that(file.read() == whole + torn, "the head was changed by a count")
+    place.add_mail("new/2")
+    place.wants(0, ONE_CAME, "", "new")
+    place.wants(0, "2\n", "", "count")
+    place.wants(0, "1\n", "", "count", "subject:first")
+
+
+def a_killed_new_leaves_whole_batches(place):
+    mails = 3 * BATCH
+    for number in range(mails):
+        place.add_mail(f"new/{number:04}", text="word " * 200)
+    fresh = place.begin(place.words(["count"]))
+    place.wants_end(fresh, (0, "0\n", ""), "a first count")
+    before, until = os.path.getsize(place.path("index/head")), time.monotonic() + SECONDS
+    run = place.begin(place.words(["new"]))
+    while os.path.getsize(place.path("index/head")) <= before and run.poll() is None and time.monotonic() < until:
+        time.sleep(0.0005)
+    run.kill()
+    run.communicate(timeout=SECONDS)
+    counted = place.begin(place.words(["count"])).communicate(timeout=SECONDS)[0].decode(errors="replace")
+    if counted not in [f"{batches * BATCH}\n" for batches in range(4)]:
+        place.faults.append(f"after a kill within new count says {counted[:MAX_TOLD]!r}")
+        return
+    rest = mails - int(counted)
+    place.wants(0, f"Files: +{rest} -0, skipped 0. Messages: +{rest} -0.\n" if rest else "No new mail.\n", "", "new")
+    place.wants(0, f"{mails}\n", "", "count")
+    place.wants(0, "No new mail.\n", "", "new")
+
+
+def reply(line, revision, status, text):
+    """What a session prints for a line."""
+    return f"@0 {line} {revision} {status} {len(text.encode())}\n{text}"
+
+
+def a_mail_of_the_most_bytes_closes_its_batch(place):
+    two = "Files: +2 -0, skipped 0. Messages: +2 -0.\n"
+    long = "Files: +1 -0, skipped 1. Messages: +1 -0.\nskipped: too long new/1\n"
+    place.add_mail("new/2")
+    for size, revision, told_of in (MAX_BYTES, 2, two), (MAX_BYTES - 1, 1, two), (MAX_BYTES + 1, 1, long):
+        place.add_long_mail("new/1", size)
+        place.wants(0, reply(1, revision, 0, told_of), "", "session", given="0 new\n", index=f"index-{size}")
+
+
 def mounted(folder, size):
     """Whether there is now a disk of this size at the folder."""
     words = ["mount", "-t", "tmpfs", "-o", size, "tmpfs", folder]
@@ -312,6 +398,49 @@ def a_name_of_255_bytes_is_taken(place):
         place.wants(0, f"new/{name}\n", "", "search", "--output=files", f"id:m{number}@x")
 
 
+def a_name_of_more_than_255_bytes_keeps_the_tags(place):
+    """Its path is a good one, and the folder refuses the name."""
+    place.add_mail("new/" + "n" * 255, message_id="m1")
+    place.wants(0, ONE_CAME, "", "new")
+    place.wants(3, "", "notmuch: mail fault\n", "tag", "-unread", "--", "*")
+    place.wants(0, "0\n", "", "count", "tag:unread")
+    place.wants(3, "", "notmuch: mail fault\n", "tag", "+flagged", "--", "*")
+    place.wants(0, "1\n", "", "count", "tag:flagged and not tag:unread")
+    place.wants(0, "", "", "tag", "-flagged", "+unread", "--", "*")
+    place.wants(0, "No new mail.\n", "", "new")
+
+
+def a_maildir_without_cur_keeps_the_tags(place):
+    place.add_mail("new/1")
+    os.rmdir(place.path("mail/cur"))
+    place.wants(0, ONE_CAME, "", "new")
+    place.wants(3, "", "notmuch: mail fault\n", "tag", "-unread", "--", "*")
+    place.wants(0, "0\n", "", "count", "tag:unread")
+    os.mkdir(place.path("mail/cur"))
+    place.wants(0, "", "", "tag", "+work", "--", "*", moved=[("new/1", "cur/1:2,S")])
+    place.wants(0, "No new mail.\n", "", "new")
+
+
+def lines_of_an_input_are_read(place):
+    place.add_mail("cur/1:2,S", subject="red", message_id="m1")
+    place.add_mail("new/2", subject="green", message_id="m2")
+    place.wants(0, "Files: +2 -0, skipped 0. Messages: +2 -0.\n", "", "new")
+    place.wants(0, "1\n2\n0\n", "", "count", "--batch", given="subject:red\n\nsubject:blue")
+    place.wants(1, "", "notmuch: line 2: query\n", "count", "--batch", given="*\n(\n")
+    changes = "# a comment\n+todo -- subject:red\n+seen -unread -- subject:green or tag:todo\n"
+    place.wants(0, "", "", "tag", "--batch", given=changes, moved=[("new/2", "cur/2:2,S")])
+    place.wants(0, "inbox\nseen\ntodo\n", "", "search", "--output=tags", "*")
+    place.wants(1, "", "notmuch: line 1: form\n", "tag", "--batch", given="subject:red\n")
+    dumped = "#notmuch-dump batch-tag:3 tags\n+inbox +seen +todo -- id:m1@x\n+inbox +seen -- id:m2@x\n"
+    place.wants(0, dumped, "", "dump")
+    told_of = "Warning: no message: id:m3@x\n"
+    place.wants(0, told_of, "", "restore", given="+50%25 -- id:m1@x\n+x -- id:m3@x\n")
+    place.wants(0, "", "", "restore", given="")
+    place.wants(0, "", "", "restore", "--format=sup", given="m1@x (50% unread)\n", moved=[("cur/1:2,S", "cur/1:2,")])
+    place.wants(0, "", "", "restore", given=dumped, moved=[("cur/1:2,", "cur/1:2,S")])
+    place.wants(0, dumped, "", "dump")
+
+
 def what_is_no_mail_of_a_maildir_is_passed_over(place):
     for name in "mail/lists/new", "mail/.notmuch/new", "mail/cur/new":
         os.makedirs(place.path(name))
@@ -325,7 +454,6 @@ def what_is_no_mail_of_a_maildir_is_passed_over(place):
 
 
 def a_shown_mail_that_is_gone_is_told(place):
-    place.needs("show")
     place.add_mail("new/1", message_id="m1")
     place.wants(0, ONE_CAME, "", "new")
     os.remove(place.path("mail/new/1"))
@@ -334,8 +462,33 @@ def a_shown_mail_that_is_gone_is_told(place):
     place.wants(1, "", "notmuch: gone: new/1\n", "show", "--format=raw", "id:m1@x")
 
 
+def shown(name, body=""):
+    """What a show tells of a mail of `add_mail` in the folder `new`, which is called as its id."""
+    head = f"message id:{name}@x\nfile new/{name}\nfrom Ann <ann@x.org>\nsubject apples\ndate 1970-01-01\ntags inbox unread\n\n"
+    return f"{head}{body}end\n"
+
+
+def a_shown_mail_that_has_grown_too_long_is_told(place):
+    place.add_mail("new/m1", message_id="m1")
+    place.wants(0, ONE_CAME, "", "new")
+    os.truncate(place.path("mail/new/m1"), MAX_BYTES + 1)
+    place.wants(0, shown("m1", "too long\n"), "", "show", "id:m1@x")
+    place.wants(1, "", "notmuch: gone: new/m1\n", "show", "--format=raw", "id:m1@x")
+
+
+def shows_of_a_session_read_so_many_bytes(place):
+    for name in "m1", "m2":
+        place.add_long_mail(f"new/{name}", 40_000_000, message_id=name)
+    place.add_mail("new/m3", message_id="m3")
+    place.wants(0, "Files: +3 -0, skipped 0. Messages: +3 -0.\n", "", "new")
+    limit = "notmuch: limit: showbytes\n"
+    # (the first two close a batch)
+    printed = reply(1, 2, 0, shown("m1")) + reply(2, 2, 9, limit) + reply(3, 2, 0, shown("m3", "hello\n"))
+    place.wants(0, printed, "", "session", given="0 show id:m1@x\n0 show id:m2@x\n0 show id:m3@x\n")
+    place.wants(9, "", limit, "show", "id:m1@x or id:m2@x")
+
+
 def a_shown_mail_that_may_not_be_read_is_a_mail_fault(place):
-    place.needs("show")
     place.add_mail("new/1", message_id="m1")
     place.give_to_nobody()
     place.wants(0, ONE_CAME, "", "new")
@@ -344,7 +497,6 @@ def a_shown_mail_that_may_not_be_read_is_a_mail_fault(place):
 
 
 def a_rename_takes_no_other_file_away(place):
-    place.needs("tag")
     place.add_mail("new/1")
     place.add_mail("cur/2:2,F")
     place.wants(0, "Files: +2 -0, skipped 0. Messages: +2 -0.\n", "", "new")
@@ -356,7 +508,6 @@ def a_rename_takes_no_other_file_away(place):
 
 
 def a_rename_that_fails_keeps_the_tags(place):
-    place.needs("tag")
     place.add_mail("new/1")
     place.add_mail("new/2")
     place.give_to_nobody()
@@ -406,6 +557,7 @@ def an_input_that_cannot_be_read_is_a_read_fault(place):
 
 
 CASES = [
+    pages_are_printed_and_nothing_is_opened,
     leading_words_that_are_no_options_are_refused,
     a_missing_mail_folder_is_told,
     a_file_is_no_mail_folder,
@@ -417,12 +569,21 @@ CASES = [
     an_index_that_may_not_be_made_is_told,
     one_process_holds_the_index,
     a_killed_process_holds_nothing,
+    a_killed_new_leaves_whole_batches,
     a_bad_index_is_told_and_kept,
+    a_half_made_head_is_made_anew,
+    bytes_behind_the_closed_gate_are_not_read,
     a_full_disk_loses_nothing,
     a_name_that_is_not_utf8_is_a_mail_fault,
     a_name_of_255_bytes_is_taken,
+    a_name_of_more_than_255_bytes_keeps_the_tags,
+    a_maildir_without_cur_keeps_the_tags,
+    a_mail_of_the_most_bytes_closes_its_batch,
+    lines_of_an_input_are_read,
     what_is_no_mail_of_a_maildir_is_passed_over,
     a_shown_mail_that_is_gone_is_told,
+    a_shown_mail_that_has_grown_too_long_is_told,
+    shows_of_a_session_read_so_many_bytes,
     a_shown_mail_that_may_not_be_read_is_a_mail_fault,
     a_rename_takes_no_other_file_away,
     a_rename_that_fails_keeps_the_tags,
@@ -466,15 +627,18 @@ def main():
     if not os.path.isfile(program):
         print(f"folders: {os.path.relpath(program, ROOT)} is not built")
         return 1
-    all_well = True
+    bad, passed_over = [], []
     for case in CASES:
         faults, why = tried(case, program)
-        all_well &= not faults
+        bad += [case] * bool(faults)
+        passed_over += [case] * bool(why)
         for it in faults:
             print(f"folders: {case.__name__}: {it}")
         if args.tell and not faults:
             print(f"{case.__name__}: {f'passed over: {why}' if why else 'ok'}")
-    return int(not all_well)
+    if args.tell:
+        print(f"{len(CASES)} cases, {len(bad)} wrong, {len(passed_over)} passed over")
+    return int(bool(bad))
 
 
 if __name__ == "__main__":

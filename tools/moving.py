@@ -1,13 +1,15 @@
 #!/usr/bin/env python3
-"""Moves tags from notmuch to the program and back, over one Maildir of thirty mails, and compares them message by message.
+"""Moves tags from notmuch to the program and back, over two Maildirs, and compares them message by message.
 
-    tools/moving.py                  the built program, crates/notmuch/out/notmuch; 0 where all tags are the same, else a line for each
-                                     fault, and 1
+    tools/moving.py                  the built program, crates/notmuch/out/notmuch; silent and 0 where all tags are the same, else a line
+                                     for each fault, and 1
     tools/moving.py PROGRAM          another one
-    tools/moving.py --tell           also a line for each step: how many messages were compared
+    tools/moving.py --tell           also a line for each step: how many messages were compared; or why none was
 
-It needs notmuch, 0.37 or later; where that is not installed it says so and passes. Mail, index and notmuch's database lie in a folder
-of their own, which is removed. Both rename files for tags, so after each step both must find all mail under the same names."""
+It needs notmuch, 0.37 or later; where that is not installed all is passed over. One Maildir has thirty mails with odd ids, flags and
+tags; the other the mail of examples/ and a hundred mails as people get them, from bench/shared.py. Mail, index and notmuch's database
+lie in a folder of their own, which is removed. Both rename files for tags, so after each step both must find all mail under the same
+names."""
 import argparse
 import os
 import random
@@ -22,9 +24,12 @@ sys.path.insert(0, os.path.dirname(os.path.abspath(__file__)))
 from definitions import ROOT  # noqa: E402
 from folders import BUILT, MAX_TOLD, SECONDS  # noqa: E402
 
+sys.path.insert(0, f"{ROOT}/bench")
+import shared  # noqa: E402
+
 OLDEST = 0, 37
 SETTING = "[database]\npath=%s\n[user]\nname=Ann\nprimary_email=ann@x.org\n[new]\ntags=inbox;unread\n[maildir]\nsynchronize_flags=true\n"
-MAILS = 30
+MAILS, REALISTIC = 30, 100
 SEED = 7
 # Ids that a dump has in quotes, and one that the form of sup reads as a comment.
 ODD_IDS = '"q"@x', "p)@x", "#h@x"
@@ -35,6 +40,8 @@ TAGS = ["inbox", "unread", "flagged", "replied", "work", "todo", "50%", "to do",
 # As a dump writes a tag.
 UNENCODED = re.compile(rb"[^A-Za-z0-9@=.,_+-]")
 DUMP_LINE = re.compile(rb"((?:\+\S+ )*) ?-- id:(.+)")
+# What `new` says where nothing came and nothing is gone: a file that is no mail is told each time.
+NOTHING_NEW = re.compile(rb"No new mail\.\n|Files: \+0 -0, ")
 SUP_LINE = re.compile(rb"(\S+) \((.*)\)")
 
 
@@ -45,16 +52,13 @@ class Failed(Exception):
 class Place:
     """A Maildir with both indexes over it, and what was found wrong."""
 
-    def __init__(self, program, folder):
+    def __init__(self, program, folder, fill):
         self.program, self.folder, self.faults, self.steps = program, folder, [], []
         self.random = random.Random(SEED)
         with open(f"{folder}/setting", "w", encoding="utf-8") as file:
             file.write(SETTING % f"{folder}/mail")
-        self.ids = [*ODD_IDS, *(f"m{it}@x" for it in range(len(ODD_IDS), MAILS))]
-        for number, name in enumerate(self.ids):
-            self.add_mail(f"new/{number}" if number % 2 else f"cur/{number}:2,{FLAGS[number % len(FLAGS)]}", name)
-        self.add_mail("cur/copy:2,S", self.ids[-1])
-        self.add_mail("outside", OUTSIDE)
+        # The ids of all messages, and those that notmuch alone has.
+        self.ids, self.outside = fill(self)
 
     def add_mail(self, path, name):
         for part in "new", "cur", "tmp":
@@ -86,17 +90,37 @@ class Place:
     def wants_same(self, step, passed_over=()):
         """Both have the same tags of each message, and nothing to take in."""
         here, there = tags_in(self.here("dump")), tags_in(self.there("dump", "--include=tags"))
-        there.pop(OUTSIDE, None)
+        for name in self.outside:
+            there.pop(name, None)
         for name in sorted({*here, *there} - {*passed_over}):
             if here.get(name) != there.get(name):
                 self.faults.append(f"{step}: {name}: here {told(here.get(name))}, there {told(there.get(name))}")
-        self.wants(self.here("new") == b"No new mail.\n", f"{step}: files were renamed that should keep their names")
+        self.wants(NOTHING_NEW.match(self.here("new")), f"{step}: files were renamed that should keep their names")
         self.steps.append(f"{step}: {len({*here} - {*passed_over})} messages")
         return here
 
     def wants(self, holds, fault):
         if not holds:
             self.faults.append(fault)
+
+
+def odd(place):
+    """Mails whose ids and flags are odd, one with a copy, and one that lies in no Maildir."""
+    ids = [*ODD_IDS, *(f"m{it}@x" for it in range(len(ODD_IDS), MAILS))]
+    for number, name in enumerate(ids):
+        place.add_mail(f"new/{number}" if number % 2 else f"cur/{number}:2,{FLAGS[number % len(FLAGS)]}", name)
+    place.add_mail("cur/copy:2,S", ids[-1])
+    place.add_mail("outside", OUTSIDE)
+    return ids, [OUTSIDE]
+
+
+def realistic(place):
+    """Mails as people get them, and those of examples/, one of which has no id, and one is no mail."""
+    shared.realistic(f"{place.folder}/mail", REALISTIC, sizes=(200, 2_000))
+    shutil.copytree(f"{ROOT}/examples/mail", f"{place.folder}/mail", dirs_exist_ok=True)
+    place.there("new", "--quiet")
+    found = place.there("search", "--output=messages", "--exclude=false", "*").decode()
+    return [it.removeprefix("id:") for it in found.splitlines()], []
 
 
 def told(tags):
@@ -148,7 +172,8 @@ def from_there(place):
     place.here("new")
     before = place.names()
     said = place.here("restore", given=place.there("dump", "--include=tags"))
-    place.wants(said == f"Warning: no message: id:{OUTSIDE}\n".encode(), f"from there: restore says {said!r}")
+    warned = "".join(f"Warning: no message: id:{it}\n" for it in place.outside)
+    place.wants(said == warned.encode(), f"from there: restore says {said!r}")
     place.wants(place.names() == before, "from there: files were renamed whose names say what the tags do")
     place.wants_same("from there")
 
@@ -208,27 +233,40 @@ def asked():
     return parser.parse_args()
 
 
-def main():
-    args = asked()
-    program = os.path.abspath(args.program)
-    if not shutil.which("notmuch") or not is_new_enough():
-        print("moving: passed over, since notmuch 0.37 or later is not installed")
-        return 0
-    if not os.path.isfile(program):
-        print(f"moving: {os.path.relpath(program, ROOT)} is not built")
-        return 1
+def moved(program, fill):
+    """What is wrong with the tags that were moved over a Maildir, and what was compared."""
     with tempfile.TemporaryDirectory() as folder:
-        place = Place(program, folder)
+        try:
+            place = Place(program, folder, fill)
+        except Failed as error:
+            return [f"before all: {error}"], []
         for step in STEPS:
             try:
                 step(place)
             except (Failed, OSError, AttributeError, subprocess.SubprocessError) as error:
                 place.faults.append(f"{step.__name__}: {type(error).__name__}: {error}")
-    for it in place.faults:
-        print(f"moving: {it}")
-    if args.tell:
-        print("\n".join(place.steps))
-    return int(bool(place.faults))
+    return place.faults, place.steps
+
+
+def main():
+    args = asked()
+    program = os.path.abspath(args.program)
+    if not shutil.which("notmuch") or not is_new_enough():
+        if args.tell:
+            print("passed over, since notmuch 0.37 or later is not installed")
+        return 0
+    if not os.path.isfile(program):
+        print(f"moving: {os.path.relpath(program, ROOT)} is not built")
+        return 1
+    is_well = True
+    for fill in odd, realistic:
+        faults, steps = moved(program, fill)
+        is_well = is_well and not faults
+        for it in faults:
+            print(f"moving: {fill.__name__} mails: {it}")
+        if args.tell:
+            print("\n".join(f"{fill.__name__} mails: {it}" for it in steps))
+    return int(not is_well)
 
 
 if __name__ == "__main__":
