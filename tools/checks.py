@@ -3,14 +3,14 @@
 
     tools/checks.py          all of them; silent and 0 where all is well, else a line for each fault, and 1
 
-None proves anything. One runs the program that `rt ci` has built, over a copy of the mail of examples/."""
+None proves anything. One runs examples/run, by the program that `rt ci` has built, and one the programs that run rows."""
+import difflib
 import functools
 import os
 import re
 import shutil
 import subprocess
 import sys
-import tempfile
 
 sys.dont_write_bytecode = True
 sys.path.insert(0, os.path.dirname(os.path.abspath(__file__)))
@@ -23,8 +23,6 @@ commands and replies""".replace("\n", " ").split("; ")
 FROM = "70802d7"
 MACHINE_PATH = re.compile(r"(?<![\w.~/])/(?:work|home|root|tmp|opt|usr|var|mnt|srv|etc|Users)/(?!bin/env\b)")
 PROGRAM = f"{ROOT}/crates/notmuch/out/notmuch"
-# The scripts of the tour, in their order.
-SCRIPTS = "session.txt", "again.txt"
 SECONDS = 60
 
 
@@ -66,9 +64,18 @@ def edits_of(crate):
 
 @functools.lru_cache(maxsize=None)
 def code_of(crate):
-    """The words of a crate's sources and definitions."""
+    """The words of a crate's sources and definitions, without their comments."""
     texts = [read(f"{ROOT}/{it}") for part in ("src", "specs") for it in files_below(f"crates/{crate}/{part}", (".rt", ".antt"))]
-    return set(re.findall(r"\w+", "\n".join(texts)))
+    return set(re.findall(r"\w+", re.sub(r"(?m)(?:^|\s)(?://|--).*$", "", "\n".join(texts))))
+
+
+@functools.lru_cache(maxsize=None)
+def crates_below(crate):
+    """The crates that a crate stands on, by crates.txt."""
+    lines = (it.partition("#")[0].partition(":") for it in read(f"{ROOT}/crates.txt").splitlines())
+    named = next((it[2].split() for it in lines if it[0].split()[:1] == [crate]), [])
+    below = {it for it in named if it in crates()}
+    return below.union(*map(crates_below, below))
 
 
 def promises():
@@ -84,7 +91,8 @@ def promises():
 
 
 def promises_are_there():
-    """Each edit stands in docs/PROMISES.md under its crate, each edit named there exists, and so does each clause."""
+    """Each edit stands in docs/PROMISES.md under its crate, and each edit and clause named there is of that crate; a clause may also
+    be cited from a crate below it."""
     told = promises()
     yield from (f"docs/PROMISES.md: there is no crate {it}" for it in told if it not in crates())
     for crate in crates():
@@ -96,8 +104,8 @@ def promises_are_there():
         yield from (f"docs/PROMISES.md: the edit {it} of {crate} is not named" for it in sorted(there - named))
         yield from (f"docs/PROMISES.md: {crate} has no edit {it}" for it in sorted(named - there))
         clauses = {it for row in rows for text in quoted(row[1]) for it in re.findall(r"\w+", text)}
-        known = words | {it for other in crates() for it in code_of(other)} | set(crates())
-        yield from (f"docs/PROMISES.md: nothing of {crate} is called {it}" for it in sorted(clauses - known))
+        known = words.union(crates(), *map(code_of, crates_below(crate)))
+        yield from (f"docs/PROMISES.md: nothing of {crate}, or below it, is called {it}" for it in sorted(clauses - known))
 
 
 def layers_of_list():
@@ -176,44 +184,70 @@ def blocks(text):
 
 
 def tour_is_true():
-    """The tour of the README: its table has the example's files, its scripts are the examples', and over one index the program
-    prints the rest."""
+    """The tour of the README is what examples/run prints."""
     tour = section(read(f"{ROOT}/README.md"), "tour")
-    named = {it for line in tour.splitlines() if line.startswith("|") for it in quoted(cells(line)[0])}
-    there = {os.path.relpath(it, "examples/mail") for it in files_below("examples/mail", "")}
-    if named != there:
-        yield f"README.md: the tour's table differs from examples/mail: {', '.join(sorted(named ^ there))}"
-    found = blocks(tour)
-    if len(found) != 2 * len(SCRIPTS):
-        yield "README.md: the tour has not two blocks for each of its scripts, the script and what it prints"
-        return
     if not os.path.isfile(PROGRAM):
         yield "README.md: the tour was not run: crates/notmuch/out/notmuch is not built"
         return
-    with tempfile.TemporaryDirectory() as folder:
-        # A copy, since `tag` renames files.
-        shutil.copytree(f"{ROOT}/examples/mail", f"{folder}/mail")
-        for name, script, printed in zip(SCRIPTS, found[::2], found[1::2]):
-            if read(f"{ROOT}/examples/{name}") != script:
-                yield f"README.md: a script of the tour is not examples/{name}"
-            how = {"cwd": folder, "input": script.encode(), "capture_output": True, "timeout": SECONDS, "check": False}
-            ran = subprocess.run([PROGRAM, "session"], **how)
-            if ran.returncode or ran.stdout.decode(errors="replace") != printed:
-                yield f"README.md: {name} does not print what the tour says (status {ran.returncode})"
+    ran = subprocess.run(["bash", f"{ROOT}/examples/run"], capture_output=True, timeout=SECONDS, check=False)
+    printed = ran.stdout.decode(errors="replace")
+    if ran.returncode or printed != "".join(blocks(tour)):
+        told = difflib.unified_diff("".join(blocks(tour)).splitlines(), printed.splitlines(), "README.md", "examples/run", lineterm="", n=0)
+        yield f"README.md: its tour is not what examples/run prints (status {ran.returncode})\n" + "\n".join(told)
+
+
+def kit_is_told():
+    """The README names the kit with which all is proved, where `rt` is there to say which it is."""
+    found = re.search(r"`(rattle-kit-[^`]+)`", read(f"{ROOT}/README.md"))
+    if not found:
+        yield "README.md: it has no line of the kit"
+    elif shutil.which("rt"):
+        ran = subprocess.run(["rt", "version"], capture_output=True, timeout=SECONDS, check=False)
+        said = ran.stdout.decode(errors="replace").strip()
+        if said != found[1]:
+            yield f"README.md: its kit is {found[1]}, and rt version says {said}"
+
+
+# The sections of docs/TESTING.md on rows, and the programs that run them.
+ROWS = {
+    "reading one mail": "rows_mail",
+    "queries and dates": "rows_query",
+    "what queries find": "rows_eval",
+    "sessions": "rows_session",
+    "the index": "rows_index",
+    "names, flags, lines of tag changes and dumps": "rows_names",
+    "words of commands": "rows_command",
+    "replies and on the lines of an input": "rows_render",
+}
+
+
+def kinds_of(part):
+    """The kinds of row that the tables of a section name."""
+    tables = re.findall(r"^\| kind \|.*\n\|[-| ]+\|\n((?:\|.*\n)+)", part, re.M)
+    fronts = (cells(it)[0] for table in tables for it in table.splitlines())
+    return [kind for it in fronts for kind in quoted(re.match(r"(?:`[^`]+`(?:, (?=`))?)*", it)[0])]
+
+
+def example_rows(part):
+    """The table of the example rows of a section, and the kind of each."""
+    table = "\n".join(re.findall(r"^```text\n(.*?)^```", part, re.M | re.S))
+    rows = [it for it in re.split(r"\n\n+", table.strip("\n")) if not it.startswith("#")]
+    return table, [it.partition(":")[0] for it in rows]
 
 
 def rows_of_documents_are_right():
-    """The example rows of docs/TESTING.md are right, by the programs that run rows."""
+    """Each kind of row has an example in docs/TESTING.md, and the examples are right, by the programs that run rows."""
     text = read(f"{ROOT}/docs/TESTING.md")
-    programs = {"reading one mail": "rows_mail", "queries and dates": "rows_query", "what queries find": "rows_eval"}
-    programs |= {"sessions": "rows_session", "the index": "rows_index", "names, flags, lines of tag changes and dumps": "rows_names"}
-    programs |= {"words of commands": "rows_command", "replies and on the lines of an input": "rows_render"}
-    for title, crate in ((f"### Rows on {it}", program) for it, program in programs.items()):
-        if f"\n{title}\n" not in text:
-            yield f"docs/TESTING.md: it has no section {title[4:]}"
+    # The example behind the head of all rows is one on reading mail.
+    front = text.partition("\n## Rows\n")[2].partition("\n### ")[0]
+    for title, crate in ROWS.items():
+        part = text.partition(f"\n### Rows on {title}\n")[2].partition("\n### ")[0]
+        if not part:
+            yield f"docs/TESTING.md: it has no section 'Rows on {title}'"
             continue
-        part = text.partition(title)[2].partition("\n### ")[0]
-        table = "\n".join(re.findall(r"^```text\n(.*?)^```", part, re.M | re.S))
+        table, kinds = example_rows(front + part if crate == "rows_mail" else part)
+        yield from (f"docs/TESTING.md: it has no example of the kind '{it}' of {crate}" for it in kinds_of(part) if it not in kinds)
+        yield from (f"docs/TESTING.md: the table of {crate} does not tell of the kind '{it}'" for it in set(kinds) - {*kinds_of(part)})
         program = f"{ROOT}/crates/{crate}/out/{crate}"
         if not os.path.isfile(program):
             yield f"docs/TESTING.md: its rows were not run: {crate} is not built"
@@ -221,20 +255,24 @@ def rows_of_documents_are_right():
         how = {"input": table.encode(), "capture_output": True, "timeout": SECONDS, "check": False}
         lines = subprocess.run([program], **how).stdout.decode(errors="replace").splitlines()
         yield from (f"docs/TESTING.md: {it}" for it in lines if it.startswith(("WRONG", "BROKEN")))
-        rows = [it for it in re.split(r"\n\n+", table.strip("\n")) if not it.startswith("#")]
-        if sum(it.startswith("ok ") for it in lines) != len(rows):
+        if sum(it.startswith("ok ") for it in lines) != len(kinds):
             yield f"docs/TESTING.md: not all of its rows are run by {crate}"
 
 
 def readme_names_all_crates():
-    """The README has one row for each crate."""
-    rows = [cells(it)[0] for it in read(f"{ROOT}/README.md").splitlines() if it.startswith("| `")]
-    named = [it for row in rows for it in quoted(row) if re.fullmatch(r"[a-z]\w*", it)]
+    """Each crate stands in the first cell of a row of the README, and what a row names as proved is of its crates."""
+    rows = [cells(it) for it in read(f"{ROOT}/README.md").splitlines() if it.startswith("| `")]
+    rows = [(found, row) for row in rows if (found := {it for it in quoted(row[0]) if it in crates()})]
+    named = {it for found, _ in rows for it in found}
     yield from (f"README.md: it has no row for {it}" for it in crates() if it not in named)
+    for found, row in rows:
+        words = set(crates()).union(*map(code_of, found))
+        clauses = {it for text in quoted(row[1]) for it in re.findall(r"\w+", text)}
+        yield from (f"README.md: nothing of {', '.join(sorted(found))} is called {it}" for it in sorted(clauses - words))
 
 
 def manual_has_what_help_has():
-    """The manual page has each command, option and value that the program's help names, and mandoc warns of nothing in it."""
+    """The manual page has each command, option and value that the program's help names, and mandoc has no complaint about it."""
     page = read(f"{ROOT}/man/notmuch.1")
     told = read(f"{ROOT}/crates/notmuch/src/pages.rt").partition("HELP")[2].partition('";')[0]
     part = told.partition("\nCommands\n")[2].partition("\n\n")[0]
@@ -246,7 +284,7 @@ def manual_has_what_help_has():
         if not any(all(f"Cm {value}" in it for value in values.split("|") if value) for it in lines):
             yield f"man/notmuch.1: it has no --{name}{f'={values}' if values else ''}"
     if shutil.which("mandoc"):
-        said = subprocess.run(["mandoc", "-Tlint", "-Wwarning", f"{ROOT}/man/notmuch.1"], capture_output=True, check=False).stdout
+        said = subprocess.run(["mandoc", "-Tlint", f"{ROOT}/man/notmuch.1"], capture_output=True, check=False).stdout
         yield from (f"man/notmuch.1: {it}" for it in said.decode(errors="replace").splitlines())
 
 
@@ -310,6 +348,7 @@ CHECKS = [
     layers_agree,
     proofs_stay_inside,
     readme_names_all_crates,
+    kit_is_told,
     tour_is_true,
     rows_of_documents_are_right,
     manual_has_what_help_has,
