@@ -26,7 +26,11 @@ FIELDS = 300
 # The most files of a batch of `new`, and the bytes that close one before.
 BATCH = 256
 BATCH_BYTES = 67_108_864
-SECONDS_BETWEEN = 1_000
+# The dates of realistic mails.
+FIRST_SECOND, SECONDS_BETWEEN = 1_600_000_000, 1_000
+# notmuch's configuration, over the folder `mail` in a folder.
+SETTING = f"""[database]\npath=%s/mail\n[user]\nname=Ann\nprimary_email=ann@{HOST}\n[new]\ntags=inbox;unread\nignore=
+[maildir]\nsynchronize_flags=true\n"""
 
 SYLLABLES = """ba be bi bo da de di do fa fe ga go ka ke ki la le li lo ma me mi mo na ne no pa pe po ra re ri ro sa se
 si so ta te ti to va ve vi""".split()
@@ -176,7 +180,7 @@ def content_of(texts, at, sizes):
 def header_of(texts, at, known, subject):
     """A header but for its content type. Every second mail answers one of the last hundred; `known` has their ids."""
     own = f"<{at}.{texts.chance.getrandbits(64):016x}@{HOST}>"
-    date = time.strftime("%a, %d %b %Y %H:%M:%S +0000", time.gmtime(1_600_000_000 + at * SECONDS_BETWEEN))
+    date = time.strftime("%a, %d %b %Y %H:%M:%S +0000", time.gmtime(FIRST_SECOND + at * SECONDS_BETWEEN))
     above = texts.chance.choice(known[-100:]) if known and texts.chance.randrange(2) else []
     known.append([*above[-5:], own])
     lines = [
@@ -200,6 +204,11 @@ def realistic(folder, count, letters=None, folders=1, sizes=(2_000, 20_000)):
         subject, has_word = texts.subject()
         store.add(header_of(texts, at, known, subject) + content_of(texts, at, sizes), has_word)
     return store
+
+
+def first(count):
+    """A query for the first of these mails: their dates are known."""
+    return f"date:@{FIRST_SECOND}..@{FIRST_SECOND + count * SECONDS_BETWEEN - 1}"
 
 
 def cyrillic(folder, count):
@@ -278,6 +287,13 @@ def measured(words, folder, given=os.devnull, output=os.devnull, more=()):
     with open(told, encoding="ascii") as file:
         user, system, peak = file.read().split()[-3:]
     return Run(seconds, float(user) + float(system), int(peak), ran.returncode)
+
+
+def setting(above):
+    """Writes notmuch's configuration for the mail of a folder, and gives the environment that names it."""
+    with open(f"{above}/setting", "w", encoding="utf-8") as file:
+        file.write(SETTING % above)
+    return {"HOME": above, "NOTMUCH_CONFIG": f"{above}/setting"}
 
 
 def rates(store, run):
