@@ -1,6 +1,6 @@
 //! The call `batch_lines`: lines of tag changes, as `tag --batch` takes them.
 
-ghost use Rattle.std.specs.Prelude.{◌≡◌, ◌<◌, [], ◌∷◌, true, length, IfOk, IfSome, MatchOption, MatchResult, Some, None, Ok, Err};
+ghost use Rattle.std.specs.Prelude.{◌≡◌, ◌+◌, ◌<◌, [], ◌∷◌, true, length, IfOk, IfSome, MatchOption, MatchResult, Some, None, Ok, Err};
 ghost use Rattle.std.specs.Str.Lines.{lines};
 ghost use Rattle.nm_tags.specs.TagLines.{asked_in, batch_lines, classified, is_passed_over, is_tag_word, op_of, query_after, read_line, with_op, IsLineFault};
 
@@ -15,14 +15,13 @@ use std::alloc::Global;
 /// is told by its number, counted from 1. A line needs no changes where `clear` is set, since all tags are taken off then.
 #[tactic(auto, using(crate::proofs::LineLemmas::with_one_line))]
 pub fn batch_lines(alloc: Global, bytes: &[u8], clear: bool) -> Result<Many<TagLine>, LineError>
-    requires { length bytes.now < 4294967295 }
     ensures { MatchResult result (λ read. batch_lines bytes.now clear ≡ Ok read) (IsLineFault (batch_lines bytes.now clear)) }
 {
     let mut read = Many::new(alloc);
-    let mut number = 0;
+    let mut number: u32 = 0;
     let mut rest = bytes;
     'lines: while let Some((line, more)) = next_content(rest) {
-        number += 1;
+        number = next_number(number)?;
         rest = more;
         match classified(alloc, line, clear)? {
             Ok(None) => {}
@@ -35,6 +34,13 @@ pub fn batch_lines(alloc: Global, bytes: &[u8], clear: bool) -> Result<Many<TagL
         }
     }
     Ok(read)
+}
+
+/// The number of the next line; more lines than a number tells find no memory.
+fn next_number(number: u32) -> Result<u32, NoMemory>
+    ensures { IfOk result (λ next. next ≡ number + 1) }
+{
+    number.checked_add(1).ok_or(NoMemory)
 }
 
 fn bad_line(line: u32, kind: LineKind) -> Result<Many<TagLine>, LineError>
