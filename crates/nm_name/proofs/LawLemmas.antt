@@ -48,10 +48,10 @@ all_filter letters flags (x ∷ xs) are =
     kept true x rest is are = ap (λ b. b && list_all is_ascii_alphabetic rest) is ∙ are
     kept false x rest is are = are
 
-new_are_letters : (letters : List ℕ) (flags : Flags) → AreLetters (new_letters letters flags)
+pub new_are_letters : (letters : List ℕ) (flags : Flags) → AreLetters (new_letters letters flags)
 new_are_letters letters flags = all_filter letters flags alphabet refl
 
-lacks_other : (other : ℕ) → is_ascii_alphabetic other ≡ false → (letters : List ℕ) → AreLetters letters → holds other letters ≡ false
+pub lacks_other : (other : ℕ) → is_ascii_alphabetic other ≡ false → (letters : List ℕ) → AreLetters letters → holds other letters ≡ false
 lacks_other other not_one [] are = refl
 lacks_other other not_one (b ∷ letters) are =
     let p = and_parts (is_ascii_alphabetic b) (list_all is_ascii_alphabetic letters) are in
@@ -59,12 +59,12 @@ lacks_other other not_one (b ∷ letters) are =
     (false_from_ne_true (b == other) (λ e. false≢true (sym not_one ∙ (sym (ap is_ascii_alphabetic (eqb-true b other e)) ∙ p.0))))
     (lacks_other other not_one letters p.1)
 
-stem_slash : (name : List ℕ) (found : Option (List ℕ × List ℕ)) → Joins 58 name found → holds 47 name ≡ false → holds 47 (stem_at name found) ≡ false
+pub stem_slash : (name : List ℕ) (found : Option (List ℕ × List ℕ)) → Joins 58 name found → holds 47 name ≡ false → holds 47 (stem_at name found) ≡ false
 stem_slash name None joins slash = slash
 stem_slash name (Some cut) joins slash = (slash_parts cut.0 (58 ∷ cut.1) (sym (ap (holds 47) joins) ∙ slash)).0
 
 -- the letters of a name that is written
-letters_again : (name letters : List ℕ) → AreLetters letters → letters_of (marked name letters) ≡ letters
+pub letters_again : (name letters : List ℕ) → AreLetters letters → letters_of (marked name letters) ≡ letters
 letters_again name letters are =
     ap letters_at (ap (cut_last 58) (append_assoc (stem_of name) (codes ":2,") letters) ∙ cut_again 58 (stem_of name) (50 ∷ 44 ∷ letters) (lacks_other 58 refl letters are))
     ∙ ap (λ b. if b then letters else []) are
@@ -74,7 +74,7 @@ name_again folder name letters are slash =
     ap (last_part (folder ++ 47 ∷ marked name letters)) (cut_again 47 folder (marked name letters)
     (slash_join (stem_of name ++ codes ":2,") letters (slash_join (stem_of name) (codes ":2,") (stem_slash name (cut_last 58 name) (cut_joins 58 name) slash) refl) (lacks_other 47 refl letters are)))
 
-one : (letters : List ℕ) (flags : Flags) (letter : ℕ) (is : Bool) → is_carried letters flags letter ≡ is → holds letter alphabet ≡ true → holds letter (new_letters letters flags) ≡ is
+pub one : (letters : List ℕ) (flags : Flags) (letter : ℕ) (is : Bool) → is_carried letters flags letter ≡ is → holds letter alphabet ≡ true → holds letter (new_letters letters flags) ≡ is
 one letters flags letter is carried known = holds_filter (is_carried letters flags) letter alphabet ∙ ap (λ b. is_carried letters flags letter && b) known ∙ and-true (is_carried letters flags letter) ∙ carried
 
 pub what_is_written_is_read : (folder name : List ℕ) (flags : Flags) → holds 47 name ≡ false

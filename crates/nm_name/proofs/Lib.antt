@@ -1,3 +1,4 @@
 mod CutLemmas
 mod LawLemmas
+mod OwnLemmas
 pub mod PathLemmas

@@ -29,6 +29,10 @@ alphabet = codes "ABCDEFGHIJKLMNOPQRSTUVWXYZabcdefghijklmnopqrstuvwxyz"
 abbrev pub AreLetters : List ℕ → Type 0
 AreLetters letters = list_all is_ascii_alphabetic letters ≡ true
 
+-- letters in ASCII order, each once: those of the alphabet that stand among them, as they follow one another there
+abbrev pub AreInOrder : List ℕ → Type 0
+AreInOrder letters = filter (λ letter. holds letter letters) alphabet ≡ letters
+
 -- a letter: one of the five where it is asked for, any other where it stands in the name
 abbrev pub is_carried : List ℕ → Flags → ℕ → Bool
 is_carried letters flags letter = is_ascii_alphabetic letter && (if is_asked letter then is_set flags letter else holds letter letters)

@@ -1,15 +1,25 @@
 //! What names and flags come to. These functions run no code: their clauses are the laws.
 
-ghost use Rattle.std.specs.Prelude.{◌≡◌, ℕ, List, ◌++◌, ◌∷◌, false};
+ghost use Rattle.std.specs.Prelude.{◌≡◌, ◌≢◌, ℕ, List, ◌++◌, ◌∷◌, false, codes};
 ghost use Rattle.nm_name.specs.Cuts.{holds};
-ghost use Rattle.nm_name.specs.Names.{flags_of, letters_of};
-ghost use Rattle.nm_name.specs.Renaming.{AreLetters, is_asked, marked, may_be_renamed, new_letters, renamed};
+ghost use Rattle.nm_name.specs.Names.{flags_of, flags_of_letters, letters_of, name_of};
+ghost use Rattle.nm_name.specs.Renaming.{AreInOrder, AreLetters, is_asked, marked, may_be_renamed, new_letters, renamed};
 ghost use Rattle.nm_name.specs.declared.flags.Flags.{Flags};
 
-/// A name that is written carries the flags that were asked for, and T where it had it.
+/// A name that is written carries the flags that were asked for, and T where it had it. So each path that is changed does.
 pub fn what_is_written_is_read()
-    ensures { (folder name : List ℕ) (flags : Flags) → holds 47 name ≡ false
+    ensures name { (folder name : List ℕ) (flags : Flags) → holds 47 name ≡ false
         → flags_of (folder ++ 47 ∷ marked name (new_letters (letters_of name) flags)) ≡ record flags { trashed = holds 84 (letters_of name) } }
+    ensures path { (path : List ℕ) (flags : Flags) → renamed path flags ≢ path → flags_of (renamed path flags) ≡ record flags { trashed = (flags_of path).trashed } }
+{}
+
+/// A path that carries the flags is left alone: one that was renamed for them stays, and so does one in `cur` whose letters say
+/// them and stand in ASCII order, each once.
+pub fn a_path_that_carries_its_flags_stays()
+    ensures again { (path : List ℕ) (flags : Flags) → renamed (renamed path flags) flags ≡ renamed path flags }
+    ensures own { (folder stem letters : List ℕ) (flags : Flags) → name_of folder ≡ codes "cur" → holds 47 stem ≡ false → AreLetters letters → AreInOrder letters
+        → flags_of_letters letters ≡ record flags { trashed = holds 84 letters }
+        → renamed (folder ++ 47 ∷ (stem ++ codes ":2," ++ letters)) flags ≡ folder ++ 47 ∷ (stem ++ codes ":2," ++ letters) }
 {}
 
 /// Letters other than the five stay as they are.

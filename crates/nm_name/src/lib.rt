@@ -8,6 +8,9 @@ mod names;
 mod renaming;
 
 pub use flags::Flags;
-pub use laws::{a_name_that_may_not_be_renamed_stays, other_letters_stay, what_is_written_is_read};
+pub use laws::{
+    a_name_that_may_not_be_renamed_stays, a_path_that_carries_its_flags_stays, other_letters_stay,
+    what_is_written_is_read,
+};
 pub use names::parse_name;
 pub use renaming::{NameError, with_flags};
