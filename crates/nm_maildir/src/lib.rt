@@ -9,12 +9,14 @@ mod given;
 mod maildir;
 mod memory_files;
 mod names;
+mod shift_tree;
 mod still_tree;
 
 pub use answers::{Got, Listing, MailError, Renamed};
 pub use folder_mail::FolderMail;
 pub use given::{Given, ReadAnswer};
 pub use maildir::{MailFolder, Maildir};
+pub use shift_tree::ShiftTree;
 pub use still_tree::StillTree;
 
 #[cfg(test)]
