@@ -1,6 +1,7 @@
 pub mod ApartLemmas
 pub mod FitLemmas
 pub mod FoldLemmas
+pub mod KeptLemmas
 pub mod MovingLemmas
 pub mod NumberLemmas
 pub mod OrderLemmas

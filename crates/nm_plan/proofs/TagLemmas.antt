@@ -151,12 +151,12 @@ module _ (others : (index : Base) (id other : List ℕ) (tags : Texts) → same_
   entry-tags true index id = refl
   entry-tags false index id = refl
 
-  entries-tags : (ids : Texts) (index : Base) → (fold with_entry index ids).tags ≡ index.tags
+  pub entries-tags : (ids : Texts) (index : Base) → (fold with_entry index ids).tags ≡ index.tags
   entries-tags [] index = refl
   entries-tags (id ∷ ids) index = entries-tags ids (with_entry index id) ∙ entry-tags (has_entry index id) index id
 
   -- a mail that comes gives first tags to its own message alone
-  mail-tags : (index : Base) (path : List ℕ) (facts : Facts) (id : List ℕ) → same_text id facts.id ≡ false → tags_of (with_mail index path facts) id ≡ tags_of index id
+  pub mail-tags : (index : Base) (path : List ℕ) (facts : Facts) (id : List ℕ) → same_text id facts.id ≡ false → tags_of (with_mail index path facts) id ≡ tags_of index id
   mail-tags index path facts id apart =
       let mid : Base = fold with_entry index (facts.id ∷ facts.links) in
       other-by (has_id mid.files facts.id) mid facts.id id (first_tags facts.marks) apart ∙ ap (λ (t : Tagged). unwrap_or (lookup (is_at (slice_cmp nat_cmp id)) t) []) (entries-tags (facts.id ∷ facts.links) index)

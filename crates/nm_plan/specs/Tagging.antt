@@ -1,5 +1,5 @@
 -- The commit that sets the tags that are wanted. What is wanted stands in an index, in the place of its tags.
-use Rattle.std.specs.Prelude.{ℕ, List, [], ◌∷◌}
+use Rattle.std.specs.Prelude.{List, [], ◌∷◌}
 use Rattle.std.specs.List.{flat_map}
 use Rattle.nm_answer.specs.View.{tags_of}
 use Rattle.nm_commit.specs.declared.change.Change.{Change}

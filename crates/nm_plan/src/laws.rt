@@ -2,11 +2,13 @@
 
 ghost use Rattle.std.specs.Prelude.{◌≡◌, ◌&&◌, ◌||◌, ◌++◌, ◌∷◌, ℕ, IsTrue, List, false, fold};
 ghost use Rattle.std.specs.List.{AllByRecursion};
-ghost use Rattle.nm_base.specs.Order.{has_text};
+ghost use Rattle.nm_base.specs.Order.{IsSorted, has_text};
+ghost use Rattle.nm_base.specs.Tags.{has_tag};
 ghost use Rattle.nm_base.specs.declared.facts.Facts.{Facts};
 ghost use Rattle.nm_commit.specs.Files.{has_id, has_path, paths_of};
 ghost use Rattle.nm_commit.specs.declared.change.Change.{Change};
 ghost use Rattle.nm_commit.specs.declared.change.Commit.{Commit};
+ghost use Rattle.nm_flags.specs.Following.{five_tags};
 ghost use Rattle.nm_index.specs.Index.{applied, empty_index, folded};
 ghost use Rattle.nm_index.specs.declared.base.Base.{Base};
 ghost use Rattle.nm_index.specs.Fits.{FitInTurn};
@@ -14,9 +16,11 @@ ghost use Rattle.nm_plan.specs.Apart.{AreApart};
 ghost use Rattle.nm_plan.specs.Numbering.{AreNumbered};
 ghost use Rattle.nm_answer.specs.View.{tags_of};
 ghost use Rattle.nm_plan.specs.NameTags.{commit_of, live_of, named_tags};
-ghost use Rattle.nm_plan.specs.Plan.{AreAdded, all_added, batch_commit, batch_commits, files_after_new, new_commits};
+ghost use Rattle.nm_plan.specs.Plan.{AreAdded, all_added, batch_commit, batch_commits, files_after_new, new_commits, removed_commit, removed_files};
 
-use nm_index::{files_follow_their_commits, tags_of_others_stay};
+use nm_flags::only_the_five_tags_follow_the_names;
+use nm_index::{files_follow_their_changes, files_follow_their_commits, tags_of_others_stay};
+use nm_tags::tags_stay_in_order;
 
 /// The commits of `new` fit the index, one after the other.
 pub fn new_commits_fit()
@@ -67,7 +71,8 @@ pub fn files_stay_apart()
 }
 
 /// A commit gives each message that it is about, and that has a file, the tags that the names of its files say; it sets no tags of
-/// any other message. So what has come leaves the tags of all messages that none of it is of.
+/// any other message. So what has come leaves the tags of all messages that none of it is of, and what is gone those of each that
+/// loses no file.
 pub fn tags_follow_the_names()
     ensures followed { (index : Base) (change : Change) (changes : List Change) (ids : List (List ℕ)) (id : List ℕ) → AreNumbered index
         → IsTrue (has_text (live_of (fold applied index (change ∷ changes)) ids) id)
@@ -76,6 +81,25 @@ pub fn tags_follow_the_names()
         → tags_of (folded index (commit_of index (change ∷ changes) ids)) id ≡ tags_of (fold applied index (change ∷ changes)) id }
     ensures added { (index : Base) (added : List (List ℕ × Facts)) (id : List ℕ) → has_id added id ≡ false
         → tags_of (folded index (batch_commit index added)) id ≡ tags_of index id }
+    ensures removed { (index : Base) (files : List (List ℕ × Facts)) (listed : List (List ℕ)) (id : List ℕ) → has_id (removed_files files listed) id ≡ false
+        → IsTrue (has_id (folded index (removed_commit index files listed)).files id)
+        → tags_of (folded index (removed_commit index files listed)) id ≡ tags_of index id }
 {
+    files_follow_their_changes();
+    files_follow_their_commits();
     tags_of_others_stay();
+}
+
+/// Over all commits of a `new` a message that has a file before them and has one after them, the same or another, keeps each tag
+/// but the five that follow the names of files.
+pub fn a_message_that_stays_keeps_its_tags()
+    ensures { (index : Base) (listed : List (List ℕ)) (batches : List (List (List ℕ × Facts))) (id tag : List ℕ) → IsSorted (tags_of index id) → has_text five_tags tag ≡ false
+        → IsTrue (has_id index.files id) → IsTrue (has_id (folded index (new_commits index listed batches)).files id)
+        → has_tag (tags_of (folded index (new_commits index listed batches)) id) tag ≡ has_tag (tags_of index id) tag }
+{
+    files_follow_their_changes();
+    files_follow_their_commits();
+    tags_of_others_stay();
+    tags_stay_in_order();
+    only_the_five_tags_follow_the_names();
 }
