@@ -6,7 +6,6 @@ use Rattle.std.proofs.lemmas.List.Elements.{filter-append}
 use Rattle.nm_base.specs.declared.limit.Limit.{Limit}
 use Rattle.nm_base.specs.MailPath.{is_mail_path}
 use Rattle.nm_maildir.specs.Tree.{Tree, listing_of}
-use Rattle.nm_maildir.specs.declared.answers.Listing.{Listing}
 use Rattle.nm_scan.specs.Walking.{Met, Walks, counts, file, folder, folder_inside, inside, is_walked, mail_met, met_in, not_begun, part_met, paths_in, paths_walked, scanned, to_come, walked, walked_through, with_folder, with_met}
 use Rattle.nm_scan.specs.declared.scan_error.ScanError.{ScanError}
 use Rattle.nm_scan.specs.declared.scan_error.ScanError.TheVariants as errors
@@ -112,23 +111,23 @@ in-folder : (walk at : Walk) (levels : ℕ) (tree : Tree) (dir : List ℕ) → w
 in-folder walk at levels tree dir h = ap (walked walk) (folder-first levels tree dir) ∙ ap (λ (r : Result Walk Limit). fold with_met r (behind levels tree dir)) h
 
 -- the mail in `new` passes a limit
-pub new-stops : (told : Option Tree) (walk at new : Walk) (levels below : ℕ) (dir : List ℕ) (listing : Listing) (error : ScanError) → levels ≡ suc below → with_folder levels walk ≡ Ok at → IfSome told (λ t. listing ≡ listing_of t dir)
-    → IfSome told (λ t. listing ≡ listing_of t dir → Walks {T = Unit {0}} (walked at (part_met below t dir (codes "new"))) (Err error) new)
+pub new-stops : (told : Option Tree) (walk at new : Walk) (levels below : ℕ) (dir : List ℕ) (dirs : List (List ℕ)) (error : ScanError) → levels ≡ suc below → with_folder levels walk ≡ Ok at → IfSome told (λ t. dirs ≡ (listing_of t dir).dirs)
+    → IfSome told (λ t. dirs ≡ (listing_of t dir).dirs → Walks {T = Unit {0}} (walked at (part_met below t dir (codes "new"))) (Err error) new)
     → (limit : Limit) → Told error (errors.Limit limit) → IfSome told (λ t. walked walk (met_in levels t dir) ≡ Err limit)
-new-stops None walk at new levels below dir listing error some here is part limit e = tt
-new-stops (Some t) walk at new levels below dir listing error some here is part limit e =
+new-stops None walk at new levels below dir dirs error some here is part limit e = tt
+new-stops (Some t) walk at new levels below dir dirs error some here is part limit e =
     ap (λ (n : ℕ). walked walk (met_in n t dir)) some
     ∙ (in-folder walk at (suc below) t dir (subst (λ (n : ℕ). with_folder n walk ≡ Ok at) some here)
     ∙ walked-stays at limit (part_met below t dir (codes "new")) (part_met below t dir (codes "cur") ++ flat_map (λ name. met_in below t (inside dir name)) (filter is_walked (listing_of t dir).dirs))
     (limit-is (walked at (part_met below t dir (codes "new"))) error limit new (part is) e))
 
 -- the mail in `cur` passes a limit
-pub cur-stops : (told : Option Tree) (walk at past new : Walk) (levels below : ℕ) (dir : List ℕ) (listing : Listing) (error : ScanError) → levels ≡ suc below → with_folder levels walk ≡ Ok at → IfSome told (λ t. listing ≡ listing_of t dir)
-    → IfSome told (λ t. listing ≡ listing_of t dir → walked at (part_met below t dir (codes "new")) ≡ Ok past)
-    → IfSome told (λ t. listing ≡ listing_of t dir → Walks {T = Unit {0}} (walked past (part_met below t dir (codes "cur"))) (Err error) new)
+pub cur-stops : (told : Option Tree) (walk at past new : Walk) (levels below : ℕ) (dir : List ℕ) (dirs : List (List ℕ)) (error : ScanError) → levels ≡ suc below → with_folder levels walk ≡ Ok at → IfSome told (λ t. dirs ≡ (listing_of t dir).dirs)
+    → IfSome told (λ t. dirs ≡ (listing_of t dir).dirs → walked at (part_met below t dir (codes "new")) ≡ Ok past)
+    → IfSome told (λ t. dirs ≡ (listing_of t dir).dirs → Walks {T = Unit {0}} (walked past (part_met below t dir (codes "cur"))) (Err error) new)
     → (limit : Limit) → Told error (errors.Limit limit) → IfSome told (λ t. walked walk (met_in levels t dir) ≡ Err limit)
-cur-stops None walk at past new levels below dir listing error some here is first part limit e = tt
-cur-stops (Some t) walk at past new levels below dir listing error some here is first part limit e =
+cur-stops None walk at past new levels below dir dirs error some here is first part limit e = tt
+cur-stops (Some t) walk at past new levels below dir dirs error some here is first part limit e =
     let others : List Met = flat_map (λ name. met_in below t (inside dir name)) (filter is_walked (listing_of t dir).dirs) in
     ap (λ (n : ℕ). walked walk (met_in n t dir)) some
     ∙ (in-folder walk at (suc below) t dir (subst (λ (n : ℕ). with_folder n walk ≡ Ok at) some here)
@@ -136,13 +135,13 @@ cur-stops (Some t) walk at past new levels below dir listing error some here is 
     ∙ walked-stays past limit (part_met below t dir (codes "cur")) others (limit-is (walked past (part_met below t dir (codes "cur"))) error limit new (part is) e)))
 
 -- a folder was listed with its mail, and its others are pending
-pub folder-done : (told : Option Tree) (walk at past new : Walk) (levels below : ℕ) (dir lent_dir : List ℕ) (listing : Listing) (lent_names : List (List ℕ)) (pending left : List Folder) → levels ≡ suc below → with_folder levels walk ≡ Ok at → IfSome told (λ t. listing ≡ listing_of t dir)
-    → IfSome told (λ t. listing ≡ listing_of t dir → walked at (part_met below t dir (codes "new")) ≡ Ok past)
-    → IfSome told (λ t. listing ≡ listing_of t dir → walked past (part_met below t dir (codes "cur")) ≡ Ok new)
-    → lent_dir ≡ dir → lent_names ≡ listing.dirs → reverse left ≡ map (folder_inside below lent_dir) (filter is_walked lent_names) ++ reverse pending
+pub folder-done : (told : Option Tree) (walk at past new : Walk) (levels below : ℕ) (dir lent_dir : List ℕ) (dirs : List (List ℕ)) (lent_names : List (List ℕ)) (pending left : List Folder) → levels ≡ suc below → with_folder levels walk ≡ Ok at → IfSome told (λ t. dirs ≡ (listing_of t dir).dirs)
+    → IfSome told (λ t. dirs ≡ (listing_of t dir).dirs → walked at (part_met below t dir (codes "new")) ≡ Ok past)
+    → IfSome told (λ t. dirs ≡ (listing_of t dir).dirs → walked past (part_met below t dir (codes "cur")) ≡ Ok new)
+    → lent_dir ≡ dir → lent_names ≡ dirs → reverse left ≡ map (folder_inside below lent_dir) (filter is_walked lent_names) ++ reverse pending
     → IfSome told (λ t. walked walk (met_in levels t dir ++ to_come t (reverse pending)) ≡ walked new (to_come t (reverse left)))
-folder-done None walk at past new levels below dir lent_dir listing lent_names pending left some here is first second same_dir same_names pushed = tt
-folder-done (Some t) walk at past new levels below dir lent_dir listing lent_names pending left some here is first second same_dir same_names pushed =
+folder-done None walk at past new levels below dir lent_dir dirs lent_names pending left some here is first second same_dir same_names pushed = tt
+folder-done (Some t) walk at past new levels below dir lent_dir dirs lent_names pending left some here is first second same_dir same_names pushed =
     let names : List (List ℕ) = filter is_walked (listing_of t dir).dirs in
     let others : List Met = flat_map (λ name. met_in below t (inside dir name)) names in
     let one : List Met = part_met below t dir (codes "new") in
@@ -155,7 +154,7 @@ folder-done (Some t) walk at past new levels below dir lent_dir listing lent_nam
     ∙ (ap (walked past) (append_assoc two others after_it)
     ∙ (walked-on past new two (others ++ after_it) (second is)
     ∙ (ap (walked new) (others-come below t dir names (reverse pending))
-    ∙ ap (λ (l : List Folder). walked new (to_come t l)) (ap (λ (l : Listing). map (folder_inside below dir) (filter is_walked l.dirs) ++ reverse pending) (sym is)
+    ∙ ap (λ (l : List Folder). walked new (to_come t l)) (ap (λ (l : List (List ℕ)). map (folder_inside below dir) (filter is_walked l) ++ reverse pending) (sym is)
     ∙ (ap (λ (l : List (List ℕ)). map (folder_inside below dir) (filter is_walked l) ++ reverse pending) (sym same_names)
     ∙ (ap (λ (l : List ℕ). map (folder_inside below l) (filter is_walked lent_names) ++ reverse pending) (sym same_dir) ∙ sym pushed)))))))))
 

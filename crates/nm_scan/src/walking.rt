@@ -1,16 +1,18 @@
-//! The walk through a tree of Maildirs; `new` begins with it. A folder's listing is let go once its names are taken.
+//! The walk through a tree of Maildirs; `new` begins with it. A listing is let go once its names are taken; of a folder that is
+//! walked through the names of files go before its mail is listed.
 
 ghost use Rattle.std.specs.Prelude.{IsTrue, ◌≡◌, ◌-◌, ◌<◌, ◌≤◌, ◌++◌, ◌∷◌, [], false, IfErr, IfOk, IfSome, OnErr, OnOk, filter, map, Ok, Err, reverse};
 ghost use Rattle.nm_base.specs.Limits.{max_folders};
 ghost use Rattle.nm_base.specs.Order.{has_text};
 ghost use Rattle.nm_base.specs.declared.limit.Limit.{Limit};
 ghost use Rattle.nm_faults.specs.Faults.{HasCauseOf};
+ghost use Rattle.nm_maildir.specs.Observed.{KeepsMail};
 ghost use Rattle.nm_maildir.specs.Tree.{listing_of};
 ghost use Rattle.nm_scan.specs.Walking.{Walks, counts, file, folder_inside, inside, is_scan_fault, is_walk_error, is_walked, mail_met, met_in, part_met, paths_in, scanned, to_come, walked, with_folder};
 
 use crate::ScanError;
 use nm_base::{Limit, MailPath, Many, NoMemory, Text, TextSet};
-use nm_maildir::{Listing, Maildir};
+use nm_maildir::{Listing, MailError, Maildir};
 use std::alloc::Global;
 
 /// The most files that a walk lists.
@@ -93,13 +95,13 @@ fn walk_folder<M: Maildir>(
         Ok(()) => {}
         Err(error) => return Err(error),
     }
-    let listing = mail.list(&folder.path)?;
+    let dirs = list_dirs(mail, &folder.path)?;
     let levels = folder.levels - 1;
-    match walk_part(alloc, mail, folder, &listing, "new", walk) {
+    match walk_part(alloc, mail, folder, &dirs, "new", walk) {
         Ok(()) => {}
         Err(error) => return Err(error),
     }
-    match walk_part(alloc, mail, folder, &listing, "cur", walk) {
+    match walk_part(alloc, mail, folder, &dirs, "cur", walk) {
         Ok(()) => {}
         Err(error) => return Err(error),
     }
@@ -107,10 +109,21 @@ fn walk_folder<M: Maildir>(
         alloc,
         folder.path.as_str(),
         levels,
-        listing.dirs.as_slice(),
+        dirs.as_slice(),
         pending,
     )?;
     Ok(())
+}
+
+/// The folders in a folder. A folder that is walked through has no mail of its own, so the names of its files are let go.
+fn list_dirs<M: Maildir>(mail: &mut M, dir: &Text) -> Result<Many<Text>, MailError>
+    ensures dirs { IfOk result (λ dirs. IfSome (M.observed mail.old).tree (λ t. dirs ≡ (listing_of t dir.now).dirs)) }
+    ensures keeps { KeepsMail (M.observed mail.old) (M.observed mail.new) result }
+{
+    match mail.list(dir) {
+        Ok(Listing { dirs, files: _ }) => Ok(dirs),
+        Err(error) => Err(error),
+    }
 }
 
 /// One folder more is listed.
@@ -138,12 +151,12 @@ fn walk_part<M: Maildir>(
     alloc: Global,
     mail: &mut M,
     folder: &Folder,
-    listing: &Listing,
+    dirs: &Many<Text>,
     name: &str,
     walk: &mut Walk,
 ) -> Result<(), ScanError>
     requires some { 0 < folder.now.levels }
-    ensures walks { IfSome (M.observed mail.old).tree (λ t. listing.now ≡ listing_of t folder.now.path
+    ensures walks { IfSome (M.observed mail.old).tree (λ t. dirs.now ≡ (listing_of t folder.now.path).dirs
         → Walks (walked walk.old (part_met (folder.now.levels - 1) t folder.now.path name.now)) result walk.new) }
     ensures more { walk.old.folders ≤ walk.new.folders }
     ensures few { walk.old.folders ≤ max_folders → walk.new.folders ≤ max_folders }
@@ -152,7 +165,7 @@ fn walk_part<M: Maildir>(
     ensures kind { IfErr result (λ error. IsTrue (is_walk_error error)) }
     ensures cause { HasCauseOf is_scan_fault (M.observed mail.old).faults (M.observed mail.new).faults result }
 {
-    if !has_name(listing.dirs.as_slice(), name) {
+    if !has_name(dirs.as_slice(), name) {
         return Ok(());
     }
     walk_mail(alloc, mail, folder, name, walk)
