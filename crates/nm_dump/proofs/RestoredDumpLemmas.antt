@@ -22,7 +22,11 @@ use Rattle.nm_dump.proofs.OrderLemmas.{distinct_sorted, none_sorted, sorted_sort
 use Rattle.nm_dump.proofs.RestoreLemmas.{restored}
 use Rattle.nm_dump.proofs.RestoredLemmas.{after_lines}
 use Rattle.nm_index.specs.Valid.{IsValid}
+use Rattle.nm_index.specs.Index.{folded}
 use Rattle.nm_index.specs.declared.base.Base.{Base}
+use Rattle.nm_plan.specs.Numbering.{AreNumbered}
+use Rattle.nm_plan.specs.Tagging.{tag_commit}
+use Rattle.nm_answer.specs.declared.tagging.Tagging.{Tagging}
 use Rattle.nm_tags.specs.Operations.{after_ops, begun_with}
 use Rattle.nm_tags.specs.declared.line_error.LineKind.{LineKind}
 use Rattle.nm_tags.specs.declared.wanted.Wanted.{Wanted}
@@ -136,4 +140,15 @@ pub tagged_once : (index : Base) (ids : Texts) → IsValid index → StandOnce (
 tagged_once index ids valid = (
   subst (IsDistinct same_text) (sym (ids_tagged index (sorted ids))) (distinct_sorted (sorted ids) (sorted_sorted ids)),
   all_sorted index (sorted ids) valid.sets,
+)
+
+-- and once the commit of tags is made they have them in the index
+pub all_committed : (lines : (moment : ℤ) (index : Base) (lines : List Tagging) (id : List ℕ) → AreNumbered index
+    → tags_of (folded index (tag_commit index (wanted_by moment index lines))) id ≡ tags_of (wanted_by moment index lines) id)
+    (moment : ℤ) (index : Base) → AreNumbered index → (asked : List Tagging) (messages : List Message) → HaveTheirTags index (wanted_by moment index asked) messages
+    → HaveTheirTags index (folded index (tag_commit index (wanted_by moment index asked))) messages
+all_committed lines moment index numbered asked [] have = tt
+all_committed lines moment index numbered asked (message ∷ messages) have = (
+  λ here. lines moment index asked message.0 numbered ∙ have.0 here,
+  all_committed lines moment index numbered asked messages have.1,
 )

@@ -1,10 +1,14 @@
 -- What a `restore` comes to: the tags that each message then has.
-use Rattle.std.specs.Prelude.{◌≡◌, ℕ, Bool, ◌&&◌, not, List, fold, map, IsTrue}
+use Rattle.std.specs.Prelude.{◌≡◌, ℕ, ℤ, Bool, ◌&&◌, not, List, fold, map, IsTrue}
 use Rattle.std.specs.List.{AllByRecursion, IsDistinct, filter, list_any}
+use Rattle.nm_answer.specs.Restore.{restorings_of}
+use Rattle.nm_answer.specs.Tagging.{wanted_by}
 use Rattle.nm_answer.specs.View.{tags_of}
 use Rattle.nm_base.specs.Order.{IsSorted, has_text, same_text}
-use Rattle.nm_index.specs.Index.{live_ids}
+use Rattle.nm_base.specs.declared.asks.RestoreAsk.{RestoreAsk}
+use Rattle.nm_index.specs.Index.{folded, live_ids}
 use Rattle.nm_index.specs.declared.base.Base.{Base}
+use Rattle.nm_plan.specs.Tagging.{tag_commit}
 use Rattle.nm_tags.specs.Operations.{after_ops, begun_with}
 use Rattle.nm_tags.specs.declared.wanted.Wanted.{Wanted}
 
@@ -32,3 +36,7 @@ StandOnce messages = IsDistinct same_text (map (λ message. message.0) messages)
 -- each of these messages that is live in the index has just these tags in what is wanted
 abbrev pub HaveTheirTags : Base → Base → List (List ℕ × List (List ℕ)) → Type 0
 HaveTheirTags index wanted messages = AllByRecursion (λ message. IsTrue (is_live index message.0) → tags_of wanted message.0 ≡ message.1) messages
+
+-- the index after the commit of what the lines of a `restore` want
+abbrev pub after_restore : ℤ → Base → RestoreAsk → List ℕ → Base
+after_restore moment index ask input = folded index (tag_commit index (wanted_by moment index (restorings_of ask input)))

@@ -24,6 +24,9 @@ pub fn dump(
 ) -> Result<Many<u8>, NoMemory>
     ensures text { IfOk result (λ text. text ≡ dump form snapshot.now ids.now) }
 
+    // All ids and tags are those of a program, as the laws on a restore ask for.
+    ensures messages { OnOk result (AreMessages (tagged snapshot.now (sorted ids.now))) }
+
     // Read again it sets the tags of each message, once and in order.
     ensures changes { form ≡ DumpForm.BatchTag → IfOk result (λ text. read_dump text ReadForm.BatchTag ≡ Ok (wanted_from 2 (tagged snapshot.now (sorted ids.now)))) }
     ensures told { form ≡ DumpForm.BatchTag → IfOk result (λ text. read_dump text ReadForm.Auto ≡ Ok (wanted_from 2 (tagged snapshot.now (sorted ids.now)))) }

@@ -19,4 +19,7 @@ pub use laws::{
 pub use reading::read_dump;
 pub use reply::dump_reply;
 pub use restore::{DumpChanges, restoring};
-pub use restore_laws::{a_dump_restores_its_tags, a_restore_sets_the_tags_of_each_message};
+pub use restore_laws::{
+    a_dump_restores_its_tags, a_restore_sets_the_tags_of_each_message,
+    a_restored_dump_is_in_the_index,
+};

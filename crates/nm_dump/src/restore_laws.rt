@@ -7,14 +7,15 @@ ghost use Rattle.nm_answer.specs.Tagging.{wanted_by};
 ghost use Rattle.nm_answer.specs.View.{tags_of};
 ghost use Rattle.nm_base.specs.Order.{sorted};
 ghost use Rattle.nm_dump.specs.ReadBack.{wanted_from, AreFitForSup, AreMessages};
-ghost use Rattle.nm_dump.specs.Restored.{is_live, is_named_in, restored_tags, HaveTheirTags, StandOnce};
+ghost use Rattle.nm_dump.specs.Restored.{after_restore, is_live, is_named_in, restored_tags, HaveTheirTags, StandOnce};
 ghost use Rattle.nm_index.specs.Valid.{IsValid};
 ghost use Rattle.nm_index.specs.declared.base.Base.{Base};
+ghost use Rattle.nm_plan.specs.Numbering.{AreNumbered};
 ghost use Rattle.nm_tags.specs.declared.wanted.Wanted.{Wanted};
 
 use crate::laws::{a_written_dump_is_read_back, a_written_sup_dump_is_read_back};
 use nm_base::{DumpForm, ReadForm};
-use nm_plan::a_line_tags_what_it_finds;
+use nm_plan::{a_line_tags_what_it_finds, the_commit_of_tags_leaves_what_is_wanted};
 
 /// After the lines of a dump each live message has the tags that its lines say. A message that no line names keeps its tags,
 /// and so does one that has no file.
@@ -40,8 +41,22 @@ pub fn a_dump_restores_its_tags()
         → HaveTheirTags index (wanted_by moment index (restorings_of (record { form = ReadForm.Sup; accumulate = false }) (dump_text DumpForm.Sup messages))) messages }
     ensures index { (moment : ℤ) (old index : Base) (form : ReadForm) (ids : List (List ℕ)) → form ≢ ReadForm.Sup → IsValid old → AreMessages (tagged old (sorted ids))
         → HaveTheirTags index (wanted_by moment index (restorings_of (record { form = form; accumulate = false }) (dump DumpForm.BatchTag old ids))) (tagged old (sorted ids)) }
+    ensures index_sup { (moment : ℤ) (old index : Base) (ids : List (List ℕ)) → IsValid old → AreMessages (tagged old (sorted ids)) → AreFitForSup (tagged old (sorted ids))
+        → HaveTheirTags index (wanted_by moment index (restorings_of (record { form = ReadForm.Sup; accumulate = false }) (dump DumpForm.Sup old ids))) (tagged old (sorted ids)) }
 {
     a_restore_sets_the_tags_of_each_message();
     a_written_dump_is_read_back();
     a_written_sup_dump_is_read_back();
+}
+
+/// And so it stands in the index once the commit of the restore is made: each message of the dump that is live has the tags
+/// that it had in the index which the dump is of.
+pub fn a_restored_dump_is_in_the_index()
+    ensures changes { (moment : ℤ) (old index : Base) (form : ReadForm) (ids : List (List ℕ)) → form ≢ ReadForm.Sup → IsValid old → AreMessages (tagged old (sorted ids)) → AreNumbered index
+        → HaveTheirTags index (after_restore moment index (record { form = form; accumulate = false }) (dump DumpForm.BatchTag old ids)) (tagged old (sorted ids)) }
+    ensures sup { (moment : ℤ) (old index : Base) (ids : List (List ℕ)) → IsValid old → AreMessages (tagged old (sorted ids)) → AreFitForSup (tagged old (sorted ids)) → AreNumbered index
+        → HaveTheirTags index (after_restore moment index (record { form = ReadForm.Sup; accumulate = false }) (dump DumpForm.Sup old ids)) (tagged old (sorted ids)) }
+{
+    a_dump_restores_its_tags();
+    the_commit_of_tags_leaves_what_is_wanted();
 }

@@ -19,3 +19,8 @@ returns-clause-index c =
     let read = c.a_written_dump_is_read_back.ensures in
     λ moment old index form ids other valid h.
     changes_restored c.a_restore_sets_the_tags_of_each_message.ensures.live read.changes read.told moment index form (tagged old (sorted ids)) other h (tagged_once old ids valid)
+
+pub returns-clause-index_sup : goal.returns-clause-index_sup
+returns-clause-index_sup c =
+    λ moment old index ids valid h fit.
+    sup_restored c.a_restore_sets_the_tags_of_each_message.ensures.live c.a_written_sup_dump_is_read_back.ensures moment index (tagged old (sorted ids)) h fit (tagged_once old ids valid)
