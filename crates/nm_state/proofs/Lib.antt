@@ -17,3 +17,4 @@ pub mod OpeningLemmas
 pub mod NumberLemmas
 pub mod RoomLemmas
 pub mod RenumberLemmas
+pub mod ThreadLemmas

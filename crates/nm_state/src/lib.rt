@@ -14,6 +14,7 @@ mod live_ids;
 mod measured_labels;
 mod measured_map;
 mod measures;
+mod messages;
 mod numbers;
 mod opening;
 mod parts;

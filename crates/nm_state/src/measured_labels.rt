@@ -7,7 +7,7 @@ ghost use Rattle.nm_base.specs.Order.{has_text};
 ghost use Rattle.nm_base.specs.declared.facts.LinkRow.{LinkRow};
 ghost use Rattle.nm_record.specs.BaseBytes.{entry_bytes};
 ghost use Rattle.nm_threads.specs.Entries.{AreEntriesOf};
-ghost use Rattle.nm_threads.specs.Labels.{AreLabelsOf, IsLabelling, entries_of, has_entry, numbered};
+ghost use Rattle.nm_threads.specs.Labels.{AreLabelsOf, IsLabelling, entries_of, has_entry, named, numbered};
 ghost use Rattle.nm_threads.specs.Name.{thread_name};
 ghost use Rattle.nm_threads.specs.Same.{ids_of, is_same};
 ghost use Rattle.nm_state.specs.Measures.{AreSeen, entries_len, ids_len};
@@ -139,6 +139,21 @@ fn thread_uncounted<L: Ledger>(
     labels.thread_of(id, &mut steps)
 }
 
+/// The ids of the thread of a name, whose steps nobody counts.
+fn members_uncounted<L: Ledger>(
+    labels: &Labels,
+    thread: u64,
+    blank: Blank,
+) -> Result<Many<MessageId>, NoMemory>
+    requires name { blank.name ≡ L.name }
+    requires parts { blank.parts ≡ L.parts }
+    requires whole { 0 < L.parts }
+    ensures { IfOk result (λ ids. ids ≡ map (λ label. label.id) (named thread labels.now.labels)) }
+{
+    let mut steps = Steps::<L>::begin(blank);
+    labels.members(thread, &mut steps)
+}
+
 /// How many bytes these ids with their numbers take.
 fn all_len(entries: &[(MessageId, u64)]) -> Result<u64, NoMemory>
     ensures { IfOk result (λ bytes. bytes ≡ entries_len entries.now) }
@@ -222,6 +237,13 @@ impl MeasuredLabels {
         ensures { IfOk result (λ ids. (rows : List LinkRow) → AreLabelsOf rows self.now.labels → ids ≡ map (λ entry. entry.0) (filter (λ entry. is_same rows id.now entry.0) (entries_of self.now.labels))) }
     {
         thread_uncounted::<Brand>(&self.labels, id, Blank::new(1))
+    }
+
+    /// The ids of the thread of a name, by their numbers; none where no thread has it.
+    pub fn members(&self, thread: u64) -> Result<Many<MessageId>, NoMemory>
+        ensures { IfOk result (λ ids. ids ≡ map (λ label. label.id) (named thread self.now.labels)) }
+    {
+        members_uncounted::<Brand>(&self.labels, thread, Blank::new(1))
     }
 
     /// Adds the row of a mail. Where there was no memory all labels are lost.

@@ -15,13 +15,14 @@ ghost use Rattle.nm_index.specs.Index.{committed, empty_index, has_entry, live_i
 ghost use Rattle.nm_index.specs.Valid.{IsValid};
 ghost use Rattle.nm_record.specs.Room.{limit_passed};
 ghost use Rattle.nm_threads.specs.Name.{thread_name};
-ghost use Rattle.nm_state.specs.Snapshot.{retagged};
+ghost use Rattle.nm_state.specs.Snapshot.{retagged, thread_messages};
 
 use crate::applying::{apply_changes, retag};
 use crate::exporting::base_of;
 use crate::filing::{files_of, has_file, is_live, paths_of};
 use crate::fitting::changes_fit;
 use crate::live_ids::LiveIds;
+use crate::messages::messages_of;
 use crate::numbers::has_ids;
 use crate::opening::parts_of;
 use crate::parts::Parts;
@@ -184,6 +185,14 @@ impl Snapshot {
         ensures { result ≡ thread_name (rows_of self.now) self.now.entries id.now }
     {
         self.parts.labels.name_of(id)
+    }
+
+    /// The messages of the thread of this name that have a file, by their numbers; none where no thread has it. It costs what
+    /// the ids of the thread cost, however many others there are.
+    pub fn thread_messages(&self, name: u64) -> Result<Many<MessageId>, NoMemory>
+        ensures { IfOk result (λ ids. ids ≡ thread_messages self.now name) }
+    {
+        messages_of(self.alloc, &self.parts, name)
     }
 
     /// Says whether the commit has a change, and each fits what those before it leave.

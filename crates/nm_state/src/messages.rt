@@ -1,0 +1,41 @@
+//! The messages of one thread, by its labels: no other thread is looked at.
+
+ghost use Rattle.std.specs.Prelude.{◌≡◌, IfOk};
+ghost use Rattle.std.specs.List.{filter};
+ghost use Rattle.nm_commit.specs.Files.{has_id};
+ghost use Rattle.nm_state.specs.Filing.{AreFiled, files_in};
+ghost use Rattle.nm_state.specs.Parts.{AreParts, base_of};
+ghost use Rattle.nm_state.specs.Snapshot.{thread_messages};
+
+use crate::filing::{Filing, is_live};
+use crate::parts::Parts;
+use nm_base::{Many, MessageId, NoMemory};
+use std::alloc::Global;
+
+/// The messages of the thread of a name that have a file, by their numbers.
+pub fn messages_of(alloc: Global, parts: &Parts, thread: u64) -> Result<Many<MessageId>, NoMemory>
+    requires { AreParts parts.now }
+    ensures { IfOk result (λ ids. ids ≡ thread_messages (base_of parts.now) thread) }
+{
+    let ids = parts.labels.members(thread)?;
+    let live = live_of(alloc, &parts.filing, ids)?;
+    Ok(live)
+}
+
+/// Those of the ids that have a file, in their order.
+fn live_of(
+    alloc: Global,
+    filing: &Filing,
+    ids: Many<MessageId>,
+) -> Result<Many<MessageId>, NoMemory>
+    requires { AreFiled filing.now }
+    ensures { IfOk result (λ live. live ≡ filter (has_id (files_in filing.now)) ids) }
+{
+    let mut live = Many::new(alloc);
+    'ids: for id in ids.into_vec() {
+        if is_live(filing, &id) {
+            live.push(id)?;
+        }
+    }
+    Ok(live)
+}
