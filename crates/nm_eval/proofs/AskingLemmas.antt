@@ -1,18 +1,24 @@
 -- Where all that can be found is one text.
-use Rattle.std.proofs.Common.{◌≡◌, ◌↔◌, refl, sym, ap, subst, ◌∙◌, ℕ, zero, suc, ◌<◌, ℤ, Bool, true, false, ◌&&◌, cond, List, [], ◌∷◌, length, true≢false, arith}
+use Rattle.std.proofs.Common.{◌≡◌, ◌↔◌, refl, sym, ap, subst, ◌∙◌, ℕ, zero, suc, ◌<◌, ℤ, Bool, true, false, ◌&&◌, cond, List, [], ◌∷◌, ◌+◌, length, map, take, Option, Some, None, is_some, true≢false, arith}
 use Rattle.std.specs.Prelude.{slice_index_or, IfOk, IsTrue, Ok, Err}
+use Rattle.std.specs.Result.{is_ok}
 use Rattle.std.specs.List.{AllByRecursion, IsDistinct, list_all}
 use Rattle.std.proofs.lemmas.Bool.{and_from, and_parts, or_left, or_right}
 use Rattle.std.proofs.lemmas.Slice.Eq.{bytes_eq-Decides}
 use Rattle.nm_base.specs.Bounds.{checked, fits_length}
+use Rattle.nm_base.specs.MessageId.{is_id_text, is_message_id}
 use Rattle.nm_base.specs.Order.{has_text, same_text}
 use Rattle.nm_base.specs.declared.names.BadValue.TheVariants.{Byte, Length}
 use Rattle.nm_commit.specs.Files.{has_id}
 use Rattle.nm_index.specs.declared.base.Base.{Base}
 use Rattle.nm_query.specs.declared.query.Query.{Query}
+use Rattle.nm_query.specs.declared.query.Query.TheOpen.{Query-F}
+use Rattle.nm_query.specs.declared.query.Query.TheFolds.{fold-roll-Query}
+use Rattle.nm_query.specs.declared.query.Query.TheVariants as tree
+use Rattle.nm_query.specs.declared.query.Query.TheVariants.{rolls-And, rolls-Id}
 use Rattle.nm_answer.specs.Matches.{is_match, matches_of}
 use Rattle.nm_answer.specs.View.{view_of}
-use Rattle.nm_eval.specs.Asking.{AsksFor}
+use Rattle.nm_eval.specs.Asking.{AsksFor, asked_text, first_some, node_asks}
 
 same_of : (a : List ℕ) → same_text a a ≡ true
 same_of a = (bytes_eq-Decides a a).1 refl
@@ -63,3 +69,46 @@ checked_by false keeps text = tt
 
 pub checked_same : (max : ℕ) (rule : List ℕ → Bool) (text : List ℕ) → IfOk (checked max rule text) (λ id. id ≡ text)
 checked_same max rule text = checked_by (fits_length max text) (rule text) text
+
+checked_ok : (fits keeps : Bool) (text : List ℕ) → is_ok (cond fits (cond keeps (Ok text) (Err Byte)) (Err Length)) ≡ (fits && keeps)
+checked_ok true true text = refl
+checked_ok true false text = refl
+checked_ok false keeps text = refl
+
+-- a text that is checked is one where it passes
+pub checked_is : (text : List ℕ) → is_ok (checked 1000 is_id_text text) ≡ is_message_id text
+checked_is text = checked_ok (fits_length 1000 text) (is_id_text text) text
+
+-- ---- the text that is asked for
+
+pub asked-Id : (text : List ℕ) → asked_text (tree.Id text) ≡ Some text
+asked-Id text = ap asked_text (sym (rolls-Id text)) ∙ fold-roll-Query (Option (List ℕ)) node_asks (Query-F.Id text)
+
+pub asked-And : (queries : List Query) → asked_text (tree.And queries) ≡ first_some (map asked_text queries)
+asked-And queries = ap asked_text (sym (rolls-And queries)) ∙ fold-roll-Query (Option (List ℕ)) node_asks (Query-F.And queries)
+
+-- the first that asks tells it
+first_by : (asked : Option (List ℕ)) (more : List (Option (List ℕ))) (text : List ℕ) → asked ≡ Some text → first_some (asked ∷ more) ≡ Some text
+first_by None more text is = absurd (true≢false (sym (ap is_some is)))
+first_by (Some other) more text is = is
+
+first_after : (asked : Option (List ℕ)) (more : List (Option (List ℕ))) → first_some (asked ∷ more) ≡ None → (asked ≡ None) × (first_some more ≡ None)
+first_after None more none = (refl, none)
+first_after (Some text) more none = absurd (true≢false (ap is_some none))
+
+pub first_found : {X : Type 0} (f : X → Option (List ℕ)) (xs : List X) (i : ℕ) (d : X) (text : List ℕ) → i < length xs → first_some (map f (take i xs)) ≡ None → f (slice_index_or xs i d) ≡ Some text
+    → first_some (map f xs) ≡ Some text
+first_found f [] i d text below none is = absurd (omega (arith, below))
+first_found f (x ∷ xs) zero d text below none is = first_by (f x) (map f xs) text is
+first_found f (x ∷ xs) (suc i) d text below none is =
+    let parts = first_after (f x) (map f (take i xs)) none in
+    ap (λ a. first_some (a ∷ map f xs)) parts.0 ∙ first_found f xs i d text (omega (arith, below)) parts.1 is
+
+pub none_more : {X : Type 0} (f : X → Option (List ℕ)) (xs : List X) (i : ℕ) (d : X) → i < length xs → first_some (map f (take i xs)) ≡ None → f (slice_index_or xs i d) ≡ None
+    → first_some (map f (take (i + 1) xs)) ≡ None
+none_more f [] i d below none is = absurd (omega (arith, below))
+none_more f (x ∷ xs) zero d below none is = ap (λ a. first_some (a ∷ [])) is
+none_more f (x ∷ xs) (suc i) d below none is =
+    let parts = first_after (f x) (map f (take i xs)) none in
+    let next : suc i + 1 ≡ suc (i + 1) = omega arith in
+    ap (λ n. first_some (map f (take n (x ∷ xs)))) next ∙ ap (λ a. first_some (a ∷ map f (take (i + 1) xs))) parts.0 ∙ none_more f xs i d (omega (arith, below)) parts.1 is

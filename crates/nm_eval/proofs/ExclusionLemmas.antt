@@ -1,6 +1,5 @@
 -- The two tags that exclude, one by one.
-use Rattle.std.proofs.Common.{◌≡◌, refl, sym, ap, ◌∙◌, ℤ, Bool, true, false, not, cond, ◌&&◌, ◌||◌, [], ◌∷◌, codes}
-use Rattle.std.proofs.Math.Bool.{and-true}
+use Rattle.std.proofs.Common.{◌≡◌, refl, ap, ap₂, ◌∙◌, ℤ, Bool, true, false, not, cond, ◌&&◌, ◌||◌, [], ◌∷◌, codes, true≢false}
 use Rattle.std.specs.List.{list_any}
 use Rattle.nm_base.specs.Tags.{has_tag}
 use Rattle.nm_query.specs.declared.query.Query.{Query}
@@ -28,9 +27,14 @@ pub left_out : (query : Query) (exclude : Bool) (message : View) → leaves_out 
 left_out query exclude message =
     one_of_two exclude (not (names_tag query (codes "deleted"))) (not (names_tag query (codes "spam"))) (has_tag message.tags) (codes "deleted") (codes "spam")
 
--- a message that is not left out is a match where it passes
-pub kept_in : (query : Query) (moment : ℤ) (exclude : Bool) (exclusion : Exclusion) (message : View) → exclusion ≡ exclusion_of query exclude → leaves_out exclusion message ≡ false
-    → is_match query moment exclude message ≡ passes query message moment
-kept_in query moment exclude exclusion message is kept =
-    ap (λ out. passes query message moment && not out) (sym (left_out query exclude message) ∙ ap (λ e. leaves_out e message) (sym is) ∙ kept)
-    ∙ and-true (passes query message moment)
+-- what passes as the query does, and has no tag that keeps it out, is a match
+pub match_by : (query asked : Query) (moment : ℤ) (exclude : Bool) (exclusion : Exclusion) (message : View) → exclusion ≡ exclusion_of query exclude
+    → passes asked message moment ≡ passes query message moment → (passes asked message moment && not (leaves_out exclusion message)) ≡ is_match query moment exclude message
+match_by query asked moment exclude exclusion message is same =
+    ap₂ (λ passed out. passed && not out) same (ap (λ e. leaves_out e message) is ∙ left_out query exclude message)
+
+-- what has none of these tags is in where it passes
+pub not_out : (passed out : Bool) → out ≡ false → passed ≡ (passed && not out)
+not_out true true is = absurd (true≢false is)
+not_out true false is = refl
+not_out false out is = refl

@@ -4,5 +4,6 @@ mod FileLemmas
 mod FoundLemmas
 mod OddLemmas
 mod PlaceLemmas
+mod PreparingLemmas
 mod QuickLemmas
 mod WordLemmas

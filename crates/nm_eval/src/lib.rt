@@ -6,6 +6,8 @@ mod exclusion;
 mod matching;
 mod message;
 mod places;
+mod preparing;
+mod quick;
 mod testing;
 mod words;
 

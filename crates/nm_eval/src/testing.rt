@@ -1,19 +1,18 @@
 //! When a message passes a query, node by node of its tree.
 
-ghost use Rattle.std.specs.Prelude.{◌≡◌, ◌&&◌, ◌||◌, map, not};
+ghost use Rattle.std.specs.Prelude.{◌≡◌, ◌∷◌, ◌&&◌, map};
 ghost use Rattle.std.specs.List.{list_all, list_any};
 ghost use Rattle.nm_dates.specs.Seconds.{IsMoment};
 ghost use Rattle.nm_answer.specs.Places.{has_type, is_at_path, is_in_maildir};
 ghost use Rattle.nm_answer.specs.Test.{is_from, is_odd, is_to, passes};
 ghost use Rattle.nm_answer.specs.View.{lead_date};
 ghost use Rattle.nm_answer.specs.Words.{files_have};
-ghost use Rattle.nm_eval.specs.Quick.{is_quick, skips};
 
 use crate::message::Message;
 use crate::places::{has_type, is_at_path, is_in_maildir};
 use crate::words::facts_have;
 use nm_answer::a_tree_passes_as_its_queries_do;
-use nm_base::{Field, Text, WordList};
+use nm_base::{Field, Text, WordList, Words};
 use nm_dates::{End, first_second, is_end, last_second};
 use nm_query::Query;
 
@@ -45,27 +44,13 @@ pub(crate) fn passes(query: &Query, message: &Message<'_>, moment: i64) -> bool
     }
 }
 
-/// Says whether all queries are passed; those that cost most are asked last.
+/// Says whether all queries are passed.
 #[cycle(passing)]
 fn all_pass(queries: &[Query], message: &Message<'_>, moment: i64) -> bool
     requires { IsMoment moment }
     ensures { result ≡ list_all (λ query. passes query message.now moment) queries.now }
 {
-    if !all_of_turn_pass(queries, true, message, moment) {
-        return false;
-    }
-    all_of_turn_pass(queries, false, message, moment)
-}
-
-#[cycle(passing)]
-fn all_of_turn_pass(queries: &[Query], quick: bool, message: &Message<'_>, moment: i64) -> bool
-    requires { IsMoment moment }
-    ensures { result ≡ list_all (λ query. skips quick query || passes query message.now moment) queries.now }
-{
     'queries: for query in queries {
-        if skips(quick, query) {
-            continue;
-        }
         if !passes(query, message, moment) {
             return false;
         }
@@ -73,56 +58,18 @@ fn all_of_turn_pass(queries: &[Query], quick: bool, message: &Message<'_>, momen
     true
 }
 
-/// Says whether one of the queries is passed; those that cost most are asked last.
+/// Says whether one of the queries is passed.
 #[cycle(passing)]
 fn any_passes(queries: &[Query], message: &Message<'_>, moment: i64) -> bool
     requires { IsMoment moment }
     ensures { result ≡ list_any (λ query. passes query message.now moment) queries.now }
 {
-    if any_of_turn_passes(queries, true, message, moment) {
-        return true;
-    }
-    any_of_turn_passes(queries, false, message, moment)
-}
-
-#[cycle(passing)]
-fn any_of_turn_passes(queries: &[Query], quick: bool, message: &Message<'_>, moment: i64) -> bool
-    requires { IsMoment moment }
-    ensures { result ≡ list_any (λ query. not (skips quick query) && passes query message.now moment) queries.now }
-{
     'queries: for query in queries {
-        if skips(quick, query) {
-            continue;
-        }
         if passes(query, message, moment) {
             return true;
         }
     }
     false
-}
-
-/// Says whether the query waits for the other turn: that of the quick ones comes first.
-fn skips(quick: bool, query: &Query) -> bool
-    ensures { result ≡ skips quick query.now }
-{
-    if quick {
-        return !is_quick(query);
-    }
-    is_quick(query)
-}
-
-/// Says whether the query asks for nothing that is read word by word or path by path.
-fn is_quick(query: &Query) -> bool
-    ensures { result ≡ is_quick query.now }
-{
-    match query {
-        Query::All => true,
-        Query::Tag(_) => true,
-        Query::Id(_) => true,
-        Query::Thread(_) => true,
-        Query::Dates { from: _, to: _ } => true,
-        _ => false,
-    }
 }
 
 /// Says whether an odd number of the queries is passed.
@@ -143,14 +90,28 @@ fn odd_pass(queries: &[Query], message: &Message<'_>, moment: i64) -> bool
 fn have_words(message: &Message<'_>, field: Option<Field>, starts: bool, words: &WordList) -> bool
     ensures { result ≡ files_have field starts words.now message.now.files }
 {
-    if words.is_empty() {
+    let mut more = words.words();
+    let Some(first) = more.take_first() else {
         return true;
-    }
+    };
+    files_have(message, field, starts, first, &more)
+}
+
+/// Says whether one of the files has the words, a first one and then more.
+fn files_have(
+    message: &Message<'_>,
+    field: Option<Field>,
+    starts: bool,
+    first: &[u8],
+    more: &Words<'_>,
+) -> bool
+    ensures { result ≡ files_have field starts (first.now ∷ more.now) message.now.files }
+{
     let Some(mut files) = message.files() else {
         return false;
     };
     'files: while let Some((_, facts)) = files.next() {
-        if facts_have(field, starts, words, facts) {
+        if facts_have(field, starts, first, more, facts) {
             return true;
         }
     }

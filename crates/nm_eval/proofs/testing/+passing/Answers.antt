@@ -1,9 +1,7 @@
-use Rattle.std.proofs.Common.{rules, ◌≡◌, sym, ap, ◌∙◌, subst, map, not, true, false, ◌&&◌, ◌||◌, take_all, ℤ, to_z, of_z, w64}
+use Rattle.std.proofs.Common.{rules, ◌≡◌, sym, ap, ◌∙◌, subst, map, not, true, false, take_all, ℤ, to_z, of_z, w64}
 use Rattle.std.proofs.lemmas.Int.{to_z-of_z}
 use Rattle.std.specs.List.{list_all, list_any}
 use Rattle.nm_answer.specs.Test.{is_odd, passes}
-use Rattle.nm_eval.specs.Quick.{is_quick, skips}
-use Rattle.nm_eval.proofs.QuickLemmas.{all_in_turns, any_in_turns}
 use Rattle.nm_eval.proofs.testing.+passing.Goals as goal
 
 pub passes-returns-in-Not : goal.passes-returns-in-Not
@@ -41,52 +39,16 @@ passes-returns-in-Xor t c =
     (to_z-of_z w64 c.args.moment c.ranges.moment) c.odd_pass.ensures in
     told ∙ whole
 
-pub all_pass-returns-then-not-all_of_turn_pass : goal.all_pass-returns-then-not-all_of_turn_pass
-all_pass-returns-then-not-all_of_turn_pass t c =
-    let moment : ℤ = to_z w64 (of_z w64 c.args.moment) in
-    let whole : (list_all (λ query. not (is_quick query) || passes query c.args.message.now moment) c.args.queries.now && list_all (λ query. is_quick query || passes query c.args.message.now moment) c.args.queries.now) ≡ list_all (λ query. passes query c.args.message.now c.args.moment) c.args.queries.now =
-    all_in_turns is_quick (λ query. passes query c.args.message.now moment) c.args.queries.now
-    ∙ ap (λ moment. list_all (λ query. passes query c.args.message.now moment) c.args.queries.now) (to_z-of_z w64 c.args.moment c.ranges.moment) in
-    let stops : c.all_of_turn_pass.result ≡ false = search rules in
-    ap (λ first. first && list_all (λ query. is_quick query || passes query c.args.message.now moment) c.args.queries.now) (sym stops ∙ c.all_of_turn_pass.ensures) ∙ whole
-
 pub all_pass-returns : goal.all_pass-returns
 all_pass-returns t c =
     let moment : ℤ = to_z w64 (of_z w64 c.args.moment) in
-    let whole : (list_all (λ query. not (is_quick query) || passes query c.args.message.now moment) c.args.queries.now && list_all (λ query. is_quick query || passes query c.args.message.now moment) c.args.queries.now) ≡ list_all (λ query. passes query c.args.message.now c.args.moment) c.args.queries.now =
-    all_in_turns is_quick (λ query. passes query c.args.message.now moment) c.args.queries.now
-    ∙ ap (λ moment. list_all (λ query. passes query c.args.message.now moment) c.args.queries.now) (to_z-of_z w64 c.args.moment c.ranges.moment) in
-    let goes : c.all_of_turn_pass.result ≡ true = search rules in
-    c.all_of_turn_pass-2.ensures ∙ ap (λ first. first && list_all (λ query. is_quick query || passes query c.args.message.now moment) c.args.queries.now) (sym goes ∙ c.all_of_turn_pass.ensures) ∙ whole
-
-pub any_passes-returns-then-any_of_turn_passes : goal.any_passes-returns-then-any_of_turn_passes
-any_passes-returns-then-any_of_turn_passes t c =
-    let moment : ℤ = to_z w64 (of_z w64 c.args.moment) in
-    let whole : (list_any (λ query. not (not (is_quick query)) && passes query c.args.message.now moment) c.args.queries.now || list_any (λ query. not (is_quick query) && passes query c.args.message.now moment) c.args.queries.now) ≡ list_any (λ query. passes query c.args.message.now c.args.moment) c.args.queries.now =
-    any_in_turns is_quick (λ query. passes query c.args.message.now moment) c.args.queries.now
-    ∙ ap (λ moment. list_any (λ query. passes query c.args.message.now moment) c.args.queries.now) (to_z-of_z w64 c.args.moment c.ranges.moment) in
-    let stops : c.any_of_turn_passes.result ≡ true = search rules in
-    ap (λ first. first || list_any (λ query. not (is_quick query) && passes query c.args.message.now moment) c.args.queries.now) (sym stops ∙ c.any_of_turn_passes.ensures) ∙ whole
+    let all : list_all (λ query. passes query c.args.message.now moment) c.args.queries.now ≡ true =
+    subst (λ queries. list_all (λ query. passes query c.args.message.now moment) queries ≡ true) (take_all c.queries.query-index c.args.queries.now c.queries-test.false) c.queries.invariant in
+    sym (subst (λ moment. list_all (λ query. passes query c.args.message.now moment) c.args.queries.now ≡ true) (to_z-of_z w64 c.args.moment c.ranges.moment) all)
 
 pub any_passes-returns : goal.any_passes-returns
 any_passes-returns t c =
     let moment : ℤ = to_z w64 (of_z w64 c.args.moment) in
-    let whole : (list_any (λ query. not (not (is_quick query)) && passes query c.args.message.now moment) c.args.queries.now || list_any (λ query. not (is_quick query) && passes query c.args.message.now moment) c.args.queries.now) ≡ list_any (λ query. passes query c.args.message.now c.args.moment) c.args.queries.now =
-    any_in_turns is_quick (λ query. passes query c.args.message.now moment) c.args.queries.now
-    ∙ ap (λ moment. list_any (λ query. passes query c.args.message.now moment) c.args.queries.now) (to_z-of_z w64 c.args.moment c.ranges.moment) in
-    let goes : c.any_of_turn_passes.result ≡ false = search rules in
-    c.any_of_turn_passes-2.ensures ∙ ap (λ first. first || list_any (λ query. not (is_quick query) && passes query c.args.message.now moment) c.args.queries.now) (sym goes ∙ c.any_of_turn_passes.ensures) ∙ whole
-
-pub all_of_turn_pass-returns : goal.all_of_turn_pass-returns
-all_of_turn_pass-returns t c =
-    let moment : ℤ = to_z w64 (of_z w64 c.args.moment) in
-    let all : list_all (λ query. skips c.args.quick query || passes query c.args.message.now moment) c.args.queries.now ≡ true =
-    subst (λ queries. list_all (λ query. skips c.args.quick query || passes query c.args.message.now moment) queries ≡ true) (take_all c.queries.query-index c.args.queries.now c.queries-test.false) c.queries.invariant in
-    sym (subst (λ moment. list_all (λ query. skips c.args.quick query || passes query c.args.message.now moment) c.args.queries.now ≡ true) (to_z-of_z w64 c.args.moment c.ranges.moment) all)
-
-pub any_of_turn_passes-returns : goal.any_of_turn_passes-returns
-any_of_turn_passes-returns t c =
-    let moment : ℤ = to_z w64 (of_z w64 c.args.moment) in
-    let all : list_any (λ query. not (skips c.args.quick query) && passes query c.args.message.now moment) c.args.queries.now ≡ false =
-    subst (λ queries. list_any (λ query. not (skips c.args.quick query) && passes query c.args.message.now moment) queries ≡ false) (take_all c.queries.query-index c.args.queries.now c.queries-test.false) c.queries.invariant in
-    sym (subst (λ moment. list_any (λ query. not (skips c.args.quick query) && passes query c.args.message.now moment) c.args.queries.now ≡ false) (to_z-of_z w64 c.args.moment c.ranges.moment) all)
+    let all : list_any (λ query. passes query c.args.message.now moment) c.args.queries.now ≡ false =
+    subst (λ queries. list_any (λ query. passes query c.args.message.now moment) queries ≡ false) (take_all c.queries.query-index c.args.queries.now c.queries-test.false) c.queries.invariant in
+    sym (subst (λ moment. list_any (λ query. passes query c.args.message.now moment) c.args.queries.now ≡ false) (to_z-of_z w64 c.args.moment c.ranges.moment) all)
