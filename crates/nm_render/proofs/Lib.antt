@@ -1,4 +1,5 @@
 pub mod CountLemmas
+pub mod GroupLemmas
 pub mod JsonLemmas
 pub mod ObjectLemmas
 pub mod OnceLemmas

@@ -1,5 +1,6 @@
 pub mod Groups
 pub mod Joined
 pub mod Order
+pub mod ReadBack
 pub mod Show
 pub mod SummaryData

@@ -1,11 +1,12 @@
-//! The messages of each thread.
+//! The messages of the threads that are printed.
 
-ghost use Rattle.std.specs.Prelude.{◌≡◌, ◌==◌, ◌++◌, ℕ, [], ◌∷◌, if◌then◌else◌, IfOk, OnOk};
+ghost use Rattle.std.specs.Prelude.{◌≡◌, ◌==◌, ◌++◌, ℕ, [], ◌∷◌, true, nat_eq, if◌then◌else◌, IfOk, OnOk};
+ghost use Rattle.std.specs.List.{filter, list_any};
 ghost use Rattle.nm_answer.specs.Summary.{in_thread};
-ghost use Rattle.nm_index.specs.Index.{live_ids};
-ghost use Rattle.nm_render.specs.Groups.{listed};
+ghost use Rattle.nm_render.specs.Groups.{is_in_threads, listed};
 
-use nm_base::{Copies, Many, MessageId, NoMemory};
+use crate::lists::set_of;
+use nm_base::{Copies, Many, MessageId, NoMemory, TextSet};
 use nm_state::Snapshot;
 use std::alloc::Global;
 use std::collections::BTreeMap;
@@ -13,12 +14,62 @@ use std::collections::BTreeMap;
 /// Messages by the names of their threads.
 pub(crate) type Groups = BTreeMap<u64, Many<MessageId>>;
 
-/// The messages by their threads, those of each in their order.
-pub(crate) fn by_thread(
+/// Those of the messages that are of the threads of these names, by their threads, those of each in their order.
+pub(crate) fn groups_of(
     alloc: Global,
     snapshot: &Snapshot,
+    names: &[u64],
     ids: &[MessageId],
 ) -> Result<Groups, NoMemory>
+    ensures { IfOk result (λ groups. (name : ℕ) → list_any (nat_eq name) names.now ≡ true → listed groups name ≡ in_thread snapshot.now name ids.now) }
+{
+    let printed = printed_ids(alloc, snapshot, names, ids)?;
+    let groups = by_thread(alloc, snapshot, printed.as_slice())?;
+    Ok(groups)
+}
+
+/// Those of the messages that are of these threads, in their order.
+fn printed_ids(
+    alloc: Global,
+    snapshot: &Snapshot,
+    names: &[u64],
+    ids: &[MessageId],
+) -> Result<Many<MessageId>, NoMemory>
+    ensures { IfOk result (λ printed. printed ≡ filter (is_in_threads snapshot.now names.now) ids.now) }
+{
+    let set = set_of(alloc, names)?;
+    let printed = ids_in(alloc, snapshot, &set, ids)?;
+    Ok(printed)
+}
+
+fn ids_in(
+    alloc: Global,
+    snapshot: &Snapshot,
+    names: &TextSet<u64>,
+    ids: &[MessageId],
+) -> Result<Many<MessageId>, NoMemory>
+    ensures { IfOk result (λ printed. printed ≡ filter (is_in_threads snapshot.now names.now) ids.now) }
+{
+    let mut printed = Many::new(alloc);
+    'ids: for id in ids {
+        if is_in_threads(snapshot, names, id) {
+            printed.push(id.copy()?)?;
+        }
+    }
+    Ok(printed)
+}
+
+fn is_in_threads(snapshot: &Snapshot, names: &TextSet<u64>, id: &MessageId) -> bool
+    ensures { result ≡ is_in_threads snapshot.now names.now id.now }
+{
+    match snapshot.thread(id) {
+        Some(name) => names.contains(&name),
+        None => false,
+    }
+}
+
+/// The messages by their threads, those of each in their order.
+fn by_thread(alloc: Global, snapshot: &Snapshot, ids: &[MessageId]) -> Result<Groups, NoMemory>
     ensures { IfOk result (λ groups. (name : ℕ) → listed groups name ≡ in_thread snapshot.now name ids.now) }
 {
     let mut groups = BTreeMap::new(alloc);
@@ -57,16 +108,4 @@ fn add_under(
     list.push(id.copy()?)?;
     groups.insert(thread, list)?;
     Ok(())
-}
-
-/// The live messages, by their numbers.
-pub(crate) fn live_ids(alloc: Global, snapshot: &Snapshot) -> Result<Many<MessageId>, NoMemory>
-    ensures { IfOk result (λ ids. ids ≡ live_ids snapshot.now.files snapshot.now.entries) }
-{
-    let mut ids = Many::new(alloc);
-    let mut rest = snapshot.ids();
-    'ids: while let Some(id) = rest.next() {
-        ids.push(id.copy()?)?;
-    }
-    Ok(ids)
 }

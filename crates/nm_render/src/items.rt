@@ -1,39 +1,25 @@
 //! What a search for threads, messages, files or tags prints.
 
-ghost use Rattle.std.specs.Prelude.{◌≡◌, ◌++◌, [], ◌∷◌, codes, map, IfOk, OnOk};
-ghost use Rattle.nm_answer.specs.Search.{items_text, part_asked, paths_of_all, tags_of_all, texts_printed, thread_digits, threads_of};
+ghost use Rattle.std.specs.Prelude.{◌≡◌, [], true, codes, map, IfOk};
+ghost use Rattle.serde_json.specs.Data.{string};
+ghost use Rattle.nm_answer.specs.Search.{part_asked, paths_of_all, tags_of_all, texts_printed, thread_digits, threads_of};
+ghost use Rattle.nm_render.specs.ReadBack.{ReadsBack};
 
 use crate::lists::{part_of, paths_of_all, tags_of_all, threads_of};
 use crate::printing::texts_printed;
-use nm_base::{Copies, Many, MessageId, NoMemory, Output, SearchAsk, Tag, Text};
+use nm_base::{Copies, Many, MessageId, NoMemory, SearchAsk, Tag, Text};
 use nm_state::Snapshot;
 use std::alloc::Global;
 
-/// What is asked of messages that stand in order: their threads, their ids, their files or their tags.
-pub(crate) fn items_text(
+/// The threads of messages that stand in order, as far as they are asked for.
+pub(crate) fn threads_text(
     alloc: Global,
     snapshot: &Snapshot,
     ask: &SearchAsk,
     ids: &[MessageId],
 ) -> Result<Many<u8>, NoMemory>
-    ensures { IfOk result (λ text. text ≡ items_text ask.now.output ask.now snapshot.now ids.now) }
-{
-    match ask.output {
-        Output::Summary => Ok(Many::new(alloc)),
-        Output::Threads => threads_text(alloc, snapshot, ask, ids),
-        Output::Messages => messages_text(alloc, ask, ids),
-        Output::Files => files_text(alloc, snapshot, ask, ids),
-        Output::Tags => tags_text(alloc, snapshot, ask, ids),
-    }
-}
-
-fn threads_text(
-    alloc: Global,
-    snapshot: &Snapshot,
-    ask: &SearchAsk,
-    ids: &[MessageId],
-) -> Result<Many<u8>, NoMemory>
-    ensures { IfOk result (λ text. text ≡ texts_printed ask.now.json (codes "thread:") (map thread_digits (part_asked ask.now (threads_of snapshot.now ids.now)))) }
+    ensures text { IfOk result (λ text. text ≡ texts_printed ask.now.json (codes "thread:") (map thread_digits (part_asked ask.now (threads_of snapshot.now ids.now)))) }
+    ensures reads_back { ask.now.json ≡ true → IfOk result (λ text. ReadsBack (map string (map thread_digits (part_asked ask.now (threads_of snapshot.now ids.now)))) text) }
 {
     let names = threads_of(alloc, snapshot, ids)?;
     let asked = part_of(names.as_slice(), ask.offset, ask.limit);
@@ -60,8 +46,14 @@ pub(crate) fn thread_digits(alloc: Global, name: u64) -> Result<Text, NoMemory>
     Text::from_string(digits)
 }
 
-fn messages_text(alloc: Global, ask: &SearchAsk, ids: &[MessageId]) -> Result<Many<u8>, NoMemory>
-    ensures { IfOk result (λ text. text ≡ texts_printed ask.now.json (codes "id:") (part_asked ask.now ids.now)) }
+/// Their ids.
+pub(crate) fn messages_text(
+    alloc: Global,
+    ask: &SearchAsk,
+    ids: &[MessageId],
+) -> Result<Many<u8>, NoMemory>
+    ensures text { IfOk result (λ text. text ≡ texts_printed ask.now.json (codes "id:") (part_asked ask.now ids.now)) }
+    ensures reads_back { ask.now.json ≡ true → IfOk result (λ text. ReadsBack (map string (part_asked ask.now ids.now)) text) }
 {
     let asked = part_of(ids, ask.offset, ask.limit);
     let texts = texts_of_ids(alloc, asked)?;
@@ -78,26 +70,30 @@ fn texts_of_ids(alloc: Global, ids: &[MessageId]) -> Result<Many<Text>, NoMemory
     Ok(texts)
 }
 
-fn files_text(
+/// Their files.
+pub(crate) fn files_text(
     alloc: Global,
     snapshot: &Snapshot,
     ask: &SearchAsk,
     ids: &[MessageId],
 ) -> Result<Many<u8>, NoMemory>
-    ensures { IfOk result (λ text. text ≡ texts_printed ask.now.json [] (part_asked ask.now (paths_of_all snapshot.now ids.now))) }
+    ensures text { IfOk result (λ text. text ≡ texts_printed ask.now.json [] (part_asked ask.now (paths_of_all snapshot.now ids.now))) }
+    ensures reads_back { ask.now.json ≡ true → IfOk result (λ text. ReadsBack (map string (part_asked ask.now (paths_of_all snapshot.now ids.now))) text) }
 {
     let paths = paths_of_all(alloc, snapshot, ids)?;
     let asked = part_of(paths.as_slice(), ask.offset, ask.limit);
     texts_printed(alloc, ask.json, b"", asked)
 }
 
-fn tags_text(
+/// Their tags.
+pub(crate) fn tags_text(
     alloc: Global,
     snapshot: &Snapshot,
     ask: &SearchAsk,
     ids: &[MessageId],
 ) -> Result<Many<u8>, NoMemory>
-    ensures { IfOk result (λ text. text ≡ texts_printed ask.now.json [] (part_asked ask.now (tags_of_all snapshot.now ids.now))) }
+    ensures text { IfOk result (λ text. text ≡ texts_printed ask.now.json [] (part_asked ask.now (tags_of_all snapshot.now ids.now))) }
+    ensures reads_back { ask.now.json ≡ true → IfOk result (λ text. ReadsBack (map string (part_asked ask.now (tags_of_all snapshot.now ids.now))) text) }
 {
     let tags = tags_of_all(alloc, snapshot, ids)?.to_list(alloc)?;
     let texts = texts_of_tags(alloc, tags.as_slice())?;

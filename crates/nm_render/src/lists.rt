@@ -87,7 +87,7 @@ pub(crate) fn others_of<T: Ord + Copies>(
     Ok(others)
 }
 
-fn set_of<T: Ord + Copies>(alloc: Global, items: &[T]) -> Result<TextSet<T>, NoMemory>
+pub(crate) fn set_of<T: Ord + Copies>(alloc: Global, items: &[T]) -> Result<TextSet<T>, NoMemory>
     ensures { IfOk result (λ set. (item : T) → list_any (T.eq item) set ≡ list_any (T.eq item) items.now) }
 {
     let mut set = TextSet::new(alloc);

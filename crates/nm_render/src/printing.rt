@@ -1,12 +1,12 @@
 //! Texts as lines, or as a JSON array of strings.
 
-ghost use Rattle.std.specs.Prelude.{◌≡◌, ◌≤◌, ◌++◌, [], ◌∷◌, map, false, IfOk, OnOk, Some};
+ghost use Rattle.std.specs.Prelude.{◌≡◌, ◌≤◌, ◌++◌, map, false, true, IfOk, OnOk, Some};
 ghost use Rattle.serde_json.specs.Data.{array, depth, string};
 ghost use Rattle.serde_json.specs.Read.{max_depth, read};
 ghost use Rattle.serde_json.specs.View.{items_of, view};
 ghost use Rattle.serde_json.specs.Written.{compact_text, has_float};
-ghost use Rattle.nm_answer.specs.Json.{json_array, json_string};
 ghost use Rattle.nm_answer.specs.Search.{item_line, lines_text, strings_json, texts_printed};
+ghost use Rattle.nm_render.specs.ReadBack.{ReadsBack};
 
 use nm_base::{Many, NoMemory, Text};
 use serde_json::Value;
@@ -19,7 +19,8 @@ pub(crate) fn texts_printed(
     before: &[u8],
     texts: &[Text],
 ) -> Result<Many<u8>, NoMemory>
-    ensures { IfOk result (λ text. text ≡ texts_printed json before.now texts.now) }
+    ensures text { IfOk result (λ text. text ≡ texts_printed json before.now texts.now) }
+    ensures reads_back { json ≡ true → IfOk result (λ text. ReadsBack (map string texts.now) text) }
 {
     if json {
         return strings_json(alloc, texts);
@@ -49,7 +50,7 @@ fn push_line(lines: &mut Many<u8>, before: &[u8], text: &Text) -> Result<(), NoM
 /// The texts as an array of strings, and LF. The library reads the array as these strings.
 pub(crate) fn strings_json(alloc: Global, texts: &[Text]) -> Result<Many<u8>, NoMemory>
     ensures text { IfOk result (λ json. json ≡ strings_json texts.now) }
-    ensures reads_back { OnOk result (read (json_array (map json_string texts.now)) ≡ Some (array (items_of (map string texts.now)))) }
+    ensures reads_back { IfOk result (λ json. ReadsBack (map string texts.now) json) }
 {
     let strings = strings(alloc, texts)?;
     let mut json = array_text(alloc, strings)?;

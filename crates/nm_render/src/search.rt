@@ -1,11 +1,13 @@
 //! The reply to a search. The machine judges replies by it, and a session answers with it.
 
-ghost use Rattle.std.specs.Prelude.{◌≡◌, IfOk};
+ghost use Rattle.std.specs.Prelude.{◌≡◌, true, IfOk};
 ghost use Rattle.nm_answer.specs.Found.{found_text, search_found, summaries_text};
 ghost use Rattle.nm_answer.specs.Search.{found_in_order};
 ghost use Rattle.nm_dates.specs.Seconds.{IsMoment};
+ghost use Rattle.nm_base.specs.declared.forms.Output.TheVariants.{Summary};
+ghost use Rattle.nm_render.specs.ReadBack.{ReadsBack, found_data};
 
-use crate::items::items_text;
+use crate::items::{files_text, messages_text, tags_text, threads_text};
 use crate::matching::found;
 use crate::order::ordered;
 use crate::summary::summary_lines;
@@ -15,7 +17,8 @@ use nm_query::Query;
 use nm_state::Snapshot;
 use std::alloc::Global;
 
-/// The reply to a search whose query has this tree, of any kind and in either form.
+/// The reply to a search whose query has this tree, of any kind and in either form. As JSON it is read back by the library as
+/// what the plain index has.
 pub fn search_reply(
     alloc: Global,
     snapshot: &Snapshot,
@@ -24,7 +27,8 @@ pub fn search_reply(
     moment: i64,
 ) -> Result<Many<u8>, NoMemory>
     requires moment { IsMoment moment }
-    ensures { IfOk result (λ text. text ≡ search_found ask.now snapshot.now moment query.now) }
+    ensures text { IfOk result (λ text. text ≡ search_found ask.now snapshot.now moment query.now) }
+    ensures reads_back { ask.now.json ≡ true → IfOk result (λ text. ReadsBack (found_data ask.now.output ask.now snapshot.now (found_in_order ask.now snapshot.now moment query.now)) text) }
 {
     let ids = found_in_order(alloc, snapshot, ask, query, moment)?;
     let text = found_text(alloc, snapshot, ask, ids.as_slice())?;
@@ -53,14 +57,15 @@ fn found_text(
     ask: &SearchAsk,
     ids: &[MessageId],
 ) -> Result<Many<u8>, NoMemory>
-    ensures { IfOk result (λ text. text ≡ found_text ask.now.output ask.now snapshot.now ids.now) }
+    ensures text { IfOk result (λ text. text ≡ found_text ask.now.output ask.now snapshot.now ids.now) }
+    ensures reads_back { ask.now.json ≡ true → IfOk result (λ text. ReadsBack (found_data ask.now.output ask.now snapshot.now ids.now) text) }
 {
     match ask.output {
         Output::Summary => summaries_text(alloc, snapshot, ask, ids),
-        Output::Threads => items_text(alloc, snapshot, ask, ids),
-        Output::Messages => items_text(alloc, snapshot, ask, ids),
-        Output::Files => items_text(alloc, snapshot, ask, ids),
-        Output::Tags => items_text(alloc, snapshot, ask, ids),
+        Output::Threads => threads_text(alloc, snapshot, ask, ids),
+        Output::Messages => messages_text(alloc, ask, ids),
+        Output::Files => files_text(alloc, snapshot, ask, ids),
+        Output::Tags => tags_text(alloc, snapshot, ask, ids),
     }
 }
 
@@ -70,7 +75,8 @@ fn summaries_text(
     ask: &SearchAsk,
     ids: &[MessageId],
 ) -> Result<Many<u8>, NoMemory>
-    ensures { IfOk result (λ text. text ≡ summaries_text ask.now snapshot.now ids.now) }
+    ensures text { IfOk result (λ text. text ≡ summaries_text ask.now snapshot.now ids.now) }
+    ensures reads_back { ask.now.json ≡ true → IfOk result (λ text. ReadsBack (found_data Summary ask.now snapshot.now ids.now) text) }
 {
     if ask.json {
         return summaries_json(alloc, snapshot, ask, ids);

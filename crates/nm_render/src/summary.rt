@@ -1,18 +1,18 @@
 //! The summaries of the threads that a search finds.
 
-ghost use Rattle.std.specs.Prelude.{◌≡◌, ◌++◌, ◌∷◌, [], codes, length, map, ℕ, IfOk, IsUtf8, OnOk};
+ghost use Rattle.std.specs.Prelude.{◌≡◌, ◌++◌, codes, IfOk, IsUtf8, OnOk};
 ghost use Rattle.std.specs.Fmt.{decimal};
 ghost use Rattle.std.specs.List.{flat_map};
 ghost use Rattle.nm_answer.specs.Count.{files_of_all};
 ghost use Rattle.nm_answer.specs.Json.{joined};
-ghost use Rattle.nm_answer.specs.Summary.{counts_told, files_told, first_date, first_subject, lead_subject, mail_told, name_told, shown_day, subject_of, summary_by, summary_line, summary_lines, summary_of, thread_told};
+ghost use Rattle.nm_answer.specs.Summary.{counts_told, files_told, first_date, first_subject, lead_subject, mail_told, members_of, name_told, shown_day, subject_of, summary_by, summary_line, summary_lines, thread_told};
 ghost use Rattle.nm_answer.specs.View.{files_of};
 ghost use Rattle.nm_render.specs.Groups.{listed};
 ghost use Rattle.nm_render.specs.SummaryData.{HasTexts};
 
 use crate::authors::authors_text;
 use crate::count::count_files;
-use crate::groups::{Groups, by_thread, live_ids};
+use crate::groups::{Groups, groups_of};
 use crate::items::{texts_of_tags, thread_digits};
 use crate::lists::{others_of, part_of, tags_of_all, threads_of};
 use crate::order::message_date;
@@ -34,38 +34,23 @@ pub(crate) fn summary_lines(
 {
     let names = threads_of(alloc, snapshot, ids)?;
     let asked = part_of(names.as_slice(), ask.offset, ask.limit);
-    let (matched, members) = both_groups(alloc, snapshot, ids)?;
-    let lines = lines_of(alloc, snapshot, asked, &matched, &members)?;
+    let matched = groups_of(alloc, snapshot, asked, ids)?;
+    let lines = lines_of(alloc, snapshot, asked, &matched)?;
     Ok(lines)
 }
 
-/// The messages that match by their threads, in order, and the live ones.
-pub(crate) fn both_groups(
-    alloc: Global,
-    snapshot: &Snapshot,
-    ids: &[MessageId],
-) -> Result<(Groups, Groups), NoMemory>
-    ensures { IfOk result (λ groups. (name : ℕ) → summary_by snapshot.now name (listed groups.0 name) (listed groups.1 name) ≡ summary_of snapshot.now ids.now name) }
-{
-    let matched = by_thread(alloc, snapshot, ids)?;
-    let live = live_ids(alloc, snapshot)?;
-    let members = by_thread(alloc, snapshot, live.as_slice())?;
-    Ok((matched, members))
-}
-
-/// The lines of threads, by the messages under their names: those that match, in order, and the live ones.
+/// The lines of threads, by the messages under their names that match, in order.
 fn lines_of(
     alloc: Global,
     snapshot: &Snapshot,
     names: &[u64],
     matched: &Groups,
-    members: &Groups,
 ) -> Result<Many<u8>, NoMemory>
-    ensures { IfOk result (λ lines. lines ≡ flat_map (λ name. summary_line (summary_by snapshot.now name (listed matched.now name) (listed members.now name))) names.now) }
+    ensures { IfOk result (λ lines. lines ≡ flat_map (λ name. summary_line (summary_by snapshot.now name (listed matched.now name) (members_of snapshot.now name))) names.now) }
 {
     let mut lines = Many::new(alloc);
     'names: for name in names {
-        push_summary(alloc, &mut lines, snapshot, *name, matched, members)?;
+        push_summary(alloc, &mut lines, snapshot, *name, matched)?;
     }
     Ok(lines)
 }
@@ -76,29 +61,28 @@ fn push_summary(
     snapshot: &Snapshot,
     name: u64,
     matched: &Groups,
-    members: &Groups,
 ) -> Result<(), NoMemory>
-    ensures { OnOk result (lines.new ≡ lines.old ++ summary_line (summary_by snapshot.now name (listed matched.now name) (listed members.now name))) }
+    ensures { OnOk result (lines.new ≡ lines.old ++ summary_line (summary_by snapshot.now name (listed matched.now name) (members_of snapshot.now name))) }
 {
-    let summary = thread_summary(alloc, snapshot, name, matched, members)?;
+    let summary = thread_summary(alloc, snapshot, name, matched)?;
     push_line(alloc, lines, &summary)?;
     Ok(())
 }
 
-/// The summary of a thread, by the messages under its name.
+/// The summary of a thread, by the messages under its name that match, in order. Of the live ones no others are looked at.
 pub(crate) fn thread_summary(
     alloc: Global,
     snapshot: &Snapshot,
     name: u64,
     matched: &Groups,
-    members: &Groups,
 ) -> Result<ThreadSummary, NoMemory>
-    ensures value { IfOk result (λ summary. summary ≡ summary_by snapshot.now name (listed matched.now name) (listed members.now name)) }
+    ensures value { IfOk result (λ summary. summary ≡ summary_by snapshot.now name (listed matched.now name) (members_of snapshot.now name)) }
     ensures utf8 { IfOk result (λ summary. HasTexts summary) }
 {
     let matched = listed(matched, name);
-    let members = listed(members, name);
-    summary_by(alloc, snapshot, name, matched, members)
+    let members = snapshot.thread_messages(name)?;
+    let summary = summary_by(alloc, snapshot, name, matched, members.as_slice())?;
+    Ok(summary)
 }
 
 /// The messages of the thread.

@@ -1,21 +1,20 @@
 //! The summaries of the threads that a search finds, as a JSON array of objects.
 
-ghost use Rattle.std.specs.Prelude.{◌≡◌, map, IfOk, OnOk, Some};
+ghost use Rattle.std.specs.Prelude.{◌≡◌, map, IfOk, OnOk};
 ghost use Rattle.serde_json.specs.Data.{array, put as with_member, string};
-ghost use Rattle.serde_json.specs.Read.{read};
 ghost use Rattle.serde_json.specs.View.{items_of, members_view, view};
-ghost use Rattle.nm_answer.specs.Json.{json_array};
 ghost use Rattle.nm_answer.specs.Search.{part_asked, threads_of};
-ghost use Rattle.nm_answer.specs.Summary.{summary_by, summary_of};
-ghost use Rattle.nm_answer.specs.SummaryJson.{summaries_json, summary_json};
+ghost use Rattle.nm_answer.specs.Summary.{members_of, summary_by, summary_of};
+ghost use Rattle.nm_answer.specs.SummaryJson.{summaries_json};
 ghost use Rattle.nm_render.specs.Groups.{listed};
+ghost use Rattle.nm_render.specs.ReadBack.{ReadsBack};
 ghost use Rattle.nm_render.specs.SummaryData.{summary_data, with_mail, with_numbers, HasTexts};
 
-use crate::groups::Groups;
+use crate::groups::{Groups, groups_of};
 use crate::items::{texts_of_tags, thread_digits};
 use crate::lists::{part_of, threads_of};
 use crate::printing::{array_text, strings};
-use crate::summary::{both_groups, thread_summary};
+use crate::summary::thread_summary;
 use nm_answer::ThreadSummary;
 use nm_base::{Many, MessageId, NoMemory, SearchAsk};
 use nm_state::Snapshot;
@@ -31,31 +30,29 @@ pub(crate) fn summaries_json(
     ids: &[MessageId],
 ) -> Result<Many<u8>, NoMemory>
     ensures text { IfOk result (λ text. text ≡ summaries_json ask.now snapshot.now ids.now) }
-    ensures reads_back { let summaries = map (summary_of snapshot.now ids.now) (part_asked ask.now (threads_of snapshot.now ids.now)) in
-        OnOk result (read (json_array (map summary_json summaries)) ≡ Some (array (items_of (map summary_data summaries)))) }
+    ensures reads_back { IfOk result (λ text. ReadsBack (map summary_data (map (summary_of snapshot.now ids.now) (part_asked ask.now (threads_of snapshot.now ids.now)))) text) }
 {
     let names = threads_of(alloc, snapshot, ids)?;
     let asked = part_of(names.as_slice(), ask.offset, ask.limit);
-    let (matched, members) = both_groups(alloc, snapshot, ids)?;
-    let objects = objects_of(alloc, snapshot, asked, &matched, &members)?;
+    let matched = groups_of(alloc, snapshot, asked, ids)?;
+    let objects = objects_of(alloc, snapshot, asked, &matched)?;
     let mut json = array_text(alloc, objects)?;
     json.push(b'\n')?;
     Ok(json)
 }
 
-/// The objects of threads, by the messages under their names: those that match, in order, and the live ones.
+/// The objects of threads, by the messages under their names that match, in order.
 fn objects_of(
     alloc: Global,
     snapshot: &Snapshot,
     names: &[u64],
     matched: &Groups,
-    members: &Groups,
 ) -> Result<Vec<Value>, NoMemory>
-    ensures { IfOk result (λ objects. map view objects.items ≡ map (λ name. summary_data (summary_by snapshot.now name (listed matched.now name) (listed members.now name))) names.now) }
+    ensures { IfOk result (λ objects. map view objects.items ≡ map (λ name. summary_data (summary_by snapshot.now name (listed matched.now name) (members_of snapshot.now name))) names.now) }
 {
     let mut objects = Vec::new(alloc);
     'names: for name in names {
-        objects.push(thread_object(alloc, snapshot, *name, matched, members)?)?;
+        objects.push(thread_object(alloc, snapshot, *name, matched)?)?;
     }
     Ok(objects)
 }
@@ -65,11 +62,10 @@ fn thread_object(
     snapshot: &Snapshot,
     name: u64,
     matched: &Groups,
-    members: &Groups,
 ) -> Result<Value, NoMemory>
-    ensures { IfOk result (λ object. view object ≡ summary_data (summary_by snapshot.now name (listed matched.now name) (listed members.now name))) }
+    ensures { IfOk result (λ object. view object ≡ summary_data (summary_by snapshot.now name (listed matched.now name) (members_of snapshot.now name))) }
 {
-    let summary = thread_summary(alloc, snapshot, name, matched, members)?;
+    let summary = thread_summary(alloc, snapshot, name, matched)?;
     let object = object_of(alloc, &summary)?;
     Ok(object)
 }

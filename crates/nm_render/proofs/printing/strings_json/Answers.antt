@@ -3,6 +3,7 @@ use Rattle.serde_json.specs.Data.{Data, array, depth}
 use Rattle.serde_json.specs.Read.{max_depth, read}
 use Rattle.serde_json.specs.View.{items_of, view}
 use Rattle.serde_json.specs.Written.{compact_text, has_float}
+use Rattle.nm_answer.specs.Json.{json_array, json_string}
 use Rattle.nm_render.proofs.JsonLemmas.{no_depth, no_floats, strings_same}
 use Rattle.nm_render.proofs.printing.strings_json.Goals as goal
 
@@ -20,4 +21,5 @@ returns-clause-reads_back c =
     let plain = ap (λ values. has_float (whole values)) seen ∙ no_floats c.args.texts.now in
     let text = c.in_ok-json.ensures.text plain ∙ ap (λ values. compact_text (whole values)) seen ∙ strings_same c.args.texts.now in
     let flat : depth (whole (map view c.in_ok-strings.strings.items)) ≤ max_depth = omega (arith, ap (λ values. depth (whole values)) seen, no_depth c.args.texts.now) in
-    ap read (sym text) ∙ c.in_ok-json.ensures.reads_back flat ∙ ap (λ values. Some (whole values)) seen
+    (json_array (map json_string c.args.texts.now), c.in_ok-push.ensures.ok ∙ ap (λ json. json ++ 10 ∷ []) text,
+    ap read (sym text) ∙ c.in_ok-json.ensures.reads_back flat ∙ ap (λ values. Some (whole values)) seen)
