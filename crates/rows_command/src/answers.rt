@@ -1,5 +1,7 @@
-//! What comes of a row: what the words of a command ask for or the options before it say, or how they are refused.
+//! What comes of a row: what the words of a command ask for or the options before it say, what a script
+//! tells, or how they are refused.
 
+use crate::scripts::push_script;
 use nm_base::{
     Copies, CountAsk, DumpAsk, DumpForm, Many, Output, ReadForm, RestoreAsk, SearchAsk, ShowAsk,
     TagAsk, TagOp, Text, UsageKind,
@@ -8,17 +10,18 @@ use nm_command::{CommandError, HeadError, Leading, Request, command, head};
 use rows::{Lines, Program, Row, RowError, text_of};
 use std::alloc::Global;
 
-/// The rows on the words of commands.
+/// The rows on the words of commands and on scripts.
 pub struct Commands;
 
 impl Program for Commands {
-    /// A line for each command.
+    /// A line for each command, or for each line of a script.
     fn answer(&self, alloc: Global, row: &Row<'_>) -> Result<Vec<u8>, RowError> {
         let mut lines = Lines::new(alloc);
         match row.kind {
             b"command" => push_commands(alloc, &mut lines, row)?,
             b"words" => push_words(alloc, &mut lines, row)?,
             b"leading" => push_heads(alloc, &mut lines, row)?,
+            b"script" => push_script(alloc, &mut lines, row.text(alloc, b"|")?.as_slice())?,
             _ => return Err(RowError::Broken("no such kind of row")),
         }
         Ok(lines.into_bytes())

@@ -1,8 +1,9 @@
-//! Commands and replies: the program that runs the rows on words of commands. The table stands on the standard input, and
-//! the standard output has a line for each row.
+//! Commands and replies: the program that runs the rows on words of commands and on scripts. The table stands on the
+//! standard input, and the standard output has a line for each row.
 #![tactic(auto)]
 
 mod answers;
+mod scripts;
 
 use answers::Commands;
 use rows::run_table;
