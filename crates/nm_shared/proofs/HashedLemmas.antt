@@ -35,7 +35,7 @@ first_gone : {X : Type 0} (e : ℕ × X) (es : List (ℕ × X)) → IsStrictlySo
 unfolding IsStrictlySortedBy
 first_gone e es sorted = not_below e.0 es sorted.0
 
-rest_sorted : {X : Type 0} (e : ℕ × X) (es : List (ℕ × X)) → IsStrictlySortedBy nat_cmp (keys_of (e ∷ es)) → IsStrictlySortedBy nat_cmp (keys_of es)
+pub rest_sorted : {X : Type 0} (e : ℕ × X) (es : List (ℕ × X)) → IsStrictlySortedBy nat_cmp (keys_of (e ∷ es)) → IsStrictlySortedBy nat_cmp (keys_of es)
 unfolding IsStrictlySortedBy
 rest_sorted e es sorted = sorted.1
 
@@ -48,15 +48,15 @@ answer_of : {X : Type 0} (o : Option X) → (o ≡ None) ⊎ ((x : X) × (o ≡ 
 answer_of None = inl refl
 answer_of (Some x) = inr (x, refl)
 
-abbrev or_else : {X : Type 0} → Option X → Option X → Option X
+abbrev pub or_else : {X : Type 0} → Option X → Option X → Option X
 or_else None other = other
 or_else (Some x) other = Some x
 
-lookup_by : {X : Type 0} (x : X) (found : Bool) (first second all : Option X) → all ≡ or_else first second → cond found (Some x) all ≡ or_else (cond found (Some x) first) second
+pub lookup_by : {X : Type 0} (x : X) (found : Bool) (first second all : Option X) → all ≡ or_else first second → cond found (Some x) all ≡ or_else (cond found (Some x) first) second
 lookup_by x true first second all is = refl
 lookup_by x false first second all is = is
 
-lookup_both : {K X : Type 0} (test : K → Bool) (xs ys : List (K × X)) → lookup test (xs ++ ys) ≡ or_else (lookup test xs) (lookup test ys)
+pub lookup_both : {K X : Type 0} (test : K → Bool) (xs ys : List (K × X)) → lookup test (xs ++ ys) ≡ or_else (lookup test xs) (lookup test ys)
 lookup_both test [] ys = refl
 lookup_both test (x ∷ xs) ys = lookup_by x.1 (test x.0) (lookup test xs) (lookup test ys) (lookup test (xs ++ ys)) (lookup_both test xs ys)
 
@@ -138,9 +138,10 @@ module _ {K V : Type 0} (cmp : K → K → Ordering) (hash : K → ℕ) (same : 
           apart = λ slot pair there. new_are pair.0 ∙ ap (λ test. cond test answer (lookup (is_at (cmp pair.0)) crowded)) (not_in_slot key none slot pair there (is_eq (cmp pair.0 key)) refl) ∙ is.apart slot pair there;
         }
 
-    -- the pairs once a hash that led nowhere leads to a slot
-    pub placed_more : (key : K) (code slot : ℕ) (new : List (ℕ × ℕ)) → code ≡ hash key → at (hash key) places ≡ None → ((h : ℕ) → at h new ≡ cond (is_eq (nat_cmp h code)) (Some slot) (at h places)) → IsHashed cmp hash new slots crowded next
-    placed_more key code slot new code_is none new_are =
+    -- the pairs once a hash that led to no pair leads to a slot
+    pub placed_more : (key : K) (code slot : ℕ) (new : List (ℕ × ℕ)) → code ≡ hash key → option_and_then (λ n. at n slots) (at (hash key) places) ≡ None → ((h : ℕ) → at h new ≡ cond (is_eq (nat_cmp h code)) (Some slot) (at h places))
+        → IsHashed cmp hash new slots crowded next
+    placed_more key code slot new code_is free new_are =
         record {
           sorted = is.sorted;
           below = is.below;
@@ -148,7 +149,7 @@ module _ {K V : Type 0} (cmp : K → K → Ordering) (hash : K → ℕ) (same : 
           placed = λ n pair there.
               new_are (hash pair.0)
               ∙ ap (λ test. cond test (Some slot) (at (hash pair.0) places))
-              (other_number (hash pair.0) code (λ one. none-some n (sym none ∙ ap (λ h. at h places) (sym (one ∙ code_is)) ∙ is.placed n pair there)))
+              (other_number (hash pair.0) code (λ one. none-some pair (sym free ∙ ap (option_and_then (λ m. at m slots)) (ap (λ h. at h places) (sym (one ∙ code_is)) ∙ is.placed n pair there) ∙ there)))
               ∙ is.placed n pair there;
         }
 
@@ -241,14 +242,14 @@ module _ {K V : Type 0} (cmp : K → K → Ordering) (hash : K → ℕ) (same : 
 
   -- a key that was nowhere comes into the next slot
   module _ (places more : List (ℕ × ℕ)) (slots new : List (ℕ × (K × V))) (crowded : List (K × V)) (next : ℕ) (is : IsHashed cmp hash places slots crowded next) (key : K) (value : V) (code : ℕ)
-      (code_is : code ≡ hash key) (none : at (hash key) places ≡ None) (alone : lookup (is_at (cmp key)) crowded ≡ None)
+      (code_is : code ≡ hash key) (free : option_and_then (λ n. at n slots) (at (hash key) places) ≡ None) (alone : lookup (is_at (cmp key)) crowded ≡ None)
       (more_are : (h : ℕ) → at h more ≡ cond (is_eq (nat_cmp h code)) (Some next) (at h places))
       (sorted : IsStrictlySortedBy nat_cmp (keys_of new)) (new_are : (n : ℕ) → at n new ≡ cond (is_eq (nat_cmp n next)) (Some (key, value)) (at n slots)) where
     place : at (hash key) more ≡ Some next
     place = more_are (hash key) ∙ ap (λ test. cond test (Some next) (at (hash key) places)) (same_number (hash key) code (sym code_is))
 
     stay : (n : ℕ) (pair : K × V) → n ≢ next → at n slots ≡ Some pair → at (hash pair.0) more ≡ Some n
-    stay n pair apart there = (placed_more places slots crowded next is key code next more code_is none more_are).placed n pair there
+    stay n pair apart there = (placed_more places slots crowded next is key code next more code_is free more_are).placed n pair there
 
     pub last_hashed : IsHashed cmp hash more new crowded (next + 1)
     last_hashed = put_hashed places more slots new crowded next (next + 1) is key value next sorted new_are (omega arith) (omega arith) alone place stay
@@ -256,12 +257,21 @@ module _ {K V : Type 0} (cmp : K → K → Ordering) (hash : K → ℕ) (same : 
     nothing : at next slots ≡ None
     nothing = nothing_at places slots crowded next is next (omega arith)
 
+    -- a place that leads to no pair finds nothing for a key that didn't come
+    stale : (other : K) → value_of cmp hash other (at next new) ≡ None → (place : Option ℕ) → option_and_then (λ n. at n slots) place ≡ None → option_and_then (λ n. value_of cmp hash other (at n new)) place ≡ None
+    stale other not None gone = refl
+    stale other not (Some n) gone =
+        elim (cases_eq n next) [
+          | inl here ↦ ap (λ m. value_of cmp hash other (at m new)) here ∙ not
+          | inr apart ↦ ap (value_of cmp hash other) (new_are n ∙ ap (λ test. cond test (Some (key, value)) (at n slots)) (other_number n next apart) ∙ gone)
+        ]
+
     elsewhere : (other : K) → value_of cmp hash other (at next new) ≡ None → (hash other ≡ code) ⊎ (hash other ≢ code)
         → option_and_then (λ n. value_of cmp hash other (at n new)) (at (hash other) more) ≡ option_and_then (λ n. value_of cmp hash other (at n new)) (at (hash other) places)
     elsewhere other not (inl here) =
         ap (option_and_then (λ n. value_of cmp hash other (at n new))) (more_are (hash other) ∙ ap (λ test. cond test (Some next) (at (hash other) places)) (same_number (hash other) code here))
         ∙ not
-        ∙ sym (ap (option_and_then (λ n. value_of cmp hash other (at n new))) (ap (λ h. at h places) (here ∙ code_is) ∙ none))
+        ∙ sym (ap (λ h. option_and_then (λ n. value_of cmp hash other (at n new)) (at h places)) (here ∙ code_is) ∙ stale other not (at (hash key) places) free)
     elsewhere other not (inr apart) =
         ap (option_and_then (λ n. value_of cmp hash other (at n new))) (more_are (hash other) ∙ ap (λ test. cond test (Some next) (at (hash other) places)) (other_number (hash other) code apart))
 

@@ -3,3 +3,4 @@ pub mod SpotLemmas
 pub mod MapLemmas
 pub mod BlockLemmas
 pub mod HashedLemmas
+pub mod PlacesLemmas

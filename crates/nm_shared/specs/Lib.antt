@@ -4,4 +4,5 @@ pub mod Spot
 pub mod Map
 pub mod Blocks
 pub mod Hashed
+pub mod Places
 pub mod TextHash

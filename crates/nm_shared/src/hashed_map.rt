@@ -3,11 +3,12 @@
 ghost use Rattle.std.specs.Prelude.{◌≡◌, [], ℕ, true, false, IfOk, MatchOption, OnOk, OnErr, Some, None, if◌then◌else◌};
 ghost use Rattle.std.specs.BTreeMap.{is_at};
 ghost use Rattle.std.specs.Map.{lookup};
-ghost use Rattle.std.specs.Option.{option_copied};
+ghost use Rattle.std.specs.Option.{option_and_then, option_copied};
 ghost use Rattle.std.specs.Ordering.{is_eq};
 ghost use Rattle.nm_shared.specs.Hashed.{at, slot_value};
 
 use crate::SharedMap;
+use crate::places::Places;
 use nm_base::{Copies, NoMemory};
 use std::alloc::Global;
 use std::cmp::Ordering;
@@ -26,9 +27,9 @@ pub trait Hashed: Ord {
 /// Pairs, each key once, in no order that is told. A contract sees it as a list of its pairs.
 #[derive(Drop)]
 pub struct HashedMap<K: Hashed, V> {
-    /// The slot to which a hash leads.
-    places: SharedMap<u64, u64>,
-    /// Pairs by slots, in the order in which they came. They are copied far less often than places are.
+    /// The slot to which a hash leads. A place stays when its pair is gone, until another one takes it.
+    places: Places,
+    /// Pairs by slots, in the order in which they came.
     slots: SharedMap<u64, (K, V)>,
     /// Pairs whose hash leads to the slot of another key, so that many keys with one hash cost no more than keys in order.
     crowded: SharedMap<K, V>,
@@ -52,13 +53,13 @@ impl<K: Hashed, V> Model for HashedMap<K, V> {
 
 /// The slot of a key, and the pair in it.
 fn found<'a, K: Hashed, V>(
-    places: &SharedMap<u64, u64>,
+    places: &Places,
     slots: &'a SharedMap<u64, (K, V)>,
     key: &K,
 ) -> Option<(u64, &'a (K, V))>
     ensures { MatchOption result (slot_value K.cmp K.hash places.now slots.now key.now ≡ None) (λ found. (at (K.hash key.now) places.now ≡ Some found.0) × (at found.0 slots.now ≡ Some found.1.now) × (is_eq (K.cmp key.now found.1.now.0) ≡ true)) }
 {
-    let slot = *places.get(&key.hash_code())?;
+    let slot = places.get(key.hash_code())?;
     let pair = slots.get(&slot)?;
     if key.cmp(&pair.0) == Ordering::Equal {
         Some((slot, pair))
@@ -67,19 +68,30 @@ fn found<'a, K: Hashed, V>(
     }
 }
 
-/// Says whether a key without a slot can have none: it is crowded already, or its hash leads elsewhere.
+/// Says whether a key without a slot can have none: it is crowded already, or its hash leads to another key.
 fn is_crowded<K: Hashed, V>(
-    places: &SharedMap<u64, u64>,
+    places: &Places,
+    slots: &SharedMap<u64, (K, V)>,
     crowded: &SharedMap<K, V>,
     key: &K,
 ) -> bool
-    ensures place { result ≡ false → at (K.hash key.now) places.now ≡ None }
+    ensures free { result ≡ false → option_and_then (λ slot. at slot slots.now) (at (K.hash key.now) places.now) ≡ None }
     ensures apart { result ≡ false → lookup (is_at (K.cmp key.now)) crowded.now ≡ None }
 {
-    if places.get(&key.hash_code()).is_some() {
+    if is_taken(places, slots, key.hash_code()) {
         return true;
     }
     crowded.get(key).is_some()
+}
+
+/// Says whether a hash leads to a pair that is still there.
+fn is_taken<K: Hashed, V>(places: &Places, slots: &SharedMap<u64, (K, V)>, code: u64) -> bool
+    ensures { result ≡ false → option_and_then (λ slot. at slot slots.now) (at code places.now) ≡ None }
+{
+    match places.get(code) {
+        None => false,
+        Some(slot) => slots.get(&slot).is_some(),
+    }
 }
 
 impl<K: Hashed, V> HashedMap<K, V> {
@@ -88,7 +100,7 @@ impl<K: Hashed, V> HashedMap<K, V> {
         ensures { result ≡ [] }
     {
         HashedMap {
-            places: SharedMap::new(alloc),
+            places: Places::new(alloc),
             slots: SharedMap::new(alloc),
             crowded: SharedMap::new(alloc),
             next: 0,
@@ -131,7 +143,7 @@ impl<K: Hashed + Copies, V: Copies> HashedMap<K, V> {
             let _ = self.slots.len();
             return Ok(());
         }
-        if is_crowded(&self.places, &self.crowded, &key) {
+        if is_crowded(&self.places, &self.slots, &self.crowded, &key) {
             self.crowded.insert(key, value)?;
             return Ok(());
         }
@@ -157,22 +169,6 @@ impl<K: Hashed + Copies, V: Copies> HashedMap<K, V> {
         self.slots.remove(&slot)?;
         // No code needs the number; that slots rise comes with it.
         let _ = self.slots.len();
-        self.leave(key.hash_code());
         Ok(())
-    }
-
-    /// Forgets where a hash leads, if no pair is there any more. Without memory for that it stays.
-    fn leave(&mut self, hash: u64)
-        ensures { self.new ≡ self.old }
-    {
-        let Some(place) = self.places.get(&hash) else {
-            return;
-        };
-        if self.slots.get(place).is_some() {
-            return;
-        }
-        if self.places.remove(&hash).is_err() {
-            return;
-        }
     }
 }

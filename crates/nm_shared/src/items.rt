@@ -1,8 +1,9 @@
 //! Reading a shared map in order.
 
-ghost use Rattle.std.specs.Prelude.{◌≡◌, ◌++◌, length};
+ghost use Rattle.std.specs.Prelude.{◌≡◌, ◌++◌, length, slice_get};
 ghost use Rattle.std.specs.Iterator.{at_most};
 ghost use Rattle.std.specs.Map.Iter.{TakesFirst, deref};
+ghost use Rattle.std.specs.Option.{option_copied};
 ghost use Rattle.nm_shared.specs.Runs.{flat};
 
 use crate::run::Run;
@@ -32,6 +33,19 @@ impl<'a, T> Items<'a, T> {
         ensures { result ≡ front.now ++ flat rest.now }
     {
         Items { front, rest }
+    }
+
+    /// The first item, which stays.
+    pub(crate) fn peek(&mut self) -> Option<&'a T>
+        ensures first { option_copied result ≡ slice_get self.old 0 }
+        ensures stays { self.new ≡ self.old }
+    {
+        'runs: while self.front.is_empty() {
+            let (run, rest) = self.rest.split_first()?;
+            self.front = run.as_slice();
+            self.rest = rest;
+        }
+        self.front.first()
     }
 }
 

@@ -5,6 +5,8 @@
 mod across;
 mod hashed_map;
 mod items;
+mod merge;
+mod places;
 mod room;
 mod run;
 mod runs;

@@ -63,6 +63,10 @@ impl<K: Ord, V> SharedMap<K, V> {
         self.len == 0
     }
 
+    pub(crate) fn alloc(&self) -> Global {
+        *self.runs.allocator()
+    }
+
     pub fn get(&self, key: &K) -> Option<&V>
         ensures { option_copied result ≡ lookup (is_at (K.cmp key.now)) self.now }
     {
@@ -112,6 +116,21 @@ impl<K: Ord, V> SharedMap<K, V> {
 }
 
 impl<K: Ord + Drop, V: Drop> SharedMap<K, V> {
+    /// The map of these pairs, all in one run.
+    pub(crate) fn of_sorted(pairs: Vec<(K, V)>) -> Result<SharedMap<K, V>, NoMemory>
+        requires { IsStrictlySortedBy K.cmp (keys_of pairs.items) }
+        ensures { IfOk result (λ map. map ≡ pairs.items) }
+    {
+        let alloc = *pairs.allocator();
+        let len = pairs.len();
+        let mut runs = Vec::new(alloc);
+        if len == 0 {
+            return Ok(SharedMap { runs, len });
+        }
+        runs.push(Run::of(pairs)?)?;
+        Ok(SharedMap { runs, len })
+    }
+
     /// A second handle, for far less than a copy. No change of one shows in the other.
     pub fn share(&self) -> Result<SharedMap<K, V>, NoMemory>
         ensures { IfOk result (λ map. map ≡ self.now) }

@@ -17,7 +17,6 @@ invariant_of-self-2 g c =
 
 pub returns-clause-found : goal.returns-clause-found
 returns-clause-found g c = λ other.
-    ap (lookup (is_at (g.K.Ord.cmp other))) c.leave.ensures
-    ∙ gone_are g.K.Ord.cmp g.K.Hashed.hash g.met.K.Hashed.same c.self.inside.places c.self.inside.slots c.remove-2.new.self c.self.inside.crowded c.self.inside.next c.self.invariant c.args.key.now c.in-Some.slot _ c.in-Some.ensures.0 c.in-Some.ensures.1 c.in-Some.ensures.2
+    gone_are g.K.Ord.cmp g.K.Hashed.hash g.met.K.Hashed.same c.self.inside.places c.self.inside.slots c.remove-2.new.self c.self.inside.crowded c.self.inside.next c.self.invariant c.args.key.now c.in-Some.slot _ c.in-Some.ensures.0 c.in-Some.ensures.1 c.in-Some.ensures.2
     c.len.ensures.sorted c.in_ok-remove-2.ensures.found other
     ∙ ap (λ all. cond (is_eq (g.K.Ord.cmp other c.args.key.now)) None (lookup (is_at (g.K.Ord.cmp other)) all)) c.self.view_is

@@ -1,0 +1,110 @@
+//! Where hashes lead, for maps by hashes. Hashes fall anywhere, so pairs in small runs would all be copied one by one.
+
+ghost use Rattle.std.specs.Prelude.{◌≡◌, [], ℕ, IfOk, OnOk, OnErr, Some, if◌then◌else◌};
+ghost use Rattle.std.specs.Ordering.{is_eq, nat_cmp};
+ghost use Rattle.nm_shared.specs.Hashed.{at};
+ghost use Rattle.nm_shared.specs.Places.{merge};
+
+use crate::SharedMap;
+use crate::merge::Merge;
+use nm_base::NoMemory;
+use std::alloc::Global;
+use std::marker::Model;
+
+/// So many pairs are late at least before they join the others.
+const MIN_LATE: usize = 2_048;
+
+/// And one for so many of the others, so that each pair is moved a bounded number of times while the others double.
+const EARLY_PER_LATE: usize = 16;
+
+/// The slot to which each hash leads. A contract sees it as pairs of which the first one with a hash counts.
+#[derive(Drop)]
+pub struct Places {
+    /// What came lately.
+    late: SharedMap<u64, u64>,
+    /// What came before: one run, so that a second handle counts one.
+    early: SharedMap<u64, u64>,
+}
+
+impl Model for Places {
+    ghost use Rattle.std.specs.Prelude.{ℕ, List, ◌++◌};
+    ghost use Rattle.std.specs.Coded.{coded_list, coded×, coded_ℕ};
+
+    ghost Value = { List (ℕ × ℕ) };
+
+    ghost coded = { coded_list (coded× coded_ℕ coded_ℕ) };
+
+    ghost view = { λ p. p.late ++ p.early };
+}
+
+impl Places {
+    /// No hash leads anywhere, and no memory is taken.
+    pub fn new(alloc: Global) -> Places
+        ensures { result ≡ [] }
+    {
+        Places {
+            late: SharedMap::new(alloc),
+            early: SharedMap::new(alloc),
+        }
+    }
+
+    /// The slot to which the hash leads.
+    pub fn get(&self, hash: u64) -> Option<u64>
+        ensures { result ≡ at hash self.now }
+    {
+        if let Some(slot) = self.late.get(&hash) {
+            return Some(*slot);
+        }
+        Some(*self.early.get(&hash)?)
+    }
+
+    /// A second handle, for far less than a copy. No change of one shows in the other.
+    pub fn share(&self) -> Result<Places, NoMemory>
+        ensures { IfOk result (λ places. places ≡ self.now) }
+    {
+        Ok(Places {
+            late: self.late.share()?,
+            early: self.early.share()?,
+        })
+    }
+
+    /// Leads the hash to the slot.
+    pub fn insert(&mut self, hash: u64, slot: u64) -> Result<(), NoMemory>
+        ensures found { OnOk result ((other : ℕ) → at other self.new ≡ (if is_eq (nat_cmp other hash) then Some slot else at other self.old)) }
+        ensures err { OnErr result (self.new ≡ self.old) }
+    {
+        self.late.insert(hash, slot)?;
+        self.settle();
+        Ok(())
+    }
+
+    /// Joins the late ones with the others, once they are many. Without memory for it they stay.
+    fn settle(&mut self)
+        ensures { (hash : ℕ) → at hash self.new ≡ at hash self.old }
+    {
+        let max = (self.early.len() / EARLY_PER_LATE).max(MIN_LATE);
+        if self.late.len() < max {
+            return;
+        }
+        let Ok(merged) = merged(&self.late, &self.early) else {
+            return;
+        };
+        self.late = SharedMap::new(self.early.alloc());
+        self.early = merged;
+    }
+}
+
+/// Both in one run.
+fn merged(
+    late: &SharedMap<u64, u64>,
+    early: &SharedMap<u64, u64>,
+) -> Result<SharedMap<u64, u64>, NoMemory>
+    ensures { IfOk result (λ map. map ≡ merge late.now early.now) }
+{
+    let len = late.len().saturating_add(early.len());
+    let mut merged = Vec::with_capacity(early.alloc(), len)?;
+    'pairs: for pair in Merge::of(late.iter(), early.iter()) {
+        merged.push(pair)?;
+    }
+    Ok(SharedMap::of_sorted(merged)?)
+}
