@@ -36,7 +36,7 @@ every-cond : (P : List ℕ → Type 0) (b : Bool) (text : List ℕ) (texts : Lis
 every-cond P true text texts first rest = (first, rest)
 every-cond P false text texts first rest = rest
 
-every-filter : (P : List ℕ → Type 0) (keep : List ℕ → Bool) (texts : List (List ℕ)) → AllByRecursion P texts → AllByRecursion P (filter keep texts)
+pub every-filter : (P : List ℕ → Type 0) (keep : List ℕ → Bool) (texts : List (List ℕ)) → AllByRecursion P texts → AllByRecursion P (filter keep texts)
 every-filter P keep [] h = tt
 every-filter P keep (text ∷ texts) h = every-cond P (keep text) text (filter keep texts) h.0 (every-filter P keep texts h.1)
 

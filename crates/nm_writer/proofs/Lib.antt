@@ -5,6 +5,7 @@ pub mod DoneLemmas
 pub mod DurableLemmas
 pub mod EntryLemmas
 pub mod LawLemmas
+pub mod MailLemmas
 pub mod NamingLemmas
 pub mod NewLemmas
 pub mod OrderLemmas

@@ -1,16 +1,21 @@
 -- What a `new` leaves of the writer.
-use Rattle.std.specs.Prelude.{◌≡◌, ◌⊎◌, ℕ, List, [], ◌∷◌, Option, Some, Result, Ok, Err}
+use Rattle.std.specs.Prelude.{◌≡◌, ◌⊎◌, ◌&&◌, ℕ, true, false, List, [], ◌∷◌, Option, Some, is_some, Result, Ok, Err}
+use Rattle.std.specs.List.{AllByRecursion, Contains}
 use Rattle.nm_answer.specs.NewText.{gone, listed_in, report_of}
 use Rattle.nm_answer.specs.declared.report.NewReport.{NewReport}
+use Rattle.nm_base.specs.Limits.{max_mail_bytes}
+use Rattle.nm_base.specs.Order.{has_text}
 use Rattle.nm_base.specs.declared.facts.Facts.{Facts}
+use Rattle.nm_commit.specs.Files.{has_path}
 use Rattle.nm_commit.specs.declared.change.Commit.{Commit}
 use Rattle.nm_index.specs.Fits.{FitInTurn}
 use Rattle.nm_index.specs.declared.base.Base.{Base}
-use Rattle.nm_maildir.specs.Tree.{Tree}
+use Rattle.nm_maildir.specs.Tree.{Tree, got_of}
 use Rattle.nm_maildir.specs.declared.given.Given.{Given}
 use Rattle.nm_maildir.specs.declared.given.Given.TheVariants.{Listed}
 use Rattle.nm_plan.specs.Plan.{commits_so_far, message_ids, removed_files, to_read}
 use Rattle.nm_scan.specs.Listing.{IsListing, PassesListing}
+use Rattle.nm_scan.specs.Reading.{found_in}
 use Rattle.nm_scan.specs.Scanning.{FindsBatches}
 use Rattle.nm_writer.specs.Writer.{WriterState}
 use Rattle.nm_writer.specs.Writing.{FailsWithin, HasCommitted, PassesWithin, StopsWithin}
@@ -53,3 +58,23 @@ IsAfterNew tree noted old faults (Err (errors.Limit limit)) new =
     ⊎ ((left : List (List ℕ)) × (due : List Commit) × AreNewCommits tree old.shown noted left due × PassesWithin old due limit new)
 IsAfterNew tree noted old faults (Err errors.NoMemory) new =
     (new ≡ old) ⊎ ((left : List (List ℕ)) × (due : List Commit) × AreNewCommits tree old.shown noted left due × StopsWithin old due new)
+
+-- ---- what a `new` that went well leaves
+
+-- the facts of the mail that the tree has at the path, where it has one there that is no longer than a mail may be
+abbrev pub facts_at : Tree → List ℕ → Option Facts
+facts_at tree path = found_in (got_of tree path max_mail_bytes)
+
+-- where one of these files is listed, the tree still has mail there
+abbrev pub StillHolds : Tree → List (List ℕ × Facts) → List (List ℕ) → Type 0
+StillHolds tree files listed = (path : List ℕ) → has_path files path ≡ true → has_text listed path ≡ true → is_some (facts_at tree path) ≡ true
+
+-- none of the files lay there before, and it has the facts of its bytes
+abbrev pub HasCome : Tree → List (List ℕ × Facts) → List ℕ × Facts → Type 0
+HasCome tree before file = (has_path before file.0 ≡ false) × (facts_at tree file.0 ≡ Some file.1)
+
+-- The paths are the listed ones at which the tree has mail, given that it still has where a file lay before. Each file is one of those before,
+-- or has come and has the facts of its bytes.
+pub record HoldsTheMail (tree : Tree) (listed : List (List ℕ)) (before after : List (List ℕ × Facts)) : Type 0 where
+  pub paths : StillHolds tree before listed → (path : List ℕ) → has_path after path ≡ (has_text listed path && is_some (facts_at tree path))
+  pub files : AllByRecursion (λ file. Contains before file ⊎ HasCome tree before file) after

@@ -2,6 +2,7 @@
 
 ghost use Rattle.std.specs.Prelude.{◌≡◌, ◌<◌, List, [], Err, IfOk, IfSome, None, length, map};
 ghost use Rattle.std.specs.Vec.Iter.{into_iter_items, into_iter_len};
+ghost use Rattle.nm_answer.specs.NewText.{listed_in};
 ghost use Rattle.nm_commit.specs.declared.change.Commit.{Commit};
 ghost use Rattle.nm_disk.specs.Observed.{ObservedDisk};
 ghost use Rattle.nm_faults.specs.Faults.{HasCauseOf};
@@ -13,7 +14,7 @@ ghost use Rattle.nm_plan.specs.Plan.{add_of, batch_commit, drop_of, message_ids}
 ghost use Rattle.nm_scan.specs.Scanning.{AsksNew};
 ghost use Rattle.nm_writer.specs.Batch.{AreUnknown, BatchFits, IsAfterBatch, IsAfterBatches};
 ghost use Rattle.nm_writer.specs.Durable.{IsDurable};
-ghost use Rattle.nm_writer.specs.New.{HasListed, IsAfterNew};
+ghost use Rattle.nm_writer.specs.New.{HasListed, HoldsTheMail, IsAfterNew};
 ghost use Rattle.nm_writer.specs.Report.{report_with};
 ghost use Rattle.nm_writer.specs.Writer.{StandsOnIndex};
 ghost use Rattle.nm_writer.specs.Writing.{IsAfterCommits, is_read_fault, is_write_fault};
@@ -27,7 +28,7 @@ use nm_base::{Copies, MailPath, Many, MessageId, NoMemory};
 use nm_commit::{Change, Commit};
 use nm_disk::Disk;
 use nm_maildir::{Given, MailError, Maildir};
-use nm_plan::new_commits_fit;
+use nm_plan::{new_commits_fit, new_leaves_what_is_listed, the_files_after_new};
 use nm_scan::{
     Mail, ScanError, a_batch_more_is_read, a_batch_that_stops_is_unfinished, batches_are_finished,
     batches_are_what_was_read, no_batch_is_read_at_first, read_batch,
@@ -60,6 +61,10 @@ impl Writer {
         // Whatever the error, the commits of the batches before it stay.
         ensures after { IsAfterNew (M.observed mail.old).tree noted.new self.old (D.observed disk.new).faults result self.new }
 
+        // After all went well over a tree that is told, the files are the listed ones that are mail, those that have come with the facts of
+        // their bytes.
+        ensures mail { IfSome (M.observed mail.old).tree (λ tree. IfOk result (λ _. HoldsTheMail tree (listed_in noted.new) self.old.shown.files self.new.shown.files)) }
+
         // A writer that is closed says so, and no device is asked.
         ensures closed { IfSome self.old.closed (λ fault. (result ≡ Err (WriteError.Closed fault)) × (M.observed mail.new ≡ M.observed mail.old) × (D.observed disk.new ≡ D.observed disk.old)) }
 
@@ -73,6 +78,9 @@ impl Writer {
         ensures durable { (entry : ObservedDisk) (opening : Base) → IsDurable entry opening (D.observed disk.old) self.old
             → IsDurable entry opening (D.observed disk.new) self.new }
     {
+        batches_are_what_was_read();
+        the_files_after_new();
+        new_leaves_what_is_listed();
         match self.closed {
             Some(fault) => Err(WriteError::Closed { fault }),
             None => self.scan_and_take_in(mail, disk, noted),
