@@ -116,7 +116,7 @@ fault-assoc : (a b c d : Option ℕ) → d ≡ fault_or b c → fault_or a d ≡
 fault-assoc None b c d e = e
 fault-assoc (Some status) b c d e = refl
 
-first-append : (front more : List LineLog) → first_fault (front ++ more) ≡ fault_or (first_fault front) (first_fault more)
+pub first-append : (front more : List LineLog) → first_fault (front ++ more) ≡ fault_or (first_fault front) (first_fault more)
 first-append [] more = refl
 first-append (log ∷ front) more = fault-assoc (fault_of log.outcome) (first_fault front) (first_fault more) (first_fault (front ++ more)) (first-append front more)
 

@@ -4,5 +4,6 @@ mod CrashLemmas
 mod LawLemmas
 mod LineLemmas
 mod MachineLemmas
+mod PrintedLemmas
 pub mod SettledLemmas
 pub mod TreeLemmas

@@ -1,7 +1,7 @@
 //! The statements of a session hold before its first line, and a line more keeps them. These functions run no code: their
 //! clauses are the laws, which the loop of a session calls.
 
-ghost use Rattle.std.specs.Prelude.{◌≡◌, ℕ, ℤ, List, [], ◌∷◌, ◌++◌, None, length};
+ghost use Rattle.std.specs.Prelude.{◌≡◌, ◌||◌, ℕ, ℤ, true, false, List, [], ◌∷◌, ◌++◌, None, length};
 ghost use Rattle.nm_base.specs.Limits.{max_mail_bytes};
 ghost use Rattle.nm_commit.specs.declared.change.Commit.{Commit};
 ghost use Rattle.nm_index.specs.declared.base.Base.{Base};
@@ -14,6 +14,10 @@ ghost use Rattle.nm_history.specs.LineCommits.{LineCommits};
 ghost use Rattle.nm_history.specs.LineResult.{IsLineResult, Place, StandsAt};
 ghost use Rattle.nm_history.specs.Lines.{RunLine, at_first};
 ghost use Rattle.nm_history.specs.MachineRun.{MachineRun};
+ghost use Rattle.nm_history.specs.PrintedOut.{printed_by};
+ghost use Rattle.nm_history.specs.Status.{any_is_out_of_memory, fault_of, fault_or, first_fault, is_out_of_memory};
+ghost use Rattle.nm_log.specs.Replies.{printed_line, reply_of};
+ghost use Rattle.nm_log.specs.declared.log.LineLog.{LineLog};
 
 /// Before the first line nothing is begun or acknowledged, and the opening index is shown.
 pub fn no_line_stands_at_the_opening()
@@ -83,6 +87,19 @@ pub fn a_line_more_keeps_the_given()
         (old new : Place) (ran : RunLine) → StandsAt opening entry steps lines acknowledged old → IsLineResult moment old ran taken new
         → GivenAlong opening moment steps (at_first opening entry) lines entry.mail old.mail
         → GivenAlong opening moment (steps ++ taken) (at_first opening entry) (lines ++ ran ∷ []) entry.mail new.mail }
+{}
+
+/// What is printed of a line more is what was printed, and then that line: of a script its header and its reply, and alone its reply.
+pub fn a_line_more_is_printed_last()
+    ensures script { (logs : List LineLog) (log : LineLog) → printed_by true (logs ++ log ∷ []) ≡ printed_by true logs ++ printed_line log }
+    ensures alone { (logs : List LineLog) (log : LineLog) → printed_by false (logs ++ log ∷ []) ≡ printed_by false logs ++ reply_of log }
+{}
+
+/// A line more leaves the first fault of a device what it was, and where there was none that is its own; memory ran out where it had, or
+/// where it does in this line.
+pub fn a_line_more_keeps_the_first_fault()
+    ensures fault { (logs : List LineLog) (log : LineLog) → first_fault (logs ++ log ∷ []) ≡ fault_or (first_fault logs) (fault_of log.outcome) }
+    ensures memory { (logs : List LineLog) (log : LineLog) → any_is_out_of_memory (logs ++ log ∷ []) ≡ (any_is_out_of_memory logs || is_out_of_memory log.outcome) }
 {}
 
 /// Each commit that a line more acknowledges has its clock.

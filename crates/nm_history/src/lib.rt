@@ -6,10 +6,11 @@ mod going_on;
 mod laws;
 
 pub use going_on::{
-    a_line_more_keeps_the_answers, a_line_more_keeps_the_clocks, a_line_more_keeps_the_commits,
-    a_line_more_keeps_the_given, a_line_more_keeps_the_machine_run,
-    a_line_more_keeps_where_it_stands, no_line_is_answered, no_line_makes_no_commit,
-    no_line_stands_at_the_opening, no_step_is_a_run_of_the_machine, nothing_is_given_to_no_line,
+    a_line_more_is_printed_last, a_line_more_keeps_the_answers, a_line_more_keeps_the_clocks,
+    a_line_more_keeps_the_commits, a_line_more_keeps_the_first_fault, a_line_more_keeps_the_given,
+    a_line_more_keeps_the_machine_run, a_line_more_keeps_where_it_stands, no_line_is_answered,
+    no_line_makes_no_commit, no_line_stands_at_the_opening, no_step_is_a_run_of_the_machine,
+    nothing_is_given_to_no_line,
 };
 pub use laws::{
     a_call_that_reads_nothing_is_not_refused_for_its_input, a_disk_fault_is_the_status,
