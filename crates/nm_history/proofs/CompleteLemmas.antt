@@ -26,7 +26,7 @@ use Rattle.nm_faults.specs.Faults.{Counts}
 use Rattle.nm_answer.specs.BatchLines.{queries_in, taggings_in}
 use Rattle.nm_answer.specs.declared.request.Request.{Request}
 use Rattle.nm_answer.specs.declared.request.Request.TheVariants as requests
-use Rattle.nm_writer.specs.StoredIndex.{HoldsIndex, HoldsNoIndex}
+use Rattle.nm_writer.specs.StoredIndex.{HoldsIndex, HoldsNoIndex, HoldsWithin, PassesLimit}
 use Rattle.nm_history.specs.Call.{Call, Ending, Ran, Refused, call_fault, call_lines, call_reads, command_reads, fault_of_input, input_fault, input_fault_by, is_session, line_refusal, reads_by}
 use Rattle.nm_history.specs.Complete.{EndsWell, IsComplete, IsFinished, IsWithin, MayRead, NoFault, Opens}
 use Rattle.nm_history.specs.Given.{GivenAlong, IsGiven}
@@ -34,7 +34,7 @@ use Rattle.nm_history.specs.History.{History}
 use Rattle.nm_history.specs.LineAnswers.{HasAnswer, HasCause, LineAnswers}
 use Rattle.nm_history.specs.Lines.{Along, Before, RunLine, after_line, after_lines, at_first, lines_run}
 use Rattle.nm_history.specs.PrintedOut.{AreLogsOf, PrintedOut, StreamAppends}
-use Rattle.nm_history.specs.Refusals.{IsInputPassed, IsRead, PassesBefore, TakesInput}
+use Rattle.nm_history.specs.Refusals.{IsInputPassed, IsRead, IsRefusedFor, PassesBefore, TakesInput}
 use Rattle.nm_history.specs.Requests.{bad_line_in, first_bad_line}
 use Rattle.nm_history.specs.Status.{Status, any_is_out_of_memory, fault_of, fault_or, first_fault, session_status, single_status, status_by, status_of_fault, write_fault}
 
@@ -113,7 +113,7 @@ quiet-out true old new bytes stands room h = let rose = h.1.1 room in absurd (om
 -- an input within its limits passed none
 within-limits : (limit : Limit) (read input : List ℕ) (call : Call) → IsInputPassed limit read call → IsWithin input call → ⊥
 within-limits limits.InputBytes read input call h within =
-    let long : max_input_bytes < length input = subst (λ (o : Option (List ℕ)). IfSome o (λ bytes. max_input_bytes < length bytes)) within.told h in
+    let long : max_input_bytes < length input = subst (λ (o : Option (List ℕ)). IfSome o (λ bytes. max_input_bytes < length bytes)) within.told h.0 in
     let short = within.bytes in
     omega arith
 within-limits limits.Lines read input call h within =
@@ -203,7 +203,13 @@ not-refused true fault refusal read input call is within taken wrong =
     let other : None ≡ Some refusal = sym within.lines_are ∙ (ap (input_fault call.words) (sym same) ∙ wrong) in absurd (cc)
 not-refused false fault refusal read input call is within taken wrong = unread-refused call.words read refusal is wrong
 
-module _ (not_bad : (bytes : List ℕ) (index : Base) (at : ℕ) → HoldsIndex bytes index → HoldsNoIndex bytes at → ⊥) where
+module _ (not_bad : (bytes : List ℕ) (index : Base) (at : ℕ) → HoldsIndex bytes index → HoldsNoIndex bytes at → ⊥) (not_passed : (bytes : List ℕ) (index : Base) (limit : Limit) → HoldsWithin bytes index → PassesLimit bytes limit → ⊥) where
+  -- neither the input passes a limit nor the index on the disk
+  no-limit : (limit : Limit) (read input : List ℕ) (call : Call) → call_fault call.words ≡ None → MayRead (call_reads call.words) input call → Opens call → IsRefusedFor (refusals.Limit limit) read call → ⊥
+  no-limit limit read input call right within opens (inl passed) = not-passed limit read input call right within passed.0
+  no-limit limit read input call right within opens (inr passed) =
+      clash-told call.entry.disk.told _ _ opens.told opens.holds passed.1 (λ moments holds passes. not_passed (bytes_now moments Head) opens.index limit holds passes)
+
   by-ending : (ending : Ending) (opening : Base) (read : List ℕ) (out_failed : Bool) (call : Call) (input : List ℕ)
       → call_fault call.words ≡ None → NoFault call → MayRead (call_reads call.words) input call → Opens call
       → PrintedOut ending read out_failed call → Status ending out_failed call
@@ -221,11 +227,11 @@ module _ (not_bad : (bytes : List ℕ) (index : Base) (at : ℕ) → HoldsIndex 
   by-ending (Refused refusals.ReadFault) opening read out_failed call input right quiet within opens said status answers given =
       let rose = said.0.2.1 quiet.input.room in let same = quiet.input.same in absurd (omega arith)
   by-ending (Refused (refusals.Limit limit)) opening read out_failed call input right quiet within opens said status answers given =
-      absurd (not-passed limit read input call right within said.0.0)
+      absurd (no-limit limit read input call right within opens said.0)
   by-ending (Refused refusals.DiskFault) opening read out_failed call input right quiet within opens said status answers given =
       let rose = said.0.1.1 quiet.disk.room in let same = quiet.disk.same in absurd (omega arith)
   by-ending (Refused (refusals.BadIndex file at)) opening read out_failed call input right quiet within opens said status answers given =
-      absurd (clash-told call.entry.disk.told _ _ opens.told opens.holds said.0.2 (λ moments holds bad. not_bad (bytes_now moments Head) opens.index at holds bad))
+      absurd (clash-told call.entry.disk.told _ _ opens.told opens.holds said.0.2 (λ moments holds bad. not_bad (bytes_now moments Head) opens.index at holds.held bad))
   by-ending (Refused refusals.NoMemory) opening read out_failed call input right quiet within opens said status answers given = inr status
   by-ending Ran opening read out_failed call input right quiet within opens said status answers given =
       let logs : List LineLog = call.done.log.lines in

@@ -50,7 +50,8 @@ opening-keeps before now quiet image through opening state number bytes holds mo
     record {
       count = 0;
       within = omega arith;
-      acknowledged = omega arith;
+      least = omega arith;
+      most = λ small. omega arith;
       holds = subst (λ (b : List ℕ). HoldsIndex b opening) (sym same) holds;
     }
 
@@ -75,5 +76,5 @@ module _ (once : (bytes : List ℕ) (one other : Base) → HoldsIndex bytes one 
       let keeps =
       each-at opening commits acked kept.states before.past moment.newer state moment.older (sym kept.are ∙ moment.order)
       (no-older (length before.past) state moment.older moment.since) kept.each bytes left in
-      subst (λ (index : Base). HoldsPrefix index commits (acked_by (min number max_count) acked) bytes) same
-      (subst (λ n. HoldsPrefix opening commits (acked_by (min n max_count) acked) bytes) (sym moment.number_is) keeps)
+      subst (λ (index : Base). HoldsPrefix index commits (min number max_count) (acked_by (min number max_count) acked) bytes) same
+      (subst (λ n. HoldsPrefix opening commits (min n max_count) (acked_by (min n max_count) acked) bytes) (sym moment.number_is) keeps)

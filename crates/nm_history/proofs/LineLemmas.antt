@@ -18,6 +18,7 @@ use Rattle.nm_history.specs.LineCommits.{EachMakes, IsOnItsWay, LineCommits, Mak
 use Rattle.nm_history.specs.LineResult.{IsLineResult, Place, StandsAt, before_at, begin_step, commit_steps, line_steps, reply_step}
 use Rattle.nm_history.specs.Lines.{Along, Before, IsIndexAt, RunLine, after_line, after_lines, at_first, begun, begun_by, closed_after, tree_after, tree_after_all}
 use Rattle.nm_history.specs.MachineRun.{Replied, reply_to}
+use Rattle.nm_writer.specs.Writing.{AreWithin}
 
 pub fold-append : {A B : Type 0} (f : A → B → A) (a : A) (xs ys : List B) → fold f a (xs ++ ys) ≡ fold f (fold f a xs) ys
 fold-append f a [] ys = refl
@@ -169,6 +170,9 @@ module _ (opening : Base) (moment : ℤ) (entry : Devices) (steps taken : List S
         (subst (λ (i : Base). Makes ran.1.outcome moment (tree_after_all entry.mail.tree lines) i ran.0 ran.1.given (length old.writer.acked + length result.made) result.made result.in_flight) at.shown
         (subst (λ (t : Option Tree). Makes ran.1.outcome moment t old.writer.shown ran.0 ran.1.given (length old.writer.acked + length result.made) result.made result.in_flight) at.tree result.makes));
     on_its_way = result.on_its_way;
+    within =
+        subst (λ n. AreWithin n (folded opening acknowledged) (result.made ++ result.in_flight)) at.acked
+        (subst (λ (i : Base). AreWithin (length old.writer.acked) i (result.made ++ result.in_flight)) at.shown result.has_made.within);
   }
 
   makes-more : (tree : Option Tree) (earlier commits : List Commit) (before : List RunLine) → tree_after_all tree before ≡ tree_after_all entry.mail.tree lines
@@ -269,6 +273,7 @@ module _ (opening : Base) (moment : ℤ) (entry : Devices) (steps taken : List S
     index = old.writer.shown;
     at = index-old;
     asks = result.asks;
+    unasked = result.unasked;
     tree = result.tree;
     noted = result.mail_faults;
     never_falls = result.mail_never_falls;
@@ -289,6 +294,7 @@ module _ (opening : Base) (moment : ℤ) (entry : Devices) (steps taken : List S
       index = h.1.index;
       at = index-more _ _ h.1.at;
       asks = h.1.asks;
+      unasked = h.1.unasked;
       tree = h.1.tree;
       noted = h.1.noted;
       never_falls = h.1.never_falls;

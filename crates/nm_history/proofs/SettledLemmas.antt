@@ -58,8 +58,8 @@ module _ (once : (bytes : List ℕ) (one other : Base) → HoldsIndex bytes one 
       let young : length opened.past ≤ length moment.older =
       omega (arith, ap length past, moment-later before.present before.past range ranges pending moment.newer kept.states moment.older state order moment.since) in
       let keeps = each-at opening commits acked kept.states opened.past moment.newer state moment.older (sym kept.are ∙ moment.order) young kept.each bytes left in
-      subst (λ (index : Base). HoldsPrefix index commits (acked_by (min number max_count) acked) bytes) same
-      (subst (λ n. HoldsPrefix opening commits (acked_by (min n max_count) acked) bytes) (sym moment.number_is) keeps)
+      subst (λ (index : Base). HoldsPrefix index commits (min number max_count) (acked_by (min number max_count) acked) bytes) same
+      (subst (λ n. HoldsPrefix opening commits (min n max_count) (acked_by (min n max_count) acked) bytes) (sym moment.number_is) keeps)
 
   keeps-by : (written : List Range) → before.present.written ≡ written → IsSynced before opened → (before.present.written ≡ [] → KeptSince opening commits acked before now) → KeptSince opening commits acked opened now
       → KeepsCommits commits acked before now
@@ -70,10 +70,10 @@ module _ (once : (bytes : List ℕ) (one other : Base) → HoldsIndex bytes one 
   session-keeps is from_entry kept = keeps-by before.present.written refl is from_entry kept
 
 -- the index from before, which a stop leaves of a synced disk
-index-stays : (opening : Base) (entry state : DiskState) (bytes acked : List ℕ) (number : ℕ) → state ≡ synced entry → HoldsIndex (bytes_of Head entry.now) opening → MayLeave state Head bytes → HoldsPrefix opening [] (acked_by number []) bytes
+index-stays : (opening : Base) (entry state : DiskState) (bytes acked : List ℕ) (number : ℕ) → state ≡ synced entry → HoldsIndex (bytes_of Head entry.now) opening → MayLeave state Head bytes → HoldsPrefix opening [] number (acked_by number []) bytes
 index-stays opening entry state bytes acked number is holds left =
     let same : bytes ≡ bytes_of Head entry.now = left-quiet (synced entry) bytes refl (subst (λ (s : DiskState). MayLeave s Head bytes) is left) in
-    record { count = 0; within = omega arith; acknowledged = omega arith; holds = subst (λ (b : List ℕ). HoldsIndex b opening) (sym same) holds }
+    record { count = 0; within = omega arith; least = omega arith; most = λ small. omega arith; holds = subst (λ (b : List ℕ). HoldsIndex b opening) (sym same) holds }
 
 -- an opening that ends with a settled disk, or with none that is settled
 module _ (before now : Moments) (range : Range) (ranges : List Range) (pending : before.present.written ≡ range ∷ ranges) where

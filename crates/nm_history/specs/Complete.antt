@@ -5,7 +5,7 @@ use Rattle.nm_base.specs.Limits.{max_count, max_input_bytes, max_lines}
 use Rattle.nm_disk.specs.Observed.{bytes_now}
 use Rattle.nm_disk.specs.declared.disk.FileNo.TheVariants.{Head}
 use Rattle.nm_index.specs.declared.base.Base.{Base}
-use Rattle.nm_writer.specs.StoredIndex.{HoldsIndex}
+use Rattle.nm_writer.specs.StoredIndex.{HoldsWithin}
 use Rattle.nm_history.specs.Call.{Call, call_fault, call_lines, call_reads, input_fault, is_session}
 use Rattle.nm_history.specs.Status.{first_fault, single_status}
 
@@ -28,10 +28,10 @@ pub record IsWithin (input : List ℕ) (call : Call) : Type 0 where
   pub few : is_session call.words ≡ true → length (lines input) ≤ max_lines
   pub lines_are : input_fault call.words input ≡ None
 
--- the disk tells its bytes, and they hold an index
+-- the disk tells its bytes, and they hold an index that keeps to the limits all the way
 pub record Opens (call : Call) : Type 0 where
   pub index : Base
-  pub holds : IfSome call.entry.disk.told (λ moments. HoldsIndex (bytes_now moments Head) index)
+  pub holds : IfSome call.entry.disk.told (λ moments. HoldsWithin (bytes_now moments Head) index)
   pub told : call.entry.disk.told ≢ None
 
 -- what a call asks of its input: where it reads it that it is within the limits, and else nothing

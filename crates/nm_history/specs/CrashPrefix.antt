@@ -1,5 +1,5 @@
--- What a stop at any moment of the call leaves on the disk: the index after the first of the commits, every one among them that
--- was acknowledged by that moment.
+-- What a stop at any moment of the call leaves on the disk: the index after the commits that were acknowledged by that moment, with or
+-- without the one that comes next.
 use Rattle.std.specs.Prelude.{◌≡◌, ℕ, ◌≤◌, Bool, true, false, min, List, [], ◌∷◌, ◌++◌, length, filter}
 use Rattle.nm_base.specs.Limits.{max_count}
 use Rattle.nm_commit.specs.declared.change.Commit.{Commit}
@@ -48,11 +48,11 @@ pub record IsMoment (before now : Moments) (state : DiskState) (number : ℕ) : 
   pub number_is : number ≡ length older
   pub since : HasSettled (length before.past) (state ∷ older)
 
--- whatever a stop at a moment of the call leaves holds the index after the first commits, those acknowledged by then among them
+-- whatever a stop at a moment of the call leaves holds the index after the first commits: those acknowledged by then, and at most one more
 abbrev pub KeepsCommits : List Commit → List ℕ → Moments → Moments → Type 0
 KeepsCommits commits acked before now =
     (opening : Base) (state : DiskState) (number : ℕ) (bytes : List ℕ) → HoldsIndex (bytes_now before Head) opening
-    → IsMoment before now state number → MayLeave state Head bytes → HoldsPrefix opening commits (acked_by (min number max_count) acked) bytes
+    → IsMoment before now state number → MayLeave state Head bytes → HoldsPrefix opening commits (min number max_count) (acked_by (min number max_count) acked) bytes
 
 -- Where the disk held an index when the call began, every moment of the call leaves its acknowledged commits on it. Each of these
 -- has its clock; clocks never fall, and end at that of the return.

@@ -1,5 +1,5 @@
 -- What the lines asked the mail folder and what it gave, one line after the other.
-use Rattle.std.specs.Prelude.{◌≡◌, ◌⊎◌, ℕ, ℤ, ◌≤◌, List, [], ◌∷◌}
+use Rattle.std.specs.Prelude.{◌≡◌, ◌⊎◌, ℕ, ℤ, ◌≤◌, List, [], ◌∷◌, IsSome}
 use Rattle.nm_answer.specs.declared.request.Request.TheVariants.{New, Count, Search, Dump, Show, Tag, Restore}
 use Rattle.nm_disk.specs.Observed.{ObservedDisk}
 use Rattle.nm_index.specs.declared.base.Base.{Base}
@@ -18,7 +18,7 @@ use Rattle.nm_scan.specs.declared.bodies_error.BodiesError.TheVariants as stops
 use Rattle.nm_writer.specs.Renamed.{AsksRenames}
 use Rattle.nm_history.specs.Call.{Devices, Ending, Ran, Refused}
 use Rattle.nm_history.specs.Lines.{Before, IsIndexAt, RunLine, after_line, after_lines, tree_after}
-use Rattle.nm_history.specs.Requests.{paths_to_show}
+use Rattle.nm_history.specs.Requests.{paths_to_show, refused_unasked}
 
 -- nothing was asked, and nothing given
 pub record AsksNothing (old new : ObservedMail) (given : List Given) : Type 0 where
@@ -54,12 +54,13 @@ AsksMail outcome (asked.Request (Tag ask)) index moment left old new given = Ask
 AsksMail outcome (asked.Request (Restore ask)) index moment left old new given = AsksRenames old new [] given
 AsksMail outcome (asked.Usage word kind) index moment left old new given = AsksNothing old new given
 
--- A line asks the folder for what it needs on the index before it; the folder's tree is as the renames leave it, and its faults are noted and
--- never fall.
+-- A line asks the folder for what it needs on the index before it, and for nothing where it is refused before it asks a device; the folder's
+-- tree is as the renames leave it, and its faults are noted and never fall.
 pub record Asks (opening : Base) (moment : ℤ) (steps : List Step) (before : Before) (ran : RunLine) (old new : ObservedMail) : Type 0 where
   pub index : Base
   pub at : IsIndexAt opening steps before.revision index
   pub asks : AsksMail ran.1.outcome (parse_line ran.0) index moment before.left old new ran.1.given
+  pub unasked : IsSome (refused_unasked (parse_line ran.0) ran.0.input before.closed) → AsksNothing old new ran.1.given
   pub tree : new.tree ≡ tree_after old.tree ran
   pub noted : ran.1.mail_faults ≡ new.faults
   pub never_falls : old.faults ≤ new.faults

@@ -23,7 +23,7 @@ use Rattle.nm_plan.specs.Plan.{due_commits}
 use Rattle.nm_plan.specs.Tagging.{tag_commit}
 use Rattle.nm_scan.specs.Listing.{PassesListing}
 use Rattle.nm_scan.specs.Scanning.{FindsBatches}
-use Rattle.nm_writer.specs.Writing.{IsPassed}
+use Rattle.nm_writer.specs.Writing.{AreWithin, IsPassed}
 use Rattle.nm_history.specs.Lines.{RunLine, begun, tree_after}
 use Rattle.nm_history.specs.Requests.{asks_to_tag, asks_to_write, refused_unasked}
 
@@ -138,11 +138,12 @@ Makes outcomes.NoMemory moment tree index line given count made in_flight = Make
 abbrev pub IsOnItsWay : Bool → List Commit → Type 0
 IsOnItsWay failed in_flight = length in_flight ≡ (if failed then 1 else 0)
 
--- What a line makes of the commits before it, and the revision that it leaves.
+-- What a line makes of the commits before it, and the revision that it leaves. What it makes, or leaves on its way, passes no limit.
 pub record MakesCommits (opening : Base) (moment : ℤ) (tree : Option Tree) (earlier : List Commit) (ran : RunLine) (made in_flight : List Commit) : Type 0 where
   pub revision : ran.1.revision ≡ opening.revision + length (earlier ++ made)
   pub makes : Makes ran.1.outcome moment tree (folded opening earlier) ran.0 ran.1.given (length (earlier ++ made)) made in_flight
   pub on_its_way : IsOnItsWay ran.1.disk_failed in_flight
+  pub within : AreWithin (length earlier) (folded opening earlier) (made ++ in_flight)
 
 -- The lines make the commits one after the other, behind these earlier ones, the tree being as the renames of the lines before leave it; in the
 -- end these were acknowledged.

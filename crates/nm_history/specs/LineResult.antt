@@ -13,13 +13,15 @@ use Rattle.nm_machine.specs.declared.step.Step.TheVariants.{Begin, Append, Show,
 use Rattle.nm_maildir.specs.Observed.{ObservedMail}
 use Rattle.nm_scan.specs.Bodies.{left_after}
 use Rattle.nm_writer.specs.Writer.{WriterState}
+use Rattle.nm_writer.specs.Writing.{AreWithin}
 use Rattle.nm_history.specs.Call.{Devices}
-use Rattle.nm_history.specs.Given.{AsksMail}
+use Rattle.nm_history.specs.Given.{AsksMail, AsksNothing}
 use Rattle.nm_history.specs.LineAnswers.{HasCause, line_text}
 use Rattle.nm_history.specs.LineCommits.{IsOnItsWay, Makes}
 use Rattle.nm_history.specs.Lines.{Before, RunLine, after_lines, at_first, begun, closed_after, tree_after, tree_after_all}
 use Rattle.nm_history.specs.MachineRun.{Replied, reply_to}
 use Rattle.nm_history.specs.PrintedOut.{IsNumbered}
+use Rattle.nm_history.specs.Requests.{refused_unasked}
 
 -- the writer, what is observed of the mail folder, how often the disk has failed, and how many bytes may still be shown
 pub record Place : Type 0 where
@@ -53,9 +55,10 @@ reply_step replied = Reply replied.lane replied.request replied.text
 abbrev pub line_steps : List Commit → List Commit → List Replied → List Step
 line_steps made in_flight replies = flat_map commit_steps made ++ (map begin_step in_flight ++ map reply_step replies)
 
--- What the writer has made of a line: these commits are shown and acknowledged, and this one is on its way.
+-- What the writer has made of a line: these commits are shown and acknowledged, and this one is on its way. None of them passes a limit.
 pub record HasMade (old : WriterState) (made in_flight : List Commit) (new : WriterState) : Type 0 where
   pub fit : FitInTurn old.shown (made ++ in_flight)
+  pub within : AreWithin (length old.acked) old.shown (made ++ in_flight)
   -- a closed writer makes nothing
   pub idle : IsSome old.closed → made ++ in_flight ≡ []
   pub shown : new.shown ≡ folded old.shown made
@@ -73,6 +76,7 @@ pub record IsLineResult (moment : ℤ) (old : Place) (ran : RunLine) (taken : Li
   pub on_its_way : IsOnItsWay ran.1.disk_failed in_flight
   pub closed : new.writer.closed ≡ closed_after old.writer.closed ran.1.disk_failed new.disk_faults
   pub asks : AsksMail ran.1.outcome (parse_line ran.0) old.writer.shown moment old.left old.mail new.mail ran.1.given
+  pub unasked : IsSome (refused_unasked (parse_line ran.0) ran.0.input old.writer.closed) → AsksNothing old.mail new.mail ran.1.given
   pub tree : new.mail.tree ≡ tree_after old.mail.tree ran
   pub left : new.left ≡ left_after old.left ran.1.given
   pub mail_never_falls : old.mail.faults ≤ new.mail.faults

@@ -11,7 +11,7 @@ use Rattle.nm_faults.specs.Faults.{HasRisen}
 use Rattle.nm_io.specs.Observed.{ObservedStream}
 use Rattle.nm_log.specs.declared.refusal.Refusal.{Refusal}
 use Rattle.nm_log.specs.declared.refusal.Refusal.TheVariants as refusals
-use Rattle.nm_writer.specs.StoredIndex.{HoldsNoIndex}
+use Rattle.nm_writer.specs.StoredIndex.{HoldsNoIndex, PassesLimit}
 use Rattle.nm_history.specs.Call.{Call, call_fault, call_reads, input_fault, is_session}
 
 -- the input was read to its end, and these are its bytes
@@ -32,9 +32,9 @@ pub record ReadsScript (input : List ℕ) (call : Call) : Type 0 where
   pub takes : TakesInput (call_reads call.words) (is_session call.words) input call.entry.input call.after.input
   pub lines : input_fault call.words input ≡ None
 
--- the bound that was passed before a line was run: the bytes or the lines of the input
+-- the bound that was passed before a line was run: the bytes or the lines of the input, which did not fail
 abbrev pub IsInputPassed : Limit → List ℕ → Call → Type 0
-IsInputPassed limits.InputBytes input call = IfSome call.entry.input.bytes (λ bytes. max_input_bytes < length bytes)
+IsInputPassed limits.InputBytes input call = IfSome call.entry.input.bytes (λ bytes. max_input_bytes < length bytes) × (call.after.input.faults ≡ call.entry.input.faults)
 IsInputPassed limits.Lines input call = (is_session call.words ≡ true) × IsRead input call.entry.input call.after.input × (max_lines < length (lines input))
 IsInputPassed limits.Files input call = ⊥
 IsInputPassed limits.Dirs input call = ⊥
@@ -70,7 +70,8 @@ IsRefusedFor (refusals.BadLine line kind) input call =
     (call_fault call.words ≡ None) × IsRead input call.entry.input call.after.input × (input_fault call.words input ≡ Some (refusals.BadLine line kind)) × DiskUnasked call
 IsRefusedFor refusals.ReadFault input call =
     (call_fault call.words ≡ None) × (call_reads call.words ≡ true) × HasRisen call.entry.input.faults call.after.input.faults × DiskUnasked call
-IsRefusedFor (refusals.Limit limit) input call = PassesBefore limit input call × DiskUnasked call
+IsRefusedFor (refusals.Limit limit) input call =
+    (PassesBefore limit input call × DiskUnasked call) ⊎ (ReadsScript input call × IfSome call.entry.disk.told (λ moments. PassesLimit (bytes_now moments Head) limit))
 IsRefusedFor refusals.DiskFault input call = ReadsScript input call × HasRisen call.entry.disk.faults call.after.disk.faults
 IsRefusedFor (refusals.BadIndex file at) input call =
     ReadsScript input call × (file ≡ Head) × IfSome call.entry.disk.told (λ moments. HoldsNoIndex (bytes_now moments Head) at)

@@ -26,7 +26,9 @@ ghost use Rattle.nm_history.specs.Lines.{Before, IsIndexAt, tree_after_line};
 ghost use Rattle.nm_history.specs.Requests.{asks_to_tag, asks_to_write, refused_text_in};
 ghost use Rattle.nm_history.specs.Status.{first_fault, session_status};
 
-use nm_writer::{an_index_is_held_once, what_holds_an_index_is_not_bad};
+use nm_writer::{
+    an_index_is_held_once, what_holds_an_index_is_not_bad, what_keeps_the_limits_passes_none,
+};
 
 /// The steps have one index at a revision.
 pub fn an_index_at_a_revision_is_one()
@@ -65,6 +67,7 @@ pub fn a_history_is_complete()
     ensures { (call : Call) → History call → IsComplete call }
 {
     what_holds_an_index_is_not_bad();
+    what_keeps_the_limits_passes_none();
 }
 
 /// A writer whose commits are kept since the opening, and since the entry where no write was pending then, leaves them on the

@@ -106,6 +106,7 @@ asks-early outcome (asked.Usage word kind) index moment left mail early = record
 pub made-nothing : (writer : WriterState) → HasMade writer [] [] writer
 made-nothing writer = record {
   fit = tt;
+  within = tt;
   idle = λ _. refl;
   shown = refl;
   begun_are = sym (append-nil writer.begun);
@@ -132,6 +133,7 @@ idle moment place line outcome makes asks cause =
       on_its_way = refl;
       closed = refl;
       asks = asks;
+      unasked = λ refused. record { given_is = refl; same = refl };
       tree = tree-still (parse_line line) place.mail.tree;
       left = refl;
       mail_never_falls = omega arith;

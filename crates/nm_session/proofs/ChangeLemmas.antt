@@ -6,12 +6,12 @@ use Rattle.nm_base.specs.declared.limit.Limit.{Limit}
 use Rattle.nm_base.specs.declared.memory.NoMemory.{NoMemory}
 use Rattle.nm_commit.specs.declared.change.Commit.{Commit}
 use Rattle.nm_faults.specs.Faults.{Counts}
-use Rattle.nm_history.specs.Given.{AsksMail}
+use Rattle.nm_history.specs.Given.{AsksMail, AsksNothing}
 use Rattle.nm_history.specs.LineAnswers.{HasCause}
 use Rattle.nm_history.specs.LineCommits.{IsOnItsWay, Makes}
 use Rattle.nm_history.specs.LineResult.{HasMade, Place, before_at}
 use Rattle.nm_history.specs.Lines.{closed_after, tree_after_line}
-use Rattle.nm_history.specs.Requests.{refused_closed}
+use Rattle.nm_history.specs.Requests.{refused_closed, refused_unasked}
 use Rattle.nm_index.specs.Fits.{FitInTurn}
 use Rattle.nm_index.specs.Index.{committed, folded}
 use Rattle.nm_index.specs.declared.base.Base.{Base}
@@ -30,7 +30,7 @@ use Rattle.nm_session.specs.Outcomes.{is_fault, outcome_of}
 use Rattle.nm_session.specs.declared.answering.LineAnswer.{LineAnswer}
 use Rattle.nm_session.proofs.AnswerLemmas.{made-nothing, refused-said}
 use Rattle.nm_writer.specs.Writer.{WriterState}
-use Rattle.nm_writer.specs.Writing.{FailsWithin, HasCommitted, IsPassed}
+use Rattle.nm_writer.specs.Writing.{AreWithin, FailsWithin, HasCommitted, IsPassed}
 use Rattle.nm_writer.specs.declared.write_error.WriteError.{WriteError}
 use Rattle.nm_writer.specs.declared.write_error.WriteError.TheVariants as errors
 
@@ -87,8 +87,13 @@ closed-by (Some other) fault result P Q shut h = h.2
 
 -- what was made
 
-pub made-some : (old new : WriterState) (done : List Commit) → HasCommitted old done new → old.closed ≡ None → FitInTurn old.shown done → HasMade old done [] new
-made-some old new done h alive fit = record {
+-- an open writer has as many clocks as it has begun commits
+within-even : (old : WriterState) (commits : List Commit) → old.closed ≡ None → IsEven old → AreWithin (length old.begun) old.shown commits → AreWithin (length old.acked) old.shown commits
+within-even old commits alive even h = subst (λ n. AreWithin n old.shown commits) (even alive) h
+
+pub made-some : (old new : WriterState) (done : List Commit) → HasCommitted old done new → old.closed ≡ None → IsEven old → FitInTurn old.shown done → HasMade old done [] new
+made-some old new done h alive even fit = record {
+  within = subst (AreWithin (length old.acked) old.shown) (sym (append-nil done)) (within-even old done alive even h.within);
   fit = subst (FitInTurn old.shown) (sym (append-nil done)) fit;
   idle = λ some. some-none old.closed (done ++ [] ≡ []) alive some;
   shown = h.shown;
@@ -102,11 +107,12 @@ pub made-none : (old new : WriterState) → new ≡ old → HasMade old [] [] ne
 made-none old new same = subst (λ (w : WriterState). HasMade old [] [] w) (sym same) (made-nothing old)
 
 -- a commit is left on its way
-pub made-failing : (old new : WriterState) (due : List Commit) (faults : ℕ) (h : FailsWithin old due faults new) → old.closed ≡ None → FitInTurn old.shown due → HasMade old h.done (h.commit ∷ []) new
-made-failing old new due faults h alive fit =
+pub made-failing : (old new : WriterState) (due : List Commit) (faults : ℕ) (h : FailsWithin old due faults new) → old.closed ≡ None → IsEven old → FitInTurn old.shown due → HasMade old h.done (h.commit ∷ []) new
+made-failing old new due faults h alive even fit =
     let all : FitInTurn old.shown ((h.done ++ h.commit ∷ []) ++ h.more) = subst (FitInTurn old.shown) (h.due_are ∙ sym (append_assoc h.done (h.commit ∷ []) h.more)) fit in
     record {
       fit = fit-front old.shown (h.done ++ h.commit ∷ []) h.more all;
+      within = within-even old (h.done ++ h.commit ∷ []) alive even h.within;
       idle = λ some. some-none old.closed (h.done ++ h.commit ∷ [] ≡ []) alive some;
       shown = h.shown;
       begun_are = h.begun;
@@ -135,7 +141,8 @@ counts-grow false before now h = omega (arith, h)
 
 module _ (moment : ℤ) (old new : Place) (line : ScriptLine) (noted : List Given) (request : Request) (is : parse_line line ≡ asked.Request request) (left : new.left ≡ left_after old.left noted)
     (asks : (outcome : Outcome) → AsksMail outcome (asked.Request request) old.writer.shown moment old.left old.mail new.mail noted)
-    (tree : new.mail.tree ≡ tree_after_line (asked.Request request) noted old.mail.tree) where
+    (tree : new.mail.tree ≡ tree_after_line (asked.Request request) noted old.mail.tree)
+    (unasked : IsSome (refused_unasked (asked.Request request) line.input old.writer.closed) → AsksNothing old.mail new.mail noted) where
   pub answered-with : (outcome : Outcome) (made in_flight : List Commit) (failed : Bool) → newly_closed old.writer new.writer ≡ failed → HasMade old.writer made in_flight new.writer
       → Makes outcome moment old.mail.tree old.writer.shown line noted (length old.writer.acked + length made) made in_flight → IsOnItsWay failed in_flight
       → new.writer.closed ≡ closed_after old.writer.closed failed new.disk_faults → old.mail.faults ≤ new.mail.faults → Counts failed old.disk_faults new.disk_faults
@@ -150,6 +157,7 @@ module _ (moment : ℤ) (old new : Place) (line : ScriptLine) (noted : List Give
         on_its_way = way;
         closed = closed;
         asks = subst (λ (p : ParsedLine). AsksMail outcome p old.writer.shown moment old.left old.mail new.mail noted) (sym is) (asks outcome);
+        unasked = subst (λ (p : ParsedLine). IsSome (refused_unasked p line.input old.writer.closed) → AsksNothing old.mail new.mail noted) (sym is) unasked;
         tree = subst (λ (p : ParsedLine). new.mail.tree ≡ tree_after_line p noted old.mail.tree) (sym is) tree;
         left = left;
         mail_never_falls = mail;
@@ -192,6 +200,7 @@ without moment old new line noted outcome failed h makes well asks = record {
   on_its_way = h.on_its_way;
   closed = h.closed;
   asks = asks;
+  unasked = h.unasked;
   tree = h.tree;
   left = h.left;
   mail_never_falls = h.mail_never_falls;

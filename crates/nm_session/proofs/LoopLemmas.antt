@@ -57,6 +57,7 @@ module _ (moment : ℤ) (lines : List ScriptLine) (line : ScriptLine) (before af
     on_its_way = h.run.answered.on_its_way;
     closed = h.run.answered.closed;
     asks = h.run.answered.asks;
+    unasked = h.run.answered.unasked;
     tree = h.run.answered.tree;
     left = h.run.answered.left;
     mail_never_falls = h.run.answered.mail_never_falls;

@@ -1,5 +1,6 @@
 -- What a session leaves on the disk, from its opening and its lines.
 use Rattle.std.proofs.Common.{◌≡◌, inl, ℕ, List, [], Option, None, Some, IfSome, length, refl, arith}
+use Rattle.nm_base.specs.declared.limit.Limit.{Limit}
 use Rattle.nm_commit.specs.declared.change.Commit.{Commit}
 use Rattle.nm_disk.specs.Calls.{GoesOn}
 use Rattle.nm_disk.specs.Images.{IsImage, MayLeave}
@@ -16,7 +17,7 @@ use Rattle.nm_machine.specs.declared.step.Step.{Step}
 use Rattle.nm_session.specs.Session.{HasOpenCause}
 use Rattle.nm_writer.specs.Durable.{KeptSince, NeverFall}
 use Rattle.nm_writer.specs.Opening.{HasOpenFault, IsOfHead, is_disk_fault}
-use Rattle.nm_writer.specs.StoredIndex.{HoldsIndex, HoldsNoIndex}
+use Rattle.nm_writer.specs.StoredIndex.{HoldsIndex, HoldsNoIndex, HoldsWithin, PassesLimit}
 use Rattle.nm_writer.specs.declared.open_error.OpenError.{OpenError}
 use Rattle.nm_writer.specs.declared.open_error.OpenError.TheVariants as errors
 
@@ -42,16 +43,16 @@ module _ (stays : (before now : Moments) → IsImage before.present before.prese
 
 module _ (keeps : (opening : Base) (commits : List Commit) (acked : List ℕ) (before opened now : Moments) → HoldsIndex (bytes_now before Head) opening → IsSynced before opened
     → (before.present.written ≡ [] → KeptSince opening commits acked before now) → KeptSince opening commits acked opened now → KeepsCommits commits acked before now) where
-  ran-told : (opening : Base) (commits : List Commit) (acked : List ℕ) (old mid new : Option Moments) → GoesOn (λ before opened. HoldsIndex (bytes_now before Head) opening) old mid → GoesOn IsSynced old mid
+  ran-told : (opening : Base) (commits : List Commit) (acked : List ℕ) (old mid new : Option Moments) → GoesOn (λ before opened. HoldsWithin (bytes_now before Head) opening) old mid → GoesOn IsSynced old mid
       → (IfSome old (λ moments. moments.present.written ≡ []) → GoesOn (KeptSince opening commits acked) old new) → GoesOn (KeptSince opening commits acked) mid new → IfTold old new (KeepsCommits commits acked)
   ran-told opening commits acked None mid new index syncs from_entry kept = tt
   ran-told opening commits acked (Some before) mid None index syncs from_entry kept = tt
   ran-told opening commits acked (Some before) None (Some now) index syncs from_entry kept = absurd syncs
   ran-told opening commits acked (Some before) (Some opened) (Some now) index syncs from_entry kept =
-      keeps opening commits acked before opened now index syncs from_entry kept
+      keeps opening commits acked before opened now index.held syncs from_entry kept
 
   -- a disk on which a session ran
-  pub ran-prefix : (opening : Base) (steps : List Step) (acked : List ℕ) (old mid new : ObservedDisk) → GoesOn (λ before opened. HoldsIndex (bytes_now before Head) opening) old.told mid.told → GoesOn IsSynced old.told mid.told
+  pub ran-prefix : (opening : Base) (steps : List Step) (acked : List ℕ) (old mid new : ObservedDisk) → GoesOn (λ before opened. HoldsWithin (bytes_now before Head) opening) old.told mid.told → GoesOn IsSynced old.told mid.told
       → (IfSome old.told (λ moments. moments.present.written ≡ []) → GoesOn (KeptSince opening (begun steps) acked) old.told new.told) → GoesOn (KeptSince opening (begun steps) acked) mid.told new.told
       → length acked ≡ appends steps → NeverFall 0 acked new.clock → CrashPrefix old new steps acked
   ran-prefix opening steps acked old mid new index syncs from_entry kept each clocks = record {
@@ -61,7 +62,7 @@ module _ (keeps : (opening : Base) (commits : List Commit) (acked : List ℕ) (b
   }
 
 -- the index that was opened is the one that the disk held
-pub opening-held : (opening : Base) (old mid : Option Moments) → GoesOn (λ before opened. HoldsIndex (bytes_now before Head) opening) old mid → IfSome old (λ moments. HoldsIndex (bytes_now moments Head) opening)
+pub opening-held : (opening : Base) (old mid : Option Moments) → GoesOn (λ before opened. HoldsWithin (bytes_now before Head) opening) old mid → IfSome old (λ moments. HoldsWithin (bytes_now moments Head) opening)
 opening-held opening None mid index = tt
 opening-held opening (Some before) None index = absurd index
 opening-held opening (Some before) (Some opened) index = index
@@ -71,8 +72,14 @@ bad-told None new file at bad = tt
 bad-told (Some before) None file at bad = absurd bad
 bad-told (Some before) (Some now) file at bad = bad.1
 
+passed-told : (old new : Option Moments) (limit : Limit) → GoesOn (λ before now. HasOpenFault (bytes_now before Head) (errors.Limit limit)) old new → IfSome old (λ moments. PassesLimit (bytes_now moments Head) limit)
+passed-told None new limit passed = tt
+passed-told (Some before) None limit passed = absurd passed
+passed-told (Some before) (Some now) limit passed = passed
+
 -- why no index was opened
 pub open-caused : (old new : ObservedDisk) (error : OpenError) → Counts (is_disk_fault error) old.faults new.faults → GoesOn (λ before now. HasOpenFault (bytes_now before Head) error) old.told new.told → IsOfHead error → HasOpenCause old new error
 open-caused old new errors.DiskFault counts bad file = counts
 open-caused old new (errors.BadIndex file at) counts bad head = (head, bad-told old.told new.told file at bad)
+open-caused old new (errors.Limit limit) counts passed file = passed-told old.told new.told limit passed
 open-caused old new errors.NoMemory counts bad file = tt

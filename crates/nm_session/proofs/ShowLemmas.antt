@@ -1,5 +1,5 @@
 -- How a show ends, from what it found and what the mail folder gave.
-use Rattle.std.proofs.Common.{◌≡◌, ◌||◌, inl, inr, ℕ, ℤ, ◌+◌, ◌-◌, ◌<◌, ◌≤◌, Bool, true, false, List, [], ◌∷◌, ◌++◌, Option, None, Some, IfOk, Result, Ok, Err, if◌then◌else◌, length, nat_lt, refl, sym, ap, ◌∙◌, subst, arith}
+use Rattle.std.proofs.Common.{◌≡◌, ◌||◌, inl, inr, ℕ, ℤ, ◌+◌, ◌-◌, ◌<◌, ◌≤◌, Bool, true, false, List, [], ◌∷◌, ◌++◌, Option, None, Some, IsSome, IfOk, Result, Ok, Err, if◌then◌else◌, length, nat_lt, refl, sym, ap, ◌∙◌, subst, arith}
 use Rattle.std.proofs.lemmas.Bool.Decides.{nat_tests}
 use Rattle.nm_answer.specs.Show.{gone_path, is_not_one, lead_paths, show_answer, show_text, shown_ids}
 use Rattle.nm_answer.specs.declared.request.Request.TheVariants as requests
@@ -8,7 +8,7 @@ use Rattle.nm_base.specs.declared.asks.ShowAsk.{ShowAsk}
 use Rattle.nm_base.specs.declared.limit.Limit.TheVariants.{ShowBytes}
 use Rattle.nm_base.specs.declared.memory.NoMemory.{NoMemory}
 use Rattle.nm_faults.specs.Faults.{HasCauseOf}
-use Rattle.nm_history.specs.Given.{AsksMail, AsksShow}
+use Rattle.nm_history.specs.Given.{AsksMail, AsksNothing, AsksShow}
 use Rattle.nm_history.specs.LineAnswers.{HasCause, NoneFailed}
 use Rattle.nm_history.specs.LineCommits.{Makes}
 use Rattle.nm_history.specs.LineResult.{Place, before_at}
@@ -46,6 +46,11 @@ asks-no-tag line = asks_to_tag line ≡ false
 
 abbrev asks-no-write : ParsedLine → Type 0
 asks-no-write line = asks_to_write line ≡ false
+
+-- what is refused is not nothing
+none-some : (refused : Option Outcome) (P : Type 0) → refused ≡ None → IsSome refused → P
+none-some None P none some = absurd (cc)
+none-some (Some outcome) P none some = absurd (cc)
 
 -- the bytes of a show
 
@@ -146,6 +151,7 @@ module _ (moment : ℤ) (writer : WriterState) (old_mail new_mail : ObservedMail
         closed = refl;
         asks = subst (λ (p : ParsedLine). AsksMail outcome p writer.shown moment left old_mail new_mail noted) (sym is)
             (subst (λ (l : List (List ℕ)). AsksShow outcome old_mail new_mail left l noted) paths-are asks);
+        unasked = λ refused. none-some (refused_unasked (parse_line line) line.input writer.closed) (AsksNothing old_mail new_mail noted) (ap (λ (p : ParsedLine). refused_unasked p line.input writer.closed) is ∙ may-ask) refused;
         tree = subst (λ (p : ParsedLine). new_mail.tree ≡ tree_after_line p noted old_mail.tree) (sym is) tree;
         left = refl;
         mail_never_falls = grows;

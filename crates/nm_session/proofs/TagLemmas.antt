@@ -1,5 +1,5 @@
 -- How a line ends that sets tags, from what the writer did.
-use Rattle.std.proofs.Common.{◌≡◌, inr, ℕ, ℤ, ◌+◌, ◌<◌, zero, suc, true, false, List, [], ◌∷◌, ◌++◌, Option, None, Some, IfOk, IfSome, is_some, Result, Ok, Err, drop, fold, length, map, refl, sym, ap, ◌∙◌, subst, append-nil, append_assoc, arith}
+use Rattle.std.proofs.Common.{◌≡◌, inr, ℕ, ℤ, ◌+◌, ◌<◌, zero, suc, true, false, List, [], ◌∷◌, ◌++◌, Option, None, Some, IfOk, IfSome, IsSome, is_some, Result, Ok, Err, drop, fold, length, map, refl, sym, ap, ◌∙◌, subst, append-nil, append_assoc, arith}
 use Rattle.std.proofs.lemmas.List.{drop_all, length-append}
 use Rattle.std.specs.Option.{option_map}
 use Rattle.nm_answer.specs.Answer.{answer}
@@ -13,14 +13,14 @@ use Rattle.nm_base.specs.declared.memory.NoMemory.{NoMemory}
 use Rattle.nm_commit.specs.declared.change.Commit.{Commit}
 use Rattle.nm_faults.specs.Faults.{Counts, HasCauseOf}
 use Rattle.nm_flags.specs.declared.renames.Rename.{Rename}
-use Rattle.nm_history.specs.Given.{AsksMail}
+use Rattle.nm_history.specs.Given.{AsksMail, AsksNothing}
 use Rattle.nm_history.specs.LineAnswers.{NoneFailed}
 use Rattle.nm_history.specs.LineCommits.{AreDue, FindsFor, FindsRenames, MakesBefore, MakesTags, renames_left}
 use Rattle.nm_history.specs.LineResult.{Place, before_at}
 use Rattle.nm_history.specs.Lines.{given_in, tree_after_line}
 use Rattle.nm_history.specs.Requests.{first_refusal, is_asking, is_tagging, is_writing, refused_closed, refused_reading, refused_text_of, refused_unasked}
 use Rattle.nm_index.specs.Fits.{FitInTurn}
-use Rattle.nm_index.specs.Index.{folded}
+use Rattle.nm_index.specs.Index.{committed, folded}
 use Rattle.nm_index.specs.declared.base.Base.{Base}
 use Rattle.nm_log.specs.ParsedLine.{parse_line}
 use Rattle.nm_log.specs.declared.line_parser.ParsedLine.{ParsedLine}
@@ -44,7 +44,7 @@ use Rattle.nm_session.proofs.ChangeLemmas.{alive-asks, alive-by, answered-with, 
 use Rattle.nm_writer.specs.Renamed.{AnswersAlong, AsksRenames, TreesAlong}
 use Rattle.nm_writer.specs.Tagged.{IsAfterTags}
 use Rattle.nm_writer.specs.Writer.{WriterState}
-use Rattle.nm_writer.specs.Writing.{FailsWithin, HasCommitted, IsAfterCommits, PassesWithin, StopsWithin, is_read_fault}
+use Rattle.nm_writer.specs.Writing.{AreWithin, FailsWithin, HasCommitted, IsAfterCommits, PassesWithin, StopsWithin, is_read_fault}
 use Rattle.nm_writer.specs.declared.write_error.WriteError.{WriteError}
 use Rattle.nm_writer.specs.declared.write_error.WriteError.TheVariants as errors
 
@@ -75,10 +75,23 @@ none-left index wanted noted all =
     sym (ap (λ n. map (λ rename. rename.from) (drop n (renames_for index wanted))) all
     ∙ ap (map (λ rename. rename.from)) (drop_all (length (renames_for index wanted)) (renames_for index wanted) (omega arith)))
 
--- commits behind others
+-- commits after others
+
+within-then : (made : ℕ) (index : Base) (first more : List Commit) → AreWithin made index first → AreWithin (made + length first) (folded index first) more → AreWithin made index (first ++ more)
+within-then made index [] more h k = let none : made + 0 ≡ made = omega arith in subst (λ n. AreWithin n index more) none k
+within-then made index (commit ∷ first) more h k =
+    let one : made + length (commit ∷ first) ≡ (made + 1) + length first = omega arith in
+    (h.0, within-then (made + 1) (committed index commit) first more h.1 (subst (λ n. AreWithin n (folded (committed index commit) first) more) one k))
+
+within-after : (old mid : WriterState) (first more : List Commit) → HasCommitted old first mid → AreWithin (length mid.begun) mid.shown more → AreWithin (length old.begun) old.shown (first ++ more)
+within-after old mid first more h k =
+    let count : length mid.begun ≡ length old.begun + length first = ap (λ (l : List Commit). length l) h.begun ∙ length-append old.begun first in
+    within-then (length old.begun) old.shown first more h.within
+    (subst (λ n. AreWithin n (folded old.shown first) more) count (subst (λ (b : Base). AreWithin (length mid.begun) b more) h.shown k))
 
 committed-then : (old mid new : WriterState) (first more : List Commit) → HasCommitted old first mid → HasCommitted mid more new → HasCommitted old (first ++ more) new
 committed-then old mid new first more h k = record {
+  within = within-after old mid first more h k.within;
   shown = k.shown ∙ (ap (λ (i : Base). folded i more) h.shown ∙ sym (folded-append old.shown first more));
   begun = k.begun ∙ (ap (λ (l : List Commit). l ++ more) h.begun ∙ append_assoc old.begun first more);
   clocks = h.clocks ++ k.clocks;
@@ -89,6 +102,7 @@ committed-then old mid new first more h k = record {
 
 abbrev failing-then : (old mid new : WriterState) (first more : List Commit) (faults : ℕ) → HasCommitted old first mid → FailsWithin mid more faults new → FailsWithin old (first ++ more) faults new
 failing-then old mid new first more faults h k = record {
+  within = subst (AreWithin (length old.begun) old.shown) (sym (append_assoc first k.done (k.commit ∷ []))) (within-after old mid first (k.done ++ k.commit ∷ []) h k.within);
   done = first ++ k.done;
   commit = k.commit;
   more = k.more;
@@ -196,8 +210,26 @@ answers-in (requests.Show ask) tags input before index moment noted = absurd (cc
 answers-in (requests.Tag ask) tags input before index moment noted = refl
 answers-in (requests.Restore ask) tags input before index moment noted = refl
 
+-- on a closed index it asks nothing
+closed-only : (request : Request) → is_tagging request ≡ true → (input : List ℕ) (closed : Option ℕ) → refused_text_of request input ≡ None → refused_unasked (asked.Request request) input closed ≡ refused_closed closed true
+closed-only request tags input closed right = ap (λ (r : Option Outcome). first_refusal r (refused_closed closed (is_writing request))) right ∙ ap (refused_closed closed) (writing-in request tags)
+
+unasked-by : (Q : Type 0) (closed : Option ℕ) (wanted : Base) (noted : List Given) (old new : WriterState) (faults : ℕ) (result : Result SyncReport WriteError) (old_mail new_mail : ObservedMail)
+    → IsAfterTags wanted noted old faults result new → IfSome closed (λ fault. (result ≡ Err (errors.Closed fault)) × (new_mail ≡ old_mail) × Q) → IsSome (refused_closed closed true) → AsksNothing old_mail new_mail noted
+unasked-by Q None wanted noted old new faults result old_mail new_mail after shut refused = absurd (cc)
+unasked-by Q (Some fault) wanted noted old new faults result old_mail new_mail after shut refused =
+    let ended = subst (λ (r : Result SyncReport WriteError). IsAfterTags wanted noted old faults r new) shut.0 after in
+    record { given_is = ended.1; same = shut.1 }
+
+pub tag-unasked : (Q : Type 0) (request : Request) → is_tagging request ≡ true → (input : List ℕ) (closed : Option ℕ) (wanted : Base) (noted : List Given) (old new : WriterState) (faults : ℕ) (result : Result SyncReport WriteError) (old_mail new_mail : ObservedMail)
+    → refused_text_of request input ≡ None → IsAfterTags wanted noted old faults result new → IfSome closed (λ fault. (result ≡ Err (errors.Closed fault)) × (new_mail ≡ old_mail) × Q)
+    → IsSome (refused_unasked (asked.Request request) input closed) → AsksNothing old_mail new_mail noted
+tag-unasked Q request tags input closed wanted noted old new faults result old_mail new_mail right after shut refused =
+    unasked-by Q closed wanted noted old new faults result old_mail new_mail after shut (subst (λ (r : Option Outcome). IsSome r) (closed-only request tags input closed right) refused)
+
 module _ (moment : ℤ) (old new : Place) (line : ScriptLine) (noted : List Given) (request : Request) (kind : is_tagging request ≡ true) (is : parse_line line ≡ asked.Request request) (left : new.left ≡ left_after old.left noted)
     (right : refused_text_of request line.input ≡ None) (asks : AsksRenames old.mail new.mail [] noted)
+    (unasked : IsSome (refused_unasked (asked.Request request) line.input old.writer.closed) → AsksNothing old.mail new.mail noted)
     (fits : HasTried old.writer.shown (wanted_for request line.input moment old.writer.shown) noted → FitInTurn old.writer.shown (tag_commits old.writer.shown (wanted_for request line.input moment old.writer.shown) noted)) where
   abbrev index : Base
   index = old.writer.shown
@@ -248,7 +280,7 @@ module _ (moment : ℤ) (old new : Place) (line : ScriptLine) (noted : List Give
   rises-by (Some fault) faults shut h = h
 
   -- behind a fault of the folder, by what became of the commit of the moves
-  module _ (alive : old.writer.closed ≡ None) (tried : HasTried index wanted noted) (short : length (renames_done index wanted noted) < length (renames_for index wanted))
+  module _ (alive : old.writer.closed ≡ None) (even : IsEven old.writer) (tried : HasTried index wanted noted) (short : length (renames_done index wanted noted) < length (renames_for index wanted))
       (mid : WriterState) (tags : HasCommitted old.writer (tag_commit index wanted) mid) (mail : Counts true old.mail.faults new.mail.faults) (disk : Counts (is_some new.writer.closed) old.disk_faults new.disk_faults) where
     abbrev front : (path : List ℕ) × (rest : List (List ℕ)) × (renames_left index wanted noted ≡ path ∷ rest)
     front = first-left (length (renames_done index wanted noted)) (renames_for index wanted) short
@@ -257,8 +289,8 @@ module _ (moment : ℤ) (old new : Place) (line : ScriptLine) (noted : List Give
     faulted moves more order made =
         let all : HasCommitted old.writer (tag_commit index wanted ++ moves) new.writer = committed-then old.writer mid new.writer (tag_commit index wanted) moves tags made in
         let whole : due ≡ (tag_commit index wanted ++ moves) ++ more = ap (λ (l : List Commit). tag_commit index wanted ++ l) order ∙ sym (append_assoc (tag_commit index wanted) moves more) in
-        answered-with moment old new line noted request is left asks-so tree outcomes.MailFault (tag_commit index wanted ++ moves) [] false (still all.closed)
-        (made-some old.writer new.writer (tag_commit index wanted ++ moves) all alive (fit-front index (tag_commit index wanted ++ moves) more (subst (FitInTurn index) whole (fits tried))))
+        answered-with moment old new line noted request is left asks-so tree unasked outcomes.MailFault (tag_commit index wanted ++ moves) [] false (still all.closed)
+        (made-some old.writer new.writer (tag_commit index wanted ++ moves) all alive even (fit-front index (tag_commit index wanted ++ moves) more (subst (FitInTurn index) whole (fits tried))))
         (inr (record {
           path = front.0;
           left = front.1;
@@ -271,8 +303,8 @@ module _ (moment : ℤ) (old new : Place) (line : ScriptLine) (noted : List Give
     failed-moves : FailsWithin mid (move_commit noted) new.disk_faults new.writer → IsLineAnswer moment old line noted outcomes.MailFault (newly_closed old.writer new.writer) new
     failed-moves h =
         let all : FailsWithin old.writer due new.disk_faults new.writer = failing-then old.writer mid new.writer (tag_commit index wanted) (move_commit noted) new.disk_faults tags h in
-        answered-with moment old new line noted request is left asks-so tree outcomes.MailFault all.done (all.commit ∷ []) true (gets-closed old.writer new.writer new.disk_faults alive all.closed)
-        (made-failing old.writer new.writer due new.disk_faults all alive (fits tried))
+        answered-with moment old new line noted request is left asks-so tree unasked outcomes.MailFault all.done (all.commit ∷ []) true (gets-closed old.writer new.writer new.disk_faults alive all.closed)
+        (made-failing old.writer new.writer due new.disk_faults all alive even (fits tried))
         (inr (record {
           path = front.0;
           left = front.1;
@@ -302,23 +334,23 @@ module _ (moment : ℤ) (old new : Place) (line : ScriptLine) (noted : List Give
       → IsLineAnswer moment old line noted (outcome_by result) (newly_closed old.writer new.writer) new
   tag-answered P Q (Ok report) after shut mail disk idle even =
       let alive : old.writer.closed ≡ None = alive-by old.writer.closed (Ok report) P Q shut refl in
-      answered-with moment old new line noted request is left asks-so tree outcomes.Ok due [] false (still after.2.closed)
-      (made-some old.writer new.writer due after.2 alive (fits after.0)) (are-due [] after.0 (none-left index wanted noted after.1), refl) refl after.2.closed (omega (arith, mail))
+      answered-with moment old new line noted request is left asks-so tree unasked outcomes.Ok due [] false (still after.2.closed)
+      (made-some old.writer new.writer due after.2 alive even (fits after.0)) (are-due [] after.0 (none-left index wanted noted after.1), refl) refl after.2.closed (omega (arith, mail))
       (stands-by new.writer.closed (after.2.closed ∙ alive) (disk alive))
       (may-ask old.writer.closed (alive-asks old.writer.closed alive), reads-in request kind index moment old.left noted, none-failed mail)
   tag-answered P Q (Err errors.MailFault) after shut mail disk idle even =
       let alive : old.writer.closed ≡ None = alive-by {T = SyncReport} old.writer.closed (Err errors.MailFault) P Q shut refl in
-      by-moves alive after.0 after.1 after.2.0 after.2.1 mail (disk alive) after.2.2.outcome after.2.2.after
+      by-moves alive even after.0 after.1 after.2.0 after.2.1 mail (disk alive) after.2.2.outcome after.2.2.after
   tag-answered P Q (Err errors.DiskFault) after shut mail disk idle even =
       let alive : old.writer.closed ≡ None = alive-by {T = SyncReport} old.writer.closed (Err errors.DiskFault) P Q shut refl in
       let fails : FailsWithin old.writer due new.disk_faults new.writer = after.1 in
-      answered-with moment old new line noted request is left asks-so tree outcomes.DiskFault fails.done (fails.commit ∷ []) true (gets-closed old.writer new.writer new.disk_faults alive fails.closed)
-      (made-failing old.writer new.writer due new.disk_faults fails alive (fits after.0))
+      answered-with moment old new line noted request is left asks-so tree unasked outcomes.DiskFault fails.done (fails.commit ∷ []) true (gets-closed old.writer new.writer new.disk_faults alive fails.closed)
+      (made-failing old.writer new.writer due new.disk_faults fails alive even (fits after.0))
       (fails.commit, record { left = renames_left index wanted noted; due = due; are_due = are-due (renames_left index wanted noted) after.0 refl; more = fails.more; order = fails.due_are }, refl)
       refl fails.closed (omega (arith, mail)) (rises-by new.writer.closed new.disk_faults fails.closed (disk alive))
       (may-ask old.writer.closed (alive-asks old.writer.closed alive), writing-in request kind, mail, refl)
   tag-answered P Q (Err (errors.Closed fault)) after shut mail disk idle even =
-      answered-with moment old new line noted request is left asks-so tree (outcomes.Closed fault) [] [] false (still (ap (λ (w : WriterState). w.closed) after.2))
+      answered-with moment old new line noted request is left asks-so tree unasked (outcomes.Closed fault) [] [] false (still (ap (λ (w : WriterState). w.closed) after.2))
       (made-none old.writer new.writer after.2) (record { made_are = refl; in_flight_is = refl }) refl (ap (λ (w : WriterState). w.closed) after.2) (omega (arith, mail)) (idle (closed-by {T = SyncReport} old.writer.closed fault (Err (errors.Closed fault)) P Q after.0 shut)) (
         ap (λ (r : Option Outcome). first_refusal r (refused_closed old.writer.closed (is_writing request))) right
             ∙ (ap (refused_closed old.writer.closed) (writing-in request kind) ∙ ap (λ (c : Option ℕ). refused_closed c true) after.0),
@@ -327,8 +359,8 @@ module _ (moment : ℤ) (old new : Place) (line : ScriptLine) (noted : List Give
   tag-answered P Q (Err (errors.Limit limit)) after shut mail disk idle even =
       let alive : old.writer.closed ≡ None = alive-by {T = SyncReport} old.writer.closed (Err (errors.Limit limit)) P Q shut refl in
       let passes : PassesWithin old.writer due limit new.writer = after.1 in
-      answered-with moment old new line noted request is left asks-so tree (outcomes.Limit limit) passes.done [] false (still passes.made.closed)
-      (made-some old.writer new.writer passes.done passes.made alive (fit-front index passes.done (passes.commit ∷ passes.more) (subst (FitInTurn index) passes.due_are (fits after.0)))) (
+      answered-with moment old new line noted request is left asks-so tree unasked (outcomes.Limit limit) passes.done [] false (still passes.made.closed)
+      (made-some old.writer new.writer passes.done passes.made alive even (fit-front index passes.done (passes.commit ∷ passes.more) (subst (FitInTurn index) passes.due_are (fits after.0)))) (
         inr (
           passes.commit,
           record { left = renames_left index wanted noted; due = due; are_due = are-due (renames_left index wanted noted) after.0 refl; more = passes.more; order = passes.due_are },
@@ -341,8 +373,8 @@ module _ (moment : ℤ) (old new : Place) (line : ScriptLine) (noted : List Give
   tag-answered P Q (Err errors.NoMemory) after shut mail disk idle even =
       let alive : old.writer.closed ≡ None = alive-by {T = SyncReport} old.writer.closed (Err errors.NoMemory) P Q shut refl in
       let stops : StopsWithin old.writer due new.writer = after.1 in
-      answered-with moment old new line noted request is left asks-so tree outcomes.NoMemory stops.done [] false (still stops.made.closed)
-      (made-some old.writer new.writer stops.done stops.made alive (fit-front index stops.done stops.more (subst (FitInTurn index) stops.due_are (fits after.0))))
+      answered-with moment old new line noted request is left asks-so tree unasked outcomes.NoMemory stops.done [] false (still stops.made.closed)
+      (made-some old.writer new.writer stops.done stops.made alive even (fit-front index stops.done stops.more (subst (FitInTurn index) stops.due_are (fits after.0))))
       (inr (renames_left index wanted noted, due, stops.more, are-due (renames_left index wanted noted) after.0 refl, stops.due_are), refl)
       refl stops.made.closed (omega (arith, mail)) (stands-by new.writer.closed (stops.made.closed ∙ alive) (disk alive)) refl
 

@@ -1,5 +1,5 @@
 -- How one line ends: what it made, why, and what it says.
-use Rattle.std.specs.Prelude.{◌≡◌, ◌&&◌, ℕ, ℤ, Bool, ◌+◌, ◌≤◌, List, [], ◌∷◌, ◌++◌, is_some, length, map, not, Option, None, Some, Result, Ok, Err}
+use Rattle.std.specs.Prelude.{◌≡◌, ◌&&◌, ℕ, ℤ, Bool, ◌+◌, ◌≤◌, List, [], ◌∷◌, ◌++◌, IsSome, is_some, length, map, not, Option, None, Some, Result, Ok, Err}
 use Rattle.std.specs.Option.{option_to_list}
 use Rattle.nm_answer.specs.Answer.{answer}
 use Rattle.nm_answer.specs.declared.request.Request.{Request}
@@ -8,14 +8,14 @@ use Rattle.nm_base.specs.declared.memory.NoMemory.{NoMemory}
 use Rattle.nm_commit.specs.declared.change.Commit.{Commit}
 use Rattle.nm_disk.specs.Observed.{ObservedDisk}
 use Rattle.nm_faults.specs.Faults.{Counts}
-use Rattle.nm_history.specs.Given.{AsksMail}
+use Rattle.nm_history.specs.Given.{AsksMail, AsksNothing}
 use Rattle.nm_history.specs.LineAnswers.{HasCause, line_text}
 use Rattle.nm_history.specs.LineCommits.{IsOnItsWay, Makes}
 use Rattle.nm_history.specs.LineResult.{HasMade, Place, before_at}
 use Rattle.nm_history.specs.Lines.{RunLine, closed_after, tree_after_line}
 use Rattle.nm_history.specs.MachineRun.{replied_where, reply_to}
 use Rattle.nm_history.specs.PrintedOut.{IsNumbered}
-use Rattle.nm_history.specs.Requests.{refused_text_of}
+use Rattle.nm_history.specs.Requests.{refused_text_of, refused_unasked}
 use Rattle.nm_index.specs.declared.base.Base.{Base}
 use Rattle.nm_log.specs.ParsedLine.{parse_line}
 use Rattle.nm_log.specs.Replies.{refusal_line, status_of}
@@ -55,6 +55,7 @@ pub record IsLineAnswer (moment : ℤ) (old : Place) (line : ScriptLine) (given 
   pub on_its_way : IsOnItsWay failed in_flight
   pub closed : new.writer.closed ≡ closed_after old.writer.closed failed new.disk_faults
   pub asks : AsksMail outcome (parse_line line) old.writer.shown moment old.left old.mail new.mail given
+  pub unasked : IsSome (refused_unasked (parse_line line) line.input old.writer.closed) → AsksNothing old.mail new.mail given
   pub tree : new.mail.tree ≡ tree_after_line (parse_line line) given old.mail.tree
   pub left : new.left ≡ left_after old.left given
   pub mail_never_falls : old.mail.faults ≤ new.mail.faults

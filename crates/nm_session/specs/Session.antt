@@ -11,7 +11,7 @@ use Rattle.nm_log.specs.declared.log.SessionLog.{SessionLog}
 use Rattle.nm_log.specs.declared.script.ScriptLine.{ScriptLine}
 use Rattle.nm_maildir.specs.Observed.{ObservedMail}
 use Rattle.nm_session.specs.Run.{HasRun}
-use Rattle.nm_writer.specs.StoredIndex.{HoldsNoIndex}
+use Rattle.nm_writer.specs.StoredIndex.{HoldsNoIndex, PassesLimit}
 use Rattle.nm_writer.specs.declared.open_error.OpenError.{OpenError}
 use Rattle.nm_writer.specs.declared.open_error.OpenError.TheVariants as errors
 
@@ -26,6 +26,7 @@ pub record IsSession (moment : ℤ) (entry : Devices) (lines : List ScriptLine) 
 abbrev pub HasOpenCause : ObservedDisk → ObservedDisk → OpenError → Type 0
 HasOpenCause old new errors.DiskFault = HasRisen old.faults new.faults
 HasOpenCause old new (errors.BadIndex file at) = (file ≡ Head) × IfSome old.told (λ moments. HoldsNoIndex (bytes_now moments Head) at)
+HasOpenCause old new (errors.Limit limit) = IfSome old.told (λ moments. PassesLimit (bytes_now moments Head) limit)
 HasOpenCause old new errors.NoMemory = Unit {0}
 
 -- No index was opened: no line was run, and every moment leaves the index that the disk held.

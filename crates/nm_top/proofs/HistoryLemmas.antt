@@ -157,7 +157,7 @@ caused-by-words (refusals.BadLine line kind) input words setting mail disk old o
 caused-by-words refusals.ReadFault input words setting mail disk old out err said done of_words e = absurd (cc)
 caused-by-words refusals.DiskFault input words setting mail disk old out err said done of_words e = absurd (cc)
 caused-by-words (refusals.BadIndex file at) input words setting mail disk old out err said done of_words e = absurd (cc)
-caused-by-words (refusals.Limit limit) input words setting mail disk old out err said done of_words e = (inl e, refl)
+caused-by-words (refusals.Limit limit) input words setting mail disk old out err said done of_words e = inl (inl e, refl)
 caused-by-words refusals.NoMemory input words setting mail disk old out err said done of_words e = tt
 
 -- a call that is refused for its words
@@ -173,7 +173,7 @@ take-cause : (error : TakeError) (words : List (List ℕ)) (setting : Setting) (
     → HasTakeCause {T = List ℕ} old.faults new.faults (Err error) → (error ≡ takes.TooLong → IfSome old.bytes (λ bytes. max_input_bytes < length bytes))
     → IsRefusedFor (take_refusal error) [] (call_of words setting (devices mail disk old out err) (devices mail disk new out said) done)
 take-cause takes.ReadFault words setting mail disk old new out err said done sound reads cause long = (sound, reads, cause, refl)
-take-cause takes.TooLong words setting mail disk old new out err said done sound reads cause long = (inr (sound, reads, long refl), refl)
+take-cause takes.TooLong words setting mail disk old new out err said done sound reads cause long = inl (inr (sound, reads, (long refl, cause)), refl)
 take-cause takes.NoMemory words setting mail disk old new out err said done sound reads cause long = tt
 
 -- a call whose input is not read
@@ -190,6 +190,7 @@ open-cause : (error : OpenError) (input : List ℕ) (words : List (List ℕ)) (s
     → input_fault words input ≡ None → HasOpenCause entry.disk after.disk error → IsRefusedFor (refusal_of error) input (call_of words setting entry after done)
 open-cause errors.DiskFault input words setting entry after done sound takes right cause = (record { words = sound; takes = takes; lines = right }, cause)
 open-cause (errors.BadIndex file at) input words setting entry after done sound takes right cause = (record { words = sound; takes = takes; lines = right }, cause.0, cause.1)
+open-cause (errors.Limit limit) input words setting entry after done sound takes right cause = inr (record { words = sound; takes = takes; lines = right }, cause)
 open-cause errors.NoMemory input words setting entry after done sound takes right cause = tt
 
 -- a call for which no index is opened

@@ -25,6 +25,7 @@ pub record Refuses (refusal : Refusal) (old new : ObservedStream) (done : Done) 
 abbrev pub refusal_of : OpenError → Refusal
 refusal_of errors.DiskFault = refusals.DiskFault
 refusal_of (errors.BadIndex file at) = refusals.BadIndex file at
+refusal_of (errors.Limit limit) = refusals.Limit limit
 refusal_of errors.NoMemory = refusals.NoMemory
 
 -- an error of reading the input, as the call is refused for it

@@ -283,6 +283,7 @@ fn refusal_of(error: OpenError) -> Refusal
     match error {
         OpenError::DiskFault => Refusal::DiskFault,
         OpenError::BadIndex { file, at } => Refusal::BadIndex { file, at },
+        OpenError::Limit(limit) => Refusal::Limit(limit),
         OpenError::NoMemory => Refusal::NoMemory,
     }
 }

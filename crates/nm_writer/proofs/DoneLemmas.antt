@@ -1,5 +1,5 @@
 -- Commits made one after the other.
-use Rattle.std.proofs.Common.{◌≡◌, ℕ, ◌<◌, List, [], ◌∷◌, ◌++◌, fold, length, Result, Ok, Err, refl, sym, ap, ◌∙◌, subst, append_assoc, append-nil, length-append, arith}
+use Rattle.std.proofs.Common.{◌≡◌, ℕ, ◌+◌, ◌<◌, List, [], ◌∷◌, ◌++◌, fold, length, Result, Ok, Err, refl, sym, ap, ◌∙◌, subst, append_assoc, append-nil, length-append, arith}
 use Rattle.std.proofs.lemmas.List.Sums.{fold-append}
 use Rattle.nm_faults.specs.Faults.{HasCauseOf}
 use Rattle.nm_base.specs.declared.facts.Facts.{Facts}
@@ -11,23 +11,23 @@ use Rattle.nm_index.specs.Index.{applied, committed, folded}
 use Rattle.nm_index.specs.declared.base.Base.{Base}
 use Rattle.nm_plan.specs.NameTags.{commit_of, follow_names, with_names}
 use Rattle.nm_writer.specs.Writer.{WriterState}
-use Rattle.nm_writer.specs.Writing.{HasCommitted, IsAfterCommit, IsAfterCommits, IsPassed, StopsWithin, is_write_fault}
+use Rattle.nm_writer.specs.Writing.{AreWithin, HasCommitted, IsAfterCommit, IsAfterCommits, IsPassed, StopsWithin, is_write_fault}
 use Rattle.nm_writer.specs.declared.write_error.WriteError.{WriteError}
 use Rattle.nm_writer.specs.declared.write_error.WriteError.TheVariants as errors
 
 -- no commit leaves the writer as it was
 pub none-made : (w : WriterState) → HasCommitted w [] w
-none-made w = record { shown = refl; begun = sym (append-nil w.begun); clocks = []; acked = sym (append-nil w.acked); each = refl; closed = refl }
+none-made w = record { within = tt; shown = refl; begun = sym (append-nil w.begun); clocks = []; acked = sym (append-nil w.acked); each = refl; closed = refl }
 
 pub none-stopped : (w : WriterState) (due : List Commit) → StopsWithin w due w
 none-stopped w due = record { done = []; more = due; due_are = refl; made = none-made w }
 
 -- one commit
 pub one-made : {T : Type 0} (old new : WriterState) (commit : Commit) (clock faults : ℕ) (result : Result T WriteError) → IsAfterCommit old commit clock faults result new → IsAfterCommits old (commit ∷ []) faults result new
-one-made old new commit clock faults (Ok done) h = record { shown = h.0; begun = h.1; clocks = clock ∷ []; acked = h.2; each = refl; closed = h.3 }
+one-made old new commit clock faults (Ok done) h = record { within = (h.4, tt); shown = h.0; begun = h.1; clocks = clock ∷ []; acked = h.2; each = refl; closed = h.3 }
 one-made old new commit clock faults (Err errors.MailFault) h = absurd h
 one-made old new commit clock faults (Err errors.DiskFault) h =
-    record { done = []; commit = commit; more = []; due_are = refl; shown = h.0; begun = h.1; clocks = []; acked = h.2 ∙ sym (append-nil old.acked); each = refl; closed = h.3 }
+    record { done = []; commit = commit; more = []; due_are = refl; within = (h.4, tt); shown = h.0; begun = h.1; clocks = []; acked = h.2 ∙ sym (append-nil old.acked); each = refl; closed = h.3 }
 one-made old new commit clock faults (Err (errors.Closed fault)) h = absurd h
 one-made old new commit clock faults (Err (errors.Limit limit)) h = record {
   done = [];
@@ -39,9 +39,24 @@ one-made old new commit clock faults (Err (errors.Limit limit)) h = record {
 }
 one-made old new commit clock faults (Err errors.NoMemory) h = subst (λ (w : WriterState). StopsWithin old (commit ∷ []) w) (sym h) (none-stopped old (commit ∷ []))
 
+-- commits that pass no limit, and then others
+within-then : (made : ℕ) (index : Base) (first second : List Commit) → AreWithin made index first → AreWithin (made + length first) (folded index first) second → AreWithin made index (first ++ second)
+within-then made index [] second h k = let none : made + 0 ≡ made = omega arith in subst (λ n. AreWithin n index second) none k
+within-then made index (commit ∷ first) second h k =
+    let one : made + length (commit ∷ first) ≡ (made + 1) + length first = omega arith in
+    (h.0, within-then (made + 1) (committed index commit) first second h.1 (subst (λ n. AreWithin n (folded (committed index commit) first) second) one k))
+
+within-made : (old mid : WriterState) (first second : List Commit) → old.begun ++ first ≡ mid.begun → mid.shown ≡ folded old.shown first → AreWithin (length old.begun) old.shown first → AreWithin (length mid.begun) mid.shown second
+    → AreWithin (length old.begun) old.shown (first ++ second)
+within-made old mid first second begun shown h k =
+    let count : length mid.begun ≡ length old.begun + length first = ap (λ (l : List Commit). length l) (sym begun) ∙ length-append old.begun first in
+    within-then (length old.begun) old.shown first second h
+    (subst (λ n. AreWithin n (folded old.shown first) second) count (subst (λ (b : Base). AreWithin (length mid.begun) b second) shown k))
+
 -- commits, and then others
 pub made-made : (old mid new : WriterState) (first second : List Commit) → HasCommitted old first mid → HasCommitted mid second new → HasCommitted old (first ++ second) new
 made-made old mid new first second h k = record {
+  within = within-made old mid first second (sym h.begun) h.shown h.within k.within;
   shown = k.shown ∙ (ap (λ (b : Base). folded b second) h.shown ∙ sym (fold-append committed old.shown first second));
   begun = k.begun ∙ (ap (λ (l : List Commit). l ++ second) h.begun ∙ append_assoc old.begun first second);
   clocks = h.clocks ++ k.clocks;
@@ -58,6 +73,7 @@ then-made old mid new first second faults (Err errors.DiskFault) h k = record {
   commit = k.commit;
   more = k.more;
   due_are = ap (λ (l : List Commit). first ++ l) k.due_are ∙ sym (append_assoc first k.done (k.commit ∷ k.more));
+  within = subst (AreWithin (length old.begun) old.shown) (sym (append_assoc first k.done (k.commit ∷ []))) (within-made old mid first (k.done ++ k.commit ∷ []) (sym h.begun) h.shown h.within k.within);
   shown = k.shown ∙ (ap (λ (b : Base). folded b k.done) h.shown ∙ sym (fold-append committed old.shown first k.done));
   begun = k.begun ∙ (ap (λ (l : List Commit). l ++ (k.done ++ k.commit ∷ [])) h.begun ∙ (append_assoc old.begun first (k.done ++ k.commit ∷ []) ∙ ap (λ (l : List Commit). old.begun ++ l) (sym (append_assoc first k.done (k.commit ∷ [])))));
   clocks = h.clocks ++ k.clocks;
@@ -89,6 +105,7 @@ refused-more T U old new first second faults errors.DiskFault h = record {
   commit = h.commit;
   more = h.more ++ second;
   due_are = ap (λ (l : List Commit). l ++ second) h.due_are ∙ append_assoc h.done (h.commit ∷ h.more) second;
+  within = h.within;
   shown = h.shown;
   begun = h.begun;
   clocks = h.clocks;

@@ -1,8 +1,8 @@
 -- None of what was acknowledged is lost: what a commit adds to the moments since an entry.
-use Rattle.std.proofs.Common.{◌≡◌, inl, inr, ℕ, ◌+◌, ◌<◌, ◌≤◌, min, Bool, true, false, ◌&&◌, cond, List, [], ◌∷◌, ◌++◌, Option, None, Some, IfSome, IfErr, IfOk, OnOk, Result, Ok, Err, filter, length, take, drop, get_or, length-append, refl, sym, ap, ◌∙◌, subst, append_assoc, append-nil, arith}
+use Rattle.std.proofs.Common.{◌≡◌, inl, inr, ℕ, ◌+◌, ◌<◌, ◌≤◌, min, Bool, true, false, ◌&&◌, cond, List, [], ◌∷◌, ◌++◌, Option, None, Some, IfSome, IfErr, IfOk, OnOk, Result, Ok, Err, filter, length, take, drop, get_or, suc, length-append, refl, sym, ap, ◌∙◌, subst, append_assoc, append-nil, arith}
 use Rattle.std.specs.Prelude.{nat_le, nat_lt}
 use Rattle.std.specs.List.{AllByRecursion}
-use Rattle.std.proofs.lemmas.Bool.{leb-true, ltb-true}
+use Rattle.std.proofs.lemmas.Bool.{le-leb, leb-true, lt-ltb, ltb-true}
 use Rattle.std.proofs.lemmas.List.{length_push, take_all, take-append-le}
 use Rattle.std.proofs.lemmas.List.Elements.{filter-append}
 use Rattle.nm_base.specs.Limits.{max_count}
@@ -47,44 +47,70 @@ later_clock own clock acked not =
     let here : test own ≡ false = not_counted_by own clock (nat_le own clock) (nat_lt own max_count) refl refl not in
     ap length (filter-append test acked (own ∷ [])) ∙ ap (λ (l : List ℕ). length (filter test acked ++ l)) (ap (λ (b : Bool). cond b (own ∷ []) []) here) ∙ ap length (append-nil (filter test acked))
 
+-- clocks that are none of a later moment are all counted there
+all-counted : (clock : ℕ) (acked : List ℕ) → clock < max_count → AllByRecursion (λ own. own ≤ clock) acked → acked_by clock acked ≡ length acked
+all-counted clock [] small h = refl
+all-counted clock (own ∷ acked) small h =
+    let kept : List ℕ = filter (λ other. nat_le other clock && nat_lt other max_count) acked in
+    let test : (nat_le own clock && nat_lt own max_count) ≡ true = ap (λ (b : Bool). b && nat_lt own max_count) (le-leb own clock h.0) ∙ lt-ltb own max_count (omega (arith, small, h.0)) in
+    ap (λ (b : Bool). length (cond b (own ∷ kept) kept)) test ∙ ap suc (all-counted clock acked small h.1)
+
+-- what is of no later moment than one is of no later moment than a later one
+all-later : (early late : ℕ) (acked : List ℕ) → early ≤ late → AllByRecursion (λ own. own ≤ early) acked → AllByRecursion (λ own. own ≤ late) acked
+all-later early late [] le h = tt
+all-later early late (own ∷ acked) le h = (omega (arith, le, h.0), all-later early late acked le h.1)
+
+all-push : (now : ℕ) (acked : List ℕ) (own : ℕ) → AllByRecursion (λ other. other ≤ now) acked → own ≤ now → AllByRecursion (λ other. other ≤ now) (acked ++ own ∷ [])
+all-push now [] own h here = (here, tt)
+all-push now (first ∷ acked) own h here = (h.0, all-push now acked own h.1 here)
+
 -- a prefix of the commits is one of these and more
-prefix-more : (opening : Base) (begun : List Commit) (commit : Commit) (least : ℕ) (bytes : List ℕ) → HoldsPrefix opening begun least bytes → HoldsPrefix opening (begun ++ commit ∷ []) least bytes
-prefix-more opening begun commit least bytes h = record {
+prefix-more : (opening : Base) (begun : List Commit) (commit : Commit) (clock acknowledged : ℕ) (bytes : List ℕ) → HoldsPrefix opening begun clock acknowledged bytes → HoldsPrefix opening (begun ++ commit ∷ []) clock acknowledged bytes
+prefix-more opening begun commit clock acknowledged bytes h = record {
   count = h.count;
   within = omega (arith, h.within, length_push begun commit);
-  acknowledged = h.acknowledged;
+  least = h.least;
+  most = h.most;
   holds = subst (λ (l : List Commit). HoldsIndex bytes (folded opening l)) (sym (take-append-le h.count begun (commit ∷ []) h.within)) h.holds;
 }
 
 each-more : (opening : Base) (begun : List Commit) (commit : Commit) (acked : List ℕ) (before : ℕ) (states : List DiskState) → EachKeeps opening begun acked before states → EachKeeps opening (begun ++ commit ∷ []) acked before states
 each-more opening begun commit acked before [] h = tt
 each-more opening begun commit acked before (state ∷ states) h =
-    (λ bytes left. prefix-more opening begun commit (acked_by (min (before + length states) max_count) acked) bytes (h.0 bytes left), each-more opening begun commit acked before states h.1)
+    (λ bytes left. prefix-more opening begun commit (min (before + length states) max_count) (acked_by (min (before + length states) max_count) acked) bytes (h.0 bytes left), each-more opening begun commit acked before states h.1)
 
 -- the index from before, or the one with the commit, is that of a prefix
-either-prefix : (opening shown : Base) (begun : List Commit) (commit : Commit) (least : ℕ) (bytes : List ℕ) → shown ≡ folded opening begun → least ≤ length begun → HoldsEither shown commit bytes → HoldsPrefix opening (begun ++ commit ∷ []) least bytes
-either-prefix opening shown begun commit least bytes is few (inl old) = record {
+either-prefix : (opening shown : Base) (begun : List Commit) (commit : Commit) (clock acknowledged : ℕ) (bytes : List ℕ) → shown ≡ folded opening begun → acknowledged ≤ length begun → (clock < max_count → length begun ≤ acknowledged)
+    → HoldsEither shown commit bytes → HoldsPrefix opening (begun ++ commit ∷ []) clock acknowledged bytes
+either-prefix opening shown begun commit clock acknowledged bytes is few all (inl old) = record {
   count = length begun;
   within = omega (arith, length_push begun commit);
-  acknowledged = few;
+  least = few;
+  most = λ small. let every = all small in omega (arith, every);
   holds = subst (HoldsIndex bytes) (is ∙ ap (folded opening) (sym (take-append-le (length begun) begun (commit ∷ []) (omega arith) ∙ take_all (length begun) begun (omega arith)))) old;
 }
-either-prefix opening shown begun commit least bytes is few (inr new) = record {
+either-prefix opening shown begun commit clock acknowledged bytes is few all (inr new) = record {
   count = length (begun ++ commit ∷ []);
   within = omega arith;
-  acknowledged = omega (arith, few, length_push begun commit);
+  least = omega (arith, few, length_push begun commit);
+  most = λ small. let every = all small in omega (arith, every, length_push begun commit);
   holds = subst (HoldsIndex bytes)
       (ap (λ (b : Base). committed b commit) is ∙ (sym (folded-more opening begun commit) ∙ ap (folded opening) (sym (take_all (length (begun ++ commit ∷ [])) (begun ++ commit ∷ []) (omega arith))))) new;
 }
 
--- the moments of a commit, before those of its past
-each-joined : (opening shown : Base) (begun : List Commit) (commit : Commit) (acked : List ℕ) (before : ℕ) (new old : List DiskState) → shown ≡ folded opening begun → length acked ≤ length begun
+-- the moments of a commit, before those of its past, of which no clock is later
+each-joined : (opening shown : Base) (begun : List Commit) (commit : Commit) (acked : List ℕ) (before past : ℕ) (new old : List DiskState) → shown ≡ folded opening begun → length begun ≡ length acked
+    → AllByRecursion (λ own. own ≤ past) acked → past ≤ before + length old
     → AllByRecursion (LeavesOnly Head (HoldsEither shown commit)) new → EachKeeps opening begun acked before old → EachKeeps opening (begun ++ commit ∷ []) acked before (new ++ old)
-each-joined opening shown begun commit acked before [] old is few through h = each-more opening begun commit acked before old h
-each-joined opening shown begun commit acked before (state ∷ new) old is few through h = (
-  λ bytes left. either-prefix opening shown begun commit (acked_by (min (before + length (new ++ old)) max_count) acked) bytes is (omega (arith, few, counted (min (before + length (new ++ old)) max_count) acked)) (through.0 bytes left),
-  each-joined opening shown begun commit acked before new old is few through.1 h,
-)
+each-joined opening shown begun commit acked before past [] old is same so_far late through h = each-more opening begun commit acked before old h
+each-joined opening shown begun commit acked before past (state ∷ new) old is same so_far late through h =
+    let clock : ℕ = min (before + length (new ++ old)) max_count in
+    let all : clock < max_count → length begun ≤ acked_by clock acked = λ small.
+    let every = all-counted clock acked small (all-later past clock acked (omega (arith, small, late, length-append new old)) so_far) in
+    omega (arith, every, same) in (
+      λ bytes left. either-prefix opening shown begun commit clock (acked_by clock acked) bytes is (omega (arith, same, counted clock acked)) all (through.0 bytes left),
+      each-joined opening shown begun commit acked before past new old is same so_far late through.1 h,
+    )
 
 -- a clock more, that of a later moment, asks nothing more of these
 each-acked : (opening : Base) (begun : List Commit) (acked : List ℕ) (own before last : ℕ) (states : List DiskState) → own ≡ min last max_count → before + length states ≤ last → EachKeeps opening begun acked before states → EachKeeps opening begun (acked ++ own ∷ []) before states
@@ -92,38 +118,52 @@ each-acked opening begun acked own before last [] is le h = tt
 each-acked opening begun acked own before last (state ∷ states) is le h =
     let clock : ℕ = min (before + length states) max_count in
     let same : acked_by clock (acked ++ own ∷ []) ≡ acked_by clock acked = later_clock own clock acked (λ before_it small. omega (arith, is, le, before_it, small)) in
-    (λ bytes left. subst (λ (n : ℕ). HoldsPrefix opening begun n bytes) (sym same) (h.0 bytes left), each-acked opening begun acked own before last states is (omega (arith, le)) h.1)
+    (λ bytes left. subst (λ (n : ℕ). HoldsPrefix opening begun clock n bytes) (sym same) (h.0 bytes left), each-acked opening begun acked own before last states is (omega (arith, le)) h.1)
 
 -- at the present moment all is there
-each-now : (opening : Base) (begun : List Commit) (acked : List ℕ) (own before : ℕ) (states past : List DiskState) (now : Moments) → all_moments now ≡ states ++ past → before ≡ length past → own ≡ min (length now.past) max_count → length acked < length begun
-    → LeavesOnly Head (λ bytes. HoldsIndex bytes (folded opening begun)) now.present → EachKeeps opening begun acked before states → EachKeeps opening begun (acked ++ own ∷ []) before states
-each-now opening begun acked own before [] past now are long is few stands h = tt
-each-now opening begun acked own before (state ∷ states) past now are long is few stands h =
+each-now : (opening : Base) (begun : List Commit) (acked : List ℕ) (own before : ℕ) (states past : List DiskState) (now : Moments) → all_moments now ≡ states ++ past → before ≡ length past → own ≡ min (length now.past) max_count → length acked + 1 ≡ length begun
+    → AllByRecursion (λ other. other ≤ length now.past) acked → LeavesOnly Head (λ bytes. HoldsIndex bytes (folded opening begun)) now.present → EachKeeps opening begun acked before states → EachKeeps opening begun (acked ++ own ∷ []) before states
+each-now opening begun acked own before [] past now are long is few so_far stands h = tt
+each-now opening begun acked own before (state ∷ states) past now are long is few so_far stands h =
     let tail : now.past ≡ states ++ past = ap (λ (l : List DiskState). drop 1 l) are in
     let top : now.present ≡ state = ap (λ (l : List DiskState). get_or l 0 now.present) are in
-    let length_is : length now.past ≡ before + length states = omega (arith, ap (λ (l : List DiskState). length l) tail, length-append states past, long) in (
+    let length_is : length now.past ≡ before + length states = omega (arith, ap (λ (l : List DiskState). length l) tail, length-append states past, long) in
+    let clock : ℕ = min (before + length states) max_count in
+    let most : clock < max_count → length begun ≤ acked_by clock (acked ++ own ∷ []) + 1 = λ small.
+    let every = all-counted clock (acked ++ own ∷ []) small (all-push clock acked own (all-later (length now.past) clock acked (omega (arith, small, length_is)) so_far) (omega (arith, is, length_is))) in
+    omega (arith, every, length_push acked own, few) in (
       λ bytes left. record {
         count = length begun;
         within = omega arith;
-        acknowledged = omega (arith, counted (min (before + length states) max_count) (acked ++ own ∷ []), length_push acked own, few);
+        least = omega (arith, counted clock (acked ++ own ∷ []), length_push acked own, few);
+        most = most;
         holds = subst (HoldsIndex bytes) (ap (folded opening) (sym (take_all (length begun) begun (omega arith)))) (stands bytes (subst (λ (s : DiskState). MayLeave s Head bytes) (sym top) left));
       },
       each-acked opening begun acked own before (before + length states) states (is ∙ ap (λ n. min n max_count) length_is) (omega arith) h.1,
     )
 
 module _ (opening shown : Base) (begun : List Commit) (commit : Commit) (acked : List ℕ) (is : shown ≡ folded opening begun) where
+  later-past : (old new : Moments) → GoesThrough Head (HoldsEither shown commit) old new → length old.past ≤ length new.past
+  later-past old new through = omega (arith, ap (λ (l : List DiskState). length l) through.are, length-append through.states (all_moments old))
+
+  old-late : (entry old : Moments) → (h : KeptSince opening begun acked entry old) → length old.past ≤ length entry.past + length h.states
+  old-late entry old h = omega (arith, ap (λ (l : List DiskState). length l) h.are, length-append h.states entry.past)
+
   -- the moments of a commit that was made
   kept-made : (own : ℕ) (entry old new : Moments) → length begun ≡ length acked → own ≡ min (length new.past) max_count → GoesThrough Head (HoldsEither shown commit) old new
       → LeavesOnly Head (λ bytes. HoldsIndex bytes (committed shown commit)) new.present → KeptSince opening begun acked entry old → KeptSince opening (begun ++ commit ∷ []) (acked ++ own ∷ []) entry new
   kept-made own entry old new same own_is through stands h =
       let are : all_moments new ≡ (through.states ++ h.states) ++ entry.past =
       through.are ∙ (ap (λ (l : List DiskState). through.states ++ l) h.are ∙ sym (append_assoc through.states h.states entry.past)) in
+      let later : length old.past ≤ length new.past = later-past old new through in
+      let so_far : AllByRecursion (λ other. other ≤ length new.past) acked = all-later (length old.past) (length new.past) acked later h.so_far in
       record {
         states = through.states ++ h.states;
         are = are;
-        each = each-now opening (begun ++ commit ∷ []) acked own (length entry.past) (through.states ++ h.states) entry.past new are refl own_is (omega (arith, same, length_push begun commit))
+        each = each-now opening (begun ++ commit ∷ []) acked own (length entry.past) (through.states ++ h.states) entry.past new are refl own_is (omega (arith, same, length_push begun commit)) so_far
             (λ bytes left. subst (HoldsIndex bytes) (ap (λ (b : Base). committed b commit) is ∙ sym (folded-more opening begun commit)) (stands bytes left))
-            (each-joined opening shown begun commit acked (length entry.past) through.states h.states is (omega (arith, same)) through.each h.each);
+            (each-joined opening shown begun commit acked (length entry.past) (length old.past) through.states h.states is same h.so_far (old-late entry old h) through.each h.each);
+        so_far = all-push (length new.past) acked own so_far (omega (arith, own_is));
       }
 
   -- the moments of a commit at which the disk failed
@@ -131,7 +171,8 @@ module _ (opening shown : Base) (begun : List Commit) (commit : Commit) (acked :
   kept-begun entry old new same through h = record {
     states = through.states ++ h.states;
     are = through.are ∙ (ap (λ (l : List DiskState). through.states ++ l) h.are ∙ sym (append_assoc through.states h.states entry.past));
-    each = each-joined opening shown begun commit acked (length entry.past) through.states h.states is (omega (arith, same)) through.each h.each;
+    each = each-joined opening shown begun commit acked (length entry.past) (length old.past) through.states h.states is same h.so_far (old-late entry old h) through.each h.each;
+    so_far = all-later (length old.past) (length new.past) acked (later-past old new through) h.so_far;
   }
 
   told-made : (own : ℕ) (entry old new : Option Moments) → length begun ≡ length acked → IfSome new (λ m. own ≡ min (length m.past) max_count) → GoesOn (λ o n. GoesThrough Head (HoldsEither shown commit) o n) old new

@@ -1,5 +1,5 @@
 -- What an opening leaves, from its end on, and from its entry on where no write was pending there.
-use Rattle.std.proofs.Common.{◌≡◌, ℕ, ◌≤◌, List, [], ◌∷◌, ◌++◌, Option, None, Some, IfOk, IfSome, Result, Ok, Err, length, take, refl, sym, ap, ◌∙◌, subst, append_assoc, arith}
+use Rattle.std.proofs.Common.{◌≡◌, ℕ, ◌+◌, ◌≤◌, min, List, [], ◌∷◌, ◌++◌, Option, None, Some, IfOk, IfSome, Result, Ok, Err, length, take, refl, sym, ap, ◌∙◌, subst, append_assoc, arith}
 use Rattle.std.specs.List.{AllByRecursion}
 use Rattle.std.proofs.lemmas.List.{ext_get_or}
 use Rattle.nm_base.specs.Limits.{max_count}
@@ -13,23 +13,25 @@ use Rattle.nm_disk.specs.declared.state.Range.{Range}
 use Rattle.nm_index.specs.Index.{folded}
 use Rattle.nm_index.specs.declared.base.Base.{Base}
 use Rattle.nm_journal.specs.Moments.{GoesThrough, LeavesOnly}
+use Rattle.nm_journal.specs.Records.{HasRecords}
 use Rattle.nm_writer.specs.Durable.{EachKeeps, HoldsPrefix, IsDurable, KeptSince, NeverFall}
-use Rattle.nm_writer.specs.StoredIndex.{HoldsIndex}
+use Rattle.nm_writer.specs.StoredIndex.{HoldsIndex, HoldsWithin}
 use Rattle.nm_writer.specs.declared.open_error.OpenError.{OpenError}
 use Rattle.nm_writer.specs.Writer.{StandsOnIndex, WriterState}
 use Rattle.nm_writer.proofs.DurableLemmas.{stands-holds}
+use Rattle.nm_writer.proofs.ReplayLemmas.{Replayed}
 
 -- before any commit the index is that of no commit
-prefix-none : (index : Base) (bytes : List ℕ) → HoldsIndex bytes index → HoldsPrefix index [] 0 bytes
-prefix-none index bytes h = record { count = 0; within = omega arith; acknowledged = omega arith; holds = h }
+prefix-none : (index : Base) (clock : ℕ) (bytes : List ℕ) → HoldsIndex bytes index → HoldsPrefix index [] clock 0 bytes
+prefix-none index clock bytes h = record { count = 0; within = omega arith; least = omega arith; most = λ small. omega arith; holds = h }
 
 each-none : (index : Base) (before : ℕ) (states : List DiskState) → AllByRecursion (LeavesOnly Head (λ bytes. HoldsIndex bytes index)) states → EachKeeps index [] [] before states
 each-none index before [] h = tt
-each-none index before (state ∷ states) h = (λ bytes left. prefix-none index bytes (h.0 bytes left), each-none index before states h.1)
+each-none index before (state ∷ states) h = (λ bytes left. prefix-none index (min (before + length states) max_count) bytes (h.0 bytes left), each-none index before states h.1)
 
 pub kept-here : (told : Option Moments) (writer : WriterState) → IfSome told (λ m. StandsOnIndex m.present writer) → GoesOn (KeptSince writer.shown [] []) told told
 kept-here None writer h = tt
-kept-here (Some m) writer h = record { states = m.present ∷ []; are = refl; each = each-none writer.shown (length m.past) (m.present ∷ []) (stands-holds m.present writer h, tt) }
+kept-here (Some m) writer h = record { states = m.present ∷ []; are = refl; each = each-none writer.shown (length m.past) (m.present ∷ []) (stands-holds m.present writer h, tt); so_far = tt }
 
 -- where nothing is pending a stop leaves what a read gives
 left-synced : (synced bytes : List ℕ) (written : List Range) → written ≡ [] → IsLeft synced (is_written written Head) (reach written Head (length synced)) bytes → bytes ≡ synced
@@ -48,7 +50,7 @@ each-settled entry index [] none image held h = (λ bytes left. subst (λ (b : L
 each-settled entry index (state ∷ states) none image held h =
     (λ bytes left. subst (λ (b : List ℕ). HoldsIndex b index) (sym (settled entry bytes none image (h.0 bytes left))) held, each-settled entry index states none image held h.1)
 
-pub kept-entry : (old new : Option Moments) (index : Base) → IfSome old (λ m. m.present.written ≡ []) → IfSome old (λ m. IsImage m.present m.present.now) → GoesOn (λ o n. HoldsIndex (bytes_now o Head) index) old new
+pub kept-entry : (old new : Option Moments) (index : Base) → IfSome old (λ m. m.present.written ≡ []) → IfSome old (λ m. IsImage m.present m.present.now) → GoesOn (λ o n. HoldsWithin (bytes_now o Head) index) old new
     → GoesOn (λ o n. GoesThrough Head (MayLeave o.present Head) o n) old new → GoesOn (KeptSince index [] []) old new
 kept-entry None None index none image held through = tt
 kept-entry None (Some n) index none image held through = absurd through
@@ -56,7 +58,8 @@ kept-entry (Some o) None index none image held through = absurd through
 kept-entry (Some o) (Some n) index none image held through = record {
   states = through.states ++ o.present ∷ [];
   are = through.are ∙ sym (append_assoc through.states (o.present ∷ []) o.past);
-  each = each-none index (length o.past) (through.states ++ o.present ∷ []) (each-settled o.present index through.states none image held through.each);
+  each = each-none index (length o.past) (through.states ++ o.present ∷ []) (each-settled o.present index through.states none image held.held through.each);
+  so_far = tt;
 }
 
 -- a writer that was opened is durable from an entry on, where what a stop leaves since then is its index
@@ -89,7 +92,23 @@ durable-here old new (Err error) fresh clock stands = tt
 
 -- and from its entry on
 pub durable-entry : (old new : ObservedDisk) (result : Result WriterState OpenError) → IfSome old.told (λ m. IsImage m.present m.present.now) → IfOk result (λ w. (w.begun ≡ []) × (w.acked ≡ []) × (w.closed ≡ None)) → IfOk result (λ w. new.clock ≤ max_count)
-    → GoesOn (λ o n. IfOk result (λ w. HoldsIndex (bytes_now o Head) w.shown)) old.told new.told → GoesOn (λ o n. GoesThrough Head (MayLeave o.present Head) o n) old.told new.told
+    → GoesOn (λ o n. IfOk result (λ w. HoldsWithin (bytes_now o Head) w.shown)) old.told new.told → GoesOn (λ o n. GoesThrough Head (MayLeave o.present Head) o n) old.told new.told
     → IfSome old.told (λ m. m.present.written ≡ []) → IfOk result (λ w. IsDurable old w.shown new w)
 durable-entry old new (Ok w) image fresh clock index through none = durable-none old new w fresh.0 fresh.1 clock (kept-entry old.told new.told w.shown none image index through)
 durable-entry old new (Err error) image fresh clock index through none = tt
+
+-- the index that the records which were read leave
+pub opened-index : (old new : Option Moments) (bodies : List (List ℕ)) (shown : Base) → GoesOn (λ o n. HasRecords 0 bodies (bytes_now o Head)) old new → Replayed bodies shown → GoesOn (λ o n. HoldsWithin (bytes_now o Head) shown) old new
+opened-index None None bodies shown records h = tt
+opened-index None (Some n) bodies shown records h = absurd records
+opened-index (Some o) None bodies shown records h = absurd records
+opened-index (Some o) (Some n) bodies shown records h = record {
+  held = record {
+    commits = h.0;
+    records = subst (λ (l : List (List ℕ)). HasRecords 0 l (bytes_now o Head)) h.1.bodies_are records;
+    values = h.1.values;
+    fit = h.1.fit;
+    index_is = h.1.index_is;
+  };
+  within = h.2;
+}

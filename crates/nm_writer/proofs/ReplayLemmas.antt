@@ -1,7 +1,8 @@
 -- Replaying one body more.
-use Rattle.std.proofs.Common.{◌≡◌, ℕ, ◌+◌, ◌<◌, ◌^◌, true, zero, suc, List, [], ◌∷◌, ◌++◌, length, min, take, drop, get_or, refl, sym, ap, ◌∙◌, subst, arith, length-append}
+use Rattle.std.proofs.Common.{◌≡◌, ℕ, ◌+◌, ◌<◌, ◌^◌, true, zero, suc, List, [], ◌∷◌, ◌++◌, length, min, take, drop, get_or, None, refl, sym, ap, ◌∙◌, subst, arith, length-append}
 use Rattle.std.proofs.lemmas.List.{map-append, take_more}
 use Rattle.nm_base.specs.Limits.{max_count}
+use Rattle.nm_base.specs.declared.limit.Limit.{Limit as AnyLimit}
 use Rattle.nm_commit.specs.Files.{Fits}
 use Rattle.nm_commit.specs.declared.change.Commit.{Commit}
 use Rattle.nm_index.specs.Fits.{FitInTurn}
@@ -9,10 +10,11 @@ use Rattle.nm_index.specs.Index.{committed, empty_index, folded}
 use Rattle.nm_index.specs.declared.base.Base.{Base}
 use Rattle.nm_journal.specs.Records.{AreBodies, record_of, records_of}
 use Rattle.nm_record.specs.CommitGrammar.{commit_grammar}
-use Rattle.nm_writer.specs.Opening.{HasBodyFault, IsBadBody, IsToldAt}
+use Rattle.nm_record.specs.Room.{limit_passed}
+use Rattle.nm_writer.specs.Opening.{HasBodyFault, IsRefusedBody, IsToldAt, IsTooMuch}
 use Rattle.nm_writer.specs.declared.open_error.OpenError.{OpenError}
-use Rattle.nm_writer.specs.declared.open_error.OpenError.TheVariants.{BadIndex, DiskFault, NoMemory}
-use Rattle.nm_writer.specs.StoredIndex.{AreCommits, HasBadBody, HasCommits, IsNoCommit, bodies_of}
+use Rattle.nm_writer.specs.declared.open_error.OpenError.TheVariants.{BadIndex, DiskFault, Limit, NoMemory}
+use Rattle.nm_writer.specs.StoredIndex.{AreCommits, HasBadBody, HasCommits, HasPassed, IsNoCommit, StayWithin, bodies_of}
 
 fits-more : (index : Base) (commits : List Commit) (commit : Commit) → FitInTurn index commits → Fits (folded index commits).files commit → FitInTurn index (commits ++ commit ∷ [])
 fits-more index [] commit fit here = (here, tt)
@@ -36,21 +38,29 @@ commits-more bodies commits index body commit new h is value fits made = record 
   index_is = made ∙ (ap (λ (b : Base). committed b commit) h.index_is ∙ sym (folded-more empty_index commits commit));
 }
 
+-- a limit that is passed by none so far, nor by one more
+stay-more : (index : Base) (commits : List Commit) (commit : Commit) → StayWithin index commits → limit_passed (committed (folded index commits) commit) ≡ None → StayWithin index (commits ++ commit ∷ [])
+stay-more index [] commit within here = (here, tt)
+stay-more index (first ∷ commits) commit within here = (within.0, stay-more (committed index first) commits commit within.1 here)
+
 -- the bodies so far
 abbrev pub Replayed : List (List ℕ) → Base → Type 0
-Replayed bodies index = (commits : List Commit) × HasCommits bodies commits index
+Replayed bodies index = (commits : List Commit) × HasCommits bodies commits index × StayWithin empty_index commits
 
 pub none-replayed : Replayed [] empty_index
-none-replayed = ([], record { bodies_are = refl; values = tt; fit = tt; index_is = refl })
+none-replayed = ([], record { bodies_are = refl; values = tt; fit = tt; index_is = refl }, tt)
 
 abbrev pub IsAfter : Base → List ℕ → Base → Type 0
-IsAfter index body new = (commit : Commit) × (body ≡ commit_grammar.bytes commit) × (commit_grammar.is_value commit ≡ true) × Fits index.files commit × (new ≡ committed index commit)
+IsAfter index body new = (commit : Commit) × (body ≡ commit_grammar.bytes commit) × (commit_grammar.is_value commit ≡ true) × Fits index.files commit × (new ≡ committed index commit) × (limit_passed (committed index commit) ≡ None)
 
 pub replayed-turn : (bodies : List (List ℕ)) (i : ℕ) (body seen : List ℕ) (index new : Base) → i < length bodies → body ≡ get_or bodies i body → seen ≡ body → Replayed (take i bodies) index → IsAfter index seen new → Replayed (take (i + 1) bodies) new
 replayed-turn bodies i body seen index new within is same before after =
     let front : take (i + 1) bodies ≡ take i bodies ++ body ∷ [] = take_more bodies i body within ∙ ap (λ (b : List ℕ). take i bodies ++ b ∷ []) (sym is) in
-    subst (λ (l : List (List ℕ)). Replayed l new) (sym front)
-    (before.0 ++ after.0 ∷ [], commits-more (take i bodies) before.0 index body after.0 new before.1 (sym same ∙ after.1) after.2 after.3 after.4)
+    subst (λ (l : List (List ℕ)). Replayed l new) (sym front) (
+      before.0 ++ after.0 ∷ [],
+      commits-more (take i bodies) before.0 index body after.0 new before.1 (sym same ∙ after.1) after.2 after.3 after.4,
+      stay-more empty_index before.0 after.0 before.2 (ap (λ (b : Base). limit_passed (committed b after.0)) (sym before.1.index_is) ∙ after.5),
+    )
 
 record-length : (body : List ℕ) → length (record_of body) ≡ 5 + length body
 record-length body = omega (arith, length-append {A = ℕ})
@@ -80,8 +90,26 @@ bad-body bodies i body seen index gate at within is same before place told bad f
   commits = before.0;
   index = index;
   before = before.1;
+  within = before.2;
   bad = subst (IsNoCommit index) same (bad (subst (λ (b : List ℕ). length b < 2 ^ 32) (sym same) (body-fits bodies i body within is fit)));
   at_is = told ∙ place;
+}
+
+-- the index after the next body passes a limit
+passed-at : (bodies : List (List ℕ)) (i : ℕ) (body seen : List ℕ) (index : Base) (limit : AnyLimit) → i < length bodies → body ≡ get_or bodies i body → seen ≡ body → Replayed (take i bodies) index
+    → (commit : Commit) × (seen ≡ commit_grammar.bytes commit) × (commit_grammar.is_value commit ≡ true) × IsTooMuch index commit limit → HasPassed bodies limit
+passed-at bodies i body seen index limit within is same before passed = record {
+  front = take i bodies;
+  commit = passed.0;
+  more = drop (suc i) bodies;
+  bodies_are = cut-at bodies i body within is ∙ ap (λ (b : List ℕ). take i bodies ++ b ∷ drop (suc i) bodies) (sym same ∙ passed.1);
+  value = passed.2;
+  commits = before.0;
+  index = index;
+  before = before.1;
+  within = before.2;
+  fits = passed.3.0;
+  passed = passed.3.1;
 }
 
 -- the place of the next gate
@@ -94,7 +122,8 @@ gate-turn bodies i body gate mid next len within is before first second long =
 
 -- a bad body is told of all bodies
 pub body-fault : (bodies : List (List ℕ)) (i : ℕ) (body seen : List ℕ) (index : Base) (gate : ℕ) (error : OpenError) → i < length bodies → body ≡ get_or bodies i body → seen ≡ body → Replayed (take i bodies) index
-    → gate ≡ min (length (records_of (take i bodies))) max_count → IsBadBody index seen error → IsToldAt gate error → HasBodyFault bodies error
+    → gate ≡ min (length (records_of (take i bodies))) max_count → IsRefusedBody index seen error → IsToldAt gate error → HasBodyFault bodies error
 body-fault bodies i body seen index gate (BadIndex file at) within is same before place bad told = (bad.0, λ fit. bad-body bodies i body seen index gate at within is same before place told bad.1 fit)
+body-fault bodies i body seen index gate (Limit limit) within is same before place bad told = passed-at bodies i body seen index limit within is same before bad
 body-fault bodies i body seen index gate DiskFault within is same before place bad told = absurd bad
 body-fault bodies i body seen index gate NoMemory within is same before place bad told = tt

@@ -1,6 +1,7 @@
--- What is never lost: whatever a stop leaves, at each moment since an entry, holds a prefix of the commits begun since then,
--- and in it every one that was acknowledged by then.
-use Rattle.std.specs.Prelude.{◌≡◌, ℕ, ◌+◌, ◌≤◌, min, ◌&&◌, nat_le, nat_lt, List, [], ◌∷◌, ◌++◌, filter, length, take, None}
+-- What is never lost: whatever a stop leaves, at each moment since an entry, holds the commits begun since then that were acknowledged by
+-- that moment, with or without the one that comes next.
+use Rattle.std.specs.Prelude.{◌≡◌, ℕ, ◌+◌, ◌<◌, ◌≤◌, min, ◌&&◌, nat_le, nat_lt, List, [], ◌∷◌, ◌++◌, filter, length, take, None}
+use Rattle.std.specs.List.{AllByRecursion}
 use Rattle.nm_base.specs.Limits.{max_count}
 use Rattle.nm_commit.specs.declared.change.Commit.{Commit}
 use Rattle.nm_disk.specs.Calls.{GoesOn}
@@ -17,16 +18,18 @@ use Rattle.nm_writer.specs.Writer.{WriterState}
 abbrev pub acked_by : ℕ → List ℕ → ℕ
 acked_by clock acked = length (filter (λ own. nat_le own clock && nat_lt own max_count) acked)
 
--- the bytes hold the index after some of the commits, the first ones, at least so many
-pub record HoldsPrefix (opening : Base) (begun : List Commit) (least : ℕ) (bytes : List ℕ) : Type 0 where
+-- The bytes hold the index after some of the commits, the first ones: all that were acknowledged by this clock, and at most one more. How many
+-- more there may be isn't told by a clock that stands at the end of its type.
+pub record HoldsPrefix (opening : Base) (begun : List Commit) (clock acknowledged : ℕ) (bytes : List ℕ) : Type 0 where
   pub count : ℕ
   pub within : count ≤ length begun
-  pub acknowledged : least ≤ count
+  pub least : acknowledged ≤ count
+  pub most : clock < max_count → count ≤ acknowledged + 1
   pub holds : HoldsIndex bytes (folded opening (take count begun))
 
--- whatever a stop leaves at the moment of this clock holds a prefix with all that was acknowledged by then
+-- whatever a stop leaves at the moment of this clock holds what was acknowledged by then, and at most one commit more
 abbrev pub KeepsAcknowledged : Base → List Commit → List ℕ → ℕ → DiskState → Type 0
-KeepsAcknowledged opening begun acked clock state = LeavesOnly Head (HoldsPrefix opening begun (acked_by clock acked)) state
+KeepsAcknowledged opening begun acked clock state = LeavesOnly Head (HoldsPrefix opening begun clock (acked_by clock acked)) state
 
 -- so it is at each of these moments, the last of them first; the clock of a moment is how many were before it
 abbrev pub EachKeeps : Base → List Commit → List ℕ → ℕ → List DiskState → Type 0
@@ -34,11 +37,12 @@ EachKeeps opening begun acked before [] = Unit {0}
 EachKeeps opening begun acked before (state ∷ states) =
     KeepsAcknowledged opening begun acked (min (before + length states) max_count) state × EachKeeps opening begun acked before states
 
--- so it is at each moment since the entry, which is one of them
+-- so it is at each moment since the entry, which is one of them; no clock is of a later moment
 pub record KeptSince (opening : Base) (begun : List Commit) (acked : List ℕ) (entry now : Moments) : Type 0 where
   pub states : List DiskState
   pub are : all_moments now ≡ states ++ entry.past
   pub each : EachKeeps opening begun acked (length entry.past) states
+  pub so_far : AllByRecursion (λ own. own ≤ length now.past) acked
 
 -- the numbers never fall, from the first one on up to the last one
 abbrev pub NeverFall : ℕ → List ℕ → ℕ → Type 0

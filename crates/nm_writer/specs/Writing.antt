@@ -1,5 +1,5 @@
 -- What a commit leaves, and what commits one after the other leave, of the writer and of the disk.
-use Rattle.std.specs.Prelude.{◌≡◌, ◌⊎◌, ℕ, ◌<◌, ◌≤◌, Bool, true, false, List, [], ◌∷◌, ◌++◌, None, Some, length, Result, Ok, Err}
+use Rattle.std.specs.Prelude.{◌≡◌, ◌⊎◌, ℕ, ◌+◌, ◌<◌, ◌≤◌, Bool, true, false, List, [], ◌∷◌, ◌++◌, None, Some, length, Result, Ok, Err}
 use Rattle.nm_base.specs.Limits.{max_commit_bytes, max_commits}
 use Rattle.nm_base.specs.declared.limit.Limit.{Limit}
 use Rattle.nm_base.specs.declared.limit.Limit.TheVariants as limits
@@ -25,6 +25,11 @@ IsPassed made shown commit limit =
 abbrev pub IsWithin : ℕ → Base → Commit → Type 0
 IsWithin made shown commit = (made < max_commits) × (length (commit_grammar.bytes commit) ≤ max_commit_bytes) × (limit_passed (committed shown commit) ≡ None)
 
+-- where so many were begun before, each of these commits, one after the other, passes no limit, and the index after it none
+abbrev pub AreWithin : ℕ → Base → List Commit → Type 0
+AreWithin made shown [] = Unit {0}
+AreWithin made shown (commit ∷ commits) = IsWithin made shown commit × AreWithin (made + 1) (committed shown commit) commits
+
 -- the index would pass this limit, or there is no memory
 abbrev pub IsFull : Base → WriteError → Type 0
 IsFull index errors.MailFault = ⊥
@@ -41,19 +46,23 @@ IsPreparing made shown commit (errors.Closed fault) = ⊥
 IsPreparing made shown commit (errors.Limit limit) = IsPassed made shown commit limit
 IsPreparing made shown commit errors.NoMemory = Unit {0}
 
--- The commit is made and shown, and its clock kept; or it is begun and the writer closed, with the faults of the disk; or nothing is.
+-- The commit is made and shown, and its clock kept; or it is begun and the writer closed, with the faults of the disk; or nothing is. What
+-- is made or begun passes no limit.
 abbrev pub IsAfterCommit : {T : Type 0} → WriterState → Commit → ℕ → ℕ → Result T WriteError → WriterState → Type 0
 IsAfterCommit old commit clock faults (Ok done) new =
     (new.shown ≡ committed old.shown commit) × (new.begun ≡ old.begun ++ commit ∷ []) × (new.acked ≡ old.acked ++ clock ∷ []) × (new.closed ≡ old.closed)
+    × IsWithin (length old.begun) old.shown commit
 IsAfterCommit old commit clock faults (Err errors.MailFault) new = ⊥
 IsAfterCommit old commit clock faults (Err errors.DiskFault) new =
     (new.shown ≡ old.shown) × (new.begun ≡ old.begun ++ commit ∷ []) × (new.acked ≡ old.acked) × (new.closed ≡ Some faults)
+    × IsWithin (length old.begun) old.shown commit
 IsAfterCommit old commit clock faults (Err (errors.Closed fault)) new = ⊥
 IsAfterCommit old commit clock faults (Err (errors.Limit limit)) new = IsPassed (length old.begun) old.shown commit limit × (new ≡ old)
 IsAfterCommit old commit clock faults (Err errors.NoMemory) new = new ≡ old
 
--- the commits are made and shown, one after the other, and a clock is kept of each
+-- the commits are made and shown, one after the other, none of them passes a limit, and a clock is kept of each
 pub record HasCommitted (old : WriterState) (done : List Commit) (new : WriterState) : Type 0 where
+  pub within : AreWithin (length old.begun) old.shown done
   pub shown : new.shown ≡ folded old.shown done
   pub begun : new.begun ≡ old.begun ++ done
   pub clocks : List ℕ
@@ -78,11 +87,13 @@ pub record PassesWithin (old : WriterState) (due : List Commit) (limit : Limit) 
   pub passed : IsPassed (length new.begun) new.shown commit limit
 
 -- Of these commits some were made and are shown, and the disk failed at the next one, so the writer is closed, with the faults of the disk.
+-- Neither it nor those before it pass a limit.
 pub record FailsWithin (old : WriterState) (due : List Commit) (faults : ℕ) (new : WriterState) : Type 0 where
   pub done : List Commit
   pub commit : Commit
   pub more : List Commit
   pub due_are : due ≡ done ++ commit ∷ more
+  pub within : AreWithin (length old.begun) old.shown (done ++ commit ∷ [])
   pub shown : new.shown ≡ folded old.shown done
   pub begun : new.begun ≡ old.begun ++ (done ++ commit ∷ [])
   pub clocks : List ℕ

@@ -38,13 +38,14 @@ impl Writer {
         requires fits { Fits self.old.shown.files commit }
         requires stands { IfSome (D.observed disk.old).told (λ moments. StandsOnIndex moments.present self.old) }
 
+        // What is made, or begun, passes no limit.
         ensures after { IsAfterCommit self.old commit (D.observed disk.new).clock (D.observed disk.new).faults result self.new }
-
-        // What is made passes no limit.
-        ensures within { IfOk result (λ _. IsWithin (length self.old.begun) self.old.shown commit) }
 
         // Whatever a stop leaves then holds the index that is shown, unless the disk failed.
         ensures stands { self.new.closed ≡ None → IfSome (D.observed disk.new).told (λ moments. StandsOnIndex moments.present self.new) }
+
+        // What is refused before the disk is touched leaves it as it was.
+        ensures waits { IfErr result (λ error. is_write_fault error ≡ false → D.observed disk.new ≡ D.observed disk.old) }
 
         // At every moment of the call a stop leaves the index from before, or the one with the commit.
         ensures any_moment { GoesOn (λ old new. GoesThrough FileNo.Head (HoldsEither self.old.shown commit) old new)
@@ -71,7 +72,6 @@ impl Writer {
             (D.observed disk.old).told (D.observed disk.new).told }
         ensures rises { NeverFalls (D.observed disk.old).clock (D.observed disk.new).clock }
         ensures number { IfOk result (λ _. IfSome (D.observed disk.new).told (λ moments. (D.observed disk.new).clock ≡ min (length moments.past) max_count)) }
-        ensures within { IfOk result (λ _. IsWithin (length self.old.begun) self.old.shown commit) }
         ensures waits { IfErr result (λ error. is_write_fault error ≡ false → D.observed disk.new ≡ D.observed disk.old) }
         ensures cause { HasCauseOf is_write_fault (D.observed disk.old).faults (D.observed disk.new).faults result }
     {

@@ -1,8 +1,9 @@
 //! What follows from the definition of a stored index. These functions run no code that does a thing: their clauses are the laws.
 
 ghost use Rattle.std.specs.Prelude.{◌≡◌, ℕ, List};
+ghost use Rattle.nm_base.specs.declared.limit.Limit.{Limit};
 ghost use Rattle.nm_index.specs.declared.base.Base.{Base};
-ghost use Rattle.nm_writer.specs.StoredIndex.{HoldsIndex, HoldsNoIndex};
+ghost use Rattle.nm_writer.specs.StoredIndex.{HoldsIndex, HoldsNoIndex, HoldsWithin, PassesLimit};
 
 use nm_journal::{records_are_not_broken, records_are_read_in_one_way};
 
@@ -19,4 +20,26 @@ pub fn what_holds_an_index_is_not_bad()
 {
     records_are_read_in_one_way();
     records_are_not_broken();
+}
+
+/// Bytes that pass a limit, told of the record that passes it, are bad nowhere.
+pub fn what_passes_a_limit_is_not_bad()
+    ensures { (bytes : List ℕ) (limit : Limit) (at : ℕ) → PassesLimit bytes limit → HoldsNoIndex bytes at → ⊥ }
+{
+    records_are_read_in_one_way();
+    records_are_not_broken();
+}
+
+/// And they are not those of an index that keeps to the limits all the way.
+pub fn what_keeps_the_limits_passes_none()
+    ensures { (bytes : List ℕ) (index : Base) (limit : Limit) → HoldsWithin bytes index → PassesLimit bytes limit → ⊥ }
+{
+    records_are_read_in_one_way();
+}
+
+/// Bytes pass one limit at most: that of the first record that passes one.
+pub fn one_limit_is_passed()
+    ensures { (bytes : List ℕ) (one other : Limit) → PassesLimit bytes one → PassesLimit bytes other → one ≡ other }
+{
+    records_are_read_in_one_way();
 }

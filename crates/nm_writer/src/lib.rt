@@ -16,7 +16,10 @@ mod wanting;
 mod write_error;
 mod writer;
 
-pub use laws::{an_index_is_held_once, what_holds_an_index_is_not_bad};
+pub use laws::{
+    an_index_is_held_once, one_limit_is_passed, what_holds_an_index_is_not_bad,
+    what_keeps_the_limits_passes_none, what_passes_a_limit_is_not_bad,
+};
 pub use open_error::OpenError;
 pub use write_error::WriteError;
 pub use writer::Writer;

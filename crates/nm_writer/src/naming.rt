@@ -4,12 +4,12 @@ ghost use Rattle.std.specs.Prelude.{◌≡◌, ◌++◌, ◌∷◌, [], ℕ, Lis
 ghost use Rattle.std.specs.List.{flat_map};
 ghost use Rattle.nm_commit.specs.Files.{Fits};
 ghost use Rattle.nm_flags.specs.Following.{tags_by_names};
+ghost use Rattle.nm_index.specs.Index.{committed};
 ghost use Rattle.nm_answer.specs.View.{message_paths, tags_of};
 ghost use Rattle.nm_plan.specs.NameTags.{follow_names, live_of, named_tags, set_tags, with_names};
 ghost use Rattle.nm_plan.specs.Numbering.{AreNumbered};
 ghost use Rattle.nm_writer.specs.Naming.{live_at_numbers};
 
-use crate::replaying::apply;
 use crate::reporting::has_message;
 use nm_base::{Copies, MailPath, Many, MessageId, NoMemory, Tags};
 use nm_commit::{Change, Commit};
@@ -38,6 +38,17 @@ pub(crate) fn with_names(
     let Commit { mut changes } = commit;
     add_all_tags(alloc, &after, ids.as_slice(), &mut changes)?;
     Ok(changes)
+}
+
+/// The snapshot after a commit that fits. Numbers that would pass 2^63 are told as no memory.
+fn apply(shown: &Snapshot, commit: &Commit) -> Result<Snapshot, NoMemory>
+    requires fits { Fits shown.now.files commit.now }
+    ensures { IfOk result (λ new. new ≡ committed shown.now commit.now) }
+{
+    if !shown.has_numbers(commit) {
+        return Err(NoMemory);
+    }
+    shown.apply(commit)
 }
 
 /// Of the messages those that have a file, by their numbers.

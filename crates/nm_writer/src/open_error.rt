@@ -1,6 +1,6 @@
 //! Why an index can't be opened.
 
-use nm_base::NoMemory;
+use nm_base::{Limit, NoMemory};
 use nm_disk::FileNo;
 use nm_journal::JournalError;
 use thiserror::Error;
@@ -13,6 +13,9 @@ pub enum OpenError {
     /// The file holds no index; from this place on.
     #[error("bad index")]
     BadIndex { file: FileNo, at: u64 },
+    /// The index after one of the records passes this limit.
+    #[error("a limit is passed")]
+    Limit(Limit),
     #[error("no memory")]
     NoMemory,
 }

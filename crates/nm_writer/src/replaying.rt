@@ -1,25 +1,26 @@
 //! The index that the bodies of records leave, one commit after the other; opening replays them.
 
-ghost use Rattle.std.specs.Prelude.{◌≡◌, true, IfErr, IfOk, List};
+ghost use Rattle.std.specs.Prelude.{◌≡◌, true, IfErr, IfOk, List, None};
 ghost use Rattle.nm_commit.specs.Files.{Fits};
 ghost use Rattle.nm_commit.specs.declared.change.Commit.{Commit};
-ghost use Rattle.nm_index.specs.Index.{committed};
+ghost use Rattle.nm_index.specs.Index.{committed, empty_index};
 ghost use Rattle.nm_record.specs.CommitGrammar.{commit_grammar};
-ghost use Rattle.nm_writer.specs.Opening.{HasBodyFault, IsBadBody, IsOfHead, IsToldAt, IsUnfit};
-ghost use Rattle.nm_writer.specs.StoredIndex.{HasCommits};
+ghost use Rattle.nm_record.specs.Room.{limit_passed};
+ghost use Rattle.nm_writer.specs.Opening.{HasBodyFault, IsRefusedBody, IsOfHead, IsToldAt, IsRefusedCommit};
+ghost use Rattle.nm_writer.specs.StoredIndex.{HasCommits, StayWithin};
 
 use crate::OpenError;
-use nm_base::{Many, NoMemory};
+use nm_base::Many;
 use nm_codec::ReadError;
 use nm_commit::Commit;
 use nm_disk::FileNo;
 use nm_record::read_commit;
-use nm_state::Snapshot;
+use nm_state::{RoomError, Snapshot};
 use std::alloc::Global;
 
-/// The snapshot after the commits that the bodies spell.
+/// The snapshot after the commits that the bodies spell, none of which passes a limit. The first body that fails decides.
 pub(crate) fn replayed(alloc: Global, bodies: &[Many<u8>]) -> Result<Snapshot, OpenError>
-    ensures ok { IfOk result (λ snapshot. (commits : List Commit) × HasCommits bodies.now commits snapshot) }
+    ensures ok { IfOk result (λ snapshot. (commits : List Commit) × HasCommits bodies.now commits snapshot × StayWithin empty_index commits) }
     ensures bad { IfErr result (HasBodyFault bodies.now) }
     ensures file { IfErr result IsOfHead }
 {
@@ -40,8 +41,8 @@ fn replay_one(
     gate: u64,
 ) -> Result<Snapshot, OpenError>
     ensures ok { IfOk result (λ new. (commit : Commit) × (body.now ≡ commit_grammar.bytes commit) × (commit_grammar.is_value commit ≡ true)
-        × Fits snapshot.now.files commit × (new ≡ committed snapshot.now commit)) }
-    ensures bad { IfErr result (IsBadBody snapshot.now body.now) }
+        × Fits snapshot.now.files commit × (new ≡ committed snapshot.now commit) × (limit_passed (committed snapshot.now commit) ≡ None)) }
+    ensures bad { IfErr result (IsRefusedBody snapshot.now body.now) }
     ensures file { IfErr result IsOfHead }
     ensures gate { IfErr result (IsToldAt gate) }
 {
@@ -55,10 +56,10 @@ fn replay_one(
     }
 }
 
-/// The snapshot after a commit, where it fits. Numbers that would pass 2^63, which no disk can hold, are told as no memory.
+/// The snapshot after a commit, where it fits and passes no limit.
 fn apply_read(snapshot: &Snapshot, commit: &Commit, gate: u64) -> Result<Snapshot, OpenError>
-    ensures ok { IfOk result (λ new. Fits snapshot.now.files commit.now × (new ≡ committed snapshot.now commit.now)) }
-    ensures bad { IfErr result (IsUnfit snapshot.now commit.now) }
+    ensures ok { IfOk result (λ new. Fits snapshot.now.files commit.now × (new ≡ committed snapshot.now commit.now) × (limit_passed (committed snapshot.now commit.now) ≡ None)) }
+    ensures bad { IfErr result (IsRefusedCommit snapshot.now commit.now) }
     ensures file { IfErr result IsOfHead }
     ensures gate { IfErr result (IsToldAt gate) }
 {
@@ -68,17 +69,9 @@ fn apply_read(snapshot: &Snapshot, commit: &Commit, gate: u64) -> Result<Snapsho
             at: gate,
         });
     }
-    let next = apply(snapshot, commit)?;
-    Ok(next)
-}
-
-/// The snapshot after a commit that fits. Numbers that would pass 2^63 are told as no memory.
-pub(crate) fn apply(snapshot: &Snapshot, commit: &Commit) -> Result<Snapshot, NoMemory>
-    requires fits { Fits snapshot.now.files commit.now }
-    ensures { IfOk result (λ new. new ≡ committed snapshot.now commit.now) }
-{
-    if !snapshot.has_numbers(commit) {
-        return Err(NoMemory);
+    match snapshot.apply_within_limits(commit) {
+        Ok(next) => Ok(next),
+        Err(RoomError::Limit(limit)) => Err(OpenError::Limit(limit)),
+        Err(RoomError::NoMemory) => Err(OpenError::NoMemory),
     }
-    snapshot.apply(commit)
 }

@@ -11,7 +11,7 @@ ghost use Rattle.nm_plan.specs.Apart.{AreApart};
 ghost use Rattle.nm_plan.specs.Numbering.{AreNumbered};
 ghost use Rattle.nm_writer.specs.Durable.{IsDurable};
 ghost use Rattle.nm_writer.specs.Opening.{HasOpenFault, IsOfHead, is_disk_fault};
-ghost use Rattle.nm_writer.specs.StoredIndex.{HoldsIndex};
+ghost use Rattle.nm_writer.specs.StoredIndex.{HoldsWithin};
 ghost use Rattle.nm_writer.specs.Writer.{StandsOnIndex};
 
 use crate::OpenError;
@@ -68,8 +68,8 @@ impl Drop for Writer {
 impl Writer {
     /// Opens the index that the head file holds: a fresh disk holds the empty one. The disk is synced first.
     pub fn open<D: Disk>(alloc: Global, disk: &mut D) -> Result<Writer, OpenError>
-        // The index shown is that which a read gives.
-        ensures index { GoesOn (λ old new. IfOk result (λ writer. HoldsIndex (bytes_now old FileNo.Head) writer.shown))
+        // The index shown is that which a read gives, and no index on the way to it passes a limit.
+        ensures index { GoesOn (λ old new. IfOk result (λ writer. HoldsWithin (bytes_now old FileNo.Head) writer.shown))
             (D.observed disk.old).told (D.observed disk.new).told }
 
         // And so it is whatever a stop leaves from then on.
@@ -84,7 +84,8 @@ impl Writer {
 
         ensures fresh { IfOk result (λ writer. (writer.begun ≡ []) × (writer.acked ≡ []) × (writer.closed ≡ None)) }
 
-        // A bad index is told only where what a read gives is none, and then at the stated place.
+        // A bad index is told only where what a read gives is none, and then at the stated place; a limit only where an index on the way
+        // passes it. The first record that fails decides.
         ensures bad { GoesOn (λ old new. IfErr result (HasOpenFault (bytes_now old FileNo.Head)))
             (D.observed disk.old).told (D.observed disk.new).told }
 
@@ -106,7 +107,7 @@ impl Writer {
 
     /// Opens the index, as `open` does.
     fn opened<D: Disk>(alloc: Global, disk: &mut D) -> Result<Writer, OpenError>
-        ensures index { GoesOn (λ old new. IfOk result (λ writer. HoldsIndex (bytes_now old FileNo.Head) writer.shown))
+        ensures index { GoesOn (λ old new. IfOk result (λ writer. HoldsWithin (bytes_now old FileNo.Head) writer.shown))
             (D.observed disk.old).told (D.observed disk.new).told }
         ensures stands { GoesOn (λ old new. IfOk result (λ writer. StandsOnIndex new.present writer))
             (D.observed disk.old).told (D.observed disk.new).told }

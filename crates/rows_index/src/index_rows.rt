@@ -20,6 +20,7 @@ fn found<D: Disk>(alloc: Global, disk: &mut D, row: &Row<'_>) -> Result<Vec<u8>,
     match Writer::open(alloc, disk) {
         Ok(writer) => answered(alloc, &writer, row),
         Err(OpenError::BadIndex { at, .. }) => bad_at(alloc, at),
+        Err(OpenError::Limit(_)) => Ok(b"limit".to_vec(alloc)?),
         Err(OpenError::DiskFault) => Ok(b"disk fault".to_vec(alloc)?),
         Err(OpenError::NoMemory) => Err(RowError::NoMemory),
     }

@@ -13,7 +13,7 @@ use Rattle.nm_scan.specs.Bodies.{left_after}
 use Rattle.nm_session.specs.Line.{place_at}
 use Rattle.nm_session.proofs.AnswerLemmas.{failed-ends}
 use Rattle.nm_session.proofs.ChangeLemmas.{write-refused}
-use Rattle.nm_session.proofs.TagLemmas.{asks-as, tag-answered, tag-ends}
+use Rattle.nm_session.proofs.TagLemmas.{asks-as, tag-answered, tag-ends, tag-unasked}
 use Rattle.nm_writer.specs.Renamed.{AsksRenames}
 use Rattle.nm_writer.specs.Tagged.{IsAfterTags}
 use Rattle.nm_session.proofs.changing.change_tags.Goals as goal
@@ -40,8 +40,10 @@ returns-in-Ok-clause-ends g c = λ left line is asked.
     let fits : HasTried index (wanted_for request line.input moment index) noted → FitInTurn index (tag_commits index (wanted_for request line.input moment index) noted) = λ tried. c.tag_commits_fit.ensures index (wanted_for request line.input moment index) noted c.shows_an_ordered_index.ensures.numbered c.shows_an_ordered_index.ensures.apart tried in
     let after = subst (λ (wanted : Base). IsAfterTags wanted noted c.args.writer.now (g.D.Disk.observed c.tag.new.disk).faults (Ok c.in-Ok.report) c.tag.new.self)
     (wanted-is request line.input c.args.changes.lines _ moment index second asked.lines) h.after in
-    tag-ends moment old new line noted request asked.tags is refl asked.right asks fits c.in-Ok.report c.args.changes.strangers c.reply_change.result
-    (tag-answered moment old new line noted request asked.tags is refl asked.right asks fits _ _ (Ok c.in-Ok.report) after h.closed h.mail_cause h.disk_cause (λ same. ap (λ (d : ObservedDisk). d.faults) same) c.requires.even)
+    let unasked = tag-unasked _ request asked.tags line.input c.args.writer.now.closed (wanted_for request line.input moment index) noted c.args.writer.now c.tag.new.self (g.D.Disk.observed c.tag.new.disk).faults (Ok c.in-Ok.report)
+    (g.M.Maildir.observed c.args.mail.now) (g.M.Maildir.observed c.tag.new.mail) asked.right after h.closed in
+    tag-ends moment old new line noted request asked.tags is refl asked.right asks unasked fits c.in-Ok.report c.args.changes.strangers c.reply_change.result
+    (tag-answered moment old new line noted request asked.tags is refl asked.right asks unasked fits _ _ (Ok c.in-Ok.report) after h.closed h.mail_cause h.disk_cause (λ same. ap (λ (d : ObservedDisk). d.faults) same) c.requires.even)
     after.3 asked.strangers c.reply_change.ensures
 
 pub returns-in-Err-clause-ends : goal.returns-in-Err-clause-ends
@@ -58,6 +60,8 @@ returns-in-Err-clause-ends g c = λ left line is asked.
     let fits : HasTried index (wanted_for request line.input moment index) noted → FitInTurn index (tag_commits index (wanted_for request line.input moment index) noted) = λ tried. c.tag_commits_fit.ensures index (wanted_for request line.input moment index) noted c.shows_an_ordered_index.ensures.numbered c.shows_an_ordered_index.ensures.apart tried in
     let after = subst (λ (wanted : Base). IsAfterTags wanted noted c.args.writer.now (g.D.Disk.observed c.tag.new.disk).faults (Err c.in-Err.error) c.tag.new.self)
     (wanted-is request line.input c.args.changes.lines _ moment index second asked.lines) h.after in
+    let unasked = tag-unasked _ request asked.tags line.input c.args.writer.now.closed (wanted_for request line.input moment index) noted c.args.writer.now c.tag.new.self (g.D.Disk.observed c.tag.new.disk).faults (Err c.in-Err.error)
+    (g.M.Maildir.observed c.args.mail.now) (g.M.Maildir.observed c.tag.new.mail) asked.right after h.closed in
     write-refused moment old new line noted c.in-Err.error c.refuse_write.result
-    (tag-answered moment old new line noted request asked.tags is refl asked.right asks fits _ _ (Err c.in-Err.error) after h.closed h.mail_cause h.disk_cause (λ same. ap (λ (d : ObservedDisk). d.faults) same) c.requires.even)
-    (asks-as moment old new line noted request asked.tags is refl asked.right asks fits outcomes.NoMemory) c.refuse_write.ensures
+    (tag-answered moment old new line noted request asked.tags is refl asked.right asks unasked fits _ _ (Err c.in-Err.error) after h.closed h.mail_cause h.disk_cause (λ same. ap (λ (d : ObservedDisk). d.faults) same) c.requires.even)
+    (asks-as moment old new line noted request asked.tags is refl asked.right asks unasked fits outcomes.NoMemory) c.refuse_write.ensures

@@ -1,10 +1,10 @@
-use Rattle.std.proofs.Common.{refl}
+use Rattle.std.proofs.Common.{Ok, Err, refl}
 use Rattle.nm_log.specs.declared.outcome.Outcome.TheVariants as outcomes
 use Rattle.nm_scan.specs.Bodies.{left_after}
 use Rattle.nm_session.specs.Line.{place_at}
 use Rattle.nm_session.proofs.AnswerLemmas.{failed-ends}
 use Rattle.nm_session.proofs.ChangeLemmas.{write-refused}
-use Rattle.nm_session.proofs.NewLemmas.{asks-as, new-answered, new-ends}
+use Rattle.nm_session.proofs.NewLemmas.{asks-as, new-answered, new-ends, new-unasked}
 use Rattle.nm_session.proofs.changing.run_new.Goals as goal
 
 pub returns-in_err-texts : goal.returns-in_err-texts
@@ -22,8 +22,9 @@ returns-in-Ok g c =
       ends = λ moment left line is.
           let old = place_at c.args.writer.now (g.M.Maildir.observed c.args.mail.now) (g.D.Disk.observed c.args.disk.now) left in
           let new = place_at c.new_mail.new.self (g.M.Maildir.observed c.new_mail.new.mail) (g.D.Disk.observed c.new_mail.new.disk) (left_after left noted) in
-          new-ends moment old new line noted is refl h.asks h.tree c.in-Ok.report c.reply_new.result
-          (new-answered moment old new line noted is refl h.asks h.tree _ _ _ h.after h.closed h.mail_cause h.disk_cause c.requires.even) h.after.1 c.reply_new.ensures;
+          let unasked = new-unasked _ c.args.writer.now.closed old.mail.tree noted c.args.writer.now c.new_mail.new.self new.disk_faults (Ok c.in-Ok.report) line.input old.mail new.mail h.after h.closed in
+          new-ends moment old new line noted is refl h.asks h.tree unasked c.in-Ok.report c.reply_new.result
+          (new-answered moment old new line noted is refl h.asks h.tree unasked _ _ _ h.after h.closed h.mail_cause h.disk_cause c.requires.even) h.after.1 c.reply_new.ensures;
       stands = h.stands;
       durable = h.durable;
     }
@@ -36,9 +37,10 @@ returns-in-Err g c =
       ends = λ moment left line is.
           let old = place_at c.args.writer.now (g.M.Maildir.observed c.args.mail.now) (g.D.Disk.observed c.args.disk.now) left in
           let new = place_at c.new_mail.new.self (g.M.Maildir.observed c.new_mail.new.mail) (g.D.Disk.observed c.new_mail.new.disk) (left_after left noted) in
+          let unasked = new-unasked _ c.args.writer.now.closed old.mail.tree noted c.args.writer.now c.new_mail.new.self new.disk_faults (Err c.in-Err.error) line.input old.mail new.mail h.after h.closed in
           write-refused moment old new line noted c.in-Err.error c.refuse_write.result
-          (new-answered moment old new line noted is refl h.asks h.tree _ _ _ h.after h.closed h.mail_cause h.disk_cause c.requires.even)
-          (asks-as moment old new line noted is refl h.asks h.tree outcomes.NoMemory) c.refuse_write.ensures;
+          (new-answered moment old new line noted is refl h.asks h.tree unasked _ _ _ h.after h.closed h.mail_cause h.disk_cause c.requires.even)
+          (asks-as moment old new line noted is refl h.asks h.tree unasked outcomes.NoMemory) c.refuse_write.ensures;
       stands = h.stands;
       durable = h.durable;
     }
