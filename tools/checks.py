@@ -189,7 +189,7 @@ def tour_is_true():
     if not os.path.isfile(PROGRAM):
         yield "README.md: the tour was not run: crates/notmuch/out/notmuch is not built"
         return
-    ran = subprocess.run(["bash", f"{ROOT}/examples/run"], capture_output=True, timeout=SECONDS, check=False)
+    ran = subprocess.run(["bash", f"{ROOT}/examples/run", "--built"], capture_output=True, timeout=SECONDS, check=False)
     printed = ran.stdout.decode(errors="replace")
     if ran.returncode or printed != "".join(blocks(tour)):
         told = difflib.unified_diff("".join(blocks(tour)).splitlines(), printed.splitlines(), "README.md", "examples/run", lineterm="", n=0)
