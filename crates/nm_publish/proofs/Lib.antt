@@ -1,0 +1,4 @@
+pub mod PrefixLemmas
+pub mod EventLemmas
+pub mod AddingLemmas
+pub mod RuleLemmas

@@ -1,0 +1,3 @@
+pub mod List
+pub mod Published
+pub mod Rule
