@@ -20,3 +20,6 @@ pub use reader::Reader;
 pub use shower::Shower;
 pub use shown::Shown;
 pub use starting::{Started, start};
+
+#[cfg(test)]
+mod tests;
