@@ -280,7 +280,9 @@ impl Disk for MemDisk {
     }
 
     fn faults(&self) -> u64 {
-        self.faults.count().saturating_add(self.out_of_memory.count())
+        self.faults
+            .count()
+            .saturating_add(self.out_of_memory.count())
     }
 }
 

@@ -69,10 +69,7 @@ fn decoded_mailbox(alloc: Global, mailbox: &Mailbox) -> Result<Mailbox, NoMemory
 }
 
 /// The words of the names and addresses, in their order.
-pub(crate) fn words_of_mailboxes(
-    alloc: Global,
-    mailboxes: &[Mailbox],
-) -> Result<WordList, NoMemory>
+pub(crate) fn words_of_mailboxes(alloc: Global, mailboxes: &[Mailbox]) -> Result<WordList, NoMemory>
     ensures { IfOk result (λ found. found ≡ flat_map mailbox_words mailboxes.now) }
 {
     let mut found = WordList::new(alloc);

@@ -23,8 +23,7 @@ words-preserved c =
 
 pub returns : goal.returns
 returns c =
-    let read = word_grammar.read in
-    (
+    let read = word_grammar.read in (
       rw c.shrink_to_fit.ensures (is_done read c.words.words c.args.count c.words.counter c.words.reader.rest (items_at read c.args.count c.args.reader.now.rest) c.words-test.false c.words.invariant.0),
       c.words.invariant.1,
     )

@@ -20,6 +20,8 @@ returns-clause-reads_back c =
     let seen = c.in_ok-strings.ensures in
     let plain = ap (λ values. has_float (whole values)) seen ∙ no_floats c.args.texts.now in
     let text = c.in_ok-json.ensures.text plain ∙ ap (λ values. compact_text (whole values)) seen ∙ strings_same c.args.texts.now in
-    let flat : depth (whole (map view c.in_ok-strings.strings.items)) ≤ max_depth = omega (arith, ap (λ values. depth (whole values)) seen, no_depth c.args.texts.now) in
-    (json_array (map json_string c.args.texts.now), c.in_ok-push.ensures.ok ∙ ap (λ json. json ++ 10 ∷ []) text,
-    ap read (sym text) ∙ c.in_ok-json.ensures.reads_back flat ∙ ap (λ values. Some (whole values)) seen)
+    let flat : depth (whole (map view c.in_ok-strings.strings.items)) ≤ max_depth = omega (arith, ap (λ values. depth (whole values)) seen, no_depth c.args.texts.now) in (
+      json_array (map json_string c.args.texts.now),
+      c.in_ok-push.ensures.ok ∙ ap (λ json. json ++ 10 ∷ []) text,
+      ap read (sym text) ∙ c.in_ok-json.ensures.reads_back flat ∙ ap (λ values. Some (whole values)) seen,
+    )
