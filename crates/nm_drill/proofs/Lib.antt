@@ -1,0 +1,4 @@
+pub mod DigitLemmas
+pub mod GroupLemmas
+pub mod LineLemmas
+pub mod PathLemmas
