@@ -1,6 +1,7 @@
 //! What comes of a row: what the words of a command ask for or the options before it say, what a script
-//! tells, or how they are refused.
+//! tells, or how they are refused; or what is in the store of a drill, and what its script says.
 
+use crate::drills::{push_drill, push_drill_script};
 use crate::scripts::push_script;
 use nm_base::{
     Copies, CountAsk, DumpAsk, DumpForm, Many, Output, ReadForm, RestoreAsk, SearchAsk, ShowAsk,
@@ -10,11 +11,11 @@ use nm_command::{CommandError, HeadError, Leading, Request, command, head};
 use rows::{Lines, Program, Row, RowError, text_of};
 use std::alloc::Global;
 
-/// The rows on the words of commands and on scripts.
+/// The rows on the words of commands, on scripts and on drills.
 pub struct Commands;
 
 impl Program for Commands {
-    /// A line for each command, or for each line of a script.
+    /// A line for each command, or for each line of a script; or what lies at each path of a drill.
     fn answer(&self, alloc: Global, row: &Row<'_>) -> Result<Vec<u8>, RowError> {
         let mut lines = Lines::new(alloc);
         match row.kind {
@@ -22,6 +23,8 @@ impl Program for Commands {
             b"words" => push_words(alloc, &mut lines, row)?,
             b"leading" => push_heads(alloc, &mut lines, row)?,
             b"script" => push_script(alloc, &mut lines, row.text(alloc, b"|")?.as_slice())?,
+            b"drill" => push_drill(alloc, &mut lines, row)?,
+            b"script of a drill" => push_drill_script(alloc, &mut lines)?,
             _ => return Err(RowError::Broken("no such kind of row")),
         }
         Ok(lines.into_bytes())

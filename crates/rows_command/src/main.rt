@@ -1,8 +1,9 @@
-//! Commands and replies: the program that runs the rows on words of commands and on scripts. The table stands on the
-//! standard input, and the standard output has a line for each row.
+//! Commands and replies: the program that runs the rows on words of commands, on scripts and on drills. The table stands on
+//! the standard input, and the standard output has a line for each row.
 #![tactic(auto)]
 
 mod answers;
+mod drills;
 mod scripts;
 
 use answers::Commands;
