@@ -9,7 +9,7 @@ pub struct Sessions;
 
 impl Program for Sessions {
     fn answer(&self, alloc: Global, row: &Row<'_>) -> Result<Vec<u8>, RowError> {
-        if row.kind == b"session".as_slice() {
+        if row.kind == b"session".as_slice() || row.kind == b"program".as_slice() {
             return session_rows::answer(alloc, row);
         }
         if row.kind == b"stops".as_slice() {

@@ -1,11 +1,12 @@
-//! Commands and replies: the program that runs the rows on sessions and their stops, on the lines of scripts, on replies, and on the
-//! machine of commits and replies. The table stands on the standard input; the standard output has a line for each row.
+//! Commands and replies: the program that runs the rows on sessions and their stops, on the program, on the lines of scripts, on
+//! replies, and on the machine of commits and replies. The table stands on the standard input; the standard output has a line for each row.
 #![tactic(auto)]
 
 mod answers;
 mod device_rows;
 mod disks;
 mod line_rows;
+mod log_lines;
 mod machine_rows;
 mod many_files;
 mod reply_rows;

@@ -1,7 +1,8 @@
-//! Rows on whole sessions, one after the other over one disk: what each call prints and says, its status, and the steps of its
-//! log.
+//! Rows on whole sessions, one after the other over one disk, alone or behind the options of the program: what each call prints and
+//! says, its status, and the steps of its log.
 
 use crate::disks::{disk, head_of};
+use crate::log_lines::add_lines;
 use crate::session_run::{Ran, run};
 use crate::sessions::sessions;
 use nm_base::{Many, NoMemory};
@@ -68,7 +69,7 @@ fn transcript(alloc: Global, ran: &Ran, head: &[u8], told: &[u8]) -> Result<Many
     Ok(text)
 }
 
-fn add_number(alloc: Global, text: &mut Many<u8>, number: u64) -> Result<(), NoMemory> {
+pub fn add_number(alloc: Global, text: &mut Many<u8>, number: u64) -> Result<(), NoMemory> {
     let number = number.to_string(alloc)?;
     text.extend_from_slice(b" ")?;
     text.extend_from_slice(number.as_bytes())
@@ -111,7 +112,8 @@ fn add_head(text: &mut Many<u8>, head: &[u8], told: &[u8]) -> Result<(), NoMemor
     text.extend_from_slice(head)
 }
 
-/// By `tell acked` the clocks at which commits were acknowledged, by `tell calls` the number of the disk's calls.
+/// By `tell acked` the clocks at which commits were acknowledged, by `tell calls` the number of the disk's calls, by `tell lines` the
+/// lines of the log.
 fn add_told(alloc: Global, text: &mut Many<u8>, ran: &Ran, told: &[u8]) -> Result<(), NoMemory> {
     'words: for word in told.split(|b| *b == b'\n') {
         if word == b"acked".as_slice() {
@@ -120,6 +122,9 @@ fn add_told(alloc: Global, text: &mut Many<u8>, ran: &Ran, told: &[u8]) -> Resul
         if word == b"calls".as_slice() {
             text.extend_from_slice(b", calls")?;
             add_number(alloc, text, ran.calls)?;
+        }
+        if word == b"lines".as_slice() {
+            add_lines(alloc, text, ran.done.log.lines.as_slice())?;
         }
     }
     Ok(())

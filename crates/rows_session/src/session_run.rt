@@ -1,4 +1,4 @@
-//! A session, run over the devices that a row has for it.
+//! A session, or the program before it, run over the devices that a row has for it.
 
 use crate::device_rows::{input, mail, sink};
 use crate::disks::{calls, fail_at};
@@ -7,14 +7,23 @@ use nm_base::{Many, Text};
 use nm_disk::MemDisk;
 use nm_io::{MemSink, MemSource};
 use nm_maildir::StillTree;
-use nm_top::{Done, Setting, notmuch};
+use nm_top::{Done, Setting, Start, notmuch, program};
 use rows::{Row, RowError};
 use std::alloc::Global;
 
+/// 12:00 of 2024-01-01.
+const MOMENT: i64 = 1_704_110_400;
+
 const SETTING: Setting = Setting {
-    moment: 1_704_110_400,
+    moment: MOMENT,
     seed: 0,
     workers: 1,
+};
+
+/// What the program has beside its words.
+const START: Start = Start {
+    moment: MOMENT,
+    seed: 0,
 };
 
 /// What came of a session.
@@ -92,7 +101,7 @@ fn on_output(
     let mut out = sink(alloc, row, b"out-fails")?;
     let mut err = sink(alloc, row, b"err-fails")?;
     let before = calls(disk);
-    let done = notmuch(alloc, args, &SETTING, mail, disk, input, &mut out, &mut err);
+    let done = call(alloc, row, args, mail, disk, input, &mut out, &mut err);
     let calls = calls(disk).saturating_sub(before);
     Ok(Ran {
         done,
@@ -100,4 +109,21 @@ fn on_output(
         err,
         calls,
     })
+}
+
+/// The call of the words; in a row on the program they begin with its options.
+fn call(
+    alloc: Global,
+    row: &Row<'_>,
+    args: &[Text],
+    mail: &mut StillTree,
+    disk: &mut MemDisk,
+    input: &mut MemSource,
+    out: &mut MemSink,
+    err: &mut MemSink,
+) -> Done {
+    if row.kind == b"program".as_slice() {
+        return program(alloc, &START, args, mail, disk, input, out, err);
+    }
+    notmuch(alloc, args, &SETTING, mail, disk, input, out, err)
 }
