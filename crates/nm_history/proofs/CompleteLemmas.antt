@@ -16,7 +16,6 @@ use Rattle.nm_log.specs.declared.line_parser.ParsedLine.TheVariants as asked
 use Rattle.nm_log.specs.declared.log.LineLog.{LineLog}
 use Rattle.nm_log.specs.declared.outcome.Outcome.{Outcome}
 use Rattle.nm_log.specs.declared.outcome.Outcome.TheVariants as outcomes
-use Rattle.nm_log.specs.declared.refusal.Refusal.{Refusal}
 use Rattle.nm_log.specs.declared.refusal.Refusal.TheVariants as refusals
 use Rattle.nm_log.specs.declared.script.ScriptLine.{ScriptLine}
 use Rattle.nm_machine.specs.declared.step.Step.{Step}
@@ -27,15 +26,15 @@ use Rattle.nm_answer.specs.BatchLines.{queries_in, taggings_in}
 use Rattle.nm_answer.specs.declared.request.Request.{Request}
 use Rattle.nm_answer.specs.declared.request.Request.TheVariants as requests
 use Rattle.nm_writer.specs.StoredIndex.{HoldsIndex, HoldsNoIndex, HoldsWithin, PassesLimit}
-use Rattle.nm_history.specs.Call.{Call, Ending, Ran, Refused, call_fault, call_lines, call_reads, command_reads, fault_of_input, input_fault, input_fault_by, is_session, line_refusal, reads_by}
+use Rattle.nm_history.specs.Call.{Call, Ending, Ran, Refused, Unasked, call_fault, call_lines, call_reads, command_reads, fault_of_input, input_fault, input_fault_by, is_session, reads_by}
 use Rattle.nm_history.specs.Complete.{EndsWell, IsComplete, IsFinished, IsWithin, MayRead, NoFault, Opens}
 use Rattle.nm_history.specs.Given.{GivenAlong, IsGiven}
 use Rattle.nm_history.specs.History.{History}
 use Rattle.nm_history.specs.LineAnswers.{HasAnswer, HasCause, LineAnswers}
 use Rattle.nm_history.specs.Lines.{Along, Before, RunLine, after_line, after_lines, at_first, lines_run}
 use Rattle.nm_history.specs.PrintedOut.{AreLogsOf, PrintedOut, StreamAppends}
-use Rattle.nm_history.specs.Refusals.{IsInputPassed, IsRead, IsRefusedFor, PassesBefore, TakesInput}
-use Rattle.nm_history.specs.Requests.{bad_line_in, first_bad_line}
+use Rattle.nm_history.specs.Refusals.{IsInputPassed, IsRead, IsRefusedFor, PassesBefore, RefusesLine, TakesInput}
+use Rattle.nm_history.specs.Requests.{bad_line_in, first_bad_line, refused_line}
 use Rattle.nm_history.specs.Status.{Status, any_is_out_of_memory, fault_of, fault_or, first_fault, session_status, single_status, status_by, status_of_fault, write_fault}
 
 -- each line has its log
@@ -165,14 +164,13 @@ same-input : (reads session : Bool) (read input : List ℕ) (call : Call) → Ta
 same-input true session read input call takes within = read-is call.entry.input.bytes call.after.input.bytes input read within.told takes.0.bytes takes.0.end
 same-input false session read input call takes within = takes.1 ∙ sym within
 
--- a limit of the words or of the input was not passed
+-- a limit of the input was not passed
 not-passed : (limit : Limit) (read input : List ℕ) (call : Call) → call_fault call.words ≡ None → MayRead (call_reads call.words) input call → PassesBefore limit read call → ⊥
-not-passed limit read input call right within (inl wrong) = let other = sym right ∙ wrong in absurd (cc)
-not-passed limit read input call right within (inr passed) =
+not-passed limit read input call right within passed =
     within-limits limit read input call passed.2 (subst (λ (b : Bool). MayRead b input call) passed.1 within)
 
 -- a call that reads no input is not refused for it
-unread-lines : (request : Request) (input : List ℕ) → reads_input request ≡ false → first_bad_line request input ≡ None
+pub unread-lines : (request : Request) (input : List ℕ) → reads_input request ≡ false → first_bad_line request input ≡ None
 unread-lines requests.New input reads = refl
 unread-lines (requests.Count ask) input reads = ap (λ (b : Bool). if b then bad_line_in (queries_in input) else None) reads
 unread-lines (requests.Search ask) input reads = refl
@@ -183,7 +181,7 @@ unread-lines (requests.Restore ask) input reads = absurd (cc)
 
 unread-command : (parsed : ParsedLine) (input : List ℕ) → command_reads parsed ≡ false → fault_of_input parsed input ≡ None
 unread-command (asked.Usage word kind) input reads = refl
-unread-command (asked.Request request) input reads = ap line_refusal (unread-lines request input reads)
+unread-command (asked.Request request) input reads = ap refused_line (unread-lines request input reads)
 
 unread-by : (session : Bool) (words : List (List ℕ)) (input : List ℕ) → reads_by session words ≡ false → input_fault_by session words input ≡ None
 unread-by true words input reads = absurd (cc)
@@ -192,16 +190,18 @@ unread-by false words input reads = unread-command (parse_single words) input re
 pub unread-right : (words : List (List ℕ)) (input : List ℕ) → call_reads words ≡ false → input_fault words input ≡ None
 unread-right words input reads = unread-by (is_session words) words input reads
 
-unread-refused : (words : List (List ℕ)) (input : List ℕ) (refusal : Refusal) → call_reads words ≡ false → input_fault words input ≡ Some refusal → ⊥
-unread-refused words input refusal reads wrong = let other : None ≡ Some refusal = sym (unread-right words input reads) ∙ wrong in absurd (cc)
-
 -- no line of an input that is asked for was refused
-not-refused : (reads : Bool) (fault : Option Refusal) (refusal : Refusal) (read input : List ℕ) (call : Call) → call_reads call.words ≡ reads → MayRead reads input call
-    → IsRead read call.entry.input call.after.input → input_fault call.words read ≡ Some refusal → ⊥
-not-refused true fault refusal read input call is within taken wrong =
+not-refused : (why : Outcome) (read input : List ℕ) (call : Call) → MayRead true input call → IsRead read call.entry.input call.after.input → input_fault call.words read ≡ Some why → ⊥
+not-refused why read input call within taken wrong =
     let same = read-is call.entry.input.bytes call.after.input.bytes input read within.told taken.bytes taken.end in
-    let other : None ≡ Some refusal = sym within.lines_are ∙ (ap (input_fault call.words) (sym same) ∙ wrong) in absurd (cc)
-not-refused false fault refusal read input call is within taken wrong = unread-refused call.words read refusal is wrong
+    let other : None ≡ Some why = sym within.lines_are ∙ (ap (input_fault call.words) (sym same) ∙ wrong) in absurd (cc)
+
+-- neither the words nor a line of the input refused the line of a single command
+not-unasked : (why : Outcome) (read input : List ℕ) (call : Call) → call_fault call.words ≡ None → MayRead (call_reads call.words) input call
+    → RefusesLine why read call.words call.entry.input call.after.input → ⊥
+not-unasked why read input call right within (inl words) = let other : None ≡ Some why = sym right ∙ words.0 in absurd (cc)
+not-unasked why read input call right within (inr line) =
+    not-refused why read input call (subst (λ (b : Bool). MayRead b input call) line.1 within) line.2 line.3
 
 module _ (not_bad : (bytes : List ℕ) (index : Base) (at : ℕ) → HoldsIndex bytes index → HoldsNoIndex bytes at → ⊥) (not_passed : (bytes : List ℕ) (index : Base) (limit : Limit) → HoldsWithin bytes index → PassesLimit bytes limit → ⊥) where
   -- neither the input passes a limit nor the index on the disk
@@ -217,13 +217,10 @@ module _ (not_bad : (bytes : List ℕ) (index : Base) (at : ℕ) → HoldsIndex 
       → IsGiven opening call.setting.moment call.done.log.steps (at_first opening call.entry) (lines_run read call) ending call.entry call.after
       → IsFinished input call ⊎ (call.done.status ≡ 7)
   by-ending (Refused (refusals.Usage word kind)) opening read out_failed call input right quiet within opens said status answers given =
-      let wrong = sym right ∙ said.0.0 in absurd (cc)
-  by-ending (Refused (refusals.BadQuery at kind)) opening read out_failed call input right quiet within opens said status answers given =
-      let wrong = sym right ∙ said.0.0 in absurd (cc)
-  by-ending (Refused (refusals.BadDate at)) opening read out_failed call input right quiet within opens said status answers given =
-      let wrong = sym right ∙ said.0.0 in absurd (cc)
-  by-ending (Refused (refusals.BadLine line kind)) opening read out_failed call input right quiet within opens said status answers given =
-      absurd (not-refused (call_reads call.words) None (refusals.BadLine line kind) read input call refl within said.0.1 said.0.2)
+      let wrong = sym right ∙ said.0.1 in absurd (cc)
+  by-ending (Refused (refusals.BadQuery at kind)) opening read out_failed call input right quiet within opens said status answers given = absurd said.0
+  by-ending (Refused (refusals.BadDate at)) opening read out_failed call input right quiet within opens said status answers given = absurd said.0
+  by-ending (Refused (refusals.BadLine line kind)) opening read out_failed call input right quiet within opens said status answers given = absurd said.0
   by-ending (Refused refusals.ReadFault) opening read out_failed call input right quiet within opens said status answers given =
       let rose = said.0.2.1 quiet.input.room in let same = quiet.input.same in absurd (omega arith)
   by-ending (Refused (refusals.Limit limit)) opening read out_failed call input right quiet within opens said status answers given =
@@ -233,6 +230,8 @@ module _ (not_bad : (bytes : List ℕ) (index : Base) (at : ℕ) → HoldsIndex 
   by-ending (Refused (refusals.BadIndex file at)) opening read out_failed call input right quiet within opens said status answers given =
       absurd (clash-told call.entry.disk.told _ _ opens.told opens.holds said.0.2 (λ moments holds bad. not_bad (bytes_now moments Head) opens.index at holds.held bad))
   by-ending (Refused refusals.NoMemory) opening read out_failed call input right quiet within opens said status answers given = inr status
+  by-ending (Unasked why) opening read out_failed call input right quiet within opens said status answers given =
+      absurd (not-unasked why read input call right within said.0.cause)
   by-ending Ran opening read out_failed call input right quiet within opens said status answers given =
       let logs : List LineLog = call.done.log.lines in
       let script : List ScriptLine = call_lines call.words read in

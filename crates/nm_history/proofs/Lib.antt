@@ -7,3 +7,4 @@ mod MachineLemmas
 mod PrintedLemmas
 pub mod SettledLemmas
 pub mod TreeLemmas
+pub mod UnaskedLemmas

@@ -13,16 +13,12 @@ use Rattle.nm_log.specs.declared.line_parser.ParsedLine.{ParsedLine}
 use Rattle.nm_log.specs.declared.line_parser.ParsedLine.TheVariants as asked
 use Rattle.nm_log.specs.declared.log.Done.{Done}
 use Rattle.nm_log.specs.declared.log.Setting.{Setting}
+use Rattle.nm_log.specs.declared.outcome.Outcome.{Outcome}
+use Rattle.nm_log.specs.declared.outcome.Outcome.TheVariants as outcomes
 use Rattle.nm_log.specs.declared.refusal.Refusal.{Refusal}
-use Rattle.nm_log.specs.declared.refusal.Refusal.TheVariants as refusals
 use Rattle.nm_log.specs.declared.script.ScriptLine.{ScriptLine}
 use Rattle.nm_maildir.specs.Observed.{ObservedMail}
-use Rattle.nm_query.specs.Answers.{answer_of}
-use Rattle.nm_query.specs.declared.query.Query.{Query}
-use Rattle.nm_query.specs.declared.query_error.QueryError.{QueryError}
-use Rattle.nm_query.specs.declared.query_error.QueryError.TheVariants as errors
-use Rattle.nm_tags.specs.declared.line_error.LineKind.{LineKind}
-use Rattle.nm_history.specs.Requests.{first_bad_line, own_query}
+use Rattle.nm_history.specs.Requests.{first_bad_line, own_query, refused_line, refused_query}
 
 -- what is observed of all devices at one moment
 pub record Devices : Type 0 where
@@ -48,9 +44,11 @@ pub record Call : Type 0 where
 abbrev pub call_of : List (List ℕ) → Setting → Devices → Devices → Done → Call
 call_of given told old new ended = record { words = given; setting = told; entry = old; after = new; done = ended }
 
--- How a call ends: it is refused as a whole, or it runs its lines from an opening index.
+-- How a call ends: it is refused as a whole; its one line, a single command, ends so before the mail folder and the disk are asked; or it
+-- runs its lines from an opening index.
 pub data Ending : Type 0 where
   Refused : Refusal → Ending
+  Unasked : Outcome → Ending
   Ran : Ending
 
 -- the call runs a script: its first word is `session`; any other words are a single command
@@ -59,40 +57,23 @@ is_session [] = false
 is_session (word ∷ more) = same_text word (codes "session")
 
 -- why words that begin with `session` are refused
-abbrev pub fault_of_session : Result asks.Request CommandError → Option Refusal
+abbrev pub fault_of_session : Result asks.Request CommandError → Option Outcome
 fault_of_session (Ok request) = None
-fault_of_session (Err (faults.Usage word kind)) = Some (refusals.Usage word kind)
+fault_of_session (Err (faults.Usage word kind)) = Some (outcomes.Usage word kind)
 fault_of_session (Err faults.NoMemory) = None
 
--- why a query is refused
-abbrev pub query_refusal : QueryError → Refusal
-query_refusal (errors.BadQuery at kind) = refusals.BadQuery at kind
-query_refusal (errors.BadDate at) = refusals.BadDate at
-query_refusal (errors.Limit limit) = refusals.Limit limit
-query_refusal errors.NoMemory = refusals.NoMemory
-
--- a text that is no query is refused
-abbrev pub fault_in_query : Result Query QueryError → Option Refusal
-fault_in_query (Ok query) = None
-fault_in_query (Err refusal) = Some (query_refusal refusal)
-
--- a request that has a query of its own is refused where that is none
-abbrev pub fault_of_query : Option (List ℕ) → Option Refusal
-fault_of_query None = None
-fault_of_query (Some text) = fault_in_query (answer_of text)
-
 -- why a single command is refused before a device is asked: its words are outside the grammar, or its query has no tree
-abbrev pub fault_of_command : ParsedLine → Option Refusal
-fault_of_command (asked.Usage word kind) = Some (refusals.Usage word kind)
-fault_of_command (asked.Request request) = fault_of_query (own_query request)
+abbrev pub fault_of_command : ParsedLine → Option Outcome
+fault_of_command (asked.Usage word kind) = Some (outcomes.Usage word kind)
+fault_of_command (asked.Request request) = refused_query (own_query request)
 
 -- why words are refused, where they begin a session and where they don't
-abbrev pub fault_by : Bool → List (List ℕ) → Option Refusal
+abbrev pub fault_by : Bool → List (List ℕ) → Option Outcome
 fault_by true words = fault_of_session (request_of words)
 fault_by false words = fault_of_command (parse_single words)
 
 -- why a call is refused for its words
-abbrev pub call_fault : List (List ℕ) → Option Refusal
+abbrev pub call_fault : List (List ℕ) → Option Outcome
 call_fault words = fault_by (is_session words) words
 
 -- the command reads lines from its input
@@ -108,22 +89,18 @@ reads_by false words = command_reads (parse_single words)
 abbrev pub call_reads : List (List ℕ) → Bool
 call_reads words = reads_by (is_session words) words
 
--- a line of the input is refused
-abbrev pub line_refusal : Option (ℕ × LineKind) → Option Refusal
-line_refusal fault = elim fault [ None ↦ None | Some bad ↦ Some (refusals.BadLine bad.0 bad.1) ]
-
 -- why the lines are refused that a command reads
-abbrev pub fault_of_input : ParsedLine → List ℕ → Option Refusal
+abbrev pub fault_of_input : ParsedLine → List ℕ → Option Outcome
 fault_of_input (asked.Usage word kind) input = None
-fault_of_input (asked.Request request) input = line_refusal (first_bad_line request input)
+fault_of_input (asked.Request request) input = refused_line (first_bad_line request input)
 
 -- a script is not refused for its lines: each of them has its own outcome
-abbrev pub input_fault_by : Bool → List (List ℕ) → List ℕ → Option Refusal
+abbrev pub input_fault_by : Bool → List (List ℕ) → List ℕ → Option Outcome
 input_fault_by true words input = None
 input_fault_by false words input = fault_of_input (parse_single words) input
 
 -- why a call is refused for its input
-abbrev pub input_fault : List (List ℕ) → List ℕ → Option Refusal
+abbrev pub input_fault : List (List ℕ) → List ℕ → Option Outcome
 input_fault words input = input_fault_by (is_session words) words input
 
 -- the lines of a script, or the one line that the words are, with their input

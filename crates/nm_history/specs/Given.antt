@@ -16,7 +16,7 @@ use Rattle.nm_scan.specs.Scanning.{AsksNew}
 use Rattle.nm_scan.specs.declared.bodies_error.BodiesError.{BodiesError}
 use Rattle.nm_scan.specs.declared.bodies_error.BodiesError.TheVariants as stops
 use Rattle.nm_writer.specs.Renamed.{AsksRenames}
-use Rattle.nm_history.specs.Call.{Devices, Ending, Ran, Refused}
+use Rattle.nm_history.specs.Call.{Devices, Ending, Ran, Refused, Unasked}
 use Rattle.nm_history.specs.Lines.{Before, IsIndexAt, RunLine, after_line, after_lines, tree_after}
 use Rattle.nm_history.specs.Requests.{paths_to_show, refused_unasked}
 
@@ -72,9 +72,10 @@ GivenAlong opening moment steps before [] old new = new ≡ old
 GivenAlong opening moment steps before (ran ∷ more) old new =
     (mid : ObservedMail) × Asks opening moment steps before ran old mid × GivenAlong opening moment steps (after_line before ran) more mid new
 
--- where the script was run, the disk has failed as often at the return as behind the last line
+-- where there is a line, the disk has failed as often at the return as behind the last one
 abbrev pub DiskAtReturn : Ending → Before → ObservedDisk → Type 0
 DiskAtReturn Ran last after = last.disk_faults ≡ after.faults
+DiskAtReturn (Unasked outcome) last after = last.disk_faults ≡ after.faults
 DiskAtReturn (Refused refusal) last after = Unit {0}
 
 -- What the lines asked the folder and what it gave, and the faults at the return.

@@ -13,3 +13,4 @@ pub mod PrintedOut
 pub mod Refusals
 pub mod Requests
 pub mod Status
+pub mod UnaskedLine

@@ -1,15 +1,16 @@
 -- What is printed: the replies of all lines of a script behind their headers, or that of a single command alone, and at most one line to
 -- the user besides.
-use Rattle.std.specs.Prelude.{◌≡◌, ℕ, Bool, true, false, List, [], ◌∷◌, take, codes, Option, None, Some, if◌then◌else◌}
+use Rattle.std.specs.Prelude.{◌≡◌, ℕ, Bool, true, false, List, [], ◌∷◌, map, take, codes, Option, None, Some, if◌then◌else◌}
 use Rattle.std.specs.Io.KnownBytes.{Appends}
 use Rattle.nm_faults.specs.Faults.{HasRisen}
 use Rattle.nm_io.specs.Observed.{ObservedStream}
 use Rattle.nm_log.specs.Refusals.{refused_line}
-use Rattle.nm_log.specs.Replies.{is_well, printed, replies_alone}
+use Rattle.nm_log.specs.Replies.{is_well, printed, refusal_line, replies_alone}
 use Rattle.nm_log.specs.declared.log.LineLog.{LineLog}
+use Rattle.nm_log.specs.declared.outcome.Outcome.{Outcome}
 use Rattle.nm_log.specs.declared.script.ScriptLine.{ScriptLine}
-use Rattle.nm_history.specs.Call.{Call, Ending, Ran, Refused, call_lines, is_session}
-use Rattle.nm_history.specs.Refusals.{IsRefusedFor, ReadsScript}
+use Rattle.nm_history.specs.Call.{Call, Ending, Ran, Refused, Unasked, call_lines, is_session}
+use Rattle.nm_history.specs.Refusals.{IsLineRefused, IsRefusedFor, ReadsScript}
 
 -- an output gained the bytes, or where it failed the first of them
 abbrev pub StreamAppends : Bool → ObservedStream → ObservedStream → List ℕ → Type 0
@@ -67,6 +68,17 @@ pub record PrintsRefusal (line : List ℕ) (call : Call) : Type 0 where
   pub out : call.after.out ≡ call.entry.out
   pub says : Prints (Some line) call.entry.err call.after.err
 
+-- The one line of the call was refused before the mail folder and the disk were asked: it has its log and this outcome, its text was said, and
+-- nothing else was done.
+pub record PrintsLine (outcome : Outcome) (input : List ℕ) (call : Call) : Type 0 where
+  pub lines : AreLogsOf (call_lines call.words input) call.done.log.lines
+  pub outcomes : map (λ log. log.outcome) call.done.log.lines ≡ outcome ∷ []
+  pub steps : call.done.log.steps ≡ []
+  pub acked : call.done.log.acked ≡ []
+  pub mail : call.after.mail ≡ call.entry.mail
+  pub out : call.after.out ≡ call.entry.out
+  pub says : Prints (Some (refusal_line outcome)) call.entry.err call.after.err
+
 -- Every line was run, the replies were printed, and what else was said.
 pub record PrintsReplies (input : List ℕ) (out_failed : Bool) (call : Call) : Type 0 where
   pub lines : AreLogsOf (call_lines call.words input) call.done.log.lines
@@ -76,4 +88,5 @@ pub record PrintsReplies (input : List ℕ) (out_failed : Bool) (call : Call) : 
 -- What the outputs gained, and why.
 abbrev pub PrintedOut : Ending → List ℕ → Bool → Call → Type 0
 PrintedOut (Refused refusal) input out_failed call = IsRefusedFor refusal input call × PrintsRefusal (refused_line refusal) call
+PrintedOut (Unasked outcome) input out_failed call = IsLineRefused outcome input call × PrintsLine outcome input call
 PrintedOut Ran input out_failed call = ReadsScript input call × PrintsReplies input out_failed call

@@ -1,4 +1,4 @@
--- Why a call is refused as a whole, and what was read where it isn't.
+-- Why a call is refused as a whole, or its one line before the mail folder and the disk are asked, and what was read where neither is.
 use Rattle.std.specs.Prelude.{◌≡◌, ◌⊎◌, ℕ, ◌<◌, ◌≤◌, Bool, true, false, List, [], length, None, Some, IfSome}
 use Rattle.std.specs.Io.KnownBytes.{Consumes, IsAtEnd}
 use Rattle.std.specs.Str.Lines.{lines}
@@ -9,6 +9,8 @@ use Rattle.nm_disk.specs.Observed.{bytes_now}
 use Rattle.nm_disk.specs.declared.disk.FileNo.TheVariants.{Head}
 use Rattle.nm_faults.specs.Faults.{HasRisen}
 use Rattle.nm_io.specs.Observed.{ObservedStream}
+use Rattle.nm_log.specs.declared.outcome.Outcome.{Outcome}
+use Rattle.nm_log.specs.declared.outcome.Outcome.TheVariants as outcomes
 use Rattle.nm_log.specs.declared.refusal.Refusal.{Refusal}
 use Rattle.nm_log.specs.declared.refusal.Refusal.TheVariants as refusals
 use Rattle.nm_writer.specs.StoredIndex.{HoldsNoIndex, PassesLimit}
@@ -51,23 +53,23 @@ IsInputPassed limits.Numbers input call = ⊥
 abbrev pub DiskUnasked : Call → Type 0
 DiskUnasked call = call.after.disk ≡ call.entry.disk
 
--- the query of a single command passes the limit, or the input that is read does
+-- the words are right, and the input that is read for them passes the limit
 abbrev pub PassesBefore : Limit → List ℕ → Call → Type 0
 PassesBefore limit input call =
-    (call_fault call.words ≡ Some (refusals.Limit limit)) ⊎ ((call_fault call.words ≡ None) × (call_reads call.words ≡ true) × IsInputPassed limit input call)
+    (call_fault call.words ≡ None) × (call_reads call.words ≡ true) × IsInputPassed limit input call
 
 -- nothing was asked: the words alone refuse the call
 abbrev pub IsUnasked : Call → Type 0
 IsUnasked call = (call.after.input ≡ call.entry.input) × DiskUnasked call
 
--- The cause of a refusal, in the order in which they are met: the words, the input, the index on the disk. Running out of memory alone is free.
+-- The cause of a refusal of a whole call, in the order in which they are met: the words of a session, the input, the index on the disk. A single
+-- command that its words, its query or a line of its input refuse has its one line. Running out of memory alone is free.
 abbrev pub IsRefusedFor : Refusal → List ℕ → Call → Type 0
 IsRefusedFor (refusals.Usage word kind) input call =
-    (call_fault call.words ≡ Some (refusals.Usage word kind)) × IsUnasked call
-IsRefusedFor (refusals.BadQuery at kind) input call = (call_fault call.words ≡ Some (refusals.BadQuery at kind)) × IsUnasked call
-IsRefusedFor (refusals.BadDate at) input call = (call_fault call.words ≡ Some (refusals.BadDate at)) × IsUnasked call
-IsRefusedFor (refusals.BadLine line kind) input call =
-    (call_fault call.words ≡ None) × IsRead input call.entry.input call.after.input × (input_fault call.words input ≡ Some (refusals.BadLine line kind)) × DiskUnasked call
+    (is_session call.words ≡ true) × (call_fault call.words ≡ Some (outcomes.Usage word kind)) × IsUnasked call
+IsRefusedFor (refusals.BadQuery at kind) input call = ⊥
+IsRefusedFor (refusals.BadDate at) input call = ⊥
+IsRefusedFor (refusals.BadLine line kind) input call = ⊥
 IsRefusedFor refusals.ReadFault input call =
     (call_fault call.words ≡ None) × (call_reads call.words ≡ true) × HasRisen call.entry.input.faults call.after.input.faults × DiskUnasked call
 IsRefusedFor (refusals.Limit limit) input call =
@@ -76,3 +78,16 @@ IsRefusedFor refusals.DiskFault input call = ReadsScript input call × HasRisen 
 IsRefusedFor (refusals.BadIndex file at) input call =
     ReadsScript input call × (file ≡ Head) × IfSome call.entry.disk.told (λ moments. HoldsNoIndex (bytes_now moments Head) at)
 IsRefusedFor refusals.NoMemory input call = Unit {0}
+
+-- What refuses a single command before the mail folder and the disk are asked: its words or its query, and the input is as it was; or a line
+-- of the input, which was read to its end.
+abbrev pub RefusesLine : Outcome → List ℕ → List (List ℕ) → ObservedStream → ObservedStream → Type 0
+RefusesLine outcome input words old new =
+    ((call_fault words ≡ Some outcome) × (input ≡ []) × (new ≡ old))
+    ⊎ ((call_fault words ≡ None) × (call_reads words ≡ true) × IsRead input old new × (input_fault words input ≡ Some outcome))
+
+-- A single command is refused so, and the disk is not asked.
+pub record IsLineRefused (outcome : Outcome) (input : List ℕ) (call : Call) : Type 0 where
+  pub single : is_session call.words ≡ false
+  pub cause : RefusesLine outcome input call.words call.entry.input call.after.input
+  pub disk : DiskUnasked call

@@ -6,7 +6,7 @@ use Rattle.nm_log.specs.Replies.{is_well, status_of}
 use Rattle.nm_log.specs.declared.log.LineLog.{LineLog}
 use Rattle.nm_log.specs.declared.outcome.Outcome.{Outcome}
 use Rattle.nm_log.specs.declared.outcome.Outcome.TheVariants as outcomes
-use Rattle.nm_history.specs.Call.{Call, Ending, Ran, Refused, is_session}
+use Rattle.nm_history.specs.Call.{Call, Ending, Ran, Refused, Unasked, is_session}
 
 -- the status of the device that failed in a line
 abbrev pub fault_of : Outcome → Option ℕ
@@ -77,4 +77,5 @@ status_by false logs out_failed = single_status logs out_failed
 -- What the process exits with.
 abbrev pub Status : Ending → Bool → Call → Type 0
 Status (Refused refusal) out_failed call = call.done.status ≡ refused_status refusal
+Status (Unasked outcome) out_failed call = call.done.status ≡ status_of outcome
 Status Ran out_failed call = call.done.status ≡ status_by (is_session call.words) call.done.log.lines out_failed

@@ -1,30 +1,37 @@
 //! What follows from the definitions for single lines and for whole sessions. These functions run no code: their clauses are the laws.
 
-ghost use Rattle.std.specs.Prelude.{◌≡◌, ◌⊎◌, ℕ, ℤ, Bool, List, [], ◌∷◌, ◌++◌, Option, None, Some, false, true};
+ghost use Rattle.std.specs.Prelude.{◌≡◌, ◌⊎◌, ℕ, ℤ, Bool, List, [], ◌∷◌, ◌++◌, IfSome, Option, None, Some, false, true};
 ghost use Rattle.std.specs.Option.{option_map};
 ghost use Rattle.nm_commit.specs.declared.change.Commit.{Commit};
 ghost use Rattle.nm_index.specs.declared.base.Base.{Base};
 ghost use Rattle.nm_machine.specs.declared.step.Step.{Step};
 ghost use Rattle.nm_log.specs.declared.line_parser.ParsedLine.{ParsedLine};
+ghost use Rattle.nm_log.specs.Replies.{refusal_line};
 ghost use Rattle.nm_log.specs.declared.log.LineLog.{LineLog};
+ghost use Rattle.nm_log.specs.declared.log.Setting.{Setting};
 ghost use Rattle.nm_log.specs.declared.outcome.Outcome.{Outcome};
+ghost use Rattle.nm_io.specs.Observed.{ObservedStream};
+ghost use Rattle.nm_maildir.specs.Observed.{ObservedMail};
 ghost use Rattle.nm_maildir.specs.Tree.{moved, Tree};
 ghost use Rattle.nm_maildir.specs.declared.answers.Renamed.{Renamed};
 ghost use Rattle.nm_maildir.specs.declared.given.Given.{Given};
 ghost use Rattle.nm_disk.specs.Images.{IsImage, MayLeave};
-ghost use Rattle.nm_disk.specs.Observed.{Moments, bytes_now};
+ghost use Rattle.nm_disk.specs.Observed.{Moments, ObservedDisk, bytes_now};
 ghost use Rattle.nm_disk.specs.declared.disk.FileNo.TheVariants as heads;
 ghost use Rattle.nm_journal.specs.Moments.{GoesThrough, IsSynced, SyncsOrFails};
 ghost use Rattle.nm_writer.specs.Durable.{KeptSince};
 ghost use Rattle.nm_writer.specs.StoredIndex.{HoldsIndex};
-ghost use Rattle.nm_history.specs.Call.{Call, call_reads, input_fault};
+ghost use Rattle.nm_history.specs.Call.{Call, call_of, call_reads, devices, input_fault, is_session};
 ghost use Rattle.nm_history.specs.Complete.{IsComplete};
 ghost use Rattle.nm_history.specs.CrashPrefix.{KeepsCommits};
 ghost use Rattle.nm_history.specs.History.{History};
 ghost use Rattle.nm_history.specs.LineAnswers.{HasCause};
 ghost use Rattle.nm_history.specs.Lines.{Before, IsIndexAt, tree_after_line};
+ghost use Rattle.nm_history.specs.PrintedOut.{Prints};
+ghost use Rattle.nm_history.specs.Refusals.{RefusesLine};
 ghost use Rattle.nm_history.specs.Requests.{asks_to_tag, asks_to_write, refused_text_in};
 ghost use Rattle.nm_history.specs.Status.{first_fault, session_status};
+ghost use Rattle.nm_history.specs.UnaskedLine.{refused_done};
 
 use nm_writer::{
     an_index_is_held_once, what_holds_an_index_is_not_bad, what_keeps_the_limits_passes_none,
@@ -84,6 +91,14 @@ pub fn a_session_keeps_its_commits()
 pub fn a_refused_opening_keeps_the_index()
     ensures { (before now : Moments) → IsImage before.present before.present.now → SyncsOrFails before now
         → GoesThrough heads.Head (MayLeave before.present heads.Head) before now → KeepsCommits [] [] before now }
+{}
+
+/// A single command that is refused before the mail folder and the disk are asked has such a history, where its one line is in the log and its
+/// text is said.
+pub fn a_refused_line_is_a_history()
+    ensures { (why : Outcome) (input : List ℕ) (words : List (List ℕ)) (setting : Setting) (mail : ObservedMail) (disk : ObservedDisk) (old new out err said : ObservedStream)
+        → is_session words ≡ false → RefusesLine why input words old new → Prints (Some (refusal_line why)) err said → IfSome disk.told (λ moments. IsImage moments.present moments.present.now)
+        → History (call_of words setting (devices mail disk old out err) (devices mail disk new out said) (refused_done why mail.faults disk.faults)) }
 {}
 
 /// A call that reads no input is not refused for one.

@@ -14,7 +14,8 @@ pub use going_on::{
 };
 pub use laws::{
     a_call_that_reads_nothing_is_not_refused_for_its_input, a_disk_fault_is_the_status,
-    a_history_is_complete, a_mail_fault_is_the_status, a_refused_opening_keeps_the_index,
-    a_session_keeps_its_commits, an_index_at_a_revision_is_one, no_line_is_closed_without_a_fault,
-    the_tree_follows_renames, what_writes_after_a_disk_fault_is_closed,
+    a_history_is_complete, a_mail_fault_is_the_status, a_refused_line_is_a_history,
+    a_refused_opening_keeps_the_index, a_session_keeps_its_commits, an_index_at_a_revision_is_one,
+    no_line_is_closed_without_a_fault, the_tree_follows_renames,
+    what_writes_after_a_disk_fault_is_closed,
 };

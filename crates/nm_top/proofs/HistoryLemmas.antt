@@ -1,5 +1,5 @@
 -- The whole statement of a session, from its parts.
-use Rattle.std.proofs.Common.{◌≡◌, ◌<◌, ◌≤◌, inl, inr, ℕ, Bool, true, false, List, [], ◌∷◌, Option, None, Some, IfSome, length, Result, Ok, Err, refl, sym, ap, ◌∙◌, arith, subst}
+use Rattle.std.proofs.Common.{◌≡◌, ◌⊎◌, ◌<◌, ◌≤◌, inl, inr, ℕ, Bool, true, false, List, [], ◌∷◌, Option, None, Some, IfSome, length, Ok, Err, refl, sym, ap, ◌∙◌, arith, subst}
 use Rattle.std.specs.List.{zip}
 use Rattle.nm_command.specs.Requests.{request_of}
 use Rattle.nm_command.specs.declared.command_error.CommandError.{CommandError}
@@ -7,7 +7,7 @@ use Rattle.nm_command.specs.declared.command_error.CommandError.TheVariants as c
 use Rattle.nm_command.specs.declared.request.Request as asks
 use Rattle.nm_disk.specs.Images.{IsImage}
 use Rattle.nm_disk.specs.Observed.{Moments, ObservedDisk}
-use Rattle.nm_history.specs.Call.{Devices, Ran, Refused, call_fault, call_lines, call_of, call_reads, devices, fault_by, fault_in_query, fault_of_command, fault_of_input, fault_of_query, fault_of_session, input_fault, input_fault_by, is_session, line_refusal, lines_by, reads_by}
+use Rattle.nm_history.specs.Call.{Devices, Ran, Refused, call_fault, call_lines, call_of, call_reads, devices, fault_by, fault_of_session, input_fault, input_fault_by, is_session, lines_by, reads_by}
 use Rattle.nm_history.specs.CrashPrefix.{CrashPrefix, KeepsCommits}
 use Rattle.nm_history.specs.Given.{GivenAlong}
 use Rattle.nm_history.specs.History.{History}
@@ -16,37 +16,31 @@ use Rattle.nm_history.specs.LineCommits.{LineCommits}
 use Rattle.nm_history.specs.Lines.{RunLine, at_first}
 use Rattle.nm_history.specs.MachineRun.{MachineRun}
 use Rattle.nm_history.specs.PrintedOut.{Prints, StreamAppends, final_message, printed_by}
-use Rattle.nm_history.specs.Refusals.{IsRead, IsRefusedFor, TakesInput}
+use Rattle.nm_history.specs.Refusals.{IsRead, IsRefusedFor, RefusesLine, TakesInput}
 use Rattle.nm_history.specs.Status.{status_by}
-use Rattle.nm_history.specs.Requests.{first_bad_line, own_query}
 use Rattle.nm_index.specs.Index.{empty_index}
 use Rattle.std.specs.Str.Lines.{lines}
 use Rattle.nm_base.specs.Limits.{max_input_bytes, max_lines}
+use Rattle.nm_base.specs.declared.refusals.UsageKind.{UsageKind}
 use Rattle.nm_io.specs.Taking.{HasTakeCause}
 use Rattle.nm_io.specs.declared.taking.TakeError.{TakeError}
 use Rattle.nm_io.specs.declared.taking.TakeError.TheVariants as takes
 use Rattle.nm_journal.specs.Journal.{IfTold}
-use Rattle.nm_log.specs.ParsedLine.{parse_single}
 use Rattle.nm_log.specs.Refusals.{refused_line, refused_status}
-use Rattle.nm_log.specs.declared.line_parser.ParsedLine.{ParsedLine}
-use Rattle.nm_log.specs.declared.line_parser.ParsedLine.TheVariants as asked
 use Rattle.nm_log.specs.declared.log.Done.{Done}
 use Rattle.nm_log.specs.declared.log.LineLog.{LineLog}
 use Rattle.nm_log.specs.declared.log.SessionLog.{SessionLog}
 use Rattle.nm_log.specs.declared.log.Setting.{Setting}
+use Rattle.nm_log.specs.declared.outcome.Outcome.{Outcome}
+use Rattle.nm_log.specs.declared.outcome.Outcome.TheVariants as outcomes
 use Rattle.nm_log.specs.declared.refusal.Refusal.{Refusal}
 use Rattle.nm_log.specs.declared.refusal.Refusal.TheVariants as refusals
 use Rattle.nm_log.specs.declared.script.ScriptLine.{ScriptLine}
 use Rattle.nm_io.specs.Observed.{ObservedStream}
 use Rattle.nm_maildir.specs.Observed.{ObservedMail}
-use Rattle.nm_query.specs.Answers.{answer_of}
-use Rattle.nm_query.specs.declared.query.Query.{Query}
-use Rattle.nm_query.specs.declared.query_error.QueryError.{QueryError}
-use Rattle.nm_query.specs.declared.query_error.QueryError.TheVariants as query_errors
 use Rattle.nm_session.specs.Run.{HasRun}
-use Rattle.nm_tags.specs.declared.line_error.LineKind.{LineKind}
 use Rattle.nm_session.specs.Session.{HasOpenCause, IsSession, IsUnopened}
-use Rattle.nm_top.specs.Ending.{Refuses, ended_with, refusal_of, take_refusal}
+use Rattle.nm_top.specs.Ending.{Refuses, RefusesAlone, ended_with, refusal_of, take_refusal}
 use Rattle.nm_top.specs.RefusalLaws.{RefusalLaws}
 use Rattle.nm_writer.specs.declared.open_error.OpenError.{OpenError}
 use Rattle.nm_writer.specs.declared.open_error.OpenError.TheVariants as errors
@@ -104,76 +98,40 @@ pub unasked-history : RefusalLaws → (refusal : Refusal) (input : List ℕ) (wo
 unasked-history laws refusal input words setting mail disk old new out err said image cause done ends =
     refused-history laws refusal input words setting (devices mail disk old out err) (devices mail disk new out said) cause (unasked laws disk image) refl refl done ends
 
--- what refuses words is a fault of them, of a query in them, or running out of memory
+-- a single command that is refused before the mail folder and the disk are asked
+pub line-history : RefusalLaws → (why : Outcome) (input : List ℕ) (words : List (List ℕ)) (setting : Setting) (mail : ObservedMail) (disk : ObservedDisk) (old new out err said : ObservedStream)
+    → IfSome disk.told (λ moments. IsImage moments.present moments.present.now) → is_session words ≡ false → RefusesLine why input words old new
+    → (done : Done) → RefusesAlone why mail.faults disk.faults err said done → History (call_of words setting (devices mail disk old out err) (devices mail disk new out said) done)
+line-history laws why input words setting mail disk old new out err said image single cause done (inl line) =
+    subst (λ (d : Done). History (call_of words setting (devices mail disk old out err) (devices mail disk new out said) d)) (sym line.ended)
+    (laws.line why input words setting mail disk old new out err said single cause line.says image)
+line-history laws why input words setting mail disk old new out err said image single cause done (inr none) =
+    unasked-history laws refusals.NoMemory input words setting mail disk old new out err said image (λ d. tt) done none
 
-abbrev is_of_words : Refusal → Bool
-is_of_words (refusals.Usage word kind) = true
-is_of_words (refusals.BadQuery at kind) = true
-is_of_words (refusals.BadDate at) = true
-is_of_words (refusals.BadLine line kind) = false
-is_of_words refusals.ReadFault = false
-is_of_words refusals.DiskFault = false
-is_of_words (refusals.BadIndex file at) = false
-is_of_words (refusals.Limit limit) = true
-is_of_words refusals.NoMemory = true
+-- the words of a session are refused where the error is not that memory ran out
+pub session-fault : (words : List (List ℕ)) (error : CommandError) (word : List ℕ) (kind : UsageKind) → is_session words ≡ true → error ≡ command_errors.Usage word kind
+    → (error ≡ command_errors.NoMemory) ⊎ (request_of words ≡ Err error) → call_fault words ≡ Some (outcomes.Usage word kind)
+session-fault words error word kind is same (inl other) = let both : command_errors.Usage word kind ≡ command_errors.NoMemory = sym same ∙ other in absurd (cc)
+session-fault words error word kind is same (inr said) =
+    ap (λ (b : Bool). fault_by b words) is ∙ ap fault_of_session (said ∙ ap Err same)
 
-some-is : (one other : Refusal) → Some one ≡ Some other → is_of_words one ≡ true → is_of_words other ≡ true
-some-is one other e of_words = let same : one ≡ other = cc in subst (λ (r : Refusal). is_of_words r ≡ true) same of_words
+-- and right where they are read
+pub session-right : (words : List (List ℕ)) (request : asks.Request) → is_session words ≡ true → request_of words ≡ Ok request → call_fault words ≡ None
+session-right words request is read = ap (λ (b : Bool). fault_by b words) is ∙ ap fault_of_session read
 
-none-is : (other : Refusal) → None ≡ Some other → is_of_words other ≡ true
-none-is other e = absurd (cc)
-
-of-session : (answer : Result asks.Request CommandError) (refusal : Refusal) → fault_of_session answer ≡ Some refusal → is_of_words refusal ≡ true
-of-session (Ok request) refusal e = none-is refusal e
-of-session (Err (command_errors.Usage word kind)) refusal e = some-is (refusals.Usage word kind) refusal e refl
-of-session (Err command_errors.NoMemory) refusal e = none-is refusal e
-
-in-query : (answer : Result Query QueryError) (refusal : Refusal) → fault_in_query answer ≡ Some refusal → is_of_words refusal ≡ true
-in-query (Ok query) refusal e = none-is refusal e
-in-query (Err (query_errors.BadQuery at kind)) refusal e = some-is (refusals.BadQuery at kind) refusal e refl
-in-query (Err (query_errors.BadDate at)) refusal e = some-is (refusals.BadDate at) refusal e refl
-in-query (Err (query_errors.Limit limit)) refusal e = some-is (refusals.Limit limit) refusal e refl
-in-query (Err query_errors.NoMemory) refusal e = some-is refusals.NoMemory refusal e refl
-
-of-query : (own : Option (List ℕ)) (refusal : Refusal) → fault_of_query own ≡ Some refusal → is_of_words refusal ≡ true
-of-query None refusal e = none-is refusal e
-of-query (Some text) refusal e = in-query (answer_of text) refusal e
-
-of-command : (line : ParsedLine) (refusal : Refusal) → fault_of_command line ≡ Some refusal → is_of_words refusal ≡ true
-of-command (asked.Usage word kind) refusal e = some-is (refusals.Usage word kind) refusal e refl
-of-command (asked.Request request) refusal e = of-query (own_query request) refusal e
-
-of-words : (session : Bool) (words : List (List ℕ)) (refusal : Refusal) → fault_by session words ≡ Some refusal → is_of_words refusal ≡ true
-of-words true words refusal e = of-session (request_of words) refusal e
-of-words false words refusal e = of-command (parse_single words) refusal e
-
--- the cause of a refusal for the words
-caused-by-words : (refusal : Refusal) (input : List ℕ) (words : List (List ℕ)) (setting : Setting) (mail : ObservedMail) (disk : ObservedDisk) (old out err said : ObservedStream) (done : Done)
-    → is_of_words refusal ≡ true → call_fault words ≡ Some refusal → IsRefusedFor refusal input (call_of words setting (devices mail disk old out err) (devices mail disk old out said) done)
-caused-by-words (refusals.Usage word kind) input words setting mail disk old out err said done of_words e = (e, (refl, refl))
-caused-by-words (refusals.BadQuery at kind) input words setting mail disk old out err said done of_words e = (e, (refl, refl))
-caused-by-words (refusals.BadDate at) input words setting mail disk old out err said done of_words e = (e, (refl, refl))
-caused-by-words (refusals.BadLine line kind) input words setting mail disk old out err said done of_words e = absurd (cc)
-caused-by-words refusals.ReadFault input words setting mail disk old out err said done of_words e = absurd (cc)
-caused-by-words refusals.DiskFault input words setting mail disk old out err said done of_words e = absurd (cc)
-caused-by-words (refusals.BadIndex file at) input words setting mail disk old out err said done of_words e = absurd (cc)
-caused-by-words (refusals.Limit limit) input words setting mail disk old out err said done of_words e = inl (inl e, refl)
-caused-by-words refusals.NoMemory input words setting mail disk old out err said done of_words e = tt
-
--- a call that is refused for its words
-pub words-history : RefusalLaws → (refusal : Refusal) (words : List (List ℕ)) (setting : Setting) (mail : ObservedMail) (disk : ObservedDisk) (old out err said : ObservedStream)
-    → IfSome disk.told (λ moments. IsImage moments.present moments.present.now) → call_fault words ≡ Some refusal
-    → (done : Done) → Refuses refusal err said done → History (call_of words setting (devices mail disk old out err) (devices mail disk old out said) done)
-words-history laws refusal words setting mail disk old out err said image e done ends =
-    unasked-history laws refusal [] words setting mail disk old old out err said image
-    (λ d. caused-by-words refusal [] words setting mail disk old out err said d (of-words (is_session words) words refusal e) e) done ends
+-- a session that is refused for its words
+pub session-history : RefusalLaws → (word : List ℕ) (kind : UsageKind) (words : List (List ℕ)) (setting : Setting) (mail : ObservedMail) (disk : ObservedDisk) (old out err said : ObservedStream)
+    → IfSome disk.told (λ moments. IsImage moments.present moments.present.now) → is_session words ≡ true → call_fault words ≡ Some (outcomes.Usage word kind)
+    → (done : Done) → Refuses (refusals.Usage word kind) err said done → History (call_of words setting (devices mail disk old out err) (devices mail disk old out said) done)
+session-history laws word kind words setting mail disk old out err said image is fault done ends =
+    unasked-history laws (refusals.Usage word kind) [] words setting mail disk old old out err said image (λ d. (is, fault, (refl, refl))) done ends
 
 -- the cause of a refusal for an error of reading the input
 take-cause : (error : TakeError) (words : List (List ℕ)) (setting : Setting) (mail : ObservedMail) (disk : ObservedDisk) (old new out err said : ObservedStream) (done : Done) → call_fault words ≡ None → call_reads words ≡ true
     → HasTakeCause {T = List ℕ} old.faults new.faults (Err error) → (error ≡ takes.TooLong → IfSome old.bytes (λ bytes. max_input_bytes < length bytes))
     → IsRefusedFor (take_refusal error) [] (call_of words setting (devices mail disk old out err) (devices mail disk new out said) done)
 take-cause takes.ReadFault words setting mail disk old new out err said done sound reads cause long = (sound, reads, cause, refl)
-take-cause takes.TooLong words setting mail disk old new out err said done sound reads cause long = inl (inr (sound, reads, (long refl, cause)), refl)
+take-cause takes.TooLong words setting mail disk old new out err said done sound reads cause long = inl ((sound, reads, (long refl, cause)), refl)
 take-cause takes.NoMemory words setting mail disk old new out err said done sound reads cause long = tt
 
 -- a call whose input is not read
@@ -244,24 +202,6 @@ reads-as session reads words is read = ap (λ (b : Bool). reads_by b words) is �
 
 pub session-reads : (words : List (List ℕ)) → is_session words ≡ true → call_reads words ≡ true
 session-reads words is = ap (λ (b : Bool). reads_by b words) is
-
--- what refuses the lines of a command is a line of them
-line-is : (fault : Option (ℕ × LineKind)) (refusal : Refusal) → line_refusal fault ≡ Some refusal → (line : ℕ) × (kind : LineKind) × (refusal ≡ refusals.BadLine line kind)
-line-is None refusal e = absurd (cc)
-line-is (Some bad) refusal e = let same : refusals.BadLine bad.0 bad.1 ≡ refusal = cc in (bad.0, bad.1, sym same)
-
-input-is : (parsed : ParsedLine) (input : List ℕ) (refusal : Refusal) → fault_of_input parsed input ≡ Some refusal → (line : ℕ) × (kind : LineKind) × (refusal ≡ refusals.BadLine line kind)
-input-is (asked.Usage word kind) input refusal e = absurd (cc)
-input-is (asked.Request request) input refusal e = line-is (first_bad_line request input) refusal e
-
--- a call that is refused for a line of its input
-pub lines-cause : (words : List (List ℕ)) (input : List ℕ) (refusal : Refusal) (setting : Setting) (mail : ObservedMail) (disk : ObservedDisk) (old new out err said : ObservedStream) (done : Done)
-    → call_fault words ≡ None → is_session words ≡ false → IsRead input old new → fault_of_input (parse_single words) input ≡ Some refusal
-    → IsRefusedFor refusal input (call_of words setting (devices mail disk old out err) (devices mail disk new out said) done)
-lines-cause words input refusal setting mail disk old new out err said done sound single read e =
-    let bad = input-is (parse_single words) input refusal e in
-    subst (λ (r : Refusal). IsRefusedFor r input (call_of words setting (devices mail disk old out err) (devices mail disk new out said) done)) (sym bad.2)
-    (sound, read, ap (λ (b : Bool). input_fault_by b words input) single ∙ (e ∙ ap (λ (r : Refusal). Some r) bad.2), refl)
 
 -- what a single command takes of its input, and what a session does
 pub single-takes : (input : List ℕ) (old new : ObservedStream) → IsRead input old new → TakesInput true false input old new

@@ -1,25 +1,42 @@
--- How a call ends that ran no line.
-use Rattle.std.specs.Prelude.{◌≡◌, ℕ, [], Some}
+-- How a call ends that opened no index.
+use Rattle.std.specs.Prelude.{◌≡◌, ◌⊎◌, ℕ, List, [], Some}
 use Rattle.nm_history.specs.PrintedOut.{Prints}
+use Rattle.nm_history.specs.UnaskedLine.{refused_done}
 use Rattle.nm_base.specs.declared.limit.Limit.TheVariants.{InputBytes}
 use Rattle.nm_io.specs.Observed.{ObservedStream}
 use Rattle.nm_io.specs.declared.taking.TakeError.{TakeError}
 use Rattle.nm_io.specs.declared.taking.TakeError.TheVariants as takes
 use Rattle.nm_log.specs.Refusals.{refused_line, refused_status}
+use Rattle.nm_log.specs.Replies.{refusal_line}
 use Rattle.nm_log.specs.declared.log.Done.{Done}
+use Rattle.nm_log.specs.declared.log.LineLog.{LineLog}
+use Rattle.nm_log.specs.declared.outcome.Outcome.{Outcome}
 use Rattle.nm_log.specs.declared.refusal.Refusal.{Refusal}
 use Rattle.nm_log.specs.declared.refusal.Refusal.TheVariants as refusals
 use Rattle.nm_writer.specs.declared.open_error.OpenError.{OpenError}
 use Rattle.nm_writer.specs.declared.open_error.OpenError.TheVariants as errors
 
+-- these lines are the log, and no step was taken
+abbrev pub ended_on : ℕ → List LineLog → Done
+ended_on code logs = record { status = code; log = record { steps = []; lines = logs; acked = [] } }
+
 -- nothing is in the log
 abbrev pub ended_with : ℕ → Done
-ended_with code = record { status = code; log = record { steps = []; lines = []; acked = [] } }
+ended_with code = ended_on code []
 
 -- The call has the status of the refusal and an empty log, and its line was said.
 pub record Refuses (refusal : Refusal) (old new : ObservedStream) (done : Done) : Type 0 where
   pub ended : done ≡ ended_with (refused_status refusal)
   pub says : Prints (Some (refused_line refusal)) old new
+
+-- A single command has the status of its outcome and its one line in the log, with these counts of faults, and its text was said.
+pub record EndsWithLine (why : Outcome) (mail disk : ℕ) (old new : ObservedStream) (done : Done) : Type 0 where
+  pub ended : done ≡ refused_done why mail disk
+  pub says : Prints (Some (refusal_line why)) old new
+
+-- so it ends where it is refused before the mail folder and the disk are asked, or memory ran out for it
+abbrev pub RefusesAlone : Outcome → ℕ → ℕ → ObservedStream → ObservedStream → Done → Type 0
+RefusesAlone why mail disk old new done = EndsWithLine why mail disk old new done ⊎ Refuses refusals.NoMemory old new done
 
 -- an error of opening, as the session is refused for it
 abbrev pub refusal_of : OpenError → Refusal

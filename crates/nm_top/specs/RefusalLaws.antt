@@ -1,17 +1,26 @@
--- The laws on which a session rests that runs no line.
-use Rattle.std.specs.Prelude.{◌≡◌, ℕ, ℤ, List, [], None, false}
+-- The laws on which a call rests that opens no index.
+use Rattle.std.specs.Prelude.{◌≡◌, ℕ, ℤ, List, [], None, Some, IfSome, false}
 use Rattle.nm_disk.specs.Images.{IsImage, MayLeave}
-use Rattle.nm_disk.specs.Observed.{Moments}
+use Rattle.nm_disk.specs.Observed.{Moments, ObservedDisk}
 use Rattle.nm_disk.specs.declared.disk.FileNo.TheVariants.{Head}
-use Rattle.nm_history.specs.Call.{Devices, call_reads, input_fault}
+use Rattle.nm_history.specs.Call.{Devices, call_of, call_reads, devices, input_fault, is_session}
 use Rattle.nm_history.specs.CrashPrefix.{KeepsCommits}
 use Rattle.nm_history.specs.Given.{GivenAlong}
+use Rattle.nm_history.specs.History.{History}
 use Rattle.nm_history.specs.LineAnswers.{LineAnswers}
 use Rattle.nm_history.specs.LineCommits.{LineCommits}
 use Rattle.nm_history.specs.Lines.{at_first}
 use Rattle.nm_history.specs.MachineRun.{MachineRun}
+use Rattle.nm_history.specs.PrintedOut.{Prints}
+use Rattle.nm_history.specs.Refusals.{RefusesLine}
+use Rattle.nm_history.specs.UnaskedLine.{refused_done}
 use Rattle.nm_index.specs.declared.base.Base.{Base}
+use Rattle.nm_io.specs.Observed.{ObservedStream}
 use Rattle.nm_journal.specs.Moments.{GoesThrough, SyncsOrFails}
+use Rattle.nm_log.specs.Replies.{refusal_line}
+use Rattle.nm_log.specs.declared.log.Setting.{Setting}
+use Rattle.nm_log.specs.declared.outcome.Outcome.{Outcome}
+use Rattle.nm_maildir.specs.Observed.{ObservedMail}
 
 pub record RefusalLaws : Type 0 where
   pub run : (opening : Base) (moment : ℤ) (entry : Devices) → MachineRun opening moment (at_first opening entry) [] [] []
@@ -21,3 +30,6 @@ pub record RefusalLaws : Type 0 where
   pub stays : (before now : Moments) → IsImage before.present before.present.now → SyncsOrFails before now
       → GoesThrough Head (MayLeave before.present Head) before now → KeepsCommits [] [] before now
   pub unread : (words : List (List ℕ)) (input : List ℕ) → call_reads words ≡ false → input_fault words input ≡ None
+  pub line : (why : Outcome) (input : List ℕ) (words : List (List ℕ)) (setting : Setting) (mail : ObservedMail) (disk : ObservedDisk) (old new out err said : ObservedStream)
+      → is_session words ≡ false → RefusesLine why input words old new → Prints (Some (refusal_line why)) err said → IfSome disk.told (λ moments. IsImage moments.present moments.present.now)
+      → History (call_of words setting (devices mail disk old out err) (devices mail disk new out said) (refused_done why mail.faults disk.faults))

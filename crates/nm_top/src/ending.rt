@@ -1,15 +1,17 @@
 //! How the call ends: what is printed and said, and the status.
 
-ghost use Rattle.std.specs.Prelude.{◌≡◌, ℕ, Bool, List, true, false, None, Some, MatchOption, if◌then◌else◌};
+ghost use Rattle.std.specs.Prelude.{◌≡◌, ◌<◌, ℕ, Bool, List, [], ◌∷◌, true, false, None, Some, IfOk, MatchOption, if◌then◌else◌};
 ghost use Rattle.nm_history.specs.PrintedOut.{Prints, StreamAppends, final_message, printed_by, refused_text, write_message};
 ghost use Rattle.nm_history.specs.Status.{any_is_out_of_memory, fault_of, first_fault, fault_or, session_status, single_status, status_by, status_of_fault, is_out_of_memory, write_fault};
-ghost use Rattle.nm_top.specs.Ending.{Refuses, ended_with};
+ghost use Rattle.nm_history.specs.UnaskedLine.{refused_log};
+ghost use Rattle.nm_log.specs.Replies.{refusal_line};
+ghost use Rattle.nm_top.specs.Ending.{Refuses, RefusesAlone, ended_on, ended_with};
 
-use nm_base::Many;
+use nm_base::{Many, NoMemory, Room};
 use nm_io::Sink;
 use nm_log::{
     Done, LineLog, Outcome, Refusal, SessionLog, is_well, line_status, print_lines, print_refusal,
-    print_replies, print_text, refused_status,
+    print_replies, print_text, refusal_line, refused_status,
 };
 use std::alloc::Global;
 
@@ -82,14 +84,92 @@ pub(crate) fn ended_early<E: Sink>(alloc: Global, err: &mut E, status: u8, line:
     ended(alloc, status)
 }
 
+/// Ends a single command that is refused before the mail folder and the disk are asked, which have failed so often: its text is said, and its
+/// one line is in the log.
+pub(crate) fn refuse_line<E: Sink>(
+    alloc: Global,
+    err: &mut E,
+    outcome: Outcome,
+    mail_faults: u64,
+    disk_faults: u64,
+) -> Done
+    ensures { RefusesAlone outcome mail_faults disk_faults (E.observed err.old) (E.observed err.new) result }
+{
+    match room_for_line(alloc, &outcome) {
+        Ok((room, text)) => {
+            say(err, text.as_slice());
+            let log = refused_log(alloc, outcome, text, mail_faults, disk_faults);
+            ended_after(alloc, room, log)
+        }
+        Err(NoMemory) => refuse(alloc, err, &Refusal::NoMemory),
+    }
+}
+
+/// A place for the log of a line, and the text of its refusal.
+fn room_for_line(alloc: Global, outcome: &Outcome) -> Result<(Room<LineLog>, Many<u8>), NoMemory>
+    ensures empty { IfOk result (λ room. room.0.0 ≡ []) }
+    ensures spare { IfOk result (λ room. 0 < room.0.1) }
+    ensures text { IfOk result (λ room. room.1 ≡ refusal_line outcome.now) }
+{
+    let mut logs = Room::new(alloc);
+    logs.reserve(1)?;
+    let text = refusal_line(alloc, outcome)?;
+    Ok((logs, text))
+}
+
+/// The log of a line that is refused so, before any index is there.
+fn refused_log(
+    alloc: Global,
+    outcome: Outcome,
+    text: Many<u8>,
+    mail_faults: u64,
+    disk_faults: u64,
+) -> LineLog
+    requires text { text ≡ refusal_line outcome }
+    ensures { result ≡ refused_log outcome mail_faults disk_faults }
+{
+    LineLog {
+        phase: 0,
+        lane: 0,
+        line: 1,
+        revision: 0,
+        status: line_status(&outcome),
+        outcome,
+        text,
+        given: Many::new(alloc),
+        mail_faults,
+        disk_faults,
+        disk_failed: false,
+    }
+}
+
+/// Ends a call with the status of its one line.
+fn ended_after(alloc: Global, room: Room<LineLog>, log: LineLog) -> Done
+    requires empty { room.0 ≡ [] }
+    requires spare { 0 < room.1 }
+    ensures { result ≡ ended_on log.status (log ∷ []) }
+{
+    let mut room = room;
+    let status = log.status;
+    room.push_spare(log);
+    ended_on(alloc, status, room.into_many())
+}
+
 fn ended(alloc: Global, status: u8) -> Done
     ensures { result ≡ ended_with status }
+{
+    ended_on(alloc, status, Many::new(alloc))
+}
+
+/// These lines are the log, and no step was taken.
+fn ended_on(alloc: Global, status: u8, lines: Many<LineLog>) -> Done
+    ensures { result ≡ ended_on status lines }
 {
     Done {
         status,
         log: SessionLog {
             steps: Many::new(alloc),
-            lines: Many::new(alloc),
+            lines,
             acked: Many::new(alloc),
         },
     }

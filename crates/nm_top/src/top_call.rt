@@ -9,16 +9,17 @@ ghost use Rattle.nm_history.specs.History.{History};
 ghost use Rattle.nm_history.specs.Refusals.{IsRead, TakesInput};
 ghost use Rattle.nm_io.specs.Observed.{ObservedStream};
 ghost use Rattle.nm_log.specs.ParsedLine.{parse_single};
-ghost use Rattle.nm_top.specs.Ending.{refusal_of, take_refusal};
+ghost use Rattle.nm_top.specs.Ending.{RefusesAlone, refusal_of, take_refusal};
 
-use crate::ending::{print_all, refuse, say_last, status_of_run};
+use crate::ending::{print_all, refuse, refuse_line, say_last, status_of_run};
 use crate::laws::refusal_laws;
-use crate::words::{fault_of, is_session, lines_fault, reads_lines, single_script};
+use crate::words::{is_session, lines_fault, reads_lines, single_fault, single_script};
 use nm_base::{Limit, Many, NoMemory, Text};
+use nm_command::{CommandError, command};
 use nm_disk::Disk;
 use nm_history::a_history_is_complete;
 use nm_io::{Sink, Source, TakeError, take_all};
-use nm_log::{Done, Refusal, ScriptError, ScriptLine, Setting, read_script};
+use nm_log::{Done, Outcome, Refusal, ScriptError, ScriptLine, Setting, read_script};
 use nm_maildir::Maildir;
 use nm_session::run_session;
 use nm_writer::OpenError;
@@ -59,7 +60,7 @@ pub fn notmuch<M: Maildir, D: Disk, I: Source, O: Sink, E: Sink>(
     answered(alloc, words, setting, mail, disk, input, out, err)
 }
 
-/// Tests the words, and does what they say.
+/// Does what the words say: they begin a session, or are a single command.
 fn answered<M: Maildir, D: Disk, I: Source, O: Sink, E: Sink>(
     alloc: Global,
     words: &[Text],
@@ -75,16 +76,68 @@ fn answered<M: Maildir, D: Disk, I: Source, O: Sink, E: Sink>(
         (devices (M.observed mail.old) (D.observed disk.old) (I.observed input.old) (O.observed out.old) (E.observed err.old))
         (devices (M.observed mail.new) (D.observed disk.new) (I.observed input.new) (O.observed out.new) (E.observed err.new)) result) }
 {
+    if is_session(words) {
+        return answer_session(alloc, words, setting, mail, disk, input, out, err);
+    }
+    answer_command(alloc, words, setting, mail, disk, input, out, err)
+}
+
+/// Tests the words of a session, and runs its script.
+fn answer_session<M: Maildir, D: Disk, I: Source, O: Sink, E: Sink>(
+    alloc: Global,
+    words: &[Text],
+    setting: &Setting,
+    mail: &mut M,
+    disk: &mut D,
+    input: &mut I,
+    out: &mut O,
+    err: &mut E,
+) -> Done
+    requires moment { IsMoment setting.now.moment }
+    requires session { is_session words.now ≡ true }
+    ensures { History (call_of words.now setting.now
+        (devices (M.observed mail.old) (D.observed disk.old) (I.observed input.old) (O.observed out.old) (E.observed err.old))
+        (devices (M.observed mail.new) (D.observed disk.new) (I.observed input.new) (O.observed out.new) (E.observed err.new)) result) }
+{
     refusal_laws();
-    match fault_of(alloc, words) {
-        Ok(None) => run_call(alloc, words, setting, mail, disk, input, out, err),
-        Ok(Some(refusal)) => refuse(alloc, err, &refusal),
+    match command(alloc, words) {
+        Ok(_) => read_and_run(alloc, setting, mail, disk, input, out, err),
+        Err(CommandError::Usage { word, kind }) => refuse(
+            alloc,
+            err,
+            &Refusal::Usage { word, kind },
+        ),
+        Err(CommandError::NoMemory) => refuse(alloc, err, &Refusal::NoMemory),
+    }
+}
+
+/// Tests the words of a single command and its query, and runs it.
+fn answer_command<M: Maildir, D: Disk, I: Source, O: Sink, E: Sink>(
+    alloc: Global,
+    words: &[Text],
+    setting: &Setting,
+    mail: &mut M,
+    disk: &mut D,
+    input: &mut I,
+    out: &mut O,
+    err: &mut E,
+) -> Done
+    requires moment { IsMoment setting.now.moment }
+    requires single { is_session words.now ≡ false }
+    ensures { History (call_of words.now setting.now
+        (devices (M.observed mail.old) (D.observed disk.old) (I.observed input.old) (O.observed out.old) (E.observed err.old))
+        (devices (M.observed mail.new) (D.observed disk.new) (I.observed input.new) (O.observed out.new) (E.observed err.new)) result) }
+{
+    refusal_laws();
+    match single_fault(alloc, words) {
+        Ok(None) => run_command(alloc, words, setting, mail, disk, input, out, err),
+        Ok(Some(outcome)) => refuse_unasked(alloc, outcome, mail, disk, err),
         Err(NoMemory) => refuse(alloc, err, &Refusal::NoMemory),
     }
 }
 
-/// Runs the script of a session, or a single command.
-fn run_call<M: Maildir, D: Disk, I: Source, O: Sink, E: Sink>(
+/// Runs a single command, over the input where it reads one.
+fn run_command<M: Maildir, D: Disk, I: Source, O: Sink, E: Sink>(
     alloc: Global,
     words: &[Text],
     setting: &Setting,
@@ -96,14 +149,12 @@ fn run_call<M: Maildir, D: Disk, I: Source, O: Sink, E: Sink>(
 ) -> Done
     requires moment { IsMoment setting.now.moment }
     requires sound { call_fault words.now ≡ None }
+    requires single { is_session words.now ≡ false }
     ensures { History (call_of words.now setting.now
         (devices (M.observed mail.old) (D.observed disk.old) (I.observed input.old) (O.observed out.old) (E.observed err.old))
         (devices (M.observed mail.new) (D.observed disk.new) (I.observed input.new) (O.observed out.new) (E.observed err.new)) result) }
 {
     refusal_laws();
-    if is_session(words) {
-        return read_and_run(alloc, setting, mail, disk, input, out, err);
-    }
     match reads_lines(alloc, words) {
         Ok(true) => read_lines_and_run(alloc, words, setting, mail, disk, input, out, err),
         Ok(false) => run_alone(alloc, words, setting, mail, disk, out, err),
@@ -206,9 +257,22 @@ fn run_over<M: Maildir, D: Disk, O: Sink, E: Sink>(
             ),
             Err(NoMemory) => refuse(alloc, err, &Refusal::NoMemory),
         },
-        Ok(Some(refusal)) => refuse(alloc, err, &refusal),
+        Ok(Some(outcome)) => refuse_unasked(alloc, outcome, mail, disk, err),
         Err(NoMemory) => refuse(alloc, err, &Refusal::NoMemory),
     }
+}
+
+/// Ends a single command that is refused before the mail folder and the disk are asked.
+fn refuse_unasked<M: Maildir, D: Disk, E: Sink>(
+    alloc: Global,
+    outcome: Outcome,
+    mail: &M,
+    disk: &D,
+    err: &mut E,
+) -> Done
+    ensures { RefusesAlone outcome (M.observed mail.now).faults (D.observed disk.now).faults (E.observed err.old) (E.observed err.new) result }
+{
+    refuse_line(alloc, err, outcome, mail.faults(), disk.faults())
 }
 
 /// Reads the script, before any other device is asked, and runs it.

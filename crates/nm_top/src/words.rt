@@ -1,11 +1,10 @@
 //! The words of a call: whether they begin a session, and what refuses them before a device is asked; the top call begins with it.
 
-ghost use Rattle.std.specs.Prelude.{◌≡◌, ◌≢◌, [], ◌∷◌, Some, IfOk};
-ghost use Rattle.nm_command.specs.Requests.{request_of};
-ghost use Rattle.nm_history.specs.Call.{call_fault, command_reads, fault_in_query, fault_of_command, fault_of_input, fault_of_query, fault_of_session, is_session, line_refusal, query_refusal};
+ghost use Rattle.std.specs.Prelude.{◌≡◌, ◌≢◌, [], ◌∷◌, Some, IfOk, false};
+ghost use Rattle.nm_history.specs.Call.{call_fault, command_reads, fault_of_command, fault_of_input, is_session};
 ghost use Rattle.nm_answer.specs.BatchLines.{queries_in, taggings_in};
 ghost use Rattle.nm_answer.specs.DumpReading.{read_dump};
-ghost use Rattle.nm_history.specs.Requests.{bad_line_in, first_bad_line, own_query};
+ghost use Rattle.nm_history.specs.Requests.{bad_line_in, first_bad_line, own_query, query_outcome, refused_line, refused_query, refused_text};
 ghost use Rattle.nm_log.specs.ParsedLine.{parse_single};
 ghost use Rattle.nm_log.specs.Script.{single_line};
 ghost use Rattle.nm_log.specs.declared.script.CommandText.TheVariants as texts;
@@ -14,9 +13,8 @@ ghost use Rattle.nm_query.specs.Answers.{answer_of};
 use nm_answer::Request;
 use nm_base::{Copies, Many, NoMemory, ReadForm, Text};
 use nm_batch::{read_queries, read_taggings};
-use nm_command::{CommandError, command};
 use nm_dump::read_dump;
-use nm_log::{CommandText, ParsedLine, Refusal, ScriptLine, parse_single, reads_input};
+use nm_log::{CommandText, Outcome, ParsedLine, ScriptLine, parse_single, reads_input};
 use nm_query::{QueryError, parse};
 use nm_tags::LineError;
 use std::alloc::Global;
@@ -31,31 +29,19 @@ pub(crate) fn is_session(words: &[Text]) -> bool
     }
 }
 
-/// What refuses the call for its words, if anything does.
-pub(crate) fn fault_of(alloc: Global, words: &[Text]) -> Result<Option<Refusal>, NoMemory>
+/// What refuses a single command for its words or its query, if anything does.
+pub(crate) fn single_fault(alloc: Global, words: &[Text]) -> Result<Option<Outcome>, NoMemory>
+    requires single { is_session words.now ≡ false }
     ensures { IfOk result (λ fault. fault ≡ call_fault words.now) }
 {
-    if is_session(words) {
-        return session_fault(alloc, words);
-    }
     command_fault(alloc, words)
 }
 
-fn session_fault(alloc: Global, words: &[Text]) -> Result<Option<Refusal>, NoMemory>
-    ensures { IfOk result (λ fault. fault ≡ fault_of_session (request_of words.now)) }
-{
-    match command(alloc, words) {
-        Ok(_) => Ok(None),
-        Err(CommandError::Usage { word, kind }) => Ok(Some(Refusal::Usage { word, kind })),
-        Err(CommandError::NoMemory) => Err(NoMemory),
-    }
-}
-
-fn command_fault(alloc: Global, words: &[Text]) -> Result<Option<Refusal>, NoMemory>
+fn command_fault(alloc: Global, words: &[Text]) -> Result<Option<Outcome>, NoMemory>
     ensures { IfOk result (λ fault. fault ≡ fault_of_command (parse_single words.now)) }
 {
     match parse_single(alloc, words)? {
-        ParsedLine::Usage { word, kind } => Ok(Some(Refusal::Usage { word, kind })),
+        ParsedLine::Usage { word, kind } => Ok(Some(Outcome::Usage { word, kind })),
         ParsedLine::Request(request) => request_fault(alloc, &request),
     }
 }
@@ -75,7 +61,7 @@ pub(crate) fn lines_fault(
     alloc: Global,
     words: &[Text],
     input: &[u8],
-) -> Result<Option<Refusal>, NoMemory>
+) -> Result<Option<Outcome>, NoMemory>
     ensures { IfOk result (λ fault. fault ≡ fault_of_input (parse_single words.now) input.now) }
 {
     match parse_single(alloc, words)? {
@@ -84,8 +70,8 @@ pub(crate) fn lines_fault(
     }
 }
 
-fn bad_line(alloc: Global, request: &Request, input: &[u8]) -> Result<Option<Refusal>, NoMemory>
-    ensures { IfOk result (λ fault. fault ≡ line_refusal (first_bad_line request.now input.now)) }
+fn bad_line(alloc: Global, request: &Request, input: &[u8]) -> Result<Option<Outcome>, NoMemory>
+    ensures { IfOk result (λ fault. fault ≡ refused_line (first_bad_line request.now input.now)) }
 {
     match request {
         Request::New | Request::Search(_) | Request::Dump(_) | Request::Show(_) => Ok(None),
@@ -105,32 +91,32 @@ fn bad_line(alloc: Global, request: &Request, input: &[u8]) -> Result<Option<Ref
     }
 }
 
-fn queries_fault(alloc: Global, input: &[u8]) -> Result<Option<Refusal>, NoMemory>
-    ensures { IfOk result (λ fault. fault ≡ line_refusal (bad_line_in (queries_in input.now))) }
+fn queries_fault(alloc: Global, input: &[u8]) -> Result<Option<Outcome>, NoMemory>
+    ensures { IfOk result (λ fault. fault ≡ refused_line (bad_line_in (queries_in input.now))) }
 {
     match read_queries(alloc, input) {
         Ok(_) => Ok(None),
-        Err(LineError::BadLine { line, kind }) => Ok(Some(Refusal::BadLine { line, kind })),
+        Err(LineError::BadLine { line, kind }) => Ok(Some(Outcome::BadLine { line, kind })),
         Err(LineError::NoMemory) => Err(NoMemory),
     }
 }
 
-fn taggings_fault(alloc: Global, input: &[u8], clear: bool) -> Result<Option<Refusal>, NoMemory>
-    ensures { IfOk result (λ fault. fault ≡ line_refusal (bad_line_in (taggings_in clear input.now))) }
+fn taggings_fault(alloc: Global, input: &[u8], clear: bool) -> Result<Option<Outcome>, NoMemory>
+    ensures { IfOk result (λ fault. fault ≡ refused_line (bad_line_in (taggings_in clear input.now))) }
 {
     match read_taggings(alloc, input, clear) {
         Ok(_) => Ok(None),
-        Err(LineError::BadLine { line, kind }) => Ok(Some(Refusal::BadLine { line, kind })),
+        Err(LineError::BadLine { line, kind }) => Ok(Some(Outcome::BadLine { line, kind })),
         Err(LineError::NoMemory) => Err(NoMemory),
     }
 }
 
-fn dump_fault(alloc: Global, input: &[u8], form: ReadForm) -> Result<Option<Refusal>, NoMemory>
-    ensures { IfOk result (λ fault. fault ≡ line_refusal (bad_line_in (read_dump input.now form))) }
+fn dump_fault(alloc: Global, input: &[u8], form: ReadForm) -> Result<Option<Outcome>, NoMemory>
+    ensures { IfOk result (λ fault. fault ≡ refused_line (bad_line_in (read_dump input.now form))) }
 {
     match read_dump(alloc, input, form) {
         Ok(_) => Ok(None),
-        Err(LineError::BadLine { line, kind }) => Ok(Some(Refusal::BadLine { line, kind })),
+        Err(LineError::BadLine { line, kind }) => Ok(Some(Outcome::BadLine { line, kind })),
         Err(LineError::NoMemory) => Err(NoMemory),
     }
 }
@@ -146,8 +132,8 @@ fn words_text(alloc: Global, words: &[Text]) -> Result<CommandText, NoMemory>
     Ok(CommandText::Words(copied))
 }
 
-fn request_fault(alloc: Global, request: &Request) -> Result<Option<Refusal>, NoMemory>
-    ensures { IfOk result (λ fault. fault ≡ fault_of_query (own_query request.now)) }
+fn request_fault(alloc: Global, request: &Request) -> Result<Option<Outcome>, NoMemory>
+    ensures { IfOk result (λ fault. fault ≡ refused_query (own_query request.now)) }
 {
     match request {
         Request::New | Request::Restore(_) => Ok(None),
@@ -169,8 +155,8 @@ fn request_fault(alloc: Global, request: &Request) -> Result<Option<Refusal>, No
     }
 }
 
-fn query_fault(alloc: Global, text: &str) -> Result<Option<Refusal>, NoMemory>
-    ensures { IfOk result (λ fault. fault ≡ fault_in_query (answer_of text.now)) }
+fn query_fault(alloc: Global, text: &str) -> Result<Option<Outcome>, NoMemory>
+    ensures { IfOk result (λ fault. fault ≡ refused_text (answer_of text.now)) }
 {
     match parse(alloc, text) {
         Ok(_) => Ok(None),
@@ -178,14 +164,14 @@ fn query_fault(alloc: Global, text: &str) -> Result<Option<Refusal>, NoMemory>
     }
 }
 
-fn refused_query(error: QueryError) -> Result<Option<Refusal>, NoMemory>
+fn refused_query(error: QueryError) -> Result<Option<Outcome>, NoMemory>
     ensures some { IfOk result (λ _. error ≢ QueryError.NoMemory) }
-    ensures refused { IfOk result (λ fault. fault ≡ Some (query_refusal error)) }
+    ensures refused { IfOk result (λ fault. fault ≡ Some (query_outcome error)) }
 {
     match error {
-        QueryError::BadQuery { at, kind } => Ok(Some(Refusal::BadQuery { at, kind })),
-        QueryError::BadDate { at } => Ok(Some(Refusal::BadDate { at })),
-        QueryError::Limit(limit) => Ok(Some(Refusal::Limit(limit))),
+        QueryError::BadQuery { at, kind } => Ok(Some(Outcome::BadQuery { at, kind })),
+        QueryError::BadDate { at } => Ok(Some(Outcome::BadDate { at })),
+        QueryError::Limit(limit) => Ok(Some(Outcome::Limit(limit))),
         QueryError::NoMemory => Err(NoMemory),
     }
 }

@@ -1,4 +1,4 @@
-use Rattle.std.proofs.Common.{inl, inr, ℕ, List, [], ◌<◌, ◌≤◌, Err, length, refl, ap, ◌∙◌, subst}
+use Rattle.std.proofs.Common.{inl, ℕ, List, [], ◌<◌, ◌≤◌, Err, length, refl, ap, ◌∙◌, subst}
 use Rattle.std.specs.Str.Lines.{lines}
 use Rattle.nm_base.specs.Limits.{max_lines}
 use Rattle.nm_base.specs.declared.limit.Limit.TheVariants as limits
@@ -13,7 +13,7 @@ returns-in-Err-Limit g c = λ words is sound.
     let fault : IsScriptFault c.as_slice.result.now (faults.Limit c.in-Err-Limit.field-0-0) = subst (IsScriptFault c.as_slice.result.now) c.in-Err-Limit.field-0-is c.in-Err-Limit.ensures.limit in
     unasked-history c.refusal_laws.ensures (refusals.Limit limits.Lines) c.in-Ok.bytes words c.args.setting.now (g.M.Maildir.observed c.args.mail.now) (g.D.Disk.observed c.args.disk.now) (g.I.Source.observed c.args.input.now) (g.I.Source.observed c.take_all.new.source)
     (g.O.Sink.observed c.args.out.now) (g.E.Sink.observed c.args.err.now) (g.E.Sink.observed c.refuse.new.err) (g.D.Disk.reads_an_image c.args.disk.now) (λ done. inl (
-      inr (
+      (
         sound,
         session-reads words is,
         (is, record { bytes = c.in-Ok.ensures.consumed; end = c.in-Ok.ensures.end; within = c.in-Ok.ensures.within; sound = c.in-Ok.ensures.cause }, subst (λ (bytes : List ℕ). max_lines < length (lines bytes)) c.as_slice.ensures fault.1),

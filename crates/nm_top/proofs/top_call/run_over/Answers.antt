@@ -1,9 +1,9 @@
-use Rattle.std.proofs.Common.{[], false, sym, ap, ◌∙◌, subst}
-use Rattle.nm_history.specs.Call.{fault_of_input}
+use Rattle.std.proofs.Common.{inr, [], false, sym, ap, ◌∙◌, subst}
+use Rattle.nm_history.specs.Call.{fault_of_input, input_fault_by}
 use Rattle.nm_history.specs.Refusals.{TakesInput}
 use Rattle.nm_log.specs.ParsedLine.{parse_single}
 use Rattle.nm_log.specs.declared.refusal.Refusal.TheVariants as refusals
-use Rattle.nm_top.proofs.HistoryLemmas.{lines-cause, reads-as, single-takes, unasked-history}
+use Rattle.nm_top.proofs.HistoryLemmas.{line-history, reads-as, single-takes, unasked-history}
 use Rattle.nm_top.proofs.top_call.run_over.Goals as goal
 
 pub returns-in-Ok : goal.returns-in-Ok
@@ -19,11 +19,14 @@ returns-in-Err-single_script g c = λ old new read.
 
 pub returns-in-Ok-Some : goal.returns-in-Ok-Some
 returns-in-Ok-Some g c = λ old new read.
-    unasked-history c.refusal_laws.ensures c.in-Ok-Some.refusal c.args.bytes c.args.words.now c.args.setting.now (g.M.Maildir.observed c.args.mail.now) (g.D.Disk.observed c.args.disk.now) old new
-    (g.O.Sink.observed c.args.out.now) (g.E.Sink.observed c.args.err.now) (g.E.Sink.observed c.refuse-in-Ok-Some.new.err) (g.D.Disk.reads_an_image c.args.disk.now)
-    (λ done. lines-cause c.args.words.now c.args.bytes c.in-Ok-Some.refusal c.args.setting.now (g.M.Maildir.observed c.args.mail.now) (g.D.Disk.observed c.args.disk.now) old new
-    (g.O.Sink.observed c.args.out.now) (g.E.Sink.observed c.args.err.now) (g.E.Sink.observed c.refuse-in-Ok-Some.new.err) done c.requires.sound c.requires.single read
-    (sym (ap (fault_of_input (parse_single c.args.words.now)) c.as_slice.ensures) ∙ (sym c.in-Ok-Some.ensures ∙ c.in-Ok-Some.field-0-is))) c.refuse-in-Ok-Some.result c.refuse-in-Ok-Some.ensures
+    line-history c.refusal_laws.ensures c.in-Ok-Some.outcome c.args.bytes c.args.words.now c.args.setting.now (g.M.Maildir.observed c.args.mail.now) (g.D.Disk.observed c.args.disk.now) old new
+    (g.O.Sink.observed c.args.out.now) (g.E.Sink.observed c.args.err.now) (g.E.Sink.observed c.refuse_unasked.new.err) (g.D.Disk.reads_an_image c.args.disk.now) c.requires.single
+    (inr (
+      c.requires.sound,
+      reads-as _ _ c.args.words.now c.requires.single c.requires.read,
+      read,
+      ap (λ b. input_fault_by b c.args.words.now c.args.bytes) c.requires.single ∙ (sym (ap (fault_of_input (parse_single c.args.words.now)) c.as_slice.ensures) ∙ (sym c.in-Ok-Some.ensures ∙ c.in-Ok-Some.field-0-is)),
+    )) c.refuse_unasked.result c.refuse_unasked.ensures
 
 pub returns-in-Err : goal.returns-in-Err
 returns-in-Err g c = λ old new read.

@@ -1,7 +1,7 @@
 use Rattle.std.proofs.Common.{[]}
 use Rattle.nm_log.specs.declared.refusal.Refusal.TheVariants as refusals
 use Rattle.nm_top.proofs.HistoryLemmas.{unasked-history}
-use Rattle.nm_top.proofs.top_call.run_call.Goals as goal
+use Rattle.nm_top.proofs.top_call.run_command.Goals as goal
 
 pub returns-in-Err : goal.returns-in-Err
 returns-in-Err g c =
