@@ -13,6 +13,7 @@ mod reply_rows;
 mod session_rows;
 mod session_run;
 mod sessions;
+mod shifting;
 mod step_rows;
 mod stop_rows;
 mod values;

@@ -1,12 +1,12 @@
 //! A session, or the program before it, run over the devices that a row has for it.
 
-use crate::device_rows::{input, mail, sink};
+use crate::device_rows::{input, sink};
 use crate::disks::{calls, fail_at};
+use crate::shifting::{Folder, mail_folder};
 use crate::values::text;
 use nm_base::{Many, Text};
 use nm_disk::MemDisk;
 use nm_io::{MemSink, MemSource};
-use nm_maildir::StillTree;
 use nm_top::{Done, Setting, Start, notmuch, program};
 use rows::{Row, RowError};
 use std::alloc::Global;
@@ -75,7 +75,7 @@ fn on_mail(
     args: &[Text],
     disk: &mut MemDisk,
 ) -> Result<Ran, RowError> {
-    let mut mail = mail(alloc, row)?;
+    let mut mail = mail_folder(alloc, row)?;
     on_input(alloc, row, args, &mut mail, disk)
 }
 
@@ -83,7 +83,7 @@ fn on_input(
     alloc: Global,
     row: &Row<'_>,
     args: &[Text],
-    mail: &mut StillTree,
+    mail: &mut Folder,
     disk: &mut MemDisk,
 ) -> Result<Ran, RowError> {
     let mut input = input(alloc, row)?;
@@ -94,7 +94,7 @@ fn on_output(
     alloc: Global,
     row: &Row<'_>,
     args: &[Text],
-    mail: &mut StillTree,
+    mail: &mut Folder,
     disk: &mut MemDisk,
     input: &mut MemSource,
 ) -> Result<Ran, RowError> {
@@ -116,14 +116,19 @@ fn call(
     alloc: Global,
     row: &Row<'_>,
     args: &[Text],
-    mail: &mut StillTree,
+    mail: &mut Folder,
     disk: &mut MemDisk,
     input: &mut MemSource,
     out: &mut MemSink,
     err: &mut MemSink,
 ) -> Done {
-    if row.kind == b"program".as_slice() {
-        return program(alloc, &START, args, mail, disk, input, out, err);
+    match mail {
+        Folder::Still(mail) => {
+            if row.kind == b"program".as_slice() {
+                return program(alloc, &START, args, mail, disk, input, out, err);
+            }
+            notmuch(alloc, args, &SETTING, mail, disk, input, out, err)
+        }
+        Folder::Shifting(mail) => notmuch(alloc, args, &SETTING, mail, disk, input, out, err),
     }
-    notmuch(alloc, args, &SETTING, mail, disk, input, out, err)
 }

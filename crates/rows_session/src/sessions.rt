@@ -1,5 +1,5 @@
-//! The sessions of a row: a line `then` begins the next one, over the same disk. It has the mail files of the one before
-//! it, with those that come by a line `file` or `many`, and without those that go by a line `gone`.
+//! The sessions of a row: a line `then` begins the next one, over the same disk. It has the mail files with which the one before
+//! it ended, with those that come by a line `file` or `many`, and without those that go by a line `gone`.
 
 use rows::{Row, RowError, RowLine, cut};
 use std::alloc::{AllocError, Global};
@@ -11,7 +11,7 @@ pub fn sessions<'a>(alloc: Global, row: &Row<'a>) -> Result<Vec<Row<'a>>, RowErr
     let mut lines = Vec::new(alloc);
     'lines: for line in row.lines.as_slice() {
         if line.mark == b"then".as_slice() {
-            let files = files_of(alloc, lines.as_slice())?;
+            let files = files_after(alloc, lines.as_slice())?;
             let ended = mem::replace(&mut lines, files);
             found.push(row_of(row, ended))?;
         } else {
@@ -23,7 +23,7 @@ pub fn sessions<'a>(alloc: Global, row: &Row<'a>) -> Result<Vec<Row<'a>>, RowErr
 }
 
 /// A row with the head of this one.
-fn row_of<'a>(row: &Row<'a>, lines: Vec<RowLine<'a>>) -> Row<'a> {
+pub fn row_of<'a>(row: &Row<'a>, lines: Vec<RowLine<'a>>) -> Row<'a> {
     Row {
         number: row.number,
         kind: row.kind,
@@ -32,7 +32,16 @@ fn row_of<'a>(row: &Row<'a>, lines: Vec<RowLine<'a>>) -> Row<'a> {
     }
 }
 
-/// The mail files with which the next session begins.
+/// The mail files with which a session ends.
+pub fn files_after<'a>(alloc: Global, lines: &[RowLine<'a>]) -> Result<Vec<RowLine<'a>>, RowError> {
+    let mut files = files_of(alloc, lines)?;
+    'lines: for line in lines {
+        shift(alloc, &mut files, line)?;
+    }
+    Ok(files)
+}
+
+/// The mail files with which it begins.
 fn files_of<'a>(alloc: Global, lines: &[RowLine<'a>]) -> Result<Vec<RowLine<'a>>, AllocError> {
     let mut files = Vec::new(alloc);
     'lines: for line in lines {
@@ -41,6 +50,25 @@ fn files_of<'a>(alloc: Global, lines: &[RowLine<'a>]) -> Result<Vec<RowLine<'a>>
         }
     }
     Ok(files)
+}
+
+/// In the middle of a session a line `goes` takes the mail file of its path away, and a line `comes` adds one.
+fn shift<'a>(
+    alloc: Global,
+    files: &mut Vec<RowLine<'a>>,
+    line: &RowLine<'a>,
+) -> Result<(), RowError> {
+    if line.mark == b"goes".as_slice() {
+        return take_away(files, line.bytes.as_slice());
+    }
+    if line.mark == b"comes".as_slice() {
+        let bytes = line.bytes.as_slice().to_vec(alloc)?;
+        files.push(RowLine {
+            mark: b"file".as_slice(),
+            bytes,
+        })?;
+    }
+    Ok(())
 }
 
 fn copy_of<'a>(alloc: Global, line: &RowLine<'a>) -> Result<RowLine<'a>, AllocError> {
