@@ -272,7 +272,14 @@ module _ (why : Outcome) (input : List ℕ) (words : List (List ℕ)) (setting :
   -- a writer that made nothing, over no mail
   abbrev place : Place
   place = record {
-    writer = record { journal = record { file = Head; start = 0; gate = 0; count = 0; failed = false }; shown = empty_index; begun = []; acked = []; closed = None };
+    writer = record {
+      journal = record { file = Head; start = 0; gate = 0; count = 0; failed = false };
+      published = record { book = record { number = 0; log_name = 0; cells_name = 0 }; opening = empty_index; commits = [] };
+      shown = empty_index;
+      begun = [];
+      acked = [];
+      closed = None;
+    };
     mail = mail;
     disk_faults = disk.faults;
     left = max_mail_bytes;

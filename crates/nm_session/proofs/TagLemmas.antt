@@ -35,6 +35,7 @@ use Rattle.nm_maildir.specs.declared.given.Given.TheVariants as given
 use Rattle.nm_plan.specs.Moving.{HasDoneAll, HasTried, move_commit, tag_commits}
 use Rattle.nm_plan.specs.Plan.{due_commits}
 use Rattle.nm_plan.specs.Tagging.{tag_commit}
+use Rattle.nm_publish.specs.Published.{Published}
 use Rattle.nm_scan.specs.Bodies.{left_after}
 use Rattle.nm_session.specs.Line.{Ends, IsEven, IsLineAnswer, newly_closed, replied_with}
 use Rattle.nm_session.specs.Outcomes.{outcome_of}
@@ -44,7 +45,7 @@ use Rattle.nm_session.proofs.ChangeLemmas.{alive-asks, alive-by, answered-with, 
 use Rattle.nm_writer.specs.Renamed.{AnswersAlong, AsksRenames, TreesAlong}
 use Rattle.nm_writer.specs.Tagged.{IsAfterTags}
 use Rattle.nm_writer.specs.Writer.{WriterState}
-use Rattle.nm_writer.specs.Writing.{AreWithin, FailsWithin, HasCommitted, IsAfterCommits, PassesWithin, StopsWithin, is_read_fault}
+use Rattle.nm_writer.specs.Writing.{AreWithin, FailsWithin, HasCommitted, IsAfterCommits, PassesWithin, StopsWithin, is_read_fault, with_commits}
 use Rattle.nm_writer.specs.declared.write_error.WriteError.{WriteError}
 use Rattle.nm_writer.specs.declared.write_error.WriteError.TheVariants as errors
 
@@ -83,6 +84,10 @@ within-then made index (commit ∷ first) more h k =
     let one : made + length (commit ∷ first) ≡ (made + 1) + length first = omega arith in
     (h.0, within-then (made + 1) (committed index commit) first more h.1 (subst (λ n. AreWithin n (folded (committed index commit) first) more) one k))
 
+published-then : (old mid new : Published) (first more : List Commit) → mid ≡ with_commits old first → new ≡ with_commits mid more → new ≡ with_commits old (first ++ more)
+published-then old mid new first more h k =
+    k ∙ (ap (λ (p : Published). with_commits p more) h ∙ ap (λ (l : List Commit). record old { commits = l }) (append_assoc old.commits first more))
+
 within-after : (old mid : WriterState) (first more : List Commit) → HasCommitted old first mid → AreWithin (length mid.begun) mid.shown more → AreWithin (length old.begun) old.shown (first ++ more)
 within-after old mid first more h k =
     let count : length mid.begun ≡ length old.begun + length first = ap (λ (l : List Commit). length l) h.begun ∙ length-append old.begun first in
@@ -92,6 +97,7 @@ within-after old mid first more h k =
 committed-then : (old mid new : WriterState) (first more : List Commit) → HasCommitted old first mid → HasCommitted mid more new → HasCommitted old (first ++ more) new
 committed-then old mid new first more h k = record {
   within = within-after old mid first more h k.within;
+  published = published-then old.published mid.published new.published first more h.published k.published;
   shown = k.shown ∙ (ap (λ (i : Base). folded i more) h.shown ∙ sym (folded-append old.shown first more));
   begun = k.begun ∙ (ap (λ (l : List Commit). l ++ more) h.begun ∙ append_assoc old.begun first more);
   clocks = h.clocks ++ k.clocks;
@@ -103,6 +109,7 @@ committed-then old mid new first more h k = record {
 abbrev failing-then : (old mid new : WriterState) (first more : List Commit) (faults : ℕ) → HasCommitted old first mid → FailsWithin mid more faults new → FailsWithin old (first ++ more) faults new
 failing-then old mid new first more faults h k = record {
   within = subst (AreWithin (length old.begun) old.shown) (sym (append_assoc first k.done (k.commit ∷ []))) (within-after old mid first (k.done ++ k.commit ∷ []) h k.within);
+  published = published-then old.published mid.published new.published first k.done h.published k.published;
   done = first ++ k.done;
   commit = k.commit;
   more = k.more;

@@ -30,6 +30,7 @@ use nm_state::Snapshot;
 use nm_tags::LineError;
 use nm_writer::Writer;
 use std::alloc::Global;
+use std::sync::Wait;
 
 /// What came of a line beside its commits.
 #[derive(Drop)]
@@ -41,7 +42,8 @@ pub(crate) struct LineAnswer {
 }
 
 /// Reads what the line asks for, and does it. `left` is how many bytes may still be shown.
-pub(crate) fn answer<M: Maildir, D: Disk>(
+pub(crate) fn answer<R: Wait, M: Maildir, D: Disk>(
+    rt: &R,
     alloc: Global,
     setting: &Setting,
     line: &ScriptLine,
@@ -64,7 +66,7 @@ pub(crate) fn answer<M: Maildir, D: Disk>(
     let input = line.input.as_slice();
     match parse_line(alloc, line)? {
         ParsedLine::Usage { word, kind } => refuse(alloc, Outcome::Usage { word, kind }),
-        ParsedLine::Request(Request::New) => run_new(alloc, writer, mail, disk, given),
+        ParsedLine::Request(Request::New) => run_new(rt, alloc, writer, mail, disk, given),
         ParsedLine::Request(Request::Count(ask)) => run_count(
             alloc,
             setting,
@@ -89,10 +91,10 @@ pub(crate) fn answer<M: Maildir, D: Disk>(
             given,
         ),
         ParsedLine::Request(Request::Tag(ask)) => run_tag(
-            alloc, setting, writer, mail, disk, ask, input, given,
+            rt, alloc, setting, writer, mail, disk, ask, input, given,
         ),
         ParsedLine::Request(Request::Restore(ask)) => run_restore(
-            alloc, setting, writer, mail, disk, ask, input, given,
+            rt, alloc, setting, writer, mail, disk, ask, input, given,
         ),
     }
 }

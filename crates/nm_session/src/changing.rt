@@ -32,6 +32,7 @@ use nm_state::Snapshot;
 use nm_tags::LineError;
 use nm_writer::{WriteError, Writer};
 use std::alloc::Global;
+use std::sync::Wait;
 
 /// The lines of the faults of devices, made before one comes.
 #[derive(Drop)]
@@ -49,7 +50,8 @@ fn fault_texts(alloc: Global) -> Result<FaultTexts, NoMemory>
 }
 
 /// Takes in what has come and lets go what is gone.
-pub(crate) fn run_new<M: Maildir, D: Disk>(
+pub(crate) fn run_new<R: Wait, M: Maildir, D: Disk>(
+    rt: &R,
     alloc: Global,
     writer: &mut Writer,
     mail: &mut M,
@@ -67,7 +69,7 @@ pub(crate) fn run_new<M: Maildir, D: Disk>(
         → IsDurable entry opening (D.observed disk.new) writer.new }
 {
     let texts = fault_texts(alloc)?;
-    match writer.new_mail(mail, disk, given) {
+    match writer.new_mail(rt, mail, disk, given) {
         Ok(report) => reply_new(alloc, &report),
         Err(error) => refuse_write(alloc, error, texts),
     }
@@ -114,7 +116,8 @@ pub(crate) struct Changes {
 }
 
 /// Sets the tags that the lines of a `tag` want, where each is of its form and has a query.
-pub(crate) fn run_tag<M: Maildir, D: Disk>(
+pub(crate) fn run_tag<R: Wait, M: Maildir, D: Disk>(
+    rt: &R,
     alloc: Global,
     setting: &Setting,
     writer: &mut Writer,
@@ -142,14 +145,15 @@ pub(crate) fn run_tag<M: Maildir, D: Disk>(
                 lines,
                 strangers: Many::new(alloc),
             };
-            change_tags(alloc, setting, writer, mail, disk, changes, given)
+            change_tags(rt, alloc, setting, writer, mail, disk, changes, given)
         }
         Err(outcome) => refuse(alloc, outcome),
     }
 }
 
 /// Sets the tags that the lines of a dump have, where each is of its form.
-pub(crate) fn run_restore<M: Maildir, D: Disk>(
+pub(crate) fn run_restore<R: Wait, M: Maildir, D: Disk>(
+    rt: &R,
     alloc: Global,
     setting: &Setting,
     writer: &mut Writer,
@@ -171,13 +175,14 @@ pub(crate) fn run_restore<M: Maildir, D: Disk>(
         → IsDurable entry opening (D.observed disk.new) writer.new }
 {
     match read_restore(alloc, writer.snapshot(), ask, input)? {
-        Ok(changes) => change_tags(alloc, setting, writer, mail, disk, changes, given),
+        Ok(changes) => change_tags(rt, alloc, setting, writer, mail, disk, changes, given),
         Err(outcome) => refuse(alloc, outcome),
     }
 }
 
 /// Sets the tags that a request wants.
-fn change_tags<M: Maildir, D: Disk>(
+fn change_tags<R: Wait, M: Maildir, D: Disk>(
+    rt: &R,
     alloc: Global,
     setting: &Setting,
     writer: &mut Writer,
@@ -200,7 +205,7 @@ fn change_tags<M: Maildir, D: Disk>(
     tag_commits_fit();
     writer.shows_an_ordered_index();
     let texts = fault_texts(alloc)?;
-    match writer.tag(mail, disk, &changes.lines, setting.moment, given) {
+    match writer.tag(rt, mail, disk, &changes.lines, setting.moment, given) {
         Ok(report) => reply_change(alloc, changes, &report),
         Err(error) => refuse_write(alloc, error, texts),
     }

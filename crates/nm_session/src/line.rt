@@ -21,9 +21,11 @@ use nm_maildir::Maildir;
 use nm_scan::left_after;
 use nm_writer::Writer;
 use std::alloc::Global;
+use std::sync::Wait;
 
 /// Runs one line, and notes it in places that are spare. `left` is how many bytes may still be shown; it says how many may behind the line.
-pub(crate) fn run_line<M: Maildir, D: Disk>(
+pub(crate) fn run_line<R: Wait, M: Maildir, D: Disk>(
+    rt: &R,
     alloc: Global,
     setting: &Setting,
     line: &ScriptLine,
@@ -44,7 +46,7 @@ pub(crate) fn run_line<M: Maildir, D: Disk>(
 {
     let spare = take_spare(&mut rooms.spares);
     let before = writer.acked().len();
-    let (log, reply) = line_log(alloc, setting, line, writer, mail, disk, left, spare);
+    let (log, reply) = line_log(rt, alloc, setting, line, writer, mail, disk, left, spare);
     let made = made_since(before, writer);
     let left = left_after(left, log.given.as_slice());
     note(rooms, log, made, reply);
@@ -60,7 +62,8 @@ fn made_since(before: usize, writer: &Writer) -> usize
 }
 
 /// Runs the line. `spare` is its text where it finds no memory.
-fn line_log<M: Maildir, D: Disk>(
+fn line_log<R: Wait, M: Maildir, D: Disk>(
+    rt: &R,
     alloc: Global,
     setting: &Setting,
     line: &ScriptLine,
@@ -81,7 +84,9 @@ fn line_log<M: Maildir, D: Disk>(
 {
     let mut given = Many::new(alloc);
     let was_closed = writer.is_closed();
-    let answered = answer(alloc, setting, line, writer, mail, disk, left, &mut given);
+    let answered = answer(
+        rt, alloc, setting, line, writer, mail, disk, left, &mut given,
+    );
     let LineAnswer {
         outcome,
         text,

@@ -27,12 +27,14 @@ use nm_log::{ScriptLine, SessionLog, Setting};
 use nm_maildir::Maildir;
 use nm_writer::Writer;
 use std::alloc::Global;
+use std::sync::Wait;
 
 /// The most bytes that all lines may show.
 const MAX_SHOWN: u64 = 67_108_864;
 
 /// Runs the lines in their order over the index that was opened, and tells what each did.
-pub(crate) fn run_lines<M: Maildir, D: Disk>(
+pub(crate) fn run_lines<R: Wait, M: Maildir, D: Disk>(
+    rt: &R,
     alloc: Global,
     setting: &Setting,
     lines: &[ScriptLine],
@@ -55,12 +57,22 @@ pub(crate) fn run_lines<M: Maildir, D: Disk>(
 {
     let mut rooms = rooms;
     let mut writer = writer;
-    let _ = run_each(alloc, setting, lines, &mut rooms, &mut writer, mail, disk);
-    finish(rooms, writer)
+    let _ = run_each(
+        rt,
+        alloc,
+        setting,
+        lines,
+        &mut rooms,
+        &mut writer,
+        mail,
+        disk,
+    );
+    finish(rt, rooms, writer)
 }
 
 /// Runs the lines, and notes each in the rooms. It says how many bytes may still be shown.
-fn run_each<M: Maildir, D: Disk>(
+fn run_each<R: Wait, M: Maildir, D: Disk>(
+    rt: &R,
     alloc: Global,
     setting: &Setting,
     lines: &[ScriptLine],
@@ -93,13 +105,13 @@ fn run_each<M: Maildir, D: Disk>(
     a_line_more_keeps_the_clocks();
     let mut left = MAX_SHOWN;
     'lines: for line in lines {
-        left = run_line(alloc, setting, line, rooms, writer, mail, disk, left);
+        left = run_line(rt, alloc, setting, line, rooms, writer, mail, disk, left);
     }
     left
 }
 
 /// The log of the lines that were noted; it takes no memory.
-fn finish(rooms: Rooms, writer: Writer) -> SessionLog
+fn finish<R: Wait>(rt: &R, rooms: Rooms, writer: Writer) -> SessionLog
     requires none { rooms.steps.0 ≡ [] }
     requires room { length (steps_of rooms.marks.0 writer.begun) ≤ rooms.steps.1 }
     ensures { result ≡ record { steps = steps_of rooms.marks.0 writer.begun; lines = rooms.logs.0; acked = writer.acked } }
@@ -111,7 +123,7 @@ fn finish(rooms: Rooms, writer: Writer) -> SessionLog
         spares: _,
     } = rooms;
     let mut steps = steps;
-    let (begun, acked) = writer.finish();
+    let (begun, acked) = writer.finish(rt);
     push_steps(marks.into_many(), begun, &mut steps);
     SessionLog {
         steps: steps.into_many(),

@@ -14,12 +14,15 @@ use nm_disk::Disk;
 use nm_history::{a_refused_opening_keeps_the_index, a_session_keeps_its_commits};
 use nm_log::{ScriptLine, SessionLog, Setting};
 use nm_maildir::Maildir;
-use nm_writer::{OpenError, Writer};
+use nm_writer::{OpenError, Opened, Writer};
 use std::alloc::Global;
+use std::sync::Wait;
 
 /// Opens the index that the disk holds, and runs the lines over it and the mail folder, one after the other. All memory of the log
-/// is taken before the index is opened; a line that runs out of memory says so, and the next one runs.
-pub fn run_session<M: Maildir, D: Disk>(
+/// is taken before the index is opened; a line that runs out of memory says so, and the next one runs. It may wait, but no reader is
+/// there yet to wait for.
+pub fn run_session<R: Wait, M: Maildir, D: Disk>(
+    rt: &R,
     alloc: Global,
     setting: &Setting,
     lines: &[ScriptLine],
@@ -33,13 +36,14 @@ pub fn run_session<M: Maildir, D: Disk>(
 {
     a_refused_opening_keeps_the_index();
     match rooms_for(alloc, lines.len()) {
-        Ok(rooms) => open_and_run(alloc, setting, lines, rooms, mail, disk),
+        Ok(rooms) => open_and_run(rt, alloc, setting, lines, rooms, mail, disk),
         Err(NoMemory) => Err(OpenError::NoMemory),
     }
 }
 
 /// Opens the index, and runs the lines.
-fn open_and_run<M: Maildir, D: Disk>(
+fn open_and_run<R: Wait, M: Maildir, D: Disk>(
+    rt: &R,
     alloc: Global,
     setting: &Setting,
     lines: &[ScriptLine],
@@ -55,9 +59,10 @@ fn open_and_run<M: Maildir, D: Disk>(
 {
     a_session_keeps_its_commits();
     a_refused_opening_keeps_the_index();
-    match Writer::open(alloc, disk) {
-        Ok(writer) => {
-            let log = run_lines(alloc, setting, lines, rooms, writer, mail, disk);
+    match Writer::open(rt, alloc, disk, 0) {
+        Ok(opened) => {
+            let Opened { writer, readers: _ } = opened;
+            let log = run_lines(rt, alloc, setting, lines, rooms, writer, mail, disk);
             Ok(log)
         }
         Err(error) => Err(error),

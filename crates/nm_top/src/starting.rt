@@ -17,6 +17,7 @@ use nm_io::{Sink, Source};
 use nm_log::{Done, Setting};
 use nm_maildir::MailFolder;
 use std::alloc::Global;
+use std::sync::Wait;
 
 /// What a run begins with beside its words and devices.
 #[derive(Debug, Drop)]
@@ -29,7 +30,8 @@ pub struct Start {
 
 /// Runs the program: the words begin with options, each `--name=value`; then the mail folder and the index are opened, and the words behind
 /// the options are the call.
-pub fn program<M: MailFolder, D: DiskFolder, I: Source, O: Sink, E: Sink>(
+pub fn program<R: Wait, M: MailFolder, D: DiskFolder, I: Source, O: Sink, E: Sink>(
+    rt: &R,
     alloc: Global,
     start: &Start,
     words: &[Text],
@@ -46,14 +48,17 @@ pub fn program<M: MailFolder, D: DiskFolder, I: Source, O: Sink, E: Sink>(
         (devices (M.observed mail.new) (D.observed disk.new) (I.observed input.new) (O.observed out.new) (E.observed err.new)) result }
 {
     match head(alloc, words) {
-        Ok(leading) => open_and_call(alloc, start, words, &leading, mail, disk, input, out, err),
+        Ok(leading) => open_and_call(
+            rt, alloc, start, words, &leading, mail, disk, input, out, err,
+        ),
         Err(HeadError::Usage) => ended_early(alloc, err, 2, b"notmuch: usage\n"),
         Err(HeadError::NoMemory) => ended_early(alloc, err, 7, b"notmuch: no memory\n"),
     }
 }
 
 /// Opens the mail folder, and goes on with the index.
-fn open_and_call<M: MailFolder, D: DiskFolder, I: Source, O: Sink, E: Sink>(
+fn open_and_call<R: Wait, M: MailFolder, D: DiskFolder, I: Source, O: Sink, E: Sink>(
+    rt: &R,
     alloc: Global,
     start: &Start,
     words: &[Text],
@@ -76,13 +81,16 @@ fn open_and_call<M: MailFolder, D: DiskFolder, I: Source, O: Sink, E: Sink>(
         (devices (M.observed mail.new) (D.observed disk.new) (I.observed input.new) (O.observed out.new) (E.observed err.new)) result }
 {
     match mail.open(&leading.mail) {
-        Ok(()) => open_index_and_call(alloc, start, words, leading, mail, disk, input, out, err),
+        Ok(()) => open_index_and_call(
+            rt, alloc, start, words, leading, mail, disk, input, out, err,
+        ),
         Err(_) => ended_early(alloc, err, 3, b"notmuch: cannot open\n"),
     }
 }
 
 /// Opens the index, and makes the call.
-fn open_index_and_call<M: MailFolder, D: DiskFolder, I: Source, O: Sink, E: Sink>(
+fn open_index_and_call<R: Wait, M: MailFolder, D: DiskFolder, I: Source, O: Sink, E: Sink>(
+    rt: &R,
     alloc: Global,
     start: &Start,
     words: &[Text],
@@ -108,7 +116,7 @@ fn open_index_and_call<M: MailFolder, D: DiskFolder, I: Source, O: Sink, E: Sink
         Ok(()) => {
             let setting = setting_by(start, leading);
             let command = command_words(words, leading);
-            notmuch(alloc, command, &setting, mail, disk, input, out, err)
+            notmuch(rt, alloc, command, &setting, mail, disk, input, out, err)
         }
         Err(_) => ended_early(alloc, err, 4, b"notmuch: cannot open\n"),
     }

@@ -24,14 +24,17 @@ use nm_maildir::Maildir;
 use nm_session::run_session;
 use nm_writer::OpenError;
 use std::alloc::Global;
+use std::sync::Wait;
 
 /// The most bytes of an input.
 const MAX_INPUT: u64 = 67_108_864;
 
 /// Runs the command that the words name over the index that the disk holds and the mail folder. `session` reads a script from `input`,
 /// runs its lines and prints their replies, each behind a header, to `out`; any other is run as the one line, over the lines of `input`
-/// where it reads some, and its reply stands alone. `err` gains at most one line. It takes what memory it needs and waits for nobody.
-pub fn notmuch<M: Maildir, D: Disk, I: Source, O: Sink, E: Sink>(
+/// where it reads some, and its reply stands alone. `err` gains at most one line. It takes what memory it needs. It
+/// may wait as readers leave a snapshot, of which there are none yet.
+pub fn notmuch<R: Wait, M: Maildir, D: Disk, I: Source, O: Sink, E: Sink>(
+    rt: &R,
     alloc: Global,
     words: &[Text],
     setting: &Setting,
@@ -57,11 +60,12 @@ pub fn notmuch<M: Maildir, D: Disk, I: Source, O: Sink, E: Sink>(
         (devices (M.observed mail.new) (D.observed disk.new) (I.observed input.new) (O.observed out.new) (E.observed err.new)) result) }
 {
     a_history_is_complete();
-    answered(alloc, words, setting, mail, disk, input, out, err)
+    answered(rt, alloc, words, setting, mail, disk, input, out, err)
 }
 
 /// Does what the words say: they begin a session, or are a single command.
-fn answered<M: Maildir, D: Disk, I: Source, O: Sink, E: Sink>(
+fn answered<R: Wait, M: Maildir, D: Disk, I: Source, O: Sink, E: Sink>(
+    rt: &R,
     alloc: Global,
     words: &[Text],
     setting: &Setting,
@@ -77,13 +81,14 @@ fn answered<M: Maildir, D: Disk, I: Source, O: Sink, E: Sink>(
         (devices (M.observed mail.new) (D.observed disk.new) (I.observed input.new) (O.observed out.new) (E.observed err.new)) result) }
 {
     if is_session(words) {
-        return answer_session(alloc, words, setting, mail, disk, input, out, err);
+        return answer_session(rt, alloc, words, setting, mail, disk, input, out, err);
     }
-    answer_command(alloc, words, setting, mail, disk, input, out, err)
+    answer_command(rt, alloc, words, setting, mail, disk, input, out, err)
 }
 
 /// Tests the words of a session, and runs its script.
-fn answer_session<M: Maildir, D: Disk, I: Source, O: Sink, E: Sink>(
+fn answer_session<R: Wait, M: Maildir, D: Disk, I: Source, O: Sink, E: Sink>(
+    rt: &R,
     alloc: Global,
     words: &[Text],
     setting: &Setting,
@@ -101,7 +106,7 @@ fn answer_session<M: Maildir, D: Disk, I: Source, O: Sink, E: Sink>(
 {
     refusal_laws();
     match command(alloc, words) {
-        Ok(_) => read_and_run(alloc, setting, mail, disk, input, out, err),
+        Ok(_) => read_and_run(rt, alloc, setting, mail, disk, input, out, err),
         Err(CommandError::Usage { word, kind }) => refuse(
             alloc,
             err,
@@ -112,7 +117,8 @@ fn answer_session<M: Maildir, D: Disk, I: Source, O: Sink, E: Sink>(
 }
 
 /// Tests the words of a single command and its query, and runs it.
-fn answer_command<M: Maildir, D: Disk, I: Source, O: Sink, E: Sink>(
+fn answer_command<R: Wait, M: Maildir, D: Disk, I: Source, O: Sink, E: Sink>(
+    rt: &R,
     alloc: Global,
     words: &[Text],
     setting: &Setting,
@@ -130,14 +136,15 @@ fn answer_command<M: Maildir, D: Disk, I: Source, O: Sink, E: Sink>(
 {
     refusal_laws();
     match single_fault(alloc, words) {
-        Ok(None) => run_command(alloc, words, setting, mail, disk, input, out, err),
+        Ok(None) => run_command(rt, alloc, words, setting, mail, disk, input, out, err),
         Ok(Some(outcome)) => refuse_unasked(alloc, outcome, mail, disk, err),
         Err(NoMemory) => refuse(alloc, err, &Refusal::NoMemory),
     }
 }
 
 /// Runs a single command, over the input where it reads one.
-fn run_command<M: Maildir, D: Disk, I: Source, O: Sink, E: Sink>(
+fn run_command<R: Wait, M: Maildir, D: Disk, I: Source, O: Sink, E: Sink>(
+    rt: &R,
     alloc: Global,
     words: &[Text],
     setting: &Setting,
@@ -156,14 +163,15 @@ fn run_command<M: Maildir, D: Disk, I: Source, O: Sink, E: Sink>(
 {
     refusal_laws();
     match reads_lines(alloc, words) {
-        Ok(true) => read_lines_and_run(alloc, words, setting, mail, disk, input, out, err),
-        Ok(false) => run_alone(alloc, words, setting, mail, disk, out, err),
+        Ok(true) => read_lines_and_run(rt, alloc, words, setting, mail, disk, input, out, err),
+        Ok(false) => run_alone(rt, alloc, words, setting, mail, disk, out, err),
         Err(NoMemory) => refuse(alloc, err, &Refusal::NoMemory),
     }
 }
 
 /// Runs a single command that leaves the input as it is.
-fn run_alone<M: Maildir, D: Disk, O: Sink, E: Sink>(
+fn run_alone<R: Wait, M: Maildir, D: Disk, O: Sink, E: Sink>(
+    rt: &R,
     alloc: Global,
     words: &[Text],
     setting: &Setting,
@@ -184,6 +192,7 @@ fn run_alone<M: Maildir, D: Disk, O: Sink, E: Sink>(
     let input = Many::new(alloc);
     match single_script(alloc, words, input) {
         Ok(script) => run_lines(
+            rt,
             alloc,
             setting,
             false,
@@ -198,7 +207,8 @@ fn run_alone<M: Maildir, D: Disk, O: Sink, E: Sink>(
 }
 
 /// Reads the lines that a single command asks for, before any other device is asked, and runs it.
-fn read_lines_and_run<M: Maildir, D: Disk, I: Source, O: Sink, E: Sink>(
+fn read_lines_and_run<R: Wait, M: Maildir, D: Disk, I: Source, O: Sink, E: Sink>(
+    rt: &R,
     alloc: Global,
     words: &[Text],
     setting: &Setting,
@@ -218,13 +228,14 @@ fn read_lines_and_run<M: Maildir, D: Disk, I: Source, O: Sink, E: Sink>(
 {
     refusal_laws();
     match take_all(alloc, input, MAX_INPUT) {
-        Ok(bytes) => run_over(alloc, words, setting, bytes, mail, disk, out, err),
+        Ok(bytes) => run_over(rt, alloc, words, setting, bytes, mail, disk, out, err),
         Err(error) => refuse(alloc, err, &take_refusal(error)),
     }
 }
 
 /// Runs a single command over the input that was read, where each of its lines is of its form.
-fn run_over<M: Maildir, D: Disk, O: Sink, E: Sink>(
+fn run_over<R: Wait, M: Maildir, D: Disk, O: Sink, E: Sink>(
+    rt: &R,
     alloc: Global,
     words: &[Text],
     setting: &Setting,
@@ -246,6 +257,7 @@ fn run_over<M: Maildir, D: Disk, O: Sink, E: Sink>(
     match lines_fault(alloc, words, bytes.as_slice()) {
         Ok(None) => match single_script(alloc, words, bytes) {
             Ok(script) => run_lines(
+                rt,
                 alloc,
                 setting,
                 false,
@@ -276,7 +288,8 @@ fn refuse_unasked<M: Maildir, D: Disk, E: Sink>(
 }
 
 /// Reads the script, before any other device is asked, and runs it.
-fn read_and_run<M: Maildir, D: Disk, I: Source, O: Sink, E: Sink>(
+fn read_and_run<R: Wait, M: Maildir, D: Disk, I: Source, O: Sink, E: Sink>(
+    rt: &R,
     alloc: Global,
     setting: &Setting,
     mail: &mut M,
@@ -294,6 +307,7 @@ fn read_and_run<M: Maildir, D: Disk, I: Source, O: Sink, E: Sink>(
     match take_all(alloc, input, MAX_INPUT) {
         Ok(bytes) => match read_script(alloc, bytes.as_slice()) {
             Ok(script) => run_lines(
+                rt,
                 alloc,
                 setting,
                 true,
@@ -311,7 +325,8 @@ fn read_and_run<M: Maildir, D: Disk, I: Source, O: Sink, E: Sink>(
 }
 
 /// Runs the lines over the index that the disk holds, prints their replies, and says how it ended.
-fn run_lines<M: Maildir, D: Disk, O: Sink, E: Sink>(
+fn run_lines<R: Wait, M: Maildir, D: Disk, O: Sink, E: Sink>(
+    rt: &R,
     alloc: Global,
     setting: &Setting,
     session: bool,
@@ -328,7 +343,7 @@ fn run_lines<M: Maildir, D: Disk, O: Sink, E: Sink>(
         (devices (M.observed mail.new) (D.observed disk.new) new (O.observed out.new) (E.observed err.new)) result) }
 {
     refusal_laws();
-    match run_session(alloc, setting, script, mail, disk) {
+    match run_session(rt, alloc, setting, script, mail, disk) {
         Ok(log) => {
             let lines = log.lines.as_slice();
             let out_failed = print_all(out, session, lines);

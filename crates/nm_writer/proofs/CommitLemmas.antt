@@ -13,11 +13,12 @@ use Rattle.nm_index.specs.declared.base.Base.{Base}
 use Rattle.nm_journal.specs.Journal.{IsBeforeOrAfter, JournalState, StandsOn}
 use Rattle.nm_journal.specs.Moments.{GoesThrough, LeavesOnly}
 use Rattle.nm_journal.specs.Records.{HasRecords}
+use Rattle.nm_publish.specs.Published.{Published, ShowerState, index_of, with_commit}
 use Rattle.nm_record.specs.CommitGrammar.{commit_grammar}
 use Rattle.nm_writer.specs.StoredIndex.{HasCommits, HoldsIndex}
 use Rattle.nm_writer.specs.Writer.{StandsOnIndex, WriterState}
 use Rattle.nm_writer.specs.Writing.{HoldsEither}
-use Rattle.nm_writer.proofs.ReplayLemmas.{commits-more}
+use Rattle.nm_writer.proofs.ReplayLemmas.{commits-more, folded-more}
 
 -- records of these commits hold the index after them
 pub holds : (bodies : List (List ℕ)) (commits : List Commit) (index : Base) (bytes : List ℕ) → HasCommits bodies commits index → HasRecords 0 bodies bytes → HoldsIndex bytes index
@@ -79,3 +80,11 @@ stands-after (Some o) (Some n) writer after journal commit frame same stands is 
   journal = h stands.bodies (subst (λ (j : JournalState). StandsOn o.present j stands.bodies) same stands.journal);
   holds = commits-more stands.bodies stands.commits writer.shown frame commit after.shown stands.holds is value fits made;
 }
+
+-- one commit more that is published leaves the index after it
+pub index-more : (old new : Published) (commit : Commit) → new ≡ with_commit old commit → index_of new ≡ committed (index_of old) commit
+index-more old new commit is = ap index_of is ∙ folded-more old.opening old.commits commit
+
+-- what was staged is published when it is shown
+pub staged-published : (before staged after : ShowerState) (commit : Commit) → staged ≡ record before { staged = Some commit } → ((other : Commit) → staged.staged ≡ Some other → after.shown ≡ with_commit staged.shown other) → after.shown ≡ with_commit before.shown commit
+staged-published before staged after commit is shows = shows commit (ap (λ (s : ShowerState). s.staged) is) ∙ ap (λ (s : ShowerState). with_commit s.shown commit) is

@@ -10,24 +10,47 @@ use Rattle.nm_index.specs.Fits.{FitInTurn}
 use Rattle.nm_index.specs.Index.{applied, committed, folded}
 use Rattle.nm_index.specs.declared.base.Base.{Base}
 use Rattle.nm_plan.specs.NameTags.{commit_of, follow_names, with_names}
+use Rattle.nm_publish.specs.Published.{Published}
 use Rattle.nm_writer.specs.Writer.{WriterState}
-use Rattle.nm_writer.specs.Writing.{AreWithin, HasCommitted, IsAfterCommit, IsAfterCommits, IsPassed, StopsWithin, is_write_fault}
+use Rattle.nm_writer.specs.Writing.{AreWithin, HasCommitted, IsAfterCommit, IsAfterCommits, IsPassed, StopsWithin, is_write_fault, with_commits}
 use Rattle.nm_writer.specs.declared.write_error.WriteError.{WriteError}
 use Rattle.nm_writer.specs.declared.write_error.WriteError.TheVariants as errors
 
+-- no commit more leaves what was published
+pub none-published : (published : Published) → published ≡ with_commits published []
+none-published published = ap (λ (l : List Commit). record published { commits = l }) (sym (append-nil published.commits))
+
+-- commits more, and then others
+pub published-then : (old mid new : Published) (first second : List Commit) → mid ≡ with_commits old first → new ≡ with_commits mid second → new ≡ with_commits old (first ++ second)
+published-then old mid new first second h k =
+    k ∙ (ap (λ (p : Published). with_commits p second) h ∙ ap (λ (l : List Commit). record old { commits = l }) (append_assoc old.commits first second))
+
 -- no commit leaves the writer as it was
 pub none-made : (w : WriterState) → HasCommitted w [] w
-none-made w = record { within = tt; shown = refl; begun = sym (append-nil w.begun); clocks = []; acked = sym (append-nil w.acked); each = refl; closed = refl }
+none-made w = record { within = tt; published = none-published w.published; shown = refl; begun = sym (append-nil w.begun); clocks = []; acked = sym (append-nil w.acked); each = refl; closed = refl }
 
 pub none-stopped : (w : WriterState) (due : List Commit) → StopsWithin w due w
 none-stopped w due = record { done = []; more = due; due_are = refl; made = none-made w }
 
 -- one commit
 pub one-made : {T : Type 0} (old new : WriterState) (commit : Commit) (clock faults : ℕ) (result : Result T WriteError) → IsAfterCommit old commit clock faults result new → IsAfterCommits old (commit ∷ []) faults result new
-one-made old new commit clock faults (Ok done) h = record { within = (h.4, tt); shown = h.0; begun = h.1; clocks = clock ∷ []; acked = h.2; each = refl; closed = h.3 }
+one-made old new commit clock faults (Ok done) h = record { within = (h.4, tt); published = h.5; shown = h.0; begun = h.1; clocks = clock ∷ []; acked = h.2; each = refl; closed = h.3 }
 one-made old new commit clock faults (Err errors.MailFault) h = absurd h
 one-made old new commit clock faults (Err errors.DiskFault) h =
-    record { done = []; commit = commit; more = []; due_are = refl; within = (h.4, tt); shown = h.0; begun = h.1; clocks = []; acked = h.2 ∙ sym (append-nil old.acked); each = refl; closed = h.3 }
+    record {
+      done = [];
+      commit = commit;
+      more = [];
+      due_are = refl;
+      within = (h.4, tt);
+      published = h.5 ∙ none-published old.published;
+      shown = h.0;
+      begun = h.1;
+      clocks = [];
+      acked = h.2 ∙ sym (append-nil old.acked);
+      each = refl;
+      closed = h.3;
+    }
 one-made old new commit clock faults (Err (errors.Closed fault)) h = absurd h
 one-made old new commit clock faults (Err (errors.Limit limit)) h = record {
   done = [];
@@ -57,6 +80,7 @@ within-made old mid first second begun shown h k =
 pub made-made : (old mid new : WriterState) (first second : List Commit) → HasCommitted old first mid → HasCommitted mid second new → HasCommitted old (first ++ second) new
 made-made old mid new first second h k = record {
   within = within-made old mid first second (sym h.begun) h.shown h.within k.within;
+  published = published-then old.published mid.published new.published first second h.published k.published;
   shown = k.shown ∙ (ap (λ (b : Base). folded b second) h.shown ∙ sym (fold-append committed old.shown first second));
   begun = k.begun ∙ (ap (λ (l : List Commit). l ++ second) h.begun ∙ append_assoc old.begun first second);
   clocks = h.clocks ++ k.clocks;
@@ -74,6 +98,7 @@ then-made old mid new first second faults (Err errors.DiskFault) h k = record {
   more = k.more;
   due_are = ap (λ (l : List Commit). first ++ l) k.due_are ∙ sym (append_assoc first k.done (k.commit ∷ k.more));
   within = subst (AreWithin (length old.begun) old.shown) (sym (append_assoc first k.done (k.commit ∷ []))) (within-made old mid first (k.done ++ k.commit ∷ []) (sym h.begun) h.shown h.within k.within);
+  published = published-then old.published mid.published new.published first k.done h.published k.published;
   shown = k.shown ∙ (ap (λ (b : Base). folded b k.done) h.shown ∙ sym (fold-append committed old.shown first k.done));
   begun = k.begun ∙ (ap (λ (l : List Commit). l ++ (k.done ++ k.commit ∷ [])) h.begun ∙ (append_assoc old.begun first (k.done ++ k.commit ∷ []) ∙ ap (λ (l : List Commit). old.begun ++ l) (sym (append_assoc first k.done (k.commit ∷ [])))));
   clocks = h.clocks ++ k.clocks;
@@ -106,6 +131,7 @@ refused-more T U old new first second faults errors.DiskFault h = record {
   more = h.more ++ second;
   due_are = ap (λ (l : List Commit). l ++ second) h.due_are ∙ append_assoc h.done (h.commit ∷ h.more) second;
   within = h.within;
+  published = h.published;
   shown = h.shown;
   begun = h.begun;
   clocks = h.clocks;

@@ -17,6 +17,7 @@ use Rattle.nm_index.specs.Index.{committed, folded}
 use Rattle.nm_index.specs.declared.base.Base.{Base}
 use Rattle.nm_journal.specs.Moments.{GoesThrough, LeavesOnly, NeverFalls, all_moments}
 use Rattle.nm_journal.specs.Records.{HasRecords}
+use Rattle.nm_publish.specs.Published.{Published, with_commit}
 use Rattle.nm_writer.specs.Durable.{EachKeeps, HoldsPrefix, IsDurable, KeptSince, NeverFall, acked_by}
 use Rattle.nm_writer.specs.StoredIndex.{HoldsIndex}
 use Rattle.nm_writer.specs.Writer.{StandsOnIndex, WriterState}
@@ -233,9 +234,9 @@ module _ (entry old new : ObservedDisk) (opening : Base) (w after : WriterState)
     (rises : old.clock ≤ max_count → (old.clock ≤ new.clock) × (new.clock ≤ max_count)) (through : GoesOn (λ o n. GoesThrough Head (HoldsEither w.shown commit) o n) old.told new.told)
     (begun : after.begun ≡ w.begun ++ commit ∷ []) where
   -- a commit that was made is as durable as those before it
-  pub durable-made : (own : ℕ) → own ≡ new.clock → IfSome new.told (λ m. own ≡ min (length m.past) max_count) → after.acked ≡ w.acked ++ own ∷ [] → after.shown ≡ committed w.shown commit
+  pub durable-made : (own : ℕ) → own ≡ new.clock → IfSome new.told (λ m. own ≡ min (length m.past) max_count) → after.acked ≡ w.acked ++ own ∷ [] → after.shown ≡ committed w.shown commit → after.published ≡ with_commit w.published commit
       → GoesOn (λ o n. StandsOnIndex n.present after) old.told new.told → IsDurable entry opening new after
-  durable-made own own_is number acked shown stands =
+  durable-made own own_is number acked shown published stands =
       let same : length w.begun ≡ length w.acked = h.all alive in
       let is = all-shown opening w same h.shown in
       let long = commits-length after.begun (w.begun ++ commit ∷ []) begun in
@@ -249,14 +250,18 @@ module _ (entry old new : ObservedDisk) (opening : Base) (w after : WriterState)
         few = omega (arith, both);
         all = λ alive_is. both;
         shown = whole ∙ ap (folded opening) (sym (take_all (length after.acked) after.begun (omega (arith, both))));
+        begins = ap (λ (p : Published). p.opening) published ∙ h.begins;
+        published = ap (λ (p : Published). p.commits) published
+            ∙ (ap (λ (l : List Commit). l ++ commit ∷ []) (h.published ∙ take_all (length w.acked) w.begun (omega (arith, same)))
+            ∙ (sym begun ∙ sym (take_all (length after.acked) after.begun (omega (arith, both)))));
         clocks = subst (λ (l : List ℕ). NeverFall 0 l new.clock) (sym acked) (never-push 0 old.clock own new.clock w.acked h.clocks (omega (arith, own_is, (rises h.clock).0)) (omega (arith, own_is)));
         clock = (rises h.clock).1;
         kept = subst (λ (l : List Commit). GoesOn (KeptSince opening l after.acked) entry.told new.told) (sym begun) (subst (λ (l : List ℕ). GoesOn (KeptSince opening (w.begun ++ commit ∷ []) l) entry.told new.told) (sym acked) kept);
       }
 
   -- and one at which the disk failed takes nothing away
-  pub durable-begun : (fault : ℕ) → after.acked ≡ w.acked → after.shown ≡ w.shown → after.closed ≡ Some fault → IsDurable entry opening new after
-  durable-begun fault acked shown closed =
+  pub durable-begun : (fault : ℕ) → after.acked ≡ w.acked → after.shown ≡ w.shown → after.closed ≡ Some fault → after.published ≡ w.published → IsDurable entry opening new after
+  durable-begun fault acked shown closed published =
       let same : length w.begun ≡ length w.acked = h.all alive in
       let is = all-shown opening w same h.shown in
       let long = commits-length after.begun (w.begun ++ commit ∷ []) begun in
@@ -269,6 +274,8 @@ module _ (entry old new : ObservedDisk) (opening : Base) (w after : WriterState)
         few = omega (arith, same, long, clocks, length_push w.begun commit);
         all = λ alive_is. is-open (length after.begun ≡ length after.acked) fault (sym closed ∙ alive_is);
         shown = shown ∙ (is ∙ ap (folded opening) (sym front));
+        begins = ap (λ (p : Published). p.opening) published ∙ h.begins;
+        published = ap (λ (p : Published). p.commits) published ∙ (h.published ∙ (take_all (length w.acked) w.begun (omega (arith, same)) ∙ sym front));
         clocks = subst (λ (l : List ℕ). NeverFall 0 l new.clock) (sym acked) (never-later 0 old.clock new.clock w.acked h.clocks (rises h.clock).0);
         clock = (rises h.clock).1;
         kept = subst (λ (l : List Commit). GoesOn (KeptSince opening l after.acked) entry.told new.told) (sym begun) (subst (λ (l : List ℕ). GoesOn (KeptSince opening (w.begun ++ commit ∷ []) l) entry.told new.told) (sym acked) kept);
@@ -280,10 +287,10 @@ pub durable-after : {T : Type 0} (entry old new : ObservedDisk) (opening : Base)
     → IfOk result (λ done. IfSome new.told (λ m. new.clock ≡ min (length m.past) max_count)) → GoesOn (λ o n. OnOk result (StandsOnIndex n.present after)) old.told new.told
     → IfErr result (λ e. is_write_fault e ≡ false → new ≡ old) → IsDurable entry opening new after
 durable-after entry old new opening w after commit (Ok done) alive h made rises through number stands waits =
-    durable-made entry old new opening w after commit h alive rises through made.1 new.clock refl number made.2 made.0 stands
+    durable-made entry old new opening w after commit h alive rises through made.1 new.clock refl number made.2 made.0 made.5 stands
 durable-after entry old new opening w after commit (Err errors.MailFault) alive h made rises through number stands waits = absurd made
 durable-after entry old new opening w after commit (Err errors.DiskFault) alive h made rises through number stands waits =
-    durable-begun entry old new opening w after commit h alive rises through made.1 new.faults made.2 made.0 made.3
+    durable-begun entry old new opening w after commit h alive rises through made.1 new.faults made.2 made.0 made.3 made.5
 durable-after entry old new opening w after commit (Err (errors.Closed fault)) alive h made rises through number stands waits = absurd made
 durable-after entry old new opening w after commit (Err (errors.Limit limit)) alive h made rises through number stands waits =
     subst (λ (d : ObservedDisk). IsDurable entry opening d after) (sym (waits refl)) (subst (IsDurable entry opening old) (sym made.1) h)

@@ -12,11 +12,13 @@ use Rattle.nm_disk.specs.declared.state.DiskState.{DiskState}
 use Rattle.nm_disk.specs.declared.state.Range.{Range}
 use Rattle.nm_index.specs.Index.{folded}
 use Rattle.nm_index.specs.declared.base.Base.{Base}
+use Rattle.nm_journal.specs.Journal.{StandsOn}
 use Rattle.nm_journal.specs.Moments.{GoesThrough, LeavesOnly}
 use Rattle.nm_journal.specs.Records.{HasRecords}
 use Rattle.nm_writer.specs.Durable.{EachKeeps, HoldsPrefix, IsDurable, KeptSince, NeverFall}
 use Rattle.nm_writer.specs.StoredIndex.{HoldsIndex, HoldsWithin}
 use Rattle.nm_writer.specs.declared.open_error.OpenError.{OpenError}
+use Rattle.nm_writer.specs.declared.opening.Opened.{Opened}
 use Rattle.nm_writer.specs.Writer.{StandsOnIndex, WriterState}
 use Rattle.nm_writer.proofs.DurableLemmas.{stands-holds}
 use Rattle.nm_writer.proofs.ReplayLemmas.{Replayed}
@@ -62,8 +64,18 @@ kept-entry (Some o) (Some n) index none image held through = record {
   so_far = tt;
 }
 
+abbrev none_begun : List Commit
+none_begun = []
+
+abbrev IsFresh : WriterState → Type 0
+IsFresh w = (w.begun ≡ []) × (w.acked ≡ []) × (w.closed ≡ None)
+
+-- what was published is the index that is shown, and no commit
+abbrev PublishesShown : WriterState → Type 0
+PublishesShown w = (w.published.opening ≡ w.shown) × (w.published.commits ≡ [])
+
 -- a writer that was opened is durable from an entry on, where what a stop leaves since then is its index
-module _ (entry new : ObservedDisk) (writer : WriterState) (begun : writer.begun ≡ []) (acked : writer.acked ≡ []) (clock : new.clock ≤ max_count) where
+module _ (entry new : ObservedDisk) (writer : WriterState) (begun : writer.begun ≡ []) (acked : writer.acked ≡ []) (published : PublishesShown writer) (clock : new.clock ≤ max_count) where
   pub durable-none : GoesOn (KeptSince writer.shown [] []) entry.told new.told → IsDurable entry writer.shown new writer
   durable-none kept =
       let none : length writer.begun ≡ 0 = ap (λ (l : List Commit). length l) begun in
@@ -73,6 +85,8 @@ module _ (entry new : ObservedDisk) (writer : WriterState) (begun : writer.begun
         few = omega (arith, none, unacked);
         all = λ alive. none ∙ sym unacked;
         shown = subst (λ (l : List Commit). writer.shown ≡ folded writer.shown (take (length writer.acked) l)) (sym begun) (subst (λ (l : List ℕ). writer.shown ≡ folded writer.shown (take (length l) [])) (sym acked) refl);
+        begins = published.0;
+        published = published.1 ∙ (sym (ap (λ (l : List Commit). take (length writer.acked) l) begun ∙ ap (λ (l : List ℕ). take (length l) none_begun) acked));
         clocks = subst (λ (l : List ℕ). NeverFall 0 l new.clock) (sym acked) (omega arith);
         clock = clock;
         kept = subst (λ (l : List Commit). GoesOn (KeptSince writer.shown l writer.acked) entry.told new.told) (sym begun) (subst (λ (l : List ℕ). GoesOn (KeptSince writer.shown [] l) entry.told new.told) (sym acked) kept);
@@ -85,17 +99,21 @@ here-told (Some o) None writer h = tt
 here-told (Some o) (Some n) writer h = h
 
 -- from the end of an opening on
-pub durable-here : (old new : ObservedDisk) (result : Result WriterState OpenError) → IfOk result (λ w. (w.begun ≡ []) × (w.acked ≡ []) × (w.closed ≡ None)) → IfOk result (λ w. new.clock ≤ max_count)
-    → GoesOn (λ o n. IfOk result (λ w. StandsOnIndex n.present w)) old.told new.told → IfOk result (λ w. IsDurable new w.shown new w)
-durable-here old new (Ok w) fresh clock stands = durable-none new new w fresh.0 fresh.1 clock (kept-here new.told w (here-told old.told new.told w stands))
-durable-here old new (Err error) fresh clock stands = tt
+pub durable-here : (old new : ObservedDisk) (result : Result Opened OpenError) → IfOk result (λ opened. IsFresh opened.writer) → IfOk result (λ opened. PublishesShown opened.writer) → IfOk result (λ opened. new.clock ≤ max_count)
+    → GoesOn (λ o n. IfOk result (λ opened. StandsOnIndex n.present opened.writer)) old.told new.told → IfOk result (λ opened. IsDurable new opened.writer.shown new opened.writer)
+durable-here old new (Ok opened) fresh published clock stands =
+    let w = opened.writer in
+    durable-none new new w fresh.0 fresh.1 published clock (kept-here new.told w (here-told old.told new.told w stands))
+durable-here old new (Err error) fresh published clock stands = tt
 
 -- and from its entry on
-pub durable-entry : (old new : ObservedDisk) (result : Result WriterState OpenError) → IfSome old.told (λ m. IsImage m.present m.present.now) → IfOk result (λ w. (w.begun ≡ []) × (w.acked ≡ []) × (w.closed ≡ None)) → IfOk result (λ w. new.clock ≤ max_count)
-    → GoesOn (λ o n. IfOk result (λ w. HoldsWithin (bytes_now o Head) w.shown)) old.told new.told → GoesOn (λ o n. GoesThrough Head (MayLeave o.present Head) o n) old.told new.told
-    → IfSome old.told (λ m. m.present.written ≡ []) → IfOk result (λ w. IsDurable old w.shown new w)
-durable-entry old new (Ok w) image fresh clock index through none = durable-none old new w fresh.0 fresh.1 clock (kept-entry old.told new.told w.shown none image index through)
-durable-entry old new (Err error) image fresh clock index through none = tt
+pub durable-entry : (old new : ObservedDisk) (result : Result Opened OpenError) → IfSome old.told (λ m. IsImage m.present m.present.now) → IfOk result (λ opened. IsFresh opened.writer) → IfOk result (λ opened. PublishesShown opened.writer)
+    → IfOk result (λ opened. new.clock ≤ max_count) → GoesOn (λ o n. IfOk result (λ opened. HoldsWithin (bytes_now o Head) opened.writer.shown)) old.told new.told → GoesOn (λ o n. GoesThrough Head (MayLeave o.present Head) o n) old.told new.told
+    → IfSome old.told (λ m. m.present.written ≡ []) → IfOk result (λ opened. IsDurable old opened.writer.shown new opened.writer)
+durable-entry old new (Ok opened) image fresh published clock index through none =
+    let w = opened.writer in
+    durable-none old new w fresh.0 fresh.1 published clock (kept-entry old.told new.told w.shown none image index through)
+durable-entry old new (Err error) image fresh published clock index through none = tt
 
 -- the index that the records which were read leave
 pub opened-index : (old new : Option Moments) (bodies : List (List ℕ)) (shown : Base) → GoesOn (λ o n. HasRecords 0 bodies (bytes_now o Head)) old new → Replayed bodies shown → GoesOn (λ o n. HoldsWithin (bytes_now o Head) shown) old new
@@ -112,3 +130,11 @@ opened-index (Some o) (Some n) bodies shown records h = record {
   };
   within = h.2;
 }
+
+-- a writer whose index they leave stands on the disk
+pub opened-stands : (old new : Option Moments) (bodies : List (List ℕ)) (writer : WriterState) → GoesOn (λ o n. StandsOn n.present writer.journal bodies) old new → writer.journal.file ≡ Head → writer.journal.start ≡ 0 → Replayed bodies writer.shown
+    → GoesOn (λ o n. StandsOnIndex n.present writer) old new
+opened-stands None None bodies writer stands file start h = tt
+opened-stands None (Some n) bodies writer stands file start h = absurd stands
+opened-stands (Some o) None bodies writer stands file start h = absurd stands
+opened-stands (Some o) (Some n) bodies writer stands file start h = record { bodies = bodies; commits = h.0; file = file; start = start; journal = stands; holds = h.1 }

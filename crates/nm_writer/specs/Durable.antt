@@ -50,12 +50,15 @@ NeverFall from [] to = from ≤ to
 NeverFall from (number ∷ numbers) to = (from ≤ number) × NeverFall number numbers to
 
 -- The writer shows the index after the commits that were acknowledged, one clock each, the first of those begun: all, or all but
--- the one at which the disk failed. None of them is lost since the entry, at which the disk held the opening index.
+-- the one at which the disk failed. What was published begins with the opening index and is these commits, so nothing was shown before
+-- it was acknowledged. None of them is lost since the entry, at which the disk held the opening index.
 pub record IsDurable (entry : ObservedDisk) (opening : Base) (disk : ObservedDisk) (writer : WriterState) : Type 0 where
   pub within : length writer.acked ≤ length writer.begun
   pub few : length writer.begun ≤ length writer.acked + 1
   pub all : writer.closed ≡ None → length writer.begun ≡ length writer.acked
   pub shown : writer.shown ≡ folded opening (take (length writer.acked) writer.begun)
+  pub begins : writer.published.opening ≡ opening
+  pub published : writer.published.commits ≡ take (length writer.acked) writer.begun
   pub clocks : NeverFall 0 writer.acked disk.clock
   pub clock : disk.clock ≤ max_count
   pub kept : GoesOn (KeptSince opening writer.begun writer.acked) entry.told disk.told

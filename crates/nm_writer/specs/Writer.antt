@@ -5,12 +5,14 @@ use Rattle.nm_disk.specs.declared.disk.FileNo.TheVariants.{Head}
 use Rattle.nm_disk.specs.declared.state.DiskState.{DiskState}
 use Rattle.nm_index.specs.declared.base.Base.{Base}
 use Rattle.nm_journal.specs.Journal.{JournalState, StandsOn}
+use Rattle.nm_publish.specs.Published.{Published}
 use Rattle.nm_writer.specs.StoredIndex.{HasCommits}
 
--- the journal, the index shown, the commits begun since the opening, the clocks of those acknowledged, and the faults of the disk
--- when it closed
+-- the journal, what was published since the opening, the index after it, which is shown, the commits begun, the clocks of those
+-- acknowledged, and the faults of the disk when it closed
 pub record WriterState : Type 0 where
   pub journal : JournalState
+  pub published : Published
   pub shown : Base
   pub begun : List Commit
   pub acked : List ℕ

@@ -6,6 +6,7 @@ use Rattle.nm_base.specs.declared.limit.Limit.TheVariants as limits
 use Rattle.nm_commit.specs.declared.change.Commit.{Commit}
 use Rattle.nm_index.specs.Index.{committed, folded}
 use Rattle.nm_index.specs.declared.base.Base.{Base}
+use Rattle.nm_publish.specs.Published.{Published, with_commit}
 use Rattle.nm_record.specs.CommitGrammar.{commit_grammar}
 use Rattle.nm_record.specs.Room.{limit_passed}
 use Rattle.nm_writer.specs.StoredIndex.{HoldsIndex}
@@ -46,23 +47,28 @@ IsPreparing made shown commit (errors.Closed fault) = ⊥
 IsPreparing made shown commit (errors.Limit limit) = IsPassed made shown commit limit
 IsPreparing made shown commit errors.NoMemory = Unit {0}
 
--- The commit is made and shown, and its clock kept; or it is begun and the writer closed, with the faults of the disk; or nothing is. What
--- is made or begun passes no limit.
+-- so many commits more were published
+abbrev pub with_commits : Published → List Commit → Published
+with_commits published commits = record published { commits = published.commits ++ commits }
+
+-- The commit is made, published and shown, and its clock kept; or it is begun and the writer closed, with the faults of the disk; or
+-- nothing is. What is made or begun passes no limit.
 abbrev pub IsAfterCommit : {T : Type 0} → WriterState → Commit → ℕ → ℕ → Result T WriteError → WriterState → Type 0
 IsAfterCommit old commit clock faults (Ok done) new =
     (new.shown ≡ committed old.shown commit) × (new.begun ≡ old.begun ++ commit ∷ []) × (new.acked ≡ old.acked ++ clock ∷ []) × (new.closed ≡ old.closed)
-    × IsWithin (length old.begun) old.shown commit
+    × IsWithin (length old.begun) old.shown commit × (new.published ≡ with_commit old.published commit)
 IsAfterCommit old commit clock faults (Err errors.MailFault) new = ⊥
 IsAfterCommit old commit clock faults (Err errors.DiskFault) new =
     (new.shown ≡ old.shown) × (new.begun ≡ old.begun ++ commit ∷ []) × (new.acked ≡ old.acked) × (new.closed ≡ Some faults)
-    × IsWithin (length old.begun) old.shown commit
+    × IsWithin (length old.begun) old.shown commit × (new.published ≡ old.published)
 IsAfterCommit old commit clock faults (Err (errors.Closed fault)) new = ⊥
 IsAfterCommit old commit clock faults (Err (errors.Limit limit)) new = IsPassed (length old.begun) old.shown commit limit × (new ≡ old)
 IsAfterCommit old commit clock faults (Err errors.NoMemory) new = new ≡ old
 
--- the commits are made and shown, one after the other, none of them passes a limit, and a clock is kept of each
+-- the commits are made, published and shown, one after the other, none of them passes a limit, and a clock is kept of each
 pub record HasCommitted (old : WriterState) (done : List Commit) (new : WriterState) : Type 0 where
   pub within : AreWithin (length old.begun) old.shown done
+  pub published : new.published ≡ with_commits old.published done
   pub shown : new.shown ≡ folded old.shown done
   pub begun : new.begun ≡ old.begun ++ done
   pub clocks : List ℕ
@@ -94,6 +100,7 @@ pub record FailsWithin (old : WriterState) (due : List Commit) (faults : ℕ) (n
   pub more : List Commit
   pub due_are : due ≡ done ++ commit ∷ more
   pub within : AreWithin (length old.begun) old.shown (done ++ commit ∷ [])
+  pub published : new.published ≡ with_commits old.published done
   pub shown : new.shown ≡ folded old.shown done
   pub begun : new.begun ≡ old.begun ++ (done ++ commit ∷ [])
   pub clocks : List ℕ

@@ -1,6 +1,7 @@
 //! One commit, which every command makes so.
 
 ghost use Rattle.std.specs.Prelude.{◌≡◌, false, length, min, true, IfErr, IfOk, IfSome, None, OnOk};
+ghost use Rattle.std.specs.Arc.{arc_value};
 ghost use Rattle.nm_base.specs.Limits.{max_count};
 ghost use Rattle.nm_commit.specs.Files.{Fits};
 ghost use Rattle.nm_disk.specs.Calls.{GoesOn};
@@ -16,7 +17,7 @@ ghost use Rattle.nm_writer.specs.Writer.{StandsOnIndex};
 ghost use Rattle.nm_writer.specs.Writing.{HoldsEither, IsAfterCommit, IsFull, IsPreparing, IsWithin, is_write_fault};
 
 use crate::{WriteError, Writer};
-use nm_base::Limit;
+use nm_base::{Limit, NoMemory};
 use nm_commit::Commit;
 use nm_disk::{Disk, DiskFault, FileNo};
 use nm_journal::Frame;
@@ -24,6 +25,7 @@ use nm_plan::{files_stay_apart, numbers_stay_in_order};
 use nm_record::{commit_bytes, commit_len};
 use nm_state::{RoomError, Snapshot};
 use std::alloc::Global;
+use std::sync::{Arc, Wait};
 
 /// The most commits of a session.
 const MAX_COMMITS: usize = 65_536;
@@ -32,8 +34,14 @@ const MAX_COMMITS: usize = 65_536;
 const MAX_COMMIT_BYTES: u64 = 1_073_741_824;
 
 impl Writer {
-    /// Makes one commit: all memory first, then the record on the disk, then the index after it is shown.
-    pub fn commit<D: Disk>(&mut self, disk: &mut D, commit: Commit) -> Result<(), WriteError>
+    /// Makes one commit: all memory first, then the record on the disk, then the index after it is shown. It may wait for readers to
+    /// leave the snapshot from before.
+    pub fn commit<R: Wait, D: Disk>(
+        &mut self,
+        rt: &R,
+        disk: &mut D,
+        commit: Commit,
+    ) -> Result<(), WriteError>
         requires alive { self.old.closed ≡ None }
         requires fits { Fits self.old.shown.files commit }
         requires stands { IfSome (D.observed disk.old).told (λ moments. StandsOnIndex moments.present self.old) }
@@ -57,11 +65,16 @@ impl Writer {
 
         ensures cause { HasCauseOf is_write_fault (D.observed disk.old).faults (D.observed disk.new).faults result }
     {
-        self.make(disk, commit)
+        self.make(rt, disk, commit)
     }
 
     /// Makes one commit, as `commit` does.
-    fn make<D: Disk>(&mut self, disk: &mut D, commit: Commit) -> Result<(), WriteError>
+    fn make<R: Wait, D: Disk>(
+        &mut self,
+        rt: &R,
+        disk: &mut D,
+        commit: Commit,
+    ) -> Result<(), WriteError>
         requires alive { self.old.closed ≡ None }
         requires fits { Fits self.old.shown.files commit }
         requires stands { IfSome (D.observed disk.old).told (λ moments. StandsOnIndex moments.present self.old) }
@@ -78,17 +91,19 @@ impl Writer {
         numbers_stay_in_order();
         files_stay_apart();
         let made = self.begun.as_slice().len();
-        let (frame, next) = prepared(self.alloc, made, &self.shown, &commit)?;
+        let (frame, next) = prepared(self.alloc, made, self.shower.now(), &commit)?;
         self.begun.reserve(1)?;
         self.acked.reserve(1)?;
+        self.shower.stage(&commit, next)?;
         match self.journal.append(disk, &frame) {
             Ok(receipt) => {
                 self.begun.push_spare(commit);
                 self.acked.push_spare(receipt.clock());
-                self.shown = next;
+                let _ = self.shower.show(rt, receipt);
                 Ok(())
             }
             Err(DiskFault) => {
+                self.shower.drop_staged();
                 self.begun.push_spare(commit);
                 self.closed = Some(disk.faults());
                 Err(WriteError::DiskFault)
@@ -103,11 +118,11 @@ fn prepared(
     made: usize,
     shown: &Snapshot,
     commit: &Commit,
-) -> Result<(Frame, Snapshot), WriteError>
+) -> Result<(Frame, Arc<Snapshot, Global>), WriteError>
     requires fits { Fits shown.now.files commit.now }
     ensures frame { IfOk result (λ prepared. prepared.0 ≡ commit_grammar.bytes commit.now) }
     ensures value { IfOk result (λ prepared. commit_grammar.is_value commit.now ≡ true) }
-    ensures next { IfOk result (λ prepared. prepared.1 ≡ committed shown.now commit.now) }
+    ensures next { IfOk result (λ prepared. arc_value prepared.1 ≡ committed shown.now commit.now) }
     ensures within { IfOk result (λ prepared. IsWithin made shown.now commit.now) }
     ensures limits { IfErr result (IsPreparing made shown.now commit.now) }
 {
@@ -117,7 +132,7 @@ fn prepared(
     if commit_len(commit) > MAX_COMMIT_BYTES {
         return Err(WriteError::Limit(Limit::CommitBytes));
     }
-    let next = next_snapshot(shown, commit)?;
+    let next = shared(alloc, next_snapshot(shown, commit)?)?;
     let body = commit_bytes(alloc, commit)?;
     let frame = Frame::new(alloc, &body)?;
     Ok((frame, next))
@@ -135,4 +150,11 @@ fn next_snapshot(shown: &Snapshot, commit: &Commit) -> Result<Snapshot, WriteErr
         Err(RoomError::Limit(limit)) => Err(WriteError::Limit(limit)),
         Err(RoomError::NoMemory) => Err(WriteError::NoMemory),
     }
+}
+
+/// The snapshot, as readers may share it.
+fn shared(alloc: Global, snapshot: Snapshot) -> Result<Arc<Snapshot, Global>, NoMemory>
+    ensures { IfOk result (λ shared. arc_value shared ≡ snapshot) }
+{
+    Ok(Arc::new(alloc, snapshot)?)
 }

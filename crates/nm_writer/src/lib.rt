@@ -1,4 +1,5 @@
-//! Committing and publishing: the writer, which opens the index that a disk holds, and keeps it there commit by commit.
+//! Committing and publishing: the writer, which opens the index that a disk holds, keeps it there commit by commit, and shows it to
+//! readers after each.
 #![tactic(auto)]
 
 mod committing;
@@ -6,6 +7,7 @@ mod laws;
 mod naming;
 mod new;
 mod open_error;
+mod opening;
 mod renaming;
 mod replaying;
 mod reporting;
@@ -21,5 +23,6 @@ pub use laws::{
     what_keeps_the_limits_passes_none, what_passes_a_limit_is_not_bad,
 };
 pub use open_error::OpenError;
+pub use opening::Opened;
 pub use write_error::WriteError;
 pub use writer::Writer;

@@ -36,6 +36,7 @@ use nm_scan::{
 use nm_shared::Shared;
 use nm_state::Snapshot;
 use std::alloc::Global;
+use std::sync::Wait;
 use std::vec::IntoIter;
 
 /// What is gone: the changes that remove it, and the messages of its files.
@@ -48,8 +49,9 @@ struct Gone {
 impl Writer {
     /// Reads what has come to the mail folder, batch by batch, and makes a commit of each batch that has mail; then one of what is
     /// gone, where there is something. What the folder answered is noted. A closed writer asks nothing.
-    pub fn new_mail<M: Maildir, D: Disk>(
+    pub fn new_mail<R: Wait, M: Maildir, D: Disk>(
         &mut self,
+        rt: &R,
         mail: &mut M,
         disk: &mut D,
         noted: &mut Many<Given>,
@@ -83,13 +85,14 @@ impl Writer {
         new_leaves_what_is_listed();
         match self.closed {
             Some(fault) => Err(WriteError::Closed { fault }),
-            None => self.scan_and_take_in(mail, disk, noted),
+            None => self.scan_and_take_in(rt, mail, disk, noted),
         }
     }
 
     /// Lists the folder, and takes in what it found.
-    fn scan_and_take_in<M: Maildir, D: Disk>(
+    fn scan_and_take_in<R: Wait, M: Maildir, D: Disk>(
         &mut self,
+        rt: &R,
         mail: &mut M,
         disk: &mut D,
         noted: &mut Many<Given>,
@@ -106,8 +109,8 @@ impl Writer {
         ensures durable { (entry : ObservedDisk) (opening : Base) → IsDurable entry opening (D.observed disk.old) self.old
             → IsDurable entry opening (D.observed disk.new) self.new }
     {
-        match compare(self.alloc, &self.shown, mail, noted) {
-            Ok(compared) => self.take_in(mail, disk, compared, noted),
+        match compare(self.alloc, self.snapshot(), mail, noted) {
+            Ok(compared) => self.take_in(rt, mail, disk, compared, noted),
             Err(ScanError::MailFault) => Err(WriteError::MailFault),
             Err(ScanError::Limit(limit)) => Err(WriteError::Limit(limit)),
             Err(ScanError::NoMemory) => Err(WriteError::NoMemory),
@@ -115,8 +118,9 @@ impl Writer {
     }
 
     /// Takes in what has come, lets go what is gone, and reports both.
-    fn take_in<M: Maildir, D: Disk>(
+    fn take_in<R: Wait, M: Maildir, D: Disk>(
         &mut self,
+        rt: &R,
         mail: &mut M,
         disk: &mut D,
         compared: Compared,
@@ -136,7 +140,7 @@ impl Writer {
     {
         new_commits_fit();
         batches_are_what_was_read();
-        let before = self.shown.copy()?;
+        let before = self.snapshot().copy()?;
         let Compared {
             unknown,
             gone,
@@ -144,21 +148,22 @@ impl Writer {
         } = compared;
         let removed = gone.len() as u64;
         let went = drops(self.alloc, gone)?;
-        match self.take_in_batches(mail, disk, unknown, noted) {
+        match self.take_in_batches(rt, mail, disk, unknown, noted) {
             Ok(()) => {
                 let gone = Gone {
                     changes: went,
                     ids: gone_ids,
                 };
-                self.let_go(disk, &before, gone, removed, noted.as_slice())
+                self.let_go(rt, disk, &before, gone, removed, noted.as_slice())
             },
             Err(error) => Err(error),
         }
     }
 
     /// Reads the paths batch by batch. A commit is made of the mails of a batch before the next one is read.
-    fn take_in_batches<M: Maildir, D: Disk>(
+    fn take_in_batches<R: Wait, M: Maildir, D: Disk>(
         &mut self,
+        rt: &R,
         mail: &mut M,
         disk: &mut D,
         unknown: Many<MailPath>,
@@ -182,7 +187,7 @@ impl Writer {
         a_batch_that_stops_is_unfinished();
         let mut paths = unknown.into_vec().into_iter();
         'batches: while paths.len() > 0 {
-            match self.take_in_batch(mail, disk, &mut paths, noted) {
+            match self.take_in_batch(rt, mail, disk, &mut paths, noted) {
                 Ok(()) => {}
                 Err(error) => return Err(error),
             }
@@ -191,8 +196,9 @@ impl Writer {
     }
 
     /// Reads the next batch of the paths, and makes a commit of its mails, where it found some.
-    fn take_in_batch<M: Maildir, D: Disk>(
+    fn take_in_batch<R: Wait, M: Maildir, D: Disk>(
         &mut self,
+        rt: &R,
         mail: &mut M,
         disk: &mut D,
         paths: &mut IntoIter<MailPath, Global>,
@@ -213,7 +219,7 @@ impl Writer {
             → IsDurable entry opening (D.observed disk.new) self.new }
     {
         match read_batch(self.alloc, mail, paths, noted) {
-            Ok(added) => self.commit_added(disk, added),
+            Ok(added) => self.commit_added(rt, disk, added),
             Err(MailError::Failed) => Err(WriteError::MailFault),
             Err(MailError::NoMemory) => Err(WriteError::NoMemory),
         }
@@ -221,7 +227,12 @@ impl Writer {
 
     /// Makes a commit of the mails, where there are some.
     #[tactic(auto, using(crate::proofs::DoneLemmas::stops))]
-    fn commit_added<D: Disk>(&mut self, disk: &mut D, added: Many<Mail>) -> Result<(), WriteError>
+    fn commit_added<R: Wait, D: Disk>(
+        &mut self,
+        rt: &R,
+        disk: &mut D,
+        added: Many<Mail>,
+    ) -> Result<(), WriteError>
         requires alive { self.old.closed ≡ None }
         requires fit { FitInTurn self.old.shown (batch_commit self.old.shown added) }
         requires stands { IfSome (D.observed disk.old).told (λ moments. StandsOnIndex moments.present self.old) }
@@ -233,13 +244,14 @@ impl Writer {
     {
         let ids = ids_of(self.alloc, added.as_slice())?;
         let came = adds(self.alloc, added)?;
-        self.commit_some(disk, came, &ids)
+        self.commit_some(rt, disk, came, &ids)
     }
 
     /// Makes a commit of what is gone, where there is something, and reports what the `new` did.
     #[tactic(auto, using(crate::proofs::DoneLemmas::stops))]
-    fn let_go<D: Disk>(
+    fn let_go<R: Wait, D: Disk>(
         &mut self,
+        rt: &R,
         disk: &mut D,
         before: &Snapshot,
         gone: Gone,
@@ -258,9 +270,9 @@ impl Writer {
             → IsDurable entry opening (D.observed disk.new) self.new }
     {
         let Gone { changes, ids } = gone;
-        match self.commit_some(disk, changes, &ids) {
+        match self.commit_some(rt, disk, changes, &ids) {
             Ok(()) => {
-                let report = report(self.alloc, before, &self.shown, removed, noted)?;
+                let report = report(self.alloc, before, self.snapshot(), removed, noted)?;
                 Ok(report)
             }
             Err(error) => Err(error),
@@ -269,8 +281,9 @@ impl Writer {
 
     /// Makes a commit of the changes of these messages' files, where there are some; it ends with the tags that follow the names.
     #[tactic(auto, using(crate::proofs::DoneLemmas::stops))]
-    fn commit_some<D: Disk>(
+    fn commit_some<R: Wait, D: Disk>(
         &mut self,
+        rt: &R,
         disk: &mut D,
         changes: Many<Change>,
         ids: &Many<MessageId>,
@@ -287,8 +300,8 @@ impl Writer {
         if changes.is_empty() {
             return Ok(());
         }
-        let changes = with_names(self.alloc, &self.shown, changes, ids.as_slice())?;
-        self.commit(disk, Commit { changes })
+        let changes = with_names(self.alloc, self.snapshot(), changes, ids.as_slice())?;
+        self.commit(rt, disk, Commit { changes })
     }
 }
 

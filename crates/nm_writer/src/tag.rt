@@ -26,12 +26,14 @@ use nm_disk::Disk;
 use nm_flags::Rename;
 use nm_maildir::{Given, MailError, Maildir};
 use nm_plan::{tag_commits_fit, the_commit_of_tags_leaves_what_is_wanted};
+use std::sync::Wait;
 
 impl Writer {
     /// Sets the tags that the lines want, the first line first, in one commit; then renames the files whose names follow their
     /// tags, and makes a commit of those that moved. What the folder answered is noted. A closed writer asks nothing.
-    pub fn tag<M: Maildir, D: Disk>(
+    pub fn tag<R: Wait, M: Maildir, D: Disk>(
         &mut self,
+        rt: &R,
         mail: &mut M,
         disk: &mut D,
         lines: &Many<Tagging>,
@@ -62,13 +64,14 @@ impl Writer {
     {
         match self.closed {
             Some(fault) => Err(WriteError::Closed { fault }),
-            None => self.want_and_set(mail, disk, lines, moment, noted),
+            None => self.want_and_set(rt, mail, disk, lines, moment, noted),
         }
     }
 
     /// Finds the tags that the lines want, and sets them.
-    fn want_and_set<M: Maildir, D: Disk>(
+    fn want_and_set<R: Wait, M: Maildir, D: Disk>(
         &mut self,
+        rt: &R,
         mail: &mut M,
         disk: &mut D,
         lines: &Many<Tagging>,
@@ -87,15 +90,16 @@ impl Writer {
         ensures durable { (entry : ObservedDisk) (opening : Base) → IsDurable entry opening (D.observed disk.old) self.old
             → IsDurable entry opening (D.observed disk.new) self.new }
     {
-        match wanted_by(self.alloc, &self.shown, lines.as_slice(), moment) {
-            Ok(wanted) => self.set_tags(mail, disk, &wanted, noted),
+        match wanted_by(self.alloc, self.snapshot(), lines.as_slice(), moment) {
+            Ok(wanted) => self.set_tags(rt, mail, disk, &wanted, noted),
             Err(error) => Err(error.into()),
         }
     }
 
     /// Sets the tags that are wanted, whichever command wants them.
-    fn set_tags<M: Maildir, D: Disk>(
+    fn set_tags<R: Wait, M: Maildir, D: Disk>(
         &mut self,
+        rt: &R,
         mail: &mut M,
         disk: &mut D,
         wanted: &Wanted,
@@ -115,17 +119,18 @@ impl Writer {
     {
         tag_commits_fit();
         the_commit_of_tags_leaves_what_is_wanted();
-        let planned = plan_tags(self.alloc, &self.shown, wanted)?;
+        let planned = plan_tags(self.alloc, self.snapshot(), wanted)?;
         let Planned { changes, renames } = planned;
-        match self.commit_changes(disk, changes) {
-            Ok(()) => self.rename_files(mail, disk, renames, noted),
+        match self.commit_changes(rt, disk, changes) {
+            Ok(()) => self.rename_files(rt, mail, disk, renames, noted),
             Err(error) => Err(error),
         }
     }
 
     /// Tries the renames, and makes a commit of the files that moved, also where the folder failed in one.
-    fn rename_files<M: Maildir, D: Disk>(
+    fn rename_files<R: Wait, M: Maildir, D: Disk>(
         &mut self,
+        rt: &R,
         mail: &mut M,
         disk: &mut D,
         plan: Many<Rename>,
@@ -145,17 +150,17 @@ impl Writer {
             → IsDurable entry opening (D.observed disk.new) self.new }
     {
         let mut done = Renaming::new(self.alloc);
-        match rename_all(self.alloc, mail, &self.shown, plan, &mut done, noted) {
+        match rename_all(self.alloc, mail, self.snapshot(), plan, &mut done, noted) {
             Ok(()) => {
                 let Renaming { unmoved, moves, .. } = done;
-                match self.commit_changes(disk, moves) {
+                match self.commit_changes(rt, disk, moves) {
                     Ok(()) => Ok(SyncReport { unmoved }),
                     Err(error) => Err(error),
                 }
             }
             Err(MailError::Failed) => {
                 let Renaming { moves, .. } = done;
-                let _ = self.commit_changes(disk, moves);
+                let _ = self.commit_changes(rt, disk, moves);
                 Err(WriteError::MailFault)
             }
             Err(MailError::NoMemory) => Err(WriteError::NoMemory),

@@ -24,6 +24,7 @@ use nm_disk::Disk;
 use nm_flags::{Rename, rename_plan};
 use nm_state::Snapshot;
 use std::alloc::Global;
+use std::sync::Wait;
 
 /// The changes of tags, and the renames that follow them.
 #[derive(Drop)]
@@ -105,8 +106,9 @@ fn add_renames(
 
 impl Writer {
     /// Makes a commit of the changes, where there are some.
-    pub(crate) fn commit_changes<D: Disk>(
+    pub(crate) fn commit_changes<R: Wait, D: Disk>(
         &mut self,
+        rt: &R,
         disk: &mut D,
         changes: Many<Change>,
     ) -> Result<(), WriteError>
@@ -122,6 +124,6 @@ impl Writer {
         if changes.is_empty() {
             return Ok(());
         }
-        self.commit(disk, Commit { changes })
+        self.commit(rt, disk, Commit { changes })
     }
 }

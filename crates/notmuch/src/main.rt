@@ -62,6 +62,7 @@ fn main(rt: HostRuntime) -> ExitCode {
     let mut disk = FileDisk::new(rt);
     let mut mail = FolderMail::new(rt);
     let done = program(
+        &rt,
         alloc,
         &start,
         words.as_slice(),

@@ -6,16 +6,20 @@ use crate::{
 };
 use rows::{Program, Row, RowError};
 use std::alloc::Global;
+use std::sync::Wait;
 
 /// The program that runs the rows on the index.
-pub struct Index;
+#[derive(Drop)]
+pub struct Index<'a, R: Wait> {
+    pub rt: &'a R,
+}
 
-impl Program for Index {
+impl<R: Wait> Program for Index<'_, R> {
     fn answer(&self, alloc: Global, row: &Row<'_>) -> Result<Vec<u8>, RowError> {
         if let Some(answer) = journal_answer(alloc, row)? {
             return Ok(answer);
         }
-        if let Some(answer) = index_answer(alloc, row)? {
+        if let Some(answer) = index_answer(self.rt, alloc, row)? {
             return Ok(answer);
         }
         Err(RowError::Broken("no such kind of row"))
@@ -40,7 +44,11 @@ fn journal_answer(alloc: Global, row: &Row<'_>) -> Result<Option<Vec<u8>>, RowEr
 }
 
 /// The answer where the kind is of commits, tags, threads, snapshots and stored indices.
-fn index_answer(alloc: Global, row: &Row<'_>) -> Result<Option<Vec<u8>>, RowError> {
+fn index_answer<R: Wait>(
+    rt: &R,
+    alloc: Global,
+    row: &Row<'_>,
+) -> Result<Option<Vec<u8>>, RowError> {
     if row.kind == b"snapshot".as_slice() {
         return Ok(Some(snapshot_rows::answered(alloc, row)?));
     }
@@ -48,7 +56,7 @@ fn index_answer(alloc: Global, row: &Row<'_>) -> Result<Option<Vec<u8>>, RowErro
         return Ok(Some(room_rows::told(alloc, row)?));
     }
     if row.kind == b"index".as_slice() {
-        return Ok(Some(index_rows::opened(alloc, row)?));
+        return Ok(Some(index_rows::opened(rt, alloc, row)?));
     }
     if row.kind == b"commits".as_slice() {
         return Ok(Some(commit_rows::commits(alloc, row)?));

@@ -5,20 +5,31 @@ use crate::journal_rows::append_all;
 use crate::snapshot_rows::told;
 use crate::values::push_number;
 use nm_disk::Disk;
-use nm_writer::{OpenError, Writer};
+use nm_writer::{OpenError, Opened, Writer};
 use rows::{Lines, Row, RowError};
 use std::alloc::Global;
+use std::sync::Wait;
 
 /// What the index that is opened answers to what stands behind `?`, or the place of the bad record.
-pub fn opened(alloc: Global, row: &Row<'_>) -> Result<Vec<u8>, RowError> {
+pub fn opened<R: Wait>(rt: &R, alloc: Global, row: &Row<'_>) -> Result<Vec<u8>, RowError> {
     let mut disk = fresh(alloc)?;
-    found(alloc, &mut disk, row)
+    found(rt, alloc, &mut disk, row)
 }
 
-fn found<D: Disk>(alloc: Global, disk: &mut D, row: &Row<'_>) -> Result<Vec<u8>, RowError> {
+fn found<R: Wait, D: Disk>(
+    rt: &R,
+    alloc: Global,
+    disk: &mut D,
+    row: &Row<'_>,
+) -> Result<Vec<u8>, RowError> {
     append_all(alloc, disk, row)?;
-    match Writer::open(alloc, disk) {
-        Ok(writer) => answered(alloc, &writer, row),
+    match Writer::open(rt, alloc, disk, 0) {
+        Ok(opened) => {
+            let Opened { writer, readers: _ } = opened;
+            let answer = answered(alloc, &writer, row);
+            let _ = writer.finish(rt);
+            answer
+        }
         Err(OpenError::BadIndex { at, .. }) => bad_at(alloc, at),
         Err(OpenError::Limit(_)) => Ok(b"limit".to_vec(alloc)?),
         Err(OpenError::DiskFault) => Ok(b"disk fault".to_vec(alloc)?),

@@ -3,17 +3,21 @@
 use crate::{line_rows, machine_rows, reply_rows, session_rows, stop_rows};
 use rows::{Program, Row, RowError};
 use std::alloc::Global;
+use std::sync::Wait;
 
 /// The program that runs the rows on sessions.
-pub struct Sessions;
+#[derive(Drop)]
+pub struct Sessions<'a, R: Wait> {
+    pub rt: &'a R,
+}
 
-impl Program for Sessions {
+impl<R: Wait> Program for Sessions<'_, R> {
     fn answer(&self, alloc: Global, row: &Row<'_>) -> Result<Vec<u8>, RowError> {
         if row.kind == b"session".as_slice() || row.kind == b"program".as_slice() {
-            return session_rows::answer(alloc, row);
+            return session_rows::answer(self.rt, alloc, row);
         }
         if row.kind == b"stops".as_slice() {
-            return stop_rows::answer(alloc, row);
+            return stop_rows::answer(self.rt, alloc, row);
         }
         if row.kind == b"lines".as_slice() {
             return line_rows::requests(alloc, row);

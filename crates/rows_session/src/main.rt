@@ -25,7 +25,7 @@ use std::io::{self, ErrorKind, Read, Write};
 fn main(rt: HostRuntime) -> io::Result<()> {
     let mut table = Vec::new(rt.alloc());
     rt.stdin().read_to_end(&mut table)?;
-    let Ok(report) = run_table(rt.alloc(), &Sessions, table.as_slice()) else {
+    let Ok(report) = run_table(rt.alloc(), &Sessions { rt: &rt }, table.as_slice()) else {
         return Err(io::Error::from(ErrorKind::OutOfMemory));
     };
     rt.stdout().write_all(report.as_slice())

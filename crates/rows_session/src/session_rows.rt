@@ -10,9 +10,10 @@ use nm_disk::MemDisk;
 use nm_top::Step;
 use rows::{Lines, Row, RowError};
 use std::alloc::Global;
+use std::sync::Wait;
 
 /// Runs the calls that the row has.
-pub fn answer(alloc: Global, row: &Row<'_>) -> Result<Vec<u8>, RowError> {
+pub fn answer<R: Wait>(rt: &R, alloc: Global, row: &Row<'_>) -> Result<Vec<u8>, RowError> {
     row.has_only(&[
         b"$",
         b"file",
@@ -33,25 +34,31 @@ pub fn answer(alloc: Global, row: &Row<'_>) -> Result<Vec<u8>, RowError> {
         b"=",
     ])?;
     let sessions = sessions(alloc, row)?;
-    run_all(alloc, row, sessions.as_slice())
+    run_all(rt, alloc, row, sessions.as_slice())
 }
 
-fn run_all(alloc: Global, row: &Row<'_>, sessions: &[Row<'_>]) -> Result<Vec<u8>, RowError> {
+fn run_all<R: Wait>(
+    rt: &R,
+    alloc: Global,
+    row: &Row<'_>,
+    sessions: &[Row<'_>],
+) -> Result<Vec<u8>, RowError> {
     let mut disk = disk(alloc, row)?;
     let mut lines = Lines::new(alloc);
     'sessions: for session in sessions {
-        run_one(alloc, session, &mut disk, &mut lines)?;
+        run_one(rt, alloc, session, &mut disk, &mut lines)?;
     }
     Ok(lines.into_bytes())
 }
 
-fn run_one(
+fn run_one<R: Wait>(
+    rt: &R,
     alloc: Global,
     session: &Row<'_>,
     disk: &mut MemDisk,
     lines: &mut Lines,
 ) -> Result<(), RowError> {
-    let ran = run(alloc, session, disk)?;
+    let ran = run(rt, alloc, session, disk)?;
     let told = session.text(alloc, b"tell")?;
     let text = transcript(alloc, &ran, head_of(disk), told.as_slice())?;
     Ok(lines.line(text.as_slice())?)

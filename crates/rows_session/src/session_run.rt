@@ -10,6 +10,7 @@ use nm_io::{MemSink, MemSource};
 use nm_top::{Done, Setting, Start, notmuch, program};
 use rows::{Row, RowError};
 use std::alloc::Global;
+use std::sync::Wait;
 
 /// 12:00 of 2024-01-01.
 const MOMENT: i64 = 1_704_110_400;
@@ -37,10 +38,15 @@ pub struct Ran {
 }
 
 /// Runs the session over the disk.
-pub fn run(alloc: Global, row: &Row<'_>, disk: &mut MemDisk) -> Result<Ran, RowError> {
+pub fn run<R: Wait>(
+    rt: &R,
+    alloc: Global,
+    row: &Row<'_>,
+    disk: &mut MemDisk,
+) -> Result<Ran, RowError> {
     fail_at(alloc, disk, row)?;
     let args = args(alloc, row)?;
-    on_mail(alloc, row, args.as_slice(), disk)
+    on_mail(rt, alloc, row, args.as_slice(), disk)
 }
 
 /// The words of the call: those of the line `$`, or else the word `session`.
@@ -69,17 +75,19 @@ fn add_word(alloc: Global, words: &mut Many<Text>, word: &[u8]) -> Result<(), Ro
 }
 
 /// The call over the mail folder of the row. Each device has a function of its own, so that few paths let it go.
-fn on_mail(
+fn on_mail<R: Wait>(
+    rt: &R,
     alloc: Global,
     row: &Row<'_>,
     args: &[Text],
     disk: &mut MemDisk,
 ) -> Result<Ran, RowError> {
     let mut mail = mail_folder(alloc, row)?;
-    on_input(alloc, row, args, &mut mail, disk)
+    on_input(rt, alloc, row, args, &mut mail, disk)
 }
 
-fn on_input(
+fn on_input<R: Wait>(
+    rt: &R,
     alloc: Global,
     row: &Row<'_>,
     args: &[Text],
@@ -87,10 +95,11 @@ fn on_input(
     disk: &mut MemDisk,
 ) -> Result<Ran, RowError> {
     let mut input = input(alloc, row)?;
-    on_output(alloc, row, args, mail, disk, &mut input)
+    on_output(rt, alloc, row, args, mail, disk, &mut input)
 }
 
-fn on_output(
+fn on_output<R: Wait>(
+    rt: &R,
     alloc: Global,
     row: &Row<'_>,
     args: &[Text],
@@ -101,7 +110,7 @@ fn on_output(
     let mut out = sink(alloc, row, b"out-fails")?;
     let mut err = sink(alloc, row, b"err-fails")?;
     let before = calls(disk);
-    let done = call(alloc, row, args, mail, disk, input, &mut out, &mut err);
+    let done = call(rt, alloc, row, args, mail, disk, input, &mut out, &mut err);
     let calls = calls(disk).saturating_sub(before);
     Ok(Ran {
         done,
@@ -112,7 +121,8 @@ fn on_output(
 }
 
 /// The call of the words; in a row on the program they begin with its options.
-fn call(
+fn call<R: Wait>(
+    rt: &R,
     alloc: Global,
     row: &Row<'_>,
     args: &[Text],
@@ -125,10 +135,10 @@ fn call(
     match mail {
         Folder::Still(mail) => {
             if row.kind == b"program".as_slice() {
-                return program(alloc, &START, args, mail, disk, input, out, err);
+                return program(rt, alloc, &START, args, mail, disk, input, out, err);
             }
-            notmuch(alloc, args, &SETTING, mail, disk, input, out, err)
+            notmuch(rt, alloc, args, &SETTING, mail, disk, input, out, err)
         }
-        Folder::Shifting(mail) => notmuch(alloc, args, &SETTING, mail, disk, input, out, err),
+        Folder::Shifting(mail) => notmuch(rt, alloc, args, &SETTING, mail, disk, input, out, err),
     }
 }

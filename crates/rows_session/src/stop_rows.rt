@@ -7,6 +7,7 @@ use nm_disk::{MemDisk, Pick};
 use nm_top::{Done, LineLog};
 use rows::{Lines, Row, RowError, cut};
 use std::alloc::{AllocError, Global};
+use std::sync::Wait;
 
 /// What the ranges hold that are not synced, in the order of the columns.
 const PICKS: [Pick; 5] = [
@@ -18,16 +19,17 @@ const PICKS: [Pick; 5] = [
 ];
 
 /// A line for each call of the last session but one: what the last session replies after a stop within it, for each pick.
-pub fn answer(alloc: Global, row: &Row<'_>) -> Result<Vec<u8>, RowError> {
+pub fn answer<R: Wait>(rt: &R, alloc: Global, row: &Row<'_>) -> Result<Vec<u8>, RowError> {
     row.has_only(&[b"file", b"gone", b"then", b"|", b"="])?;
     let sessions = sessions(alloc, row)?;
     match sessions.as_slice() {
-        [before @ .., stopped, last] => table(alloc, before, stopped, last),
+        [before @ .., stopped, last] => table(rt, alloc, before, stopped, last),
         _ => Err(RowError::Broken("a session to stop, and one after it")),
     }
 }
 
-fn table(
+fn table<R: Wait>(
+    rt: &R,
     alloc: Global,
     before: &[Row<'_>],
     stopped: &Row<'_>,
@@ -35,16 +37,21 @@ fn table(
 ) -> Result<Vec<u8>, RowError> {
     let mut disk = disk(alloc, stopped)?;
     'sessions: for session in before {
-        run_whole(alloc, session, &mut disk)?;
+        run_whole(rt, alloc, session, &mut disk)?;
     }
     let from = calls(&disk);
-    run_whole(alloc, stopped, &mut disk)?;
-    push_calls(alloc, &disk, from, last)
+    run_whole(rt, alloc, stopped, &mut disk)?;
+    push_calls(rt, alloc, &disk, from, last)
 }
 
 /// Runs a session that no device fails.
-fn run_whole(alloc: Global, session: &Row<'_>, disk: &mut MemDisk) -> Result<(), RowError> {
-    let ran = run(alloc, session, disk)?;
+fn run_whole<R: Wait>(
+    rt: &R,
+    alloc: Global,
+    session: &Row<'_>,
+    disk: &mut MemDisk,
+) -> Result<(), RowError> {
+    let ran = run(rt, alloc, session, disk)?;
     if ran.done.status != 0 {
         return Err(RowError::Broken("a session before the stop is not answered"));
     }
@@ -52,7 +59,8 @@ fn run_whole(alloc: Global, session: &Row<'_>, disk: &mut MemDisk) -> Result<(),
 }
 
 /// The lines of the calls behind the call `from`, counted from 1.
-fn push_calls(
+fn push_calls<R: Wait>(
+    rt: &R,
     alloc: Global,
     disk: &MemDisk,
     from: u64,
@@ -63,12 +71,13 @@ fn push_calls(
         let number = (call - from).saturating_add(1);
         lines.line(number.to_string(alloc)?.as_bytes())?;
         lines.push(b":")?;
-        push_stops(alloc, &mut lines, disk, call.saturating_add(1), last)?;
+        push_stops(rt, alloc, &mut lines, disk, call.saturating_add(1), last)?;
     }
     Ok(lines.into_bytes())
 }
 
-fn push_stops(
+fn push_stops<R: Wait>(
+    rt: &R,
     alloc: Global,
     lines: &mut Lines,
     disk: &MemDisk,
@@ -78,19 +87,20 @@ fn push_stops(
     'picks: for pick in PICKS {
         let mut after = stopped(disk, call, pick)?;
         lines.push(b" ")?;
-        push_replies(alloc, lines, &mut after, last)?;
+        push_replies(rt, alloc, lines, &mut after, last)?;
     }
     Ok(())
 }
 
 /// The first lines of the replies, parted by commas, or the status where the session is not answered to its end.
-fn push_replies(
+fn push_replies<R: Wait>(
+    rt: &R,
     alloc: Global,
     lines: &mut Lines,
     disk: &mut MemDisk,
     last: &Row<'_>,
 ) -> Result<(), RowError> {
-    let ran = run(alloc, last, disk)?;
+    let ran = run(rt, alloc, last, disk)?;
     Ok(push_done(alloc, lines, &ran.done)?)
 }
 

@@ -4,9 +4,11 @@ use Rattle.nm_writer.proofs.writer.Writer.open.Goals as goal
 pub returns-clause-durable : goal.returns-clause-durable
 returns-clause-durable g c =
     let disk = g.D.Disk in
-    durable-here (disk.observed c.args.disk.now) (disk.observed c.opened.new.disk) c.opened.result c.opened.ensures.fresh c.opened.ensures.clock c.opened.ensures.stands
+    let opened = c.open_head in
+    durable-here (disk.observed c.args.disk.now) (disk.observed opened.new.disk) opened.result opened.ensures.fresh opened.ensures.published opened.ensures.clock opened.ensures.stands
 
 pub returns-clause-durable_from_entry : goal.returns-clause-durable_from_entry
 returns-clause-durable_from_entry g c =
     let disk = g.D.Disk in
-    durable-entry (disk.observed c.args.disk.now) (disk.observed c.opened.new.disk) c.opened.result (disk.reads_an_image c.args.disk.now) c.opened.ensures.fresh c.opened.ensures.clock c.opened.ensures.index c.opened.ensures.any_moment
+    let opened = c.open_head in
+    durable-entry (disk.observed c.args.disk.now) (disk.observed opened.new.disk) opened.result (disk.reads_an_image c.args.disk.now) opened.ensures.fresh opened.ensures.published opened.ensures.clock opened.ensures.index opened.ensures.any_moment

@@ -4,7 +4,6 @@ use Rattle.nm_index.specs.Fits.{FitInTurn}
 use Rattle.nm_plan.specs.NameTags.{commit_of}
 use Rattle.nm_writer.proofs.NewLemmas.{after-let_go, after-refused, gone-fit, unknown-listed}
 use Rattle.nm_writer.proofs.ScanLemmas.{asked_listing}
-use Rattle.nm_writer.specs.Writer.{WriterState}
 use Rattle.nm_writer.specs.Writing.{IsAfterCommits}
 use Rattle.nm_writer.proofs.writer.Writer.take_in.Goals as goal
 
@@ -38,7 +37,7 @@ returns-in-Ok-clause-after g c =
     after-let_go (record { fits = c.new_commits_fit.ensures; in_one = c.batches_are_what_was_read.ensures })
     (record { mail = mail.observed c.args.mail.now; noted = c.args.noted.now }) (record { mail = mail.observed c.take_in_batches.new.mail; noted = c.take_in_batches.new.noted })
     c.args.compared c.args.self.now c.requires.listed c.take_in_batches.new.self made.0 made.1 made.2 c.let_go.new.self faults c.let_go.result c.len-removed.result c.in_ok-before.before c.as_slice.result.now
-    c.len-removed.ensures (c.in_ok-before.ensures ∙ ap (λ (w : WriterState). w.shown) c.self.view_is) c.as_slice.ensures
+    c.len-removed.ensures (c.in_ok-before.ensures ∙ c.snapshot.ensures) c.as_slice.ensures
     (subst (λ (l : List Change). IsAfterCommits c.take_in_batches.new.self (commit_of c.take_in_batches.new.self.shown l c.args.compared.gone_ids) faults c.let_go.result c.let_go.new.self) c.in_ok-went.ensures c.let_go.ensures.after) c.let_go.ensures.report
 
 pub returns-clause-after : goal.returns-clause-after
