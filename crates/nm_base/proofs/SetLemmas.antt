@@ -1,4 +1,4 @@
--- A set has what was put into it, and what it had.
+-- A set has what was put into it, and what it had. For the proof of `TextSet::insert`.
 use Rattle.std.proofs.Common.{◌≡◌, Bool, true, false, ◌||◌, List, [], ◌∷◌, refl, sym, ap, ◌∙◌}
 use Rattle.std.specs.List.{list_any}
 use Rattle.std.specs.Cmp.{IsEquivalence}

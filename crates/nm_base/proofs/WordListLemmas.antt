@@ -1,4 +1,5 @@
 -- Words that stand one behind the other are read again, and one more may be put behind them.
+-- For the proofs of `WordList::push` and `Words::take_first`.
 use Rattle.std.proofs.Common.{inl, inr, ◌≡◌, ℕ, suc, ◌+◌, ◌-◌, ◌≤◌, min, true, List, [], ◌∷◌, ◌++◌, length, take, drop, ◌≢◌, refl, sym, ap, ◌∙◌, append_assoc, arith}
 use Rattle.std.proofs.lemmas.List.{drop_all, take_at, drop_at, take_min, length-append, length_push, flat_map_more}
 use Rattle.std.proofs.lemmas.Bool.{cases_lt}

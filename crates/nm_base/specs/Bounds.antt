@@ -1,4 +1,5 @@
 -- Texts with bounds: what a constructor of a name, a tag, a word or a path answers.
+-- Cited by `mail_path`, `message_id`, `nm_text` and others.
 use Rattle.std.specs.Prelude.{ℕ, Bool, ◌&&◌, ◌||◌, ◌==◌, List, length, nat_le, Result, Ok, Err, if◌then◌else◌}
 use Rattle.nm_base.specs.declared.names.BadValue.{BadValue}
 use Rattle.nm_base.specs.declared.names.BadValue.TheVariants.{Length, Byte}

@@ -1,4 +1,5 @@
 -- The numbers that more than one crate speaks of: the range of dates, and the bounds of what is kept.
+-- Cited by `dates`, `mail_path`, `nm_faults` and others.
 use Rattle.std.specs.Prelude.{ℕ, ◌+◌, ℤ, pos, negsuc, Bool, ◌&&◌, int_le, ◌≤ℤ◌, min}
 
 -- the first second of the year 1: 0001-01-01 00:00:00 UTC

@@ -1,4 +1,5 @@
 -- Paths below the mail folder: 1 to 4,096 bytes, components with one `/` between them.
+-- Cited by `mail_path`, `nm_name`, `nm_record` and others.
 use Rattle.std.specs.Prelude.{ℕ, Bool, true, false, ◌&&◌, ◌==◌, not, List, [], ◌∷◌}
 use Rattle.std.specs.List.{list_all, slice_split}
 use Rattle.nm_base.specs.Limits.{max_path_bytes}

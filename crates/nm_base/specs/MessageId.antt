@@ -1,4 +1,5 @@
 -- Message ids (RFC 5322, section 3.6.4, read generously): 1 to 1,000 bytes without white space, `<` and `>`.
+-- Cited by `message_id`, `nm_header`, `nm_dump` and others.
 use Rattle.std.specs.Prelude.{ℕ, Bool, ◌&&◌, ◌||◌, ◌==◌, not, List}
 use Rattle.std.specs.List.{list_all}
 use Rattle.nm_base.specs.Bounds.{fits_length, is_white_space}

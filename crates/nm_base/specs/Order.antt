@@ -1,4 +1,4 @@
--- Texts in byte order, and tests on texts.
+-- Texts in byte order, and tests on texts. Cited by `tags`, `nm_maildir`, `nm_extract` and others.
 use Rattle.std.specs.Prelude.{ℕ, Bool, List, [], fold, nat_eq}
 use Rattle.std.specs.List.{list_any}
 use Rattle.std.specs.List.Sorted.{IsStrictlySortedBy}

@@ -1,4 +1,4 @@
--- Tags: 1 to 200 bytes, the first of them no `-`.
+-- Tags: 1 to 200 bytes, the first of them no `-`. Cited by `tag`, `nm_tags`, `nm_flags` and others.
 use Rattle.std.specs.Prelude.{ℕ, Bool, true, ◌&&◌, ◌==◌, not, List, [], ◌∷◌}
 use Rattle.nm_base.specs.Bounds.{fits_length}
 

@@ -1,4 +1,5 @@
 -- Sets of tags: lists that ascend strictly by the bytes of the tags.
+-- Cited by `tags`, `nm_tags`, `nm_flags` and others.
 use Rattle.std.specs.Prelude.{ℕ, Bool, List}
 use Rattle.std.specs.Cmp.Lexicographic.{slice_cmp}
 use Rattle.std.specs.Ordering.{nat_cmp}

@@ -1,4 +1,4 @@
--- Words: 1 to 200 bytes, whichever they are.
+-- Words: 1 to 200 bytes, whichever they are. Cited by `word`, `word_list`, `nm_codec` and others.
 use Rattle.std.specs.Prelude.{ℕ, Bool, List}
 use Rattle.nm_base.specs.Bounds.{fits_length}
 

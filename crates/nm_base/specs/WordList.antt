@@ -1,4 +1,5 @@
 -- The words of a text as they are kept: one behind the other in one row of bytes, each behind its length in one byte.
+-- Cited by `word_list`.
 use Rattle.std.specs.Prelude.{◌≡◌, ℕ, zero, suc, Bool, true, ◌&&◌, List, [], ◌∷◌, length, take, drop}
 use Rattle.std.specs.List.{flat_map, list_all}
 use Rattle.std.specs.Str.{is_utf8}

@@ -1,4 +1,5 @@
-//! A proof that a text may go to other threads and be read by several at once. No code runs; snapshots rest on it.
+//! A proof that a text may go to other threads and be read by several at once. No code calls it; snapshots rest on
+//! it.
 
 use crate::Text;
 

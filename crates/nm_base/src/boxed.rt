@@ -1,4 +1,4 @@
-//! A box that may hold its own type, for the trees of queries.
+//! A box that may hold its own type: `nm_query` makes the trees of queries of it.
 
 ghost use Rattle.std.specs.Prelude.{◌≡◌, IfOk};
 

@@ -1,4 +1,5 @@
-//! Copies that may find no memory; every value of a mail and of a commit has one.
+//! Copies that may find no memory: every value of a mail and of a commit has one, and `run` of `nm_shared` copies a
+//! block so.
 
 ghost use Rattle.std.specs.Prelude.{◌≡◌, IfOk, take};
 

@@ -1,4 +1,4 @@
-//! The range of dates, for whatever makes or takes the facts of a mail.
+//! The range of dates: `nm_extract` makes none outside of it, `nm_record` and `nm_state` take none.
 
 ghost use Rattle.std.specs.Prelude.{◌≡◌, ◌↔◌, IsTrue};
 ghost use Rattle.nm_base.specs.Limits.{IsDate, is_date};

@@ -1,4 +1,5 @@
-//! How results are printed and dumps are written and read.
+//! How results are printed (`nm_render`), and how dumps are written and read (`nm_dump`). `nm_command` reads these
+//! from options.
 
 use crate::{Copies, NoMemory};
 

@@ -1,4 +1,4 @@
-//! The bounds that a call may tell as passed.
+//! The bounds that a call may tell as passed, from `nm_query` to the lines of `nm_log`.
 
 /// The bound that was passed.
 #[derive(Clone, Copy, Debug, PartialEq, Eq)]

@@ -1,4 +1,4 @@
-//! Where a mail lies below the mail folder; listings make these, reads and commits take them.
+//! Where a mail lies below the mail folder: listings of `nm_maildir` make these, reads and commits take them.
 
 ghost use Rattle.std.specs.Prelude.{◌≡◌, ◌==◌, IsTrue};
 ghost use Rattle.std.specs.List.{list_all, slice_split};

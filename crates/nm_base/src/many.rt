@@ -1,4 +1,4 @@
-//! The list of all crates, seen in contracts as its items.
+//! The list of all crates, seen in contracts as its items: `Tags`, `TextSet`, `Room` and `Facts` are made of it.
 
 ghost use Rattle.std.specs.Prelude.{◌≡◌, ◌==◌, ◌<◌, Some, [], ◌∷◌, ◌++◌, length, slice_get, slice_set, IfOk, MatchOption, OnOk, OnErr};
 ghost use Rattle.std.specs.Cmp.Lexicographic.{lists_equiv, lists_per, pointwise};

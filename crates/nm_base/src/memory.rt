@@ -1,4 +1,4 @@
-//! The two errors that every crate passes on: a failed device, and no memory.
+//! The two errors that every crate passes on: a failed device, as `nm_io` and `nm_disk` tell it, and no memory.
 
 use std::alloc::{AllocError, AllocFailed};
 use thiserror::Error;

@@ -1,4 +1,4 @@
-//! What may be wrong with a name, a tag, a word or a path, for their constructors.
+//! What may be wrong with a name, for the constructors of `Tag`, `MessageId`, `MailPath` and `Word`.
 
 ghost use Rattle.std.specs.Prelude.{◌≡◌};
 ghost use Rattle.nm_base.specs.Bounds.{fits_length};

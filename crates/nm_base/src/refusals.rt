@@ -1,4 +1,5 @@
-//! The kinds of refusals: of the words of a command, and of a file by `new`.
+//! The kinds of refusals: of the words of a command, by `nm_command`, and of a file by `new`, in the report of
+//! `nm_answer`.
 
 /// What is wrong with the words of a command.
 #[derive(Clone, Copy, Debug, PartialEq, Eq)]

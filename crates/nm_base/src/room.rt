@@ -1,4 +1,4 @@
-//! A list with reserved places, for the log: a push into one takes no memory.
+//! A list with reserved places, in which a push takes no memory: `nm_writer` and `nm_session` keep the log in it.
 
 ghost use Rattle.std.specs.Prelude.{◌≡◌, ℕ, ◌+◌, ◌<◌, ◌≤◌, [], ◌∷◌, ◌++◌, OnOk, OnErr};
 

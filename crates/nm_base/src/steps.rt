@@ -1,4 +1,4 @@
-//! Counts of work done, for the statements of costs.
+//! Counts of work done, for the statements of costs: `nm_threads` and `nm_eval` tick them.
 
 ghost use Rattle.std.specs.Prelude.{◌≡◌, ◌+◌, ◌<◌};
 

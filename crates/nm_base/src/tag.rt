@@ -1,4 +1,4 @@
-//! What a user may set on a message.
+//! What a user may set on a message: a `TagOp` changes one, a set of `tags` has some.
 
 ghost use Rattle.std.specs.Prelude.{◌≡◌, IsTrue};
 ghost use Rattle.nm_base.specs.Bounds.{checked};

@@ -1,4 +1,4 @@
-//! A set of tags.
+//! A set of tags: each message of a commit has one, and `nm_tags` changes it.
 
 ghost use Rattle.std.specs.Prelude.{◌≡◌, ◌<◌, ◌^◌, [], length, IfOk, OnOk, OnErr};
 ghost use Rattle.std.specs.Map.Iter.{ShowsInOrder, deref};

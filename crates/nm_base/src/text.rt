@@ -1,4 +1,5 @@
-//! The UTF-8 text of all crates, seen in contracts as its bytes.
+//! The UTF-8 text of all crates, seen in contracts as its bytes: `nm_text` makes it of bytes, and a `Tag` or a
+//! `MessageId` is one.
 
 ghost use Rattle.std.specs.Prelude.{◌≡◌, ◌≤◌, IfOk, Some, [], length, refl, string_bytes};
 ghost use Rattle.std.specs.Cmp.{partial_equiv_from_equiv};

@@ -1,4 +1,4 @@
--- Items read one after the other, as a loop does.
+-- Items read one after the other, as a loop does. For the proofs of `read_items` and `read_words`.
 use Rattle.std.proofs.Common.{Some, ◌≡◌, ℕ, suc, Bool, ◌-◌, ◌+◌, ◌≤◌, ◌<◌, List, [], ◌∷◌, ◌++◌, Ok, Err, refl, sym, ap, ◌∙◌, append_assoc, append-nil, arith}
 use Rattle.std.specs.Prelude.{length, slice_get}
 use Rattle.std.proofs.lemmas.List.{length_push}

@@ -1,4 +1,4 @@
--- How many bytes words take, each behind its length in four bytes.
+-- How many bytes words take, each behind its length in four bytes. For the proof of `WordsFormat::len`.
 use Rattle.std.proofs.Common.{◌≡◌, ℕ, ◌+◌, ◌*◌, List, [], ◌∷◌, length, arith}
 use Rattle.std.specs.List.{flat_map}
 use Rattle.std.proofs.lemmas.List.{length-append}

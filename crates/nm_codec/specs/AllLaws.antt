@@ -1,4 +1,5 @@
 -- All of some bytes: a value's bytes are read as it, and bytes that are read are a value's.
+-- For proofs alone, of `nm_record`.
 use Rattle.std.proofs.Common.{◌≡◌, ℕ, ◌^◌, ◌<◌, true, cond, List, [], ◌++◌, length, eqb, Ok, Err, refl, sym, ap, subst, ◌∙◌, append-nil}
 use Rattle.std.proofs.lemmas.Bool.{eqb-true}
 use Rattle.std.proofs.lemmas.List.{nil_from_length}

@@ -1,5 +1,6 @@
 -- A grammar: how values of one kind stand in bytes, with the promise that what is written is read again and that what is
 -- read was written so. Grammars are put together from others, and the promise with them.
+-- Cited by `format`, `list`, `nm_record` and others.
 use Rattle.std.specs.Prelude.{◌≡◌, ℕ, ℤ, ◌<◌, ◌^◌, Bool, true, ◌&&◌, List, ◌++◌, length, Option, None, Some, Ok, FitsSigned}
 use Rattle.std.specs.List.{list_all}
 use Rattle.std.specs.Int.{w64}

@@ -1,4 +1,5 @@
 -- Values that pass a test, and values that are made of others, are read again, and what is read was spelled so.
+-- Cited by `Grammar` and `RisingLaws`.
 use Rattle.std.proofs.Common.{◌≡◌, ℕ, ◌^◌, ◌<◌, Bool, true, cond, ◌&&◌, List, ◌++◌, length, Ok, Err, refl, ap, subst}
 use Rattle.std.proofs.lemmas.Bool.{and_parts}
 use Rattle.nm_codec.specs.Reading.{IsBytes, Reading, Takes, mapped_at, tested_at}

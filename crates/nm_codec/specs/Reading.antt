@@ -1,5 +1,6 @@
 -- Reading from left to right: a value and the bytes after it, or the place of the first byte that is not of the grammar.
 -- A place is told by how many bytes are left from there on, so that it is the same for a part of the bytes and for all.
+-- Cited by `format`, `list`, `nm_record` and others.
 use Rattle.std.specs.Prelude.{◌≡◌, ℕ, zero, suc, ◌-◌, ◌≤◌, ℤ, Bool, true, ◌&&◌, Option, None, Some, List, [], ◌∷◌, ◌++◌, ◌<◌, length, slice_get, slice_index, take, drop, Result, Ok, Err, nat_lt, ◌==◌, if◌then◌else◌}
 use Rattle.std.specs.Int.{Width, w8, w32, w64, byte_len, from_be_bytes, cast_signed}
 use Rattle.std.specs.Ordering.{is_lt}

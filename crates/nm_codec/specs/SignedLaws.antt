@@ -1,4 +1,5 @@
 -- Numbers in two's complement, and values that a byte stands for, are read again, and what is read was spelled so.
+-- Cited by `Grammar`.
 use Rattle.std.proofs.Common.{◌≡◌, ℕ, ℤ, pos, negsuc, ◌^◌, ◌<◌, Bool, true, cond, List, ◌++◌, length, Option, Some, None, Ok, Err, refl, ap, subst, arith}
 use Rattle.std.specs.Prelude.{FitsSigned}
 use Rattle.std.specs.Int.{w8, w64, cast_signed, cast_unsigned}

@@ -1,4 +1,5 @@
 -- The one spelling of numbers, texts and lists: numbers big-endian, a text and a list behind their length in four bytes.
+-- Cited by `list`, `text`, `nm_record` and others.
 use Rattle.std.specs.Prelude.{ℕ, ℤ, List, ◌++◌, length}
 use Rattle.std.specs.List.{flat_map}
 use Rattle.std.specs.Int.{w8, w32, w64, to_be_bytes, cast_unsigned}

@@ -1,4 +1,4 @@
--- Steps of reading, one after the other.
+-- Steps of reading, one after the other. Cited by `nm_record`.
 use Rattle.std.proofs.Common.{◌≡◌, ℕ, Bool, true, false, ◌&&◌, cond, List, ◌++◌, Result, Ok, Err, refl, ap, sym, ◌∙◌, append_assoc}
 use Rattle.nm_codec.specs.Reading.{◌>>=◌, Takes}
 

@@ -1,4 +1,4 @@
--- Texts are read again, and what is read was spelled so.
+-- Texts are read again, and what is read was spelled so. Cited by `Grammar`.
 use Rattle.std.proofs.Common.{◌≡◌, ℕ, ◌^◌, ◌<◌, ◌≤◌, Bool, true, false, cond, ltb, List, ◌++◌, length, take, drop, Result, Ok, Err, refl, sym, subst, arith}
 use Rattle.std.specs.Int.{w32, to_be_bytes}
 use Rattle.std.specs.Str.{is_utf8}

@@ -1,4 +1,4 @@
-//! Lists, whose count stands before them.
+//! Lists, whose count stands before them, for `nm_record` and, in order, for `rising`.
 
 ghost use Rattle.std.specs.Prelude.{◌≡◌, ◌++◌, ◌<◌, ◌^◌, length, min, OnOk};
 ghost use Rattle.std.specs.List.{flat_map, list_all};

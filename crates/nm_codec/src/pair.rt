@@ -1,4 +1,4 @@
-//! Two values, one behind the other.
+//! Two values, one behind the other, for the formats of `nm_record`.
 
 ghost use Rattle.std.specs.Prelude.{◌&&◌};
 ghost use Rattle.nm_codec.specs.Grammar.{pair_grammar};

@@ -1,4 +1,4 @@
-//! Why bytes are not read; every reader of the index answers so.
+//! Why bytes are not read: `reader` and all formats answer so, and `nm_writer` meets it where it replays.
 
 use nm_base::NoMemory;
 use std::alloc::AllocError;

@@ -1,4 +1,4 @@
-//! Reading bytes from left to right; whoever reads the index from the disk does it so.
+//! Reading bytes from left to right: `nm_record` reads the index from the disk so.
 
 ghost use Rattle.std.specs.Prelude.{◌≡◌, ◌<◌, ◌≤◌, ◌+◌, ◌-◌, length, take, drop, MatchResult, OnErr, [], IsOk, ◌↔◌, IfErr};
 ghost use Rattle.std.specs.Int.{w8, w32, w64};

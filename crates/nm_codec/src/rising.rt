@@ -1,4 +1,4 @@
-//! Lists that rise strictly, whose count stands before them.
+//! Lists that rise strictly, whose count stands before them: `nm_record` writes sets of tags so.
 
 ghost use Rattle.std.specs.Prelude.{◌≡◌, ◌&&◌, ◌++◌, ◌-◌, None, length, slice_get};
 ghost use Rattle.std.specs.List.{list_all};

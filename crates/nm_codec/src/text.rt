@@ -1,4 +1,4 @@
-//! Texts, whose length stands before them.
+//! Texts, whose length stands before them: `nm_record` writes names and facts so.
 
 ghost use Rattle.std.specs.Prelude.{◌≡◌, true, length, min};
 ghost use Rattle.std.specs.Str.{is_utf8};

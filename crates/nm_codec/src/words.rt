@@ -1,4 +1,4 @@
-//! The words of a text in bytes, read into one block and written from it; the facts of a mail have them.
+//! The words of a text in bytes, read into one block and written from it, for the facts of a mail in `nm_record`.
 
 ghost use Rattle.std.specs.Prelude.{◌≡◌, ◌++◌, ◌<◌, ◌≤◌, ◌-◌, ◌^◌, IsTrue, MatchResult, OnOk, length, true};
 ghost use Rattle.std.specs.List.{flat_map};

@@ -1,4 +1,4 @@
--- The standard encoding of bytes reads back as the bytes.
+-- The standard encoding of bytes reads back as the bytes. For the proof of `base64_reads_back`.
 use Rattle.std.proofs.Common.{◌≡◌, ℕ, zero, suc, ◌+◌, ◌*◌, ◌/◌, ◌%◌, ◌<◌, ◌≤◌, Bool, true, false, not, ◌&&◌, List, [], ◌∷◌, ◌++◌, map, take, replicate, length, get_or, slice_index, refl, ap, ◌∙◌, cond, eqb, ◌⊎◌, inl, inr, arith}
 use Rattle.std.specs.List.{before_first, filter, position_or_len}
 use Rattle.std.proofs.lemmas.Bool.{cases_lt, eqb-true}

@@ -1,4 +1,4 @@
--- Escapes, one at a time.
+-- Escapes, one at a time. For the proof of `push_unescaped`.
 use Rattle.std.proofs.Common.{◌≡◌, ℕ, suc, ◌+◌, ◌<◌, Bool, true, false, ◌&&◌, List, [], ◌∷◌, ◌++◌, Some, None, length, take, drop, refl, sym, ap, ◌∙◌, subst, cond, eqb, get_or, arith, add-zero, append_assoc}
 use Rattle.std.specs.List.{position_or_len}
 use Rattle.std.proofs.lemmas.List.{append-nil, get_or-drop, length-drop}

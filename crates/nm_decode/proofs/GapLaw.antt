@@ -1,4 +1,5 @@
 -- White space between two encoded words goes, and stays beside other text.
+-- For the proof of `white_space_between_words_goes`.
 use Rattle.std.proofs.Common.{◌≡◌, ℕ, zero, suc, ◌+◌, true, false, List, [], ◌∷◌, ◌++◌, Some, None, drop, length, refl, sym, ap, ◌∙◌, cond, eqb, arith, append_assoc}
 use Rattle.std.specs.List.{list_all, list_any, onto_first}
 use Rattle.std.specs.Option.{option_and_then, option_map}

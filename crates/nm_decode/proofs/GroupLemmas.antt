@@ -1,4 +1,4 @@
--- Base64, symbol by symbol, is base64 in groups of four.
+-- Base64, symbol by symbol, is base64 in groups of four. For the proof of `base64_bytes`.
 use Rattle.std.proofs.Common.{◌≡◌, ℕ, ◌+◌, ◌*◌, ◌/◌, ◌%◌, ◌<◌, Bool, true, false, List, [], ◌∷◌, ◌++◌, length, Some, None, map, drop, get_or, refl, sym, ap, ◌∙◌, subst, cond, append_assoc}
 use Rattle.std.specs.List.{filter}
 use Rattle.std.proofs.lemmas.List.{at_drop_more}

@@ -1,4 +1,4 @@
--- The `=` of a text in Q, one at a time.
+-- The `=` of a text in Q, one at a time. For the proof of `is_q_text`.
 use Rattle.std.proofs.Common.{◌≡◌, ℕ, suc, Bool, true, false, ◌&&◌, List, [], ◌∷◌, Some, None, drop, refl, sym, ap, ◌∙◌, eqb, arith}
 use Rattle.std.specs.List.{position_or_len}
 use Rattle.std.specs.Option.{is_some}

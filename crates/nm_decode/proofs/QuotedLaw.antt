@@ -1,4 +1,4 @@
--- Quoted-printable reads back.
+-- Quoted-printable reads back. For the proof of `quoted_printable_reads_back`.
 use Rattle.std.proofs.Common.{◌≡◌, ℕ, suc, ◌+◌, ◌-◌, ◌*◌, ◌/◌, ◌%◌, ◌<◌, Bool, true, false, ◌&&◌, List, [], ◌∷◌, ◌++◌, take, length, get_or, refl, sym, ap, ◌∙◌, cond, eqb, arith, append_assoc}
 use Rattle.std.specs.List.{flat_map, onto_first, suffix_len}
 use Rattle.std.proofs.lemmas.List.{length-append, get_or_at, take_at}

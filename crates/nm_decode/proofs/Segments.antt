@@ -1,4 +1,4 @@
--- The segments between the `?` of a text.
+-- The segments between the `?` of a text. For the proof of `segment`.
 use Rattle.std.proofs.Common.{◌≡◌, ℕ, ◌+◌, ◌<◌, ◌≤◌, ◌≢◌, Bool, true, false, List, [], ◌∷◌, ◌++◌, None, length, take, drop, get_or, refl, sym, ap, ◌∙◌, subst, eqb, arith}
 use Rattle.std.specs.List.{onto_first, position_or_len, slice_split}
 use Rattle.std.proofs.lemmas.List.Splits.{slice_split_first}

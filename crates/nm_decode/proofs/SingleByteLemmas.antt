@@ -1,4 +1,4 @@
--- Bytes that stand for a character each: a run of ASCII spells itself.
+-- Bytes that stand for a character each: a run of ASCII spells itself. For the proof of `decode_single_byte`.
 use Rattle.std.proofs.Common.{◌≡◌, ℕ, suc, ◌<◌, List, [], ◌∷◌, ◌++◌, map, refl, sym, ap, ◌∙◌, arith, append_assoc}
 use Rattle.std.proofs.lemmas.Str.{encodes-append, encodes-IsAscii}
 use Rattle.std.proofs.lemmas.List.{map-append, append-nil}

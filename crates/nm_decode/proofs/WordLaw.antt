@@ -1,4 +1,5 @@
 -- One encoded word made of any text reads back as the text.
+-- For the proofs of `a_b_word_reads_back` and `a_q_word_reads_back`.
 use Rattle.std.proofs.Common.{◌≡◌, ℕ, zero, suc, ◌+◌, ◌/◌, ◌%◌, ◌<◌, Bool, true, false, not, ◌&&◌, List, [], ◌∷◌, ◌++◌, Some, None, codes, map, drop, length, get_or, replicate, refl, sym, ap, ◌∙◌, cond, eqb, subst, arith}
 use Rattle.std.specs.List.{flat_map, onto_first}
 use Rattle.std.specs.Option.{is_some, option_and_then, option_map}

@@ -1,4 +1,5 @@
 -- Base64 (RFC 2045, section 6.8), read leniently: what is no symbol is passed over, and the first `=` ends the data.
+-- Cited by `groups` and `nm_extract`.
 use Rattle.std.specs.Prelude.{ℕ, Bool, ◌||◌, ◌==◌, if◌then◌else◌, ◌+◌, ◌-◌, ◌*◌, ◌/◌, ◌%◌, List, [], ◌∷◌, map, Option, None, Some}
 use Rattle.std.specs.List.{before_first, filter}
 use Rattle.nm_text.specs.Cuts.{is_byte}

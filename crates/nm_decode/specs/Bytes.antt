@@ -1,4 +1,4 @@
--- Tests on bytes that more than one encoding uses.
+-- Tests on bytes that more than one encoding uses. Cited by `quoted`.
 use Rattle.std.specs.Prelude.{ℕ, Bool, ◌||◌, ◌&&◌, nat_lt, nat_le, if◌then◌else◌, ◌+◌, ◌-◌, ◌*◌, List, ◌∷◌, Option, None, Some}
 
 -- `lo` to `hi`

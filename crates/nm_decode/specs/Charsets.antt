@@ -1,4 +1,5 @@
 -- Charsets (RFC 2045, section 2.2; RFC 2046, section 4.1.2): the text of bytes under a label.
+-- Cited by `charset` and `nm_extract`.
 use Rattle.std.specs.Prelude.{ℕ, ◌||◌, nat_lt, if◌then◌else◌, List, map, codes}
 use Rattle.std.specs.Str.{encode_utf8_all}
 use Rattle.std.specs.Str.Lossy.{utf8_lossy}

@@ -1,4 +1,4 @@
--- Encoded words in header text (RFC 2047, sections 2 and 6.2).
+-- Encoded words in header text (RFC 2047, sections 2 and 6.2). Cited by `decodes`, `fields`, `nm_mime` and others.
 use Rattle.std.specs.Prelude.{ℕ, zero, suc, Bool, true, false, not, ◌&&◌, ◌||◌, ◌==◌, if◌then◌else◌, ◌+◌, List, [], ◌∷◌, ◌++◌, length, take, drop, map, Option, None, Some}
 use Rattle.std.specs.List.{before_first, flat_map, list_all, slice_split}
 use Rattle.std.specs.Option.{is_some, option_and_then, option_map}

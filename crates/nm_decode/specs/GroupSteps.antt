@@ -1,4 +1,4 @@
--- Base64, symbol by symbol: what the private functions say.
+-- Base64, symbol by symbol: what the private functions say. Cited by `groups`.
 use Rattle.std.specs.Prelude.{ℕ, zero, suc, ◌+◌, ◌*◌, ◌/◌, ◌%◌, List, [], ◌∷◌}
 
 -- the byte that a symbol at a place of its group completes, with the symbol before it

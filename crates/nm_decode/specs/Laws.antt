@@ -1,4 +1,5 @@
 -- What the definitions have to satisfy: encodings read back, texts without words stay, and white space between words goes.
+-- Cited by `laws`.
 use Rattle.std.specs.Prelude.{◌≡◌, ◌≢◌, ℕ, Bool, true, false, ◌&&◌, ◌||◌, ◌==◌, ◌+◌, ◌/◌, ◌%◌, nat_lt, if◌then◌else◌, List, [], ◌∷◌, ◌++◌, Some, codes}
 use Rattle.std.specs.List.{flat_map, list_any}
 use Rattle.base64.specs.Engines.{standard}

@@ -1,4 +1,5 @@
 -- Quoted-printable (RFC 2045, section 6.7), read leniently: a `=` that begins no escape and ends no line stands for itself.
+-- Cited by `quoted` and `nm_extract`.
 use Rattle.std.specs.Prelude.{ℕ, Bool, ◌&&◌, ◌==◌, nat_lt, if◌then◌else◌, ◌-◌, List, [], ◌∷◌, ◌++◌, length, take, slice_index}
 use Rattle.std.specs.List.{flat_map}
 use Rattle.nm_text.specs.Lines.{lines_of}

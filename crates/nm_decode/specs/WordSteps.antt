@@ -1,4 +1,4 @@
--- Encoded words, step by step: what the private functions say.
+-- Encoded words, step by step: what the private functions say. Cited by `fields` and `words`.
 use Rattle.std.specs.Prelude.{◌≡◌, ℕ, zero, suc, ◌+◌, ◌-◌, ◌<◌, ◌≤◌, Bool, true, ◌&&◌, if◌then◌else◌, List, [], ◌∷◌, ◌++◌, length, take, drop, Option, None, Some, slice_index}
 use Rattle.nm_text.specs.WhiteSpace.{is_all_white_space}
 use Rattle.nm_decode.specs.EncodedWords.{first_word}

@@ -1,4 +1,4 @@
-//! Bytes as text by their charset; bodies and encoded words end here.
+//! Bytes as text by their charset: bodies in `nm_extract` and encoded words in `decodes` end here.
 
 ghost use Rattle.std.specs.Prelude.{◌≡◌, take, length, IfOk, ◌<◌, ◌≤◌};
 ghost use Rattle.std.specs.Str.{IsAscii};

@@ -1,4 +1,4 @@
-//! Laws of the definitions that the calls are stated by. The bodies are empty: the contract is the law.
+//! Laws of the definitions that the calls are stated by. No code calls these functions: the contract is the law.
 
 ghost use Rattle.std.specs.Prelude.{◌≡◌, ◌++◌, ◌∷◌, ℕ, Bool, List, false, true};
 ghost use Rattle.base64.specs.Engines.{standard};

@@ -1,4 +1,4 @@
-//! Encoded words in a header's text; subjects, names and filenames are decoded with it.
+//! Encoded words in a header's text: `nm_extract` decodes subjects and names with it, `nm_mime` names of files.
 
 ghost use Rattle.std.specs.Prelude.{◌≡◌, ◌+◌, ◌++◌, IfOk, IfSome, OnOk, string_bytes};
 ghost use Rattle.nm_decode.specs.WordSteps.{IsSpan, gap_text};

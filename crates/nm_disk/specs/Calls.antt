@@ -1,4 +1,4 @@
--- What each call of a disk makes of what is observed of it.
+-- What each call of a disk makes of what is observed of it. Cited by `disk`, `mem_disk`, `nm_journal` and others.
 use Rattle.std.specs.Prelude.{◌≡◌, ◌⊎◌, ℕ, List, [], ◌∷◌, length, Option, None, Some, Result, MatchResult}
 use Rattle.nm_base.specs.Limits.{one_more}
 use Rattle.nm_base.specs.declared.memory.Failed.{Failed}

@@ -1,4 +1,5 @@
 -- What a write and a sync do to the images of a file, as the crates above use it.
+-- For proofs alone, of `nm_journal` and `nm_history`.
 use Rattle.std.proofs.Common.{◌≡◌, ℕ, zero, suc, ◌+◌, ◌<◌, ◌≤◌, min, max, Bool, false, ◌||◌, List, [], ◌∷◌, length, get_or, refl, sym, ap, ◌∙◌, arith, inl, inr, ext_get_or, le_refl, if◌then◌else◌}
 use Rattle.std.proofs.lemmas.Bool.{cases_Bool}
 use Rattle.nm_disk.specs.declared.disk.FileNo.{FileNo}

@@ -1,6 +1,7 @@
 -- What a stop may leave of the three files of a disk. Between two syncs that went well each range that was written, and all
 -- past the old end, may hold any bytes; all other bytes stay. No file becomes shorter than it was at the last such sync,
 -- and none becomes longer than it was then or than the furthest end of a write to it since.
+-- Cited by `disk`, `files`, `nm_journal` and others.
 use Rattle.std.specs.Prelude.{◌≡◌, ℕ, ◌+◌, ◌<◌, ◌≤◌, max, Bool, true, false, ◌&&◌, nat_le, nat_lt, List, [], ◌∷◌, ◌++◌, length, take, drop, slice_index, if◌then◌else◌}
 use Rattle.std.specs.List.{list_any}
 use Rattle.nm_disk.specs.declared.disk.FileNo.{FileNo}

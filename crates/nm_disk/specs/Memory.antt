@@ -1,4 +1,5 @@
 -- A disk in memory: its moments are what its calls, one after the other, made of the files that it began with.
+-- Cited by `event`, `mem_disk`, `state` and others.
 use Rattle.std.specs.Prelude.{◌≡◌, ◌⊎◌, ℕ, ◌+◌, ◌==◌, min, Bool, true, false, ◌&&◌, ◌||◌, nat_lt, List, [], ◌∷◌, ◌++◌, length, take, replicate, fold, Option, None, Some, Result, MatchResult, MatchBool, if◌then◌else◌}
 use Rattle.nm_base.specs.Limits.{max_count, one_more}
 use Rattle.nm_base.specs.declared.memory.Failed.{Failed}

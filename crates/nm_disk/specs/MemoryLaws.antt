@@ -1,4 +1,4 @@
--- What a read of a disk in memory gives is one of the images that a stop may leave.
+-- What a read of a disk in memory gives is one of the images that a stop may leave. Cited by `mem_disk`.
 use Rattle.std.proofs.Common.{◌≡◌, ℕ, ◌+◌, ◌-◌, ◌<◌, ◌≤◌, min, max, Bool, true, false, ◌||◌, ◌&&◌, leb, ltb, List, [], ◌∷◌, ◌++◌, length, take, drop, get_or, fold, replicate, if◌then◌else◌, refl, ap, ◌∙◌, arith, length-append, length-take, length-drop, get_or-take, get_or-drop, le_refl, inl, inr, true≢false}
 use Rattle.std.proofs.lemmas.List.{get_or_append_left, get_or-append_right, length-replicate}
 use Rattle.std.proofs.lemmas.Bool.{cases_lt}

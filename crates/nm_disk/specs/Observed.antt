@@ -1,4 +1,4 @@
--- What is observed of a disk.
+-- What is observed of a disk. Cited by `disk`, `mem_disk`, `nm_journal` and others.
 use Rattle.std.specs.Prelude.{ℕ, List, ◌∷◌, Option, take, drop}
 use Rattle.nm_disk.specs.declared.state.DiskState.{DiskState}
 use Rattle.nm_disk.specs.declared.disk.FileNo.{FileNo}

@@ -1,5 +1,5 @@
-//! What every disk is to the code above: three files that are read and written at places, a sync for all of them,
-//! and a clock of the moments at which it may stop.
+//! What every disk is to the code above: three files that are read and written at places, a sync for all of them, and
+//! a clock of the moments at which it may stop. `nm_journal` calls it.
 
 ghost use Rattle.std.specs.Prelude.{◌≡◌, ◌≤◌, ◌+◌, IfOk, IfSome, OnOk, length, min, take};
 ghost use Rattle.nm_base.specs.Limits.{max_count};

@@ -1,4 +1,4 @@
-//! The disk of the program: the files `head`, `a` and `b` of a folder of the system.
+//! The disk of `notmuch`: the files `head`, `a` and `b` of a folder of the system.
 
 ghost use Rattle.std.specs.Prelude.{◌≤◌, ◌+◌, None, IfOk, OnOk, length};
 ghost use Rattle.nm_base.specs.Limits.{max_count};

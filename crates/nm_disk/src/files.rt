@@ -1,4 +1,4 @@
-//! The bytes of the three files of a disk, for the disk in memory and its images.
+//! The bytes of the three files of a disk, for `mem_disk` and the images of `state`.
 
 ghost use Rattle.std.specs.Prelude.{◌≡◌, ◌≤◌, length, OnOk, OnErr};
 ghost use Rattle.nm_disk.specs.Images.{bytes_of, overwritten, with_bytes};

@@ -1,4 +1,5 @@
-//! A disk in memory, which rows and tests run over. It keeps what each call did, so that it can be stopped within each.
+//! A disk in memory, over which `rows_index` and `rows_session` run. It keeps what each call did, so that it can be
+//! stopped within each.
 
 ghost use Rattle.std.specs.Prelude.{◌≡◌, ◌≤◌, ◌+◌, ◌/◌, ℕ, [], Some, is_err, IfOk, OnOk, OnErr, length, min, replicate, take};
 ghost use Rattle.nm_base.specs.Limits.{max_count};

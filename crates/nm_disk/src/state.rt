@@ -1,4 +1,4 @@
-//! A disk in memory at one moment, from which the images of a stop are told.
+//! A disk in memory at one moment: from it `stopping` tells the images of a stop.
 
 ghost use Rattle.std.specs.Prelude.{◌≡◌, ◌∷◌, IfOk, OnOk, take};
 ghost use Rattle.nm_disk.specs.Calls.{range_of};

@@ -1,4 +1,4 @@
-//! What no contract tells: that a real folder holds what was written, and is held against others.
+//! Tests of what no contract tells: that a real folder holds what was written, and is held against others.
 
 use crate::{Disk, DiskFolder, FileDisk, FileNo};
 use nm_base::Text;

@@ -1,4 +1,4 @@
--- The id that is made of the bytes of a mail is a message id.
+-- The id that is made of the bytes of a mail is a message id. For the proof of `digest_id`.
 use Rattle.std.proofs.Common.{◌≡◌, ℕ, zero, suc, ◌+◌, ◌*◌, ◌≤◌, true, false, ◌&&◌, cond, List, [], ◌∷◌, Ok, length, get_or, ltb, codes, refl, ap, ◌∙◌, arith, length-append}
 use Rattle.std.specs.List.{list_all}
 use Rattle.std.specs.Prelude.{◌/◌, ◌%◌, Err, nat_le}

@@ -1,4 +1,4 @@
--- A text is read up to its first tag, and after that.
+-- A text is read up to its first tag, and after that. For the proofs of `after_tag` and `strip_html_tags`.
 use Rattle.std.proofs.Common.{◌≡◌, ℕ, suc, ◌+◌, ◌<◌, ◌≤◌, true, false, cond, not, List, [], ◌∷◌, ◌++◌, length, take, drop, refl, sym, ap, ◌∙◌, append_assoc, arith}
 use Rattle.std.specs.List.{after_first, before_first, position_or_len}
 use Rattle.nm_text.specs.Cuts.{is_byte}

@@ -1,4 +1,4 @@
--- The laws of links.
+-- The laws of links. For the proofs of `a_mail_links_to_others_once` and `links_stand_in_order_of_first_naming`.
 use Rattle.std.proofs.Common.{◌≡◌, ℕ, Bool, true, false, ◌||◌, cond, List, [], ◌∷◌, ◌++◌, fold, refl, sym, ap, ◌∙◌, append_assoc}
 use Rattle.std.proofs.Math.Bool.{or-false, or_assoc}
 use Rattle.std.proofs.lemmas.Bool.{or_parts, or_right}

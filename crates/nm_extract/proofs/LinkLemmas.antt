@@ -1,4 +1,4 @@
--- The links of a mail: a set of the ids that were seen tells which ids are new.
+-- The links of a mail: a set of the ids that were seen tells which ids are new. For the proof of `links_among`.
 use Rattle.std.proofs.Common.{◌≡◌, ℕ, ◌+◌, ◌<◌, Bool, true, false, ◌||◌, cond, List, [], ◌∷◌, ◌++◌, fold, length, take, get_or, refl, sym, ap, ◌∙◌}
 use Rattle.std.proofs.lemmas.List.Sums.{fold_more}
 use Rattle.nm_base.specs.Order.{has_text, same_text}

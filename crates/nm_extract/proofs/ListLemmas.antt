@@ -1,4 +1,4 @@
--- Two lists, turned and joined and turned again, are the second before the first.
+-- Two lists, turned and joined and turned again, are the second before the first. For the proof of `put_before`.
 use Rattle.std.proofs.Common.{◌≡◌, List, ◌++◌, reverse, ap, ◌∙◌}
 use Rattle.std.proofs.lemmas.List.{reverse-append, reverse-reverse}
 

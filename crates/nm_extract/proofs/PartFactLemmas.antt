@@ -1,4 +1,4 @@
--- What the parts say, one after the other, is what all of them say.
+-- What the parts say, one after the other, is what all of them say. For the proof of `part_facts`.
 use Rattle.std.proofs.Common.{◌≡◌, ℕ, Bool, ◌||◌, List, [], ◌∷◌, ◌++◌, fold, map, sym, ap, ◌∙◌, append_assoc, codes}
 use Rattle.std.proofs.Math.Bool.{or-false, or_assoc}
 use Rattle.std.proofs.lemmas.List.{append-nil}

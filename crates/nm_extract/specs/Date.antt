@@ -1,4 +1,4 @@
--- The date of a mail (RFC 5322, section 3.3), as `jiff` reads it, without comments.
+-- The date of a mail (RFC 5322, section 3.3), as `jiff` reads it, without comments. Cited by `dates`.
 use Rattle.std.specs.Prelude.{ℕ, ℤ, pos, List, Result, Ok, Err, int_div, false, slice_get, codes, Option, Some, None, if◌then◌else◌}
 use Rattle.jiff_core.specs.declared.error.Error.{Error}
 use Rattle.jiff_fmt.specs.Rfc2822.{timestamp}

@@ -1,4 +1,4 @@
--- Which message a mail is, and which others it names (RFC 5322, section 3.6.4).
+-- Which message a mail is, and which others it names (RFC 5322, section 3.6.4). Cited by `ids`.
 use Rattle.std.specs.Prelude.{ℕ, List, [], ◌∷◌, ◌++◌, fold, slice_get, unwrap_or, codes, if◌then◌else◌}
 use Rattle.std.specs.List.{flat_map}
 use Rattle.hex.specs.Hex.{encode_lower}

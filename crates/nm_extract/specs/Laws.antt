@@ -1,4 +1,5 @@
 -- What follows from the definitions: which links there are and in which order, and what is read of HTML.
+-- Cited by `laws`.
 use Rattle.std.specs.Prelude.{◌≡◌, ℕ, false, List, [], ◌∷◌, ◌++◌}
 use Rattle.nm_base.specs.Order.{has_text}
 

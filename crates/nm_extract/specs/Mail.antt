@@ -1,4 +1,4 @@
--- The facts of a mail, from its header and its parts.
+-- The facts of a mail, from its header and its parts. Cited by `mail` and `nm_scan`.
 use Rattle.std.specs.Prelude.{◌≡◌, ℕ, Bool, ◌||◌, List, Option, Some, None, ⊤, codes, if◌then◌else◌}
 use Rattle.nm_base.specs.declared.facts.Facts.{Facts}
 use Rattle.nm_decode.specs.EncodedWords.{words_decoded}

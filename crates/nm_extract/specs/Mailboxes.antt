@@ -1,4 +1,4 @@
--- The mailboxes of a mail (RFC 5322, sections 3.6.2 and 3.6.3), their names decoded.
+-- The mailboxes of a mail (RFC 5322, sections 3.6.2 and 3.6.3), their names decoded. Cited by `mailboxes`.
 use Rattle.std.specs.Prelude.{ℕ, List, ◌++◌, map, codes}
 use Rattle.std.specs.List.{flat_map}
 use Rattle.nm_base.specs.declared.facts.Mailbox.{Mailbox}

@@ -1,4 +1,4 @@
--- What the parts of a mail say.
+-- What the parts of a mail say. Cited by `part_facts`.
 use Rattle.std.specs.Prelude.{ℕ, List, map}
 use Rattle.std.specs.List.{flat_map}
 use Rattle.nm_extract.specs.WordLists.{attachment_list, body_list, marks_of}

@@ -1,4 +1,4 @@
--- What the parts of a mail say, one part after the other: what the private functions say.
+-- What the parts of a mail say, one part after the other: what the private functions say. Cited by `part_facts`.
 use Rattle.std.specs.Prelude.{ℕ, false, ◌||◌, List, [], ◌∷◌, ◌++◌, codes}
 use Rattle.std.specs.Str.{bytes_eq}
 use Rattle.nm_base.specs.declared.facts.Marks.{Marks}

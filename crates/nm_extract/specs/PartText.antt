@@ -1,4 +1,5 @@
 -- The text of a readable part: its content decoded, and of HTML what stands outside the tags.
+-- Cited by `body_text`, `mail`, `nm_render` and others.
 use Rattle.std.specs.Prelude.{ℕ, Bool, true, false, List, map, filter, codes, if◌then◌else◌}
 use Rattle.std.specs.Str.{bytes_eq}
 use Rattle.nm_decode.specs.Base64.{base64_of}

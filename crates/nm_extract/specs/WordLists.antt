@@ -1,4 +1,5 @@
 -- The words of a mail, a list for each text: the mailboxes, the subject, the names of attached files, the bodies.
+-- Cited by `part_facts` and `word_lists`.
 use Rattle.std.specs.Prelude.{ℕ, Bool, List, [], ◌∷◌, ◌++◌, Option, Some, None, codes, if◌then◌else◌}
 use Rattle.std.specs.List.{flat_map, list_any}
 use Rattle.std.specs.Str.{bytes_eq}

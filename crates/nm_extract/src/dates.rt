@@ -1,4 +1,4 @@
-//! The date of a mail, for its facts.
+//! The date of a mail, for `extract`.
 
 ghost use Rattle.std.specs.Prelude.{◌≡◌, IfOk};
 ghost use Rattle.nm_base.specs.Limits.{IsDate};

@@ -1,4 +1,4 @@
-//! HTML without its tags, for the text of a part.
+//! HTML without its tags, for `body_text`, the text of a part.
 
 ghost use Rattle.std.specs.Prelude.{◌≡◌, ◌≤◌, false, true, IfOk, length};
 ghost use Rattle.nm_extract.specs.Html.{strip_from, strip_html_tags};

@@ -1,4 +1,4 @@
-//! The id of a mail and its links, for its facts.
+//! The id of a mail and its links, for `extract`.
 
 ghost use Rattle.std.specs.Prelude.{◌≡◌, ◌++◌, IfOk, OnOk};
 ghost use Rattle.nm_extract.specs.Ids.{digest_id, field_ids, links_among, named_ids, own_id};

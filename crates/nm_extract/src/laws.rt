@@ -1,4 +1,4 @@
-//! What follows from the definitions. These functions run no code: their clauses are the laws.
+//! What follows from the definitions. No code calls these functions: their clauses are the laws.
 ghost use Rattle.std.specs.Prelude.{◌≡◌, ◌++◌, ◌∷◌, ℕ, List, [], true, false};
 ghost use Rattle.std.specs.List.{list_any};
 ghost use Rattle.nm_base.specs.Order.{has_text, same_text};

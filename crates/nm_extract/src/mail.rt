@@ -1,4 +1,5 @@
-//! The facts of a mail; `new` calls it for each file that it reads.
+//! The facts of a mail: `nm_scan` calls `extract` for each file that `new` reads, and `nm_render` asks for the bodies
+//! to show.
 
 ghost use Rattle.std.specs.Prelude.{◌≡◌, Some, IfErr, IfOk};
 ghost use Rattle.nm_base.specs.Limits.{IsDate};

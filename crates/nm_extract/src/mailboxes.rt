@@ -1,4 +1,4 @@
-//! The mailboxes of a mail with their names decoded, for its facts and lists.
+//! The mailboxes of a mail with their names decoded, for its facts in `mail` and for `word_lists`.
 
 ghost use Rattle.std.specs.Prelude.{◌≡◌, ◌++◌, IfOk, OnOk};
 ghost use Rattle.std.specs.List.{flat_map};

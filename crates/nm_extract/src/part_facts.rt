@@ -1,4 +1,4 @@
-//! What the parts of a mail say, taken one by one, for its facts.
+//! What the parts of a mail say, taken one by one, for `extract`.
 
 ghost use Rattle.std.specs.Prelude.{◌≡◌, ◌++◌, [], IfOk, OnOk, false, length};
 ghost use Rattle.nm_extract.specs.PartFacts.{facts_of_parts};

@@ -1,4 +1,4 @@
-//! The lists of words of a mail, for its facts.
+//! The lists of words of a mail, for its facts: `extract` calls it for the header, `part_facts` for the parts.
 
 ghost use Rattle.std.specs.Prelude.{◌≡◌, ◌++◌, ◌∷◌, [], IfOk};
 ghost use Rattle.nm_extract.specs.WordLists.{list_of, mailbox_list, word_lists};

@@ -1,4 +1,5 @@
 -- The calls of an object in memory, which fails at listed ones. Calls are counted from 1.
+-- Cited by `calls`, `nm_io`, `nm_maildir` and others.
 use Rattle.std.specs.Prelude.{ℕ, Bool, ◌==◌, List, if◌then◌else◌}
 use Rattle.std.specs.List.{list_any}
 use Rattle.nm_base.specs.Limits.{one_more}

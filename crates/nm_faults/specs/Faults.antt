@@ -1,4 +1,5 @@
 -- Faults of the outside: each object counts its own, in a number below 2 ^ 64 that never falls.
+-- Cited by `calls`, `faults`, `nm_maildir` and others.
 use Rattle.std.specs.Prelude.{◌≡◌, ℕ, ◌<◌, ◌≤◌, Bool, true, false, Result, MatchResult}
 use Rattle.nm_base.specs.Limits.{max_count}
 use Rattle.nm_base.specs.declared.memory.Failed.{Failed}

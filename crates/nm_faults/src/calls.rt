@@ -1,4 +1,4 @@
-//! The listed calls at which an object in memory fails; sources, sinks and trees in memory have it.
+//! The listed calls at which an object in memory fails: `MemSource`, `MemSink`, `StillTree` and `MemDisk` have it.
 
 ghost use Rattle.std.specs.Prelude.{◌≡◌};
 ghost use Rattle.std.specs.Bool.{OnFalse, OnTrue};

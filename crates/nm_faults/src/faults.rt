@@ -1,4 +1,4 @@
-//! A count of faults; every object of the outside has one.
+//! A count of faults: every sink, source, mail folder and disk has one, of `nm_io`, `nm_maildir` and `nm_disk`.
 
 ghost use Rattle.std.specs.Prelude.{◌≡◌};
 ghost use Rattle.nm_base.specs.Limits.{one_more};

@@ -1,4 +1,5 @@
 -- A body has no LF: a line has none before its end, and nothing else goes into a body.
+-- For the proof of `a_body_has_no_line_feed`.
 use Rattle.std.proofs.Common.{◌≡◌, ℕ, zero, suc, ◌+◌, ◌-◌, Bool, true, false, cond, not, ◌&&◌, ◌||◌, ◌==◌, List, [], ◌∷◌, ◌++◌, length, take, drop, get_or, map, refl, sym, ap, ◌∙◌, arith}
 use Rattle.std.proofs.lemmas.Bool.{or_parts}
 use Rattle.std.specs.List.{after_first, concat, list_all, list_any, onto_first, position_or_len, prefix_len, suffix_len, take_while}

@@ -1,4 +1,5 @@
 -- The `)` that matches is the one behind which, counted from the left, no comment is open.
+-- For the proof of `comment_len`.
 use Rattle.std.proofs.Common.{◌≡◌, ℕ, ◌+◌, ◌-◌, ◌<◌, Bool, true, false, cond, ◌==◌, List, [], ◌∷◌, Option, Some, None, length, map, refl, sym, ap, ◌∙◌, arith, eq-eqb, length-append}
 use Rattle.std.specs.Prelude.{find, count_by, unwrap_or}
 use Rattle.std.specs.List.{concat}

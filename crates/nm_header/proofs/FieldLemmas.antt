@@ -1,4 +1,4 @@
--- A field's name is ASCII, and so text.
+-- A field's name is ASCII, and so text. For the proof of `name_text`.
 use Rattle.std.proofs.Common.{◌≡◌, ℕ, ◌≤◌, true, ◌&&◌, not, List, [], ◌∷◌, length, map, leb, arith, ◌==◌}
 use Rattle.std.specs.Prelude.{IsUtf8, is_some, position}
 use Rattle.std.specs.Char.{to_ascii_lowercase}

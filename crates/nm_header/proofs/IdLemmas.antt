@@ -1,4 +1,4 @@
--- What was found with what is left to find is all.
+-- What was found with what is left to find is all. For the proofs of `add_id`, `ids` and `enclosed`.
 use Rattle.std.proofs.Common.{◌≡◌, ℕ, ◌+◌, ◌-◌, ◌<◌, true, false, cond, List, [], ◌∷◌, ◌++◌, Some, None, length, take, drop, refl, sym, ap, ◌∙◌, arith, append_assoc}
 use Rattle.std.specs.Prelude.{position}
 use Rattle.std.specs.List.{slice_split, after_first, count_by}

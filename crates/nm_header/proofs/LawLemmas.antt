@@ -1,4 +1,5 @@
 -- The laws, by induction over the id_texts, the lines and the ids.
+-- For the proofs of `a_mail_is_its_header_and_its_body` and `written_ids_are_read`.
 use Rattle.std.proofs.Common.{◌≡◌, ℕ, ◌+◌, Bool, true, false, cond, not, ◌||◌, ◌==◌, List, [], ◌∷◌, ◌++◌, length, take, drop, refl, sym, ap, ◌∙◌, append_assoc}
 use Rattle.std.proofs.lemmas.Bool.{and_parts, or_parts}
 use Rattle.std.specs.List.{concat, list_all, list_any, onto_first, slice_split, take_while}

@@ -1,4 +1,4 @@
--- The turns of the two loops that make a name.
+-- The turns of the two loops that make a name. For the proof of `spaced`.
 use Rattle.std.proofs.Common.{◌≡◌, ℕ, ◌+◌, ◌-◌, ◌<◌, true, List, [], ◌∷◌, ◌++◌, Some, None, take, drop, filter, refl, sym, ap, ◌∙◌, arith, append_assoc}
 use Rattle.std.specs.Prelude.{position}
 use Rattle.std.specs.List.{join_with_byte, slice_split}

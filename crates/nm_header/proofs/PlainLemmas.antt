@@ -1,4 +1,5 @@
 -- A turn of the loop over the lexemes: what is shown so far, and what is left, is all, and is text.
+-- For the proof of `plain`.
 use Rattle.std.proofs.Common.{◌≡◌, ℕ, zero, suc, ◌<◌, true, false, cond, ◌==◌, List, [], ◌∷◌, ◌++◌, length, take, drop, refl, sym, ap, subst, ◌∙◌, arith, lit<, append_assoc}
 use Rattle.std.specs.Prelude.{IsUtf8}
 use Rattle.std.specs.List.{flat_map}

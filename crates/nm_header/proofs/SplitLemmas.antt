@@ -1,4 +1,5 @@
 -- The first id_text of a text that is cut at certain characters, and what is left behind it.
+-- For the proofs of `spaced`, `add_id`, `ids` and others.
 use Rattle.std.proofs.Common.{◌≡◌, ℕ, ◌+◌, ◌<◌, ◌≤◌, Bool, true, false, cond, not, List, [], ◌∷◌, Some, None, length, take, drop, ltb, refl, ap, arith}
 use Rattle.std.specs.Prelude.{position, IsUtf8}
 use Rattle.std.specs.Str.{IsCharBoundary}

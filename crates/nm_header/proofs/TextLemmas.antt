@@ -1,4 +1,5 @@
 -- The first text of a name is that of its first field, whether all fields of the name count or one.
+-- For the proof of `first_text`.
 use Rattle.std.proofs.Common.{◌≡◌, ℕ, true, false, cond, List, [], ◌∷◌, Option, Some, None, map, filter, refl, ap, ◌∙◌}
 use Rattle.std.specs.Prelude.{find, slice_get, unwrap_or}
 use Rattle.std.specs.Option.{option_map, option_to_list}

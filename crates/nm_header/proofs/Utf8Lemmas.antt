@@ -1,4 +1,4 @@
--- What stands before and after an ASCII character of a text is text.
+-- What stands before and after an ASCII character of a text is text. For `CommentLemmas` and `PlainLemmas`.
 use Rattle.std.proofs.Common.{◌≡◌, ℕ, ◌+◌, ◌<◌, List, ◌∷◌, ◌++◌, length, take, drop, get_or, refl, sym, ap, subst, ◌∙◌, arith, length-append}
 use Rattle.std.specs.Prelude.{IsUtf8}
 use Rattle.std.proofs.lemmas.List.{take_at, drop_at, drop-drop, get_or_at}

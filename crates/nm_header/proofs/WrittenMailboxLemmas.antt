@@ -1,4 +1,5 @@
 -- Mailboxes that are written are read again: without comments they stay, then lexeme by lexeme and part by part.
+-- For the proof of `written_mailboxes_are_read`.
 use Rattle.std.proofs.Common.{◌≡◌, ℕ, ◌+◌, ◌<◌, Bool, true, false, cond, not, ◌||◌, ◌&&◌, ◌==◌, List, [], ◌∷◌, ◌++◌, length, map, filter, take, drop, refl, sym, ap, ◌∙◌, arith, append_assoc, length-append}
 use Rattle.std.specs.List.{before_first, concat, flat_map, join_with_byte, list_all, list_any, onto_first, position_or_len, slice_split}
 use Rattle.std.proofs.lemmas.Bool.{and_parts}

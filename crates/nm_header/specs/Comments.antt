@@ -1,4 +1,5 @@
 -- Comments (RFC 5322, section 3.2.2) between quoted strings and quoted pairs.
+-- Cited by `comments`, `plain_text` and `nm_extract`.
 use Rattle.std.specs.Prelude.{ℕ, ◌+◌, ◌-◌, Bool, false, ◌==◌, List, [], ◌∷◌, length, map, find, count_by, unwrap_or, if◌then◌else◌}
 use Rattle.std.specs.List.{concat, flat_map}
 use Rattle.nm_text.specs.Cuts.{cut}

@@ -1,4 +1,5 @@
 -- The lines of a header (RFC 5322, section 2.1): those before the first empty one.
+-- Cited by `header` and `header_lines`.
 use Rattle.std.specs.Prelude.{◌≡◌, ℕ, ◌+◌, ◌<◌, ◌≤◌, Bool, ◌==◌, not, List, ◌∷◌, length, take, drop}
 use Rattle.std.specs.List.{take_while}
 use Rattle.nm_text.specs.Cuts.{len_through}

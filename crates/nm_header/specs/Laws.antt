@@ -1,4 +1,5 @@
 -- What follows from the definitions: no byte of a header is lost or read twice, and ids and fields that are written are read.
+-- Cited by `laws`.
 use Rattle.std.specs.Prelude.{ℕ, Bool, ◌||◌, ◌==◌, not, List, [], ◌∷◌, ◌++◌, length, take, drop}
 use Rattle.std.specs.List.{concat, flat_map, list_any}
 use Rattle.nm_header.specs.HeaderLines.{header_lines, rest_of}

@@ -1,4 +1,5 @@
 -- Mailboxes in a field's text (RFC 5322, section 3.4): names and addresses, without comments.
+-- Cited by `display_name`, `mailbox_lexemes`, `nm_extract` and others.
 use Rattle.std.specs.Prelude.{◌≡◌, ℕ, ◌+◌, ◌<◌, ◌≤◌, Bool, false, true, ◌==◌, List, [], ◌∷◌, ◌++◌, length, filter, take, drop, if◌then◌else◌}
 use Rattle.std.specs.List.{before_first, concat, flat_map, join_with_byte, list_any, position_or_len, slice_split}
 use Rattle.nm_base.specs.Bounds.{is_white_space}

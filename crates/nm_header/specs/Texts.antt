@@ -1,4 +1,5 @@
 -- Which fields of a name count (RFC 5322, section 3.6), and the text in them.
+-- Cited by `texts`, `nm_mime` and `nm_extract`.
 use Rattle.std.specs.Prelude.{ℕ, Bool, ◌||◌, List, [], map, filter, find, slice_get, unwrap_or, codes, if◌then◌else◌}
 use Rattle.std.specs.List.{list_any}
 use Rattle.std.specs.Option.{option_map, option_to_list}

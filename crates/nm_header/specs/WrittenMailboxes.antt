@@ -1,4 +1,5 @@
 -- Mailboxes as they are written (RFC 5322, section 3.4): a name, in quotes or as it stands, and an address in `<..>`.
+-- Cited by `laws`.
 use Rattle.std.specs.Prelude.{ℕ, Bool, true, ◌&&◌, ◌||◌, ◌==◌, not, List, [], ◌∷◌, ◌++◌, if◌then◌else◌}
 use Rattle.std.specs.List.{flat_map, list_all, list_any, slice_split}
 use Rattle.nm_base.specs.Bounds.{is_white_space}

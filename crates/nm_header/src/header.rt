@@ -1,4 +1,4 @@
-//! The fields of a header, and where the body begins; the mail and each of its parts are read with it.
+//! The fields of a header, and where the body begins: `nm_mime` reads the mail and each of its parts with it.
 
 ghost use Rattle.std.specs.Prelude.{◌≡◌, ◌+◌, ◌<◌, ◌≤◌, ◌∷◌, ◌++◌, length, map, take, true, IfOk, OnOk};
 ghost use Rattle.std.specs.Char.{to_ascii_lowercase};

@@ -1,4 +1,4 @@
-//! What follows from the definitions. These functions do nothing: their clauses are the laws.
+//! What follows from the definitions. No code calls these functions: their clauses are the laws.
 ghost use Rattle.std.specs.Prelude.{◌≡◌, [], ◌∷◌, ◌++◌, List, ℕ, false, map, true};
 ghost use Rattle.std.specs.Char.{to_ascii_lowercase};
 ghost use Rattle.std.specs.List.{concat, list_all, list_any};

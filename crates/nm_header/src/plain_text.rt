@@ -1,4 +1,4 @@
-//! A text without its comments, for mailboxes and dates.
+//! A text without its comments, for mailboxes in `mailbox_list` and for dates in `nm_extract`.
 
 ghost use Rattle.std.specs.Prelude.{◌≡◌, ◌++◌, IfOk, OnOk};
 ghost use Rattle.nm_header.specs.Comments.{is_comment, plain_of, shown};

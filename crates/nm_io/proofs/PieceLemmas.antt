@@ -1,4 +1,4 @@
--- Pieces of a list, taken from its front one after the other.
+-- Pieces of a list, taken from its front one after the other. For the proof of `MemSource::take`.
 use Rattle.std.proofs.Common.{◌≡◌, ℕ, ◌+◌, ◌<◌, List, [], ◌++◌, min, length, take, drop, sym, ap, ◌∙◌, arith, take-append-drop}
 use Rattle.std.proofs.lemmas.List.{drop_all, drop-drop}
 

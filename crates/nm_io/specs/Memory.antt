@@ -1,4 +1,4 @@
--- Sources and sinks in memory, which fail at listed calls.
+-- Sources and sinks in memory, which fail at listed calls. Cited by `mem_sink` and `mem_source`.
 use Rattle.std.specs.Prelude.{ℕ, ◌+◌, min, List, Some}
 use Rattle.nm_base.specs.Limits.{max_count}
 use Rattle.nm_faults.specs.Calls.{CallCounts}

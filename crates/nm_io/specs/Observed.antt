@@ -1,4 +1,5 @@
 -- What is observed of a source or a sink at a moment, and what a call makes of it.
+-- Cited by `mem_sink`, `mem_source`, `nm_log` and others.
 use Rattle.std.specs.Prelude.{ℕ, List, Option, Result, MatchResult, take}
 use Rattle.std.specs.Io.{ReadsAtMost}
 use Rattle.std.specs.Io.KnownBytes.{Appends, Keeps, ReadConsumes}

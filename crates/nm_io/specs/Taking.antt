@@ -1,4 +1,4 @@
--- Reading a source to its end: which of its errors is a fault of the source.
+-- Reading a source to its end: which of its errors is a fault of the source. Cited by `taking`.
 use Rattle.std.specs.Prelude.{ℕ, Bool, true, false, Result}
 use Rattle.nm_faults.specs.Faults.{HasCauseOf}
 use Rattle.nm_io.specs.declared.taking.TakeError.{TakeError}

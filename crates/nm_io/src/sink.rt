@@ -1,4 +1,4 @@
-//! What every output is to the code above: bytes go in, failures are counted.
+//! What every output is to the code above: bytes go in, failures are counted. `nm_log` prints into one.
 
 ghost use Rattle.nm_io.specs.Observed.{Flushes, ObservedStream, Puts};
 

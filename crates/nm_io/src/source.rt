@@ -1,4 +1,4 @@
-//! What every input is to the code above: bytes come out, failures are counted.
+//! What every input is to the code above: bytes come out, failures are counted. `taking` reads one to its end.
 
 ghost use Rattle.nm_io.specs.Observed.{ObservedStream, Takes};
 

@@ -1,4 +1,4 @@
-//! What no contract tells: how the adapters use a real file, and a stream that is interrupted or fails.
+//! Tests of what no contract tells: how the adapters use a real file, and a stream that is interrupted or fails.
 
 use crate::{Sink, Source, StdSink, StdSource, TakeError, take_all};
 use nm_base::{Failed, Many};

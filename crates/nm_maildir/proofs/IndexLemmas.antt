@@ -1,4 +1,5 @@
 -- A map from paths to places, as files are added and moved.
+-- For the proofs of `place`, `MemoryFiles::move_file`, `MemoryFiles::rename` and others.
 use Rattle.std.proofs.Common.{◌≡◌, ℕ, ◌+◌, ◌<◌, List, Bool, true, cond, Option, Some, None, length, get_or, set, take, refl, sym, ap, subst, ◌∙◌, arith}
 use Rattle.std.specs.Prelude.{IfSome, is_some}
 use Rattle.std.specs.Option.{option_map}

@@ -1,4 +1,4 @@
--- The names in each folder, one path after another.
+-- The names in each folder, one path after another. For the proofs of `add_path` and `take_names`.
 use Rattle.std.proofs.Common.{◌≡◌, ◌∙◌, ℕ, List, [], ◌∷◌, ◌++◌, Bool, true, false, cond, Option, None, Some, refl, sym, ap}
 use Rattle.std.specs.Prelude.{map, filter, fold}
 use Rattle.std.specs.Cmp.Lexicographic.{bytes_decides, slice_cmp, texts_ties}

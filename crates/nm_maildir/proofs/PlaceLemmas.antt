@@ -1,4 +1,5 @@
 -- Where a file stands among files with distinct paths, and after one of them took another path.
+-- For the proofs of `MemoryFiles::move_file` and `places_of`.
 use Rattle.std.proofs.Common.{◌≡◌, ℕ, suc, zero, ◌+◌, ◌<◌, List, [], ◌∷◌, ◌++◌, Bool, true, false, cond, Option, Some, None, length, get_or, set, take, refl, sym, ap, subst, ◌∙◌, ◌⊎◌, inl, inr, arith}
 use Rattle.std.specs.Prelude.{◌&&◌, not, map, IfSome, is_some}
 use Rattle.std.specs.List.{list_any}

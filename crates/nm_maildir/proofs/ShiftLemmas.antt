@@ -1,4 +1,4 @@
--- Trees that are kept with the next one last.
+-- Trees that are kept with the next one last. For the proof of `ShiftTree::new`.
 use Rattle.std.proofs.Common.{◌≡◌, List, [], ◌∷◌, ◌++◌, reverse, sym, ap, ◌∙◌}
 use Rattle.std.proofs.lemmas.List.{reverse-append, reverse-reverse}
 use Rattle.nm_maildir.specs.Shift.{trees_of}

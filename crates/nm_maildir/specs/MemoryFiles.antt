@@ -1,4 +1,4 @@
--- The tree that is held in memory, and the places of its files.
+-- The tree that is held in memory, and the places of its files. Cited by `memory_files`.
 use Rattle.std.specs.Prelude.{◌≡◌, ℕ, suc, ◌<◌, List, [], ◌∷◌, length, slice_index_or, Option, None, Some, if◌then◌else◌}
 use Rattle.std.specs.Option.{option_map}
 use Rattle.std.specs.Cmp.Lexicographic.{slice_cmp}

@@ -1,4 +1,4 @@
--- The names in each folder, gathered one path at a time.
+-- The names in each folder, gathered one path at a time. Cited by `memory_files` and `names`.
 use Rattle.std.specs.Prelude.{◌≡◌, ℕ, List, [], Option, None, Some, if◌then◌else◌}
 use Rattle.std.specs.Cmp.Lexicographic.{slice_cmp}
 use Rattle.std.specs.Ordering.{nat_cmp}

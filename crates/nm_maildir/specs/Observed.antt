@@ -1,4 +1,5 @@
 -- What is observed of a mail folder at a moment, and what each call makes of it.
+-- Cited by `folder_mail`, `maildir`, `nm_scan` and others.
 use Rattle.std.specs.Prelude.{◌≡◌, ℕ, Bool, true, false, List, [], ◌∷◌, ◌++◌, Option, Result, Ok, Err}
 use Rattle.std.specs.Option.{option_map}
 use Rattle.nm_base.specs.declared.memory.Failed as memory

@@ -1,4 +1,4 @@
--- Names in byte order, without repeats.
+-- Names in byte order, without repeats. Cited by `folder_io`, `folder_mail`, `maildir` and others.
 use Rattle.nm_base.specs.Order.{IsSorted}
 use Rattle.nm_maildir.specs.declared.answers.Listing.{Listing}
 

@@ -1,4 +1,4 @@
--- Trees of mail that follow one another: each call finds the next of them.
+-- Trees of mail that follow one another: each call finds the next of them. Cited by `shift_tree`.
 use Rattle.std.specs.Prelude.{◌≡◌, ℕ, List, [], ◌∷◌, map, None}
 use Rattle.nm_maildir.specs.Observed.{ObservedMail}
 use Rattle.nm_maildir.specs.Still.{Still}

@@ -1,4 +1,4 @@
--- A tree of mail in memory, which fails at listed calls.
+-- A tree of mail in memory, which fails at listed calls. Cited by `memory_files`, `names`, `nm_drill` and others.
 use Rattle.std.specs.Prelude.{◌≡◌, ℕ, Bool, true, false, Result, Ok, Err, Some, ◌&&◌, not, List, [], ◌∷◌, map}
 use Rattle.nm_faults.specs.Calls.{CallCounts, counted, is_next_listed}
 use Rattle.nm_maildir.specs.Observed.{ObservedMail}

@@ -1,4 +1,5 @@
 -- A tree of mail: folders, and files with their bytes, each by its path below the root (maildir(5)).
+-- Cited by `maildir`, `memory_files`, `nm_scan` and others.
 use Rattle.std.specs.Prelude.{ℕ, Bool, ◌||◌, ◌==◌, List, [], ◌∷◌, length, map, filter, Option, None, Some, is_some, nat_lt, if◌then◌else◌}
 use Rattle.std.specs.List.{before_last, after_last}
 use Rattle.nm_base.specs.Order.{has_text, same_text, sorted}

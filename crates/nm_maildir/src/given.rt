@@ -1,4 +1,5 @@
-//! What a mail folder answered, as the log notes it.
+//! What a mail folder answered, as the log notes it: `nm_scan` and `nm_writer` note each call so, and `nm_log` has
+//! the list.
 
 use crate::Renamed;
 use nm_base::{Copies, MailPath, Many, NoMemory};

@@ -1,4 +1,5 @@
 //! What every mail folder is to the code above: it is opened, lists, reads, renames, and counts its failures.
+//! `nm_scan` and `nm_writer` call it.
 
 ghost use Rattle.std.specs.Prelude.{◌≡◌, IfOk, IfSome};
 ghost use Rattle.nm_maildir.specs.Observed.{KeepsMail, ObservedMail, OpensMail, after_read, after_rename};

@@ -1,4 +1,4 @@
-//! The names in one folder, from the paths of a tree; listings in memory call it.
+//! The names in one folder, from the paths of a tree: `memory_files` and `folder_io` make listings with it.
 
 ghost use Rattle.std.specs.Prelude.{◌≡◌, ◌==◌, ◌-◌, not, length, IfOk, OnOk};
 ghost use Rattle.std.specs.List.{suffix_len};

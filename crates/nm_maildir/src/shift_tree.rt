@@ -1,5 +1,5 @@
-//! Trees of mail in memory that follow one another, as where another program changes the folder between two calls; rows run
-//! over it.
+//! Trees of mail in memory that follow one another, as where another program changes the folder between two calls,
+//! for `rows_session`.
 
 ghost use Rattle.std.specs.Prelude.{◌≡◌, ◌<◌, ◌∷◌, length, IfOk};
 ghost use Rattle.nm_faults.specs.Faults.{Counts};

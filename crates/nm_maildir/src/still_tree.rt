@@ -1,4 +1,4 @@
-//! A tree of mail in memory, which tells what it holds; rows and tests run over it.
+//! A tree of mail in memory, which tells what it holds, for `rows_session` and the drills of `nm_drill`.
 
 ghost use Rattle.std.specs.Prelude.{◌≡◌, is_err, is_some, IfOk, IfSome, IsTrue};
 ghost use Rattle.nm_faults.specs.Calls.{counted, is_next_listed};

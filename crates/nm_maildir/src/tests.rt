@@ -1,4 +1,4 @@
-//! What no contract tells: that a real folder is read as it is.
+//! Tests of what no contract tells: that a real folder is read as it is.
 
 use crate::folder_io::read_up_to;
 use crate::{FolderMail, Got, Listing, MailError, MailFolder, Maildir, Renamed};

@@ -1,4 +1,4 @@
--- The first lexeme of a text that is cut, and what is left after it.
+-- The first lexeme of a text that is cut, and what is left after it. For `QuotedLemmas`.
 use Rattle.std.proofs.Common.{◌≡◌, ℕ, zero, suc, ◌-◌, ◌≤◌, List, [], ◌∷◌, length, take, drop, refl, ap, arith, length-drop}
 use Rattle.nm_text.specs.Cuts.{cut, cut_upto}
 

@@ -1,4 +1,5 @@
 -- The laws, by induction over the levels, the entities and the lines.
+-- For the proofs of `a_part_stands_before_those_in_it`, `parts_in_a_part_stand_apart` and `parts`.
 use Rattle.std.proofs.Common.{◌≡◌, ℕ, zero, suc, ◌+◌, ◌-◌, ◌≤◌, Bool, true, false, cond, ◌||◌, List, [], ◌∷◌, ◌++◌, length, refl, arith, length-append}
 use Rattle.std.specs.List.{All, concat, flat_map}
 use Rattle.std.proofs.lemmas.List.Elements.{All-append, All-cons, All-nil}

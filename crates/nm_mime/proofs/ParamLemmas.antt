@@ -1,4 +1,5 @@
 -- Parameters: what was found with what is left to find is all.
+-- For the proofs of `add_param`, `name_len` and `params`.
 use Rattle.std.proofs.Common.{◌≡◌, ℕ, zero, suc, ◌+◌, ◌-◌, ◌<◌, ◌≤◌, Bool, true, false, cond, not, ◌==◌, List, [], ◌∷◌, ◌++◌, length, drop, ltb, refl, sym, ap, ◌∙◌, arith, append_assoc, length-drop, Some, None}
 use Rattle.std.specs.Prelude.{position}
 use Rattle.std.proofs.lemmas.List.Sums.{prefix_len-le-length}

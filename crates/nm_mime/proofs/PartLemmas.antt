@@ -1,4 +1,5 @@
 -- One part: what its fields say, and where it stands.
+-- For the proofs of `open_part`, `opening_from` and `read_opening`.
 use Rattle.std.proofs.Common.{◌≡◌, ℕ, ◌+◌, ◌-◌, ◌≤◌, Bool, true, false, cond, List, [], ◌∷◌, ◌++◌, Option, length, drop, refl, ap, subst, ◌∙◌, arith, length-drop, length-append, codes}
 use Rattle.std.specs.List.{concat}
 use Rattle.std.proofs.lemmas.List.{length-take-le}

@@ -1,4 +1,5 @@
 -- The mail itself as a part, and the parts that come after it.
+-- For the proofs of `PartReader::next`, `PartReader::open`, `open_whole` and others.
 use Rattle.std.proofs.Common.{◌≡◌, ℕ, ◌+◌, ◌-◌, ◌≤◌, List, [], ◌∷◌, ◌++◌, length, take, reverse, sym, ap, subst, ◌∙◌, arith}
 use Rattle.std.proofs.lemmas.List.{append-nil, take_all}
 use Rattle.nm_header.specs.Fields.{header_of}

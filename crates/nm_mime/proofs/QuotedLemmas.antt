@@ -1,4 +1,4 @@
--- How far a quoted string goes, and what it says, by its first byte.
+-- How far a quoted string goes, and what it says, by its first byte. For `Utf8Lemmas` and `WrittenLemmas`.
 use Rattle.std.proofs.Common.{◌≡◌, ℕ, ◌+◌, cond, false, ◌==◌, List, [], ◌∷◌, ◌++◌, take, drop, ap, ◌∙◌}
 use Rattle.std.specs.List.{flat_map}
 use Rattle.nm_text.specs.Cuts.{len_through}

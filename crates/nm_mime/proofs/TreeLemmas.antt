@@ -1,4 +1,5 @@
 -- The tree of parts: a part, and those that are still to be read after it, are all.
+-- For the proofs of `PartReader::next` and `next_in`.
 use Rattle.std.proofs.Common.{◌≡◌, ℕ, suc, ◌+◌, ◌-◌, ◌<◌, ◌≤◌, Bool, true, false, cond, not, ◌&&◌, ◌||◌, ◌==◌, List, [], ◌∷◌, ◌++◌, length, take, drop, reverse, ltb, refl, sym, ap, subst, ◌∙◌, arith, length-append, length-take, min, codes}
 use Rattle.std.specs.List.{concat, flat_map}
 use Rattle.std.proofs.lemmas.List.{drop-drop, drop-take, reverse-append}

@@ -1,4 +1,4 @@
--- The characters of a type are ASCII, and so text.
+-- The characters of a type are ASCII, and so text. For the proof of `read`.
 use Rattle.std.proofs.Common.{◌≡◌, ℕ, suc, ◌+◌, ◌≤◌, Bool, true, false, cond, not, ◌&&◌, ◌||◌, ◌==◌, List, [], ◌∷◌, map, take, refl, sym, ap, subst, ◌∙◌, leb, arith}
 use Rattle.std.specs.Prelude.{IsUtf8}
 use Rattle.std.specs.Char.{to_ascii_lowercase}

@@ -1,4 +1,5 @@
 -- The pieces of a text are text: it is cut at ASCII signs, and only ASCII signs are taken out or changed.
+-- For the proofs of `add_named`, `add_param`, `named_value` and others.
 use Rattle.std.proofs.Common.{◌≡◌, ℕ, zero, suc, ◌+◌, ◌-◌, ◌<◌, ◌≤◌, Bool, true, false, cond, not, ◌==◌, List, [], ◌∷◌, ◌++◌, length, take, drop, get_or, reverse, ltb, refl, sym, ap, subst, ◌∙◌, arith, append_assoc, length-append}
 use Rattle.std.specs.Prelude.{IsUtf8}
 use Rattle.std.specs.List.{after_first, before_first, position_or_len, prefix_len, suffix_len}

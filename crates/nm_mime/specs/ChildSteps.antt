@@ -1,4 +1,4 @@
--- Where the reader stands after a part.
+-- Where the reader stands after a part. Cited by `children`.
 use Rattle.std.specs.Prelude.{ℕ, ◌<◌, ◌≤◌}
 use Rattle.nm_mime.specs.declared.children.NextSpan.{NextSpan}
 

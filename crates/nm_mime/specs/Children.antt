@@ -1,4 +1,5 @@
 -- The parts in the content of a multipart (RFC 2046, section 5.1.1): what stands between its delimiter lines.
+-- Cited by `children`.
 use Rattle.std.specs.Prelude.{ℕ, ◌+◌, ◌-◌, Bool, false, ◌&&◌, ◌||◌, List, [], ◌∷◌, ◌++◌, length, drop, nat_eq, codes, if◌then◌else◌}
 use Rattle.std.specs.List.{concat, starts_with}
 use Rattle.nm_text.specs.WhiteSpace.{is_all_white_space}

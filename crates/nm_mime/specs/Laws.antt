@@ -1,4 +1,5 @@
 -- What follows from the definitions: how the parts stand in the bytes, and how they follow each other.
+-- Cited by `laws`.
 use Rattle.std.specs.Prelude.{◌≡◌, ℕ, ◌+◌, ◌≤◌, Bool, ◌&&◌, ◌||◌, ◌==◌, not, List, [], ◌∷◌, ◌++◌, length, map, drop, if◌then◌else◌}
 use Rattle.std.specs.Char.{to_ascii_lowercase}
 use Rattle.std.specs.List.{before_first, concat, list_all, list_any, slice_split}

@@ -1,4 +1,4 @@
--- Reading the parts of a mail one by one: which are still to come.
+-- Reading the parts of a mail one by one: which are still to come. Cited by `part_reader`.
 use Rattle.std.specs.Prelude.{ℕ, ◌-◌, List, length, reverse}
 use Rattle.std.specs.List.{flat_map}
 use Rattle.nm_mime.specs.Parts.{parts_upto}

@@ -1,4 +1,5 @@
 -- The tree of parts (RFC 2046, section 5): each part stands before those in it.
+-- Cited by `part_reader`, `pending`, `nm_extract` and others.
 use Rattle.std.specs.Prelude.{ℕ, zero, suc, ◌+◌, ◌-◌, ◌≤◌, Bool, true, false, ◌&&◌, ◌==◌, List, [], ◌∷◌, length, take, drop, codes, if◌then◌else◌}
 use Rattle.std.specs.List.{flat_map}
 use Rattle.std.specs.Str.{bytes_eq}

@@ -1,4 +1,5 @@
 -- What is still to be read in the parts that are opened, and the entities that this stands for.
+-- Cited by `part_reader` and `pending`.
 use Rattle.std.specs.Prelude.{ℕ, ◌<◌, ◌≤◌, List, [], ◌∷◌, ◌++◌, if◌then◌else◌}
 use Rattle.nm_mime.specs.Children.{delimiters_of, spans_of}
 use Rattle.nm_mime.specs.Parts.{IsWithin, bytes_in, entities_from, entity_in, is_opened}

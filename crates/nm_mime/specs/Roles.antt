@@ -1,4 +1,5 @@
 -- How a part is encoded, whether it is attached, and what becomes of it: the first of eight rules that fits.
+-- Cited by `roles`.
 use Rattle.std.specs.Prelude.{ℕ, Bool, true, false, ◌&&◌, ◌||◌, ◌==◌, not, List, Option, None, Some, nat_le, nat_lt, nat_eq, codes, if◌then◌else◌}
 use Rattle.std.specs.List.{before_first, list_any, starts_with}
 use Rattle.std.specs.Option.{option_map}

@@ -1,4 +1,4 @@
--- Content types (RFC 2045, sections 5.1 and 5.2).
+-- Content types (RFC 2045, sections 5.1 and 5.2). Cited by `types`.
 use Rattle.std.specs.Prelude.{ℕ, ◌+◌, Bool, ◌&&◌, ◌||◌, ◌==◌, not, List, [], ◌∷◌, Option, None, Some, length, map, nat_le, nat_lt, unwrap_or, codes, if◌then◌else◌}
 use Rattle.std.specs.Char.{to_ascii_lowercase}
 use Rattle.std.specs.List.{before_first, position_or_len}

@@ -1,4 +1,4 @@
-//! What stands between the delimiters of a multipart; the reader of parts asks for one part after the other.
+//! What stands between the delimiters of a multipart: `pending` asks for one part after the other.
 
 ghost use Rattle.std.specs.Prelude.{◌≡◌, ◌∷◌, ◌<◌, ◌≤◌, [], ℕ, IfOk, IfSome, MatchOption, drop, length, true};
 ghost use Rattle.nm_text.specs.Lines.{lines_of};

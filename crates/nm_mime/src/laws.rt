@@ -1,4 +1,4 @@
-//! What follows from the definitions of the tree. These functions run no code: their clauses are the laws.
+//! What follows from the definitions of the tree. No code calls these functions: their clauses are the laws.
 
 ghost use Rattle.std.specs.Prelude.{◌≡◌, List, ℕ, ◌∷◌, length, suc, true};
 ghost use Rattle.std.specs.List.{flat_map, list_all};

@@ -1,4 +1,4 @@
-//! The parameters of a header field, for content types and dispositions.
+//! The parameters of a header field, for content types in `types` and dispositions in `roles`.
 
 ghost use Rattle.std.specs.Prelude.{◌≡◌, ◌++◌, ◌<◌, ◌≤◌, IfOk, IsUtf8, OnOk, drop, find, length, map, position, string_bytes};
 ghost use Rattle.std.specs.Char.{to_ascii_lowercase};

@@ -1,4 +1,4 @@
-//! The parts of a mail one by one, for callers that need no list of them.
+//! The parts of a mail one by one: `nm_extract` needs no list of them, and `tree` makes one.
 
 ghost use Rattle.std.specs.Prelude.{◌≡◌, ◌∷◌, ◌++◌, [], IfOk, IfSome, MatchOption, OnOk, length, reverse};
 ghost use Rattle.nm_header.specs.Fields.{header_of};

@@ -1,4 +1,4 @@
-//! The header of a part read: what kind of part it is; `parts` opens each part so.
+//! The header of a part read: what kind of part it is. `part_reader` opens each part so.
 
 ghost use Rattle.std.specs.Prelude.{◌≡◌, ◌+◌, ◌≤◌, IfOk, length};
 ghost use Rattle.nm_mime.specs.Parts.{IsWithin, opening_from, opening_in, opening_of};

@@ -1,4 +1,5 @@
 -- Look-ups by hash, and what a change of a slot does to them.
+-- For the proofs of `HashedMap::get`, `HashedMap::insert`, `HashedMap::remove` and others.
 use Rattle.std.proofs.Common.{◌≡◌, ◌≢◌, refl, sym, ap, subst, ◌∙◌, cond, ℕ, ◌+◌, ◌<◌, ◌≤◌, Bool, true, false, List, [], ◌∷◌, ◌++◌, arith, inl, inr, ◌⊎◌}
 use Rattle.std.specs.Prelude.{Option, Some, None}
 use Rattle.std.specs.declared.cmp.Ordering.{Ordering}

@@ -1,4 +1,4 @@
--- What a change of one run does to a map.
+-- What a change of one run does to a map. For the proofs of `cut_run`, `join_run`, `SharedMap::get` and others.
 use Rattle.std.proofs.Common.{◌≡◌, ◌≢◌, refl, sym, ap, subst, ◌∙◌, ℕ, ◌+◌, ◌-◌, ◌<◌, ◌≤◌, suc, zero, Bool, true, false, List, [], ◌∷◌, ◌++◌, length, take, drop, get_or, set, arith, append_assoc, length-append, length-drop, add-one, lit<, inl, inr, ◌⊎◌, not}
 use Rattle.std.proofs.lemmas.List.Edits.{length-insert, length-remove, get_or-insert_below, get_or-insert_at, get_or-insert_above, get_or-remove_below, get_or-remove_above}
 use Rattle.std.proofs.Math.ListN.{length-set}

@@ -1,4 +1,5 @@
 -- Two maps read as one: what comes first, and what is found.
+-- For the proofs of `Merge::take_first`, `Places::settle` and `merged`.
 use Rattle.std.proofs.Common.{◌≡◌, refl, sym, ap, subst, ◌∙◌, cond, ℕ, List, [], ◌∷◌, ◌++◌, drop, Bor}
 use Rattle.std.specs.declared.cmp.Ordering.{Ordering}
 use Rattle.std.specs.declared.cmp.Ordering.TheVariants.{Less, Equal, Greater}

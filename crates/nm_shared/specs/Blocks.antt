@@ -1,4 +1,4 @@
--- The blocks of a list: all full, but for the last one.
+-- The blocks of a list: all full, but for the last one. Cited by `shared_list`.
 use Rattle.std.specs.Prelude.{◌≡◌, ℕ, ◌+◌, ◌<◌, ◌≤◌, List, length}
 use Rattle.nm_shared.specs.Runs.{flat, run_at}
 

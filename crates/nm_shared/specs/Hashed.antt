@@ -1,4 +1,5 @@
 -- A map whose keys are found by their hashes. A hash leads to a slot; pairs whose hash leads to another key's slot are crowded.
+-- Cited by `hashed_map` and `places`.
 use Rattle.std.specs.Prelude.{◌≡◌, ℕ, ◌<◌, List, Option, Some, None, if◌then◌else◌}
 use Rattle.std.specs.declared.cmp.Ordering.{Ordering}
 use Rattle.std.specs.BTreeMap.{is_at}

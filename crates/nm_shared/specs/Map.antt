@@ -1,4 +1,4 @@
--- What holds of the runs of a map.
+-- What holds of the runs of a map. Cited by `shared_map`.
 use Rattle.std.specs.Prelude.{◌≡◌, ℕ, List, length}
 use Rattle.std.specs.declared.cmp.Ordering.{Ordering}
 use Rattle.std.specs.List.Sorted.{IsStrictlySortedBy}

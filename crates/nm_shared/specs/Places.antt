@@ -1,4 +1,4 @@
--- Pairs of numbers, of which some came later than the others.
+-- Pairs of numbers, of which some came later than the others. Cited by `merge` and `places`.
 use Rattle.std.specs.Prelude.{ℕ, List, [], ◌∷◌}
 use Rattle.std.specs.BTreeMap.{insert_entry}
 use Rattle.std.specs.Ordering.{nat_cmp}

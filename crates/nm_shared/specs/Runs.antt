@@ -1,4 +1,4 @@
--- Runs: the items of a list or of a map, cut into blocks.
+-- Runs: the items of a list or of a map, cut into blocks. Cited by `items`, `room`, `runs` and others.
 use Rattle.std.specs.Prelude.{ℕ, ◌<◌, List, [], length, slice_index_or}
 use Rattle.std.specs.List.{flat_map}
 

@@ -1,4 +1,5 @@
 -- What a binary search among runs, or in a run, finds: a place with the key on the right side of both neighbours.
+-- Cited by `search`.
 use Rattle.std.specs.Prelude.{◌≡◌, ◌≢◌, ℕ, ◌-◌, ◌<◌, ◌≤◌, List, length, slice_index_or}
 use Rattle.std.specs.declared.cmp.Ordering.{Ordering}
 use Rattle.std.specs.declared.cmp.Ordering.TheVariants.{Less, Greater}

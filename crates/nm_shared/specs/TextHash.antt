@@ -1,4 +1,5 @@
 -- The hash of a text: of FNV-1a the prime, by which what is so far is multiplied before a byte is added.
+-- Cited by `text_hash`.
 use Rattle.std.specs.Prelude.{◌≡◌, ℕ, ◌+◌, ◌*◌, ◌^◌, ◌%◌, List, fold, true}
 use Rattle.std.proofs.Common.{sym, ◌∙◌}
 use Rattle.std.specs.Cmp.Lexicographic.{slice_cmp}

@@ -1,4 +1,5 @@
-//! Proofs that what is shared may go to other threads and be read by several at once. No code runs; snapshots rest on it.
+//! Proofs that what is shared may go to other threads and be read by several at once. No code calls them; snapshots
+//! rest on them.
 
 use crate::{Hashed, HashedMap, Shared, SharedList, SharedMap};
 

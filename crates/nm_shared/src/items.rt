@@ -1,4 +1,4 @@
-//! Reading a shared map in order.
+//! Reading a shared map in order, for `merge` and for the readers of snapshots in `nm_state` and `nm_threads`.
 
 ghost use Rattle.std.specs.Prelude.{◌≡◌, ◌++◌, length, slice_get};
 ghost use Rattle.std.specs.Iterator.{at_most};

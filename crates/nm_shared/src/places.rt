@@ -1,4 +1,4 @@
-//! Where hashes lead, for maps by hashes. Hashes fall anywhere, so pairs in small runs would all be copied one by one.
+//! Where hashes lead, for `hashed_map`. Hashes fall anywhere, so pairs in small runs would all be copied one by one.
 
 ghost use Rattle.std.specs.Prelude.{◌≡◌, [], ℕ, IfOk, OnOk, OnErr, Some, if◌then◌else◌};
 ghost use Rattle.std.specs.Ordering.{is_eq, nat_cmp};

@@ -1,4 +1,4 @@
-//! Room for a pair in the run that it goes into, for maps.
+//! Room for a pair in the run that it goes into, for `insert` of `shared_map`.
 
 ghost use Rattle.std.specs.Prelude.{◌≡◌};
 ghost use Rattle.std.specs.List.Sorted.{IsStrictlySortedBy};

@@ -1,4 +1,5 @@
-//! A block of items that is copied where it is changed while another handle has it; a map is made of these.
+//! A block of items that is copied where it is changed while another handle has it: `runs`, and so maps and lists,
+//! are made of these.
 
 ghost use Rattle.std.specs.Prelude.{◌≡◌, ◌+◌, ◌≤◌, ◌<◌, [], ◌∷◌, ◌++◌, take, drop, length, slice_set, slice_index_or, IfOk, OnOk, OnErr};
 ghost use Rattle.std.specs.List.{insert, remove};

@@ -1,4 +1,4 @@
-//! Where a key stands among blocks of pairs, for maps.
+//! Where a key stands among blocks of pairs: `shared_map` asks it for each look-up, and `room` for a new pair.
 
 ghost use Rattle.std.specs.Prelude.{◌≡◌, ◌≢◌, ◌-◌, ◌<◌, ℕ, true, false, length, slice_index_or};
 ghost use Rattle.std.specs.declared.cmp.Ordering.TheVariants.{Equal, Less};

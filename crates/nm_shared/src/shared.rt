@@ -1,4 +1,5 @@
-//! A value that several handles hold; each block of items is one.
+//! A value that several handles hold: each block of `runs` is one, and so is each message of a snapshot of
+//! `nm_state`.
 
 ghost use Rattle.std.specs.Prelude.{◌≡◌, IfOk};
 

@@ -1,4 +1,5 @@
-//! A list that snapshots share: it grows at its end, and an item may take another's place.
+//! A list that snapshots share: it grows at its end, and an item may take another's place. `across` alone names it:
+//! no other crate has one.
 
 ghost use Rattle.std.specs.Prelude.{◌≡◌, ◌==◌, ◌<◌, [], ◌∷◌, ◌++◌, length, slice_get, slice_set, IfOk, OnOk, OnErr};
 ghost use Rattle.std.specs.Option.{option_copied};

@@ -1,4 +1,5 @@
-//! An ordered map that snapshots share.
+//! An ordered map that snapshots share: `hashed_map` rests on it, and `nm_threads` and `nm_state` keep threads and
+//! messages in it.
 
 ghost use Rattle.std.specs.Prelude.{◌≡◌, ◌==◌, ◌-◌, [], length, slice_get, IfOk, OnOk, OnErr, Some, None, if◌then◌else◌};
 ghost use Rattle.std.specs.BTreeMap.{insert_entry, is_at};

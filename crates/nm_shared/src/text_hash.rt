@@ -1,4 +1,4 @@
-//! The hashes of texts, by which a map finds them.
+//! The hashes of texts, by which `hashed_map` finds them.
 
 ghost use Rattle.std.specs.Prelude.{◌≡◌};
 ghost use Rattle.nm_shared.specs.TextHash.{next_hash, text_from, text_hash};

@@ -1,4 +1,5 @@
 -- The first lexeme of a text that is cut, what is left after it, and that nothing is lost.
+-- For the proof of `nothing_is_cut_away`.
 use Rattle.std.proofs.Common.{◌≡◌, ℕ, zero, suc, ◌-◌, ◌≤◌, List, [], ◌∷◌, ◌++◌, length, take, drop, refl, ap, ◌∙◌, arith, length-drop}
 use Rattle.std.specs.List.{concat}
 use Rattle.std.proofs.lemmas.List.{take-append-drop}

@@ -1,4 +1,4 @@
--- Names without ASCII case.
+-- Names without ASCII case. Cited by `case`, `nm_decode`, `nm_mime` and others.
 use Rattle.std.specs.Prelude.{ℕ, Bool, List, map}
 use Rattle.std.specs.Char.{to_ascii_lowercase}
 use Rattle.std.specs.Str.{bytes_eq}

@@ -1,4 +1,5 @@
 -- Lines (RFC 5322, section 2.1): up to LF, and a CR right before it belongs to the line end.
+-- Cited by `lines`, `nm_header`, `nm_mime` and others.
 use Rattle.std.specs.Prelude.{ℕ, ◌-◌, Bool, ◌==◌, List, [], ◌∷◌, length, take, slice_index, if◌then◌else◌}
 use Rattle.std.specs.List.{onto_first}
 use Rattle.std.specs.Str.Lines.{strip_carriage_return}

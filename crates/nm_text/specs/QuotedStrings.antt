@@ -1,5 +1,6 @@
 -- Quoted pairs and quoted strings (RFC 5322, sections 3.2.1 and 3.2.4; RFC 2045, section 5.1).
 -- A pair is taken with the first byte of its character alone: the others of it are no specials.
+-- Cited by `quoted_strings`, `nm_header` and `nm_mime`.
 use Rattle.std.specs.Prelude.{ℕ, Bool, false, ◌==◌, List, [], ◌∷◌, if◌then◌else◌}
 use Rattle.std.specs.List.{flat_map}
 use Rattle.nm_text.specs.Cuts.{cut, len_through}

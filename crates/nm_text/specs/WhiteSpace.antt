@@ -1,4 +1,5 @@
 -- White space, which is space, tab, CR and LF: tests, and texts without it.
+-- Cited by `white_space`, `nm_header`, `nm_decode` and others.
 use Rattle.std.specs.Prelude.{ℕ, Bool, ◌||◌, ◌==◌, ◌-◌, not, List, length, take, drop, filter}
 use Rattle.std.specs.List.{list_all, prefix_len, suffix_len}
 use Rattle.nm_base.specs.Bounds.{is_white_space}

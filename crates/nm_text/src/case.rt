@@ -1,4 +1,4 @@
-//! ASCII case: names of fields, types and encodings are compared without it.
+//! ASCII case: `nm_header`, `nm_mime` and `nm_decode` compare names of fields, types and encodings without it.
 
 ghost use Rattle.std.specs.Prelude.{◌≡◌, IfOk, IsUtf8, map};
 ghost use Rattle.std.specs.Char.{to_ascii_lowercase};

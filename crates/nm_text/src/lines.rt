@@ -1,4 +1,5 @@
-//! Lines, their ends and their content; headers, bodies and scripts are cut with it.
+//! Lines, their ends and their content: `nm_header` and `nm_mime` cut mails with it, `nm_log` and `nm_dump` scripts
+//! and dumps.
 
 ghost use Rattle.std.specs.Prelude.{◌≡◌, [], ◌∷◌, ◌++◌, ◌<◌, ◌≤◌, length, take, drop, IfSome, MatchOption};
 ghost use Rattle.std.specs.Str.Lines.{lines, strip_carriage_return};

@@ -1,4 +1,4 @@
-//! Quoted pairs and quoted strings; mailboxes and parameters are read with them.
+//! Quoted pairs and quoted strings: `nm_header` reads mailboxes with them, `nm_mime` parameters.
 
 ghost use Rattle.std.specs.Prelude.{◌≡◌, ◌∷◌, ◌<◌, ◌≤◌, IfOk, IsUtf8, length, take, drop};
 ghost use Rattle.nm_text.specs.QuotedStrings.{is_special, pairs_of, quoted_len, unquoted, unquoted_pair};

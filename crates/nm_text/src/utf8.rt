@@ -1,4 +1,4 @@
-//! Bytes as text, where they are UTF-8; every reader that makes texts ends here.
+//! Bytes as text, where they are UTF-8: `nm_header`, `nm_decode` and `nm_mime` make their texts with it.
 
 ghost use Rattle.std.specs.Prelude.{◌≡◌, IfOk, IsUtf8};
 

@@ -1,4 +1,5 @@
 -- The words of a text (UAX 29), cut further at ASCII characters, and folded (Unicode, section 3.13).
+-- Cited by `pieces`, `text`, `nm_extract` and others.
 use Rattle.std.specs.Prelude.{ℕ, Bool, ◌&&◌, ◌||◌, ◌==◌, not, List, filter, map, nat_lt, chars, encode_utf8_all}
 use Rattle.std.specs.Char.{is_ascii_alphanumeric}
 use Rattle.std.specs.List.{flat_map, slice_split}

@@ -1,4 +1,5 @@
 -- What the report says of the rows: a line for each, and how many went right, went wrong, or could not be read.
+-- Cited by `report` and `table`.
 use Rattle.std.specs.Prelude.{ℕ, ◌≡◌, ◌<◌, ◌+◌, List, ◌++◌, codes}
 use Rattle.std.specs.Fmt.{decimal}
 use Rattle.nm_base.specs.Limits.{max_count, one_more}

@@ -1,4 +1,5 @@
 -- What a table has: paragraphs, parted by empty lines; a line that begins with `#` is a comment, also inside a paragraph.
+-- Cited by `paragraph` and `table`.
 use Rattle.std.specs.Prelude.{ℕ, ◌+◌, Bool, ◌==◌, ◌&&◌, ◌||◌, not, false, List, [], ◌∷◌, if◌then◌else◌}
 use Rattle.std.specs.List.{slice_split}
 

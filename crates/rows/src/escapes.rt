@@ -1,4 +1,5 @@
-//! Bytes that are written in a line of a table: `\n`, `\xNN`, `\{200:a}` and their like.
+//! Bytes that are written in a line of a table, as `\n`, `\xNN`, `\{200:a}`: `row` reads them, and `report` writes
+//! them.
 
 use crate::RowError;
 use std::alloc::{AllocError, Global};

@@ -1,4 +1,4 @@
-//! A table is paragraphs, parted by empty lines. Lines that begin with `#` are comments.
+//! A table is paragraphs, parted by empty lines. Lines that begin with `#` are comments. `run_table` cuts a table so.
 
 ghost use Rattle.std.specs.Prelude.{◌≡◌, ◌==◌, ◌+◌, ◌∷◌, [], length, map, IfOk, OnOk};
 ghost use Rattle.std.specs.List.{slice_split};

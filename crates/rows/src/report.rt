@@ -1,4 +1,4 @@
-//! What is said of the rows: a line each, and at the end how many there are; the run of a table makes it.
+//! What is said of the rows: a line each, and at the end how many there are. `run_table` makes it.
 
 ghost use Rattle.std.specs.Prelude.{◌≡◌, ℕ, List, [], ◌++◌, IfErr, IfOk, OnOk, codes};
 ghost use Rattle.std.specs.Fmt.{decimal};

@@ -1,4 +1,5 @@
-//! A row is a paragraph of a table: a head, and marked lines.
+//! A row is a paragraph of a table: a head, and marked lines. `run_table` reads it, and programs as `rows_mail` ask
+//! it for its words.
 
 use crate::{Lines, Paragraph, RowError, unescaped};
 use std::alloc::{AllocError, Global};

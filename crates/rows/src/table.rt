@@ -1,4 +1,4 @@
-//! A table is run row by row; a program that runs rows says what comes of each.
+//! A table is run row by row: the program of `rows_mail`, and each like it, says what comes of each.
 
 ghost use Rattle.std.specs.Prelude.{◌≡◌, IfOk, OnOk};
 ghost use Rattle.rows.specs.Report.{Reported, TellsOneMore, told, whole};

@@ -1,4 +1,5 @@
 -- A type may reach itself through `Many`: as a former `Many` is the list, taken through its vector's items.
+-- Rattle finds it by its place, for `many`.
 use mathlib.Core.Path.{◌≡◌, refl, sym}
 use mathlib.Core.List.{List, []}
 use mathlib.Core.Former.{Former, children, list, this, via}
