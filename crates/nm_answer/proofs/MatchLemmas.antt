@@ -1,4 +1,5 @@
 -- What is among the matches, and what excludes a message.
+-- For the proofs of `a_tag_excludes_unless_it_is_named` and `the_matches_are_the_live_messages_that_pass`.
 use Rattle.std.proofs.Common.{◌≡◌, ◌↔◌, sym, ap, subst, ◌∙◌, ℕ, ℤ, Bool, true, not, ◌&&◌, List, [], ◌∷◌, map, ◌++◌, true≢false, inl, inr}
 use Rattle.std.specs.Prelude.{IsTrue}
 use Rattle.std.specs.List.{AllByRecursion, IsDistinct}

@@ -1,4 +1,5 @@
 -- What parts of lists, and lists of items once, keep.
+-- For the proofs of `an_offset_and_a_limit_cut_a_part` and `each_thread_is_told_once`.
 use Rattle.std.proofs.Common.{◌≡◌, ◌-◌, ℕ, Bool, true, false, ◌||◌, List, [], ◌∷◌, ◌++◌, length, take, drop, fold, nat_eq, if◌then◌else◌, Option, Some, None, refl, sym, ap, append-nil, ◌∙◌, arith}
 use Rattle.std.specs.Prelude.{min}
 use Rattle.std.specs.List.{AllByRecursion, IsDistinct, list_any}

@@ -1,4 +1,5 @@
 -- What a tree says, by what its queries say.
+-- For the proofs of `a_tree_names_the_tags_of_its_queries` and `a_tree_passes_as_its_queries_do`.
 use Rattle.std.proofs.Common.{◌≡◌, refl, sym, ap, ◌∙◌, ℕ, ℤ, Bool, not, ◌&&◌, ◌||◌, List, [], ◌∷◌, map}
 use Rattle.std.specs.List.{list_all, list_any}
 use Rattle.nm_base.specs.Order.{same_text}

@@ -1,4 +1,4 @@
--- Words at the front of a list, and from some place on.
+-- Words at the front of a list, and from some place on. For the proof of `words_stand_one_after_the_other`.
 use Rattle.std.proofs.Common.{◌≡◌, refl, sym, ap, ap₂, ◌∙◌, ℕ, Bool, true, false, ◌&&◌, List, [], ◌∷◌, ◌++◌, append_assoc, drop, length, ◌↔◌, true≢false, inl, inr}
 use Rattle.std.proofs.lemmas.Bool.{and_from, and_parts, or_cases, or_left, or_right}
 use Rattle.std.proofs.lemmas.Slice.Eq.{bytes_eq-Decides, starts_is}

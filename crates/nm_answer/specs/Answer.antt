@@ -1,4 +1,5 @@
 -- The plain answer to a request, and which texts a reply may have.
+-- Cited by `nm_core`, `nm_machine`, `nm_history` and others.
 use Rattle.std.specs.Prelude.{ℕ, ℤ, Bool, true, false, ◌&&◌, ◌||◌, not, List, [], is_ok}
 use Rattle.nm_base.specs.Order.{same_text}
 use Rattle.nm_index.specs.declared.base.Base.{Base}

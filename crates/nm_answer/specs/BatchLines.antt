@@ -1,5 +1,6 @@
 -- The lines of an input: queries that are counted one by one, or changes of tags with the queries that they are for. The first line
 -- that is neither passed over nor read is told by its number, counted from 1.
+-- Cited by `nm_batch`, `nm_top` and `nm_history`.
 use Rattle.std.specs.Prelude.{ℕ, ◌+◌, Bool, List, [], ◌∷◌, Option, None, Some, Result, Ok, Err, if◌then◌else◌}
 use Rattle.std.specs.Str.{is_utf8}
 use Rattle.std.specs.Str.Lines.{lines}

@@ -1,4 +1,5 @@
 -- Lines of a dump in the form of tag changes: `+tag -tag -- id:ID`, the id as it is or in double quotes.
+-- Cited by `nm_dump`.
 use Rattle.std.specs.Prelude.{ℕ, ◌==◌, ◌&&◌, List, [], ◌∷◌, drop, nat_eq, Option, Some, None, Result, Ok, Err, codes, if◌then◌else◌}
 use Rattle.std.specs.List.{starts_with}
 use Rattle.std.specs.Str.{is_utf8}

@@ -1,5 +1,6 @@
 -- What a request that sets tags asks for, and its plain answer: the lines on ids that no message has, and then those on the files that
 -- keep their names.
+-- Cited by `nm_plan`, `nm_history` and `nm_session`.
 use Rattle.std.specs.Prelude.{ℕ, ℤ, List, [], ◌++◌}
 use Rattle.nm_index.specs.declared.base.Base.{Base}
 use Rattle.nm_maildir.specs.declared.given.Given.{Given}

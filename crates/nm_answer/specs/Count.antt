@@ -1,4 +1,5 @@
 -- The plain answer to a count: how many messages a query finds, how many threads they are of, or how many files they have.
+-- Cited by `nm_render` and `nm_core`.
 use Rattle.std.specs.Prelude.{ℕ, ℤ, List, [], ◌∷◌, ◌++◌, length, fold, Ok, Err, if◌then◌else◌}
 use Rattle.std.specs.BTreeSet.{insert_key}
 use Rattle.std.specs.Fmt.{decimal}

@@ -1,6 +1,7 @@
 -- The plain answer to a dump: a line for each message that its query finds, in byte order of the ids.
 --   form of tag changes:  "#notmuch-dump batch-tag:3 tags" LF, then for each message ("+" tag " ")* "-- id:" id LF
 --   form of sup:          for each message id " (" tag (" " tag)* ")" LF, the tags as they are
+-- Cited by `nm_core` and `nm_dump`.
 use Rattle.std.specs.Prelude.{ℕ, ℤ, Bool, false, ◌==◌, ◌||◌, List, [], ◌∷◌, ◌++◌, map, nat_eq, codes, Ok, Err, if◌then◌else◌}
 use Rattle.std.specs.List.{flat_map, join_with_byte, list_any, starts_with}
 use Rattle.nm_base.specs.Order.{sorted}

@@ -1,4 +1,4 @@
--- The lines of a dump, what they ask for, and the first that is none.
+-- The lines of a dump, what they ask for, and the first that is none. Cited by `nm_dump`, `nm_top` and `nm_history`.
 use Rattle.std.specs.Prelude.{◌≡◌, ℕ, ◌+◌, Bool, true, ◌==◌, ◌||◌, not, List, [], ◌∷◌, nat_eq, Option, Some, None, Result, Ok, Err, codes, if◌then◌else◌}
 use Rattle.std.specs.List.{starts_with}
 use Rattle.std.specs.Str.{is_utf8}

@@ -1,4 +1,4 @@
--- JSON as replies have it (RFC 8259): no space, and the shortest escapes.
+-- JSON as replies have it (RFC 8259): no space, and the shortest escapes. Cited by `nm_render`.
 use Rattle.std.specs.Prelude.{ℕ, ◌/◌, ◌%◌, ◌==◌, ◌||◌, nat_lt, List, [], ◌∷◌, ◌++◌, codes, if◌then◌else◌}
 use Rattle.std.specs.Char.{digit_char}
 use Rattle.std.specs.List.{flat_map}

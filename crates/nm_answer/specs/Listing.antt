@@ -1,4 +1,5 @@
 -- Lists as a search prints them: in the order of a rank, each item once, and the part that an offset and a limit leave.
+-- Cited by `search_laws` and `nm_render`.
 use Rattle.std.specs.Prelude.{ℕ, ℤ, Bool, int_lt, List, [], ◌∷◌, ◌++◌, take, drop, fold, Option, Some, None, if◌then◌else◌}
 use Rattle.std.specs.List.{list_any}
 

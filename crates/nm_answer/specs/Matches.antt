@@ -1,4 +1,5 @@
 -- Which messages a query finds, and which tags keep a message out unless the query names them.
+-- Cited by `laws`, `nm_eval`, `nm_render` and others.
 use Rattle.std.specs.Prelude.{ℕ, ℤ, Bool, false, ◌&&◌, not, List, [], ◌∷◌, codes, Contains, IsTrue}
 use Rattle.std.specs.List.{filter, list_any}
 use Rattle.nm_base.specs.Order.{same_text}

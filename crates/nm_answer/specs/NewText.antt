@@ -1,4 +1,5 @@
 -- What `new` says: how many files and messages came and went, and which files were passed over.
+-- Cited by `nm_writer`, `nm_log`, `nm_session` and others.
 use Rattle.std.specs.Prelude.{ℕ, ◌+◌, Bool, ◌==◌, not, List, [], ◌∷◌, ◌++◌, length, filter, map, codes, if◌then◌else◌}
 use Rattle.std.specs.List.{flat_map}
 use Rattle.std.specs.Fmt.{decimal}

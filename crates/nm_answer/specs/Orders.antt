@@ -1,4 +1,4 @@
--- What orders and parts of lists are, told by what they keep.
+-- What orders and parts of lists are, told by what they keep. Cited by `search_laws`.
 use Rattle.std.specs.Prelude.{◌≡◌, ℕ, ℤ, Bool, false, ◌&&◌, int_lt, not, ◌-◌, List, [], ◌∷◌, ◌++◌, length, filter, min, Option, Some, None}
 use Rattle.std.specs.List.{AllByRecursion}
 

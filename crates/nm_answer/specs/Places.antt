@@ -1,4 +1,4 @@
--- Where the files of a message lie, and which types their parts have.
+-- Where the files of a message lie, and which types their parts have. Cited by `nm_eval`.
 use Rattle.std.specs.Prelude.{ℕ, Bool, ◌&&◌, ◌||◌, not, List, [], ◌∷◌, ◌++◌, length, drop, codes, nat_eq, nat_lt, if◌then◌else◌}
 use Rattle.std.specs.List.{after_first, before_first, list_any, position_or_len, starts_with}
 use Rattle.nm_base.specs.declared.facts.Facts.{Facts}

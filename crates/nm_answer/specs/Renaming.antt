@@ -1,5 +1,6 @@
 -- The files whose names follow their tags: which renames are tried, what becomes of each, and the reply to a command that sets tags.
 --   reply := ("not renamed: " ("missing" | "exists" | "long") " " PATH LF)*
+-- Cited by `nm_writer`, `nm_log`, `nm_session` and others.
 use Rattle.std.specs.Prelude.{ℕ, not, List, [], ◌∷◌, ◌++◌, filter, Option, None, Some, codes, if◌then◌else◌}
 use Rattle.std.specs.Cmp.Lexicographic.{pointwise}
 use Rattle.std.specs.List.{flat_map}

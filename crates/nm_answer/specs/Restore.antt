@@ -1,4 +1,5 @@
 -- What a `restore` asks for, and the ids of its input that no message has.
+-- Cited by `nm_dump`, `nm_log` and `nm_session`.
 use Rattle.std.specs.Prelude.{ℕ, Bool, ◌&&◌, not, List, [], ◌∷◌, ◌++◌, map, codes, Ok, Err, if◌then◌else◌}
 use Rattle.std.specs.List.{flat_map}
 use Rattle.nm_base.specs.Order.{has_text}

@@ -1,4 +1,4 @@
--- Words that stand in a list one behind the other, told by what stands before and after them.
+-- Words that stand in a list one behind the other, told by what stands before and after them. Cited by `laws`.
 use Rattle.std.specs.Prelude.{◌≡◌, ℕ, List, ◌∷◌, ◌++◌}
 
 -- the list is what stands before, the words, and what stands after

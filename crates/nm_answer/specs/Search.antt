@@ -1,5 +1,6 @@
 -- The plain answer to a search: in their order the threads, messages, files or tags of what a query finds, as lines or as
 -- a JSON array.
+-- Cited by `nm_render`.
 use Rattle.std.specs.Prelude.{ℕ, ℤ, pos, ◌-ℤ◌, Bool, List, [], ◌∷◌, ◌++◌, map, nat_eq, codes, if◌then◌else◌}
 use Rattle.std.specs.List.{filter_map, flat_map}
 use Rattle.hex.specs.Hex.{encode_lower}

@@ -3,6 +3,7 @@
 --   for each message:  "message id:" ID LF, for each file "file " PATH LF, "from " MAILBOX (", " MAILBOX)* LF, "subject " SUBJECT LF,
 --                      "date " YYYY-MM-DD LF, "tags " TAG (" " TAG)* LF, LF, the body, "end" LF
 --   body:              each text, and LF where it does not end so; or "missing" LF; or "too long" LF
+-- Cited by `nm_render`, `nm_session` and `nm_history`.
 use Rattle.std.specs.Prelude.{ℕ, ℤ, Bool, true, ◌&&◌, ◌==◌, not, List, [], ◌∷◌, ◌++◌, length, map, nat_eq, codes, Option, None, Some, Ok, Err, if◌then◌else◌}
 use Rattle.std.specs.List.{ends_with, flat_map}
 use Rattle.nm_base.specs.declared.asks.ShowAsk.{ShowAsk}

@@ -1,4 +1,5 @@
 -- What a search tells of a thread: its first message that matches, how many there are, who wrote them, and their tags.
+-- Cited by `nm_render`.
 use Rattle.std.specs.Prelude.{ℕ, zero, suc, ℤ, pos, Bool, ◌||◌, ◌==◌, not, nat_lt, int_lt, List, [], ◌∷◌, ◌++◌, length, filter, map, take, drop, codes, Some, if◌then◌else◌}
 use Rattle.std.specs.Fmt.{decimal}
 use Rattle.std.specs.List.{flat_map}

@@ -1,4 +1,5 @@
 -- The summaries of a search as JSON: an array with an object for each thread, its members by their names.
+-- Cited by `nm_render`.
 use Rattle.std.specs.Prelude.{ℕ, List, [], ◌∷◌, ◌++◌, map, codes}
 use Rattle.std.specs.Fmt.{decimal, signed_decimal}
 use Rattle.nm_base.specs.declared.asks.SearchAsk.{SearchAsk}

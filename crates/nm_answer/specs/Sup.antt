@@ -1,4 +1,4 @@
--- Lines of a dump in the form of sup: `ID (tag tag)`, nothing encoded.
+-- Lines of a dump in the form of sup: `ID (tag tag)`, nothing encoded. Cited by `nm_dump`.
 use Rattle.std.specs.Prelude.{ℕ, ◌-◌, Bool, true, ◌==◌, ◌&&◌, nat_le, List, [], ◌∷◌, length, take, drop, slice_index, Option, Some, None, Result, Ok, Err, if◌then◌else◌}
 use Rattle.nm_base.specs.Tag.{is_tag}
 use Rattle.nm_base.specs.declared.tag_op.TagOp.{TagOp}

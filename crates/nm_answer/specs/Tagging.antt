@@ -1,4 +1,5 @@
 -- The tags that are wanted, line by line. What is wanted stands in an index, in the place of its tags.
+-- Cited by `nm_plan`, `nm_writer` and `nm_dump`.
 use Rattle.std.specs.Prelude.{ℕ, ℤ, Bool, false, ◌||◌, List, [], ◌∷◌, fold, map}
 use Rattle.nm_answer.specs.Matches.{matches_of}
 use Rattle.nm_answer.specs.View.{tags_of}

@@ -1,4 +1,5 @@
 -- When a message passes a query (notmuch-search-terms(7), within this profile), by cases over the tree.
+-- Cited by `laws` and `nm_eval`.
 use Rattle.std.specs.Prelude.{ℕ, ℤ, Bool, true, false, ◌&&◌, ◌==◌, not, List, length, Option, Some, None, int_le, ◌%◌}
 use Rattle.std.specs.List.{filter, list_all, list_any}
 use Rattle.nm_base.specs.Order.{same_text}

@@ -1,4 +1,4 @@
--- A message as a query looks at it.
+-- A message as a query looks at it. Cited by `laws`, `nm_plan`, `nm_eval` and others.
 use Rattle.std.specs.Prelude.{ℕ, ℤ, pos, List, [], ◌∷◌, Option, unwrap_or}
 use Rattle.std.specs.List.{filter}
 use Rattle.std.specs.BTreeMap.{is_at}

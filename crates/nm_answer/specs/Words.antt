@@ -1,4 +1,5 @@
 -- When a message has words: one single list of one single file has them one behind the other.
+-- Cited by `laws` and `nm_eval`.
 use Rattle.std.specs.Prelude.{ℕ, Bool, true, false, ◌&&◌, ◌||◌, ◌==◌, List, [], ◌∷◌, Option, Some, None, nat_eq, if◌then◌else◌}
 use Rattle.std.specs.List.{list_any, starts_with}
 use Rattle.nm_base.specs.Order.{same_text}

@@ -1,4 +1,5 @@
-//! What follows from the definitions of what a query finds. These functions run no code: their clauses are the laws.
+//! What follows from the definitions of what a query finds. These functions run no code: their clauses are the laws,
+//! which `nm_eval` calls.
 
 ghost use Rattle.std.specs.Prelude.{◌≡◌, ◌↔◌, ◌∷◌, ◌++◌, ℕ, ℤ, Bool, List, [], IsTrue, false, map, not, true};
 ghost use Rattle.std.specs.List.{IsDistinct, list_all, list_any};

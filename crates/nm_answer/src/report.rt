@@ -1,4 +1,4 @@
-//! What `new` tells of its work; the session makes its text of it.
+//! What `new` tells of its work: `nm_writer` counts it, and `nm_log` makes its text of it.
 
 use nm_base::{MailPath, Many, Skip};
 

@@ -1,4 +1,4 @@
-//! What a command asks for; a line of a script is read as one, and the machine judges its reply.
+//! What a command asks for: `nm_log` reads a line of a script as one, and a `Step` of the machine has it.
 
 use nm_base::{Copies, CountAsk, DumpAsk, NoMemory, RestoreAsk, SearchAsk, ShowAsk, TagAsk};
 

@@ -1,5 +1,5 @@
-//! What follows from the definitions of the order and the parts of what a search prints. These functions run no code: their
-//! clauses are the laws.
+//! What follows from the definitions of the order and the parts of what a search prints. No code calls these
+//! functions: their clauses are the laws.
 
 ghost use Rattle.std.specs.Prelude.{◌≡◌, ℕ, ℤ, List, Option, nat_eq};
 ghost use Rattle.std.specs.List.{IsDistinct, list_any};

@@ -1,4 +1,4 @@
-//! The summary of a thread that a search finds; replies are made of it.
+//! The summary of a thread that a search finds: `nm_render` makes its replies of it.
 
 use nm_base::{Many, Tags};
 

@@ -1,4 +1,5 @@
-//! What a command that sets tags tells of the files that keep their names; the session makes its text of it.
+//! What a command that sets tags tells of the files that keep their names: `nm_writer` notes it, and `nm_log` makes
+//! its text of it.
 
 use nm_base::{MailPath, Many};
 

@@ -1,4 +1,5 @@
-//! What a line asks for that changes tags, once its query is read.
+//! What a line asks for that changes tags, once its query is read: `nm_batch` and `nm_dump` make lists of these, and
+//! `nm_writer` carries them out.
 
 use nm_base::{Many, TagOp};
 use nm_query::Query;

@@ -1,4 +1,5 @@
 -- How the year, the month and the day of a date follow from the number of its day.
+-- For the proofs of `date_of`, `number_of` and `a_day_has_one_date`.
 use Rattle.std.proofs.Common.{◌≡◌, ℕ, zero, suc, ◌+◌, ◌<◌, ◌≤◌, inl, inr, refl, sym, ap, subst, ◌∙◌, arith, true, false, ℤ, pos, negsuc, ◌-ℤ◌, ◌<ℤ◌, ◌≤ℤ◌, to_z, of_z, w16}
 use Rattle.std.specs.Prelude.{IsTrue, int_le, unsigned_abs}
 use Rattle.std.proofs.lemmas.Bool.{cases_order}

@@ -1,4 +1,5 @@
 -- Each day from 0001-01-01 to 9999-12-31 is the day of its date.
+-- For the proofs of `a_day_has_one_date` and `a_written_day_is_read`.
 use Rattle.std.proofs.Common.{◌≡◌, ℕ, zero, suc, ◌+◌, ◌≤◌, refl, arith, rules, true, false, ℤ, pos, ◌+ℤ◌, ◌-ℤ◌, ◌<ℤ◌, ◌≤ℤ◌}
 use Rattle.std.specs.Prelude.{IsTrue, int_le, unsigned_abs}
 use Rattle.std.proofs.lemmas.Bool.Decides.{nat_tests}

@@ -1,4 +1,4 @@
--- Numbers of few digits are small.
+-- Numbers of few digits are small. For the proofs of `number` and `number_of`.
 use Rattle.std.proofs.Common.{ℕ, ◌<◌, ◌≤◌, ◌^◌, arith}
 use Rattle.std.proofs.Math.Nat.{pow-le-pow_right}
 

@@ -1,4 +1,5 @@
 -- The seconds of days, and the days of years and months.
+-- For the proofs of `a_day_has_one_date`, `a_unit_holds_the_seconds_of_its_dates`, `a_written_day_is_read` and others.
 use Rattle.std.proofs.Common.{◌≡◌, ◌↔◌, ℕ, ◌*◌, ◌<◌, ◌≤◌, ◌⊎◌, inl, inr, refl, sym, ap, subst, ◌∙◌, arith, true, false, ℤ, pos, ◌-ℤ◌, ◌*ℤ◌, ◌<ℤ◌, ◌≤ℤ◌}
 use Rattle.std.specs.Prelude.{IsTrue, int_lt}
 use Rattle.std.proofs.lemmas.Bool.{cases_order}

@@ -1,4 +1,4 @@
--- Numbers in decimal digits.
+-- Numbers in decimal digits. Cited by `numbers`.
 use Rattle.std.specs.Prelude.{ℕ, ◌+◌, ◌*◌, ◌-◌, Bool, ◌&&◌, nat_le, List, length, fold, Option, Some, None, if◌then◌else◌}
 use Rattle.std.specs.List.{list_all}
 

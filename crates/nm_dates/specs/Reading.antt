@@ -1,4 +1,5 @@
 -- Which texts are an end of a date range (notmuch-search-terms(7), within this profile).
+-- Cited by `reading` and `nm_query`.
 use Rattle.std.specs.Prelude.{ℕ, Bool, ◌&&◌, ◌||◌, ◌==◌, pos, neg_ℤ, List, [], ◌∷◌, length, map, take, drop, codes, slice_index, Option, Some, None, not, if◌then◌else◌}
 use Rattle.std.specs.List.{position_or_len}
 use Rattle.std.specs.Option.{option_and_then, option_map}

@@ -1,4 +1,4 @@
-//! Days by number, and dates; what `read_end` and the seconds of an end stand on.
+//! Days by number, and dates: `seconds` counts with them, and `nm_render` shows a day.
 
 ghost use Rattle.std.specs.Prelude.{◌≡◌, ℕ, ◌<◌, ◌≤◌, ◌*◌, ◌+◌, pos, negsuc, ◌≤ℤ◌, IsTrue};
 ghost use Rattle.jiff_core.specs.Calendar.{days_in_month};

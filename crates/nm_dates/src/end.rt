@@ -1,4 +1,5 @@
-//! What one end of a date range is.
+//! What one end of a date range is: `read_end` reads one, a tree of `nm_query` has it, and `seconds` says what it
+//! stands for.
 
 use thiserror::Error;
 

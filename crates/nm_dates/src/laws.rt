@@ -1,4 +1,4 @@
-//! What follows from the definitions of dates. These functions run no code: their clauses are the laws.
+//! What follows from the definitions of dates. No code calls these functions: their clauses are the laws.
 
 ghost use Rattle.std.specs.Prelude.{◌≡◌, ◌↔◌, ℕ, ℤ, pos, ◌≤ℤ◌, IsTrue, Some};
 ghost use Rattle.nm_dates.specs.Calendar.{IsDayNumber, IsDayOf, date_of, date_text, day_number, is_date, is_month, is_year};

@@ -1,4 +1,4 @@
-//! Numbers in decimal digits, for the readers of ends.
+//! Numbers in decimal digits, for `read_end`.
 
 ghost use Rattle.std.specs.Prelude.{◌≡◌, ◌+◌, ◌*◌, ◌≤◌, ◌<◌, ◌^◌, IfSome, IsTrue, length};
 ghost use Rattle.std.specs.Bool.{OnTrue};

@@ -1,4 +1,4 @@
-//! Reads a text as an end of a date range.
+//! Reads a text as an end of a date range, for `date:` in `nm_query`.
 
 ghost use Rattle.std.specs.Prelude.{◌≡◌, ◌<◌, ◌≤◌, length, IfOk, IfSome, IsTrue, MatchResult, None, Some};
 ghost use Rattle.nm_dates.specs.Reading.{after_digits, after_gap, ago_end, calendar_end, day_end, digit_count, end_of, from_day, from_month, from_year, is_named, is_unit, leading_digits, month_end, named_end, second_end, signed_second, unit_of, year_end};

@@ -1,4 +1,4 @@
-//! The seconds that an end stands for, at a moment.
+//! The seconds that an end stands for, at a moment: `nm_eval` makes them once a query.
 
 ghost use Rattle.std.specs.Prelude.{◌≡◌, ℕ, ◌<◌, ◌≤◌, pos, negsuc, neg_ℤ, ◌≤ℤ◌, ◌-ℤ◌, IsTrue};
 ghost use Rattle.jiff_core.specs.Calendar.{days_in_month};

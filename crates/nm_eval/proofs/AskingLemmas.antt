@@ -1,4 +1,4 @@
--- Where all that can be found is one text.
+-- Where all that can be found is one text. For the proofs of `asking`, `asked_id` and `is_found`.
 use Rattle.std.proofs.Common.{◌≡◌, ◌↔◌, refl, sym, ap, subst, ◌∙◌, ℕ, zero, suc, ◌<◌, ℤ, Bool, true, false, ◌&&◌, cond, List, [], ◌∷◌, ◌+◌, length, map, take, Option, Some, None, is_some, true≢false, arith}
 use Rattle.std.specs.Prelude.{slice_index_or, IfOk, IsTrue, Ok, Err}
 use Rattle.std.specs.Result.{is_ok}

@@ -1,4 +1,4 @@
--- The search goes on by one item.
+-- The search goes on by one item. For the proof of `all_matches`.
 use Rattle.std.proofs.Common.{◌≡◌, refl, sym, ap, ◌∙◌, Bool, true, false, List, [], ◌∷◌, ◌++◌, append_assoc, filter}
 
 kept : {X : Type 0} (p : X → Bool) (x : X) (rest : List X) → p x ≡ true → x ∷ filter p rest ≡ filter p (x ∷ rest)

@@ -1,4 +1,4 @@
--- Queries that are passed alike.
+-- Queries that are passed alike. For the proof of `preparing`.
 use Rattle.std.proofs.Common.{◌≡◌, refl, sym, ap, ap₂, ◌∙◌, ℕ, ◌+◌, ◌<◌, ℤ, Bool, true, ◌&&◌, ◌||◌, List, [], ◌∷◌, ◌++◌, length, map, take, Option, Some}
 use Rattle.std.specs.Prelude.{int_le, slice_index_or}
 use Rattle.std.specs.List.{list_all, list_any}

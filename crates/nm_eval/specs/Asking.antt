@@ -1,4 +1,5 @@
 -- Queries that ask for one message by its id: no other can pass, and no other is tested.
+-- Cited by `asking` and `matching`.
 use Rattle.std.specs.Prelude.{◌≡◌, ℕ, ℤ, Bool, true, false, List, [], ◌∷◌, length, Option, Some, None, if◌then◌else◌}
 use Rattle.nm_base.specs.MessageId.{is_message_id}
 use Rattle.nm_base.specs.Order.{same_text}

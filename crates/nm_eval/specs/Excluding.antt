@@ -1,4 +1,4 @@
--- Which of the two tags keep a message out, found once for a query.
+-- Which of the two tags keep a message out, found once for a query. Cited by `exclusion` and `matching`.
 use Rattle.std.specs.Prelude.{Bool, ◌&&◌, ◌||◌, not, codes}
 use Rattle.nm_base.specs.Tags.{has_tag}
 use Rattle.nm_answer.specs.Matches.{names_tag}

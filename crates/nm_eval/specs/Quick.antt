@@ -1,4 +1,5 @@
 -- Which queries are answered without words, paths and types being read, so that lists of queries may ask them first.
+-- Cited by `quick`.
 use Rattle.std.specs.Prelude.{Bool, true, false, not, List, ◌++◌}
 use Rattle.std.specs.List.{filter, list_all}
 use Rattle.nm_query.specs.declared.query.Query.{Query}

@@ -1,4 +1,4 @@
-//! The id that a query asks for: no other message can pass.
+//! The id that a query asks for: no other message can pass, so `matches` looks at it alone.
 
 ghost use Rattle.std.specs.Prelude.{◌≡◌, map, IfOk, IfSome};
 ghost use Rattle.std.specs.Option.{is_some, option_copied};

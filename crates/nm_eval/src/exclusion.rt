@@ -1,4 +1,4 @@
-//! The tags that keep a message out, unless the query names them. They are found once a query.
+//! The tags that keep a message out, unless the query names them: `matches` finds them once a query.
 
 ghost use Rattle.std.specs.Prelude.{◌≡◌, ◌&&◌, codes, not};
 ghost use Rattle.std.specs.List.{list_any};

@@ -1,4 +1,4 @@
-//! The call `matches`: the messages of a snapshot that a query finds.
+//! The call `matches`: the messages of a snapshot that a query finds. `nm_render`, `nm_writer` and `nm_dump` ask it.
 
 ghost use Rattle.std.specs.Prelude.{◌≡◌, ◌+◌, ◌∷◌, ◌++◌, ◌&&◌, [], not, length, if◌then◌else◌, IfOk, OnOk};
 ghost use Rattle.nm_dates.specs.Seconds.{IsMoment};

@@ -1,4 +1,4 @@
-//! A message of a snapshot, as the tests of a query look at it.
+//! A message of a snapshot, as `testing` looks at it.
 
 ghost use Rattle.std.specs.Prelude.{◌≡◌, [], MatchOption};
 ghost use Rattle.nm_base.specs.Order.{has_text, same_text};

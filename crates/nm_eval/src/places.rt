@@ -1,4 +1,4 @@
-//! Where a file lies, and of which types its parts are.
+//! Where a file lies, and of which types its parts are, for `testing`.
 
 ghost use Rattle.std.specs.Prelude.{◌≡◌, ◌≢◌, ◌++◌, ℕ, List, MatchOption};
 ghost use Rattle.std.specs.List.{list_any};

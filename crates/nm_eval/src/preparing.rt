@@ -1,5 +1,5 @@
-//! A query as it is asked of many messages: what is the same for all of them is worked out once. Ends of dates become seconds,
-//! and in a list the quick queries come first.
+//! A query as `matches` asks it of many messages: what is the same for all of them is worked out once. Ends of dates
+//! become seconds, and in a list the quick queries come first.
 
 ghost use Rattle.std.specs.Prelude.{◌≡◌, ℤ, map, IfOk, IsTrue};
 ghost use Rattle.nm_dates.specs.Seconds.{IsMoment, is_end, seconds_of};

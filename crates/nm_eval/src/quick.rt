@@ -1,4 +1,4 @@
-//! Queries that are answered without words, paths and types being read. Lists of queries ask them first.
+//! Queries that are answered without words, paths and types being read: in lists `prepared` puts them first.
 
 ghost use Rattle.std.specs.Prelude.{◌≡◌, IfOk};
 ghost use Rattle.std.specs.List.{list_all};

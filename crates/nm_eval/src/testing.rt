@@ -1,4 +1,4 @@
-//! When a message passes a query, node by node of its tree.
+//! When a message passes a query, node by node of its tree: `matches` asks it of each message.
 
 ghost use Rattle.std.specs.Prelude.{◌≡◌, ◌∷◌, ◌&&◌, map};
 ghost use Rattle.std.specs.List.{list_all, list_any};

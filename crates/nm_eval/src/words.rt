@@ -1,4 +1,4 @@
-//! Words in the lists of a file: one behind the other in one single list.
+//! Words in the lists of a file, one behind the other in one single list, for `testing`.
 
 ghost use Rattle.std.specs.Prelude.{◌≡◌, ◌≢◌, ◌∷◌, [], ◌&&◌};
 ghost use Rattle.nm_base.specs.Order.{same_text};

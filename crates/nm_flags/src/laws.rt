@@ -1,4 +1,4 @@
-//! What tags by names come to. These functions run no code: their clauses are the laws.
+//! What tags by names come to. These functions run no code: their clauses are the laws, which `nm_plan` calls.
 
 ghost use Rattle.std.specs.Prelude.{◌≡◌, ℕ, List, codes, false, not};
 ghost use Rattle.nm_base.specs.Order.{IsSorted, has_text};

@@ -1,4 +1,4 @@
-//! The tags that the names of files give a message; `new` sets them.
+//! The tags that the names of files give a message: `nm_writer` sets them in `new`.
 
 ghost use Rattle.std.specs.Prelude.{◌≡◌, true, IfOk};
 ghost use Rattle.nm_base.specs.Tag.{is_tag};

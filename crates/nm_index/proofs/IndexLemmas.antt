@@ -1,4 +1,5 @@
 -- What a change leaves of files, numbers and tags.
+-- For the proofs of `files_follow_their_changes`, `files_follow_their_commits`, `numbers_never_fall` and others.
 use Rattle.std.proofs.Common.{◌≡◌, ℕ, ◌+◌, ◌≤◌, Bool, true, false, not, List, [], ◌∷◌, ◌++◌, length, refl, sym, ap, ◌∙◌, cond, if◌then◌else◌, Some, arith}
 use Rattle.std.specs.List.{filter, fold}
 use Rattle.std.specs.BTreeMap.{insert_entry, is_at}

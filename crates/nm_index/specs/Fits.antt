@@ -1,4 +1,5 @@
 -- Commits that fit an index one after the other, and how many ids a commit names.
+-- Cited by `laws`, `nm_plan`, `nm_state` and others.
 use Rattle.std.specs.Prelude.{ℕ, ◌+◌, List, [], ◌∷◌, length}
 use Rattle.nm_commit.specs.Files.{Fits}
 use Rattle.nm_commit.specs.declared.change.Change.{Change}

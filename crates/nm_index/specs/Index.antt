@@ -1,5 +1,6 @@
 -- The index as lists, and what a change and a commit make of it. A message is live where it has a file. A row of ids is the
 -- id of a mail and the ids that it links to; an id that is only linked to is a ghost.
+-- Cited by `base`, `nm_plan`, `nm_record` and others.
 use Rattle.std.specs.Prelude.{ℕ, ◌+◌, Bool, List, [], ◌∷◌, ◌++◌, fold, filter, map, codes, if◌then◌else◌}
 use Rattle.std.specs.List.{list_any}
 use Rattle.std.specs.BTreeMap.{insert_entry, is_at}

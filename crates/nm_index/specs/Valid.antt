@@ -1,4 +1,4 @@
--- When data is an index.
+-- When data is an index. Cited by `nm_answer`, `nm_state`, `rows_index` and others.
 use Rattle.std.specs.Prelude.{◌↔◌, ℕ, ◌<◌, ◌≤◌, IsTrue, List, map}
 use Rattle.std.specs.List.{AllByRecursion, IsDistinct}
 use Rattle.std.specs.List.Sorted.{IsStrictlySortedBy}

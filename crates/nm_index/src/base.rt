@@ -1,4 +1,5 @@
-//! The index as data; snapshots are made of it, and the machine begins with it.
+//! The index as data: `nm_state` makes snapshots of it and it of snapshots, and the definitions of the machine begin
+//! with it.
 
 ghost use Rattle.std.specs.Prelude.{◌≡◌};
 ghost use Rattle.nm_index.specs.Index.{empty_index};

@@ -1,4 +1,5 @@
-//! What follows from the definitions. These functions run no code: their clauses are the laws.
+//! What follows from the definitions. These functions run no code: their clauses are the laws, which `nm_plan`,
+//! `nm_state` and `nm_publish` call.
 
 ghost use Rattle.std.specs.Prelude.{◌≡◌, ◌≤◌, ◌+◌, ℕ, List, false, length};
 ghost use Rattle.std.specs.BTreeMap.{is_at};

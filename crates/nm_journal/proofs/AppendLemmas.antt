@@ -1,4 +1,5 @@
 -- The two halves of an append, over disks that tell their moments or don't.
+-- For the proofs of `open_gate`, `stage`, `write_record` and others.
 use Rattle.std.proofs.Common.{◌≡◌, ℕ, ◌+◌, ◌<◌, ◌≤◌, ◌^◌, List, [], ◌∷◌, ◌++◌, length, Option, None, Some, IfSome, Result, MatchResult, Ok, Err, OnOk, sym, subst, inl, arith, ◌∙◌, Bool, length-append}
 use Rattle.nm_base.specs.declared.memory.Failed.{Failed}
 use Rattle.nm_disk.specs.declared.disk.FileNo.{FileNo}

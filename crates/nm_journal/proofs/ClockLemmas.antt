@@ -1,4 +1,4 @@
--- The clock of a disk over calls.
+-- The clock of a disk over calls. For the proofs of `open_gate`, `stage` and `write_record`.
 use Rattle.std.proofs.Common.{inl, inr, ℕ, Result, Ok, Err, arith}
 use Rattle.nm_base.specs.declared.memory.Failed.{Failed}
 use Rattle.nm_disk.specs.Calls.{Ticks}

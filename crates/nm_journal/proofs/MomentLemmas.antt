@@ -1,4 +1,5 @@
 -- Calls of a disk one after the other, and the moments that they go through.
+-- For `AppendLemmas`, `SyncLemmas` and `WriteLemmas`.
 use Rattle.std.proofs.Common.{◌≡◌, List, [], ◌∷◌, ◌++◌, Option, None, Some, IfSome, sym, ap, ◌∙◌, inl, inr, append_assoc, ℕ}
 use Rattle.std.specs.List.{AllByRecursion}
 use Rattle.nm_disk.specs.declared.disk.FileNo.{FileNo}

@@ -1,4 +1,4 @@
--- Records as they are read, one after the other.
+-- Records as they are read, one after the other. For the proofs of `next_record` and `read_header`.
 use Rattle.std.proofs.Common.{◌≡◌, ℕ, ◌+◌, ◌-◌, ◌<◌, ◌≤◌, ◌^◌, min, List, [], ◌∷◌, ◌++◌, length, take, drop, get_or, Option, None, Some, IfSome, sym, ap, subst, ◌∙◌, arith, inl, inr, length-take, length-drop, take-append-drop, append_assoc, get_or-take, get_or-drop, drop-drop}
 use Rattle.std.proofs.lemmas.List.{drop_all, drop_more, take_all}
 use Rattle.std.proofs.lemmas.Nat.{from_be_bytes-to_be_bytes_4}

@@ -1,4 +1,5 @@
 -- Bytes that have records of a journal, and what a write behind or over the closed gate makes of them.
+-- For `AppendLemmas` and `OpenLemmas`.
 use Rattle.std.proofs.Common.{◌≡◌, ◌⊎◌, ℕ, ◌+◌, ◌-◌, ◌<◌, ◌≤◌, ◌^◌, false, List, [], ◌∷◌, ◌++◌, length, take, drop, get_or, refl, sym, ap, ◌∙◌, arith, inl, inr, length-append, length-take, length-drop, length-take-le, take-append-drop, append_assoc, append-nil, take_at, drop_at, get_or-take, get_or-drop, ext_get_or, drop-drop}
 use Rattle.std.proofs.lemmas.List.{drop-append-le, drop-take, drop_more, get_or_at}
 use Rattle.std.proofs.lemmas.Bool.{cases_eq}

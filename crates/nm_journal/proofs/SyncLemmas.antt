@@ -1,4 +1,4 @@
--- The sync with which a journal is opened.
+-- The sync with which a journal is opened. For the proof of `Journal::open`.
 use Rattle.std.proofs.Common.{◌≡◌, inl, inr, ℕ, ◌+◌, false, List, length, Option, None, Some, IfSome, sym, ap, subst, ◌∙◌}
 use Rattle.nm_disk.specs.declared.disk.FileNo.{FileNo}
 use Rattle.nm_disk.specs.Calls.{GoesOn, MayFail, synced}

@@ -1,4 +1,5 @@
 -- A write and a sync: what a stop may leave of the file at each moment of the two.
+-- For `AppendLemmas` and `SyncLemmas`.
 use Rattle.std.proofs.Common.{◌≡◌, ℕ, List, ◌∷◌, length, Result, Ok, Err, MatchResult, OnOk, sym, ap, subst, ◌∙◌, refl}
 use Rattle.nm_base.specs.declared.memory.Failed.{Failed}
 use Rattle.nm_disk.specs.declared.disk.FileNo.{FileNo}

@@ -1,4 +1,4 @@
--- What a record is written as before its gate is opened.
+-- What a record is written as before its gate is opened. Cited by `frame`.
 use Rattle.std.specs.Prelude.{ℕ, ◌-◌, List, [], ◌∷◌, ◌++◌, length, take, drop}
 use Rattle.std.specs.Int.{w32, to_be_bytes}
 

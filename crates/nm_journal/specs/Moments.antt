@@ -1,4 +1,5 @@
 -- What a stop leaves of a file at the moments that a call goes through.
+-- Cited by `append`, `journal`, `nm_writer` and others.
 use Rattle.std.specs.Prelude.{◌≡◌, ◌⊎◌, ℕ, ◌≤◌, List, ◌∷◌, ◌++◌}
 use Rattle.std.specs.List.{AllByRecursion}
 use Rattle.nm_base.specs.Limits.{max_count}

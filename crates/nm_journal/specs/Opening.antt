@@ -1,4 +1,4 @@
--- What is found where records are read.
+-- What is found where records are read. Cited by `opening`.
 use Rattle.std.specs.Prelude.{◌≡◌, ◌≢◌, ◌⊎◌, ℕ, ◌+◌, ◌-◌, ◌<◌, ◌≤◌, ◌^◌, min, List, ◌∷◌, ◌++◌, length, take, drop, slice_index, Option, None, Some}
 use Rattle.std.specs.Int.{w32, to_be_bytes}
 use Rattle.nm_disk.specs.declared.disk.FileNo.{FileNo}

@@ -1,5 +1,6 @@
 -- Records of a journal: a gate, the length of the body in four bytes, the highest first, and the body. A gate is open where it
 -- is 1, and closed at any other value. Behind an open record comes the gate of the next; records end at the first closed gate.
+-- Cited by `append`, `journal`, `nm_writer` and others.
 use Rattle.std.specs.Prelude.{◌≡◌, ◌≢◌, ◌⊎◌, ℕ, ◌+◌, ◌-◌, ◌<◌, ◌^◌, List, [], ◌∷◌, ◌++◌, length, take, drop, flat_map}
 use Rattle.std.specs.List.{AllByRecursion}
 use Rattle.std.specs.Int.{w32, from_be_bytes, to_be_bytes}

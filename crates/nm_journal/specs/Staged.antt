@@ -1,4 +1,4 @@
--- A file between the two halves of an append.
+-- A file between the two halves of an append. Cited by `append`.
 use Rattle.std.specs.Prelude.{◌≡◌, ◌≢◌, ℕ, ◌+◌, List, ◌∷◌, ◌++◌, length, drop}
 use Rattle.nm_disk.specs.declared.disk.FileNo.{FileNo}
 use Rattle.nm_disk.specs.declared.state.DiskState.{DiskState}

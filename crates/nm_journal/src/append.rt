@@ -1,4 +1,4 @@
-//! One record more: it is staged behind the closed gate, and then the gate is opened.
+//! One record more, for `nm_writer`: it is staged behind the closed gate, and then the gate is opened.
 
 ghost use Rattle.std.specs.Prelude.{◌≡◌, ◌+◌, ◌<◌, ◌≤◌, ℕ, List, [], ◌∷◌, ◌++◌, true, false, length, min, IfOk, IfSome, OnOk, OnErr};
 ghost use Rattle.nm_base.specs.Limits.{max_count};

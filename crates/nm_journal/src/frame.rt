@@ -1,4 +1,4 @@
-//! The bytes of a record as they are written, made before the disk is touched.
+//! The bytes of a record as they are written, which `nm_writer` makes before the disk is touched.
 
 ghost use Rattle.std.specs.Prelude.{◌≡◌, ◌<◌, ◌^◌, ◌++◌, ◌∷◌, [], IfOk, length};
 ghost use Rattle.std.specs.Int.{w32, to_be_bytes};

@@ -1,4 +1,4 @@
-//! A journal: where its records lie, and whether it may still be written.
+//! A journal: where its records lie, and whether it may still be written. `nm_writer` holds one.
 
 ghost use Rattle.std.specs.Prelude.{◌≡◌, ◌≤◌, ◌<◌, ◌+◌, [], false, IfSome};
 ghost use Rattle.nm_base.specs.Limits.{max_count};

@@ -1,4 +1,5 @@
 -- Steps of the machine keep its order, and nothing falls along its runs.
+-- For the proofs of `nothing_falls`, `only_what_is_shown_is_seen`, `what_was_met_is_seen` and others.
 use Rattle.std.proofs.Common.{◌≡◌, ℕ, ℤ, Bool, true, false, zero, suc, ◌<◌, ◌≤◌, List, [], ◌∷◌, ◌++◌, length, get_or, set, refl, sym, ap, ◌∙◌, subst, arith, append-nil, append_assoc, length-append, length-set, replicate}
 use Rattle.std.proofs.lemmas.List.{length-replicate}
 use Rattle.nm_commit.specs.declared.change.Commit.{Commit}

@@ -1,4 +1,4 @@
--- What holds at each state of the machine, and along its runs.
+-- What holds at each state of the machine, and along its runs. Cited by `laws` and `nm_core`.
 use Rattle.std.specs.Prelude.{◌≡◌, ℕ, ◌<◌, ◌≤◌, List, ◌++◌, length, slice_index}
 use Rattle.nm_commit.specs.declared.change.Commit.{Commit}
 use Rattle.nm_machine.specs.Machine.{Machine}

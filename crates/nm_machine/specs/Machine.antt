@@ -1,5 +1,6 @@
 -- The machine of commits and replies: one list of commits, and numbers.
 -- It says in which orders commits are begun, acknowledged, shown and seen, what a reply then says, and what a stop leaves.
+-- Cited by `laws`, `nm_core` and `nm_history`.
 use Rattle.std.specs.Prelude.{◌≡◌, ◌⊎◌, ℕ, ℤ, ◌+◌, ◌<◌, ◌≤◌, Bool, true, false, List, [], ◌∷◌, ◌++◌, Option, None, Some, IsSome, IsTrue, length, replicate, slice_index, slice_set, take, if◌then◌else◌}
 use Rattle.nm_answer.specs.Answer.{is_reply}
 use Rattle.nm_commit.specs.Files.{Fits}

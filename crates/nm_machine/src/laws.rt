@@ -1,4 +1,4 @@
-//! What holds along every run of the machine. These functions run no code: their clauses are the laws.
+//! What holds along every run of the machine. No code calls these functions: their clauses are the laws.
 ghost use Rattle.std.specs.Prelude.{ℕ, ℤ, List, length};
 ghost use Rattle.nm_index.specs.declared.base.Base.{Base};
 ghost use Rattle.nm_machine.specs.Laws.{InOrder, NothingFalls};

@@ -1,4 +1,4 @@
-//! A step of the machine, as the log holds it.
+//! A step of the machine, as the log of `nm_log` holds it: `nm_session` notes one for each thing that it does.
 
 use nm_answer::Request;
 use nm_base::{Copies, Many, NoMemory};

@@ -1,4 +1,5 @@
 -- A text is cut at its last byte of a value in one way, and so is one that was put together there.
+-- For the proof of `cut_at_last`.
 use Rattle.std.proofs.Common.{◌≡◌, ◌≢◌, ℕ, ◌<◌, Bool, true, false, ◌==◌, List, [], ◌∷◌, ◌++◌, length, take, drop, get_or, take-append-drop, Option, None, Some, if◌then◌else◌, refl, sym, ap, ◌∙◌, subst}
 use Rattle.std.proofs.lemmas.Bool.{eqb-false, eqb-true, false_from_ne_true, or_parts, true_from_ne_false}
 use Rattle.std.proofs.lemmas.List.Elements.{All-from_get_or}

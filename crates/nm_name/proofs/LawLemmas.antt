@@ -1,4 +1,5 @@
 -- What is written is read, other letters stay, and what may not be renamed stays.
+-- For the proofs of `a_name_that_may_not_be_renamed_stays`, `other_letters_stay` and `what_is_written_is_read`.
 use Rattle.std.proofs.Common.{inl, inr, ◌≡◌, ℕ, Bool, true, false, ◌&&◌, ◌||◌, ◌==◌, if◌then◌else◌, List, [], ◌∷◌, ◌++◌, filter, Option, None, Some, codes, refl, sym, ap, ◌∙◌, arith}
 use Rattle.std.specs.Char.{is_ascii_alphabetic}
 use Rattle.std.specs.List.{list_all}

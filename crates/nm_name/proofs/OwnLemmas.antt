@@ -1,4 +1,5 @@
 -- A path that carries the flags is its own target, and one that is changed carries what was asked for.
+-- For the proofs of `a_path_that_carries_its_flags_stays` and `what_is_written_is_read`.
 use Rattle.std.proofs.Common.{◌≡◌, ℕ, Bool, true, false, not, ◌&&◌, ◌||◌, ◌==◌, if◌then◌else◌, List, [], ◌∷◌, ◌++◌, drop, Option, None, Some, codes, refl, sym, ap, ◌∙◌, subst}
 use Rattle.std.specs.Prelude.{◌≢◌, nat_eq}
 use Rattle.std.specs.Char.{is_ascii_alphabetic}

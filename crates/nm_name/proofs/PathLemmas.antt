@@ -1,4 +1,5 @@
 -- A path stays one where its last components are replaced by others that are components.
+-- For the proofs of `path_of`, `in_cur`, `in_same` and others.
 use Rattle.std.proofs.Common.{inl, inr, ◌≡◌, ℕ, ◌<◌, Bool, true, false, not, ◌&&◌, ◌==◌, List, [], ◌∷◌, ◌++◌, length, get_or, All, Option, None, Some, codes, refl, sym, ap, ◌∙◌, arith}
 use Rattle.std.specs.List.{list_all, onto_first, slice_split}
 use Rattle.std.proofs.lemmas.List.{append_assoc}

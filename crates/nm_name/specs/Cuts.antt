@@ -1,4 +1,4 @@
--- Cutting a text at the last byte of a value.
+-- Cutting a text at the last byte of a value. Cited by `cuts`, `names` and `renaming`.
 use Rattle.std.specs.Prelude.{◌≡◌, ℕ, Bool, ◌==◌, false, List, [], ◌∷◌, ◌++◌, Option, None, Some, if◌then◌else◌}
 use Rattle.std.specs.List.{list_any}
 

@@ -1,4 +1,5 @@
 -- What the name of a mail file says: its flags stand behind the last `:2,`, as letters (maildir(5)).
+-- Cited by `names`, `renaming` and `nm_flags`.
 use Rattle.std.specs.Prelude.{ℕ, Bool, ◌&&◌, nat_eq, List, [], drop, Option, None, Some, codes, if◌then◌else◌}
 use Rattle.std.specs.List.{list_all, starts_with}
 use Rattle.std.specs.Char.{is_ascii_alphabetic}

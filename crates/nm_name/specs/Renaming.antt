@@ -1,4 +1,4 @@
--- The name that carries the flags which are asked for.
+-- The name that carries the flags which are asked for. Cited by `renaming` and `nm_flags`.
 use Rattle.std.specs.Char.{is_ascii_alphabetic}
 use Rattle.std.specs.List.{list_all}
 use Rattle.std.specs.Prelude.{◌≡◌, ℕ, Bool, true, false, ◌&&◌, ◌==◌, not, List, [], ◌∷◌, ◌++◌, length, filter, Option, None, Some, codes, if◌then◌else◌}

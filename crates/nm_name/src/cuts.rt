@@ -1,4 +1,4 @@
-//! Cutting a text at the last place of an ASCII character; names and paths are cut so.
+//! Cutting a text at the last place of an ASCII character: `names` and `renaming` cut names and paths so.
 
 ghost use Rattle.std.specs.Prelude.{◌≡◌, ◌<◌, None, Some, MatchOption};
 ghost use Rattle.nm_name.specs.Cuts.{IsCutLast, cut_last};

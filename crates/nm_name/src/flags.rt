@@ -1,4 +1,4 @@
-//! The flags of a mail, as maildir(5) has them; what reads or writes a name takes them.
+//! The flags of a mail, as maildir(5) has them: `parse_name` reads them, and `with_flags` writes them.
 
 /// The flags of a mail.
 #[derive(Clone, Copy, Debug, PartialEq, Eq)]

@@ -1,4 +1,4 @@
-//! The flags that a name carries; tags follow them.
+//! The flags that a name carries: `nm_flags` makes tags of them, and `with_flags` asks for them.
 
 ghost use Rattle.std.specs.Prelude.{◌≡◌};
 ghost use Rattle.std.specs.List.{list_all};

@@ -1,4 +1,4 @@
-//! The path that carries the flags which are asked for; `tag` renames files so.
+//! The path that carries the flags which are asked for: `nm_flags` finds by it how `tag` renames a file.
 
 ghost use Rattle.std.specs.Prelude.{◌≡◌, ◌++◌, ◌<◌, ◌∷◌, [], filter, true, if◌then◌else◌, IfErr, IfOk, OnOk, codes, length, string_bytes};
 ghost use Rattle.nm_base.specs.Limits.{max_path_bytes};

@@ -1,4 +1,4 @@
--- No two files lie at one path: what comes and what moves goes where none lies.
+-- No two files lie at one path: what comes and what moves goes where none lies. For the proof of `files_stay_apart`.
 use Rattle.std.proofs.Common.{◌≡◌, ℕ, Bool, true, false, ◌||◌, cond, not, List, [], ◌∷◌, ◌++◌, fold, filter, refl, sym, ap, ◌∙◌, subst}
 use Rattle.std.specs.Cmp.Lexicographic.{nat_list_eq_equiv}
 use Rattle.nm_base.specs.Order.{same_text}

@@ -1,4 +1,5 @@
 -- The files after the commits of a `new`: what has come stands behind what was there, and what is gone is away.
+-- For the proofs of `the_files_after_batches` and `the_files_after_new`.
 use Rattle.std.proofs.Common.{◌≡◌, ℕ, Bool, true, false, ◌||◌, ◌&&◌, not, cond, List, [], ◌∷◌, ◌++◌, map, filter, fold, refl, sym, ap, ◌∙◌, append-nil, append_assoc}
 use Rattle.std.specs.Cmp.Lexicographic.{nat_list_eq_equiv, pointwise}
 use Rattle.std.specs.List.{flat_map}

@@ -1,4 +1,5 @@
 -- A message that has a file before and after keeps its tags, but for those that follow the names of files.
+-- For the proofs of `a_message_that_stays_keeps_its_tags` and `tags_follow_the_names`.
 use Rattle.std.proofs.Common.{◌≡◌, ℕ, ◌+◌, Bool, true, false, ◌||◌, not, cond, List, [], ◌∷◌, ◌++◌, Option, Some, fold, filter, map, refl, sym, ap, ◌∙◌, subst}
 use Rattle.std.specs.Prelude.{unwrap_or, IsTrue}
 use Rattle.std.specs.BTreeMap.{is_at}

@@ -1,4 +1,5 @@
 -- Setting tags: what a line finds has what it asks for, all else keeps its tags, and the commit leaves what is wanted.
+-- For the proofs of `a_line_tags_what_it_finds` and `the_commit_of_tags_leaves_what_is_wanted`.
 use Rattle.std.proofs.Common.{◌≡◌, ℕ, ℤ, Bool, true, false, ◌||◌, ◌&&◌, List, [], ◌∷◌, Option, fold, map, refl, sym, ap, ◌∙◌, IsTrue, arith}
 use Rattle.std.specs.Prelude.{unwrap_or}
 use Rattle.std.specs.BTreeMap.{is_at}

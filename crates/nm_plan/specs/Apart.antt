@@ -1,4 +1,4 @@
--- The paths of an index: no two files lie at one.
+-- The paths of an index: no two files lie at one. Cited by `tag_laws` and `nm_writer`.
 use Rattle.std.specs.Prelude.{◌≡◌, ℕ, false, List, [], ◌∷◌}
 use Rattle.nm_base.specs.declared.facts.Facts.{Facts}
 use Rattle.nm_commit.specs.Files.{has_path}

@@ -1,4 +1,5 @@
 -- The renames that follow a commit of tags: that just those are noted which are tried, and the commit of the files that were moved.
+-- Cited by `tag_laws`, `nm_writer` and `nm_history`.
 use Rattle.std.specs.Prelude.{◌≡◌, ℕ, List, [], ◌∷◌, ◌++◌, length}
 use Rattle.std.specs.List.{flat_map}
 use Rattle.nm_answer.specs.Renaming.{note_of, renames_done, renames_for}

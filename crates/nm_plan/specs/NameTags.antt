@@ -1,4 +1,5 @@
 -- The tags that follow the names of files: what a commit sets, behind the changes that it makes of a message's files.
+-- Cited by `laws` and `nm_writer`.
 use Rattle.std.specs.Prelude.{ℕ, List, [], ◌∷◌, ◌++◌, filter, fold, if◌then◌else◌}
 use Rattle.std.specs.Cmp.Lexicographic.{pointwise}
 use Rattle.std.specs.List.{flat_map}

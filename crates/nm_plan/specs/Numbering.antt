@@ -1,4 +1,5 @@
 -- The numbers of an index: no id has two, and they rise up to the next one.
+-- Cited by `tag_laws`, `nm_writer` and `nm_dump`.
 use Rattle.std.specs.Prelude.{◌≡◌, ℕ, ◌<◌, false, List, [], ◌∷◌}
 use Rattle.std.specs.List.{AllByRecursion}
 use Rattle.nm_base.specs.Order.{same_text}

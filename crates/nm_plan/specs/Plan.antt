@@ -1,5 +1,6 @@
 -- The commits of a command: first those of what has come, one for each batch of files that was read, then that of what is gone.
 -- Each is made on the index that those before it leave.
+-- Cited by `laws`, `nm_scan`, `nm_writer` and others.
 use Rattle.std.specs.Prelude.{◌≡◌, ℕ, ℤ, false, not, List, [], ◌∷◌, ◌++◌, map, filter}
 use Rattle.std.specs.List.{AllByRecursion, IsDistinct, flat_map}
 use Rattle.nm_base.specs.Limits.{IsDate}

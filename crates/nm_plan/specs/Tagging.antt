@@ -1,4 +1,5 @@
 -- The commit that sets the tags that are wanted. What is wanted stands in an index, in the place of its tags.
+-- Cited by `tag_laws`, `nm_writer`, `nm_dump` and others.
 use Rattle.std.specs.Prelude.{List, [], ◌∷◌}
 use Rattle.std.specs.List.{flat_map}
 use Rattle.nm_answer.specs.View.{tags_of}

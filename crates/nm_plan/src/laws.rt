@@ -1,4 +1,4 @@
-//! What the commits of `new` do. These functions run no code: their clauses are the laws.
+//! What the commits of `new` do. These functions run no code: their clauses are the laws, which `nm_writer` calls.
 
 ghost use Rattle.std.specs.Prelude.{◌≡◌, ◌&&◌, ◌||◌, ◌++◌, ◌∷◌, ℕ, IsTrue, List, false, fold};
 ghost use Rattle.std.specs.List.{AllByRecursion};

@@ -1,4 +1,5 @@
-//! What setting tags does. These functions run no code: their clauses are the laws.
+//! What setting tags does. These functions run no code: their clauses are the laws, which `nm_writer`, `nm_dump` and
+//! `nm_session` call.
 
 ghost use Rattle.std.specs.Prelude.{◌≡◌, ℕ, ℤ, Bool, IsTrue, List, false};
 ghost use Rattle.std.specs.List.{AllByRecursion};

@@ -1,4 +1,4 @@
--- A text has a tree exactly where the grammar reads it.
+-- A text has a tree exactly where the grammar reads it. For the proof of `a_text_is_read_as_the_grammar_reads_it`.
 use Rattle.std.proofs.Common.{◌≡◌, ℕ, ◌≤◌, true, false, cond, List, length, refl, ap, subst, ◌∙◌, arith}
 use Rattle.std.specs.Prelude.{Option, Some, None, Result, Ok, Err, nat_lt}
 use Rattle.std.proofs.lemmas.Bool.Decides.{nat_tests}

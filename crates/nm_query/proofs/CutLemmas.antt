@@ -1,4 +1,5 @@
 -- Where a text may be cut: at the quotes of a value, at what ends a run, after an ASCII character.
+-- For the proofs of `further_at`, `lexeme_at`, `sign_at` and others.
 use Rattle.std.proofs.Common.{◌≡◌, ℕ, zero, suc, ◌+◌, ◌-◌, ◌<◌, ◌≤◌, true, false, cond, not, ◌==◌, List, [], ◌∷◌, length, drop, get_or, ltb, refl, sym, ap, subst, ◌∙◌, arith}
 use Rattle.std.specs.Prelude.{IsUtf8, Result, Ok, Err, IfOk}
 use Rattle.std.specs.List.{position_or_len}

@@ -1,4 +1,5 @@
 -- Tokens without a fault of structure are read by the grammar: operands, groups and lists are found one after the other.
+-- For the proof of `tokens_without_a_fault_are_a_query`.
 use Rattle.std.proofs.Common.{◌≡◌, ℕ, zero, suc, ◌+◌, ◌*◌, ◌<◌, ◌≤◌, Bool, true, false, cond, not, List, [], ◌∷◌, ◌++◌, length, refl, sym, ap, subst, ◌∙◌, arith, append_assoc}
 use Rattle.std.specs.Prelude.{Option, Some, None, nat_le}
 use Rattle.std.proofs.lemmas.List.{append-nil}

@@ -1,4 +1,4 @@
--- Where the first `..` of a text stands.
+-- Where the first `..` of a text stands. For the proofs of `before_dots` and `date_query`.
 use Rattle.std.proofs.Common.{◌≡◌, ℕ, ◌+◌, ◌<◌, true, false, cond, List, [], ◌∷◌, length, drop, get_or, sym, ap, ◌∙◌, arith, length-drop}
 use Rattle.std.proofs.lemmas.Bool.Decides.{nat_tests}
 use Rattle.std.proofs.lemmas.List.{at_drop_more, get_or-drop}

@@ -1,4 +1,4 @@
--- What the grammar reads as a query is the tree of its tokens.
+-- What the grammar reads as a query is the tree of its tokens. For the proof of `tokens_without_a_fault_are_a_query`.
 use Rattle.std.proofs.Common.{◌≡◌, ℕ, zero, suc, ◌+◌, false, cond, ◌==◌, List, [], ◌∷◌, ◌++◌, refl, sym, ap, ◌∙◌, arith, append_assoc}
 use Rattle.std.specs.Prelude.{fold}
 use Rattle.std.proofs.lemmas.Bool.Decides.{nat_tests}

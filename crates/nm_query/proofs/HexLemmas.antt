@@ -1,4 +1,4 @@
--- Numbers of at most 15 hexadecimal digits leave room for one more.
+-- Numbers of at most 15 hexadecimal digits leave room for one more. For the proof of `hex_number`.
 use Rattle.std.proofs.Common.{ℕ, ◌≤◌, ◌^◌, arith}
 use Rattle.std.proofs.Math.Nat.{pow-le-pow_right}
 

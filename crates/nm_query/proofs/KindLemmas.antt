@@ -1,4 +1,4 @@
--- With which others a term is joined is seen in its tree.
+-- With which others a term is joined is seen in its tree. For the proof of `two_terms_of_a_kind_are_joined_by_or`.
 use Rattle.std.proofs.Common.{◌≡◌, ℕ, zero, suc, ◌+◌, ◌-◌, Bool, true, false, cond, not, ◌==◌, ◌&&◌, List, [], ◌∷◌, length, take, drop, refl, subst}
 use Rattle.std.specs.Prelude.{Option, Some, None, Result, Ok, Err, codes, slice_index, nat_le}
 use Rattle.std.specs.Str.{bytes_eq}

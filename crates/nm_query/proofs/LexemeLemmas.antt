@@ -1,4 +1,4 @@
--- White space or the end after a text leaves its first lexeme as it is, wherever it stands.
+-- White space or the end after a text leaves its first lexeme as it is, wherever it stands. For `MoveLemmas`.
 use Rattle.std.proofs.Common.{◌≡◌, ℕ, ◌+◌, ◌≤◌, Bool, true, false, cond, not, ◌&&◌, ◌||◌, ◌==◌, List, [], ◌∷◌, ◌++◌, length, drop, refl, ap, ◌∙◌, arith}
 use Rattle.std.specs.Prelude.{Option, Some, None, Result, Ok, Err, codes}
 use Rattle.std.specs.List.{before_first, position_or_len}

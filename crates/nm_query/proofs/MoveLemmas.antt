@@ -1,4 +1,5 @@
 -- The tokens of a text that white space follows are those of the text and those of what follows, wherever they stand.
+-- For `PrintLemmas`.
 use Rattle.std.proofs.Common.{◌≡◌, ℕ, zero, suc, ◌+◌, ◌-◌, ◌≤◌, false, List, [], ◌∷◌, ◌++◌, length, refl, sym, ap, subst, ◌∙◌, arith}
 use Rattle.std.specs.Prelude.{Option, Some, None, Result, Ok, Err}
 use Rattle.nm_query.specs.Grammar.{IsAnd, IsGroup, IsOperand, IsOr, IsXor, a_term, enclosed, more_ands, more_groups, more_operands, more_xors, negated, one_and, one_group, one_operand, one_xor, placed}

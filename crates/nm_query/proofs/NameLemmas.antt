@@ -1,4 +1,4 @@
--- A name in quotes is one term.
+-- A name in quotes is one term. For the proof of `a_name_in_quotes_is_a_term`.
 use Rattle.std.proofs.Common.{◌≡◌, ◌≢◌, ℕ, ◌+◌, ◌<◌, true, false, cond, not, ◌&&◌, ◌==◌, List, [], ◌∷◌, ◌++◌, length, take, refl, sym, ap, ◌∙◌, arith, length-append}
 use Rattle.std.specs.Prelude.{Ok, Err, codes}
 use Rattle.std.proofs.lemmas.Bool.{eqb-true}

@@ -1,4 +1,4 @@
--- The first parenthesis without its fellow is told by the outermost one that is open.
+-- The first parenthesis without its fellow is told by the outermost one that is open. For the proof of `unmatched`.
 use Rattle.std.proofs.Common.{◌≡◌, ℕ, zero, suc, Bool, true, false, cond, List, [], ◌∷◌, refl, sym, ap, ◌∙◌}
 use Rattle.std.specs.Prelude.{Option, Some, None}
 use Rattle.nm_query.specs.Faults.{closed_at, is_closed, unmatched_at, unmatched_from}

@@ -1,4 +1,5 @@
 -- A group that was gone over for one kind of terms, joined again, has them in one Or at the place of the first.
+-- For the proof of `with_joined`.
 use Rattle.std.proofs.Common.{◌≡◌, ℕ, suc, arith, true, false, cond, not, List, [], ◌∷◌, ◌++◌, ◌==◌, length, map, filter, sym, ap, ◌∙◌, append_assoc}
 use Rattle.std.specs.Prelude.{fold}
 use Rattle.std.proofs.lemmas.Bool.Decides.{nat_tests}

@@ -1,4 +1,4 @@
--- What a value asks doesn't hang on its place: only refusals do.
+-- What a value asks doesn't hang on its place: only refusals do. For `LexemeLemmas`.
 use Rattle.std.proofs.Common.{◌≡◌, ℕ, ◌+◌, Bool, true, false, cond, ◌&&◌, ◌==◌, List, length, take, drop, refl, ap, ◌∙◌}
 use Rattle.std.specs.Prelude.{Option, Some, None, Result, Ok, Err, slice_index}
 use Rattle.nm_base.specs.declared.facts.Field.{Field}

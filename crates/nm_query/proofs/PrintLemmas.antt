@@ -1,4 +1,5 @@
 -- Two terms side by side, a text in parentheses, and a tree in full parentheses, as they are read.
+-- For the proofs of `a_printed_tree_is_read_back`, `parentheses_change_nothing` and `two_terms_of_a_kind_are_joined_by_or`.
 use Rattle.std.proofs.Common.{◌≡◌, ◌≢◌, ℕ, ◌+◌, ◌≤◌, true, false, cond, List, [], ◌∷◌, ◌++◌, length, refl, sym, ap, subst, inl, inr, ◌∙◌, arith}
 use Rattle.std.specs.Prelude.{Ok, Err, codes, nat_lt}
 use Rattle.std.proofs.lemmas.Bool.Decides.{nat_tests}

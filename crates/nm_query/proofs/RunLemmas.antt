@@ -1,4 +1,4 @@
--- Where a run of words begins, it has some bytes.
+-- Where a run of words begins, it has some bytes. For the proof of `unprefixed_at`.
 use Rattle.std.proofs.Common.{◌≡◌, ◌+◌, ◌<◌, true, false, cond, not, List, ℕ, [], ◌∷◌, arith}
 use Rattle.std.specs.List.{position_or_len}
 use Rattle.std.proofs.lemmas.Bool.Decides.{nat_tests}

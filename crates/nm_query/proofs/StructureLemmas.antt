@@ -1,4 +1,4 @@
--- What the grammar reads as a query has no fault of structure.
+-- What the grammar reads as a query has no fault of structure. For the proof of `tokens_without_a_fault_are_a_query`.
 use Rattle.std.proofs.Common.{◌≡◌, ℕ, suc, Bool, true, false, cond, not, List, [], ◌∷◌, ◌++◌, refl, sym, ap, ◌∙◌, append_assoc}
 use Rattle.std.specs.Prelude.{Some, None}
 use Rattle.std.proofs.lemmas.List.{append-nil}

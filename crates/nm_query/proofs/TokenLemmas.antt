@@ -1,4 +1,4 @@
--- The tokens of a text are those of its first lexeme and those of the rest.
+-- The tokens of a text are those of its first lexeme and those of the rest. For the proof of `tokens`.
 use Rattle.std.proofs.Common.{◌≡◌, ℕ, zero, suc, ◌+◌, ◌-◌, ◌<◌, ◌≤◌, List, [], ◌∷◌, ◌++◌, length, drop, refl, sym, ap, subst, ◌∙◌, arith, append_assoc}
 use Rattle.std.specs.Prelude.{Option, Some, None, Result, Ok, Err, IfOk}
 use Rattle.nm_query.specs.Lexemes.{lexeme_at}

@@ -1,4 +1,4 @@
--- What a text is as a query: a tree, or the one refusal.
+-- What a text is as a query: a tree, or the one refusal. Cited by `parsing`, `nm_core`, `nm_top` and others.
 use Rattle.std.specs.Prelude.{◌≡◌, ℕ, ◌≤◌, false, List, length, nat_lt, Some, None, Result, Ok, Err, if◌then◌else◌}
 use Rattle.nm_base.specs.Limits.{max_query_bytes}
 use Rattle.nm_base.specs.declared.limit.Limit.TheVariants.{QueryBytes, QueryDepth}

@@ -1,4 +1,5 @@
 -- Faults of structure: a parenthesis without its fellow, and an operator or a `(` without what it needs beside it.
+-- Cited by `faults`.
 use Rattle.std.specs.Prelude.{ℕ, zero, suc, Bool, true, false, ◌||◌, ◌&&◌, not, List, [], ◌∷◌, nat_le, Option, Some, None, if◌then◌else◌}
 use Rattle.nm_query.specs.declared.query_error.QueryError.{QueryError}
 use Rattle.nm_query.specs.declared.query_error.QueryError.TheVariants.{BadQuery}

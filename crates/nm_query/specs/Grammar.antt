@@ -1,6 +1,7 @@
 -- The grammar of queries, a case for each of its rules: which tokens are read as which query.
 --   query := or?   or := xor ("or" xor)*   xor := and ("xor" and)*   and := group ("and" group)*
 --   group := operand+   operand := "not" operand | "(" or ")" | term
+-- Cited by `laws`.
 use Rattle.std.specs.Prelude.{ℕ, List, [], ◌∷◌, ◌++◌}
 use Rattle.nm_query.specs.Groups.{group_query, joined}
 use Rattle.nm_query.specs.declared.query.Query.{Query}

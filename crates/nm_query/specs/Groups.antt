@@ -1,4 +1,5 @@
 -- Lists of queries that an operator joins, and the queries of a group, which stand side by side.
+-- Cited by `group` and `joined`.
 use Rattle.std.specs.Prelude.{ℕ, Bool, ◌==◌, not, List, [], ◌∷◌, filter, map, if◌then◌else◌}
 use Rattle.nm_query.specs.declared.query.Query.{Query}
 use Rattle.nm_query.specs.declared.query.Query.TheVariants as tree

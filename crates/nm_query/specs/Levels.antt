@@ -1,4 +1,5 @@
 -- The tree of a list of tokens, read from the left: a level for each parenthesis that is open.
+-- Cited by `level` and `reading`.
 use Rattle.std.specs.Prelude.{ℕ, zero, suc, ◌+◌, ◌==◌, List, [], ◌∷◌, ◌++◌, fold, if◌then◌else◌}
 use Rattle.nm_query.specs.Groups.{group_query, joined}
 use Rattle.nm_query.specs.declared.level.Level.{Level}

@@ -1,4 +1,4 @@
--- What begins at a place of a query: white space, a parenthesis, an operator or a term.
+-- What begins at a place of a query: white space, a parenthesis, an operator or a term. Cited by `lexeme`.
 use Rattle.std.specs.Prelude.{ℕ, ◌+◌, Bool, false, ◌&&◌, not, List, [], ◌∷◌, length, drop, Some, None, Result, Ok, Err, codes, if◌then◌else◌}
 use Rattle.std.specs.List.{before_first}
 use Rattle.std.specs.Str.{bytes_eq}

@@ -1,4 +1,5 @@
 -- How deep a query nests: a level is a `(` that isn't closed yet, or a `not` or `-` whose operand hasn't ended.
+-- Cited by `nesting`.
 use Rattle.std.specs.Prelude.{◌≡◌, ℕ, ◌+◌, ◌-◌, Bool, false, ◌||◌, List, [], ◌∷◌, length, nat_lt, sum}
 use Rattle.nm_query.specs.declared.nesting.Nesting.{Nesting}
 use Rattle.nm_query.specs.declared.token.Placed.{Placed}

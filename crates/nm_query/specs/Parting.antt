@@ -1,4 +1,4 @@
--- How a group is gone over for one kind of terms.
+-- How a group is gone over for one kind of terms. Cited by `group`.
 use Rattle.std.specs.Prelude.{◌==◌, List, [], ◌∷◌, ◌++◌, length, if◌then◌else◌}
 use Rattle.nm_query.specs.Groups.{is_of, joined}
 use Rattle.nm_query.specs.declared.group.Parted.{Parted}

@@ -1,4 +1,4 @@
--- The prefixes of terms.
+-- The prefixes of terms. Cited by `lexeme` and `prefixes`.
 use Rattle.std.specs.Prelude.{ℕ, ◌<◌, Bool, ◌||◌, List, Option, Some, None, codes, nat_eq, if◌then◌else◌}
 use Rattle.std.specs.List.{starts_with}
 use Rattle.std.specs.Str.{IsCharBoundary}

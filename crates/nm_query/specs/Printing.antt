@@ -1,4 +1,5 @@
 -- Texts that are made of texts: two terms side by side, a text in parentheses, a tree in full parentheses.
+-- Cited by `laws`.
 use Rattle.std.specs.Prelude.{◌≡◌, ◌⊎◌, ℕ, Bool, true, false, ◌==◌, ◌&&◌, List, [], ◌∷◌, ◌++◌, Ok, Err, codes, if◌then◌else◌}
 use Rattle.nm_base.specs.declared.limit.Limit.TheVariants.{QueryBytes, QueryDepth}
 use Rattle.nm_query.specs.Answers.{answer_of}

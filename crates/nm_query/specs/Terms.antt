@@ -1,4 +1,4 @@
--- What a value asks after its prefix, and what a run or a quoted text asks by itself.
+-- What a value asks after its prefix, and what a run or a quoted text asks by itself. Cited by `terms`.
 use Rattle.std.specs.Prelude.{ℕ, ◌+◌, ◌-◌, ◌*◌, Bool, true, false, ◌||◌, ◌&&◌, ◌==◌, not, List, [], ◌∷◌, length, take, drop, nat_le, nat_lt, slice_index, fold, Option, Some, None, Result, Ok, Err, codes, if◌then◌else◌}
 use Rattle.std.specs.List.{list_all}
 use Rattle.std.specs.Str.{bytes_eq}

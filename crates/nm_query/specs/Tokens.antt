@@ -1,4 +1,4 @@
--- The tokens of a query, each with its place, or the first fault of one.
+-- The tokens of a query, each with its place, or the first fault of one. Cited by `tokens`.
 use Rattle.std.specs.Prelude.{ℕ, zero, suc, ◌+◌, ◌-◌, List, [], ◌∷◌, Option, Some, None, Result, Ok, Err}
 use Rattle.nm_query.specs.Lexemes.{lexeme_at}
 use Rattle.nm_query.specs.declared.query_error.QueryError.{QueryError}

@@ -1,4 +1,4 @@
--- Values: a quoted text, or a run of bytes up to one that ends it.
+-- Values: a quoted text, or a run of bytes up to one that ends it. Cited by `lexeme` and `values`.
 use Rattle.std.specs.Prelude.{ℕ, ◌+◌, Bool, true, false, ◌||◌, ◌&&◌, ◌==◌, List, [], ◌∷◌, length, take, drop, Result, Ok, Err, if◌then◌else◌}
 use Rattle.std.specs.List.{before_first, position_or_len}
 use Rattle.nm_base.specs.Bounds.{is_white_space}

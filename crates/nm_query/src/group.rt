@@ -1,4 +1,4 @@
-//! The queries that stand side by side: terms of one kind are joined by Or, and all of them by And.
+//! The queries that stand side by side: terms of one kind are joined by Or, and all of them by And, for `level`.
 
 ghost use Rattle.std.specs.Prelude.{◌≡◌, IfOk, OnOk, fold, map};
 ghost use Rattle.nm_query.specs.Groups.{group_query, grouped, is_of, kind_number, queries_of, query_of, with_joined};

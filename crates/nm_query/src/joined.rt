@@ -1,4 +1,4 @@
-//! Queries that an operator joins.
+//! Queries that an operator joins, for `group` and `level`.
 
 ghost use Rattle.std.specs.Prelude.{◌≡◌};
 ghost use Rattle.nm_query.specs.Groups.{joined, list_of};

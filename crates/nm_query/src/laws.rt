@@ -1,4 +1,4 @@
-//! What follows from the definitions of queries. These functions run no code: their clauses are the laws.
+//! What follows from the definitions of queries. No code calls these functions: their clauses are the laws.
 
 ghost use Rattle.std.specs.Prelude.{◌≡◌, ◌≢◌, ◌≤◌, ◌↔◌, ◌++◌, ℕ, List, [], None, Ok, codes, length};
 ghost use Rattle.nm_base.specs.Limits.{max_query_bytes};

@@ -1,4 +1,4 @@
-//! What was read inside one parenthesis, or outside of all.
+//! What was read inside one parenthesis, or outside of all, for `reading`.
 
 ghost use Rattle.std.specs.Prelude.{◌≡◌, ◌+◌, IfOk, OnOk};
 ghost use Rattle.nm_query.specs.Levels.{after_operator, blank, end_conjunction, end_exclusion, end_group, level_query, negated, operand, with_item};

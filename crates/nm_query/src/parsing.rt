@@ -1,4 +1,4 @@
-//! The call `parse`: a text to its tree, or to the one refusal.
+//! The call `parse`: a text to its tree, or to the one refusal. `nm_session` and `nm_batch` read queries with it.
 
 ghost use Rattle.std.specs.Prelude.{◌≡◌, ◌⊎◌, ◌≤◌, IfOk, MatchResult, Ok, Err, length};
 ghost use Rattle.nm_query.specs.Answers.{answer_of, nested, structured, tokened};

@@ -1,4 +1,4 @@
-//! The prefixes of terms.
+//! The prefixes of terms, for `lexeme`.
 
 ghost use Rattle.std.specs.Prelude.{◌≡◌, ◌<◌, Some, None, MatchOption, drop, false, length, true};
 ghost use Rattle.nm_query.specs.Prefixes.{CutsOff, begins, begins_what_is_not_here, field_prefix, folder_prefix, tag_prefix};

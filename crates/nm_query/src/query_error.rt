@@ -1,4 +1,4 @@
-//! Why a text is no query.
+//! Why a text is no query: `parse` answers so, and `nm_log` makes its text of it.
 
 use nm_base::Limit;
 use thiserror::Error;

@@ -1,4 +1,4 @@
-//! Tokens read one by one into the tree of a query. It takes no recursion: levels stand on a stack.
+//! Tokens read one by one into the tree of a query, for `parse`. It takes no recursion: levels stand on a stack.
 
 ghost use Rattle.std.specs.Prelude.{◌≡◌, [], IfOk, OnOk};
 ghost use Rattle.nm_query.specs.Levels.{after, closed, read_after, tree_of};

@@ -1,4 +1,4 @@
-//! What a value asks after its prefix, and what a run or a quoted text asks by itself.
+//! What a value asks after its prefix, and what a run or a quoted text asks by itself, for `lexeme`.
 
 ghost use Rattle.std.specs.Prelude.{◌≡◌, ◌+◌, ◌*◌, ◌<◌, ◌≤◌, Err, IfOk, IsTrue, false, length, slice_index};
 ghost use Rattle.std.specs.List.{list_all};

@@ -1,4 +1,4 @@
-//! What the text of a query is made of.
+//! What the text of a query is made of: `tokens` cuts it into these, and `reading` takes them.
 
 use crate::Query;
 

@@ -1,4 +1,4 @@
-//! Quoted texts and runs; each term is read from one of them.
+//! Quoted texts and runs: `lexeme` reads each term from one of them.
 
 ghost use Rattle.std.specs.Prelude.{◌≡◌, ◌+◌, ◌-◌, ◌≤◌, ◌<◌, ◌∷◌, IfOk, drop, false, length, slice_index, true};
 ghost use Rattle.std.specs.List.{position_or_len};

@@ -1,4 +1,5 @@
 -- Tests that all pass, and lengths summed over a set of tags.
+-- For the proofs of `commit_len`, `FactsFormat::len`, `content_len` and others.
 use Rattle.std.proofs.Common.{◌≡◌, ℕ, ◌+◌, ℤ, pos, negsuc, min, Bool, true, false, ◌&&◌, List, [], ◌∷◌, length, refl, ap, sym, ◌∙◌, arith, length-append}
 use Rattle.std.specs.List.{flat_map, list_all, AllByRecursion}
 use Rattle.std.specs.List.Sorted.{IsStrictlySortedBy}

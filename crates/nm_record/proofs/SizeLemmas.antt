@@ -1,4 +1,4 @@
--- What an index takes in bytes, part by part.
+-- What an index takes in bytes, part by part. For the proof of `a_base_takes_what_its_parts_take`.
 use Rattle.std.proofs.Common.{◌≡◌, ap, ◌∙◌, ℕ, ◌+◌, List, ◌++◌, length, length-append, arith}
 use Rattle.std.specs.List.{flat_map, sum_by}
 use Rattle.std.proofs.lemmas.List.Concat.{length-flat_map}

@@ -1,5 +1,6 @@
 -- An index in bytes: its revision, the next number, its files in the order of their arrival, its kept rows, its entries, and the
 -- live ids with their tags.
+-- Cited by `laws` and `nm_state`.
 use Rattle.std.specs.Prelude.{ℕ, List, ◌++◌, length}
 use Rattle.nm_index.specs.Index.{row_bytes}
 use Rattle.nm_index.specs.declared.base.Base.{Base}

@@ -1,4 +1,4 @@
--- A change is read again as it was written, and what is read was written so.
+-- A change is read again as it was written, and what is read was written so. Cited by `CommitGrammar`.
 use Rattle.std.proofs.Common.{◌≡◌, ℕ, zero, suc, ◌^◌, ◌<◌, true, List, ◌++◌, length, Ok, refl, ap, subst, arith}
 use Rattle.std.specs.Int.{w8}
 use Rattle.nm_commit.specs.declared.change.Change.{Change}

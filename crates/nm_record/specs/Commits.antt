@@ -1,4 +1,5 @@
 -- Changes and commits in bytes: a change is its kind in one byte, and then what it speaks of; a commit is a list of them.
+-- Cited by `changes`, `commits`, `nm_state` and others.
 use Rattle.std.specs.Prelude.{ℕ, zero, suc, Bool, true, List, ◌∷◌, length, Err}
 use Rattle.std.specs.Int.{w8}
 use Rattle.nm_base.specs.Limits.{is_date}

@@ -1,5 +1,6 @@
 -- The facts of a mail in bytes, field by field: its id, its links, its date, the mailboxes of From and of To, its subject, its
 -- words, its types, its marks.
+-- Cited by `changes`, `facts` and `names`.
 use Rattle.std.specs.Prelude.{ℕ, ℤ, List, refl}
 use Rattle.nm_base.specs.MessageId.{is_message_id}
 use Rattle.nm_base.specs.MailPath.{is_mail_path}

@@ -1,4 +1,4 @@
--- The numbers that an index keeps to, and which of them it passes.
+-- The numbers that an index keeps to, and which of them it passes. Cited by `nm_state` and `nm_writer`.
 use Rattle.std.specs.Prelude.{ℕ, ◌^◌, ◌||◌, nat_lt, length, Option, None, Some, if◌then◌else◌}
 use Rattle.nm_base.specs.Limits.{max_files, max_index_bytes}
 use Rattle.nm_base.specs.declared.limit.Limit.{Limit}

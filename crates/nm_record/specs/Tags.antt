@@ -1,4 +1,4 @@
--- A set of tags in bytes: its tags, which rise strictly by their bytes.
+-- A set of tags in bytes: its tags, which rise strictly by their bytes. Cited by `lens`, `tag_list` and `nm_state`.
 use Rattle.std.specs.Prelude.{ℕ, List}
 use Rattle.std.specs.Cmp.Lexicographic.{slice_cmp}
 use Rattle.std.specs.Ordering.{nat_cmp}

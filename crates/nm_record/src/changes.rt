@@ -1,4 +1,4 @@
-//! Changes in bytes; a commit is a list of them.
+//! Changes in bytes: a commit is a list of them in `commits`.
 
 ghost use Rattle.std.specs.Prelude.{◌≡◌, ◌++◌, ◌<◌, ◌^◌, length, min, OnOk};
 ghost use Rattle.nm_base.specs.Limits.{is_date, max_count};

@@ -1,4 +1,4 @@
-//! Commits in bytes; the journal keeps them.
+//! Commits in bytes: `nm_writer` has the journal keep them, and reads them back where it replays.
 
 ghost use Rattle.std.specs.Prelude.{◌≡◌, ◌&&◌, ◌<◌, ◌^◌, ℕ, List, length, min, nat_lt, true, IfOk};
 ghost use Rattle.std.specs.List.{list_all};

@@ -1,4 +1,4 @@
-//! The facts of a mail in bytes; an arrival has them.
+//! The facts of a mail in bytes, for `changes`: a mail that comes has them.
 
 ghost use Rattle.std.specs.Prelude.{◌≡◌, ◌++◌, ◌<◌, ◌^◌, length, min, true, OnOk};
 ghost use Rattle.nm_base.specs.Limits.{is_date, max_count};

@@ -1,4 +1,4 @@
-//! Ids, tags and paths as texts that obey their rules; facts and changes are made of them.
+//! Ids, tags and paths as texts that obey their rules: `facts` and `changes` are made of them.
 
 ghost use Rattle.std.specs.Prelude.{true};
 ghost use Rattle.nm_record.specs.Facts.{id_grammar, path_grammar, tag_grammar};

@@ -1,4 +1,4 @@
-//! A set of tags in bytes: its tags, which rise strictly.
+//! A set of tags in bytes: its tags, which rise strictly, for `changes`.
 
 ghost use Rattle.std.specs.Prelude.{◌≡◌, length, min, true, IfOk, None};
 ghost use Rattle.std.specs.Cmp.Lexicographic.{slice_cmp};

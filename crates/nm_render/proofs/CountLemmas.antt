@@ -1,4 +1,4 @@
--- Messages counted one after the other.
+-- Messages counted one after the other. For the proofs of `author_of`, `add_files`, `count_threads` and others.
 use Rattle.std.proofs.Common.{◌≡◌, ℕ, ◌+◌, ◌<◌, Bool, true, false, ◌||◌, List, [], ◌∷◌, ◌++◌, length, take, get_or, if◌then◌else◌, refl, sym, ap, ◌∙◌}
 use Rattle.std.specs.BTreeSet.{insert_key}
 use Rattle.std.specs.List.{filter, filter_map, fold}

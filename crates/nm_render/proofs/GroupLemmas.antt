@@ -1,4 +1,5 @@
 -- Messages by their threads, where only those of some threads are looked at.
+-- For the proofs of `groups_of`, `printed_ids`, `summary_lines` and others.
 use Rattle.std.proofs.Common.{◌≡◌, refl, sym, ap, ap₂, subst, ◌∙◌, ℕ, ◌==◌, Bool, true, false, cond, List, [], ◌∷◌, ◌++◌, map, filter, nat_eq, Option, Some, None, true≢false, arith}
 use Rattle.std.specs.List.{flat_map, list_any}
 use Rattle.std.proofs.lemmas.Bool.{eq-eqb, eqb-true, or_left, or_right}

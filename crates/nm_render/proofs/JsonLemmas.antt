@@ -1,4 +1,4 @@
--- The text of a value, by this crate's words and by the library's.
+-- The text of a value, by this crate's words and by the library's. For the proof of `strings_json`.
 use Rattle.std.proofs.Common.{◌≡◌, ℕ, true, false, List, [], ◌∷◌, ◌++◌, map, refl, sym, ap, ◌∙◌, append_assoc}
 use Rattle.std.specs.Prelude.{max}
 use Rattle.std.specs.List.{flat_map}

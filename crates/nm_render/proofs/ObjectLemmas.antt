@@ -1,4 +1,5 @@
 -- The text of an object, by this crate's words and by the library's.
+-- For the proofs of `objects_of` and `summaries_json`.
 use Rattle.std.proofs.Common.{◌≡◌, ◌≤◌, ℕ, ℤ, pos, negsuc, suc, Bool, true, false, ◌||◌, List, [], ◌∷◌, ◌++◌, map, codes, refl, sym, ap, ap₂, ◌∙◌, ◌+◌, ◌<◌, length, take, get_or, arith, append_assoc}
 use Rattle.std.proofs.lemmas.List.{map-append, take_more}
 use Rattle.std.specs.Prelude.{max}

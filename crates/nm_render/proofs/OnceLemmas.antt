@@ -1,4 +1,4 @@
--- Items each once, one item after the other.
+-- Items each once, one item after the other. For the proof of `names_of`.
 use Rattle.std.proofs.Common.{◌≡◌, ℕ, ◌+◌, ◌<◌, Bool, true, false, ◌||◌, List, [], ◌∷◌, ◌++◌, length, take, get_or, if◌then◌else◌, Option, refl, sym, ap, ◌∙◌}
 use Rattle.std.specs.List.{filter_map, list_any}
 use Rattle.std.proofs.lemmas.List.{take_more}

@@ -1,4 +1,4 @@
--- Items put into a map by their ranks, and by their places where ranks are equal.
+-- Items put into a map by their ranks, and by their places where ranks are equal. For the proof of `ordered`.
 use Rattle.std.proofs.Common.{◌≡◌, ℕ, ℤ, ◌+◌, ◌<◌, Bool, true, false, cond, List, [], ◌∷◌, ◌++◌, map, length, take, get_or, refl, sym, ap, subst, ◌∙◌, arith}
 use Rattle.std.specs.List.{AllByRecursion}
 use Rattle.std.specs.BTreeMap.{insert_entry}

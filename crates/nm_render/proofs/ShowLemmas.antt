@@ -1,4 +1,4 @@
--- Each message that is shown has a lead file.
+-- Each message that is shown has a lead file. For the proof of `shown_ids`.
 use Rattle.std.proofs.Common.{◌≡◌, ℕ, ℤ, Bool, true, false, ◌||◌, int_lt, List, [], ◌∷◌, length, map, fold, if◌then◌else◌, refl, ◌∙◌, length-append, arith}
 use Rattle.std.specs.List.{AllByRecursion, filter}
 use Rattle.nm_answer.specs.Listing.{at_rank}

@@ -1,4 +1,4 @@
--- A subject without one mark more.
+-- A subject without one mark more. For the proofs of `mailboxes_text`, `bare_subject` and `joined`.
 use Rattle.std.proofs.Common.{◌≡◌, ◌≤◌, ◌<◌, ℕ, zero, suc, true, false, List, [], ◌∷◌, ◌++◌, map, length, take, drop, codes, refl, sym, ap, ◌∙◌, arith, append-nil, append_assoc, if◌then◌else◌}
 use Rattle.std.specs.Char.{to_ascii_lowercase}
 use Rattle.std.proofs.lemmas.List.{length-drop, length-map, length-take}

@@ -1,4 +1,4 @@
--- What is told piece by piece.
+-- What is told piece by piece. For the proofs of `push_names` and `push_thread`.
 use Rattle.std.proofs.Common.{◌≡◌, ℕ, List, [], ◌∷◌, ◌++◌, map, refl, ap, ap₂, ◌∙◌, append_assoc}
 use Rattle.std.specs.List.{flat_map}
 

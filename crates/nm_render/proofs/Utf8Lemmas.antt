@@ -1,4 +1,4 @@
--- What is shown of a text in UTF-8 is in UTF-8.
+-- What is shown of a text in UTF-8 is in UTF-8. For the proofs of `bare_subject` and `shown`.
 use Rattle.std.proofs.Common.{◌≡◌, ◌==◌, ◌||◌, ℕ, zero, suc, ◌<◌, ◌≤◌, Bool, true, false, nat_lt, cond, if◌then◌else◌, List, [], ◌∷◌, length, take, drop, map, get_or, codes, IsUtf8, inl, inr, refl, sym, ap, ap₂, ◌∙◌, subst, arith, append-nil, eqb-true, le-ltb, ne_eqb, lit<, one-add, ◌+◌}
 use Rattle.std.proofs.lemmas.Bool.{and_parts, cases_lt, or_cases}
 use Rattle.std.proofs.lemmas.List.{map-append}

@@ -1,4 +1,4 @@
--- Messages that are kept by the names of their threads.
+-- Messages that are kept by the names of their threads. Cited by `groups`, `summary` and `summary_json`.
 use Rattle.std.specs.Prelude.{ℕ, Bool, false, List, [], Option, Some, None, nat_eq, unwrap_or}
 use Rattle.std.specs.BTreeMap.{BTreeMap, get}
 use Rattle.std.specs.List.{list_any}

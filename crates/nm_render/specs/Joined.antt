@@ -1,4 +1,4 @@
--- What follows the first of texts that are joined.
+-- What follows the first of texts that are joined. Cited by `mailboxes` and `shown`.
 use Rattle.std.specs.Prelude.{ℕ, List, ◌++◌}
 use Rattle.std.specs.List.{flat_map}
 

@@ -1,4 +1,4 @@
--- The order in which messages are kept until they are printed.
+-- The order in which messages are kept until they are printed. Cited by `order`.
 use Rattle.std.specs.Prelude.{ℕ, ℤ}
 use Rattle.std.specs.Ordering.{int_cmp, nat_cmp, ordering_then}
 use Rattle.std.specs.declared.cmp.Ordering.{Ordering}

@@ -1,4 +1,4 @@
--- JSON replies as the library's own reader reads them.
+-- JSON replies as the library's own reader reads them. Cited by `items`, `printing`, `search` and others.
 use Rattle.std.specs.Prelude.{◌≡◌, ℕ, List, [], ◌∷◌, ◌++◌, map, Some}
 use Rattle.serde_json.specs.Data.{Data, array, string}
 use Rattle.serde_json.specs.Read.{read}

@@ -1,4 +1,4 @@
--- The summary of a thread as the value that its object is.
+-- The summary of a thread as the value that its object is. Cited by `summary` and `summary_json`.
 use Rattle.std.specs.Prelude.{map, codes, IsUtf8}
 use Rattle.serde_json.specs.Data.{Data, array, member, no_members, number, object, put, string, unsigned, Members}
 use Rattle.serde_json.specs.Find.{of_integer}

@@ -1,4 +1,4 @@
-//! Who wrote the messages of a thread.
+//! Who wrote the messages of a thread, for `summary`.
 
 ghost use Rattle.std.specs.Prelude.{◌≡◌, ◌++◌, [], ◌∷◌, map, string_bytes, IfOk, IsUtf8, OnOk};
 ghost use Rattle.std.specs.List.{filter};

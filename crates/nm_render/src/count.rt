@@ -1,4 +1,4 @@
-//! The reply to a count. The machine judges replies by it, and a session answers with it.
+//! The reply to a count: `nm_session` answers with it, and `nm_core` judges replies by it.
 
 ghost use Rattle.std.specs.Prelude.{◌≡◌, ◌+◌, ◌++◌, [], ◌∷◌, fold, length, IfOk, OnOk};
 ghost use Rattle.std.specs.BTreeSet.{insert_key};

@@ -1,4 +1,4 @@
-//! The messages of the threads that are printed.
+//! The messages of the threads that are printed, for `summary` and `summary_json`.
 
 ghost use Rattle.std.specs.Prelude.{◌≡◌, ◌==◌, ◌++◌, ℕ, [], ◌∷◌, true, nat_eq, if◌then◌else◌, IfOk, OnOk};
 ghost use Rattle.std.specs.List.{filter, list_any};

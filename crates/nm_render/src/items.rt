@@ -1,4 +1,4 @@
-//! What a search for threads, messages, files or tags prints.
+//! What a search for threads, messages, files or tags prints, for `search_reply`.
 
 ghost use Rattle.std.specs.Prelude.{◌≡◌, [], true, codes, map, IfOk};
 ghost use Rattle.serde_json.specs.Data.{string};

@@ -1,4 +1,4 @@
-//! The threads, files and tags of messages, and the part of a list that is asked for.
+//! The threads, files and tags of messages, and the part of a list that is asked for, for `items` and `summary`.
 
 ghost use Rattle.std.specs.Prelude.{◌≡◌, ◌++◌, map, nat_eq, not, fold, IfOk, OnOk, [], ◌∷◌};
 ghost use Rattle.std.specs.List.{filter, filter_map, list_any};

@@ -1,4 +1,4 @@
-//! The messages that a query finds, in steps that nobody counts.
+//! The messages that a query finds, in steps that nobody counts, for `count`, `search` and `show`.
 
 ghost use Rattle.std.specs.Prelude.{◌≡◌, ◌<◌, IfOk};
 ghost use Rattle.nm_answer.specs.Matches.{matches_of};

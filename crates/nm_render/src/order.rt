@@ -1,4 +1,4 @@
-//! The messages that a search finds, in its order.
+//! The messages that a search finds, in its order, for `search` and `show`.
 
 ghost use Rattle.std.specs.Prelude.{◌≡◌, IfOk, OnOk};
 ghost use Rattle.std.specs.BTreeMap.{insert_entry};

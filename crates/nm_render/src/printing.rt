@@ -1,4 +1,4 @@
-//! Texts as lines, or as a JSON array of strings.
+//! Texts as lines, or as a JSON array of strings, for `items` and `summary_json`.
 
 ghost use Rattle.std.specs.Prelude.{◌≡◌, ◌≤◌, ◌++◌, map, false, true, IfOk, OnOk, Some};
 ghost use Rattle.serde_json.specs.Data.{array, depth, string};

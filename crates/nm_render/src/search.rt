@@ -1,4 +1,4 @@
-//! The reply to a search. The machine judges replies by it, and a session answers with it.
+//! The reply to a search: `nm_session` answers with it, and `nm_core` judges replies by it.
 
 ghost use Rattle.std.specs.Prelude.{◌≡◌, true, IfOk};
 ghost use Rattle.nm_answer.specs.Found.{found_text, search_found, summaries_text};

@@ -1,4 +1,5 @@
-//! What `show` tells: which messages it finds, which files it reads for them, and the text over what those reads gave.
+//! What `show` tells, for `nm_session`: which messages it finds, which files it reads for them, and the text over
+//! what those reads gave.
 
 ghost use Rattle.std.specs.Prelude.{◌≡◌, ◌++◌, false, length, IfErr, IfOk, None, OnOk, is_ok};
 ghost use Rattle.nm_answer.specs.Show.{first_lost, gone_path, is_not_one, lead_path, lead_paths, raw_text, show_text, shown_ids};

@@ -1,4 +1,4 @@
-//! Texts as a summary shows them.
+//! Texts as a summary shows them, for `summary`, `authors` and `message`.
 
 ghost use Rattle.std.specs.Prelude.{◌≡◌, ◌≤◌, ◌++◌, length, IfOk, IsUtf8, OnOk, string_bytes};
 ghost use Rattle.nm_answer.specs.Json.{joined};

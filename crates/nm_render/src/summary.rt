@@ -1,4 +1,4 @@
-//! The summaries of the threads that a search finds.
+//! The summaries of the threads that a search finds, for `search_reply`.
 
 ghost use Rattle.std.specs.Prelude.{◌≡◌, ◌++◌, codes, IfOk, IsUtf8, OnOk};
 ghost use Rattle.std.specs.Fmt.{decimal};

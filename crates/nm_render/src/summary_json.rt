@@ -1,4 +1,4 @@
-//! The summaries of the threads that a search finds, as a JSON array of objects.
+//! The summaries of the threads that a search finds, as a JSON array of objects, for `search_reply`.
 
 ghost use Rattle.std.specs.Prelude.{◌≡◌, map, IfOk, OnOk};
 ghost use Rattle.serde_json.specs.Data.{array, put as with_member, string};

@@ -1,4 +1,5 @@
 -- A mail that comes: its numbers, its tags, its row, and what is held then.
+-- For the proofs of `add_mail` and `move_mail`.
 use Rattle.std.proofs.Common.{◌≡◌, refl, sym, ap, subst, ◌∙◌, ℕ, ◌+◌, Bool, true, false, cond, List, [], ◌∷◌, ◌++◌, map, inl, inr, ◌⊎◌, if◌then◌else◌}
 use Rattle.std.specs.Prelude.{Contains, fold}
 use Rattle.std.specs.BTreeMap.{insert_entry}

@@ -1,4 +1,4 @@
--- The changes of a commit, one after the other.
+-- The changes of a commit, one after the other. For the proofs of `apply_changes`, `changes_fit` and `counts_anew`.
 use Rattle.std.proofs.Common.{◌≡◌, sym, ap, subst, refl, ◌∙◌, ℕ, zero, suc, ◌+◌, ◌<◌, ◌≤◌, List, [], ◌∷◌, ◌++◌, length, take, arith}
 use Rattle.std.specs.Prelude.{fold, slice_index_or}
 use Rattle.std.proofs.lemmas.List.{take_more}

@@ -1,4 +1,5 @@
 -- The files of an index and their maps: what is there, and what an arrival, a move and a removal leave.
+-- For the proofs of `add_file`, `has_file`, `is_live` and others.
 use Rattle.std.proofs.Common.{◌≡◌, ◌≢◌, refl, sym, ap, subst, ◌∙◌, ℕ, ◌+◌, ◌<◌, Bool, true, false, ◌||◌, ◌==◌, not, cond, List, map, [], ◌∷◌, ◌++◌, arith, inl, inr, true≢false, if◌then◌else◌, eq-eqb, eqb-true}
 use Rattle.std.specs.Prelude.{Contains, Option, Some, None, unwrap_or}
 use Rattle.std.specs.BTreeMap.{insert_entry, is_at}

@@ -1,4 +1,4 @@
--- Rows of an index, and what its live messages hold.
+-- Rows of an index, and what its live messages hold. For `AddLemmas`, `PruneLemmas` and `TakeLemmas`.
 use Rattle.std.proofs.Common.{◌≡◌, sym, subst, ℕ, true, ◌&&◌, List, map, inl, inr, ◌⊎◌}
 use Rattle.std.specs.Prelude.{Contains}
 use Rattle.std.proofs.lemmas.Bool.{and_from}

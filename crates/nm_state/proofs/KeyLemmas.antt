@@ -1,4 +1,4 @@
--- Items among items, and keys that are the same.
+-- Items among items, and keys that are the same. For the proofs of `keep_row` and `row_of_mail`.
 use Rattle.std.proofs.Common.{◌≡◌, ◌≢◌, refl, sym, ap, subst, ◌∙◌, ℕ, zero, suc, ◌<◌, Bool, true, false, cond, List, map, [], ◌∷◌, arith, inl, inr, ◌⊎◌, true≢false}
 use Rattle.std.specs.Prelude.{Contains, Option, Some, None}
 use Rattle.std.specs.List.{AllByRecursion, list_any}

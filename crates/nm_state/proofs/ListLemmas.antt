@@ -1,4 +1,4 @@
--- Items of two lists put together.
+-- Items of two lists put together. For `AddLemmas`, `HeldLemmas` and `RenumberLemmas`.
 use Rattle.std.proofs.Common.{◌≡◌, refl, ap, subst, List, [], ◌∷◌, ◌++◌, map, inl, inr, ◌⊎◌}
 use Rattle.std.specs.Prelude.{Contains}
 use Rattle.nm_state.proofs.KeyLemmas.{Contains_there, Contains_first, Contains_cases, Contains_none}

@@ -1,4 +1,5 @@
 -- The kept rows of one mail stand side by side: their bytes begin alike.
+-- For the proofs of `forget_mail`, `forget_rows` and `row_of_mail`.
 use Rattle.std.proofs.Common.{◌≡◌, refl, sym, ap, subst, ◌∙◌, ℕ, ◌+◌, Bool, true, false, ◌||◌, not, cond, List, [], ◌∷◌, ◌++◌, length, take, arith, inl, inr, true≢false, eq-eqb}
 use Rattle.std.specs.Prelude.{Contains, Some, slice_index_or, ◌<◌, nat_eq}
 use Rattle.std.specs.BTreeMap.{is_at}

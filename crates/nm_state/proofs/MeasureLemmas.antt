@@ -1,4 +1,5 @@
 -- Sums over the pairs of maps, over entries and over ids.
+-- For the proofs of `MeasuredLabels::drop_thread`, `count_new`, `entry_len` and others.
 use Rattle.std.proofs.Common.{◌≡◌, refl, sym, ap, ◌∙◌, ℕ, ◌+◌, ◌-◌, ◌≤◌, Bool, true, false, cond, ◌||◌, List, [], ◌∷◌, ◌++◌, length, length-append, map, min, not, arith, true≢false}
 use Rattle.std.specs.Prelude.{Contains, MatchOption, Option, None, Some}
 use Rattle.std.specs.BTreeMap.{insert_entry, is_at}

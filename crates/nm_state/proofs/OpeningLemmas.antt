@@ -1,4 +1,5 @@
 -- A snapshot made of an index as data: each list goes into its map in its own order.
+-- For the proofs of `file_all`, `keep_all`, `parts_of` and others.
 use Rattle.std.proofs.Common.{◌≡◌, refl, sym, ap, subst, ◌∙◌, ℕ, zero, suc, ◌+◌, ◌<◌, ◌≤◌, ◌^◌, Bool, true, false, ◌||◌, List, [], ◌∷◌, ◌++◌, length, map, take, arith}
 use Rattle.std.specs.Prelude.{slice_index_or, IsTrue}
 use Rattle.std.specs.BTreeMap.{insert_entry}

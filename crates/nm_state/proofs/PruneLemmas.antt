@@ -1,4 +1,4 @@
--- What goes once the thread of a mail that went has no live message.
+-- What goes once the thread of a mail that went has no live message. For the proof of `prune`.
 use Rattle.std.proofs.Common.{◌≡◌, refl, sym, ap, subst, ◌∙◌, ℕ, Bool, true, false, ◌&&◌, ◌||◌, not, cond, List, [], ◌∷◌, map, inl, inr, ◌⊎◌, true≢false}
 use Rattle.std.specs.Prelude.{Contains}
 use Rattle.std.specs.List.{filter, list_any}

@@ -1,4 +1,4 @@
--- The paths and the files of a message as they are read.
+-- The paths and the files of a message as they are read. For the proofs of `files_of` and `paths_of`.
 use Rattle.std.proofs.Common.{◌≡◌, refl, sym, ap, ◌∙◌, ℕ, Bool, true, false, cond, List, [], ◌∷◌}
 use Rattle.std.specs.Prelude.{Contains, Option, Some, None}
 use Rattle.std.specs.List.{filter, filter_map, list_any}

@@ -1,4 +1,5 @@
 -- Indices that differ in their numbers alone, and that changes keep them so.
+-- For the proofs of `counted`, `renumbered` and `counts_anew`.
 use Rattle.std.proofs.Common.{◌≡◌, refl, sym, ap, subst, ◌∙◌, ℕ, suc, zero, ◌+◌, ◌-◌, ◌<◌, ◌≤◌, Bool, true, false, ◌||◌, cond, List, [], ◌∷◌, ◌++◌, length, map, min, take, arith, true≢false}
 use Rattle.std.specs.Prelude.{IsTrue, fold, slice_index_or}
 use Rattle.std.specs.BTreeMap.{insert_entry}

@@ -1,4 +1,5 @@
 -- What the parts of a snapshot come to, and which limit that passes.
+-- For the proofs of `counts_made`, `counts_of`, `Snapshot::apply_within_limits` and others.
 use Rattle.std.proofs.Common.{◌≡◌, refl, sym, ap, ◌∙◌, ℕ, ◌+◌, ◌<◌, ◌≤◌, Bool, true, false, cond, ◌||◌, List, [], ◌∷◌, length, length-append, min, arith, true≢false}
 use Rattle.std.specs.Prelude.{Contains, Option, None, Some, Result, Ok, Err, nat_lt}
 use Rattle.std.specs.List.{sum_by}

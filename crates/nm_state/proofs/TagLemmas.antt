@@ -1,4 +1,5 @@
 -- Tags stand beside the messages that have a file, whatever comes and goes.
+-- For the proofs of `tag_message`, `untag` and `tag_first`.
 use Rattle.std.proofs.Common.{◌≡◌, ◌≢◌, refl, sym, ap, subst, ◌∙◌, ℕ, Bool, true, false, ◌||◌, not, cond, List, [], ◌∷◌, ◌++◌, inl, inr, true≢false, if◌then◌else◌}
 use Rattle.std.specs.Prelude.{Contains, IsTrue, Option, None, Some, ◌↔◌}
 use Rattle.std.specs.Cmp.Lexicographic.{slice_cmp}

@@ -1,4 +1,4 @@
--- The live messages of a thread, by the labels.
+-- The live messages of a thread, by the labels. For the proof of `messages_of`.
 use Rattle.std.proofs.Common.{◌≡◌, refl, sym, ap, ◌∙◌, ℕ, Bool, true, false, cond, ◌==◌, List, [], ◌∷◌, map, filter, Option, Some}
 use Rattle.std.specs.Prelude.{Contains}
 use Rattle.nm_base.specs.declared.facts.Facts.{Facts}

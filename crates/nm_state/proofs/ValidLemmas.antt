@@ -1,4 +1,4 @@
--- The index that the parts make is valid.
+-- The index that the parts make is valid. For the proofs of `base_of` and `a_snapshot_is_a_valid_index`.
 use Rattle.std.proofs.Common.{◌≡◌, refl, sym, ap, subst, ◌∙◌, ℕ, ◌<◌, ◌≤◌, true, false, List, [], ◌∷◌, map, arith, true≢false}
 use Rattle.std.specs.Prelude.{Contains, IsTrue}
 use Rattle.std.specs.Cmp.Lexicographic.{slice_cmp}

@@ -1,4 +1,4 @@
--- What an index comes to.
+-- What an index comes to. Cited by `room`.
 use Rattle.std.specs.Prelude.{◌≡◌, length, min}
 use Rattle.nm_base.specs.Limits.{max_count}
 use Rattle.nm_index.specs.declared.base.Base.{Base}

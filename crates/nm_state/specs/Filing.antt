@@ -1,4 +1,5 @@
 -- The files of an index in the maps that they are kept in. Each has a place, and places rise in the order of arrival.
+-- Cited by `dropping`, `exporting`, `filing` and others.
 use Rattle.std.specs.Prelude.{◌≡◌, ℕ, ◌<◌, ◌==◌, not, List, [], ◌∷◌, map, filter, Option, Some, None, unwrap_or}
 use Rattle.std.specs.BTreeMap.{is_at}
 use Rattle.std.specs.Cmp.Lexicographic.{slice_cmp}

@@ -1,4 +1,4 @@
--- Kept rows in the map that they are kept in: each stands at its bytes.
+-- Kept rows in the map that they are kept in: each stands at its bytes. Cited by `kept` and `opening`.
 use Rattle.std.specs.Prelude.{◌≡◌, ℕ, false, List, Contains}
 use Rattle.std.specs.Map.{keys_of}
 use Rattle.nm_base.specs.Order.{IsSorted, same_text}

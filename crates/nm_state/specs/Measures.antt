@@ -1,4 +1,5 @@
 -- What the parts of a snapshot take in the bytes of its index.
+-- Cited by `measured_labels`, `measured_map` and `measures`.
 use Rattle.std.specs.Prelude.{◌≡◌, ℕ, ◌+◌, ◌||◌, true, List, length}
 use Rattle.std.proofs.Common.{ap, sym, ◌∙◌}
 use Rattle.std.specs.List.{sum_by}

@@ -1,4 +1,4 @@
--- The parts of a snapshot, and the index that they make.
+-- The parts of a snapshot, and the index that they make. Cited by `applying`, `changes`, `dropping` and others.
 use Rattle.std.specs.Prelude.{◌≡◌, ◌⊎◌, ℕ, true, List, Some, Contains, if◌then◌else◌}
 use Rattle.std.specs.BTreeMap.{is_at}
 use Rattle.std.specs.BTreeSet.{insert_key}

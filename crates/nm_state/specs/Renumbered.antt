@@ -1,4 +1,4 @@
--- An index whose ids are numbered anew: it takes as many bytes.
+-- An index whose ids are numbered anew: it takes as many bytes. Cited by `renumbering`.
 use Rattle.std.specs.Prelude.{ℕ, ◌+◌, List, [], ◌∷◌, length}
 use Rattle.nm_index.specs.declared.base.Base.{Base}
 

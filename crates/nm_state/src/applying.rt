@@ -1,4 +1,4 @@
-//! The changes of a commit, one after the other.
+//! The changes of a commit, one after the other, for `snapshot`.
 
 ghost use Rattle.std.specs.Prelude.{◌≡◌, ◌≤◌, ◌^◌, fold, IsTrue, OnOk};
 ghost use Rattle.std.specs.List.{AllByRecursion};

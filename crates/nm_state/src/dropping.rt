@@ -1,5 +1,5 @@
-//! A mail that goes: its row is kept, and then what no live message holds goes. Only the thread of the mail can have lost
-//! its last live message, so nothing else is looked at.
+//! A mail that goes, for `applying`: its row is kept, and then what no live message holds goes. Only the thread of
+//! the mail can have lost its last live message, so nothing else is looked at.
 
 ghost use Rattle.std.specs.Prelude.{◌≡◌, ◌≢◌, ◌∷◌, [], ℕ, List, true, IfOk, OnOk};
 ghost use Rattle.std.specs.List.{list_any};

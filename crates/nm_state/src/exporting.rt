@@ -1,4 +1,4 @@
-//! A snapshot as data.
+//! A snapshot as data, for `snapshot` and `renumbering`. The clauses of all that changes a snapshot speak of it.
 
 ghost use Rattle.std.specs.Prelude.{◌≡◌, IfOk};
 ghost use Rattle.std.specs.Map.{values_of};

@@ -1,4 +1,4 @@
-//! Which commits fit: each change is held against the files that the changes before it leave.
+//! Which commits fit, for `snapshot`: each change is held against the files that the changes before it leave.
 
 ghost use Rattle.std.specs.Prelude.{◌≡◌, ◌↔◌, false, IfOk, IsTrue, OnOk};
 ghost use Rattle.nm_commit.specs.Files.{FitChanges, FitsChange, changed, has_path};

@@ -1,4 +1,4 @@
-//! The rows of mails that went while their thread is there.
+//! The rows of mails that went while their thread is there, for `dropping`.
 
 ghost use Rattle.std.specs.Prelude.{◌≡◌, not, Some, IfOk, MatchOption, OnOk, Contains};
 ghost use Rattle.std.specs.BTreeSet.{insert_key};

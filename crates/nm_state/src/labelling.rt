@@ -1,4 +1,4 @@
-//! The labels and tags of a mail that comes, and the laws of threads that the work rests on.
+//! The labels and tags of a mail that comes, for `changes`, and the laws of threads that the work rests on.
 
 ghost use Rattle.std.specs.Prelude.{◌≡◌, ◌≤◌, ◌^◌, ◌∷◌, ◌++◌, [], ℕ, List, IfOk, OnOk, if◌then◌else◌};
 ghost use Rattle.std.specs.BTreeMap.{insert_entry};

@@ -1,4 +1,4 @@
-//! The ids of the messages that have a file, by their numbers.
+//! The ids of the messages that have a file, by their numbers, which a `snapshot` lists.
 
 ghost use Rattle.std.specs.Prelude.{◌≡◌, length};
 ghost use Rattle.std.specs.Iterator.{at_most};

@@ -1,4 +1,4 @@
-//! Labels that count what the ids with their numbers take in an index as data; the parts of a snapshot hold them.
+//! Labels that count what the ids with their numbers take in an index as data: the `parts` of a snapshot hold them.
 
 ghost use Rattle.std.specs.Prelude.{◌≡◌, ◌+◌, ◌<◌, ◌≤◌, ◌^◌, ◌∷◌, ◌++◌, ◌||◌, [], List, false, not, map, length, min, ℕ, IfOk, OnErr, OnOk, MatchOption, Contains};
 ghost use Rattle.std.specs.List.{filter};

@@ -1,4 +1,4 @@
-//! What the keys and values of a snapshot's maps take in an index as data.
+//! What the keys and values of each `MeasuredMap` of a snapshot take in an index as data.
 
 ghost use Rattle.std.specs.Prelude.{length, refl};
 ghost use Rattle.nm_codec.specs.Spelling.{text_bytes};

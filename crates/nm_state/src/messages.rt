@@ -1,4 +1,4 @@
-//! The messages of one thread, by its labels: no other thread is looked at.
+//! The messages of one thread, by its labels: no other thread is looked at. A `snapshot` answers so.
 
 ghost use Rattle.std.specs.Prelude.{◌≡◌, IfOk};
 ghost use Rattle.std.specs.List.{filter};

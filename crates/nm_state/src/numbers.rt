@@ -1,4 +1,4 @@
-//! Whether there are numbers for a commit.
+//! Whether there are numbers for a commit, for `snapshot`.
 
 ghost use Rattle.std.specs.Prelude.{◌≡◌, ◌≤◌, ◌+◌, ◌^◌, ◌↔◌, IsTrue, min};
 ghost use Rattle.nm_base.specs.Limits.{max_count};

@@ -1,4 +1,4 @@
-//! A snapshot made of an index as data.
+//! A snapshot made of an index as data, for `snapshot` and `renumbering`.
 
 ghost use Rattle.std.specs.Prelude.{◌≡◌, ◌≤◌, ◌^◌, ◌++◌, map, IfOk};
 ghost use Rattle.std.specs.List.{IsDistinct};

@@ -1,4 +1,4 @@
-//! The parts of a snapshot, which the work of a commit changes one by one.
+//! The parts of a `snapshot`, which the work of a commit changes one by one.
 
 ghost use Rattle.std.specs.Prelude.{◌≡◌, IfOk};
 ghost use Rattle.nm_index.specs.Index.{empty_index};

@@ -1,4 +1,4 @@
-//! The places of the files of each message, by the message's id.
+//! The places of the files of each message, by the message's id, for `filing`.
 
 ghost use Rattle.std.specs.Prelude.{◌≡◌, [], ◌∷◌, ◌++◌, List, ℕ, Some, if◌then◌else◌, IfOk, OnOk};
 ghost use Rattle.std.specs.Cmp.Lexicographic.{slice_cmp};

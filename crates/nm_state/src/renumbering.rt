@@ -1,5 +1,5 @@
-//! An index whose ids are numbered anew from 1. What a commit makes of it has as many files and takes as many bytes as what it
-//! makes of the index itself, for which there may be no numbers left.
+//! An index whose ids are numbered anew from 1, for `room`. What a commit makes of it has as many files and takes as
+//! many bytes as what it makes of the index itself, for which there may be no numbers left.
 
 ghost use Rattle.std.specs.Prelude.{◌≡◌, IfOk};
 ghost use Rattle.nm_state.specs.Parts.{AreParts, base_of};

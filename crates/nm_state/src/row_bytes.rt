@@ -1,4 +1,4 @@
-//! The bytes of a row, in whose order rows are kept.
+//! The bytes of a row, in whose order rows are `kept`.
 
 ghost use Rattle.std.specs.Prelude.{◌≡◌, ◌++◌, ◌<◌, ◌^◌, IfOk, OnOk, Some, length, refl, nat_eq};
 ghost use Rattle.std.specs.Cmp.{partial_equiv_from_equiv};

@@ -1,4 +1,4 @@
-//! The snapshot.
+//! The snapshot: `nm_eval` and `nm_render` answer from one, and `nm_writer` makes the next with a commit.
 
 ghost use Rattle.std.specs.Prelude.{◌≡◌, ◌+◌, ◌<◌, ◌≤◌, ◌^◌, ◌↔◌, ℕ, List, false, None, Some, IfOk, IsTrue, MatchOption, OnOk, Contains};
 ghost use Rattle.std.specs.BTreeMap.{is_at};

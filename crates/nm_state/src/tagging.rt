@@ -1,4 +1,4 @@
-//! The tags that a message begins with.
+//! The tags that a message begins with, for `labelling` and `opening`, and tags that are set, for `changes`.
 
 ghost use Rattle.std.specs.Prelude.{◌≡◌, ℕ, List, true, Some, IfOk, OnOk, if◌then◌else◌};
 ghost use Rattle.std.specs.BTreeMap.{insert_entry};

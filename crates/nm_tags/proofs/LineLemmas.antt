@@ -1,4 +1,5 @@
 -- What the tag words of a text ask for, word by word.
+-- For the proofs of `batch_lines`, `read_ops`, `next_tag_word` and others.
 use Rattle.std.proofs.Common.{◌≡◌, ℕ, zero, suc, ◌<◌, ◌≤◌, ◌==◌, ◌||◌, true, false, List, [], ◌∷◌, length, refl, sym, ap, ◌∙◌, arith, subst, inl, inr, cond, ◌++◌, Option, Some, None, Result, Ok, Err, append_assoc}
 use Rattle.std.specs.List.{position_or_len, prefix_len}
 use Rattle.std.proofs.lemmas.Bool.{and_parts, cases_Bool}

@@ -1,4 +1,5 @@
 -- White space at the ends of a text, and the first word.
+-- For the proofs of `cut_word`, `next_word`, `trimmed` and others.
 use Rattle.std.proofs.Common.{◌≡◌, ℕ, Bool, ◌+◌, ◌-◌, ◌<◌, ◌≤◌, true, false, List, [], ◌∷◌, length, get_or, reverse, take, drop, not, refl, sym, ap, ◌∙◌, arith, subst, inl, inr, cond}
 use Rattle.std.specs.List.{before_first, position_or_len, prefix_len, suffix_len}
 use Rattle.std.specs.Str.{IsUtf8, IsCharBoundary}

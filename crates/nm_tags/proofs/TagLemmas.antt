@@ -1,4 +1,5 @@
 -- Which tags a set has after one operation and after many.
+-- For the proofs of `a_tag_that_no_operation_names_stays`, `tags_stay_in_order` and `the_last_operation_on_a_tag_decides`.
 use Rattle.std.proofs.Common.{◌≡◌, ℕ, Bool, true, false, not, ◌||◌, ◌&&◌, List, [], ◌∷◌, ◌++◌, refl, sym, ap, ◌∙◌, cond, if◌then◌else◌}
 use Rattle.std.specs.List.{AllByRecursion}
 use Rattle.std.specs.Cmp.Lexicographic.{nat_list_cmp_total, nat_list_eq_equiv, slice_cmp, texts_ties}

@@ -1,4 +1,4 @@
--- What operations make of a set of tags.
+-- What operations make of a set of tags. Cited by `apply`, `nm_dump`, `nm_flags` and others.
 use Rattle.std.specs.Prelude.{ℕ, Bool, List, [], fold, if◌then◌else◌}
 use Rattle.std.specs.List.{list_any}
 use Rattle.nm_base.specs.Order.{same_text}

@@ -1,5 +1,6 @@
 -- Lines of tag changes, and what is wrong with one.
 --   line := ("+" tag | "-" tag)* "--"? query        with white space between; the query is the rest, trimmed
+-- Cited by `batch`, `words`, `nm_dump` and others.
 use Rattle.std.specs.Prelude.{◌≡◌, ℕ, zero, suc, ◌+◌, Bool, false, ◌==◌, ◌||◌, ◌&&◌, not, List, [], ◌∷◌, length, drop, Option, Some, None, Result, Ok, Err, codes, if◌then◌else◌}
 use Rattle.std.specs.List.{before_first}
 use Rattle.std.specs.Str.{is_utf8}

@@ -1,4 +1,5 @@
-//! The call `batch_lines`: lines of tag changes, as `tag --batch` takes them.
+//! The call `batch_lines`: lines of tag changes, as `tag --batch` takes them, for `nm_batch`; `nm_dump` reads lines
+//! of dumps with it.
 
 ghost use Rattle.std.specs.Prelude.{◌≡◌, ◌+◌, ◌<◌, [], ◌∷◌, true, length, IfOk, IfSome, MatchOption, MatchResult, Some, None, Ok, Err};
 ghost use Rattle.std.specs.Str.Lines.{lines};

@@ -1,4 +1,4 @@
-//! What an encoded tag stands for; the words of lines of tag changes are read with it.
+//! What an encoded tag stands for: `batch` reads words of lines with it, and `nm_dump` the ids of a dump.
 
 ghost use Rattle.std.specs.Prelude.{◌≡◌, ◌<◌, [], ◌∷◌, true, false, length, IfOk, IfSome, IsErr, MatchOption, None, Some, Ok};
 ghost use Rattle.std.specs.Str.{is_utf8};

@@ -1,4 +1,4 @@
-//! How a tag is written in a line of text; `dump` and the lines of `tag --batch` have tags so.
+//! How a tag is written in a line of text: `nm_dump` writes tags so, and lines of `tag --batch` have them so.
 
 ghost use Rattle.std.specs.Prelude.{◌≡◌, ◌++◌, IfOk, OnOk, string_bytes};
 ghost use Rattle.nm_tags.specs.Encoding.{encoded_byte, encoded_tag, escaped, is_sign, is_written};

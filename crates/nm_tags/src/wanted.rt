@@ -1,4 +1,4 @@
-//! What a line of a dump asks for; `restore` sets it.
+//! What a line of a dump asks for: `nm_dump` reads it, and `nm_writer` sets it.
 
 use crate::TagOp;
 use nm_base::{Copies, Many, MessageId, NoMemory};

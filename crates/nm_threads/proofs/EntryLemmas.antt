@@ -1,4 +1,4 @@
--- The entries of labels that the maps make.
+-- The entries of labels that the maps make. For the proof of `Labels::entries`.
 use Rattle.std.proofs.Common.{◌≡◌, refl, ap, ℕ, List, [], ◌∷◌, map}
 use Rattle.nm_threads.specs.Labels.{entries_of}
 use Rattle.nm_threads.specs.Maps.{labels_in}

@@ -1,4 +1,4 @@
--- What passes a test, and what is left of lists.
+-- What passes a test, and what is left of lists. For the proofs of `remove_dead` and `remove_numbers`.
 use Rattle.std.proofs.Common.{◌≡◌, refl, sym, ap, subst, ◌∙◌, Bool, true, false, cond, List, [], ◌∷◌, map, inl, inr}
 use Rattle.std.specs.Prelude.{Contains}
 use Rattle.std.specs.List.{filter}

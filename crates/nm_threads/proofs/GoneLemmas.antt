@@ -1,4 +1,5 @@
 -- The labels once the thread of an id is gone.
+-- For the proofs of `Labels::drop_thread` and `Labels::drop_thread_in_place`.
 use Rattle.std.proofs.Common.{◌≡◌, refl, sym, ap, subst, ◌∙◌, not, List}
 use Rattle.std.specs.Prelude.{Contains}
 use Rattle.std.specs.List.{filter}

@@ -1,4 +1,5 @@
 -- Labels once two threads are joined, and a row has one link more.
+-- For `MergeLemmas`, `RowLemmas`, `StepLemmas` and others.
 use Rattle.std.proofs.Common.{◌≡◌, ◌≢◌, refl, sym, ap, subst, ◌∙◌, ℕ, ◌≤◌, true, false, cond, min, List, [], ◌∷◌, map, arith, inl, inr, ◌⊎◌, eq-eqb, ne_eqb, nat_eq, true≢false}
 use Rattle.std.specs.Prelude.{Contains}
 use Rattle.std.proofs.lemmas.Bool.{or_cases, or_left, or_right, or_from, cases_eq, cases_lt}

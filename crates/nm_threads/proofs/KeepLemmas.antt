@@ -1,4 +1,5 @@
 -- Labels once whole threads are gone.
+-- For the proofs of `Labels::drop_dead`, `Labels::drop_thread`, `Labels::drop_thread_in_place` and others.
 use Rattle.std.proofs.Common.{◌≡◌, refl, sym, ap, subst, ◌∙◌, ℕ, Bool, true, false, ◌&&◌, not, List, [], ◌∷◌, map, inl, inr, eq-eqb, nat_eq, true≢false}
 use Rattle.std.specs.Prelude.{Contains}
 use Rattle.std.specs.List.{filter}

@@ -1,4 +1,5 @@
 -- What keeps labels those of their rows: a new id, a row of one id, two threads joined.
+-- For the proofs of `Labels::drop_dead`, `Labels::name_of`, `Labels::thread_of` and others.
 use Rattle.std.proofs.Common.{◌≡◌, ◌≢◌, refl, sym, ap, subst, ◌∙◌, ℕ, ◌<◌, ◌≤◌, true, false, List, [], ◌∷◌, ◌++◌, arith, inl, inr, ◌⊎◌, true≢false}
 use Rattle.std.specs.Prelude.{Contains, Option, Some, None}
 use Rattle.std.proofs.lemmas.Bool.{or_cases}

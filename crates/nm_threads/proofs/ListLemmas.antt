@@ -1,4 +1,4 @@
--- Texts among texts, and items among items.
+-- Texts among texts, and items among items. For `DeadLemmas`, `FilterLemmas`, `JoinLemmas` and others.
 use Rattle.std.proofs.Common.{◌≡◌, refl, sym, ap, subst, ◌∙◌, ℕ, zero, suc, Bool, true, List, map, [], ◌∷◌, arith, inl, inr, ◌⊎◌, true≢false}
 use Rattle.std.specs.Prelude.{Contains}
 use Rattle.std.specs.List.{list_any}

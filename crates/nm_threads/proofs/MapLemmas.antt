@@ -1,4 +1,4 @@
--- Look-ups in the maps of labels.
+-- Look-ups in the maps of labels. For `MemberLemmas`, `MergeLemmas`, `NumberLemmas` and others.
 use Rattle.std.proofs.Common.{◌≡◌, ◌≢◌, refl, sym, ap, ◌∙◌, ℕ, ◌<◌, Bool, true, false, List, [], ◌∷◌, ◌++◌, map, inl, inr, ◌⊎◌, true≢false}
 use Rattle.std.specs.Prelude.{Contains, Some, None, Option}
 use Rattle.std.specs.Borrow.{Bor}

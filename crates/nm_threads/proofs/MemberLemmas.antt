@@ -1,4 +1,5 @@
 -- The numbers of a group, read in order, and moved to another group.
+-- For the proofs of `merge`, `move_numbers` and `numbers_of`.
 use Rattle.std.proofs.Common.{◌≡◌, ◌≢◌, refl, sym, ap, subst, ◌∙◌, ℕ, ◌+◌, ◌<◌, Bool, true, false, ◌||◌, cond, List, [], ◌∷◌, ◌++◌, length, take, get_or, arith, inl, inr, ◌⊎◌, eq-eqb, ne_eqb, nat_eq, true≢false}
 use Rattle.std.specs.Prelude.{Contains, Some, None, Option}
 use Rattle.std.specs.declared.cmp.Ordering.TheVariants.{Less, Equal, Greater}

@@ -1,4 +1,4 @@
--- What the maps of labels say once two groups are one.
+-- What the maps of labels say once two groups are one. For the proof of `join`.
 use Rattle.std.proofs.Common.{◌≡◌, ◌≢◌, refl, sym, ap, subst, ◌∙◌, ℕ, suc, ◌+◌, ◌<◌, ◌≤◌, Bool, true, false, cond, min, List, [], ◌∷◌, length, map, arith, inl, inr, ◌⊎◌, eq-eqb, ne_eqb, nat_eq}
 use Rattle.std.specs.Prelude.{Contains, Some, None, Option}
 use Rattle.std.specs.Map.{keys_of}

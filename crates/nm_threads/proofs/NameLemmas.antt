@@ -1,4 +1,4 @@
--- The least number of a thread.
+-- The least number of a thread. For the proofs of `a_thread_has_one_name` and `the_name_is_the_least_number`.
 use Rattle.std.proofs.Common.{◌≡◌, refl, sym, ap, subst, ◌∙◌, ℕ, ◌≤◌, Bool, true, false, List, [], ◌∷◌, map, min, arith, inl, inr, ◌⊎◌, true≢false, cond}
 use Rattle.std.specs.Prelude.{Contains, Option, Some, None, unwrap_or}
 use Rattle.std.specs.List.{filter}

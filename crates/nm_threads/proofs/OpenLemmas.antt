@@ -1,4 +1,4 @@
--- Labels made anew: each id with its number, then the rows.
+-- Labels made anew: each id with its number, then the rows. For the proofs of `Labels::of` and `give_numbers`.
 use Rattle.std.proofs.Common.{◌≡◌, refl, sym, ap, subst, ◌∙◌, ℕ, ◌+◌, ◌<◌, ◌≤◌, Bool, true, false, ◌||◌, cond, List, [], ◌∷◌, ◌++◌, map, take, drop, length, get_or, arith, inl, inr, true≢false}
 use Rattle.std.specs.Prelude.{Contains, IsTrue}
 use Rattle.std.specs.declared.cmp.Ordering.TheVariants.{Less}

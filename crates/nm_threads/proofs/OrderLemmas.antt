@@ -1,4 +1,4 @@
--- The order of rows is nothing to labels.
+-- The order of rows is nothing to labels. For the proof of `labels_know_no_order_of_rows`.
 use Rattle.std.proofs.Common.{◌≡◌, sym, ap, ◌∙◌, ℕ, true, List, map}
 use Rattle.std.specs.Prelude.{Contains}
 use Rattle.std.proofs.lemmas.List.Elements.{filter_agree}

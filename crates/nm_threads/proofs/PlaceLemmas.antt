@@ -1,4 +1,4 @@
--- What the labels tell of one id.
+-- What the labels tell of one id. For the proofs of `names_of`, `place_of`, `Labels::name_of` and others.
 use Rattle.std.proofs.Common.{◌≡◌, sym, ap, subst, ◌∙◌, ℕ, false, List}
 use Rattle.std.specs.Prelude.{Contains, Some, None}
 use Rattle.std.specs.Option.{is_some}

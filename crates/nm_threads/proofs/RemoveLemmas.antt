@@ -1,4 +1,5 @@
 -- What the maps of labels say once numbers go, and once a thread is gone.
+-- For the proofs of `group_named`, `remove_named`, `remove_number` and others.
 use Rattle.std.proofs.Common.{◌≡◌, ◌≢◌, refl, sym, ap, subst, ◌∙◌, ℕ, ◌+◌, ◌<◌, ◌≤◌, Bool, true, false, cond, not, ◌||◌, List, length, map, take, get_or, arith, inl, inr, ◌⊎◌, eq-eqb, ne_eqb, nat_eq, true≢false}
 use Rattle.std.specs.Prelude.{Contains, Some, None, Option}
 use Rattle.std.specs.BTreeMap.{is_at}

@@ -1,4 +1,5 @@
 -- What the labels say once a row has one link more, and once the whole row has come.
+-- For the proofs of `names_of`, `Labels::drop_dead`, `Labels::drop_thread` and others.
 use Rattle.std.proofs.Common.{◌≡◌, refl, sym, ap, subst, ◌∙◌, ℕ, ◌+◌, ◌<◌, ◌≤◌, Bool, true, false, cond, List, [], ◌∷◌, ◌++◌, map, take, drop, length, get_or, arith, inl, inr, true≢false}
 use Rattle.std.specs.Prelude.{Contains, Some}
 use Rattle.std.proofs.lemmas.List.{map_push, take-append-drop, drop_more, take_more, take_all, append-nil, length-append}

@@ -1,4 +1,5 @@
 -- Chains, and the test that says whether there is one.
+-- For the proofs of `a_row_joins_the_threads_of_its_ids`, `same_is_an_equivalence`, `same_is_what_is_computed` and others.
 use Rattle.std.proofs.Common.{◌≡◌, refl, sym, ap, subst, ◌∙◌, ℕ, Bool, true, false, ◌&&◌, List, [], ◌∷◌, ◌++◌, inl, inr, ◌⊎◌}
 use Rattle.std.specs.Prelude.{IsTrue, Contains}
 use Rattle.std.specs.List.{list_any}

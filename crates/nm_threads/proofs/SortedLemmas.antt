@@ -1,4 +1,4 @@
--- Numbers that rise, and maps by numbers.
+-- Numbers that rise, and maps by numbers. For the proof of `remove_number`.
 use Rattle.std.proofs.Common.{◌≡◌, ◌≢◌, refl, sym, ap, subst, ◌∙◌, ℕ, zero, suc, ◌<◌, Bool, false, cond, not, List, [], ◌∷◌, ◌++◌, length, take, get_or, arith, inl, inr, ◌⊎◌, eq-eqb, ne_eqb, nat_eq}
 use Rattle.std.specs.Prelude.{Contains, Some, None}
 use Rattle.std.specs.BTreeMap.{is_at}

@@ -1,4 +1,4 @@
--- How many ids the thread of an id has, as a row comes.
+-- How many ids the thread of an id has, as a row comes. For the proof of `add_link`.
 use Rattle.std.proofs.Common.{◌≡◌, ◌≢◌, refl, sym, ap, subst, ◌∙◌, ℕ, ◌+◌, ◌≤◌, Bool, true, false, ◌||◌, cond, min, List, [], ◌∷◌, ◌++◌, length, map, arith, inl, inr, eq-eqb, ne_eqb, nat_eq}
 use Rattle.std.specs.Prelude.{Contains, Some}
 use Rattle.std.proofs.lemmas.Bool.{cases_eq}

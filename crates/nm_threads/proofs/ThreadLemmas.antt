@@ -1,4 +1,5 @@
 -- The ids of a thread, read from the maps.
+-- For the proofs of `merge`, `Labels::members`, `Labels::thread_of` and others.
 use Rattle.std.proofs.Common.{◌≡◌, ◌≢◌, refl, sym, ap, subst, ◌∙◌, ℕ, Bool, true, false, List, [], ◌∷◌, length, map, ◌+◌, ◌<◌, ◌++◌, take, get_or, arith, eq-eqb, ne_eqb, nat_eq}
 use Rattle.std.specs.Prelude.{Contains, Some, None, Option}
 use Rattle.std.specs.List.{filter, filter_map, list_any, cons_option, AllByRecursion, IsDistinct}

@@ -1,4 +1,5 @@
 -- What a join costs is won in the potential of the labels.
+-- For the proofs of `the_potential_of_n_ids_is_at_most_n_log_n`, `add` and `add_link`.
 use Rattle.std.proofs.Common.{◌≡◌, ◌≢◌, refl, sym, ap, subst, ◌∙◌, ℕ, suc, ◌+◌, ◌*◌, ◌<◌, ◌≤◌, Bool, true, false, cond, min, List, [], ◌∷◌, length, map, arith, inl, inr, ◌⊎◌, eq-eqb, ne_eqb, nat_eq}
 use Rattle.std.specs.Prelude.{Contains, Some}
 use Rattle.std.proofs.lemmas.Option.{same_Some}

@@ -1,4 +1,4 @@
--- Entries from which labels are made anew.
+-- Entries from which labels are made anew. Cited by `entries`, `labels`, `nm_state` and others.
 use Rattle.std.specs.Prelude.{ℕ, ◌<◌, ◌≤◌, ◌^◌, IsTrue, List, map}
 use Rattle.std.specs.Borrow.{Bor}
 use Rattle.std.specs.List.{AllByRecursion, IsDistinct}

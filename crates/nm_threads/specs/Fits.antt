@@ -1,4 +1,4 @@
--- Labels by their names alone, as the work on rows keeps them.
+-- Labels by their names alone, as the work on rows keeps them. Cited by `rows`.
 use Rattle.std.specs.Prelude.{◌≡◌, ℕ, ◌≤◌, ◌++◌, true, List, [], ◌∷◌, Contains}
 use Rattle.nm_base.specs.declared.facts.LinkRow.{LinkRow}
 use Rattle.nm_threads.specs.Same.{Same}

@@ -1,4 +1,5 @@
 -- Labels: of each id that has a number, that number and the name of its thread.
+-- Cited by `dead`, `labels`, `nm_state` and others.
 use Rattle.std.specs.Prelude.{◌≡◌, ℕ, ◌+◌, ◌<◌, ◌≤◌, Bool, ◌==◌, ◌&&◌, not, List, [], ◌∷◌, ◌++◌, length, map, IsTrue, Some, Contains, if◌then◌else◌}
 use Rattle.std.specs.List.{filter, list_any}
 use Rattle.std.specs.List.Sorted.{IsStrictlySortedBy}

@@ -1,4 +1,5 @@
 -- How a thread is named: by the least number that an id of it has.
+-- Cited by `labels`, `nm_state`, `nm_render` and others.
 use Rattle.std.specs.Prelude.{◌≡◌, ℕ, min, List, [], ◌∷◌, map, Option, Some, None, unwrap_or, Contains}
 use Rattle.std.specs.List.{filter}
 use Rattle.std.specs.Option.{option_map}

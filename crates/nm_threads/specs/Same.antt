@@ -1,4 +1,5 @@
 -- Which ids belong to one thread: those between which there is a chain of ids, each beside the next in one row.
+-- Cited by `labels`, `opening`, `nm_state` and others.
 use Rattle.std.specs.Prelude.{◌≡◌, ℕ, Bool, ◌&&◌, ◌||◌, IsTrue, List, [], ◌∷◌}
 use Rattle.std.specs.List.{list_any}
 use Rattle.nm_base.specs.Order.{has_text, same_text}

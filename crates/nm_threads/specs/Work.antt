@@ -1,4 +1,5 @@
 -- What relabelling the smaller side costs in all: each time an id is relabelled its thread has twice as many ids, or more.
+-- Cited by `labels` and `rows`.
 use Rattle.std.specs.Prelude.{ℕ, ◌+◌, ◌*◌, ◌≤◌, List, length}
 use Rattle.std.specs.List.{sum_by}
 use Rattle.nm_threads.specs.Labels.{Label, named}

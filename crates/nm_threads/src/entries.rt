@@ -1,4 +1,4 @@
-//! The ids that have numbers, read in the order of these.
+//! The ids that have numbers, read in the order of these, by `live_ids` of `nm_state`.
 
 ghost use Rattle.std.specs.Prelude.{◌≡◌, length, map};
 ghost use Rattle.std.specs.Iterator.{at_most};

@@ -1,4 +1,4 @@
-//! The maps that labels are kept in; each step of the work changes some of them.
+//! The maps that `labels` are kept in: each step of the work, as `joining` or `removing`, changes some of them.
 
 ghost use Rattle.std.specs.Prelude.{◌≡◌, [], IfOk};
 

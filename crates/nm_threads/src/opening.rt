@@ -1,4 +1,4 @@
-//! Labels made anew of entries and rows, as an index that is opened has them.
+//! Labels made anew of entries and rows, as an index that is opened has them, for `labels`.
 
 ghost use Rattle.std.specs.Prelude.{◌≡◌, ◌<◌, ◌≤◌, ◌^◌, ◌++◌, ◌∷◌, [], List, map, OnOk};
 ghost use Rattle.std.specs.List.{flat_map};
