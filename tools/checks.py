@@ -170,6 +170,70 @@ def proofs_stay_inside():
                 if other in known and other != crate:
                     yield f"{path} cites the proofs of {other}"
 
+ITEM = re.compile(r"^( *)(pub(?:\([^)]*\))? )?(?:const |unsafe )*(?:fn|struct|enum|trait|const|static|type) (\w+)", re.M)
+CITED = re.compile(r"\bRattle\.(\w+)\.(specs|proofs)\.([\w.+-]*\w)|\bcrate::(specs|proofs)::(\w+)")
+
+
+def head_of(text, mark):
+    """The comment with which a file begins."""
+    lines = text.split("\n")
+    return " ".join(lines[: next((at for at, it in enumerate(lines) if not it.startswith(mark)), len(lines))])
+
+
+def code_files():
+    """Each source, definition and proof, with its text."""
+    for crate in crates():
+        for path in files_below(f"crates/{crate}", (".rt", ".antt")):
+            if path.split("/")[2] in ("src", "specs", "proofs"):
+                yield path, read(f"{ROOT}/{path}")
+
+
+def speakers(texts):
+    """For each file the names of what speaks of it: another crate, or of its own crate a file, and what stands in that."""
+    known = set(crates())
+    code = {path: re.sub(r"(?m)//.*$|^(?: *ghost|pub) use [^;]*;", "", text) for path, text in texts.items() if path.endswith(".rt")}
+    items = {path: ITEM.findall(text) for path, text in code.items()}
+    words = {path: set(re.findall(r"\w+", text)) for path, text in code.items()}
+    found = {path: set() for path in texts}
+
+    def add(path, by):
+        crate, parts = path.split("/")[1], by.split("/")
+        if path == by or by.endswith("/Lib.antt"):
+            return
+        named = {parts[1]} if parts[1] != crate else set(re.findall(r"\w+", by.rpartition(".")[0].split("/", 3)[3]))
+        found[path] |= named | {it[2] for it in items.get(by, [])}
+
+    for path, its in items.items():
+        public = {it[2] for it in its if it[1] and not it[0]} or {it[2] for it in its if it[1]}
+        crate = path.split("/")[1]
+        for by in (it for it in code if public & words[it] and (crate in words[it] or it.split("/")[1] == crate)):
+            add(path, by)
+    for by, text in texts.items():
+        for crate, part, rest, own_part, own in set(CITED.findall(text)):
+            if crate and crate not in known:
+                continue
+            parts = [f"crates/{crate or by.split('/')[1]}/{part or own_part}", *(own or rest).split(".")]
+            for it in ("/".join(parts[:end]) + ".antt" for end in range(2, len(parts) + 1)):
+                if it in found:
+                    add(it, by)
+    return found
+
+
+def heads_say_where():
+    """Each source, each file of definitions and each of lemmas has a head, which names one that calls or cites it; a file of which
+    none speaks has only to have one. Other proofs lie in the folder of what they prove."""
+    texts = dict(code_files())
+    for path, by in speakers(texts).items():
+        parts, mark = path.split("/"), "//" if path.endswith(".rt") else "--"
+        if parts[2] == "proofs" and len(parts) > 4 or re.sub(r"(?m)^(?:pub )?mod .*\s", "", texts[path]) == "":
+            continue
+        head = head_of(texts[path], mark)
+        named = {word for it in quoted(head) for word in re.findall(r"\w+", it)}.union(re.findall(r"\w+_\w+", head))
+        if not head:
+            yield f"{path}: it has no head"
+        elif by and not named & by and parts[-1] not in ("lib.rt", "main.rt"):
+            yield f"{path}: its head does not say where it is used"
+
 
 def section(text, title):
     """The lines of a section of a document, without those of the next."""
@@ -347,6 +411,7 @@ CHECKS = [
     promises_are_there,
     layers_agree,
     proofs_stay_inside,
+    heads_say_where,
     readme_names_all_crates,
     kit_is_told,
     tour_is_true,

@@ -1,5 +1,4 @@
-//! A proof that a text may go to other threads and be read by several at once. No code calls it; snapshots rest on
-//! it.
+//! A proof that a text may go to other threads and be read by several at once. No code calls it; snapshots rest on it.
 
 use crate::Text;
 

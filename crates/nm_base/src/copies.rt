@@ -1,5 +1,4 @@
-//! Copies that may find no memory: every value of a mail and of a commit has one, and `run` of `nm_shared` copies a
-//! block so.
+//! Copies that may find no memory: every value of a mail and of a commit has one, and `run` of `nm_shared` copies a block so.
 
 ghost use Rattle.std.specs.Prelude.{◌≡◌, IfOk, take};
 

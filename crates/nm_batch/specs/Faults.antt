@@ -1,4 +1,4 @@
--- Why the lines of an input are refused.
+-- Why the lines of an input are refused. Cited by `lines`, `queries` and `taggings`.
 use Rattle.std.specs.Prelude.{◌≡◌, ℕ, Result, Err}
 use Rattle.nm_tags.specs.declared.line_error.LineError.{LineError}
 use Rattle.nm_tags.specs.declared.line_error.LineError.TheVariants as faults

@@ -1,4 +1,4 @@
--- Lines are read each by itself, up to the first that has a fault.
+-- Lines are read each by itself, up to the first that has a fault. Cited by `laws`.
 use Rattle.std.specs.Prelude.{◌≡◌, ℕ, ◌+◌, Bool, true, List, ◌∷◌, ◌++◌, length, is_ok, Option, None, Result, Ok, Err}
 use Rattle.std.specs.List.{filter_map, list_all}
 use Rattle.nm_tags.specs.declared.line_error.LineKind.{LineKind}

@@ -1,4 +1,4 @@
-//! What the reading of an input comes to. These functions run no code: their clauses are the laws.
+//! What the reading of an input comes to. No code calls these functions: their clauses are the laws.
 
 ghost use Rattle.nm_answer.specs.BatchLines.{count_line, queries_in, tag_line, taggings_in};
 ghost use Rattle.nm_answer.specs.declared.tagging.Tagging.{Tagging};

@@ -1,4 +1,4 @@
-//! The lines of an input, whatever is read of one.
+//! The lines of an input, whatever `queries` or `taggings` read of one.
 
 ghost use Rattle.nm_answer.specs.BatchLines.{read_each};
 ghost use Rattle.nm_batch.specs.Faults.{IsFirstFault};

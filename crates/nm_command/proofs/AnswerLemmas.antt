@@ -1,4 +1,5 @@
 -- Words ask for what the grammar says, and else the word is at fault that it says.
+-- For the proofs of `a_request_that_is_written_out_is_read_back`, `words_are_read_as_the_grammar_says` and `words_have_one_answer`.
 use Rattle.std.proofs.Common.{◌≡◌, ◌⊎◌, inl, inr, ℕ, Bool, true, false, cond, List, [], ◌∷◌, refl, sym, ap, subst, ◌∙◌}
 use Rattle.std.specs.Prelude.{Some, None, Result, Ok, Err}
 use Rattle.nm_base.specs.declared.refusals.UsageKind.{UsageKind}

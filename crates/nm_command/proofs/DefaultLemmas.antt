@@ -1,4 +1,4 @@
--- The first value of an option is the default.
+-- The first value of an option is the default. For the proof of `the_first_value_is_the_default`.
 use Rattle.std.proofs.Common.{◌≡◌, ℕ, List, [], ◌∷◌, refl, subst}
 use Rattle.std.specs.Prelude.{Some}
 use Rattle.nm_command.specs.Requests.{request_with}

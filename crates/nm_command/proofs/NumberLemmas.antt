@@ -1,4 +1,4 @@
--- What std reads of digits is the number that they say.
+-- What std reads of digits is the number that they say. For the proofs of `moment` and `number`.
 use Rattle.std.proofs.Common.{◌≡◌, ℕ, ◌<◌, ◌≤◌, ◌^◌, true, false, cond, ◌&&◌, List, length, sym, ap, ◌∙◌, arith, rules}
 use Rattle.std.specs.Prelude.{Some, None, Result, Ok, Err, nat_le, pos}
 use Rattle.std.specs.Char.{is_ascii_digit}

@@ -1,4 +1,4 @@
--- An option is read as the grammar says: it is cut at its first `=`.
+-- An option is read as the grammar says: it is cut at its first `=`. For the proof of `setting`.
 use Rattle.std.proofs.Common.{◌≡◌, ◌<◌, ℕ, true, false, cond, not, List, ◌∷◌, ◌++◌, length, get_or, refl, sym, ap, subst, ◌∙◌, arith}
 use Rattle.std.specs.Prelude.{Option, Some, None, Result, Ok, Err, codes, nat_lt}
 use Rattle.std.specs.List.{after_first, before_first, list_all, position_or_len}

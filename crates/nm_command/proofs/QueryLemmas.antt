@@ -1,4 +1,4 @@
--- The words of a query, joined one after the other.
+-- The words of a query, joined one after the other. For the proofs of `a_query_keeps_its_words` and `query`.
 use Rattle.std.proofs.Common.{◌≡◌, ◌≢◌, ℕ, zero, suc, ◌+◌, ◌<◌, true, false, cond, List, [], ◌∷◌, ◌++◌, length, take, get_or, refl, sym, ap, ◌∙◌, arith, append_assoc}
 use Rattle.std.specs.Prelude.{nat_lt}
 use Rattle.std.specs.List.{All, slice_split}

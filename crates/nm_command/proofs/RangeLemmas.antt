@@ -1,4 +1,5 @@
 -- What words ask for can be written out: its numbers fit, and `count` counts what it is asked to.
+-- For the proof of `a_request_that_is_written_out_is_read_back`.
 use Rattle.std.proofs.Common.{◌≡◌, ℕ, Bool, true, false, cond, ◌&&◌, List, [], ◌∷◌, refl, ap, subst, ◌∙◌}
 use Rattle.std.specs.Prelude.{Option, Some, None, nat_le}
 use Rattle.std.specs.List.{list_all}

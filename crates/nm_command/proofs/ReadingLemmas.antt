@@ -1,4 +1,5 @@
 -- The options of a command are read as the grammar says, and else a word with dashes is at fault.
+-- For `AnswerLemmas` and `RepeatLemmas`.
 use Rattle.std.proofs.Common.{◌≡◌, ◌≢◌, ℕ, true, false, cond, List, [], ◌∷◌, length, refl, sym, ap, subst, ◌∙◌}
 use Rattle.std.specs.Prelude.{Option, Some, None, Result, Ok, Err, codes, nat_lt}
 use Rattle.std.specs.Cmp.Lexicographic.{other_text, same_text as text_is}

@@ -1,4 +1,5 @@
 -- Two options of one name set the same, and two of different names do not; these may change places.
+-- For the proofs of `an_option_stands_once` and `options_may_change_places`.
 use Rattle.std.proofs.Common.{◌≡◌, ◌≢◌, ℕ, true, false, List, ◌∷◌, ◌++◌, refl, sym, ap, ◌∙◌, arith}
 use Rattle.std.specs.Prelude.{Some, codes}
 use Rattle.std.specs.List.{before_first}

@@ -1,4 +1,5 @@
 -- What all rows of a table keep, and what a word that is found there keeps.
+-- For `AnswerLemmas`, `DefaultLemmas`, `LeadingLemmas` and others.
 use Rattle.std.proofs.Common.{◌≡◌, ℕ, Bool, true, false, cond, ◌&&◌, List, [], ◌∷◌, refl, sym, ap, subst, ◌∙◌}
 use Rattle.std.specs.Prelude.{Some}
 use Rattle.std.specs.Cmp.Lexicographic.{same_text as text_is}

@@ -1,4 +1,5 @@
 -- A request whose every option is written out is read back.
+-- For the proof of `a_request_that_is_written_out_is_read_back`.
 use Rattle.std.proofs.Common.{◌≡◌, ℕ, Bool, true, false, cond, List, [], ◌∷◌, ◌++◌, map, refl}
 use Rattle.std.specs.Prelude.{Option, Some, None, codes}
 use Rattle.std.specs.Fmt.{decimal}

@@ -1,4 +1,4 @@
--- Rows that are looked up one after the other.
+-- Rows that are looked up one after the other. For the proof of `meaning_of`.
 use Rattle.std.proofs.Common.{◌≡◌, ℕ, suc, ◌+◌, ◌<◌, true, false, cond, List, length, drop, get_or, map, sym, ap, ◌∙◌, arith}
 use Rattle.std.specs.Prelude.{Some}
 use Rattle.std.proofs.Math.Seq.{drop-cons}

@@ -1,4 +1,4 @@
--- Tag words are read as the grammar says, one after the other.
+-- Tag words are read as the grammar says, one after the other. For the proofs of `changes_of` and `op_of`.
 use Rattle.std.proofs.Common.{◌≡◌, ◌≢◌, ◌<◌, ℕ, Bool, true, false, cond, ◌==◌, ◌||◌, ◌&&◌, not, List, [], ◌∷◌, ◌++◌, refl, sym, ap, subst, ◌∙◌, arith, append_assoc}
 use Rattle.std.specs.Prelude.{Option, Some, None, Result, Ok, Err, codes}
 use Rattle.std.specs.Cmp.Lexicographic.{other_text, same_text as text_is}

@@ -3,6 +3,7 @@
 --            |   "tag" options change* "--"? word*
 --   options := (flag | name "=" value)* "--"?
 --   change := ("+" | "-") tag
+-- Cited by `laws` and `nm_log`.
 use Rattle.std.specs.Prelude.{◌≡◌, ◌≢◌, ℕ, Bool, true, false, List, [], ◌∷◌, ◌++◌, Some, None, codes}
 use Rattle.std.specs.List.{before_first}
 use Rattle.nm_base.specs.Tag.{is_tag}

@@ -1,5 +1,6 @@
 -- The program's leading options: what stands before the command, and what it says.
 --   leading := (name "=" value)*, each name once at most
+-- Cited by `leading` and `nm_top`.
 use Rattle.std.specs.Prelude.{ℕ, Bool, true, false, ◌&&◌, not, nat_lt, List, [], ◌∷◌, length, map, Some, None, Result, Ok, Err, codes, if◌then◌else◌, is_some}
 use Rattle.std.specs.List.{after_first, before_first, list_all, take_while}
 use Rattle.std.specs.Option.{option_and_then}

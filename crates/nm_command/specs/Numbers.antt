@@ -1,4 +1,4 @@
--- The numbers that options have as their values.
+-- The numbers that options have as their values. Cited by `leading` and `number`.
 use Rattle.std.specs.Prelude.{ℕ, ℤ, pos, Bool, ◌&&◌, nat_le, List, length, Option, Some, None, if◌then◌else◌}
 use Rattle.std.specs.Char.{is_ascii_digit}
 use Rattle.std.specs.List.{list_all}

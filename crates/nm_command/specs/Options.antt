@@ -1,4 +1,4 @@
--- The options of a command, judged from left to right.
+-- The options of a command, judged from left to right. Cited by `leading`, `options` and `reading`.
 use Rattle.std.specs.Prelude.{ℕ, Bool, List, [], ◌∷◌, length, nat_eq, nat_lt, Option, Some, None, Result, Ok, Err, codes, if◌then◌else◌}
 use Rattle.std.specs.List.{after_first, before_first, position_or_len, starts_with}
 use Rattle.nm_base.specs.Order.{same_text}

@@ -1,4 +1,5 @@
 -- The commands, the options of each, and what those may be: one table, from which all words are read.
+-- Cited by `leading`, `options`, `nm_log` and others.
 use Rattle.std.specs.Prelude.{ℕ, true, false, List, [], ◌∷◌, Option, Some, None, codes}
 use Rattle.std.specs.Map.{lookup}
 use Rattle.std.specs.Option.{option_map}

@@ -1,5 +1,6 @@
 -- The words of `tag` after its options: changes of tags, then a query.
 --   words := (("+" | "-") tag)* "--"? word*
+-- Cited by `reading` and `tag_words`.
 use Rattle.std.specs.Prelude.{ℕ, Bool, false, ◌==◌, ◌||◌, ◌&&◌, not, List, [], ◌∷◌, Option, Some, None, Result, Ok, Err, codes, if◌then◌else◌}
 use Rattle.nm_base.specs.Order.{same_text}
 use Rattle.nm_base.specs.Tag.{is_tag}

@@ -1,4 +1,4 @@
-//! Why words are no command.
+//! Why words are no command: `command` answers so, and `nm_log` makes its text of it.
 
 use nm_base::{Text, UsageKind};
 use thiserror::Error;

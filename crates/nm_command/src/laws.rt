@@ -1,4 +1,5 @@
-//! What follows from the definitions of commands. These functions run no code: their clauses are the laws.
+//! What follows from the definitions of commands. These functions run no code: their clauses are the laws, which
+//! `nm_log` calls.
 
 ghost use Rattle.std.specs.Prelude.{◌≡◌, ◌≢◌, ◌↔◌, ◌⊎◌, ℕ, true, false, List, ◌∷◌, ◌++◌, Ok, Err, Some};
 ghost use Rattle.std.specs.List.{All, before_first, list_all, slice_split};

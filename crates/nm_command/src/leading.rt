@@ -1,4 +1,4 @@
-//! The program's leading options: folders, workers and the moment, before the command.
+//! The program's leading options, which `nm_top` reads first: folders, workers and the moment, before the command.
 
 ghost use Rattle.std.specs.Prelude.{◌≡◌, ◌⊎◌, ◌≤◌, ◌≤ℤ◌, IfOk, IfSome, MatchOption, MatchResult, None, Ok, Err, Some, codes, length, map, pos};
 ghost use Rattle.std.specs.List.{list_all, take_while};

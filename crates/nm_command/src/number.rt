@@ -1,4 +1,4 @@
-//! The numbers that options have as their values.
+//! The numbers that options have as their values, for `leading` and `table`.
 
 ghost use Rattle.std.specs.Prelude.{◌≡◌, ◌&&◌, nat_le, pos, Some, None, if◌then◌else◌};
 ghost use Rattle.std.specs.Char.{is_ascii_digit};

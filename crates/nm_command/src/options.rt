@@ -1,4 +1,4 @@
-//! The options of a command, from left to right, and the words after them.
+//! The options of a command, from left to right, and the words after them, for `command`.
 
 ghost use Rattle.std.specs.Prelude.{◌≡◌, MatchResult, None, Some, Ok, Err};
 ghost use Rattle.nm_command.specs.Options.{begins_with_dashes, or_bad_value, or_no_option, read_options, setting_of, with_option};

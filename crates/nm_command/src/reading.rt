@@ -1,4 +1,5 @@
-//! The call `command`: words to what they ask for, or to the one refusal.
+//! The call `command`: words to what they ask for, or to the one refusal. `nm_log` reads the words of a line with it,
+//! `nm_top` those of the program.
 
 ghost use Rattle.std.specs.Prelude.{◌≡◌, ◌⊎◌, [], ◌∷◌, ◌++◌, IfOk, MatchResult, Ok, Err, nat_lt, true, string_bytes, if◌then◌else◌};
 ghost use Rattle.nm_command.specs.Requests.{after_options, batch_fault, batch_tag, query_of, refused, request_of, request_with, single_tag, tag_ask, tag_with, without_words};

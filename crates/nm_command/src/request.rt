@@ -1,4 +1,4 @@
-//! What the words of a command ask for.
+//! What the words of a command ask for: `command` gives it, and `nm_log` goes on with it.
 
 use nm_base::{Copies, CountAsk, DumpAsk, NoMemory, RestoreAsk, SearchAsk, ShowAsk, TagAsk};
 

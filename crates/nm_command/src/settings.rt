@@ -1,4 +1,4 @@
-//! What the options of a command set.
+//! What the options of a command set: `options` gathers them, and `command` reads them.
 
 ghost use Rattle.std.specs.Prelude.{◌≡◌, true};
 ghost use Rattle.nm_command.specs.Settings.{is_given, nothing_set, or_default, with_setting};

@@ -1,4 +1,4 @@
-//! The commands, the options of each, and the values of those: the tables that drive the reading.
+//! The commands, the options of each, and the values of those: the tables that drive `command` and `options`.
 
 ghost use Rattle.std.specs.Prelude.{◌≡◌, map};
 ghost use Rattle.nm_command.specs.Table.{commands, flag_setting, leading_options, meaning_of, number_setting, options_of, value_setting, values_of};

@@ -1,4 +1,5 @@
 -- The indexes after commits, one commit after the other.
+-- For the proofs of `Core::acknowledge` and `Core::index_after`.
 use Rattle.std.proofs.Common.{◌≡◌, ℕ, zero, suc, ◌<◌, Bool, List, [], ◌∷◌, ◌++◌, Some, None, length, take, get_or, refl, ap, sym, subst, ◌∙◌, arith, length-append}
 use Rattle.std.proofs.lemmas.List.{get_or-map, length-map, map-append}
 use Rattle.nm_commit.specs.declared.change.Commit.{Commit}

@@ -1,4 +1,4 @@
--- What a Core holds, and what it answers to a step.
+-- What a Core holds, and what it answers to a step. Cited by `machine`.
 use Rattle.std.specs.Prelude.{◌≡◌, ℕ, ℤ, Bool, List, [], ◌∷◌, ◌++◌, map, Option, Some, None, Result, Ok, Err, IfSome}
 use Rattle.std.specs.Option.{option_map}
 use Rattle.nm_commit.specs.declared.change.Commit.{Commit}

@@ -1,4 +1,4 @@
-//! Whether a reply may have its text; the machine asks it at each reply.
+//! Whether a reply may have its text, which `machine` asks at each reply.
 
 ghost use Rattle.std.specs.Prelude.{◌≡◌, ◌&&◌, ◌||◌, [], false, IfOk, is_ok, MatchOption, not, Ok};
 ghost use Rattle.nm_base.specs.Order.{same_text};

@@ -1,5 +1,4 @@
-//! What one end of a date range is: `read_end` reads one, a tree of `nm_query` has it, and `seconds` says what it
-//! stands for.
+//! What one end of a date range is: `read_end` reads one, a tree of `nm_query` has it, and `seconds` says what it stands for.
 
 use thiserror::Error;
 

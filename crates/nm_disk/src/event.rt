@@ -1,5 +1,4 @@
-//! What a disk in memory keeps of each call that wrote or synced: `mem_disk` notes it, and `stopping` takes a moment
-//! of it.
+//! What a disk in memory keeps of each call that wrote or synced: `mem_disk` notes it, and `stopping` takes a moment of it.
 
 ghost use Rattle.std.specs.Prelude.{◌≡◌};
 ghost use Rattle.nm_disk.specs.Memory.{is_begun, writes};

@@ -1,4 +1,5 @@
 -- The first mail of a group answers none, and each other one answers it.
+-- For the proof of `the_others_of_a_group_answer_its_first`.
 use Rattle.std.proofs.Common.{◌≡◌, ℕ, ◌%◌, ◌≤◌, Bool, true, false, cond, List, Option, None, Some, ◌++◌, codes, refl, ap, arith}
 use Rattle.std.specs.Prelude.{◌==◌}
 use Rattle.std.proofs.lemmas.Bool.{eq-eqb, eqb-false, eqb-true}

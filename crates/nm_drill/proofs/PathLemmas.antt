@@ -1,4 +1,5 @@
 -- The paths of the store rise with the numbers of their mails, by their bytes, so no two are the same.
+-- For the proofs of `the_paths_stand_in_byte_order` and `drill_tree`.
 use Rattle.std.proofs.Common.{◌≡◌, ℕ, zero, suc, ◌+◌, ◌/◌, ◌%◌, ◌<◌, ◌≤◌, List, [], ◌∷◌, ◌++◌, length, map, refl, ap, sym, ◌∙◌, length-append, arith, false, Ordering}
 use Rattle.std.specs.Prelude.{IsTrue}
 use Rattle.std.specs.List.{AllByRecursion, range_with_len}

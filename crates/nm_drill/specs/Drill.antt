@@ -1,4 +1,5 @@
 -- The drill: a store of mail that is made by the numbers of its mails, and the script of a session over it.
+-- Cited by `answered`, `digits`, `lines` and others.
 use Rattle.std.specs.Prelude.{ℕ, zero, suc, ◌+◌, ◌-◌, ◌*◌, ◌/◌, ◌%◌, ◌==◌, List, [], ◌∷◌, ◌++◌, map, codes, Option, None, Some, if◌then◌else◌}
 use Rattle.std.specs.Fmt.{decimal}
 use Rattle.std.specs.List.{flat_map, range_with_len}

@@ -1,4 +1,5 @@
 -- What the store of a drill is, in words of mail: which mail answers which, when each was written, and what tells mails apart.
+-- Cited by `laws`.
 use Rattle.std.specs.Prelude.{◌≡◌, ℕ, ◌+◌, ◌*◌, ◌≤◌, ◌<◌, List, [], ◌++◌, codes, None}
 use Rattle.nm_drill.specs.Drill.{answered, group_of, id_of, last_digits, references_line, subject_line}
 

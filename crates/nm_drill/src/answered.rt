@@ -1,4 +1,4 @@
-//! Groups of mails: which mail answers which.
+//! Groups of mails: which mail answers which, for `mail` and its `lines`.
 
 ghost use Rattle.std.specs.Prelude.{◌≡◌, ◌≤◌};
 ghost use Rattle.nm_drill.specs.Drill.{answered, first_of, group_of};

@@ -1,4 +1,4 @@
-//! Numbers in so many digits.
+//! Numbers in so many digits, for `lines` and for the paths of `tree`.
 
 ghost use Rattle.std.specs.Prelude.{◌≡◌, ◌≤◌, IfOk, string_bytes};
 ghost use Rattle.nm_drill.specs.Drill.{clock_text, drill_path};

@@ -1,4 +1,4 @@
-//! What follows from the definitions of the store. These functions run no code: their clauses are the laws.
+//! What follows from the definitions of the store. No code calls these functions: their clauses are the laws.
 
 ghost use Rattle.std.specs.Prelude.{◌≡◌, ◌↔◌, ◌+◌, ◌-◌, ◌*◌, ◌^◌, ◌<◌, ◌≤◌, ◌++◌, ℕ, None, Some, length, replicate};
 ghost use Rattle.std.specs.Cmp.Lexicographic.{slice_cmp};

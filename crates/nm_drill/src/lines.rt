@@ -1,4 +1,4 @@
-//! The lines of a mail, each by the mail's number.
+//! The lines of a mail, each by the mail's number, for `mail`.
 
 ghost use Rattle.std.specs.Prelude.{◌≡◌, ◌≤◌, IfOk, string_bytes};
 ghost use Rattle.nm_drill.specs.Drill.{answered, body_of, date_line, from_line, id_line, id_of, name_of, references_line, reply_mark, subject_line};

@@ -1,4 +1,4 @@
-//! A mail of the store.
+//! A mail of the store, for `tree`.
 
 ghost use Rattle.std.specs.Prelude.{◌≡◌, ◌≤◌, IfOk};
 ghost use Rattle.nm_drill.specs.Drill.{drill_mail};

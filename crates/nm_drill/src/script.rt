@@ -1,4 +1,4 @@
-//! The script of a drill.
+//! The script of a drill, which `rows_command` prints.
 
 ghost use Rattle.std.specs.Prelude.{◌≡◌, IfOk};
 ghost use Rattle.nm_drill.specs.Drill.{drill_script};

@@ -1,4 +1,4 @@
--- Lines and tags that are read one by one.
+-- Lines and tags that are read one by one. For the proofs of `read_dump` and `set_all`.
 use Rattle.std.proofs.Common.{◌≡◌, ℕ, true, List, [], ◌∷◌, ◌++◌, refl, ap, append_assoc, Option, Some, None, Result, Ok, Err}
 use Rattle.nm_base.specs.declared.tag_op.TagOp.{TagOp}
 use Rattle.nm_tags.specs.declared.line_error.LineKind.{LineKind}

@@ -1,4 +1,4 @@
--- Bytes that are read one by one.
+-- Bytes that are read one by one. For the proof of `unquoted`.
 use Rattle.std.proofs.Common.{◌≡◌, ℕ, List, [], ◌∷◌, ◌++◌, refl, ap, append_assoc, Option, Some, None}
 use Rattle.nm_answer.specs.BatchTag.{with_byte}
 

@@ -1,4 +1,4 @@
--- Tags that are set one by one in their order.
+-- Tags that are set one by one in their order. For the proof of `written_tags_are_restored`.
 use Rattle.std.proofs.Common.{◌≡◌, ℕ, List, [], ◌∷◌, ◌++◌, map, fold, refl, sym, ap, ◌∙◌, append-nil, append_assoc, subst}
 use Rattle.std.specs.List.{AllByRecursion}
 use Rattle.std.specs.List.Sorted.{IsStrictlySortedBy}

@@ -1,4 +1,5 @@
 -- What the restore of a dump comes to: of each message one line sets its tags.
+-- For the proofs of `a_dump_restores_its_tags` and `a_restored_dump_is_in_the_index`.
 use Rattle.std.proofs.Common.{◌≡◌, ℕ, ◌+◌, ℤ, Bool, true, false, ◌||◌, cond, List, [], ◌∷◌, map, Result, Ok, Err, Option, refl, sym, ap, ◌∙◌, subst, IsTrue}
 use Rattle.std.specs.Prelude.{◌≢◌, unwrap_or}
 use Rattle.std.specs.BTreeMap.{is_at}

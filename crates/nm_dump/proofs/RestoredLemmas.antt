@@ -1,4 +1,5 @@
 -- What a restore comes to: line by line, each message has what the lines so far say of it.
+-- For the proof of `a_restore_sets_the_tags_of_each_message`.
 use Rattle.std.proofs.Common.{◌≡◌, ℕ, ℤ, Bool, true, false, not, ◌||◌, ◌&&◌, cond, List, [], ◌∷◌, filter, fold, map, refl, sym, ap, ◌∙◌, IsTrue}
 use Rattle.std.specs.Cmp.Lexicographic as lexicographic
 use Rattle.std.specs.Cmp.Lexicographic.{nat_list_eq_equiv}

@@ -1,4 +1,5 @@
 -- The lines of a dump, one by one: what was asked so far, and what the rest asks for.
+-- For the proofs of `is_first` and `restoring`.
 use Rattle.std.proofs.Common.{◌≡◌, ℕ, ◌+◌, ◌<◌, Bool, true, false, not, ◌||◌, List, [], ◌∷◌, ◌++◌, Option, Some, map, drop, length, get_or, refl, sym, ap, ◌∙◌, append_assoc, cond}
 use Rattle.std.proofs.lemmas.List.{drop_more}
 use Rattle.std.proofs.lemmas.Map.Text.{is_eq-slice_cmp}

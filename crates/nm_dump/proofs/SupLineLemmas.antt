@@ -1,4 +1,4 @@
--- Lines of sup as they are written, and read again.
+-- Lines of sup as they are written, and read again. For the proof of `push_plain_tags`.
 use Rattle.std.proofs.Common.{◌≡◌, ℕ, List, [], ◌∷◌, ◌++◌, sym, ap, ◌∙◌, append-nil, append_assoc}
 use Rattle.std.specs.List.{flat_map, join_with_byte}
 

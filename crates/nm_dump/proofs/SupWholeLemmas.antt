@@ -1,4 +1,4 @@
--- Dumps in the form of sup as they are written, and read again.
+-- Dumps in the form of sup as they are written, and read again. For the proof of `a_written_sup_dump_is_read_back`.
 use Rattle.std.proofs.Common.{◌≡◌, ℕ, zero, suc, ◌+◌, ◌-◌, ◌≤◌, ◌==◌, ◌&&◌, nat_le, true, false, List, [], ◌∷◌, ◌++◌, length, map, slice_index, take, drop, codes, refl, ap, ◌∙◌, arith, append_assoc, cond, Some, None, Ok, Err}
 use Rattle.std.specs.List.{before_first, join_with_byte, list_all, position_or_len, prefix_len, AllByRecursion}
 use Rattle.std.specs.Str.{is_utf8, IsUtf8}

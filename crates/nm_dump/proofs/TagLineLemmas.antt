@@ -1,4 +1,4 @@
--- Lines of tag changes as they are written, and read again.
+-- Lines of tag changes as they are written, and read again. For the proof of `a_written_line_is_read_back`.
 use Rattle.std.proofs.Common.{◌≡◌, ℕ, zero, suc, ◌+◌, ◌-◌, ◌≤◌, true, List, [], ◌∷◌, ◌++◌, length, take, drop, map, slice_index, codes, refl, ap, ◌∙◌, arith, append_assoc, cond, Option, Some, None, Ok, Err}
 use Rattle.std.specs.List.{flat_map, before_first, list_all, position_or_len, suffix_len}
 use Rattle.std.specs.Str.{is_utf8}

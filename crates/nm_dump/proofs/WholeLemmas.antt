@@ -1,4 +1,4 @@
--- Dumps as they are written, and read again line by line.
+-- Dumps as they are written, and read again line by line. For the proof of `a_written_dump_is_read_back`.
 use Rattle.std.proofs.Common.{◌≡◌, ℕ, ◌+◌, ◌-◌, ◌<◌, ◌==◌, not, true, false, List, [], ◌∷◌, ◌++◌, length, map, slice_index, get_or, codes, refl, sym, ap, ◌∙◌, subst, arith, append_assoc, inl, inr, cond, take, drop, Some, None, Result, Ok, Err}
 use Rattle.std.specs.List.{flat_map, list_all, slice_split, AllByRecursion}
 use Rattle.std.specs.Str.{is_utf8, IsUtf8}

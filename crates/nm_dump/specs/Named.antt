@@ -1,4 +1,4 @@
--- Which ids a map has.
+-- Which ids a map has. Cited by `restore`.
 use Rattle.std.specs.Prelude.{◌≡◌, ℕ, List, is_some}
 use Rattle.std.specs.BTreeMap.{is_at}
 use Rattle.std.specs.Cmp.Lexicographic.{slice_cmp}

@@ -1,4 +1,4 @@
--- What a `restore` comes to: the tags that each message then has.
+-- What a `restore` comes to: the tags that each message then has. Cited by `restore_laws`.
 use Rattle.std.specs.Prelude.{◌≡◌, ℕ, ℤ, Bool, ◌&&◌, not, List, fold, map, IsTrue}
 use Rattle.std.specs.List.{AllByRecursion, IsDistinct, filter, list_any}
 use Rattle.nm_answer.specs.Restore.{restorings_of}

@@ -1,4 +1,4 @@
-//! The call `dump`: the text that `read_dump` reads.
+//! The call `dump`, for `reply`: the text that `read_dump` reads.
 
 ghost use Rattle.std.specs.Prelude.{◌≡◌, ◌++◌, [], ◌∷◌, IfOk, OnOk, Ok};
 ghost use Rattle.nm_base.specs.Order.{sorted};

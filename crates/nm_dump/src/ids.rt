@@ -1,4 +1,4 @@
-//! Ids in the lines of a dump.
+//! Ids in the lines of a dump, for `reading` and `writing`.
 
 ghost use Rattle.std.specs.Prelude.{◌≡◌, ◌<◌, [], length, IfOk, IfSome, MatchOption, None, Some};
 ghost use Rattle.nm_answer.specs.Dump.{has_parenthesis};

@@ -1,4 +1,5 @@
-//! What a dump comes to when it is read. These functions run no code: their clauses are the laws.
+//! What a dump comes to when it is read. These functions run no code: their clauses are the laws, which `dumping` and
+//! `restore_laws` call.
 
 ghost use Rattle.std.specs.Prelude.{◌≡◌, ℕ, true, List, ◌++◌, codes, map, Ok, Some};
 ghost use Rattle.std.specs.Str.{is_utf8};

@@ -1,4 +1,4 @@
-//! The reply to a dump. The machine judges replies by it, and a session answers with it.
+//! The reply to a dump: `nm_session` answers with it, and `nm_core` judges replies by it.
 
 ghost use Rattle.std.specs.Prelude.{◌≡◌, ◌<◌, false, IfOk};
 ghost use Rattle.nm_answer.specs.Dump.{dump_found};

@@ -1,4 +1,4 @@
-//! What a `restore` comes to. These functions run no code: their clauses are the laws.
+//! What a `restore` comes to. No code calls these functions: their clauses are the laws.
 
 ghost use Rattle.std.specs.Prelude.{◌≡◌, ◌≢◌, ℕ, ℤ, Bool, IsTrue, List, false};
 ghost use Rattle.nm_answer.specs.Dump.{dump, dump_text, tagged};

@@ -1,4 +1,4 @@
-//! Lines of a dump in the form of sup.
+//! Lines of a dump in the form of sup, for `reading`.
 
 ghost use Rattle.std.specs.Prelude.{◌≡◌, ◌-◌, ◌<◌, [], length, take, drop, IfOk, IfSome, MatchOption, None, Some, if◌then◌else◌};
 ghost use Rattle.nm_base.specs.Tag.{is_tag};

@@ -1,4 +1,4 @@
-//! The lines of a dump.
+//! The lines of a dump, for `dumping`.
 
 ghost use Rattle.std.specs.Prelude.{◌≡◌, ◌++◌, true, OnOk};
 ghost use Rattle.std.specs.List.{flat_map, join_with_byte};

@@ -1,5 +1,4 @@
-//! The facts of a mail: `nm_scan` calls `extract` for each file that `new` reads, and `nm_render` asks for the bodies
-//! to show.
+//! The facts of a mail: `nm_scan` calls `extract` for each file that `new` reads, and `nm_render` asks for the bodies to show.
 
 ghost use Rattle.std.specs.Prelude.{◌≡◌, Some, IfErr, IfOk};
 ghost use Rattle.nm_base.specs.Limits.{IsDate};

@@ -1,4 +1,4 @@
--- How many commits the steps of a line acknowledge.
+-- How many commits the steps of a line acknowledge. For the proof of `a_line_more_keeps_the_clocks`.
 use Rattle.std.proofs.Common.{◌≡◌, ℤ, ◌+◌, List, [], ◌∷◌, ◌++◌, length, map, refl, ap, suc, arith}
 use Rattle.std.specs.List.{flat_map}
 use Rattle.std.proofs.lemmas.List.{length-append}

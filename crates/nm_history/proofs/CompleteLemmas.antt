@@ -1,4 +1,5 @@
 -- A session in which nothing fails ends with status 0, or 7 out of memory.
+-- For the proofs of `a_call_that_reads_nothing_is_not_refused_for_its_input` and `a_history_is_complete`.
 use Rattle.std.proofs.Common.{◌≡◌, ◌≢◌, ℕ, ℤ, ◌<◌, ◌≤◌, ◌⊎◌, inl, inr, Bool, true, false, List, [], ◌∷◌, ◌++◌, Option, None, Some, IfSome, if◌then◌else◌, length, map, refl, sym, ap, ◌∙◌, subst, append-nil, arith, suc}
 use Rattle.std.specs.Io.KnownBytes.{Consumes, IsAtEnd}
 use Rattle.std.specs.Str.Lines.{lines}

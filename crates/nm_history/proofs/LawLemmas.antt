@@ -1,4 +1,5 @@
 -- The laws of single lines and of the status.
+-- For the proofs of `a_disk_fault_is_the_status`, `a_mail_fault_is_the_status`, `an_index_at_a_revision_is_one` and others.
 use Rattle.std.proofs.Common.{◌≡◌, ◌⊎◌, ℕ, ℤ, Bool, true, false, List, [], ◌∷◌, ◌++◌, Option, None, Some, Result, Ok, Err, length, refl, sym, ap, ◌∙◌, arith, inl, inr}
 use Rattle.nm_commit.specs.declared.change.Commit.{Commit}
 use Rattle.nm_index.specs.Index.{folded}

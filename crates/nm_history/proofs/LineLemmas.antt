@@ -1,4 +1,5 @@
 -- A line more keeps where a session stands, its commits, its answers and what the folder gave.
+-- For the proofs of `a_line_more_keeps_the_answers`, `a_line_more_keeps_the_commits`, `a_line_more_keeps_the_given` and others.
 use Rattle.std.proofs.Common.{◌≡◌, ◌⊎◌, ℕ, ℤ, ◌+◌, Bool, true, false, List, [], ◌∷◌, ◌++◌, Option, None, Some, IsSome, length, map, fold, refl, sym, ap, ◌∙◌, subst, arith, inl, inr, append-nil, append_assoc}
 use Rattle.std.specs.List.{flat_map}
 use Rattle.std.proofs.lemmas.Grind.{flat_map-append}

@@ -1,4 +1,5 @@
 -- The steps of a line go on with the run of the machine.
+-- For the proofs of `a_line_more_keeps_the_machine_run` and `no_step_is_a_run_of_the_machine`.
 use Rattle.std.proofs.Common.{◌≡◌, ◌⊎◌, ℕ, ℤ, ◌+◌, Bool, true, false, ◌&&◌, ◌||◌, not, List, [], ◌∷◌, ◌++◌, Option, None, Some, Result, Ok, Err, is_ok, if◌then◌else◌, length, map, fold, slice_index, slice_set, refl, sym, ap, ◌∙◌, subst, arith, inl, inr, append-nil, append_assoc}
 use Rattle.std.specs.List.{flat_map}
 use Rattle.std.specs.Cmp.Lexicographic.{nat_list_eq_equiv}

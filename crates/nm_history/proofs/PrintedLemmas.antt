@@ -1,4 +1,5 @@
 -- What is printed of a line more, and the status with it.
+-- For the proofs of `a_line_more_is_printed_last` and `a_line_more_keeps_the_first_fault`.
 use Rattle.std.proofs.Common.{◌≡◌, ◌||◌, ℕ, Bool, true, false, List, [], ◌∷◌, ◌++◌, Option, None, Some, refl, ap, ◌∙◌, append-nil}
 use Rattle.std.proofs.lemmas.Grind.{flat_map-append}
 use Rattle.std.specs.List.{flat_map}

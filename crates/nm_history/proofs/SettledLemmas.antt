@@ -1,4 +1,5 @@
 -- What a stop leaves where writes were pending when the call began: its settled moments come behind the sync of the opening.
+-- For the proofs of `a_refused_opening_keeps_the_index` and `a_session_keeps_its_commits`.
 use Rattle.std.proofs.Common.{◌≡◌, ◌⊎◌, inl, inr, ℕ, ◌<◌, ◌≤◌, suc, min, List, [], ◌∷◌, ◌++◌, length, refl, sym, ap, ◌∙◌, subst, append_assoc, arith, length-append}
 use Rattle.std.proofs.Math.Nat.{eq-or-lt_of_le}
 use Rattle.nm_base.specs.Limits.{max_count}

@@ -1,4 +1,5 @@
 -- A single command that is refused before the mail folder and the disk are asked: its one line goes on from no line as any does.
+-- For the proof of `a_refused_line_is_a_history`.
 use Rattle.std.proofs.Common.{◌≡◌, inl, inr, ℕ, ℤ, ◌||◌, ◌==◌, Bool, true, false, List, [], ◌∷◌, Option, None, Some, IfSome, if◌then◌else◌, codes, length, map, fold, Result, Ok, Err, refl, sym, ap, ◌∙◌, subst, arith}
 use Rattle.std.specs.List.{zip}
 use Rattle.std.specs.Option.{option_map}

@@ -1,4 +1,5 @@
 -- One call of the program: what it is given, what is observed of the devices when it begins and when it has returned, and what it answers.
+-- Cited by `going_on`, `nm_session` and `nm_top`.
 use Rattle.std.specs.Prelude.{ℕ, Bool, true, false, List, [], ◌∷◌, codes, Option, None, Some, Result, Ok, Err}
 use Rattle.nm_base.specs.Order.{same_text}
 use Rattle.nm_command.specs.Requests.{request_of}

@@ -1,4 +1,5 @@
 -- With nothing in its way a call runs to its end: running out of memory alone may stop it.
+-- Cited by `laws` and `nm_top`.
 use Rattle.std.specs.Prelude.{◌≡◌, ◌≢◌, ◌⊎◌, ℕ, ◌<◌, ◌≤◌, Bool, true, false, List, [], length, None, Some, IfSome}
 use Rattle.std.specs.Str.Lines.{lines}
 use Rattle.nm_base.specs.Limits.{max_count, max_input_bytes, max_lines}

@@ -1,5 +1,6 @@
 -- What a stop at any moment of the call leaves on the disk: the index after the commits that were acknowledged by that moment, with or
 -- without the one that comes next.
+-- Cited by `going_on`, `nm_session` and `nm_top`.
 use Rattle.std.specs.Prelude.{◌≡◌, ℕ, ◌≤◌, Bool, true, false, min, List, [], ◌∷◌, ◌++◌, length, filter}
 use Rattle.nm_base.specs.Limits.{max_count}
 use Rattle.nm_commit.specs.declared.change.Commit.{Commit}

@@ -1,4 +1,5 @@
 -- What the lines asked the mail folder and what it gave, one line after the other.
+-- Cited by `going_on`, `nm_session` and `nm_top`.
 use Rattle.std.specs.Prelude.{◌≡◌, ◌⊎◌, ℕ, ℤ, ◌≤◌, List, [], ◌∷◌, IsSome}
 use Rattle.nm_answer.specs.declared.request.Request.TheVariants.{New, Count, Search, Dump, Show, Tag, Restore}
 use Rattle.nm_disk.specs.Observed.{ObservedDisk}

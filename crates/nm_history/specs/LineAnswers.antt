@@ -1,4 +1,5 @@
 -- The outcome and the text of each line: those of the plain index at the revision before it and at its own.
+-- Cited by `going_on`, `nm_session` and `nm_top`.
 use Rattle.std.specs.Prelude.{◌≡◌, ◌⊎◌, ℕ, ℤ, Bool, true, false, List, [], None, Some}
 use Rattle.nm_answer.specs.Answer.{answer}
 use Rattle.nm_faults.specs.Faults.{Counts, HasRisen}

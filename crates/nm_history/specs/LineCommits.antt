@@ -1,4 +1,5 @@
 -- Which commits a line makes: all that are due, or by its outcome the first of them.
+-- Cited by `going_on`, `nm_session` and `nm_top`.
 use Rattle.std.specs.Prelude.{◌≡◌, ◌⊎◌, ℕ, ℤ, ◌+◌, Bool, false, List, [], ◌∷◌, ◌++◌, drop, length, map, Option, None, Some, if◌then◌else◌}
 use Rattle.nm_answer.specs.Changes.{wanted_for}
 use Rattle.nm_answer.specs.Renaming.{renames_done, renames_for}

@@ -1,4 +1,5 @@
 -- What one line does with the writer and the mail folder, and what its log says. The statements of a session go on by it.
+-- Cited by `going_on` and `nm_session`.
 use Rattle.std.specs.Prelude.{◌≡◌, ℕ, ℤ, ◌+◌, ◌≤◌, List, [], ◌∷◌, ◌++◌, length, map, None, IsSome}
 use Rattle.std.specs.List.{flat_map}
 use Rattle.nm_commit.specs.declared.change.Commit.{Commit}

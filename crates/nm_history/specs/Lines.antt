@@ -1,4 +1,5 @@
 -- The lines that were run, each with its log, and what stands before a line, all of it read off the log.
+-- Cited by `going_on`, `nm_session` and `nm_top`.
 use Rattle.std.specs.Prelude.{◌≡◌, ℕ, ◌+◌, Bool, List, [], ◌∷◌, ◌++◌, length, fold, Option, None, Some, Ok, if◌then◌else◌}
 use Rattle.std.specs.List.{flat_map, zip}
 use Rattle.std.specs.Option.{option_map}

@@ -1,4 +1,5 @@
 -- The log is a run of the machine of commits and replies, and each reply stands in it at the revision of its line.
+-- Cited by `going_on`, `nm_session` and `nm_top`.
 use Rattle.std.specs.Prelude.{◌≡◌, ℕ, ℤ, ◌+◌, Bool, true, false, List, [], ◌∷◌, ◌++◌, None, Some, length, slice_index, slice_set, replicate}
 use Rattle.std.specs.List.{AllByRecursion, flat_map}
 use Rattle.nm_answer.specs.declared.request.Request.{Request}

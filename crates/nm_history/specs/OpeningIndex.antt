@@ -1,4 +1,5 @@
 -- The opening index: where lines were run, it is the one that the disk held when the call began, and no index on the way to it passes a limit.
+-- Cited by `nm_session`.
 use Rattle.std.specs.Prelude.{◌≡◌, IfSome}
 use Rattle.nm_disk.specs.Observed.{ObservedDisk, bytes_now}
 use Rattle.nm_disk.specs.declared.disk.FileNo.TheVariants.{Head}

@@ -1,5 +1,6 @@
 -- What is printed: the replies of all lines of a script behind their headers, or that of a single command alone, and at most one line to
 -- the user besides.
+-- Cited by `going_on`, `nm_top` and `nm_session`.
 use Rattle.std.specs.Prelude.{◌≡◌, ℕ, Bool, true, false, List, [], ◌∷◌, map, take, codes, Option, None, Some, if◌then◌else◌}
 use Rattle.std.specs.Io.KnownBytes.{Appends}
 use Rattle.nm_faults.specs.Faults.{HasRisen}

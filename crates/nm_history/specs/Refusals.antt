@@ -1,4 +1,5 @@
 -- Why a call is refused as a whole, or its one line before the mail folder and the disk are asked, and what was read where neither is.
+-- Cited by `laws` and `nm_top`.
 use Rattle.std.specs.Prelude.{◌≡◌, ◌⊎◌, ℕ, ◌<◌, ◌≤◌, Bool, true, false, List, [], length, None, Some, IfSome}
 use Rattle.std.specs.Io.KnownBytes.{Consumes, IsAtEnd}
 use Rattle.std.specs.Str.Lines.{lines}

@@ -1,4 +1,5 @@
 -- What a line asks for, what refuses it before any device is touched, and what refuses a show for what it found and read.
+-- Cited by `laws`, `nm_session` and `nm_top`.
 use Rattle.std.specs.Prelude.{ℕ, ℤ, ◌-◌, ◌||◌, List, [], ◌∷◌, length, Bool, true, false, Option, None, Some, Result, Ok, Err, if◌then◌else◌}
 use Rattle.nm_answer.specs.BatchLines.{queries_in, taggings_in}
 use Rattle.nm_answer.specs.DumpReading.{read_dump}

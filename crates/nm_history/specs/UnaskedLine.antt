@@ -1,4 +1,5 @@
 -- The log of a single command that is refused before the mail folder and the disk are asked, and what the call answers.
+-- Cited by `laws` and `nm_top`.
 use Rattle.std.specs.Prelude.{ℕ, [], ◌∷◌, false}
 use Rattle.nm_log.specs.Replies.{refusal_line, status_of}
 use Rattle.nm_log.specs.declared.log.Done.{Done}

@@ -1,5 +1,5 @@
-//! The statements of a session hold before its first line, and a line more keeps them. These functions run no code: their
-//! clauses are the laws, which the loop of a session calls.
+//! The statements of a session hold before its first line, and a line more keeps them. These functions run no code:
+//! their clauses are the laws, which the loop of `nm_session` calls.
 
 ghost use Rattle.std.specs.Prelude.{◌≡◌, ◌||◌, ℕ, ℤ, true, false, List, [], ◌∷◌, ◌++◌, None, length};
 ghost use Rattle.nm_base.specs.Limits.{max_mail_bytes};

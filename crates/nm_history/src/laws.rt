@@ -1,4 +1,5 @@
-//! What follows from the definitions for single lines and for whole sessions. These functions run no code: their clauses are the laws.
+//! What follows from the definitions for single lines and for whole sessions. These functions run no code: their
+//! clauses are the laws, which `nm_session` and `nm_top` call.
 
 ghost use Rattle.std.specs.Prelude.{◌≡◌, ◌⊎◌, ℕ, ℤ, Bool, List, [], ◌∷◌, ◌++◌, IfSome, Option, None, Some, false, true};
 ghost use Rattle.std.specs.Option.{option_map};

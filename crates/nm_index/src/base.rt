@@ -1,5 +1,4 @@
-//! The index as data: `nm_state` makes snapshots of it and it of snapshots, and the definitions of the machine begin
-//! with it.
+//! The index as data: `nm_state` makes snapshots of it and it of snapshots, and the definitions of the machine begin with it.
 
 ghost use Rattle.std.specs.Prelude.{◌≡◌};
 ghost use Rattle.nm_index.specs.Index.{empty_index};

@@ -1,4 +1,5 @@
 -- Where a text is cut: the first place that passes a test, the first word.
+-- For the proofs of `next_word`, `without_blanks` and `word_len`.
 use Rattle.std.proofs.Common.{◌≡◌, ℕ, ◌+◌, ◌<◌, ◌≤◌, ◌==◌, Bool, true, false, not, List, [], ◌∷◌, length, filter, get_or, take, drop, sym, ap, ◌∙◌, arith, subst, inl, inr, cond, add-one, suc}
 use Rattle.std.specs.List.{position_or_len, slice_split, after_first}
 use Rattle.std.proofs.lemmas.List.{take_all, drop_all, length-take}

@@ -1,4 +1,4 @@
--- Digits that are not read say no lane.
+-- Digits that are not read say no lane. For the proof of `lane_in`.
 use Rattle.std.proofs.Common.{◌≡◌, ℕ, ◌<◌, ◌^◌, true, false, cond, ◌&&◌, List, length, sym, ap, ◌∙◌, arith, rules}
 use Rattle.std.specs.Prelude.{Some, None, Result, Ok, Err, nat_le}
 use Rattle.std.specs.Char.{is_ascii_digit}

@@ -1,4 +1,5 @@
 -- The lines of a script, phase after phase, are what its lines tell by their places.
+-- For the proof of `lines_are_told_where_they_stand`.
 use Rattle.std.proofs.Common.{◌≡◌, ℕ, ◌+◌, ◌<◌, ◌&&◌, ◌||◌, Bool, true, false, cond, not, List, [], ◌∷◌, ◌++◌, length, map, refl, sym, ap, ◌∙◌, arith, length-append, suc}
 use Rattle.std.specs.Prelude.{Some, None, filter, codes}
 use Rattle.std.specs.List.{cons_option, enumerate_from, filter_map, flat_map, onto_first, slice_split}

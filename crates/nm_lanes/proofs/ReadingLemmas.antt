@@ -1,4 +1,5 @@
 -- What a reader has, and what the lines that are left give, are all phases of a script.
+-- For the proof of `read_script`.
 use Rattle.std.proofs.Common.{◌≡◌, ℕ, ◌+◌, ◌==◌, Bool, true, false, cond, not, List, [], ◌∷◌, ◌++◌, length, map, take, refl, sym, ap, ◌∙◌, append-nil, append_assoc, arith, subst, suc}
 use Rattle.std.specs.Prelude.{Option, Some, None, filter}
 use Rattle.std.specs.List.{before_first, flat_map, onto_first, position_or_len, slice_split}

@@ -1,4 +1,4 @@
--- A relation between the items of two lists of one length, place by place.
+-- A relation between the items of two lists of one length, place by place. For the proof of `work_lanes`.
 use Rattle.std.proofs.Common.{◌≡◌, ℕ, ◌<◌, List, [], ◌∷◌, length, get_or, arith, suc}
 use Rattle.std.specs.List.{AllZip}
 

@@ -1,4 +1,5 @@
 -- One line of a script: whether it is a command, input or the end of a phase, and what a command line says by itself.
+-- Cited by `line` and `reader`.
 use Rattle.std.specs.Prelude.{ℕ, Bool, false, ◌==◌, ◌&&◌, not, nat_le, List, [], ◌∷◌, ◌++◌, drop, length, Option, Some, None, codes, if◌then◌else◌}
 use Rattle.std.specs.Char.{is_ascii_digit}
 use Rattle.std.specs.List.{list_all}

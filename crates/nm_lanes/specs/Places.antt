@@ -1,4 +1,5 @@
 -- What a script tells, line by line: of each line by its place alone, by what stands before it and after it in the whole script.
+-- Cited by `laws`.
 use Rattle.std.specs.Prelude.{ℕ, ◌+◌, Bool, false, ◌&&◌, ◌||◌, not, List, [], ◌∷◌, ◌++◌, length, map, filter, fold, Option, Some, None, if◌then◌else◌}
 use Rattle.std.specs.List.{before_first, flat_map}
 use Rattle.nm_lanes.specs.Lines.{command_line, input_line, is_command, is_input, is_separator, stray_line}

@@ -1,4 +1,4 @@
--- How a script is read, line by line: what a reader has after each. Only proofs need this.
+-- How a script is read, line by line: what a reader has after each. Only proofs need this. Cited by `reader`.
 use Rattle.std.specs.Prelude.{ℕ, ◌==◌, List, [], ◌∷◌, ◌++◌, length, Option, Some, None, if◌then◌else◌}
 use Rattle.nm_lanes.specs.Lines.{command_line, input_line, is_input, is_separator, stray_line}
 use Rattle.nm_lanes.specs.declared.reader.Reader.{Reader}

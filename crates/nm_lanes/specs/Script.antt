@@ -1,5 +1,6 @@
 -- Scripts: the lines of an input, each ended by LF or CR LF and counted from 1, in phases that lines `---` part. Empty lines are passed over;
 -- input lines belong to the command before them in their phase.
+-- Cited by `script`.
 use Rattle.std.specs.Prelude.{◌≡◌, ℕ, ◌<◌, List, [], ◌∷◌, ◌++◌, length, map, filter, if◌then◌else◌}
 use Rattle.std.specs.List.{before_first, enumerate_from, flat_map, slice_split}
 use Rattle.std.specs.Str.Lines.{lines}

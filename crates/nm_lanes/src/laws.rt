@@ -1,4 +1,4 @@
-//! What follows from the definition of a script. This function runs no code: its clauses are the law.
+//! What follows from the definition of a script. No code calls this function: its clauses are the law.
 
 ghost use Rattle.std.specs.Prelude.{◌≡◌, ℕ, ◌+◌, List, length};
 ghost use Rattle.std.specs.List.{filter_map};

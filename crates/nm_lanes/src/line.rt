@@ -1,4 +1,4 @@
-//! One line of a script: what it is, and what a command line says by itself.
+//! One line of a script, for `reader`: what it is, and what a command line says by itself.
 
 ghost use Rattle.std.specs.Prelude.{◌≡◌, [], ◌∷◌, nat_le, IfOk, Some, None, if◌then◌else◌};
 ghost use Rattle.std.specs.Char.{is_ascii_digit};

@@ -1,4 +1,5 @@
-//! The work of a phase: all lanes at once, and each passes a gate before its work and after it.
+//! The work of a phase: all lanes at once, and each passes a gate before its work and after it. The `tests` call it;
+//! no command does.
 
 ghost use Rattle.std.specs.Prelude.{◌≤◌, ◌<◌, ℕ, length, slice_index_or};
 ghost use Rattle.std.specs.List.{All, AllZip};

@@ -1,4 +1,4 @@
-//! A reader of scripts: it is given one line after the other.
+//! A reader of scripts, for `read_script`: it is given one line after the other.
 
 ghost use Rattle.std.specs.Prelude.{◌≡◌, ◌++◌, true, None, IfOk, OnOk};
 ghost use Rattle.nm_lanes.specs.Lines.{input_line, is_input, is_separator};

@@ -1,4 +1,4 @@
-//! What no contract tells: that lanes are worked at once, and that each passes the gate before its work and after it.
+//! Tests of what no contract tells: that lanes are worked at once, and that each passes the gate before its work and after it.
 
 ghost use Rattle.std.specs.Prelude.{◌≡◌, ◌+◌, ◌≤◌, ◌<◌};
 

@@ -1,4 +1,5 @@
 -- Lines ask for what the grammar says, and else the word is at fault that it says.
+-- For the proofs of `lines_are_read_as_the_grammar_says` and `single_commands_are_read_as_the_grammar_says`.
 use Rattle.std.proofs.Common.{◌≡◌, ◌⊎◌, ◌↔◌, inl, inr, ℕ, Bool, true, false, cond, List, [], ◌∷◌, Option, None, Some, Result, Ok, Err, codes, refl, sym, ap, subst, ◌∙◌}
 use Rattle.std.specs.Str.{is_utf8}
 use Rattle.std.proofs.lemmas.Slice.Eq.{bytes_eq-Decides}

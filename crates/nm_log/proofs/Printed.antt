@@ -1,4 +1,4 @@
--- The printed log, line by line.
+-- The printed log, line by line. For the proofs of `put_lines` and `put_replies`.
 use Rattle.std.proofs.Common.{◌≡◌, ℕ, ◌<◌, List, ◌∷◌, ◌++◌, Option, Result, Ok, Err, IsErr, length, take, drop, get_or, suc, sym, ap, ◌∙◌, subst, take-append-drop}
 use Rattle.std.proofs.Math.Seq.{drop-cons}
 use Rattle.std.proofs.lemmas.Bool.{false≢true}

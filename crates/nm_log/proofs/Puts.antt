@@ -1,4 +1,5 @@
 -- One put after another appends the one and then the other.
+-- For the proofs of `print_lines`, `print_replies`, `print_text` and others.
 use Rattle.std.proofs.Common.{◌≡◌, ℕ, ◌+◌, List, ◌++◌, Option, Result, Ok, Err, length, take, min, sym, ap, ◌∙◌, arith, subst, inl, inr, IsErr}
 use Rattle.std.proofs.Math.Seq.{take-append-add}
 use Rattle.std.proofs.lemmas.List.{take-append-le, take_all}

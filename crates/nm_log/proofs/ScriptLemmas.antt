@@ -1,4 +1,4 @@
--- The last line of a script gets more input.
+-- The last line of a script gets more input. For the proof of `add_input`.
 use Rattle.std.proofs.Common.{◌≡◌, ℕ, Bool, true, false, cond, List, [], ◌∷◌, ◌++◌, refl, sym, ap, ◌∙◌, append_assoc}
 use Rattle.nm_log.specs.Script.{added_by, command_line, fed_with, is_alone, with_input}
 use Rattle.nm_log.specs.declared.script.ScriptLine.{ScriptLine}

@@ -1,5 +1,6 @@
 -- The grammar of a line of a script, a case for each of its rules: which lines ask for what, and which word of a line is at fault.
 --   line := "0" command        of a command that a session answers; a line that begins with a bar is none
+-- Cited by `laws`.
 use Rattle.std.specs.Prelude.{◌≡◌, ℕ, true, false, List, [], ◌∷◌, None, Some, codes}
 use Rattle.std.specs.Str.{is_utf8}
 use Rattle.nm_base.specs.Order.{same_text}

@@ -1,5 +1,6 @@
 -- What a line of a script or a single command asks for, or the first fault of its words: the lane comes first, then the command, then the
 -- words of the command.
+-- Cited by `line_parser`, `nm_session`, `nm_top` and others.
 use Rattle.std.specs.Prelude.{ℕ, Bool, true, false, ◌==◌, ◌||◌, List, [], ◌∷◌, length, Option, None, Some, Result, Ok, Err, codes, if◌then◌else◌}
 use Rattle.std.specs.Str.{is_utf8}
 use Rattle.nm_base.specs.Order.{same_text}

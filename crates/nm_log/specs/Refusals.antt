@@ -1,4 +1,5 @@
 -- Why a whole call may be refused, with its status and the line that says so.
+-- Cited by `refusal`, `nm_history` and `nm_top`.
 use Rattle.std.specs.Prelude.{ℕ, List, ◌++◌, codes}
 use Rattle.std.specs.Fmt.{decimal}
 use Rattle.nm_disk.specs.declared.disk.FileNo.{FileNo}

@@ -1,4 +1,4 @@
--- The texts of replies and refusals, and how a log is printed.
+-- The texts of replies and refusals, and how a log is printed. Cited by `header`, `print`, `nm_history` and others.
 use Rattle.std.specs.Prelude.{ℕ, Bool, true, false, List, [], ◌++◌, length, codes, if◌then◌else◌}
 use Rattle.std.specs.Fmt.{decimal}
 use Rattle.std.specs.List.{flat_map}

@@ -1,5 +1,6 @@
 -- Scripts: the lines of an input that are not empty, each with its number. A line that begins with a bar adds its rest to the input of the
 -- command before it.
+-- Cited by `script`, `nm_top` and `nm_history`.
 use Rattle.nm_base.specs.Limits.{max_lines}
 use Rattle.std.specs.Prelude.{◌≡◌, ℕ, ◌+◌, ◌<◌, ◌==◌, Bool, false, List, [], ◌∷◌, ◌++◌, drop, length, if◌then◌else◌}
 use Rattle.std.specs.Str.Lines.{lines}

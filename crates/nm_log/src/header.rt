@@ -1,4 +1,4 @@
-//! The header of a reply, written without memory of the heap; the printing of a log calls it.
+//! The header of a reply, written without memory of the heap, for `print`.
 ghost use Rattle.std.specs.Prelude.{◌≡◌, ◌+◌, ◌≤◌, ◌++◌, length};
 ghost use Rattle.arrayvec.specs.ArrayString.{array_string_len};
 ghost use Rattle.nm_answer.specs.NewText.{number_after};

@@ -1,4 +1,4 @@
-//! What follows from the definition of what a command asks for. These functions run no code: their clauses are the laws.
+//! What follows from the definition of what a command asks for. No code calls these functions: their clauses are the laws.
 
 ghost use Rattle.std.specs.Prelude.{◌≡◌, ◌↔◌, ℕ, List};
 ghost use Rattle.nm_answer.specs.declared.request.Request.{Request};

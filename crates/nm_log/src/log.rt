@@ -1,4 +1,4 @@
-//! The log of a session, which the top call hands back, and what a run is given.
+//! The log of a session, which `nm_session` keeps and `nm_top` hands back, and what a run is given.
 
 use crate::Outcome;
 use nm_base::Many;

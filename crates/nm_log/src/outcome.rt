@@ -1,4 +1,4 @@
-//! How a line ends.
+//! How a line ends: `nm_session` says it, and `nm_top` makes the status of it.
 
 use nm_base::{Limit, MailPath, Text, UsageKind};
 use nm_query::QueryKind;

@@ -1,4 +1,4 @@
-//! Why a whole call is refused, and how that is printed; the top call ends with it.
+//! Why a whole call is refused, and how that is printed: `nm_top` ends with it.
 
 ghost use Rattle.std.specs.Prelude.{◌≡◌, ◌++◌, codes};
 ghost use Rattle.nm_faults.specs.Faults.{HasCause};

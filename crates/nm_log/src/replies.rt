@@ -1,4 +1,4 @@
-//! The texts of replies and refusals; the session makes each line's text with it.
+//! The texts of replies and refusals: `nm_session` makes each line's text with it, and `nm_top` that of a call.
 
 ghost use Rattle.std.specs.Prelude.{◌≡◌, ◌++◌, IfOk, OnOk};
 ghost use Rattle.std.specs.Fmt.{decimal};

@@ -1,4 +1,4 @@
-//! The lines of a script, with their numbers; the top call cuts its input with it.
+//! The lines of a script, with their numbers: `nm_top` cuts its input with it, and `nm_session` runs them.
 
 ghost use Rattle.nm_base.specs.Limits.{max_lines};
 ghost use Rattle.std.specs.Prelude.{◌≡◌, ◌<◌, ◌≤◌, [], ◌∷◌, length, IfErr, IfOk, MatchOption, OnOk};

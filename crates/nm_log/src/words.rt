@@ -1,4 +1,4 @@
-//! The words of a line, for the reading of a line.
+//! The words of a line, for `line_parser`.
 
 ghost use Rattle.std.specs.Prelude.{◌≡◌, ◌<◌, ◌≤◌, [], ◌∷◌, length, IfOk, MatchOption, false};
 ghost use Rattle.std.specs.List.{position_or_len};

@@ -1,5 +1,4 @@
-//! What a mail folder answers to a listing, a read and a rename, for every `Maildir` and whoever calls it, as
-//! `nm_scan`.
+//! What a mail folder answers to a listing, a read and a rename, for every `Maildir` and whoever calls it, as `nm_scan`.
 
 ghost use Rattle.std.specs.Prelude.{◌≡◌};
 ghost use Rattle.nm_maildir.specs.declared.answers.MailError.TheVariants as mail_error;

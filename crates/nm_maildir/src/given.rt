@@ -1,5 +1,4 @@
-//! What a mail folder answered, as the log notes it: `nm_scan` and `nm_writer` note each call so, and `nm_log` has
-//! the list.
+//! What a mail folder answered, as the log notes it: `nm_scan` and `nm_writer` note each call so, and `nm_log` has the list.
 
 use crate::Renamed;
 use nm_base::{Copies, MailPath, Many, NoMemory};

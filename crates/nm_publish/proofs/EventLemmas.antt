@@ -1,4 +1,4 @@
--- What lists of events say was published.
+-- What lists of events say was published. For the proofs of `Shower::show_staged` and `Shown::is_before`.
 use Rattle.std.proofs.Common.{◌≡◌, ℕ, suc, ◌+◌, ◌<◌, ◌≤◌, Bool, true, false, nat_le, MatchBool, Option, None, Some, IfSome, List, [], ◌∷◌, ◌++◌, length, map, refl, ap, sym, subst, ◌∙◌, arith, length-append}
 use Rattle.std.specs.Option.{option_map}
 use Rattle.std.proofs.lemmas.List.{length-map, map-append}

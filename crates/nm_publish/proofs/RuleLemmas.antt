@@ -1,4 +1,4 @@
--- Each step of a seat keeps the rule.
+-- Each step of a seat keeps the rule. For the proofs of `writer_seat`, `another_seat`, `look` and others.
 use Rattle.std.proofs.Common.{◌≡◌, ℕ, ◌<◌, ◌≢◌, List, [], ◌∷◌, ◌++◌, length, fold, set, refl, sym, ap, ◌∙◌, subst, ⊎_elim, Option, Some, None}
 use mathlib.Core.List.{IsPrefix}
 use mathlib.Core.Option.{some, some-ne-none}

@@ -1,4 +1,4 @@
--- What was published, as callers see it.
+-- What was published, as callers see it. Cited by `reader`, `seats`, `nm_writer` and others.
 use Rattle.std.specs.Prelude.{◌≡◌, List, [], ◌∷◌, ◌++◌, Option}
 use mathlib.Core.List.{IsPrefix}
 use Rattle.logbook.specs.Pages.{Book}

@@ -1,4 +1,4 @@
--- The rule over what readers find and over what each seat knows.
+-- The rule over what readers find and over what each seat knows. Cited by `reader`, `rule` and `seats`.
 use Rattle.std.specs.Prelude.{◌≡◌, ℕ, ◌<◌, List, length, Option, Some, IfSome, IsSomeAnd}
 use mathlib.Core.List.{IsPrefix}
 use mathlib.Core.Option.{some}

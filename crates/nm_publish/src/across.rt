@@ -1,5 +1,5 @@
-//! A proof that a reader may go to another thread, with what it learns. No code runs; readers in threads of their own rest
-//! on it.
+//! A proof that a reader may go to another thread, with what it learns. No code calls it; readers in threads of their
+//! own rest on it.
 
 use crate::{Reader, Shown};
 

@@ -1,4 +1,4 @@
-//! A commit joins the list of what was published.
+//! A commit joins the list of what was published, when a `shower` shows it.
 
 ghost use Rattle.std.specs.Prelude.{◌≡◌, ◌+◌, ◌<◌, ◌^◌, ◌∷◌, ◌++◌, [], IsTrue, length};
 ghost use Rattle.std.specs.Arc.{arc_value};

@@ -1,4 +1,4 @@
-//! What stands in the list of what was published.
+//! What stands in the `list` of what was published.
 
 use nm_commit::Commit;
 use nm_index::Base;

@@ -1,4 +1,4 @@
-//! What is done where an answer comes that can't come.
+//! What `adding` and `seats` do where an answer comes that can't come.
 
 use std::sync::Wait;
 

@@ -1,4 +1,4 @@
-//! A reader of what is published.
+//! A reader of what is published: `nm_writer` hands some out where an index is opened.
 
 ghost use Rattle.std.specs.Prelude.{◌≡◌, ◌⊎◌, IfOk};
 ghost use Rattle.std.specs.Arc.{arc_value};

@@ -1,4 +1,4 @@
-//! The rule over what is shown and over what each seat knows.
+//! The rule over what is shown and over what each seat knows, for `seats`.
 
 use crate::list::Token;
 use crate::shelf::Shelf;

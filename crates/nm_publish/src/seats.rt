@@ -1,4 +1,4 @@
-//! The seats of the writer and of the readers, and what each does there.
+//! The seats of the writer and of the readers, and what each does there: `shower` and `reader` sit in them.
 
 ghost use Rattle.std.specs.Prelude.{◌≡◌, ◌<◌, [], ◌∷◌, None, Some, drop, IfOk, IfSome, IsTrue, length};
 ghost use Rattle.std.specs.Arc.{arc_value};

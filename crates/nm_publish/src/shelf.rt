@@ -1,4 +1,4 @@
-//! What readers find, in two copies, and what replaces it.
+//! What readers find, in two copies, and what replaces it, for `seats` and `shower`.
 
 use crate::list::Token;
 use left_right::Absorb;

@@ -1,4 +1,4 @@
-//! The writer's side: what is shown next, and the showing.
+//! The writer's side: what is shown next, and the showing. `nm_writer` shows each commit so.
 
 ghost use Rattle.std.specs.Prelude.{◌≡◌, [], None, Some, IfOk, IsSomeAnd, MatchResult};
 ghost use Rattle.std.specs.Arc.{arc_value};

@@ -1,4 +1,4 @@
-//! How far the list of what was published is known.
+//! How far the list of what was published is known, to a `reader` and to the writer of `nm_writer`.
 
 ghost use Rattle.std.specs.Prelude.{◌≡◌, ◌<◌, length, MatchBool};
 ghost use Rattle.nm_publish.specs.List.{index_at};

@@ -1,4 +1,4 @@
-//! A showing begins.
+//! A showing begins, where `nm_writer` opens an index.
 
 ghost use Rattle.std.specs.Prelude.{◌≡◌, [], None, IfOk, replicate};
 ghost use Rattle.std.specs.Arc.{arc_value};

@@ -1,4 +1,4 @@
-//! What no contract tells: that readers are made and see, and that what is shown before one looks is seen.
+//! Tests of what no contract tells: that readers are made and see, and that what is shown before one looks is seen.
 
 ghost use Rattle.std.specs.Prelude.{◌≡◌, IfSome};
 ghost use Rattle.nm_record.specs.CommitGrammar.{commit_grammar};

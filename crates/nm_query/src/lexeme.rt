@@ -1,5 +1,4 @@
-//! What begins at a place of a query: white space, a parenthesis, an operator or a term. `tokens` asks it at each
-//! place.
+//! What begins at a place of a query: white space, a parenthesis, an operator or a term. `tokens` asks it at each place.
 
 ghost use Rattle.std.specs.Prelude.{◌≡◌, ◌+◌, ◌-◌, ◌<◌, ◌≤◌, Err, IfOk, length, true};
 ghost use Rattle.std.specs.Str.{IsCharBoundary};

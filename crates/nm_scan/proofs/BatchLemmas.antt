@@ -1,4 +1,5 @@
 -- A batch goes on path by path, until it is full, or no path is left, or the reading stops.
+-- For the proof of `read_batch`.
 use Rattle.std.proofs.Common.{◌≡◌, ◌⊎◌, inl, inr, ℕ, ◌+◌, ◌-◌, ◌<◌, ◌≤◌, List, [], ◌∷◌, ◌++◌, Option, None, Some, IfSome, length, take, refl, sym, ap, ◌∙◌, subst, append_assoc, length-append, zero, suc, arith}
 use Rattle.std.proofs.Math.Seq.{take-append-add, take-append_seam}
 use Rattle.nm_base.specs.Limits.{full_bytes}

@@ -1,4 +1,5 @@
 -- Bodies are read one after the other, until all are there, or the reading stops.
+-- For the proofs of `left_after`, `read_bodies` and `bytes_left_go_down_in_turn`.
 use Rattle.std.proofs.Common.{◌≡◌, ℕ, ◌+◌, ◌-◌, ◌<◌, List, [], ◌∷◌, ◌++◌, Option, length, take, drop, get_or, refl, sym, ap, ◌∙◌, subst, append-nil, append_assoc, arith}
 use Rattle.std.proofs.lemmas.List.{drop_more, take-append-drop, take_more}
 use Rattle.nm_maildir.specs.Observed.{ObservedMail}

@@ -1,4 +1,5 @@
 -- Where a walk passes no limit, it lists the mail that it met, and meets all mail of the tree.
+-- For the proof of `a_walk_lists_the_mail_of_the_tree`.
 use Rattle.std.proofs.Common.{◌≡◌, ◌⊎◌, inl, inr, ℕ, zero, suc, ◌+◌, ◌==◌, Bool, true, false, ◌||◌, List, [], ◌∷◌, ◌++◌, Result, Ok, Err, filter, fold, map, refl, sym, ap, ◌∙◌, cond, codes, nat_le}
 use Rattle.std.specs.List.{flat_map, list_any}
 use Rattle.std.proofs.lemmas.List.Folds.{list_any-append}

@@ -1,4 +1,5 @@
 -- One read after another: what is noted, what has come, and which paths were read.
+-- For the proofs of `read_batch` and `read_next`.
 use Rattle.std.proofs.Common.{◌≡◌, ℕ, List, [], ◌∷◌, ◌++◌, Option, None, Some, IfErr, IfSome, is_some, Result, Ok, Err, map, refl, sym, ap, ◌∙◌, subst, append-nil, append_assoc, cond, arith}
 use Rattle.std.specs.List.{AllByRecursion, flat_map}
 use Rattle.std.specs.Option.{option_map}

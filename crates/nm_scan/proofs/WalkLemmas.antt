@@ -1,4 +1,5 @@
 -- Walks: what is met one after the other, and a limit that stays passed.
+-- For the proofs of `add_files`, `list_paths`, `walk_folder` and others.
 use Rattle.std.proofs.Common.{◌≡◌, ℕ, zero, suc, ◌+◌, List, [], ◌∷◌, ◌++◌, Option, None, Some, IfSome, Result, Ok, Err, filter, fold, map, reverse, take, drop, refl, sym, ap, ◌∙◌, subst, append-nil, append_assoc, codes}
 use Rattle.std.specs.List.{flat_map}
 use Rattle.std.proofs.lemmas.List.{map-append, reverse-append, take-append-drop}

@@ -1,5 +1,6 @@
 -- How a `new` reads the files that the index lacks: in batches, one after the other. A batch is closed at 256 answers, or once the
 -- bytes that it found reach 67,108,864, or where no file is left.
+-- Cited by `reading` and `nm_writer`.
 use Rattle.std.specs.Prelude.{◌≡◌, ◌⊎◌, ℕ, ◌+◌, ◌<◌, ◌≤◌, List, [], ◌∷◌, ◌++◌, length, take, Option, IfSome}
 use Rattle.nm_base.specs.Limits.{full_bytes, max_mail_bytes}
 use Rattle.nm_base.specs.declared.facts.Facts.{Facts}

@@ -1,4 +1,5 @@
 -- What `show` reads of a mail folder: files one after the other, of so many bytes in all.
+-- Cited by `bodies`, `bodies_error`, `nm_session` and others.
 use Rattle.std.specs.Prelude.{◌≡◌, ℕ, ◌+◌, ◌-◌, ◌<◌, ◌≤◌, Bool, true, false, List, [], ◌∷◌, ◌++◌, length, take, Option, IfSome, IsTrue, nat_lt}
 use Rattle.nm_base.specs.Limits.{max_mail_bytes}
 use Rattle.nm_maildir.specs.Observed.{ObservedMail}

@@ -1,4 +1,4 @@
--- What a listing of a mail folder tells.
+-- What a listing of a mail folder tells. Cited by `nm_writer` and `nm_history`.
 use Rattle.std.specs.Prelude.{◌≡◌, ℕ, IsTrue, List, Option, Ok, Err, IfSome}
 use Rattle.nm_base.specs.Order.{IsSorted}
 use Rattle.nm_base.specs.declared.limit.Limit.{Limit}

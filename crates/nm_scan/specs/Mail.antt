@@ -1,4 +1,4 @@
--- Which files of a tree are its mail, in words of its folders: what a walk through it finds.
+-- Which files of a tree are its mail, in words of its folders: what a walk through it finds. Cited by `laws`.
 use Rattle.std.specs.Prelude.{◌≡◌, ℕ, ◌+◌, IsTrue, List, [], ◌∷◌, ◌++◌, codes}
 use Rattle.nm_base.specs.Limits.{max_depth}
 use Rattle.nm_base.specs.MailPath.{is_mail_path}

@@ -1,4 +1,5 @@
 -- What is read of a mail folder: what each file holds, and what is noted of the answers.
+-- Cited by `reading` and `nm_writer`.
 use Rattle.std.specs.Prelude.{◌≡◌, ℕ, ◌+◌, ◌≤◌, List, [], ◌∷◌, ◌++◌, length, map, take, Option, Some, None, IfSome, is_some, if◌then◌else◌}
 use Rattle.std.specs.List.{flat_map, AllByRecursion}
 use Rattle.std.specs.Option.{option_map}

@@ -1,4 +1,5 @@
 -- What a `new` asks a mail folder and finds there, for an index with these files.
+-- Cited by `nm_writer` and `nm_history`.
 use Rattle.std.specs.Prelude.{◌≡◌, ◌⊎◌, ℕ, List, [], ◌∷◌, ◌++◌, Option}
 use Rattle.nm_base.specs.declared.facts.Facts.{Facts}
 use Rattle.nm_maildir.specs.Observed.{ObservedMail}

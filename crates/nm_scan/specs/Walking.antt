@@ -1,5 +1,6 @@
 -- The walk through a tree of Maildirs (maildir(5)): which folders are listed, in which order, which files count, and which limit is
 -- passed first.
+-- Cited by `scan_error`, `walking` and `nm_writer`.
 use Rattle.std.specs.Prelude.{◌≡◌, ℕ, zero, suc, ◌+◌, ◌==◌, Bool, true, false, not, List, [], ◌∷◌, ◌++◌, filter, fold, map, codes, nat_le, Result, Ok, Err, if◌then◌else◌}
 use Rattle.std.specs.List.{flat_map}
 use Rattle.nm_base.specs.Limits.{max_depth, max_files, max_folders}

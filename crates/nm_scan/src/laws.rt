@@ -1,5 +1,5 @@
-//! What follows from the definitions of batches and of bodies, and how a reading goes on batch by batch. These functions run no
-//! code: their clauses are the laws.
+//! What follows from the definitions of batches and of bodies, and how a reading goes on batch by batch. These
+//! functions run no code: their clauses are the laws, which `nm_writer` calls.
 
 ghost use Rattle.std.specs.Prelude.{◌≡◌, ℕ, ◌<◌, IsTrue, List, [], ◌∷◌, ◌++◌, Ok, Option, Some, length};
 ghost use Rattle.nm_base.specs.Limits.{full_bytes};

@@ -1,4 +1,5 @@
-//! Reading files of a mail folder, and noting what is answered; `new` reads what the index lacks, batch by batch.
+//! Reading files of a mail folder, and noting what is answered: `nm_writer` reads what the index lacks, batch by
+//! batch, and `bodies` what is shown.
 
 ghost use Rattle.std.specs.Prelude.{◌≡◌, ◌⊎◌, ℕ, List, ◌∷◌, [], ◌++◌, ◌<◌, ◌-◌, length, IfErr, IfOk, IfSome, MatchOption, OnErr, OnOk};
 ghost use Rattle.std.specs.Vec.Iter.{into_iter_items, into_iter_len};

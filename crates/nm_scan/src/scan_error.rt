@@ -1,4 +1,4 @@
-//! Why a mail folder could not be listed whole.
+//! Why a mail folder could not be listed whole, for the `new` of `nm_writer`.
 
 ghost use Rattle.std.specs.Prelude.{◌≡◌};
 ghost use Rattle.nm_scan.specs.declared.scan_error.ScanError.TheVariants as scan_error;

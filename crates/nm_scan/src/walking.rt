@@ -1,5 +1,5 @@
-//! The walk through a tree of Maildirs; `new` begins with it. A listing is let go once its names are taken; of a folder that is
-//! walked through the names of files go before its mail is listed.
+//! The walk through a tree of Maildirs, with which `new` of `nm_writer` begins. A listing is let go once its names
+//! are taken; of a folder that is walked through the names of files go before its mail is listed.
 
 ghost use Rattle.std.specs.Prelude.{IsTrue, ◌≡◌, ◌-◌, ◌<◌, ◌≤◌, ◌++◌, ◌∷◌, [], false, IfErr, IfOk, IfSome, OnErr, OnOk, filter, map, Ok, Err, reverse};
 ghost use Rattle.nm_base.specs.Limits.{max_folders};

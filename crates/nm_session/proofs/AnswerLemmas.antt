@@ -1,4 +1,5 @@
 -- How a line ends that asks no device: it finds no memory, its words are outside the grammar, its texts are refused, or it only reads the index.
+-- For the proofs of `answer`, `run_show`, `change_tags` and others.
 use Rattle.std.proofs.Common.{◌≡◌, ◌&&◌, ◌⊎◌, inl, inr, ℕ, ℤ, ◌+◌, Bool, true, false, not, List, [], Option, None, Some, IfOk, is_some, Result, Ok, Err, length, map, refl, sym, ap, ◌∙◌, subst, append-nil, arith}
 use Rattle.std.specs.Option.{option_to_list}
 use Rattle.std.specs.Result.{IsErr}

@@ -1,4 +1,5 @@
 -- How a line ends that changes the index, from what the writer did: what both a `new` and a `tag` need.
+-- For the proofs of `change_tags` and `run_new`.
 use Rattle.std.proofs.Common.{◌≡◌, ◌&&◌, inl, inr, ℕ, ℤ, ◌+◌, ◌≤◌, Bool, true, false, not, List, [], ◌∷◌, ◌++◌, Option, None, Some, IfSome, IsSome, MatchResult, is_some, Result, Ok, Err, length, refl, sym, ap, ◌∙◌, subst, append-nil, append_assoc, arith}
 use Rattle.std.proofs.lemmas.List.{length-append}
 use Rattle.nm_answer.specs.declared.request.Request.{Request}

@@ -1,4 +1,4 @@
--- What a line leaves: its log and its marks.
+-- What a line leaves: its log and its marks. For the proofs of `line_log` and `run_line`.
 use Rattle.std.proofs.Common.{◌≡◌, ℕ, ℤ, ◌+◌, ◌-◌, ◌≤◌, Bool, true, false, List, [], ◌∷◌, ◌++◌, Option, None, MatchResult, Result, Ok, Err, length, map, replicate, codes, if◌then◌else◌, refl, sym, ap, ◌∙◌, subst, arith}
 use Rattle.std.proofs.lemmas.List.{length-append}
 use Rattle.std.specs.Option.{option_to_list}

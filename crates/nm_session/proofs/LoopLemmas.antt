@@ -1,4 +1,5 @@
 -- A line more keeps what is so of the lines before it; and what all lines leave.
+-- For the proofs of `run_each` and `run_lines`.
 use Rattle.std.proofs.Common.{◌≡◌, ℕ, ℤ, ◌+◌, ◌*◌, ◌<◌, ◌≤◌, List, [], ◌∷◌, ◌++◌, None, length, take, get_or, refl, sym, ap, ◌∙◌, subst, arith}
 use Rattle.std.proofs.lemmas.List.{length-append, take_more}
 use Rattle.std.specs.List.{zip}

@@ -1,4 +1,4 @@
--- The steps of marks behind marks, and those of a line.
+-- The steps of marks behind marks, and those of a line. For `LineLemmas` and `LoopLemmas`.
 use Rattle.std.proofs.Common.{◌≡◌, ℕ, ◌+◌, ◌*◌, suc, List, [], ◌∷◌, ◌++◌, length, map, refl, sym, ap, ◌∙◌, subst, arith}
 use Rattle.std.proofs.lemmas.List.{length-append}
 use Rattle.std.specs.List.{AllByRecursion, flat_map}

@@ -1,4 +1,4 @@
--- How a `new` ends, from what the writer did.
+-- How a `new` ends, from what the writer did. For the proof of `run_new`.
 use Rattle.std.proofs.Common.{◌≡◌, inl, inr, ℕ, ℤ, true, false, List, [], ◌∷◌, Option, None, Some, IfOk, IfSome, IsSome, Result, Ok, Err, refl, sym, ap, subst, arith}
 use Rattle.nm_answer.specs.NewText.{new_text, report_of}
 use Rattle.nm_answer.specs.declared.report.NewReport.{NewReport}

@@ -1,4 +1,4 @@
--- Spare texts.
+-- Spare texts. For the proof of `take_spare`.
 use Rattle.std.proofs.Common.{◌≡◌, ℕ, List, [], ◌∷◌, ◌++◌, codes}
 use Rattle.nm_session.specs.Rooms.{AreSpares}
 

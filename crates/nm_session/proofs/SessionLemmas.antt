@@ -1,4 +1,5 @@
 -- What a session leaves on the disk, from its opening and its lines.
+-- For the proofs of `open_and_run` and `run_session`.
 use Rattle.std.proofs.Common.{◌≡◌, inl, ℕ, List, [], Option, None, Some, IfSome, length, refl, arith}
 use Rattle.nm_base.specs.declared.limit.Limit.{Limit}
 use Rattle.nm_commit.specs.declared.change.Commit.{Commit}

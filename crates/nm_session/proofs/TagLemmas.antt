@@ -1,4 +1,4 @@
--- How a line ends that sets tags, from what the writer did.
+-- How a line ends that sets tags, from what the writer did. For the proof of `change_tags`.
 use Rattle.std.proofs.Common.{◌≡◌, inr, ℕ, ℤ, ◌+◌, ◌<◌, zero, suc, true, false, List, [], ◌∷◌, ◌++◌, Option, None, Some, IfOk, IfSome, IsSome, is_some, Result, Ok, Err, drop, fold, length, map, refl, sym, ap, ◌∙◌, subst, append-nil, append_assoc, arith}
 use Rattle.std.proofs.lemmas.List.{drop_all, length-append}
 use Rattle.std.specs.Option.{option_map}

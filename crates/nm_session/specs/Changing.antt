@@ -1,4 +1,4 @@
--- What a line that changes the index has at hand before it does.
+-- What a line that changes the index has at hand before it does. Cited by `changing`.
 use Rattle.std.specs.Prelude.{◌≡◌, ℕ, true, List, None, Some, Result, Ok, Err}
 use Rattle.nm_answer.specs.Changes.{strangers_for, taggings_for}
 use Rattle.nm_answer.specs.Tag.{taggings_of}

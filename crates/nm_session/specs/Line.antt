@@ -1,4 +1,4 @@
--- How one line ends: what it made, why, and what it says.
+-- How one line ends: what it made, why, and what it says. Cited by `answering`, `changing`, `line` and others.
 use Rattle.std.specs.Prelude.{◌≡◌, ◌&&◌, ℕ, ℤ, Bool, ◌+◌, ◌≤◌, List, [], ◌∷◌, ◌++◌, IsSome, is_some, length, map, not, Option, None, Some, Result, Ok, Err}
 use Rattle.std.specs.Option.{option_to_list}
 use Rattle.nm_answer.specs.Answer.{answer}

@@ -1,4 +1,4 @@
--- Where a session stands behind its first lines.
+-- Where a session stands behind its first lines. Cited by `running`.
 use Rattle.std.specs.Prelude.{◌≡◌, ℕ, ℤ, ◌+◌, ◌*◌, ◌≤◌, List, [], ◌∷◌, length}
 use Rattle.std.specs.List.{zip}
 use Rattle.nm_base.specs.Limits.{max_commits}

@@ -1,5 +1,6 @@
 -- How the steps of a session are told: a mark for each commit that a line made, or left on its way, and for each reply, in their
 -- order; the commits themselves are the writer's.
+-- Cited by `machine_steps`, `rooms` and `running`.
 use Rattle.std.specs.Prelude.{ℕ, Bool, List, [], ◌∷◌, ◌++◌, map, replicate, if◌then◌else◌}
 use Rattle.nm_commit.specs.declared.change.Commit.{Commit}
 use Rattle.nm_history.specs.LineResult.{commit_steps}

@@ -1,4 +1,4 @@
--- The outcome of a refused `new` or `tag`.
+-- The outcome of a refused `new` or `tag`. Cited by `changing`.
 use Rattle.std.specs.Prelude.{Bool, true, false}
 use Rattle.nm_log.specs.declared.outcome.Outcome.{Outcome}
 use Rattle.nm_log.specs.declared.outcome.Outcome.TheVariants as outcomes

@@ -1,4 +1,4 @@
--- Room for the log of lines.
+-- Room for the log of lines. Cited by `line`, `rooms`, `running` and others.
 use Rattle.std.specs.Prelude.{◌≡◌, ℕ, ◌+◌, ◌*◌, ◌≤◌, List, [], length, codes}
 use Rattle.std.specs.List.{AllByRecursion}
 use Rattle.nm_base.specs.Limits.{max_commits}

@@ -1,4 +1,4 @@
--- What running the lines of a script leaves, over the index that was opened.
+-- What running the lines of a script leaves, over the index that was opened. Cited by `running`.
 use Rattle.std.specs.Prelude.{◌≡◌, ℕ, ℤ, List, length}
 use Rattle.std.specs.List.{zip}
 use Rattle.nm_commit.specs.declared.change.Commit.{Commit}

@@ -1,4 +1,5 @@
 -- What a session leaves, from the opening of the index to the last line; and what stands where no index is opened.
+-- Cited by `session`.
 use Rattle.std.specs.Prelude.{◌≡◌, ℤ, List, [], IfSome}
 use Rattle.nm_disk.specs.Observed.{ObservedDisk, bytes_now}
 use Rattle.nm_disk.specs.declared.disk.FileNo.TheVariants.{Head}

@@ -1,4 +1,5 @@
 -- What a show has asked the mail folder for, and what it answers or why there is nothing to show.
+-- Cited by `answering` and `showing`.
 use Rattle.std.specs.Prelude.{◌≡◌, ◌⊎◌, ℕ, ℤ, Bool, true, false, List, [], None, Some, length, Result, Ok, Err}
 use Rattle.nm_answer.specs.Show.{gone_path, is_not_one, lead_paths, show_text, shown_ids}
 use Rattle.nm_base.specs.declared.asks.ShowAsk.{ShowAsk}

@@ -1,4 +1,4 @@
-//! The answer to one line: what it asks for is done, and its text is made.
+//! The answer to one line, for `line`: what it asks for is done, and its text is made.
 
 ghost use Rattle.std.specs.Prelude.{◌≡◌, ◌≢◌, ℕ, List, [], true, IfOk, IfSome, None};
 ghost use Rattle.nm_dates.specs.Seconds.{IsMoment};

@@ -1,4 +1,5 @@
-//! Lines that change the index: a `new`, a `tag` and a `restore`. The texts of faults are made first, since a commit may be on its way when one comes.
+//! Lines that change the index, for `answering`: a `new`, a `tag` and a `restore`. The texts of faults are made
+//! first, since a commit may be on its way when one comes.
 
 ghost use Rattle.std.specs.Prelude.{◌≡◌, ◌++◌, ℕ, ℤ, List, [], false, true, IfOk, IfSome, MatchResult, None, Some};
 ghost use Rattle.nm_answer.specs.NewText.{new_text};

@@ -1,4 +1,4 @@
-//! One line of a script: it is run, and its log is put into the rooms.
+//! One line of a script: it is run, and its log is put into the rooms. `running` calls it for each.
 
 ghost use Rattle.std.specs.Prelude.{◌≡◌, ◌&&◌, ◌-◌, ◌≤◌, ◌∷◌, [], None, IfSome, MatchResult, codes, length, not};
 ghost use Rattle.nm_base.specs.Limits.{max_commits};

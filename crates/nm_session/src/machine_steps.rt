@@ -1,4 +1,4 @@
-//! The steps of the log, made of the marks and the commits when the session ends. They take no memory.
+//! The steps of the log, made of the marks and the commits when a session ends, for `running`. They take no memory.
 
 ghost use Rattle.std.specs.Prelude.{◌≡◌, ◌+◌, ◌≤◌, ◌++◌, length};
 ghost use Rattle.std.specs.Vec.Iter.{into_iter_items, into_iter_len};

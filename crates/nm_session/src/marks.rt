@@ -1,4 +1,5 @@
-//! What a line leaves for the log of steps. The commits are the writer's until the session ends, so that no step takes memory then.
+//! What a `line` leaves for the log of steps. The commits are the writer's until the session ends, so that no step
+//! takes memory then.
 
 use nm_answer::Request;
 use nm_base::Many;

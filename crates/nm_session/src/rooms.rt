@@ -1,5 +1,5 @@
-//! Room for the log of a session, made before the index is opened: behind a commit that was acknowledged no step of the log may
-//! run out of memory.
+//! Room for the log of a session, made before the index is opened, for `session` and each `line`: behind a commit
+//! that was acknowledged no step of the log may run out of memory.
 
 ghost use Rattle.std.specs.Prelude.{◌≡◌, ◌+◌, ◌<◌, ◌≤◌, ◌++◌, ◌∷◌, [], codes, length, replicate, IfOk, if◌then◌else◌};
 ghost use Rattle.std.specs.Option.{option_to_list};

@@ -1,4 +1,4 @@
-//! The lines of a script, one after the other, over the index that was opened.
+//! The lines of a script, one after the other, over the index that `session` has opened.
 
 ghost use Rattle.std.specs.Prelude.{◌≡◌, ◌≤◌, [], None, IfSome, length};
 ghost use Rattle.nm_dates.specs.Seconds.{IsMoment};

@@ -1,4 +1,4 @@
-//! A session: the index is opened, and the lines of the script are run over it.
+//! A session, for `nm_top`: the index is opened, and the lines of the script are run over it.
 
 ghost use Rattle.std.specs.Prelude.{IfErr, IfOk, length};
 ghost use Rattle.nm_dates.specs.Seconds.{IsMoment};

@@ -1,4 +1,4 @@
-//! What a show finds, reads and tells.
+//! What a show finds, reads and tells, for `answering`.
 
 ghost use Rattle.std.specs.Prelude.{◌≡◌, [], false};
 ghost use Rattle.nm_answer.specs.Show.{is_not_one};

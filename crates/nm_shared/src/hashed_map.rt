@@ -1,5 +1,4 @@
-//! A map that snapshots share, in which keys are found by their hashes: `nm_threads` and `nm_state` look up ids in
-//! such maps.
+//! A map that snapshots share, in which keys are found by their hashes: `nm_threads` and `nm_state` look up ids in such maps.
 
 ghost use Rattle.std.specs.Prelude.{◌≡◌, [], ℕ, true, false, IfOk, MatchOption, OnOk, OnErr, Some, None, if◌then◌else◌};
 ghost use Rattle.std.specs.BTreeMap.{is_at};

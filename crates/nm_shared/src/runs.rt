@@ -1,5 +1,4 @@
-//! Blocks one after the other, cut where they are full and joined where they are small, for `shared_map` and
-//! `shared_list`.
+//! Blocks one after the other, cut where they are full and joined where they are small, for `shared_map` and `shared_list`.
 
 ghost use Rattle.std.specs.Prelude.{◌≡◌, ◌<◌, [], ◌∷◌, ◌++◌, take, IfOk, OnOk, OnErr};
 ghost use Rattle.nm_shared.specs.Runs.{flat, HaveItems};

@@ -1,5 +1,4 @@
-//! A value that several handles hold: each block of `runs` is one, and so is each message of a snapshot of
-//! `nm_state`.
+//! A value that several handles hold: each block of `runs` is one, and so is each message of a snapshot of `nm_state`.
 
 ghost use Rattle.std.specs.Prelude.{◌≡◌, IfOk};
 

@@ -1,5 +1,4 @@
-//! What each change does to the parts of a snapshot, for `applying`. Where there is no memory the parts are of no use
-//! any more.
+//! What each change does to the parts of a snapshot, for `applying`. Where there is no memory the parts are of no use any more.
 
 ghost use Rattle.std.specs.Prelude.{◌≡◌, ◌≤◌, ◌^◌, false, true, OnOk};
 ghost use Rattle.nm_commit.specs.Files.{has_id, has_path, with_moved};

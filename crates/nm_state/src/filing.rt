@@ -1,5 +1,4 @@
-//! The files of an index, by their arrival, by their paths and by their messages: the parts of a `snapshot` hold
-//! them.
+//! The files of an index, by their arrival, by their paths and by their messages: the parts of a `snapshot` hold them.
 
 ghost use Rattle.std.specs.Prelude.{◌≡◌, ◌∷◌, ◌++◌, [], ℕ, List, false, true, Some, if◌then◌else◌, IfOk, OnOk, MatchOption};
 ghost use Rattle.std.specs.Cmp.Lexicographic.{slice_cmp};

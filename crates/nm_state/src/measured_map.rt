@@ -1,5 +1,4 @@
-//! Maps that count what their pairs take in an index as data: the parts of a `snapshot`, as `filing`, are made of
-//! them.
+//! Maps that count what their pairs take in an index as data: the parts of a `snapshot`, as `filing`, are made of them.
 
 ghost use Rattle.std.specs.Prelude.{◌≡◌, ◌+◌, ◌≤◌, ℕ, [], None, Some, true, min, if◌then◌else◌, IfOk, OnErr, OnOk};
 ghost use Rattle.std.specs.BTreeMap.{insert_entry, is_at};

@@ -1,5 +1,4 @@
-//! Reading paths and files in their orders, without a list of them being made: `nm_eval` and `nm_render` go through
-//! them so.
+//! Reading paths and files in their orders, without a list of them being made: `nm_eval` and `nm_render` go through them so.
 
 ghost use Rattle.std.specs.Prelude.{◌≡◌, length};
 ghost use Rattle.std.specs.Iterator.{at_most};

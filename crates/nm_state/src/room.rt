@@ -1,5 +1,4 @@
-//! Whether an index has room for a commit, for `snapshot`: what it would come to is counted, and held against the
-//! limits.
+//! Whether an index has room for a commit, for `snapshot`: what it would come to is counted, and held against the limits.
 
 ghost use Rattle.std.specs.Prelude.{◌≡◌, ◌+◌, ◌≤◌, ◌^◌, fold, length, min, IfOk};
 ghost use Rattle.nm_base.specs.Limits.{max_count};

@@ -1,5 +1,4 @@
-//! Operations on the tags of a message: `nm_writer` applies those of `tag` and `restore` so, `nm_flags` those of
-//! names.
+//! Operations on the tags of a message: `nm_writer` applies those of `tag` and `restore` so, `nm_flags` those of names.
 
 ghost use Rattle.std.specs.Prelude.{◌≡◌, IfOk, OnOk};
 ghost use Rattle.nm_tags.specs.Operations.{after_op, after_ops, begun_with};

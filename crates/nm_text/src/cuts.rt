@@ -1,5 +1,4 @@
-//! The first place of a byte, and texts cut there: `lines`, the decoders of `nm_decode`, and `nm_command` for
-//! options.
+//! The first place of a byte, and texts cut there: `lines`, the decoders of `nm_decode`, and `nm_command` for options.
 
 ghost use Rattle.std.specs.Prelude.{◌≡◌, [], ◌∷◌, ◌<◌, ◌≤◌, length, IfSome, MatchOption};
 ghost use Rattle.std.specs.List.{after_first, before_first, position_or_len, slice_split};

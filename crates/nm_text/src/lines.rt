@@ -1,5 +1,4 @@
-//! Lines, their ends and their content: `nm_header` and `nm_mime` cut mails with it, `nm_log` and `nm_dump` scripts
-//! and dumps.
+//! Lines, their ends and their content: `nm_header` and `nm_mime` cut mails with it, `nm_log` and `nm_dump` scripts and dumps.
 
 ghost use Rattle.std.specs.Prelude.{◌≡◌, [], ◌∷◌, ◌++◌, ◌<◌, ◌≤◌, length, take, drop, IfSome, MatchOption};
 ghost use Rattle.std.specs.Str.Lines.{lines, strip_carriage_return};

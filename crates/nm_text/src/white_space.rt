@@ -1,5 +1,4 @@
-//! White space, and texts without it: `nm_header` trims fields and ids, `nm_mime` parameters, and `nm_query` skips
-//! it.
+//! White space, and texts without it: `nm_header` trims fields and ids, `nm_mime` parameters, and `nm_query` skips it.
 
 ghost use Rattle.std.specs.Prelude.{◌≡◌, ◌-◌, ◌≤◌, IfOk, length};
 ghost use Rattle.std.specs.List.{prefix_len, suffix_len};

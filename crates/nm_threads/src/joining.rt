@@ -1,5 +1,4 @@
-//! Two threads become one: the numbers of the smaller go to the group of the other. `rows` calls it for a row that
-//! comes.
+//! Two threads become one: the numbers of the smaller go to the group of the other. `rows` calls it for a row that comes.
 
 ghost use Rattle.std.specs.Prelude.{◌≡◌, ◌==◌, ◌+◌, ℕ, List, min, Some, None, length, map, nat_eq, if◌then◌else◌, IfOk, MatchOption, OnOk, Contains};
 ghost use Rattle.std.specs.List.{list_any};

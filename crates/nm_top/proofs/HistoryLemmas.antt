@@ -1,4 +1,5 @@
 -- The whole statement of a session, from its parts.
+-- For the proofs of `answer_command`, `answer_session`, `read_and_run` and others.
 use Rattle.std.proofs.Common.{◌≡◌, ◌⊎◌, ◌<◌, ◌≤◌, inl, inr, ℕ, Bool, true, false, List, [], ◌∷◌, Option, None, Some, IfSome, length, Ok, Err, refl, sym, ap, ◌∙◌, arith, subst}
 use Rattle.std.specs.List.{zip}
 use Rattle.nm_command.specs.Requests.{request_of}

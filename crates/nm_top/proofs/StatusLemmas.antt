@@ -1,4 +1,4 @@
--- The first fault of the lines, one line after the other.
+-- The first fault of the lines, one line after the other. For the proof of `first_fault`.
 use Rattle.std.proofs.Common.{◌≡◌, ℕ, ◌+◌, ◌<◌, List, [], ◌∷◌, ◌++◌, Option, None, Some, length, take, slice_index_or, refl, sym, ap, ◌∙◌}
 use Rattle.std.proofs.lemmas.List.{take_more}
 use Rattle.nm_history.specs.Status.{fault_of, fault_or, first_fault}

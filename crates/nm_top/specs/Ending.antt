@@ -1,4 +1,4 @@
--- How a call ends that opened no index.
+-- How a call ends that opened no index. Cited by `ending`, `starting` and `top_call`.
 use Rattle.std.specs.Prelude.{◌≡◌, ◌⊎◌, ℕ, List, [], Some}
 use Rattle.nm_history.specs.PrintedOut.{Prints}
 use Rattle.nm_history.specs.UnaskedLine.{refused_done}

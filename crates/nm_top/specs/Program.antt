@@ -1,4 +1,5 @@
 -- The statement of the program: its leading options, the folders that they name, and the call of the words behind them.
+-- Cited by `starting`.
 use Rattle.std.specs.Prelude.{◌≡◌, ℕ, List, drop, codes, Some, Ok, Err}
 use Rattle.nm_command.specs.Leading.{leading_of}
 use Rattle.nm_command.specs.Settings.{or_default}

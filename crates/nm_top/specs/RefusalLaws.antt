@@ -1,4 +1,4 @@
--- The laws on which a call rests that opens no index.
+-- The laws on which a call rests that opens no index. Cited by `laws`.
 use Rattle.std.specs.Prelude.{◌≡◌, ℕ, ℤ, List, [], None, Some, IfSome, false}
 use Rattle.nm_disk.specs.Images.{IsImage, MayLeave}
 use Rattle.nm_disk.specs.Observed.{Moments, ObservedDisk}

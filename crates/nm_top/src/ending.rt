@@ -1,4 +1,4 @@
-//! How the call ends: what is printed and said, and the status.
+//! How the call ends, for `top_call` and `starting`: what is printed and said, and the status.
 
 ghost use Rattle.std.specs.Prelude.{◌≡◌, ◌<◌, ℕ, Bool, List, [], ◌∷◌, true, false, None, Some, IfOk, MatchOption, if◌then◌else◌};
 ghost use Rattle.nm_history.specs.PrintedOut.{Prints, StreamAppends, final_message, printed_by, refused_text, write_message};

@@ -1,4 +1,4 @@
-//! The laws on which a call rests that opens no index, in one; the top call ends by them. No code runs.
+//! The laws on which a call rests that opens no index, in one; `top_call` ends by them. No code runs.
 
 ghost use Rattle.nm_top.specs.RefusalLaws.{RefusalLaws};
 

@@ -1,4 +1,5 @@
-//! The words of a call: whether they begin a session, and what refuses them before a device is asked; the top call begins with it.
+//! The words of a call, with which `top_call` begins: whether they begin a session, and what refuses them before a
+//! device is asked.
 
 ghost use Rattle.std.specs.Prelude.{◌≡◌, ◌≢◌, [], ◌∷◌, Some, IfOk, false};
 ghost use Rattle.nm_history.specs.Call.{call_fault, command_reads, fault_of_command, fault_of_input, is_session};

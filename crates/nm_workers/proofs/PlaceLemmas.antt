@@ -1,4 +1,5 @@
 -- Places: what stays true of them as results are put in and taken out.
+-- For the proofs of `put`, `take_or_run`, `in_order` and others.
 use Rattle.std.proofs.Common.{◌≡◌, refl, sym, ap, subst, ◌∙◌, ℕ, ◌+◌, ◌<◌, zero, suc, List, [], ◌∷◌, ◌++◌, length, take, set, Option, Some, None, replicate, inl, inr, ◌⊎◌, arith, add-one}
 use Rattle.std.proofs.Math.ListN.{length-set}
 use Rattle.std.specs.List.{AllZip, slice_get}

@@ -1,4 +1,5 @@
 -- Results beside their inputs: what a relation between an input and a result says of lists of both.
+-- Cited by `map`, `results` and `worker`.
 use Rattle.std.specs.Prelude.{◌≡◌, ℕ, List, length, slice_get, Option, Some}
 use Rattle.std.specs.List.{All}
 use Rattle.std.specs.Option.{IsSomeAnd}

@@ -1,4 +1,5 @@
-//! Gates: what every seat passes before it works. A gate may hold a seat; it changes no answer.
+//! Gates: what every seat passes before it works, in `worker` and in the lanes of `nm_lanes`. A gate may hold a seat;
+//! it changes no answer.
 
 use std::sync::Wait;
 use std::thread::Threads;

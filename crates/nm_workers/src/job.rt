@@ -1,4 +1,4 @@
-//! A job: what is done with one input, whoever does it.
+//! A job: what is done with one input, whoever does it. A `worker` does it.
 
 ghost use Rattle.std.specs.Prelude.{IfOk};
 

@@ -1,4 +1,4 @@
-//! A job over many inputs, by several workers.
+//! A job over many inputs, by several workers. The `tests` call it; no command does.
 
 ghost use Rattle.std.specs.Prelude.{◌<◌, ◌≤◌, IfOk, All};
 ghost use Rattle.std.specs.List.{AllZip};

@@ -1,4 +1,5 @@
-//! The gate of tests: of two seats, the one that comes first waits for the other, for a number of turns.
+//! The gate of tests, here and in `nm_publish` and `nm_lanes`: of two seats, the one that comes first waits for the
+//! other, for a number of turns.
 
 ghost use Rattle.std.specs.Prelude.{◌≢◌};
 

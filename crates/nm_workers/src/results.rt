@@ -1,4 +1,4 @@
-//! The results of all workers, put into the order of the inputs.
+//! The results of all workers, put into the order of the inputs, for `map_jobs`.
 
 ghost use Rattle.std.specs.Prelude.{◌≡◌, ◌<◌, length, replicate, None, IfOk, All};
 ghost use Rattle.std.specs.List.{AllZip};

@@ -1,4 +1,4 @@
-//! What no contract tells: that workers run at once, and that the gates hold and let go.
+//! Tests of what no contract tells: that workers run at once, and that the gates hold and let go.
 
 ghost use Rattle.std.specs.Prelude.{◌≡◌, ◌+◌};
 

@@ -1,4 +1,4 @@
-//! One worker: it takes the next input that nobody has taken, until none is left.
+//! One worker, of those that `map_jobs` begins: it takes the next input that nobody has taken, until none is left.
 
 ghost use Rattle.std.specs.Prelude.{◌<◌, ◌≤◌, IfOk};
 ghost use Rattle.nm_workers.specs.Results.{AreGiven};

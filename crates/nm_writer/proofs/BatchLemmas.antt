@@ -1,4 +1,5 @@
 -- Batches one after the other: what is read, and the commits that are made of it.
+-- For the proof of `Writer::take_in_batches`.
 use Rattle.std.proofs.Common.{◌≡◌, inl, inr, ℕ, ◌<◌, List, [], ◌∷◌, ◌++◌, Result, Ok, Err, length, refl, sym, ap, ◌∙◌, subst, append-nil, append_assoc, length-append, arith}
 use Rattle.std.proofs.lemmas.List.Sums.{fold-append}
 use Rattle.nm_base.specs.declared.facts.Facts.{Facts}

@@ -1,4 +1,4 @@
--- What a commit makes of a disk that a writer stands on.
+-- What a commit makes of a disk that a writer stands on. For the proof of `Writer::make`.
 use Rattle.std.proofs.Common.{◌≡◌, inl, inr, ℕ, true, List, [], ◌∷◌, ◌++◌, Option, None, Some, IfSome, refl, sym, ap, ◌∙◌, subst}
 use Rattle.std.specs.List.{AllByRecursion}
 use Rattle.nm_commit.specs.Files.{Fits}

@@ -1,4 +1,4 @@
--- Commits made one after the other.
+-- Commits made one after the other. For the proofs of `commit_added`, `let_go`, `commit_some` and others.
 use Rattle.std.proofs.Common.{◌≡◌, ℕ, ◌+◌, ◌<◌, List, [], ◌∷◌, ◌++◌, fold, length, Result, Ok, Err, refl, sym, ap, ◌∙◌, subst, append_assoc, append-nil, length-append, arith}
 use Rattle.std.proofs.lemmas.List.Sums.{fold-append}
 use Rattle.nm_faults.specs.Faults.{HasCauseOf}

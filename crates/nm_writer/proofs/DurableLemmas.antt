@@ -1,4 +1,5 @@
 -- None of what was acknowledged is lost: what a commit adds to the moments since an entry.
+-- For the proof of `Writer::commit`.
 use Rattle.std.proofs.Common.{◌≡◌, inl, inr, ℕ, ◌+◌, ◌<◌, ◌≤◌, min, Bool, true, false, ◌&&◌, cond, List, [], ◌∷◌, ◌++◌, Option, None, Some, IfSome, IfErr, IfOk, OnOk, Result, Ok, Err, filter, length, take, drop, get_or, suc, length-append, refl, sym, ap, ◌∙◌, subst, append_assoc, append-nil, arith}
 use Rattle.std.specs.Prelude.{nat_le, nat_lt}
 use Rattle.std.specs.List.{AllByRecursion}

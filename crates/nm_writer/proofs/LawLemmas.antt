@@ -1,4 +1,5 @@
 -- Bytes hold one index at most, and none of them is both an index and bad, nor is what passes a limit.
+-- For the proofs of `an_index_is_held_once`, `one_limit_is_passed`, `what_holds_an_index_is_not_bad` and others.
 use Rattle.std.proofs.Common.{◌≡◌, inl, inr, ℕ, ◌<◌, ◌^◌, true, List, [], ◌∷◌, ◌++◌, None, Some, length, drop, get_or, refl, sym, ap, ◌∙◌, subst, arith, length-append}
 use Rattle.nm_base.specs.declared.limit.Limit.{Limit}
 use Rattle.nm_codec.specs.StepLaws.{ok_is}

@@ -1,4 +1,5 @@
 -- After a `new` that went well over a tree that is told the index has the listed files that are mail, each new one with the facts of its bytes.
+-- For the proof of `Writer::new_mail`.
 use Rattle.std.proofs.Common.{◌≡◌, ◌⊎◌, inl, inr, ℕ, Bool, true, false, ◌||◌, ◌&&◌, not, cond, List, [], ◌∷◌, ◌++◌, Option, None, Some, IfSome, IfOk, Result, Ok, Err, is_some, filter, refl, sym, ap, ◌∙◌, subst, append-nil}
 use Rattle.std.proofs.lemmas.List.Elements.{All-contains_itself, recursion_from_All}
 use Rattle.std.specs.List.{AllByRecursion, Contains, flat_map}

@@ -1,4 +1,5 @@
 -- Messages by their numbers: one more comes to its place; and the tags that follow the changes of a commit.
+-- For the proofs of `add_numbered`, `by_numbers`, `message_paths` and others.
 use Rattle.std.proofs.Common.{◌≡◌, ℕ, zero, suc, ◌<◌, Bool, true, false, ◌||◌, ◌&&◌, cond, List, [], ◌∷◌, ◌++◌, filter, map, length, refl, sym, ap, ◌∙◌, subst, arith}
 use Rattle.std.specs.Prelude.{Contains, slice_index_or}
 use Rattle.std.specs.BTreeMap.{insert_entry}

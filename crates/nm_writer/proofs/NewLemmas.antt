@@ -1,4 +1,5 @@
 -- What a `new` leaves, from what was listed, what the batches left, and what the commit of what is gone left.
+-- For the proof of `Writer::take_in`.
 use Rattle.std.proofs.Common.{◌≡◌, inr, ℕ, List, [], ◌∷◌, ◌++◌, Option, IfOk, Result, Ok, Err, length, map, refl, sym, ap, ◌∙◌, subst}
 use Rattle.nm_answer.specs.NewText.{gone, listed_in, report_of}
 use Rattle.nm_answer.specs.declared.report.NewReport.{NewReport}

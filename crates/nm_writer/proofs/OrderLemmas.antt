@@ -1,4 +1,4 @@
--- Texts in order: none stands twice, and two sets with the same texts are one.
+-- Texts in order: none stands twice, and two sets with the same texts are one. For `SameLemmas`.
 use Rattle.std.proofs.Common.{◌≡◌, ℕ, List, [], ◌∷◌, fold, refl, ap, ◌∙◌}
 use Rattle.std.specs.BTreeSet.{insert_key}
 use Rattle.std.specs.Cmp.Lexicographic.{nat_list_cmp_total, slice_cmp}

@@ -1,4 +1,5 @@
 -- Renames one after the other: what each becomes, what is noted, and where files then lie.
+-- For the proofs of `keep_move`, `rename_all`, `rename_one` and others.
 use Rattle.std.proofs.Common.{◌≡◌, ℕ, ◌+◌, ◌<◌, Bool, true, false, ◌||◌, cond, List, [], ◌∷◌, ◌++◌, Option, None, Some, Result, Ok, Err, inl, inr, fold, length, refl, sym, ap, ◌∙◌, subst, arith, append_assoc, append-nil, length-append}
 use Rattle.std.proofs.lemmas.List.Sums.{fold-append}
 use Rattle.std.specs.Prelude.{◌⊎◌, IfSome, OnErr, slice_set, unwrap_or}

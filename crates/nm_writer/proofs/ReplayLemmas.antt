@@ -1,4 +1,4 @@
--- Replaying one body more.
+-- Replaying one body more. For the proofs of `replayed` and `Writer::open_head`.
 use Rattle.std.proofs.Common.{◌≡◌, ℕ, ◌+◌, ◌<◌, ◌^◌, true, zero, suc, List, [], ◌∷◌, ◌++◌, length, min, take, drop, get_or, None, refl, sym, ap, ◌∙◌, subst, arith, length-append}
 use Rattle.std.proofs.lemmas.List.{map-append, take_more}
 use Rattle.nm_base.specs.Limits.{max_count}

@@ -1,4 +1,4 @@
--- A report where no commit lies between the index before and the one after.
+-- A report where no commit lies between the index before and the one after. For the proof of `messages_changed`.
 use Rattle.std.proofs.Common.{◌≡◌, ℕ, ◌+◌, true, not, cond, List, [], ◌∷◌, filter, length, refl, sym, ap, ◌∙◌, arith}
 use Rattle.std.specs.List.{AllByRecursion}
 use Rattle.nm_base.specs.Order.{has_text}

@@ -1,4 +1,4 @@
--- Two sorted lists that have the same texts are one.
+-- Two sorted lists that have the same texts are one. For the proofs of `has_message` and `ids_only_in`.
 use Rattle.std.proofs.Common.{◌≡◌, ℕ, Bool, true, false, ◌||◌, ◌&&◌, not, List, [], ◌∷◌, Option, None, Some, is_some, cond, length, fold, filter, map, refl, sym, ap, ◌∙◌}
 use Rattle.std.specs.Cmp.Lexicographic.{nat_list_eq_equiv, slice_cmp, texts_ties}
 use Rattle.std.specs.List.{AllByRecursion}

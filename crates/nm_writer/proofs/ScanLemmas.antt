@@ -1,4 +1,4 @@
--- What a scan asks, notes and finds, from its parts.
+-- What a scan asks, notes and finds, from its parts. For the proofs of `compare`, `gone_paths` and `Writer::take_in`.
 use Rattle.std.proofs.Common.{◌≡◌, inr, ℕ, not, List, [], ◌∷◌, ◌++◌, Option, None, Some, Ok, IfSome, filter, take, refl, sym, ap, ◌∙◌, subst, append-nil, arith}
 use Rattle.nm_answer.specs.NewText.{gone}
 use Rattle.nm_base.specs.Order.{IsSorted, has_text}

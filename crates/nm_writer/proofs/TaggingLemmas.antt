@@ -1,4 +1,5 @@
 -- The changes of tags: those of the messages that may have other tags are those of all.
+-- For the proofs of `plan_tags`, `Writer::commit_changes`, `Writer::set_tags` and others.
 use Rattle.std.proofs.Common.{◌≡◌, ℕ, Bool, true, false, ◌&&◌, cond, not, List, [], ◌∷◌, ◌++◌, filter, length, refl, sym, ap, ◌∙◌, arith, subst, Result, Ok, Err, append-nil}
 use Rattle.std.specs.Cmp.Lexicographic.{nat_list_eq_equiv, pointwise}
 use Rattle.std.specs.List.{flat_map}

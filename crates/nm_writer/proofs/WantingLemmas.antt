@@ -1,4 +1,5 @@
 -- What is wanted, line by line: a line more, and what it finds comes to the messages found before.
+-- For the proofs of `keep_move`, `want_line` and `wanted_by`.
 use Rattle.std.proofs.Common.{◌≡◌, ℕ, ◌+◌, ◌<◌, ℤ, Bool, true, false, ◌||◌, List, [], ◌∷◌, ◌++◌, length, map, take, get_or, refl, sym, ap, ◌∙◌, subst, Result, Ok, Err}
 use Rattle.std.proofs.lemmas.List.{take_more}
 use Rattle.std.proofs.lemmas.List.Sums.{fold-append}

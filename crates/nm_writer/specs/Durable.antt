@@ -1,5 +1,6 @@
 -- What is never lost: whatever a stop leaves, at each moment since an entry, holds the commits begun since then that were acknowledged by
 -- that moment, with or without the one that comes next.
+-- Cited by `committing`, `new`, `nm_history` and others.
 use Rattle.std.specs.Prelude.{◌≡◌, ℕ, ◌+◌, ◌<◌, ◌≤◌, min, ◌&&◌, nat_le, nat_lt, List, [], ◌∷◌, ◌++◌, filter, length, take, None}
 use Rattle.std.specs.List.{AllByRecursion}
 use Rattle.nm_base.specs.Limits.{max_count}

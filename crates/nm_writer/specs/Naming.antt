@@ -1,4 +1,4 @@
--- Messages by their numbers, as they are gathered for a commit.
+-- Messages by their numbers, as they are gathered for a commit. Cited by `naming` and `wanting`.
 use Rattle.std.specs.Prelude.{ℕ, Bool, ◌&&◌, List, [], ◌∷◌, if◌then◌else◌}
 use Rattle.nm_base.specs.Order.{has_text}
 use Rattle.nm_commit.specs.Files.{has_id}

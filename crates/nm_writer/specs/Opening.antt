@@ -1,4 +1,4 @@
--- What is answered where an index can't be opened.
+-- What is answered where an index can't be opened. Cited by `opening` and `replaying`.
 use Rattle.std.specs.Prelude.{◌≡◌, ℕ, ◌<◌, ◌^◌, Bool, true, false, List, Some, length}
 use Rattle.nm_base.specs.declared.limit.Limit.{Limit as AnyLimit}
 use Rattle.nm_commit.specs.Files.{Fits}

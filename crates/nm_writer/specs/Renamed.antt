@@ -1,4 +1,5 @@
 -- The renames behind a commit of tags, one after the other: what each becomes, what is kept of those that are done, and what the folder is asked.
+-- Cited by `renaming`, `tag` and `nm_history`.
 use Rattle.std.specs.Prelude.{◌≡◌, ℕ, Bool, List, [], ◌∷◌, ◌++◌, Option, None, Some, Ok, fold, unwrap_or}
 use Rattle.std.specs.BTreeMap.{BTreeMap, get}
 use Rattle.std.specs.Cmp.Lexicographic.{slice_cmp}

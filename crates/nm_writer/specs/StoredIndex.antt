@@ -1,5 +1,6 @@
 -- Which index the bytes of a head file hold: records from the first byte on, each the bytes of a commit that fits the index
 -- which those before it leave. And which limit such an index passes, the first record that is bad or passes one being told.
+-- Cited by `opening`, `replaying`, `nm_history` and others.
 use Rattle.std.specs.Prelude.{◌≡◌, ◌⊎◌, ℕ, true, min, List, [], ◌∷◌, ◌++◌, None, Some, length, map}
 use Rattle.std.specs.List.{AllByRecursion}
 use Rattle.nm_base.specs.Limits.{max_count}

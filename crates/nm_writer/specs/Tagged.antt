@@ -1,4 +1,4 @@
--- What a command that sets tags leaves of the writer.
+-- What a command that sets tags leaves of the writer. Cited by `tag`.
 use Rattle.std.specs.Prelude.{◌≡◌, ℕ, ◌<◌, List, [], Some, length, Result, Ok, Err}
 use Rattle.std.specs.List.{flat_map}
 use Rattle.nm_base.specs.declared.facts.Facts.{Facts}

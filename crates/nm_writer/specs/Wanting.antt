@@ -1,4 +1,5 @@
 -- What is kept of the tags that are wanted: which messages may have others than before.
+-- Cited by `tag`, `tagging` and `wanting`.
 use Rattle.std.specs.Prelude.{◌≡◌, ℕ, false, List, [], if◌then◌else◌}
 use Rattle.std.specs.Cmp.Lexicographic.{pointwise}
 use Rattle.nm_base.specs.Order.{has_text, same_text}

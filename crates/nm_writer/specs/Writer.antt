@@ -1,4 +1,4 @@
--- A writer, and what it means that it stands on a disk.
+-- A writer, and what it means that it stands on a disk. Cited by `committing`, `new`, `nm_session` and others.
 use Rattle.std.specs.Prelude.{◌≡◌, ℕ, List, Option}
 use Rattle.nm_commit.specs.declared.change.Commit.{Commit}
 use Rattle.nm_disk.specs.declared.disk.FileNo.TheVariants.{Head}

@@ -1,4 +1,5 @@
 -- What a commit leaves, and what commits one after the other leave, of the writer and of the disk.
+-- Cited by `committing`, `new`, `nm_history` and others.
 use Rattle.std.specs.Prelude.{◌≡◌, ◌⊎◌, ℕ, ◌+◌, ◌<◌, ◌≤◌, Bool, true, false, List, [], ◌∷◌, ◌++◌, None, Some, length, Result, Ok, Err}
 use Rattle.nm_base.specs.Limits.{max_commit_bytes, max_commits}
 use Rattle.nm_base.specs.declared.limit.Limit.{Limit}

@@ -1,4 +1,4 @@
-//! One commit, which every command makes so.
+//! One commit, which every command makes so: `new`, `naming` and `tagging` call it.
 
 ghost use Rattle.std.specs.Prelude.{◌≡◌, false, length, min, true, IfErr, IfOk, IfSome, None, OnOk};
 ghost use Rattle.std.specs.Arc.{arc_value};

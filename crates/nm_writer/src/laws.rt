@@ -1,4 +1,5 @@
-//! What follows from the definition of a stored index. These functions run no code that does a thing: their clauses are the laws.
+//! What follows from the definition of a stored index. These functions run no code that does a thing: their clauses
+//! are the laws, which `nm_history` calls.
 
 ghost use Rattle.std.specs.Prelude.{◌≡◌, ℕ, List};
 ghost use Rattle.nm_base.specs.declared.limit.Limit.{Limit};

@@ -1,4 +1,5 @@
-//! The command `new`: it lists the mail folder, takes in what has come, batch by batch, and lets go what is gone.
+//! The command `new`, for `nm_session`: it lists the mail folder, takes in what has come, batch by batch, and lets go
+//! what is gone.
 
 ghost use Rattle.std.specs.Prelude.{◌≡◌, ◌<◌, List, [], Err, IfOk, IfSome, None, length, map};
 ghost use Rattle.std.specs.Vec.Iter.{into_iter_items, into_iter_len};

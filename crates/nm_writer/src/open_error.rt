@@ -1,4 +1,4 @@
-//! Why an index can't be opened.
+//! Why an index can't be opened: `opening` and `replaying` answer so, and `nm_top` makes a refusal of it.
 
 use nm_base::{Limit, NoMemory};
 use nm_disk::FileNo;

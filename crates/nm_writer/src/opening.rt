@@ -1,4 +1,4 @@
-//! Opening the index that a disk holds: a writer, and readers that see what it shows.
+//! Opening the index that a disk holds, for `nm_session`: a writer, and readers that see what it shows.
 
 ghost use Rattle.std.specs.Prelude.{◌≡◌, ◌≤◌, [], IfErr, IfOk, IfSome, None, replicate};
 ghost use Rattle.nm_base.specs.Limits.{max_count};

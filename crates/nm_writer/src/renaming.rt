@@ -1,4 +1,4 @@
-//! The renames that follow tags: each is tried in turn, and what the folder answers is noted.
+//! The renames that follow tags, for the command `tag`: each is tried in turn, and what the folder answers is noted.
 
 ghost use Rattle.std.specs.Prelude.{◌≡◌, ◌⊎◌, ◌++◌, ◌∷◌, ◌<◌, [], ℕ, List, false, length, unwrap_or, Err, IfOk, OnErr, OnOk};
 ghost use Rattle.std.specs.BTreeMap.{get};

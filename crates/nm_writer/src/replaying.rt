@@ -1,4 +1,4 @@
-//! The index that the bodies of records leave, one commit after the other; opening replays them.
+//! The index that the bodies of records leave, one commit after the other: `opening` replays them.
 
 ghost use Rattle.std.specs.Prelude.{◌≡◌, true, IfErr, IfOk, List, None};
 ghost use Rattle.nm_commit.specs.Files.{Fits};

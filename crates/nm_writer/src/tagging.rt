@@ -1,4 +1,5 @@
-//! The changes that give messages the tags that are wanted, and the files that are then to be renamed; and a commit of changes.
+//! The changes that give messages the tags that are wanted, and the files that are then to be renamed; and a commit
+//! of changes: for the command `tag`.
 
 ghost use Rattle.std.specs.Prelude.{◌≡◌, ◌++◌, IfOk, IfSome, None, OnOk};
 ghost use Rattle.nm_disk.specs.Observed.{ObservedDisk};

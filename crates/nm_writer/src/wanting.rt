@@ -1,4 +1,4 @@
-//! The tags that lines want, line by line: they stand in a snapshot in the place of the tags.
+//! The tags that lines want, line by line, for `tag`: they stand in a snapshot in the place of the tags.
 
 ghost use Rattle.std.specs.Prelude.{◌≡◌, ◌++◌, ◌<◌, ℕ, List, false, IfOk, OnOk, map};
 ghost use Rattle.nm_answer.specs.Matches.{matches_of};

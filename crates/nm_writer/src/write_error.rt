@@ -1,4 +1,4 @@
-//! Why a commit or a command was refused.
+//! Why a commit or a command was refused: `new` and `tag` answer so, and `nm_session` makes its text of it.
 
 use nm_base::{Limit, NoMemory};
 use thiserror::Error;

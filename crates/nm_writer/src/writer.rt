@@ -1,4 +1,4 @@
-//! The writer of an index on a disk.
+//! The writer of an index on a disk: `nm_session` has one from the opening to the end of its log.
 
 ghost use Rattle.std.specs.Prelude.{◌≡◌, ◌≤◌, length, is_some};
 ghost use Rattle.nm_base.specs.Limits.{max_commits};

@@ -1,4 +1,4 @@
-//! The pages that the program prints where its one word asks for them: its help and its version.
+//! The pages that `main` prints where its one word asks for them: its help and its version.
 
 /// What the program can be asked for.
 pub(crate) const HELP: &[u8] = b"\

@@ -1,5 +1,4 @@
-//! Bytes that are written in a line of a table, as `\n`, `\xNN`, `\{200:a}`: `row` reads them, and `report` writes
-//! them.
+//! Bytes that are written in a line of a table, as `\n`, `\xNN`, `\{200:a}`: `row` reads them, and `report` writes them.
 
 use crate::RowError;
 use std::alloc::{AllocError, Global};

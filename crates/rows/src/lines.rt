@@ -1,5 +1,4 @@
-//! An answer that is made of lines, as the wanted lines of a `row` are. Every program of rows, as `rows_mail`,
-//! answers so.
+//! An answer that is made of lines, as the wanted lines of a `row` are. Every program of rows, as `rows_mail`, answers so.
 
 use std::alloc::{AllocError, Global};
 

@@ -1,5 +1,5 @@
-//! What comes of a row: what the words of a command ask for or the options before it say, what a script
-//! tells, or how they are refused; or what is in the store of a drill, and what its script says.
+//! What comes of a row: what the words of a command ask for or the options before it say, what a script tells, or how
+//! they are refused; or what is in the store of a drill, and what its script says. `main` runs a table by it.
 
 use crate::drills::{push_drill, push_drill_script};
 use crate::scripts::push_script;

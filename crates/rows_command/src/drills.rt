@@ -1,4 +1,4 @@
-//! What comes of a row on a drill: what lies in its store, or its script.
+//! What comes of a row on a drill, for `answers`: what lies in its store, or its script.
 
 ghost use Rattle.std.specs.Prelude.{◌≤◌, IfOk};
 

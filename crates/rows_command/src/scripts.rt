@@ -1,4 +1,4 @@
-//! What comes of a row on a script: its phases and lines, or how it is refused.
+//! What comes of a row on a script, for `answers`: its phases and lines, or how it is refused.
 
 use nm_base::{Limit, UsageKind};
 use nm_lanes::{Phase, Script, ScriptError, ScriptLine, read_script};

@@ -1,4 +1,4 @@
-//! What comes of a row: a line for each of its queries, the ids of the messages that it finds.
+//! What comes of a row: a line for each of its queries, the ids of the messages that it finds. `main` runs a table by it.
 
 ghost use Rattle.std.specs.Prelude.{◌≡◌, ◌<◌, IfOk};
 ghost use Rattle.nm_dates.specs.Seconds.{IsMoment};

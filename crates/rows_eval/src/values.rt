@@ -1,4 +1,4 @@
-//! Ids, paths, tags and mails in the texts of rows.
+//! Ids, paths, tags and mails in the texts of rows, for `index_of`.
 
 ghost use Rattle.std.specs.Prelude.{IfOk};
 ghost use Rattle.nm_base.specs.Limits.{IsDate};

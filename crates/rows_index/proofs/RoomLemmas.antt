@@ -1,4 +1,4 @@
--- An index without files, kept rows, entries and tags is one, whatever its numbers.
+-- An index without files, kept rows, entries and tags is one, whatever its numbers. For the proof of `base_of`.
 use Rattle.std.proofs.Common.{ℕ, ◌≤◌, [], rules}
 use Rattle.std.specs.List.{IsDistinct}
 use Rattle.std.specs.List.Sorted.{IsStrictlySortedBy}

@@ -1,4 +1,4 @@
-//! What each kind of row asks stands in the modules beside this one.
+//! What each kind of row asks stands in the modules beside this one: `main` runs a table by it.
 
 use crate::{
     commit_rows, index_rows, journal_rows, room_rows, snapshot_rows, stop_rows, tag_rows,

@@ -1,4 +1,4 @@
-//! Commits as lines: changes parted by `;`, each a verb and its words.
+//! Commits as lines: changes parted by `;`, each a verb and its words. `room_rows` and `snapshot_rows` read them.
 
 use crate::values::{id_of, path_of, tag_of};
 use nm_base::{Facts, Many, Marks, MessageId, Tags, Text};

@@ -1,4 +1,5 @@
-//! Rows on commits as bytes: what they say, one line a commit, or the place of the first byte that no commit has there.
+//! Rows on commits as bytes, for `answers`: what they say, one line a commit, or the place of the first byte that no
+//! commit has there.
 
 ghost use Rattle.std.specs.Prelude.{◌≡◌};
 ghost use Rattle.nm_record.specs.CommitGrammar.{commit_grammar};

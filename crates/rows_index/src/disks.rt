@@ -1,5 +1,6 @@
-//! Disks in memory for the rows. These functions say nothing of what they give, so the rows' proofs carry no model of a disk. A function
-//! that owns a disk makes one call with it and ends: each further way out would have all of the disk's drop in its proof.
+//! Disks in memory for `journal_rows` and `stop_rows`. These functions say nothing of what they give, so the rows'
+//! proofs carry no model of a disk. A function that owns a disk makes one call with it and ends: each further way out
+//! would have all of the disk's drop in its proof.
 
 use nm_base::{Many, NoMemory};
 use nm_disk::{FileNo, MemDisk, Pick};

@@ -1,4 +1,4 @@
-//! Rows on the index that a disk holds: what is opened where these are the bodies of its records.
+//! Rows on the index that a disk holds, for `answers`: what is opened where these are the bodies of its records.
 
 use crate::disks::fresh;
 use crate::journal_rows::append_all;

@@ -1,4 +1,4 @@
-//! Rows on the bytes of a journal: what is written, and what is opened.
+//! Rows on the bytes of a journal, for `answers`: what is written, and what is opened.
 
 ghost use Rattle.std.specs.Prelude.{◌≡◌, ℕ, List, false, IfOk, IfSome};
 ghost use Rattle.nm_journal.specs.Journal.{StandsOn};

@@ -1,4 +1,4 @@
-//! Rows on the room that an index has for a commit.
+//! Rows on the room that an index has for a commit, for `answers`.
 
 ghost use Rattle.std.specs.Prelude.{◌^◌, ◌≤◌, IfOk};
 ghost use Rattle.nm_index.specs.Valid.{IsValid};

@@ -1,4 +1,4 @@
-//! Rows on snapshots: what one answers after some commits, or before the last of them.
+//! Rows on snapshots, for `answers`: what one answers after some commits, or before the last of them.
 
 use crate::commit_lines::commit_of;
 use crate::journal_rows::bodies_of;

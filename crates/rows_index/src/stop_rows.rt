@@ -1,4 +1,4 @@
-//! Rows on an append that is stopped, or that fails, within each of its calls.
+//! Rows on an append that is stopped, or that fails, within each of its calls, for `answers`.
 
 use crate::disks::{fail_at, fail_nowhere, fresh, stopped};
 use crate::journal_rows::{Appended, append, append_all, append_each, bodies_of, record_count};

@@ -1,4 +1,4 @@
-//! Rows on tags: what operations leave of them, and how they are written.
+//! Rows on tags, for `answers`: what operations leave of them, and how they are written.
 
 use crate::values::tag_of;
 use nm_base::{Many, Tag, TagOp, Tags};

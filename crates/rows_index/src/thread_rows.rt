@@ -1,4 +1,4 @@
-//! Rows on threads: labels as rows of ids come, and as threads go.
+//! Rows on threads, for `answers`: labels as rows of ids come, and as threads go.
 
 ghost use Rattle.std.specs.Prelude.{◌≡◌, ◌<◌};
 

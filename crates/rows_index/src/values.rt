@@ -1,4 +1,4 @@
-//! Ids, paths, tags and numbers in the texts of rows.
+//! Ids, paths, tags and numbers in the texts of rows, for `commit_lines`, `thread_rows` and their like.
 
 use nm_base::{MailPath, MessageId, Tag, Text};
 use rows::{Lines, RowError, text_of};

@@ -1,4 +1,4 @@
-//! What each kind of row asks stands in the modules beside this one.
+//! What each kind of row asks stands in the modules beside this one: `main` runs a table by it.
 
 use crate::{decode_rows, header_rows, mail_rows, part_rows, value_rows};
 use rows::{Program, Row, RowError, text_of};

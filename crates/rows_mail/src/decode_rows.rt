@@ -1,4 +1,4 @@
-//! Rows on what is encoded (quoted-printable, base64, charsets, encoded words), and on the words of a text.
+//! Rows on what is encoded (quoted-printable, base64, charsets, encoded words), and on the words of a text, for `answers`.
 
 use crate::word_lines::push_words;
 use nm_decode::{base64_bytes, charset_text, encoded_words, quoted_printable};

@@ -1,4 +1,4 @@
-//! Rows on the header of a mail: its fields, and the ids, mailboxes and comments in a text.
+//! Rows on the header of a mail: its fields, and the ids, mailboxes and comments in a text, for `answers`.
 
 use nm_base::{Mailbox, MessageId, Text};
 use nm_header::{HeaderField, fields, ids, mailboxes, plain};

@@ -1,4 +1,4 @@
-//! Rows on whole mails: their facts, or that they are no mail, and the texts that a reader is shown.
+//! Rows on whole mails: their facts, or that they are no mail, and the texts that a reader is shown, for `answers`.
 
 use crate::header_rows::push_mailbox;
 use crate::word_lines::push_words;

@@ -1,4 +1,4 @@
-//! Rows on content types and on the parts of a mail.
+//! Rows on content types and on the parts of a mail, for `answers`.
 
 use nm_mime::{ContentType, Encoding, Part, Role, content_type, parts};
 use rows::{Lines, RowError, text_of};

@@ -1,4 +1,4 @@
-//! Rows on values: the bounds of names, sets of tags, and lists.
+//! Rows on values: the bounds of names, sets of tags, and lists, for `answers`.
 
 use nm_base::{BadValue, Copies, MailPath, Many, MessageId, Room, Tag, Tags, Text, is_word};
 use rows::{Lines, Row, RowError, cut, text_of};

@@ -1,4 +1,4 @@
-//! Words behind one another on a line.
+//! Words behind one another on a line, for `decode_rows` and `mail_rows`.
 
 use nm_base::WordList;
 use rows::{Lines, RowError};

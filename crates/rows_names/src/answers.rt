@@ -1,4 +1,4 @@
-//! What comes of a row, by its kind.
+//! What comes of a row, by its kind. `main` runs a table by it.
 
 use crate::read::{flags_of, paths_of, tags_of};
 use crate::tag_lines::{answer_to_dump, answer_to_lines};

@@ -1,4 +1,4 @@
-//! What the texts of a row stand for: paths, flags, tags.
+//! What the texts of a row stand for, for `answers`: paths, flags, tags.
 
 use nm_base::{MailPath, Many, Tag, Tags, Text};
 use nm_name::Flags;

@@ -1,4 +1,4 @@
-//! Rows on lines of tag changes, and on dumps.
+//! Rows on lines of tag changes, and on dumps, for `answers`.
 
 use nm_base::{ReadForm, TagOp};
 use nm_dump::read_dump;

@@ -1,4 +1,4 @@
-//! What comes of a row: each kind of row has its module.
+//! What comes of a row: each kind of row has its module, and `main` runs a table by this one.
 
 use crate::{date_rows, query_rows};
 use rows::{Lines, Program, Row, RowError, text_of};

@@ -1,4 +1,4 @@
-//! Rows on the ends of date ranges, and on the text of a day.
+//! Rows on the ends of date ranges, and on the text of a day, for `answers`.
 
 ghost use Rattle.std.specs.Prelude.{IfOk};
 ghost use Rattle.nm_dates.specs.Seconds.{IsMoment};

@@ -1,4 +1,4 @@
-//! Rows on queries: the tree of a text in one line, or the refusal with its place.
+//! Rows on queries, for `answers`: the tree of a text in one line, or the refusal with its place.
 
 use crate::date_rows::push_end;
 use nm_base::{Field, Limit, Text, WordList};

@@ -1,4 +1,4 @@
-//! What comes of a row, by its kind: the replies to its searches stand here.
+//! What comes of a row, by its kind: the replies to its searches stand here. `main` runs a table by it.
 
 use crate::batches::{counts_of, taggings_of};
 use crate::dumps::dump_of;

@@ -1,4 +1,4 @@
-//! Rows on the lines of an input: queries that are counted, and changes of tags.
+//! Rows on the lines of an input, for `answers`: queries that are counted, and changes of tags.
 
 use crate::index::index_of;
 use nm_answer::Tagging;

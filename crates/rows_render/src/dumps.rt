@@ -1,4 +1,4 @@
-//! Rows on the dumps that are written.
+//! Rows on the dumps that are written, for `answers`.
 
 use crate::index::index_of;
 use nm_base::{Copies, DumpForm, Many, MessageId};

@@ -1,4 +1,5 @@
-//! The index of a row: the mails of its lines `file` come in their order, and its lines `tags` set the tags of messages.
+//! The index of a row, for `answers` and each kind of row: the mails of its lines `file` come in their order, and its
+//! lines `tags` set the tags of messages.
 
 use crate::values::{facts_of, id_of, path_of, tags_of};
 use nm_base::Many;

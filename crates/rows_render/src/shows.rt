@@ -1,4 +1,4 @@
-//! Rows on what `show` tells.
+//! Rows on what `show` tells, for `answers`.
 
 use crate::answers::query_of;
 use crate::index::index_of;

@@ -1,4 +1,4 @@
-//! What each kind of row asks stands in the modules beside this one.
+//! What each kind of row asks stands in the modules beside this one: `main` runs a table by it.
 
 use crate::{line_rows, machine_rows, reply_rows, session_rows, stop_rows};
 use rows::{Program, Row, RowError};

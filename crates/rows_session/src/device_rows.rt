@@ -1,4 +1,4 @@
-//! The devices of a session, as a row has them: its mail files, its script, and the calls that fail.
+//! The devices of a session, as a row has them, for `session_run`: its mail files, its script, and the calls that fail.
 
 use crate::many_files::add_many;
 use crate::values::path;

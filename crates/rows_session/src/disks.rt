@@ -1,4 +1,5 @@
-//! Disks in memory for the rows. These functions say nothing of what they give, so the rows' proofs carry no model of a disk.
+//! Disks in memory for `session_rows` and `stop_rows`. These functions say nothing of what they give, so the rows'
+//! proofs carry no model of a disk.
 
 use nm_base::Many;
 use nm_disk::{FileNo, MemDisk, Pick};

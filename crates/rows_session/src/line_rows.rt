@@ -1,4 +1,5 @@
-//! Rows on the lines of scripts: what a line asks for, or how it is refused; and the lines of a script with their numbers.
+//! Rows on the lines of scripts, for `answers`: what a line asks for, or how it is refused; and the lines of a script
+//! with their numbers.
 
 use nm_answer::Request;
 use nm_base::{

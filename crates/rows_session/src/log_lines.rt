@@ -1,4 +1,4 @@
-//! The lines of a log, as a row tells them.
+//! The lines of a log, as a row tells them, for `session_rows`.
 
 use crate::session_rows::add_number;
 use nm_base::{Many, NoMemory};

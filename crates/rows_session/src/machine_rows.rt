@@ -1,4 +1,4 @@
-//! Rows on the machine of commits and replies: which steps it takes, and which it refuses.
+//! Rows on the machine of commits and replies, for `answers`: which steps it takes, and which it refuses.
 
 use crate::step_rows::step;
 use nm_base::Copies;

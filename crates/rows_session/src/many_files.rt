@@ -1,4 +1,4 @@
-//! Many mail files by one line of a row.
+//! Many mail files by one line of a row, for `device_rows`.
 
 use crate::values::path;
 use nm_base::{MailPath, Many};

@@ -1,4 +1,4 @@
-//! Rows on the reply of `new`, from the numbers that it tells and the files that were passed over.
+//! Rows on the reply of `new`, for `answers`: from the numbers that it tells and the files that were passed over.
 
 use crate::values::path;
 use nm_answer::NewReport;

@@ -1,5 +1,5 @@
-//! Rows on whole sessions, one after the other over one disk, alone or behind the options of the program: what each call prints and
-//! says, its status, and the steps of its log.
+//! Rows on whole sessions, for `answers`: one after the other over one disk, alone or behind the options of the
+//! program: what each call prints and says, its status, and the steps of its log.
 
 use crate::disks::{disk, head_of};
 use crate::log_lines::add_lines;

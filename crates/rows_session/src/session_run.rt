@@ -1,4 +1,4 @@
-//! A session, or the program before it, run over the devices that a row has for it.
+//! A session, or the program before it, run over the devices that a row has for it: `session_rows` and `stop_rows` run each so.
 
 use crate::device_rows::{input, sink};
 use crate::disks::{calls, fail_at};

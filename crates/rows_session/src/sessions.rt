@@ -1,5 +1,6 @@
-//! The sessions of a row: a line `then` begins the next one, over the same disk. It has the mail files with which the one before
-//! it ended, with those that come by a line `file` or `many`, and without those that go by a line `gone`.
+//! The sessions of a row, for `session_rows`: a line `then` begins the next one, over the same disk. It has the mail
+//! files with which the one before it ended, with those that come by a line `file` or `many`, and without those that
+//! go by a line `gone`.
 
 use rows::{Row, RowError, RowLine, cut};
 use std::alloc::{AllocError, Global};

@@ -1,4 +1,4 @@
-//! The mail folder of a session, which another program may change in the middle of it.
+//! The mail folder of a session, for `session_run`, which another program may change in the middle of it.
 
 use crate::device_rows::mail;
 use crate::sessions::{files_after, row_of};

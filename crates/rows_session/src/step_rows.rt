@@ -1,4 +1,5 @@
-//! Steps of the machine, as rows write them: `begin`, `append`, `show`, `see`, `meet`, `crash`, `reopen`, and replies.
+//! Steps of the machine, as `machine_rows` reads them: `begin`, `append`, `show`, `see`, `meet`, `crash`, `reopen`,
+//! and replies.
 
 use crate::values::{id, path, tag, text};
 use nm_answer::Request;

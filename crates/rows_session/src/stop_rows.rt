@@ -1,4 +1,4 @@
-//! Rows on sessions that are stopped within each call of their disk: what the next session replies.
+//! Rows on sessions that are stopped within each call of their disk, for `answers`: what the next session replies.
 
 use crate::disks::{calls, disk, stopped};
 use crate::session_run::run;

@@ -1,4 +1,4 @@
-//! Values as rows write them.
+//! Values as rows write them, for `step_rows`, `line_rows` and their like.
 
 use nm_base::{MailPath, MessageId, Tag, Text};
 use rows::{RowError, text_of};
