@@ -1,4 +1,4 @@
-//! The words of `tag` after its options: changes of tags, then a query.
+//! The words of `tag` after its options, for `command`: changes of tags, then a query.
 
 ghost use Rattle.std.specs.Prelude.{◌≡◌, ◌<◌, [], true, length, IfOk, IfSome, MatchOption, MatchResult, Ok, Err};
 ghost use Rattle.nm_command.specs.TagWords.{changes_of, has_sign, is_tag_word, op_of, query_words, with_op};

@@ -1,4 +1,4 @@
-//! Messages as `show` tells them: the lines of their fields, and their bodies.
+//! Messages as `show` tells them, for `show_text`: the lines of their fields, and their bodies.
 
 ghost use Rattle.std.specs.Prelude.{◌≡◌, ◌++◌, codes, map, IfOk, OnOk};
 ghost use Rattle.nm_answer.specs.Json.{joined};

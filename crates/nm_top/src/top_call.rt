@@ -1,4 +1,4 @@
-//! The top call: the words, the lines, the run, each ending; `main` makes it.
+//! The top call: the words, the lines, the run, each ending; `program` makes it.
 
 ghost use Rattle.std.specs.Prelude.{◌≡◌, ℕ, Bool, true, false, List, ◌≤◌, None, pos, ◌≤ℤ◌};
 ghost use Rattle.nm_base.specs.Limits.{max_date};
