@@ -1,4 +1,4 @@
-//! The phases and lines of a script: `rows_command` reads one; no command does.
+//! The phases and lines of a script, as `rows_command` reads one.
 
 ghost use Rattle.nm_base.specs.Limits.{max_lines};
 ghost use Rattle.std.specs.Prelude.{◌≡◌, ◌<◌, ◌≤◌, [], ◌∷◌, length, IfErr, IfOk, MatchOption};

@@ -1,4 +1,4 @@
-//! A job over many inputs, by several workers. The `tests` call it; no command does.
+//! A job over many inputs, by several workers, as the `tests` have it done.
 
 ghost use Rattle.std.specs.Prelude.{◌<◌, ◌≤◌, IfOk, All};
 ghost use Rattle.std.specs.List.{AllZip};
