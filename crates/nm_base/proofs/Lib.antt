@@ -1,2 +1,3 @@
+mod OrderLemmas
 mod SetLemmas
 mod WordListLemmas

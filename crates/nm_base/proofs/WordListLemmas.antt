@@ -1,8 +1,7 @@
 -- Words that stand one behind the other are read again, and one more may be put behind them.
 -- For the proofs of `WordList::push` and `Words::take_first`.
-use Rattle.std.proofs.Common.{inl, inr, ◌≡◌, ℕ, suc, ◌+◌, ◌-◌, ◌≤◌, min, true, List, [], ◌∷◌, ◌++◌, length, take, drop, ◌≢◌, refl, sym, ap, ◌∙◌, append_assoc, arith}
-use Rattle.std.proofs.lemmas.List.{drop_all, take_at, drop_at, take_min, length-append, length_push, flat_map_more}
-use Rattle.std.proofs.lemmas.Bool.{cases_lt}
+use Rattle.std.proofs.Common.{◌≡◌, ℕ, suc, ◌+◌, ◌-◌, ◌≤◌, min, true, List, [], ◌∷◌, ◌++◌, length, take, drop, ◌≢◌, refl, sym, ap, ◌∙◌, append_assoc, arith}
+use Rattle.std.proofs.lemmas.List.{drop_min, take_at, drop_at, take_min, length-append, length_push, flat_map_more}
 use Rattle.std.proofs.lemmas.List.Folds.{list_all-append}
 use Rattle.nm_base.specs.WordList.{IsPacked, is_kept, packed, packed_word, unpacked}
 
@@ -28,13 +27,6 @@ pushed count bytes words word longer p kept e = record {
   count_is = omega (arith, p.count_is, length_push words word);
   kept = list_all-append is_kept words (word ∷ []) ∙ rw (p.kept, kept) refl;
 }
-
-drop_min : (n : ℕ) (xs : List ℕ) → drop (min n (length xs)) xs ≡ drop n xs
-drop_min n xs =
-    elim (cases_lt n (length xs)) [
-      | inl below ↦ ap (λ (k : ℕ). drop k xs) (let e : min n (length xs) ≡ n = omega (arith, below) in e)
-      | inr above ↦ ap (λ (k : ℕ). drop k xs) (let e : min n (length xs) ≡ length xs = omega (arith, above) in e) ∙ drop_all (length xs) xs (omega arith) ∙ sym (drop_all n xs above)
-    ]
 
 -- the first word, and those after it
 pub first : (count len n : ℕ) (bytes rest : List ℕ) → count ≢ 0 → bytes ≡ len ∷ rest → n ≡ min len (length rest)
