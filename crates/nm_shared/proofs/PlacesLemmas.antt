@@ -1,9 +1,9 @@
 -- Two maps read as one: what comes first, and what is found.
--- For the proofs of `Merge::take_first`, `Places::settle` and `merged`.
-use Rattle.std.proofs.Common.{◌≡◌, refl, sym, ap, subst, ◌∙◌, cond, ℕ, List, [], ◌∷◌, ◌++◌, drop, Bor}
+-- For the proofs of `Merge::take_first`, `Older::settle`, `Older::take_in` and others.
+use Rattle.std.proofs.Common.{◌≡◌, refl, sym, ap, subst, ◌∙◌, cond, ℕ, List, [], ◌∷◌, ◌++◌, drop, Bor, append_assoc}
 use Rattle.std.specs.declared.cmp.Ordering.{Ordering}
 use Rattle.std.specs.declared.cmp.Ordering.TheVariants.{Less, Equal, Greater}
-use Rattle.std.specs.BTreeMap.{insert_entry}
+use Rattle.std.specs.BTreeMap.{insert_entry, is_at}
 use Rattle.std.specs.List.{AllByRecursion}
 use Rattle.std.specs.List.Sorted.{IsStrictlySortedBy}
 use Rattle.std.specs.Map.{keys_of}
@@ -17,7 +17,7 @@ use Rattle.nm_shared.specs.Hashed.{at}
 use Rattle.nm_shared.specs.Places.{merge}
 use Rattle.nm_shared.specs.Spot.{AllAbove}
 use Rattle.nm_shared.proofs.EntryLemmas.{insert_entry-above, insert_entry-equal, insert_entry-below, lookup_inserted, sorted_insert, above_sorted}
-use Rattle.nm_shared.proofs.HashedLemmas.{rest_sorted}
+use Rattle.nm_shared.proofs.HashedLemmas.{lookup_both, or_else, rest_sorted}
 
 -- in order both together
 pub merge_sorted : (late early : List (ℕ × ℕ)) → IsStrictlySortedBy nat_cmp (keys_of early) → IsStrictlySortedBy nat_cmp (keys_of (merge late early))
@@ -29,6 +29,14 @@ pub merge_at : (hash : ℕ) (late early : List (ℕ × ℕ)) → at hash (merge 
 merge_at hash [] early = refl
 merge_at hash (pair ∷ late) early =
     lookup_inserted nat_cmp_total pair.0 hash (merge late early) pair.1 ∙ ap (λ rest. cond (is_eq (nat_cmp hash pair.0)) (Some pair.1) rest) (merge_at hash late early)
+
+-- so it does where others follow
+pub merged_first : (hash : ℕ) (late middle early : List (ℕ × ℕ)) → at hash (merge late middle ++ early) ≡ at hash (late ++ (middle ++ early))
+merged_first hash late middle early =
+    lookup_both (is_at (nat_cmp hash)) (merge late middle) early
+    ∙ ap (λ first. or_else first (at hash early)) (merge_at hash late middle)
+    ∙ sym (lookup_both (is_at (nat_cmp hash)) (late ++ middle) early)
+    ∙ ap (at hash) (append_assoc late middle early)
 
 -- ---- what comes first
 

@@ -1,6 +1,6 @@
 //! Where hashes lead, for `hashed_map`. Hashes fall anywhere, so pairs in small runs would all be copied one by one.
 
-ghost use Rattle.std.specs.Prelude.{◌≡◌, [], ℕ, IfOk, OnOk, OnErr, Some, if◌then◌else◌};
+ghost use Rattle.std.specs.Prelude.{◌≡◌, ◌++◌, [], ℕ, IfOk, OnOk, OnErr, Some, if◌then◌else◌};
 ghost use Rattle.std.specs.Ordering.{is_eq, nat_cmp};
 ghost use Rattle.nm_shared.specs.Hashed.{at};
 ghost use Rattle.nm_shared.specs.Places.{merge};
@@ -11,18 +11,28 @@ use nm_base::NoMemory;
 use std::alloc::Global;
 use std::marker::Model;
 
-/// So many pairs are late at least before they join the others.
-const MIN_LATE: usize = 2_048;
+/// So many pairs are late before they join the others.
+const MAX_LATE: usize = 2_048;
 
-/// And one for so many of the others, so that each pair is moved a bounded number of times while the others double.
-const EARLY_PER_LATE: usize = 16;
+/// So many pairs stand in the middle at least before they join the early ones.
+const MIN_MIDDLE: usize = 32_768;
+
+/// And one for so many of the early ones, so that each pair is moved a bounded number of times while these double.
+const EARLY_PER_MIDDLE: usize = 16;
 
 /// The slot to which each hash leads. A contract sees it as pairs of which the first one with a hash counts.
 #[derive(Drop)]
 pub struct Places {
-    /// What came lately.
+    /// What came lately: few runs, so that few are copied when it changes.
     late: SharedMap<u64, u64>,
-    /// What came before: one run, so that a second handle counts one.
+    /// What came before.
+    older: Older,
+}
+
+/// What came before the late ones: two long runs, so that a second handle counts two. The late ones join the shorter.
+#[derive(Drop)]
+struct Older {
+    middle: SharedMap<u64, u64>,
     early: SharedMap<u64, u64>,
 }
 
@@ -34,7 +44,18 @@ impl Model for Places {
 
     ghost coded = { coded_list (coded× coded_ℕ coded_ℕ) };
 
-    ghost view = { λ p. p.late ++ p.early };
+    ghost view = { λ p. p.late ++ p.older };
+}
+
+impl Model for Older {
+    ghost use Rattle.std.specs.Prelude.{ℕ, List, ◌++◌};
+    ghost use Rattle.std.specs.Coded.{coded_list, coded×, coded_ℕ};
+
+    ghost Value = { List (ℕ × ℕ) };
+
+    ghost coded = { coded_list (coded× coded_ℕ coded_ℕ) };
+
+    ghost view = { λ o. o.middle ++ o.early };
 }
 
 impl Places {
@@ -44,7 +65,7 @@ impl Places {
     {
         Places {
             late: SharedMap::new(alloc),
-            early: SharedMap::new(alloc),
+            older: Older::new(alloc),
         }
     }
 
@@ -55,7 +76,7 @@ impl Places {
         if let Some(slot) = self.late.get(&hash) {
             return Some(*slot);
         }
-        Some(*self.early.get(&hash)?)
+        self.older.get(hash)
     }
 
     /// A second handle, for far less than a copy. No change of one shows in the other.
@@ -64,7 +85,7 @@ impl Places {
     {
         Ok(Places {
             late: self.late.share()?,
-            early: self.early.share()?,
+            older: self.older.share()?,
         })
     }
 
@@ -82,14 +103,66 @@ impl Places {
     fn settle(&mut self)
         ensures { (hash : ℕ) → at hash self.new ≡ at hash self.old }
     {
-        let max = (self.early.len() / EARLY_PER_LATE).max(MIN_LATE);
-        if self.late.len() < max {
+        if self.late.len() < MAX_LATE {
             return;
         }
-        let Ok(merged) = merged(&self.late, &self.early) else {
+        let Ok(()) = self.older.take_in(&self.late) else {
             return;
         };
-        self.late = SharedMap::new(self.early.alloc());
+        self.late = SharedMap::new(self.late.alloc());
+    }
+}
+
+impl Older {
+    fn new(alloc: Global) -> Older
+        ensures { result ≡ [] }
+    {
+        Older {
+            middle: SharedMap::new(alloc),
+            early: SharedMap::new(alloc),
+        }
+    }
+
+    fn get(&self, hash: u64) -> Option<u64>
+        ensures { result ≡ at hash self.now }
+    {
+        if let Some(slot) = self.middle.get(&hash) {
+            return Some(*slot);
+        }
+        Some(*self.early.get(&hash)?)
+    }
+
+    fn share(&self) -> Result<Older, NoMemory>
+        ensures { IfOk result (λ older. older ≡ self.now) }
+    {
+        Ok(Older {
+            middle: self.middle.share()?,
+            early: self.early.share()?,
+        })
+    }
+
+    /// Takes in what came lately, which counts before what is here.
+    fn take_in(&mut self, late: &SharedMap<u64, u64>) -> Result<(), NoMemory>
+        ensures found { OnOk result ((hash : ℕ) → at hash self.new ≡ at hash (late.now ++ self.old)) }
+        ensures err { OnErr result (self.new ≡ self.old) }
+    {
+        self.middle = merged(late, &self.middle)?;
+        self.settle();
+        Ok(())
+    }
+
+    /// Joins the middle with the early ones, once it is long. Without memory for it both stay.
+    fn settle(&mut self)
+        ensures { (hash : ℕ) → at hash self.new ≡ at hash self.old }
+    {
+        let max = (self.early.len() / EARLY_PER_MIDDLE).max(MIN_MIDDLE);
+        if self.middle.len() < max {
+            return;
+        }
+        let Ok(merged) = merged(&self.middle, &self.early) else {
+            return;
+        };
+        self.middle = SharedMap::new(self.early.alloc());
         self.early = merged;
     }
 }

@@ -10,8 +10,9 @@ use std::alloc::Global;
 /// A run with this many items is cut in two before another goes into it.
 const MAX_RUN: usize = 64;
 
-/// So long may the last one of many runs become. Items that rise fill it, and a second handle counts fewer runs then.
-const MAX_LAST: usize = 512;
+/// For each of many runs the last one may have so many items. Items that rise fill it, and a second handle counts fewer runs
+/// then: their number rises with the root of that of the items.
+const LAST_PER_RUN: usize = 8;
 
 /// So many runs are many.
 const MANY_RUNS: usize = 64;
@@ -72,7 +73,7 @@ pub fn max_items(at: usize, runs: usize) -> usize
     if runs < MANY_RUNS || at.saturating_add(1) < runs {
         MAX_RUN
     } else {
-        MAX_LAST
+        runs.saturating_mul(LAST_PER_RUN).max(MAX_RUN)
     }
 }
 

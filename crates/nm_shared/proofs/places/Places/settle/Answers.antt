@@ -1,11 +1,9 @@
 use Rattle.std.proofs.Common.{ap, ◌∙◌, ◌++◌}
 use Rattle.nm_shared.specs.Hashed.{at}
-use Rattle.nm_shared.proofs.PlacesLemmas.{merge_at}
 use Rattle.nm_shared.proofs.places.Places.settle.Goals as goal
 
 pub returns : goal.returns
 returns c = λ hash.
-    ap (λ first. at hash (first ++ c.in-Ok.merged)) c.new.ensures
-    ∙ ap (at hash) c.in-Ok.ensures
-    ∙ merge_at hash c.self.inside.late c.self.inside.early
+    ap (λ first. at hash (first ++ c.take_in.new.self)) c.new.ensures
+    ∙ c.in-Ok.ensures.found hash
     ∙ ap (at hash) c.self.view_is
