@@ -1,5 +1,6 @@
 pub mod AppendLemmas
 pub mod ClockLemmas
+pub mod FrameLemmas
 pub mod MomentLemmas
 pub mod OpenLemmas
 pub mod RecordLemmas

@@ -26,18 +26,24 @@ impl Model for Frame {
 }
 
 impl Frame {
+    /// The frame of a copy of a body.
     pub fn new(alloc: Global, body: &Many<u8>) -> Result<Frame, NoMemory>
         requires { length body.now < 2 ^ 32 }
         ensures { IfOk result (λ frame. frame ≡ body.now) }
     {
-        let len = body.len();
-        let mut bytes = Vec::with_capacity(alloc, len + 5)?;
-        bytes.extend_from_slice(&(len as u32).to_be_bytes())?;
+        let mut bytes = Vec::with_capacity(alloc, body.len() + 5)?;
         bytes.extend_from_slice(body.as_slice())?;
-        bytes.push(0)?;
-        Ok(Frame {
-            bytes: Many::from_vec(bytes),
-        })
+        Frame::of(Many::from_vec(bytes))
+    }
+
+    /// The frame of a body, made in the memory of the body, which gains 5 bytes.
+    #[tactic(auto, using(crate::proofs::FrameLemmas::body_framed, crate::proofs::FrameLemmas::is_framed, crate::proofs::FrameLemmas::short_framed))]
+    pub fn of(body: Many<u8>) -> Result<Frame, NoMemory>
+        requires { length body < 2 ^ 32 }
+        ensures { IfOk result (λ frame. frame ≡ body) }
+    {
+        let bytes = framed(body)?;
+        Ok(Frame { bytes })
     }
 
     /// The body, and the closed gate behind it.
@@ -62,4 +68,19 @@ impl Frame {
     {
         self.bytes.as_slice()
     }
+}
+
+/// The bytes that frame a body: the gate and the length are put behind it, and the length is turned to the front.
+#[tactic(auto, using(crate::proofs::FrameLemmas::turned))]
+fn framed(body: Many<u8>) -> Result<Many<u8>, NoMemory>
+    requires { length body < 2 ^ 32 }
+    ensures { IfOk result (λ bytes. bytes ≡ framed body) }
+{
+    let len = body.len() as u32;
+    let mut bytes = body.into_vec();
+    bytes.reserve_exact(5)?;
+    bytes.push(0)?;
+    bytes.extend_from_slice(&len.to_be_bytes())?;
+    bytes.as_mut_slice().rotate_right(4);
+    Ok(Many::from_vec(bytes))
 }
