@@ -13,7 +13,7 @@ use Rattle.nm_index.specs.declared.base.Base.{Base}
 use Rattle.nm_plan.specs.Apart.{AreApart}
 use Rattle.nm_plan.proofs.FitLemmas.{not_there, or_true}
 use Rattle.nm_plan.proofs.NumberLemmas.{neither}
-use Rattle.nm_plan.proofs.SetLemmas.{bytes_same}
+use Rattle.nm_plan.specs.SetLaws.{bytes_same}
 
 abbrev File : Type 0
 File = List ℕ × Facts

@@ -22,8 +22,8 @@ use Rattle.nm_plan.specs.NameTags.{commit_of, follow_names, live_of, named_tags,
 use Rattle.nm_plan.specs.Plan.{AreAdded, add_of, all_added, batch_commit, batch_commits, drop_of, message_ids, new_commits, removed_commit, removed_files}
 use Rattle.std.specs.List.Sorted.{IsStrictlySortedBy}
 use Rattle.nm_plan.proofs.FoldLemmas.{batch-files, new-files, next-files}
-use Rattle.nm_plan.proofs.OrderLemmas.{IsSorted-sorted}
-use Rattle.nm_plan.proofs.SetLemmas.{bytes_same, has_text-filter, has_text-sorted}
+use Rattle.nm_plan.specs.OrderLaws.{IsSorted-sorted}
+use Rattle.nm_plan.specs.SetLaws.{bytes_same, has_text-filter, has_text-sorted}
 
 -- no text stands twice
 abbrev pub IsApart : List (List ℕ) → Type 0

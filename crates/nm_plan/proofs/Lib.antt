@@ -4,7 +4,5 @@ pub mod FoldLemmas
 pub mod KeptLemmas
 pub mod MovingLemmas
 pub mod NumberLemmas
-pub mod OrderLemmas
-pub mod SetLemmas
 pub mod TagLemmas
 pub mod TaggingLemmas

@@ -23,7 +23,7 @@ use Rattle.nm_plan.specs.Plan.{add_of}
 use Rattle.nm_plan.proofs.FitLemmas.{IsApart, apart-filter}
 use Rattle.nm_plan.proofs.FoldLemmas.{fold-append}
 use Rattle.nm_plan.proofs.NumberLemmas.{changes-kept, neither}
-use Rattle.nm_plan.proofs.SetLemmas.{bytes_same, has_text-filter}
+use Rattle.nm_plan.specs.SetLaws.{bytes_same, has_text-filter}
 
 abbrev Texts : Type 0
 Texts = List (List ℕ)

@@ -8,12 +8,10 @@ pub mod LawLemmas
 pub mod MailLemmas
 pub mod NamingLemmas
 pub mod NewLemmas
-pub mod OrderLemmas
 pub mod RenamingLemmas
 pub mod ReplayLemmas
 pub mod ReportLemmas
 pub mod SameLemmas
 pub mod ScanLemmas
-pub mod SetLemmas
 pub mod TaggingLemmas
 pub mod WantingLemmas

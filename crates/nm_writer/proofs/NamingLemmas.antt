@@ -21,7 +21,7 @@ use Rattle.nm_plan.specs.NameTags.{follow_names, live_of, named_tags, set_tags, 
 use Rattle.nm_plan.specs.Numbering.{AreNumbered, InOrder}
 use Rattle.nm_writer.specs.Naming.{at_numbers, live_at_numbers}
 use Rattle.nm_writer.proofs.ArrivalLemmas.{or_true}
-use Rattle.nm_writer.proofs.SetLemmas.{bytes_same}
+use Rattle.nm_plan.specs.SetLaws.{bytes_same}
 
 abbrev Entry : Type 0
 Entry = List ℕ × ℕ

@@ -1,4 +1,4 @@
--- Texts in order: none stands twice. For `FitLemmas`.
+-- Texts in order: none stands twice. Crates above cite it. For proofs alone: `FitLemmas`.
 use Rattle.std.proofs.Common.{◌≡◌, ℕ, List, [], ◌∷◌, fold, refl, ap, ◌∙◌}
 use Rattle.std.specs.BTreeSet.{insert_key}
 use Rattle.std.specs.Cmp.Lexicographic.{nat_list_cmp_total, slice_cmp}
@@ -9,10 +9,10 @@ use Rattle.std.specs.declared.cmp.Ordering.{Ordering}
 use Rattle.std.specs.declared.cmp.Ordering.TheVariants.{Less, Equal, Greater}
 use Rattle.nm_base.specs.Order.{sorted}
 
-turned : (x y : List ℕ) (answer : Ordering) → slice_cmp nat_cmp x y ≡ answer → slice_cmp nat_cmp y x ≡ ordering_reverse answer
+pub turned : (x y : List ℕ) (answer : Ordering) → slice_cmp nat_cmp x y ≡ answer → slice_cmp nat_cmp y x ≡ ordering_reverse answer
 turned x y answer is = nat_list_cmp_total.antisymm y x ∙ ap ordering_reverse is
 
-above_all : (key e : List ℕ) (ys : List (List ℕ)) → AllByRecursion (λ y. slice_cmp nat_cmp e y ≡ Less) ys → slice_cmp nat_cmp key e ≡ Less → AllByRecursion (λ y. slice_cmp nat_cmp key y ≡ Less) ys
+pub above_all : (key e : List ℕ) (ys : List (List ℕ)) → AllByRecursion (λ y. slice_cmp nat_cmp e y ≡ Less) ys → slice_cmp nat_cmp key e ≡ Less → AllByRecursion (λ y. slice_cmp nat_cmp key y ≡ Less) ys
 above_all key e [] all less = tt
 above_all key e (y ∷ ys) all less = (nat_list_cmp_total.trans key e y less all.0, above_all key e ys all.1 less)
 

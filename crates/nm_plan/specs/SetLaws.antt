@@ -1,4 +1,5 @@
--- Sets of texts: a set has what was put into it. For `MailLemmas`, `NamingLemmas`, `RenamingLemmas` and others.
+-- Sets of texts: a set has what was put into it. Crates above cite it.
+-- For proofs alone: `ApartLemmas`, `FitLemmas`, `KeptLemmas` and others.
 use Rattle.std.proofs.Common.{◌≡◌, ℕ, Bool, true, false, ◌||◌, ◌&&◌, cond, List, [], ◌∷◌, filter, fold, refl, sym, ap, ◌∙◌}
 use Rattle.std.specs.declared.cmp.Ordering.{Ordering}
 use Rattle.std.specs.declared.cmp.Ordering.TheVariants.{Less, Equal, Greater}
