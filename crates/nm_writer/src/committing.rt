@@ -134,7 +134,7 @@ fn prepared(
     }
     let next = shared(alloc, next_snapshot(shown, commit)?)?;
     let body = commit_bytes(alloc, commit)?;
-    let frame = Frame::new(alloc, &body)?;
+    let frame = Frame::of(body)?;
     Ok((frame, next))
 }
 
