@@ -232,8 +232,8 @@ asks-none why (asked.Request (requests.Count ask)) index moment left mail unaske
 asks-none why (asked.Request (requests.Search ask)) index moment left mail unasked = asks-nothing mail
 asks-none why (asked.Request (requests.Dump ask)) index moment left mail unasked = asks-nothing mail
 asks-none why (asked.Request (requests.Show ask)) index moment left mail unasked = shows-nothing why mail left _ unasked
-asks-none why (asked.Request (requests.Tag ask)) index moment left mail unasked = record { more = []; noted = refl; tree = still-along mail.tree; reads = refl }
-asks-none why (asked.Request (requests.Restore ask)) index moment left mail unasked = record { more = []; noted = refl; tree = still-along mail.tree; reads = refl }
+asks-none why (asked.Request (requests.Tag ask)) index moment left mail unasked = record { more = []; given_is = refl; tree = still-along mail.tree; reads = refl }
+asks-none why (asked.Request (requests.Restore ask)) index moment left mail unasked = record { more = []; given_is = refl; tree = still-along mail.tree; reads = refl }
 
 renamed-none : (tree : Option Tree) → tree ≡ option_map (λ t. fold given_in t []) tree
 renamed-none None = refl

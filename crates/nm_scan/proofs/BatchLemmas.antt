@@ -16,10 +16,10 @@ abbrev IsBegun : Option Tree → List (List ℕ) → ℕ → Type 0
 IsBegun tree read bytes = ((read ≡ []) × (bytes ≡ full_bytes)) ⊎ ((before : List (List ℕ)) × (last : List ℕ) × (read ≡ before ++ last ∷ []) × IsOpen tree before)
 
 -- A batch goes on: the first of the paths were read, and so many answers and bytes lack until it is full.
-pub record InBatch (old now : ObservedMail) (old_noted noted : List Given) (paths rest : List (List ℕ)) (added : List (List ℕ × Facts)) (answers bytes : ℕ) : Type 0 where
+pub record InBatch (old now : ObservedMail) (old_given given : List Given) (paths rest : List (List ℕ)) (added : List (List ℕ × Facts)) (answers bytes : ℕ) : Type 0 where
   pub read : List (List ℕ)
   pub paths_are : paths ≡ read ++ rest
-  pub all : HasReadAll old now old_noted noted read added
+  pub all : HasReadAll old now old_given given read added
   pub answers_left : answers + length read ≡ full_answers
   pub bytes_left : IfSome old.tree (λ t. bytes ≡ full_bytes - len_at_all t read)
   pub begun : IsBegun old.tree read bytes
@@ -53,12 +53,12 @@ large-by None read bytes none left = tt
 large-by (Some t) read bytes none left = omega (arith, none, left)
 
 -- it begins
-pub in_batch : (mail : ObservedMail) (noted : List Given) (paths : List (List ℕ)) (added : List (List ℕ × Facts)) (answers bytes : ℕ) → added ≡ [] → answers ≡ full_answers → bytes ≡ full_bytes
-    → InBatch mail mail noted noted paths paths added answers bytes
-in_batch mail noted paths added answers bytes none many all = record {
+pub in_batch : (mail : ObservedMail) (given : List Given) (paths : List (List ℕ)) (added : List (List ℕ × Facts)) (answers bytes : ℕ) → added ≡ [] → answers ≡ full_answers → bytes ≡ full_bytes
+    → InBatch mail mail given given paths paths added answers bytes
+in_batch mail given paths added answers bytes none many all = record {
   read = [];
   paths_are = refl;
-  all = begun_read mail noted added none;
+  all = begun_read mail given added none;
   answers_left = omega (arith, many);
   bytes_left = all_bytes mail.tree bytes all;
   begun = inl (refl, all);
@@ -119,14 +119,14 @@ module _ (m0 m1 : ObservedMail) (n0 n1 : List Given) (paths rest : List (List �
       ap (λ (l : List (List ℕ)). h.read ++ l) (sym once) ∙ (sym (take-append-add h.read (path ∷ left) asks.asked) ∙ sym (ap (take (length h.read + asks.asked)) paths_are)) in
       record {
         first = record {
-          noted = h.all.noted;
+          given = h.all.given;
           given_is = unnoted ∙ h.all.given_is;
           reading = record {
             answered = length h.read;
             asked = length h.read + asks.asked;
             within = omega (arith, asks.once, ap length paths_are ∙ length-append h.read (path ∷ left));
             last = (omega arith, omega (arith, asks.once));
-            notes = subst (λ (l : List (List ℕ)). NotesReads m0.tree h.all.noted l) front h.all.reading.notes;
+            notes = subst (λ (l : List (List ℕ)). NotesReads m0.tree h.all.given l) front h.all.reading.notes;
             read = asks.read ∙ (ap (λ (m : ObservedMail). read_with m.reads (take asks.asked (path ∷ []))) h.all.mail ∙ (read_with-more m0.reads h.read (take asks.asked (path ∷ [])) ∙ ap (read_with m0.reads) asked));
           };
           tree = asks.tree ∙ same_tree;

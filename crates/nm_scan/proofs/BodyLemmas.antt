@@ -5,7 +5,7 @@ use Rattle.std.proofs.lemmas.List.{drop_more, take-append-drop, take_more}
 use Rattle.nm_maildir.specs.Observed.{ObservedMail}
 use Rattle.nm_maildir.specs.Tree.{Tree}
 use Rattle.nm_maildir.specs.declared.given.Given.{Given}
-use Rattle.nm_maildir.specs.declared.given.Given.TheVariants as given
+use Rattle.nm_maildir.specs.declared.given.Given.TheVariants as givens
 use Rattle.nm_maildir.specs.declared.given.ReadAnswer.{ReadAnswer}
 use Rattle.nm_scan.proofs.ReadLemmas.{read_with-more, read_with-none, same_mail}
 use Rattle.nm_scan.specs.Bodies.{AreBodies, HasReadBodies, HasReadBody, IsBody, StopsAtBody, StopsInBodies, body_len, bytes_given, given_len, left_after}
@@ -14,16 +14,16 @@ use Rattle.nm_scan.specs.declared.bodies_error.BodiesError.{BodiesError}
 
 -- ---- how many bytes
 
-bytes-more : (noted : List Given) (last : Given) → bytes_given (noted ++ last ∷ []) ≡ bytes_given noted + given_len last
+bytes-more : (given : List Given) (last : Given) → bytes_given (given ++ last ∷ []) ≡ bytes_given given + given_len last
 bytes-more [] last = omega arith
-bytes-more (first ∷ noted) last = omega (arith, bytes-more noted last)
+bytes-more (first ∷ given) last = omega (arith, bytes-more given last)
 
 -- of what was given one item more
-pub left-more : (left rest : ℕ) (noted : List Given) (i : ℕ) (last : Given) → i < length noted → last ≡ get_or noted i last → rest ≡ left_after left (take i noted)
-    → rest - given_len last ≡ left_after left (take (i + 1) noted)
-left-more left rest noted i last h is before =
-    let whole : bytes_given (take (i + 1) noted) ≡ bytes_given (take i noted) + given_len last =
-    ap bytes_given (take_more noted i last h) ∙ (ap (λ (item : Given). bytes_given (take i noted ++ item ∷ [])) (sym is) ∙ bytes-more (take i noted) last) in
+pub left-more : (left rest : ℕ) (given : List Given) (i : ℕ) (last : Given) → i < length given → last ≡ get_or given i last → rest ≡ left_after left (take i given)
+    → rest - given_len last ≡ left_after left (take (i + 1) given)
+left-more left rest given i last h is before =
+    let whole : bytes_given (take (i + 1) given) ≡ bytes_given (take i given) + given_len last =
+    ap bytes_given (take_more given i last h) ∙ (ap (λ (item : Given). bytes_given (take i given ++ item ∷ [])) (sym is) ∙ bytes-more (take i given) last) in
     omega (arith, before, whole)
 
 bytes-both : (before after : List Given) → bytes_given (before ++ after) ≡ bytes_given before + bytes_given after
@@ -35,28 +35,28 @@ left-both left before after = omega (arith, bytes-both before after)
 
 -- ---- one file more
 
-bodies-more : (tree : Option Tree) (left : ℕ) (noted : List Given) (paths : List (List ℕ)) (path : List ℕ) (answer : ReadAnswer) → AreBodies tree left noted paths
-    → IsBody tree (left_after left noted) path answer → AreBodies tree left (noted ++ given.Read path answer ∷ []) (paths ++ path ∷ [])
-bodies-more tree left noted [] path answer none body =
-    let all : left_after left noted ≡ left = omega (arith, ap bytes_given none) in
-    (answer, [], ap (λ (l : List Given). l ++ given.Read path answer ∷ []) none, subst (λ (n : ℕ). IsBody tree n path answer) all body, refl)
-bodies-more tree left noted (first ∷ paths) path answer (found, more, is, one, others) body = (
+bodies-more : (tree : Option Tree) (left : ℕ) (given : List Given) (paths : List (List ℕ)) (path : List ℕ) (answer : ReadAnswer) → AreBodies tree left given paths
+    → IsBody tree (left_after left given) path answer → AreBodies tree left (given ++ givens.Read path answer ∷ []) (paths ++ path ∷ [])
+bodies-more tree left given [] path answer none body =
+    let all : left_after left given ≡ left = omega (arith, ap bytes_given none) in
+    (answer, [], ap (λ (l : List Given). l ++ givens.Read path answer ∷ []) none, subst (λ (n : ℕ). IsBody tree n path answer) all body, refl)
+bodies-more tree left given (first ∷ paths) path answer (found, more, is, one, others) body = (
   found,
-  more ++ given.Read path answer ∷ [],
-  ap (λ (l : List Given). l ++ given.Read path answer ∷ []) is,
+  more ++ givens.Read path answer ∷ [],
+  ap (λ (l : List Given). l ++ givens.Read path answer ∷ []) is,
   one,
   bodies-more tree (left - body_len found) more paths path answer others
       (subst (λ (n : ℕ). IsBody tree n path answer) (omega (arith, ap bytes_given is)) body),
 )
 
 -- The reading goes on: these paths were read, and so many bytes are left.
-pub record InBodies (old now : ObservedMail) (left rest : ℕ) (old_noted noted : List Given) (read : List (List ℕ)) : Type 0 where
-  pub all : HasReadBodies old now left old_noted noted read
-  pub rest_is : rest ≡ left_after left all.noted
+pub record InBodies (old now : ObservedMail) (left rest : ℕ) (old_given given : List Given) (read : List (List ℕ)) : Type 0 where
+  pub all : HasReadBodies old now left old_given given read
+  pub rest_is : rest ≡ left_after left all.given
 
-pub begun_bodies : (mail : ObservedMail) (left : ℕ) (noted : List Given) → InBodies mail mail left left noted noted []
-begun_bodies mail left noted = record {
-  all = record { noted = []; given_is = sym (append-nil noted); bodies = refl; mail = same_mail mail (after_reads mail []) refl (read_with-none mail.reads) refl };
+pub begun_bodies : (mail : ObservedMail) (left : ℕ) (given : List Given) → InBodies mail mail left left given given []
+begun_bodies mail left given = record {
+  all = record { given = []; given_is = sym (append-nil given); bodies = refl; mail = same_mail mail (after_reads mail []) refl (read_with-none mail.reads) refl };
   rest_is = omega arith;
 }
 
@@ -68,13 +68,13 @@ module _ (m0 m1 m2 : ObservedMail) (left rest : ℕ) (n0 n1 n2 : List Given) (re
   pub more_bodies : (rest_after : ℕ) → HasReadBody m1 m2 rest rest_after n1 n2 path → InBodies m0 m2 left rest_after n0 n2 (read ++ path ∷ [])
   more_bodies rest_after one = record {
     all = record {
-      noted = h.all.noted ++ given.Read path one.answer ∷ [];
-      given_is = one.given_is ∙ (ap (λ (l : List Given). l ++ given.Read path one.answer ∷ []) h.all.given_is ∙ append_assoc n0 h.all.noted (given.Read path one.answer ∷ []));
-      bodies = bodies-more m0.tree left h.all.noted read path one.answer h.all.bodies
+      given = h.all.given ++ givens.Read path one.answer ∷ [];
+      given_is = one.given_is ∙ (ap (λ (l : List Given). l ++ givens.Read path one.answer ∷ []) h.all.given_is ∙ append_assoc n0 h.all.given (givens.Read path one.answer ∷ []));
+      bodies = bodies-more m0.tree left h.all.given read path one.answer h.all.bodies
           (subst (λ (n : ℕ). IsBody m0.tree n path one.answer) h.rest_is (subst (λ (t : Option Tree). IsBody t rest path one.answer) same_tree one.body));
       mail = one.mail ∙ (ap (λ (m : ObservedMail). after_reads m (path ∷ [])) h.all.mail ∙ ap (λ (r : Option (List (List ℕ))). record { tree = m0.tree; reads = r; faults = m0.faults }) (read_with-more m0.reads read (path ∷ [])));
     };
-    rest_is = omega (arith, one.rest_is, h.rest_is, bytes-more h.all.noted (given.Read path one.answer));
+    rest_is = omega (arith, one.rest_is, h.rest_is, bytes-more h.all.given (givens.Read path one.answer));
   }
 
   -- it stops
@@ -85,7 +85,7 @@ module _ (m0 m1 m2 : ObservedMail) (left rest : ℕ) (n0 n1 n2 : List Given) (re
     after = after;
     paths_are = are;
     mid = m1;
-    mid_noted = n1;
+    mid_given = n1;
     first = h.all;
     stop = subst (λ (n : ℕ). StopsAtBody m1 m2 n n1 n2 path error) h.rest_is stop;
   }

@@ -15,7 +15,7 @@ use Rattle.nm_maildir.specs.declared.answers.Got.TheVariants as got
 use Rattle.nm_maildir.specs.declared.answers.MailError.{MailError}
 use Rattle.nm_maildir.specs.declared.answers.MailError.TheVariants as error
 use Rattle.nm_maildir.specs.declared.given.Given.{Given}
-use Rattle.nm_maildir.specs.declared.given.Given.TheVariants as given
+use Rattle.nm_maildir.specs.declared.given.Given.TheVariants as givens
 use Rattle.nm_maildir.specs.declared.given.ReadAnswer.{ReadAnswer}
 use Rattle.nm_maildir.specs.declared.given.ReadAnswer.TheVariants as answers
 use Rattle.nm_extract.specs.Mail.{facts_of}
@@ -92,7 +92,7 @@ told_arrival (Some t) path g found is h = ap (arrival path) is ∙ (arrival_is p
 
 -- one file was read
 one_read : (tree : Option Tree) (path : List ℕ) (g : Got) (classified : ReadAnswer × Option Facts) → Classifies g classified → IfSome tree (λ t. g ≡ got_of t path max_mail_bytes)
-    → Reads tree (given.Read path classified.0 ∷ []) (path ∷ []) (arrival path classified.1)
+    → Reads tree (givens.Read path classified.0 ∷ []) (path ∷ []) (arrival path classified.1)
 one_read tree path g classified h told = record {
   notes = record { reads = (path, classified.0) ∷ []; given_is = refl; each = refl; told = told_answer tree path g classified.0 h.answer told };
   mails = ap (λ (f : Option Facts). paths_of (arrival path f)) h.facts ∙ (mail_is path g ∙ (ap (mail_at path) (sym h.answer) ∙ sym (append-nil (mail_at path classified.0))));
@@ -100,10 +100,10 @@ one_read tree path g classified h told = record {
   told = told_arrival tree path g classified.1 h.facts told;
 }
 
-pub one_read_all : (old new : ObservedMail) (noted new_noted : List Given) (path : List ℕ) (g : Got) (classified : ReadAnswer × Option Facts) → Classifies g classified → IfSome old.tree (λ t. g ≡ got_of t path max_mail_bytes)
-    → new_noted ≡ noted ++ given.Read path classified.0 ∷ [] → new.tree ≡ old.tree → new.reads ≡ read_with old.reads (path ∷ []) → new.faults ≡ old.faults → HasReadAll old new noted new_noted (path ∷ []) (arrival path classified.1)
-one_read_all old new noted new_noted path g classified h told is tree read faults = record {
-  noted = given.Read path classified.0 ∷ [];
+pub one_read_all : (old new : ObservedMail) (given new_given : List Given) (path : List ℕ) (g : Got) (classified : ReadAnswer × Option Facts) → Classifies g classified → IfSome old.tree (λ t. g ≡ got_of t path max_mail_bytes)
+    → new_given ≡ given ++ givens.Read path classified.0 ∷ [] → new.tree ≡ old.tree → new.reads ≡ read_with old.reads (path ∷ []) → new.faults ≡ old.faults → HasReadAll old new given new_given (path ∷ []) (arrival path classified.1)
+one_read_all old new given new_given path g classified h told is tree read faults = record {
+  given = givens.Read path classified.0 ∷ [];
   given_is = is;
   reading = one_read old.tree path g classified h told;
   mail = same_mail new (after_reads old (path ∷ [])) tree read faults;
@@ -144,10 +144,10 @@ no_added None = tt
 no_added (Some t) = refl
 
 -- the loop has begun
-abbrev pub begun_read : (mail : ObservedMail) (noted : List Given) (added : List (List ℕ × Facts)) → added ≡ [] → HasReadAll mail mail noted noted [] added
-begun_read mail noted added none = record {
-  noted = [];
-  given_is = sym (append-nil noted);
+abbrev pub begun_read : (mail : ObservedMail) (given : List Given) (added : List (List ℕ × Facts)) → added ≡ [] → HasReadAll mail mail given given [] added
+begun_read mail given added none = record {
+  given = [];
+  given_is = sym (append-nil given);
   reading = subst (λ (l : List (List ℕ × Facts)). Reads mail.tree [] [] l) (sym none) (record { notes = notes-none mail.tree; mails = refl; dated = tt; told = no_added mail.tree });
   mail = same_mail mail (after_reads mail []) refl (read_with-none mail.reads) refl;
 }
@@ -157,9 +157,9 @@ abbrev pub more_read : (m0 m1 m2 : ObservedMail) (n0 n1 n2 : List Given) (ps qs 
 more_read m0 m1 m2 n0 n1 n2 ps qs xs ys h k =
     let tree : m1.tree ≡ m0.tree = ap (λ (m : ObservedMail). m.tree) h.mail in
     record {
-      noted = h.noted ++ k.noted;
-      given_is = k.given_is ∙ (ap (λ l. l ++ k.noted) h.given_is ∙ append_assoc n0 h.noted k.noted);
-      reading = Reads-append m0.tree h.noted k.noted ps qs xs ys h.reading (subst (λ (t : Option Tree). Reads t k.noted qs ys) tree k.reading);
+      given = h.given ++ k.given;
+      given_is = k.given_is ∙ (ap (λ l. l ++ k.given) h.given_is ∙ append_assoc n0 h.given k.given);
+      reading = Reads-append m0.tree h.given k.given ps qs xs ys h.reading (subst (λ (t : Option Tree). Reads t k.given qs ys) tree k.reading);
       mail = k.mail ∙ (ap (λ (m : ObservedMail). after_reads m qs) h.mail ∙ ap (λ (r : Option (List (List ℕ))). record { tree = m0.tree; reads = r; faults = m0.faults }) (read_with-more m0.reads ps qs));
     }
 

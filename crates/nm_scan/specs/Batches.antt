@@ -50,43 +50,43 @@ pub record IsBatch (tree : Option Tree) (read rest : List (List ℕ)) : Type 0 w
 
 -- The first of the paths were read in batches, one after the other, each noted; these mails were found in each, and these paths are left.
 abbrev pub ReadsBatches : Option Tree → List Given → List (List ℕ) → List (List (List ℕ × Facts)) → List (List ℕ) → Type 0
-ReadsBatches tree noted paths [] left = (noted ≡ []) × (left ≡ paths)
-ReadsBatches tree noted paths (added ∷ more) left =
-    (read rest : List (List ℕ)) × (answers others : List Given) × (paths ≡ read ++ rest) × (noted ≡ answers ++ others)
+ReadsBatches tree given paths [] left = (given ≡ []) × (left ≡ paths)
+ReadsBatches tree given paths (added ∷ more) left =
+    (read rest : List (List ℕ)) × (answers others : List Given) × (paths ≡ read ++ rest) × (given ≡ answers ++ others)
     × IsBatch tree read rest × Reads tree answers read added × ReadsBatches tree others rest more left
 
 -- Of a batch that is still open the first paths were read, which is noted, or none.
-pub record IsUnfinished (tree : Option Tree) (noted : List Given) (paths : List (List ℕ)) : Type 0 where
+pub record IsUnfinished (tree : Option Tree) (given : List Given) (paths : List (List ℕ)) : Type 0 where
   pub answered : ℕ
-  pub notes : NotesReads tree noted (take answered paths)
+  pub notes : NotesReads tree given (take answered paths)
   pub is_open : IsOpen tree (take answered paths)
 
 -- One batch of the paths was read, which is noted behind what was noted before; these are behind it, and these mails were found.
-pub record HasReadBatch (old new : ObservedMail) (old_noted new_noted : List Given) (paths rest : List (List ℕ)) (added : List (List ℕ × Facts)) : Type 0 where
+pub record HasReadBatch (old new : ObservedMail) (old_given new_given : List Given) (paths rest : List (List ℕ)) (added : List (List ℕ × Facts)) : Type 0 where
   pub read : List (List ℕ)
   pub paths_are : paths ≡ read ++ rest
   pub batch : IsBatch old.tree read rest
-  pub all : HasReadAll old new old_noted new_noted read added
+  pub all : HasReadAll old new old_given new_given read added
 
 -- The reading stopped in a batch: of its paths the first were read, which is noted behind what was noted before.
-pub record StopsInBatch (old new : ObservedMail) (old_noted new_noted : List Given) (paths : List (List ℕ)) : Type 0 where
-  pub first : HasRead old new old_noted new_noted paths
+pub record StopsInBatch (old new : ObservedMail) (old_given new_given : List Given) (paths : List (List ℕ)) : Type 0 where
+  pub first : HasRead old new old_given new_given paths
   pub is_open : IsOpen old.tree (take first.reading.answered paths)
 
 -- The first of the paths were read in batches, and nothing else was asked; that is noted behind what was noted before.
-pub record HasReadBatches (old new : ObservedMail) (old_noted new_noted : List Given) (paths : List (List ℕ)) (batches : List (List (List ℕ × Facts)))
+pub record HasReadBatches (old new : ObservedMail) (old_given new_given : List Given) (paths : List (List ℕ)) (batches : List (List (List ℕ × Facts)))
     (left : List (List ℕ)) : Type 0 where
   pub read : List (List ℕ)
   pub paths_are : paths ≡ read ++ left
-  pub all : HasReadAll old new old_noted new_noted read (all_added batches)
-  pub reading : ReadsBatches old.tree all.noted paths batches left
+  pub all : HasReadAll old new old_given new_given read (all_added batches)
+  pub reading : ReadsBatches old.tree all.given paths batches left
 
 -- The same, and of the next batch the first paths were read perhaps, where it stopped.
-pub record HasReadSome (old new : ObservedMail) (old_noted new_noted : List Given) (paths : List (List ℕ)) (batches : List (List (List ℕ × Facts)))
+pub record HasReadSome (old new : ObservedMail) (old_given new_given : List Given) (paths : List (List ℕ)) (batches : List (List (List ℕ × Facts)))
     (left : List (List ℕ)) : Type 0 where
   pub answers : List Given
   pub further : List Given
-  pub given_is : new_noted ≡ old_noted ++ (answers ++ further)
+  pub given_is : new_given ≡ old_given ++ (answers ++ further)
   pub reading : ReadsBatches old.tree answers paths batches left
   pub unfinished : IsUnfinished old.tree further left
-  pub first : HasRead old new old_noted new_noted paths
+  pub first : HasRead old new old_given new_given paths

@@ -9,7 +9,7 @@ use Rattle.nm_maildir.specs.declared.answers.Got.TheVariants as got
 use Rattle.nm_maildir.specs.declared.answers.MailError.{MailError}
 use Rattle.nm_maildir.specs.declared.answers.MailError.TheVariants as fault
 use Rattle.nm_maildir.specs.declared.given.Given.{Given}
-use Rattle.nm_maildir.specs.declared.given.Given.TheVariants as given
+use Rattle.nm_maildir.specs.declared.given.Given.TheVariants as givens
 use Rattle.nm_maildir.specs.declared.given.ReadAnswer.{ReadAnswer}
 use Rattle.nm_maildir.specs.declared.given.ReadAnswer.TheVariants as answers
 use Rattle.nm_scan.specs.Reading.{after_reads, read_with}
@@ -28,18 +28,18 @@ body_len (answers.Body bytes) = length bytes
 
 -- the bytes of a body that the folder gave
 abbrev pub given_len : Given → ℕ
-given_len (given.Listed paths) = 0
-given_len (given.Read path answer) = body_len answer
-given_len (given.Renamed from to answer) = 0
+given_len (givens.Listed paths) = 0
+given_len (givens.Read path answer) = body_len answer
+given_len (givens.Renamed from to answer) = 0
 
 -- the bytes of all bodies that the folder gave
 abbrev pub bytes_given : List Given → ℕ
 bytes_given [] = 0
-bytes_given (first ∷ noted) = given_len first + bytes_given noted
+bytes_given (first ∷ given) = given_len first + bytes_given given
 
 -- how many of so many bytes these leave
 abbrev pub left_after : ℕ → List Given → ℕ
-left_after left noted = left - bytes_given noted
+left_after left given = left - bytes_given given
 
 -- ---- one file
 
@@ -75,45 +75,45 @@ pub record IsBody (tree : Option Tree) (left : ℕ) (path : List ℕ) (answer : 
 
 -- What reads of the paths gave, one after the other, each of at most the bytes that those before it left.
 abbrev pub AreBodies : Option Tree → ℕ → List Given → List (List ℕ) → Type 0
-AreBodies tree left noted [] = noted ≡ []
-AreBodies tree left noted (path ∷ paths) =
-    (answer : ReadAnswer) × (more : List Given) × (noted ≡ given.Read path answer ∷ more)
+AreBodies tree left given [] = given ≡ []
+AreBodies tree left given (path ∷ paths) =
+    (answer : ReadAnswer) × (more : List Given) × (given ≡ givens.Read path answer ∷ more)
     × IsBody tree left path answer × AreBodies tree (left - body_len answer) more paths
 
 -- All the paths were read, and nothing else was asked; that is noted behind what was noted before.
-pub record HasReadBodies (old new : ObservedMail) (left : ℕ) (old_noted new_noted : List Given) (paths : List (List ℕ)) : Type 0 where
-  pub noted : List Given
-  pub given_is : new_noted ≡ old_noted ++ noted
-  pub bodies : AreBodies old.tree left noted paths
+pub record HasReadBodies (old new : ObservedMail) (left : ℕ) (old_given new_given : List Given) (paths : List (List ℕ)) : Type 0 where
+  pub given : List Given
+  pub given_is : new_given ≡ old_given ++ given
+  pub bodies : AreBodies old.tree left given paths
   pub mail : new ≡ after_reads old paths
 
 -- Why the reading stops at a path, how often it was asked for, and what is noted of it: the folder failed, or the file has more bytes
 -- than are left, or memory was wanting.
 abbrev pub IsStop : BodiesError → Option Tree → ℕ → List ℕ → ℕ → List Given → Type 0
-IsStop MailFault tree left path asked noted = (asked ≡ 1) × (noted ≡ [])
-IsStop ShowBytes tree left path asked noted =
-    (asked ≡ 1) × (noted ≡ given.Read path answers.TooLong ∷ []) × (left < max_mail_bytes) × IfSome tree (λ t. got_of t path left ≡ got.TooLong)
-IsStop NoMemory tree left path asked noted = (asked ≤ 1) × (noted ≡ [])
+IsStop MailFault tree left path asked given = (asked ≡ 1) × (given ≡ [])
+IsStop ShowBytes tree left path asked given =
+    (asked ≡ 1) × (given ≡ givens.Read path answers.TooLong ∷ []) × (left < max_mail_bytes) × IfSome tree (λ t. got_of t path left ≡ got.TooLong)
+IsStop NoMemory tree left path asked given = (asked ≤ 1) × (given ≡ [])
 
 -- The reading stopped at the path.
-pub record StopsAtBody (old new : ObservedMail) (left : ℕ) (old_noted new_noted : List Given) (path : List ℕ) (error : BodiesError) : Type 0 where
+pub record StopsAtBody (old new : ObservedMail) (left : ℕ) (old_given new_given : List Given) (path : List ℕ) (error : BodiesError) : Type 0 where
   pub asked : ℕ
-  pub noted : List Given
-  pub given_is : new_noted ≡ old_noted ++ noted
-  pub why : IsStop error old.tree left path asked noted
+  pub given : List Given
+  pub given_is : new_given ≡ old_given ++ given
+  pub why : IsStop error old.tree left path asked given
   pub read : new.reads ≡ read_with old.reads (take asked (path ∷ []))
   pub tree : new.tree ≡ old.tree
 
 -- The first of the paths were read, and at the next one the reading stopped.
-pub record StopsInBodies (old new : ObservedMail) (left : ℕ) (old_noted new_noted : List Given) (paths : List (List ℕ)) (error : BodiesError) : Type 0 where
+pub record StopsInBodies (old new : ObservedMail) (left : ℕ) (old_given new_given : List Given) (paths : List (List ℕ)) (error : BodiesError) : Type 0 where
   pub before : List (List ℕ)
   pub path : List ℕ
   pub after : List (List ℕ)
   pub paths_are : paths ≡ before ++ path ∷ after
   pub mid : ObservedMail
-  pub mid_noted : List Given
-  pub first : HasReadBodies old mid left old_noted mid_noted before
-  pub stop : StopsAtBody mid new (left_after left first.noted) mid_noted new_noted path error
+  pub mid_given : List Given
+  pub first : HasReadBodies old mid left old_given mid_given before
+  pub stop : StopsAtBody mid new (left_after left first.given) mid_given new_given path error
 
 -- a failure of the mail folder
 abbrev pub is_folder_fault : BodiesError → Bool
@@ -122,9 +122,9 @@ is_folder_fault ShowBytes = false
 is_folder_fault NoMemory = false
 
 -- a file was read, and so many bytes are left
-pub record HasReadBody (old new : ObservedMail) (left rest : ℕ) (old_noted new_noted : List Given) (path : List ℕ) : Type 0 where
+pub record HasReadBody (old new : ObservedMail) (left rest : ℕ) (old_given new_given : List Given) (path : List ℕ) : Type 0 where
   pub answer : ReadAnswer
-  pub given_is : new_noted ≡ old_noted ++ given.Read path answer ∷ []
+  pub given_is : new_given ≡ old_given ++ givens.Read path answer ∷ []
   pub body : IsBody old.tree left path answer
   pub rest_is : rest ≡ left - body_len answer
   pub mail : new ≡ after_reads old (path ∷ [])

@@ -13,7 +13,7 @@ use Rattle.nm_maildir.specs.Tree.{Tree, got_of}
 use Rattle.nm_maildir.specs.declared.answers.Got.{Got}
 use Rattle.nm_maildir.specs.declared.answers.Got.TheVariants as got
 use Rattle.nm_maildir.specs.declared.given.Given.{Given}
-use Rattle.nm_maildir.specs.declared.given.Given.TheVariants as given
+use Rattle.nm_maildir.specs.declared.given.Given.TheVariants as givens
 use Rattle.nm_maildir.specs.declared.given.ReadAnswer.{ReadAnswer}
 use Rattle.nm_maildir.specs.declared.given.ReadAnswer.TheVariants as answers
 use Rattle.nm_maildir.specs.Observed.{ObservedMail}
@@ -47,7 +47,7 @@ answers_at tree paths = map (λ path. (path, answer_at tree path)) paths
 
 -- a path and the answer to its read, as it is noted
 abbrev pub read_of : List ℕ × ReadAnswer → Given
-read_of read = given.Read read.0 read.1
+read_of read = givens.Read read.0 read.1
 
 -- the path of a read that found mail
 abbrev pub mail_in : List ℕ × ReadAnswer → List (List ℕ)
@@ -66,26 +66,26 @@ abbrev pub after_reads : ObservedMail → List (List ℕ) → ObservedMail
 after_reads mail paths = record { tree = mail.tree; reads = read_with mail.reads paths; faults = mail.faults }
 
 -- Each path was read, in order, and its answer is noted; a tree that is told says which answers these are.
-pub record NotesReads (tree : Option Tree) (noted : List Given) (paths : List (List ℕ)) : Type 0 where
+pub record NotesReads (tree : Option Tree) (given : List Given) (paths : List (List ℕ)) : Type 0 where
   pub reads : List (List ℕ × ReadAnswer)
-  pub given_is : noted ≡ map read_of reads
+  pub given_is : given ≡ map read_of reads
   pub each : map (λ read. read.0) reads ≡ paths
   pub told : IfSome tree (λ t. reads ≡ answers_at t paths)
 
 -- Each path was read, and the arrivals are those that were found to be mail.
-pub record Reads (tree : Option Tree) (noted : List Given) (paths : List (List ℕ)) (added : List (List ℕ × Facts)) : Type 0 where
-  pub notes : NotesReads tree noted paths
+pub record Reads (tree : Option Tree) (given : List Given) (paths : List (List ℕ)) (added : List (List ℕ × Facts)) : Type 0 where
+  pub notes : NotesReads tree given paths
   pub mails : paths_of added ≡ flat_map mail_in notes.reads
   pub dated : AllByRecursion (λ arrival. IsDate arrival.1.date) added
   pub told : IfSome tree (λ t. added ≡ flat_map (arrival_at t) paths)
 
 -- Of the paths the first were read, in order. Each answer is noted, but for the last where the reading stopped there.
-pub record ReadsFirst (old new : ObservedMail) (noted : List Given) (paths : List (List ℕ)) : Type 0 where
+pub record ReadsFirst (old new : ObservedMail) (given : List Given) (paths : List (List ℕ)) : Type 0 where
   pub answered : ℕ
   pub asked : ℕ
   pub within : asked ≤ length paths
   pub last : (answered ≤ asked) × (asked ≤ answered + 1)
-  pub notes : NotesReads old.tree noted (take answered paths)
+  pub notes : NotesReads old.tree given (take answered paths)
   pub read : new.reads ≡ read_with old.reads (take asked paths)
 
 -- the facts that a read found
@@ -108,15 +108,15 @@ pub record AsksOnce (old new : ObservedMail) (path : List ℕ) : Type 0 where
   pub tree : new.tree ≡ old.tree
 
 -- Of the paths the first were read, and that is noted behind what was noted before.
-pub record HasRead (old new : ObservedMail) (old_noted new_noted : List Given) (paths : List (List ℕ)) : Type 0 where
-  pub noted : List Given
-  pub given_is : new_noted ≡ old_noted ++ noted
-  pub reading : ReadsFirst old new noted paths
+pub record HasRead (old new : ObservedMail) (old_given new_given : List Given) (paths : List (List ℕ)) : Type 0 where
+  pub given : List Given
+  pub given_is : new_given ≡ old_given ++ given
+  pub reading : ReadsFirst old new given paths
   pub tree : new.tree ≡ old.tree
 
 -- All the paths were read, and these arrivals were found.
-pub record HasReadAll (old new : ObservedMail) (old_noted new_noted : List Given) (paths : List (List ℕ)) (added : List (List ℕ × Facts)) : Type 0 where
-  pub noted : List Given
-  pub given_is : new_noted ≡ old_noted ++ noted
-  pub reading : Reads old.tree noted paths added
+pub record HasReadAll (old new : ObservedMail) (old_given new_given : List Given) (paths : List (List ℕ)) (added : List (List ℕ × Facts)) : Type 0 where
+  pub given : List Given
+  pub given_is : new_given ≡ old_given ++ given
+  pub reading : Reads old.tree given paths added
   pub mail : new ≡ after_reads old paths

@@ -13,23 +13,23 @@ use Rattle.nm_scan.specs.Reading.{ReadsFirst}
 
 -- What a `new` has found so far: the listing is noted; of the listed paths that the index lacks the first were read in batches,
 -- these mails were found in each, and these paths are left, of which an unfinished batch has read the first perhaps.
-pub record FindsBatches (tree : Option Tree) (files : List (List ℕ × Facts)) (noted : List Given) (batches : List (List (List ℕ × Facts))) (left : List (List ℕ)) : Type 0 where
+pub record FindsBatches (tree : Option Tree) (files : List (List ℕ × Facts)) (given : List Given) (batches : List (List (List ℕ × Facts))) (left : List (List ℕ)) : Type 0 where
   pub listed : List (List ℕ)
   pub listing : IsListing tree listed
   pub answers : List Given
   pub further : List Given
-  pub given_is : noted ≡ Listed listed ∷ (answers ++ further)
+  pub given_is : given ≡ Listed listed ∷ (answers ++ further)
   pub reading : ReadsBatches tree answers (to_read files listed) batches left
   pub unfinished : IsUnfinished tree further left
 
 -- The mail was listed, and of the listed paths that the index lacks the first were read, each once, in their order.
-pub record ListsAndReads (old new : ObservedMail) (files : List (List ℕ × Facts)) (noted : List Given) : Type 0 where
+pub record ListsAndReads (old new : ObservedMail) (files : List (List ℕ × Facts)) (given : List Given) : Type 0 where
   pub listed : List (List ℕ)
   pub listing : IsListing old.tree listed
   pub answers : List Given
-  pub given_is : noted ≡ Listed listed ∷ answers
+  pub given_is : given ≡ Listed listed ∷ answers
   pub reading : ReadsFirst old new answers (to_read files listed)
 
 -- What a `new` asks and notes, however it ends: a listing that is not noted, and no read; or a listing, and then reads.
 abbrev pub AsksNew : ObservedMail → ObservedMail → List (List ℕ × Facts) → List Given → Type 0
-AsksNew old new files noted = ((noted ≡ []) × (new.reads ≡ old.reads)) ⊎ ListsAndReads old new files noted
+AsksNew old new files given = ((given ≡ []) × (new.reads ≡ old.reads)) ⊎ ListsAndReads old new files given

@@ -17,8 +17,8 @@ pub fn left_after(left: u64, given: &[Given]) -> u64
     ensures { result ≡ left_after left given.now }
 {
     let mut rest = left;
-    'given: for noted in given {
-        rest = rest.saturating_sub(given_len(noted));
+    'given: for answer in given {
+        rest = rest.saturating_sub(given_len(answer));
     }
     rest
 }
@@ -50,15 +50,15 @@ pub fn read_bodies<M: Maildir>(
     mail: &mut M,
     paths: &[MailPath],
     left: u64,
-    noted: &mut Many<Given>,
+    given: &mut Many<Given>,
 ) -> Result<(), BodiesError>
-    ensures ok { OnOk result (HasReadBodies (M.observed mail.old) (M.observed mail.new) left noted.old noted.new paths.now) }
-    ensures err { IfErr result (StopsInBodies (M.observed mail.old) (M.observed mail.new) left noted.old noted.new paths.now) }
+    ensures ok { OnOk result (HasReadBodies (M.observed mail.old) (M.observed mail.new) left given.old given.new paths.now) }
+    ensures err { IfErr result (StopsInBodies (M.observed mail.old) (M.observed mail.new) left given.old given.new paths.now) }
     ensures cause { HasCauseOf is_folder_fault (M.observed mail.old).faults (M.observed mail.new).faults result }
 {
     let mut rest = left;
     'paths: for path in paths {
-        rest = read_body(mail, path, rest, noted)?;
+        rest = read_body(mail, path, rest, given)?;
     }
     Ok(())
 }
@@ -68,17 +68,17 @@ fn read_body<M: Maildir>(
     mail: &mut M,
     path: &MailPath,
     left: u64,
-    noted: &mut Many<Given>,
+    given: &mut Many<Given>,
 ) -> Result<u64, BodiesError>
-    ensures ok { IfOk result (λ rest. HasReadBody (M.observed mail.old) (M.observed mail.new) left rest noted.old noted.new path.now) }
-    ensures err { IfErr result (StopsAtBody (M.observed mail.old) (M.observed mail.new) left noted.old noted.new path.now) }
+    ensures ok { IfOk result (λ rest. HasReadBody (M.observed mail.old) (M.observed mail.new) left rest given.old given.new path.now) }
+    ensures err { IfErr result (StopsAtBody (M.observed mail.old) (M.observed mail.new) left given.old given.new path.now) }
     ensures cause { HasCauseOf is_folder_fault (M.observed mail.old).faults (M.observed mail.new).faults result }
 {
     let got = mail.read(path, left)?;
     let answer = body_of(got);
     let len = body_len(&answer);
     let over = is_over(left, &answer);
-    note(path, answer, noted)?;
+    note(path, answer, given)?;
     if over {
         return Err(BodiesError::ShowBytes);
     }
@@ -108,10 +108,10 @@ fn is_over(left: u64, answer: &ReadAnswer) -> bool
     }
 }
 
-fn note(path: &MailPath, answer: ReadAnswer, noted: &mut Many<Given>) -> Result<(), NoMemory>
-    ensures ok { OnOk result (noted.new ≡ noted.old ++ Given.Read path.now answer ∷ []) }
-    ensures err { OnErr result (noted.new ≡ noted.old) }
+fn note(path: &MailPath, answer: ReadAnswer, given: &mut Many<Given>) -> Result<(), NoMemory>
+    ensures ok { OnOk result (given.new ≡ given.old ++ Given.Read path.now answer ∷ []) }
+    ensures err { OnErr result (given.new ≡ given.old) }
 {
     let path = path.copy()?;
-    noted.push(Given::Read { path, answer })
+    given.push(Given::Read { path, answer })
 }

@@ -17,42 +17,42 @@ ghost use Rattle.nm_scan.specs.Reading.{Reads};
 
 /// Batches are the reads of their paths in one: none is read twice, none is passed over, and no mail of one is lost.
 pub fn batches_are_what_was_read()
-    ensures { (tree : Option Tree) (noted : List Given) (paths : List (List ℕ)) (batches : List (List (List ℕ × Facts))) (left : List (List ℕ))
-        → ReadsBatches tree noted paths batches left
-        → (read : List (List ℕ)) × (paths ≡ read ++ left) × Reads tree noted read (all_added batches) }
+    ensures { (tree : Option Tree) (given : List Given) (paths : List (List ℕ)) (batches : List (List (List ℕ × Facts))) (left : List (List ℕ))
+        → ReadsBatches tree given paths batches left
+        → (read : List (List ℕ)) × (paths ≡ read ++ left) × Reads tree given read (all_added batches) }
 {}
 
 /// Fewer than 256 paths with less than 67,108,864 bytes are read in one batch.
 pub fn few_small_files_are_one_batch()
-    ensures { (tree : Tree) (noted : List Given) (paths : List (List ℕ)) (batches : List (List (List ℕ × Facts))) → 0 < length paths
-        → length paths < full_answers → len_at_all tree paths < full_bytes → ReadsBatches (Some tree) noted paths batches [] → length batches ≡ 1 }
+    ensures { (tree : Tree) (given : List Given) (paths : List (List ℕ)) (batches : List (List (List ℕ × Facts))) → 0 < length paths
+        → length paths < full_answers → len_at_all tree paths < full_bytes → ReadsBatches (Some tree) given paths batches [] → length batches ≡ 1 }
 {}
 
 /// Before the first batch nothing is read.
 pub fn no_batch_is_read_at_first()
-    ensures { (mail : ObservedMail) (noted : List Given) (paths : List (List ℕ)) → HasReadBatches mail mail noted noted paths [] paths }
+    ensures { (mail : ObservedMail) (given : List Given) (paths : List (List ℕ)) → HasReadBatches mail mail given given paths [] paths }
 {}
 
 /// One batch more is read of the paths that are left.
 pub fn a_batch_more_is_read()
-    ensures { (old mid new : ObservedMail) (old_noted mid_noted new_noted : List Given) (paths : List (List ℕ)) (batches : List (List (List ℕ × Facts)))
-        (left rest : List (List ℕ)) (added : List (List ℕ × Facts)) → HasReadBatches old mid old_noted mid_noted paths batches left
-        → HasReadBatch mid new mid_noted new_noted left rest added
-        → HasReadBatches old new old_noted new_noted paths (batches ++ added ∷ []) rest }
+    ensures { (old mid new : ObservedMail) (old_given mid_given new_given : List Given) (paths : List (List ℕ)) (batches : List (List (List ℕ × Facts)))
+        (left rest : List (List ℕ)) (added : List (List ℕ × Facts)) → HasReadBatches old mid old_given mid_given paths batches left
+        → HasReadBatch mid new mid_given new_given left rest added
+        → HasReadBatches old new old_given new_given paths (batches ++ added ∷ []) rest }
 {}
 
 /// Between two batches no batch is unfinished.
 pub fn batches_are_finished()
-    ensures { (old new : ObservedMail) (old_noted new_noted : List Given) (paths : List (List ℕ)) (batches : List (List (List ℕ × Facts)))
-        (left : List (List ℕ)) → HasReadBatches old new old_noted new_noted paths batches left
-        → HasReadSome old new old_noted new_noted paths batches left }
+    ensures { (old new : ObservedMail) (old_given new_given : List Given) (paths : List (List ℕ)) (batches : List (List (List ℕ × Facts)))
+        (left : List (List ℕ)) → HasReadBatches old new old_given new_given paths batches left
+        → HasReadSome old new old_given new_given paths batches left }
 {}
 
 /// Where the reading stops in a batch, those before it stay.
 pub fn a_batch_that_stops_is_unfinished()
-    ensures { (old mid new : ObservedMail) (old_noted mid_noted new_noted : List Given) (paths : List (List ℕ)) (batches : List (List (List ℕ × Facts)))
-        (left : List (List ℕ)) → HasReadBatches old mid old_noted mid_noted paths batches left → StopsInBatch mid new mid_noted new_noted left
-        → HasReadSome old new old_noted new_noted paths batches left }
+    ensures { (old mid new : ObservedMail) (old_given mid_given new_given : List Given) (paths : List (List ℕ)) (batches : List (List (List ℕ × Facts)))
+        (left : List (List ℕ)) → HasReadBatches old mid old_given mid_given paths batches left → StopsInBatch mid new mid_given new_given left
+        → HasReadSome old new old_given new_given paths batches left }
 {}
 
 /// A walk that passes no limit lists what it met, each path once, and that is the mail of the tree: all of it, and nothing else.

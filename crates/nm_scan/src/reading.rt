@@ -32,13 +32,13 @@ pub fn read_batch<M: Maildir>(
     alloc: Global,
     mail: &mut M,
     paths: &mut IntoIter<MailPath, Global>,
-    noted: &mut Many<Given>,
+    given: &mut Many<Given>,
 ) -> Result<Many<Mail>, MailError>
     requires whole { into_iter_len paths.old ≡ length (into_iter_items paths.old) }
     requires some { 0 < length (into_iter_items paths.old) }
-    ensures ok { IfOk result (λ added. HasReadBatch (M.observed mail.old) (M.observed mail.new) noted.old noted.new
+    ensures ok { IfOk result (λ added. HasReadBatch (M.observed mail.old) (M.observed mail.new) given.old given.new
         (into_iter_items paths.old) (into_iter_items paths.new) added) }
-    ensures err { IfErr result (λ _. StopsInBatch (M.observed mail.old) (M.observed mail.new) noted.old noted.new (into_iter_items paths.old)) }
+    ensures err { IfErr result (λ _. StopsInBatch (M.observed mail.old) (M.observed mail.new) given.old given.new (into_iter_items paths.old)) }
     ensures whole { into_iter_len paths.new ≡ length (into_iter_items paths.new) }
     ensures cause { HasMailCause (M.observed mail.old).faults (M.observed mail.new).faults result }
 {
@@ -46,7 +46,7 @@ pub fn read_batch<M: Maildir>(
     let mut answers = FULL_ANSWERS;
     let mut bytes = FULL_BYTES;
     'files: while let Some(path) = next_path(paths, answers, bytes) {
-        let found = read_next(alloc, mail, path, noted, &mut added)?;
+        let found = read_next(alloc, mail, path, given, &mut added)?;
         answers = answers.saturating_sub(1);
         bytes = bytes.saturating_sub(found);
     }
@@ -72,20 +72,20 @@ fn read_next<M: Maildir>(
     alloc: Global,
     mail: &mut M,
     path: MailPath,
-    noted: &mut Many<Given>,
+    given: &mut Many<Given>,
     added: &mut Many<Mail>,
 ) -> Result<u64, MailError>
     ensures ok { IfOk result (λ _. (found : List (List ℕ × Facts)) × (added.new ≡ added.old ++ found)
-        × HasReadAll (M.observed mail.old) (M.observed mail.new) noted.old noted.new (path ∷ []) found) }
+        × HasReadAll (M.observed mail.old) (M.observed mail.new) given.old given.new (path ∷ []) found) }
     ensures bytes { IfOk result (λ len. IfSome (M.observed mail.old).tree (λ t. len ≡ len_at t path)) }
     ensures err { IfErr result (λ _. AsksOnce (M.observed mail.old) (M.observed mail.new) path) }
-    ensures unnoted { OnErr result (noted.new ≡ noted.old) }
+    ensures unnoted { OnErr result (given.new ≡ given.old) }
     ensures cause { HasMailCause (M.observed mail.old).faults (M.observed mail.new).faults result }
 {
     let got = mail.read(&path, MAX_BYTES)?;
     let len = found_len(&got);
     let (answer, found) = classify(alloc, got)?;
-    note(path, answer, found, noted, added)?;
+    note(path, answer, found, given, added)?;
     Ok(len)
 }
 
@@ -104,17 +104,17 @@ fn note(
     path: MailPath,
     answer: ReadAnswer,
     found: Option<Facts>,
-    noted: &mut Many<Given>,
+    given: &mut Many<Given>,
     added: &mut Many<Mail>,
 ) -> Result<(), NoMemory>
-    ensures ok { OnOk result ((noted.new ≡ noted.old ++ Given.Read path answer ∷ []) × (added.new ≡ added.old ++ arrival path found)) }
-    ensures err { OnErr result (noted.new ≡ noted.old) }
+    ensures ok { OnOk result ((given.new ≡ given.old ++ Given.Read path answer ∷ []) × (added.new ≡ added.old ++ arrival path found)) }
+    ensures err { OnErr result (given.new ≡ given.old) }
 {
     let copied = path.copy()?;
     if let Some(facts) = found {
         added.push((path, facts))?;
     }
-    noted.push(Given::Read {
+    given.push(Given::Read {
         path: copied,
         answer,
     })?;

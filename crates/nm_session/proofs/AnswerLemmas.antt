@@ -100,8 +100,8 @@ asks-early outcomes.DiskFault (asked.Request (requests.Show ask)) index moment l
 asks-early (outcomes.Closed fault) (asked.Request (requests.Show ask)) index moment left mail early = record { given_is = refl; same = refl }
 asks-early (outcomes.Limit limit) (asked.Request (requests.Show ask)) index moment left mail early = inl (record { given_is = refl; same = refl })
 asks-early outcomes.NoMemory (asked.Request (requests.Show ask)) index moment left mail early = inl (record { given_is = refl; same = refl })
-asks-early outcome (asked.Request (requests.Tag ask)) index moment left mail early = record { more = []; noted = refl; tree = no-renames mail.tree; reads = refl }
-asks-early outcome (asked.Request (requests.Restore ask)) index moment left mail early = record { more = []; noted = refl; tree = no-renames mail.tree; reads = refl }
+asks-early outcome (asked.Request (requests.Tag ask)) index moment left mail early = record { more = []; given_is = refl; tree = no-renames mail.tree; reads = refl }
+asks-early outcome (asked.Request (requests.Restore ask)) index moment left mail early = record { more = []; given_is = refl; tree = no-renames mail.tree; reads = refl }
 asks-early outcome (asked.Usage word kind) index moment left mail early = record { given_is = refl; same = refl }
 
 pub made-nothing : (writer : WriterState) → HasMade writer [] [] writer

@@ -90,12 +90,12 @@ some-tree old new left paths noted (inr (inr h)) = stop-tree old new left noted 
 -- what a reading passed
 
 read-passes : (old new : ObservedMail) (left : ℕ) (noted : List Given) (paths : List (List ℕ)) → HasReadBodies old new left [] noted paths → passes_bytes left noted ≡ false
-read-passes old new left noted paths h = ap (passes_bytes left) h.given_is ∙ passes-none old.tree left h.noted paths h.bodies
+read-passes old new left noted paths h = ap (passes_bytes left) h.given_is ∙ passes-none old.tree left h.given paths h.bodies
 
 stop-passes : (old new : ObservedMail) (left : ℕ) (noted : List Given) (paths : List (List ℕ)) → StopsInBodies old new left [] noted paths stops.ShowBytes → passes_bytes left noted ≡ true
 stop-passes old new left noted paths h =
-    ap (passes_bytes left) (h.stop.given_is ∙ (ap (λ (l : List Given). l ++ h.stop.noted) h.first.given_is ∙ ap (λ (l : List Given). h.first.noted ++ l) h.stop.why.1))
-    ∙ passes-some old.tree left h.first.noted h.before h.path h.first.bodies h.stop.why.2
+    ap (passes_bytes left) (h.stop.given_is ∙ (ap (λ (l : List Given). l ++ h.stop.given) h.first.given_is ∙ ap (λ (l : List Given). h.first.given ++ l) h.stop.why.1))
+    ∙ passes-some old.tree left h.first.given h.before h.path h.first.bodies h.stop.why.2
 
 module _ (moment : ℤ) (writer : WriterState) (old_mail new_mail : ObservedMail) (disk left : ℕ) (line : ScriptLine) (noted : List Given) (ask : ShowAsk) (query : Query)
     (is : parse_line line ≡ asked.Request (requests.Show ask)) (read : answer_of ask.query ≡ Ok query) where

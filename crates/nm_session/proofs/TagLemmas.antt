@@ -258,7 +258,7 @@ module _ (moment : ℤ) (old new : Place) (line : ScriptLine) (noted : List Give
       }
 
   tree : new.mail.tree ≡ tree_after_line (asked.Request request) noted old.mail.tree
-  tree = tree-is old.mail.tree new.mail.tree asks.more noted asks.noted asks.tree ∙ after-in request kind noted old.mail.tree
+  tree = tree-is old.mail.tree new.mail.tree asks.more noted asks.given_is asks.tree ∙ after-in request kind noted old.mail.tree
 
   asks-so : (outcome : Outcome) → AsksMail outcome (asked.Request request) index moment old.left old.mail new.mail noted
   asks-so outcome = asks-in request kind outcome index moment old.left old.mail new.mail noted asks

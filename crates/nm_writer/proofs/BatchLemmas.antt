@@ -36,7 +36,7 @@ unread old new due faults before now (Err errors.NoMemory) after same = same
 -- one batch
 
 pub after-batch : (before now : Reading) (paths rest : List (List ℕ)) (added : List (List ℕ × Facts)) (old new : WriterState) (faults : ℕ) (result : Result (Unit {0}) WriteError)
-    → HasReadBatch before.mail now.mail before.noted now.noted paths rest added → IsAfterCommits old (batch_commit old.shown added) faults result new → IsAfterBatch before now paths rest old faults result new
+    → HasReadBatch before.mail now.mail before.given now.given paths rest added → IsAfterCommits old (batch_commit old.shown added) faults result new → IsAfterBatch before now paths rest old faults result new
 after-batch before now paths rest added old new faults (Ok done) read after = (added, read, after)
 after-batch before now paths rest added old new faults (Err errors.MailFault) read after = absurd after
 after-batch before now paths rest added old new faults (Err errors.DiskFault) read after = (added, read, after)
@@ -58,24 +58,24 @@ commits-more index (first ∷ batches) added =
 -- Batches go on: the first of the paths were read, and a commit was made of each batch with mail.
 pub record InBatches (before now : Reading) (paths left : List (List ℕ)) (old new : WriterState) : Type 0 where
   pub batches : Batches
-  pub read : HasReadBatches before.mail now.mail before.noted now.noted paths batches left
+  pub read : HasReadBatches before.mail now.mail before.given now.given paths batches left
   pub made : HasCommitted old (batch_commits old.shown batches) new
 
 -- the laws by which they go on
 pub record Laws : Type 0 where
   pub fits : (index : Base) (listed : List (List ℕ)) (batches : Batches) → AreAdded index.files (all_added batches) → FitInTurn index (new_commits index listed batches)
-  pub first : (mail : ObservedMail) (noted : List Given) (paths : List (List ℕ)) → HasReadBatches mail mail noted noted paths [] paths
-  pub more : (old mid new : ObservedMail) (old_noted mid_noted new_noted : List Given) (paths : List (List ℕ)) (batches : Batches) (left rest : List (List ℕ)) (added : List (List ℕ × Facts))
-      → HasReadBatches old mid old_noted mid_noted paths batches left → HasReadBatch mid new mid_noted new_noted left rest added → HasReadBatches old new old_noted new_noted paths (batches ++ added ∷ []) rest
-  pub finished : (old new : ObservedMail) (old_noted new_noted : List Given) (paths : List (List ℕ)) (batches : Batches) (left : List (List ℕ)) → HasReadBatches old new old_noted new_noted paths batches left
-      → HasReadSome old new old_noted new_noted paths batches left
-  pub unfinished : (old mid new : ObservedMail) (old_noted mid_noted new_noted : List Given) (paths : List (List ℕ)) (batches : Batches) (left : List (List ℕ)) → HasReadBatches old mid old_noted mid_noted paths batches left
-      → StopsInBatch mid new mid_noted new_noted left → HasReadSome old new old_noted new_noted paths batches left
+  pub first : (mail : ObservedMail) (given : List Given) (paths : List (List ℕ)) → HasReadBatches mail mail given given paths [] paths
+  pub more : (old mid new : ObservedMail) (old_given mid_given new_given : List Given) (paths : List (List ℕ)) (batches : Batches) (left rest : List (List ℕ)) (added : List (List ℕ × Facts))
+      → HasReadBatches old mid old_given mid_given paths batches left → HasReadBatch mid new mid_given new_given left rest added → HasReadBatches old new old_given new_given paths (batches ++ added ∷ []) rest
+  pub finished : (old new : ObservedMail) (old_given new_given : List Given) (paths : List (List ℕ)) (batches : Batches) (left : List (List ℕ)) → HasReadBatches old new old_given new_given paths batches left
+      → HasReadSome old new old_given new_given paths batches left
+  pub unfinished : (old mid new : ObservedMail) (old_given mid_given new_given : List Given) (paths : List (List ℕ)) (batches : Batches) (left : List (List ℕ)) → HasReadBatches old mid old_given mid_given paths batches left
+      → StopsInBatch mid new mid_given new_given left → HasReadSome old new old_given new_given paths batches left
 
 module _ (laws : Laws) where
   pub in_batches : (before : Reading) (paths left : List (List ℕ)) (old : WriterState) → left ≡ paths → InBatches before before paths left old old
   in_batches before paths left old same =
-      subst (λ (l : List (List ℕ)). InBatches before before paths l old old) (sym same) (record { batches = []; read = laws.first before.mail before.noted paths; made = none-made old })
+      subst (λ (l : List (List ℕ)). InBatches before before paths l old old) (sym same) (record { batches = []; read = laws.first before.mail before.given paths; made = none-made old })
 
   module _ (before mid : Reading) (paths left : List (List ℕ)) (old w : WriterState) (h : InBatches before mid paths left old w) where
     more-are : (added : List (List ℕ × Facts)) → batch_commits old.shown (h.batches ++ added ∷ []) ≡ batch_commits old.shown h.batches ++ batch_commit w.shown added
@@ -84,7 +84,7 @@ module _ (laws : Laws) where
     -- the commits of one batch more fit
     pub next_fits : AreUnknown old.shown.files paths → BatchFits w.shown mid left
     next_fits unknown new rest added k =
-        let all = laws.more before.mail mid.mail new.mail before.noted mid.noted new.noted paths h.batches left rest added h.read k in
+        let all = laws.more before.mail mid.mail new.mail before.given mid.given new.given paths h.batches left rest added h.read k in
         let are : AreAdded old.shown.files (all_added (h.batches ++ added ∷ [])) =
         are-added old.shown.files paths all.read rest (all_added (h.batches ++ added ∷ [])) all.all.reading.notes.reads unknown all.paths_are all.all.reading.notes.each all.all.reading.mails all.all.reading.dated in
         let fit : FitInTurn old.shown (batch_commits old.shown h.batches ++ batch_commit w.shown added) =
@@ -95,7 +95,7 @@ module _ (laws : Laws) where
     pub next_in_batches : (now : Reading) (rest : List (List ℕ)) (new : WriterState) (faults : ℕ) (done : Unit {0}) → IsAfterBatch {T = Unit {0}} mid now left rest w faults (Ok done) new → InBatches before now paths rest old new
     next_in_batches now rest new faults done (added, k, made) = record {
       batches = h.batches ++ added ∷ [];
-      read = laws.more before.mail mid.mail now.mail before.noted mid.noted now.noted paths h.batches left rest added h.read k;
+      read = laws.more before.mail mid.mail now.mail before.given mid.given now.given paths h.batches left rest added h.read k;
       made = subst (λ (l : List Commit). HasCommitted old l new) (sym (more-are added)) (made-made old w new (batch_commits old.shown h.batches) (batch_commit w.shown added) h.made made);
     }
 
@@ -103,18 +103,18 @@ module _ (laws : Laws) where
     pub all_batches : (faults : ℕ) (done : Unit {0}) → left ≡ [] → IsAfterBatches {T = Unit {0}} before mid paths old faults (Ok done) w
     all_batches faults done none = (
       h.batches,
-      subst (λ (l : List (List ℕ)). HasReadSome before.mail mid.mail before.noted mid.noted paths h.batches l) none (laws.finished before.mail mid.mail before.noted mid.noted paths h.batches left h.read),
+      subst (λ (l : List (List ℕ)). HasReadSome before.mail mid.mail before.given mid.given paths h.batches l) none (laws.finished before.mail mid.mail before.given mid.given paths h.batches left h.read),
       h.made,
     )
 
-    some-finished : (now : Reading) (rest : List (List ℕ)) (added : List (List ℕ × Facts)) → HasReadBatch mid.mail now.mail mid.noted now.noted left rest added
-        → HasReadSome before.mail now.mail before.noted now.noted paths (h.batches ++ added ∷ []) rest
+    some-finished : (now : Reading) (rest : List (List ℕ)) (added : List (List ℕ × Facts)) → HasReadBatch mid.mail now.mail mid.given now.given left rest added
+        → HasReadSome before.mail now.mail before.given now.given paths (h.batches ++ added ∷ []) rest
     some-finished now rest added k =
-        laws.finished before.mail now.mail before.noted now.noted paths (h.batches ++ added ∷ []) rest
-        (laws.more before.mail mid.mail now.mail before.noted mid.noted now.noted paths h.batches left rest added h.read k)
+        laws.finished before.mail now.mail before.given now.given paths (h.batches ++ added ∷ []) rest
+        (laws.more before.mail mid.mail now.mail before.given mid.given now.given paths h.batches left rest added h.read k)
 
-    some-unfinished : (now : Reading) → StopsInBatch mid.mail now.mail mid.noted now.noted left → HasReadSome before.mail now.mail before.noted now.noted paths h.batches left
-    some-unfinished now k = laws.unfinished before.mail mid.mail now.mail before.noted mid.noted now.noted paths h.batches left h.read k
+    some-unfinished : (now : Reading) → StopsInBatch mid.mail now.mail mid.given now.given left → HasReadSome before.mail now.mail before.given now.given paths h.batches left
+    some-unfinished now k = laws.unfinished before.mail mid.mail now.mail before.given mid.given now.given paths h.batches left h.read k
 
     refused : (new : WriterState) (added : List (List ℕ × Facts)) (faults : ℕ) (error : WriteError) → IsAfterCommits {T = Unit {0}} w (batch_commit w.shown added) faults (Err error) new
         → IsAfterCommits {T = Unit {0}} old (batch_commits old.shown (h.batches ++ added ∷ [])) faults (Err error) new
@@ -125,11 +125,11 @@ module _ (laws : Laws) where
     none-stopped : (new : WriterState) → new ≡ w → HasCommitted old (batch_commits old.shown h.batches) new
     none-stopped new same = subst (λ (x : WriterState). HasCommitted old (batch_commits old.shown h.batches) x) (sym same) h.made
 
-    stopped-in : (now : Reading) (new : WriterState) (faults : ℕ) (l : List (List ℕ)) → left ≡ l → 0 < length l → StopsInBatch mid.mail now.mail mid.noted now.noted left → new ≡ w
+    stopped-in : (now : Reading) (new : WriterState) (faults : ℕ) (l : List (List ℕ)) → left ≡ l → 0 < length l → StopsInBatch mid.mail now.mail mid.given now.given left → new ≡ w
         → IsAfterBatches {T = Unit {0}} before now paths old faults (Err errors.MailFault) new
     stopped-in now new faults [] is some k same = absurd (omega (arith, some))
     stopped-in now new faults (path ∷ l) is some k same =
-        (h.batches, path, l, subst (λ (p : List (List ℕ)). HasReadSome before.mail now.mail before.noted now.noted paths h.batches p) is (some-unfinished now k), none-stopped new same)
+        (h.batches, path, l, subst (λ (p : List (List ℕ)). HasReadSome before.mail now.mail before.given now.given paths h.batches p) is (some-unfinished now k), none-stopped new same)
 
     -- a batch is refused, or the reading stops in it
     pub refused_batches : (now : Reading) (rest : List (List ℕ)) (new : WriterState) (faults : ℕ) (error : WriteError) → 0 < length left → IsAfterBatch {T = Unit {0}} mid now left rest w faults (Err error) new
@@ -153,7 +153,7 @@ none_left (path ∷ paths) none = absurd (omega (arith, none))
 
 -- what was read, however it ended
 pub first-read : {T : Type 0} (before now : Reading) (paths : List (List ℕ)) (old new : WriterState) (faults : ℕ) (result : Result T WriteError) → IsAfterBatches before now paths old faults result new
-    → HasRead before.mail now.mail before.noted now.noted paths
+    → HasRead before.mail now.mail before.given now.given paths
 first-read before now paths old new faults (Ok done) (batches, some, made) = some.first
 first-read before now paths old new faults (Err errors.MailFault) (batches, path, left, some, made) = some.first
 first-read before now paths old new faults (Err errors.DiskFault) (batches, left, some, fails) = some.first

@@ -113,8 +113,8 @@ listed-mail false h m still = refl
 
 -- the laws on what a `new` reads and leaves
 pub record Laws : Type 0 where
-  pub in_one : (tree : Option Tree) (noted : List Given) (paths : List (List ℕ)) (batches : List (List File)) (left : List (List ℕ)) → ReadsBatches tree noted paths batches left
-      → (read : List (List ℕ)) × (paths ≡ read ++ left) × Reads tree noted read (all_added batches)
+  pub in_one : (tree : Option Tree) (given : List Given) (paths : List (List ℕ)) (batches : List (List File)) (left : List (List ℕ)) → ReadsBatches tree given paths batches left
+      → (read : List (List ℕ)) × (paths ≡ read ++ left) × Reads tree given read (all_added batches)
   pub after : (index : Base) (listed : List (List ℕ)) (batches : List (List File)) → (folded index (new_commits index listed batches)).files ≡ files_after_new index.files listed (all_added batches)
   pub leaves : (index : Base) (listed : List (List ℕ)) (batches : List (List File)) (path : List ℕ) → AllByRecursion (λ arrived. IsTrue (has_text listed arrived)) (paths_of (all_added batches))
       → has_path (folded index (new_commits index listed batches)).files path ≡ (has_text listed path && (has_path index.files path || has_path (all_added batches) path))

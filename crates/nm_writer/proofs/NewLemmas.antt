@@ -32,16 +32,16 @@ Batches = List (List (List ℕ × Facts))
 -- the laws on batches that were read
 pub record Laws : Type 0 where
   pub fits : (index : Base) (listed : List (List ℕ)) (batches : Batches) → AreAdded index.files (all_added batches) → FitInTurn index (new_commits index listed batches)
-  pub in_one : (tree : Option Tree) (noted : List Given) (paths : List (List ℕ)) (batches : Batches) (left : List (List ℕ)) → ReadsBatches tree noted paths batches left
-      → (read : List (List ℕ)) × (paths ≡ read ++ left) × Reads tree noted read (all_added batches)
+  pub in_one : (tree : Option Tree) (given : List Given) (paths : List (List ℕ)) (batches : Batches) (left : List (List ℕ)) → ReadsBatches tree given paths batches left
+      → (read : List (List ℕ)) × (paths ≡ read ++ left) × Reads tree given read (all_added batches)
 
 -- what is unknown was listed
-pub unknown-listed : (tree : Option Tree) (files : List (List ℕ × Facts)) (noted : List Given) (compared : Compared) → HasListed tree files noted compared → AreUnknown files compared.unknown
-unknown-listed tree files noted compared h = subst (AreUnknown files) (sym h.unknown_are) (are-unknown files h.listed h.listing.rising)
+pub unknown-listed : (tree : Option Tree) (files : List (List ℕ × Facts)) (given : List Given) (compared : Compared) → HasListed tree files given compared → AreUnknown files compared.unknown
+unknown-listed tree files given compared h = subst (AreUnknown files) (sym h.unknown_are) (are-unknown files h.listed h.listing.rising)
 
-module _ (laws : Laws) (before now : Reading) (compared : Compared) (old : WriterState) (h : HasListed before.mail.tree old.shown.files before.noted compared) where
+module _ (laws : Laws) (before now : Reading) (compared : Compared) (old : WriterState) (h : HasListed before.mail.tree old.shown.files before.given compared) where
   -- what was found so far
-  found : (batches : Batches) (left : List (List ℕ)) → HasReadSome before.mail now.mail before.noted now.noted compared.unknown batches left → FindsBatches before.mail.tree old.shown.files now.noted batches left
+  found : (batches : Batches) (left : List (List ℕ)) → HasReadSome before.mail now.mail before.given now.given compared.unknown batches left → FindsBatches before.mail.tree old.shown.files now.given batches left
   found batches left some = record {
     listed = h.listed;
     listing = h.listing;
@@ -52,24 +52,24 @@ module _ (laws : Laws) (before now : Reading) (compared : Compared) (old : Write
     unfinished = some.unfinished;
   }
 
-  all-fit : (batches : Batches) (left : List (List ℕ)) → HasReadSome before.mail now.mail before.noted now.noted compared.unknown batches left → (listed : List (List ℕ)) → FitInTurn old.shown (new_commits old.shown listed batches)
+  all-fit : (batches : Batches) (left : List (List ℕ)) → HasReadSome before.mail now.mail before.given now.given compared.unknown batches left → (listed : List (List ℕ)) → FitInTurn old.shown (new_commits old.shown listed batches)
   all-fit batches left some listed =
       let all = laws.in_one before.mail.tree some.answers compared.unknown batches left some.reading in
       laws.fits old.shown listed batches
-      (are-added old.shown.files compared.unknown all.0 left (all_added batches) all.2.notes.reads (unknown-listed before.mail.tree old.shown.files before.noted compared h) all.1 all.2.notes.each all.2.mails all.2.dated)
+      (are-added old.shown.files compared.unknown all.0 left (all_added batches) all.2.notes.reads (unknown-listed before.mail.tree old.shown.files before.given compared h) all.1 all.2.notes.each all.2.mails all.2.dated)
 
   so_far-fit : (batches : Batches) (left listed : List (List ℕ)) → FitInTurn old.shown (new_commits old.shown listed batches) → FitInTurn old.shown (commits_so_far old.shown listed batches left)
   so_far-fit batches [] listed fit = fit
   so_far-fit batches (path ∷ left) listed fit = fit-first old.shown (batch_commits old.shown batches) (removed_commit (folded old.shown (batch_commits old.shown batches)) old.shown.files listed) fit
 
   -- the commits that are due of it
-  are-new : (batches : Batches) (left : List (List ℕ)) → HasReadSome before.mail now.mail before.noted now.noted compared.unknown batches left
-      → AreNewCommits before.mail.tree old.shown now.noted left (commits_so_far old.shown (listed_in now.noted) batches left)
+  are-new : (batches : Batches) (left : List (List ℕ)) → HasReadSome before.mail now.mail before.given now.given compared.unknown batches left
+      → AreNewCommits before.mail.tree old.shown now.given left (commits_so_far old.shown (listed_in now.given) batches left)
   are-new batches left some = record {
     batches = batches;
     found = found batches left some;
     due_are = refl;
-    fit = so_far-fit batches left (listed_in now.noted) (all-fit batches left some (listed_in now.noted));
+    fit = so_far-fit batches left (listed_in now.given) (all-fit batches left some (listed_in now.given));
   }
 
   so_far-refused : (batches : Batches) (left listed : List (List ℕ)) (new : WriterState) (faults : ℕ) (error : WriteError) → IsAfterCommits {T = Unit {0}} old (batch_commits old.shown batches) faults (Err error) new
@@ -78,61 +78,61 @@ module _ (laws : Laws) (before now : Reading) (compared : Compared) (old : Write
   so_far-refused batches (path ∷ left) listed new faults error after = after
 
   -- the batches were not all read, or not all their commits made
-  pub after-refused : (new : WriterState) (faults : ℕ) (error : WriteError) → IsAfterBatches {T = Unit {0}} before now compared.unknown old faults (Err error) new → IsAfterNew before.mail.tree now.noted old faults (Err error) new
+  pub after-refused : (new : WriterState) (faults : ℕ) (error : WriteError) → IsAfterBatches {T = Unit {0}} before now compared.unknown old faults (Err error) new → IsAfterNew before.mail.tree now.given old faults (Err error) new
   after-refused new faults errors.MailFault (batches, path, left, some, made) = inr (path, left, batch_commits old.shown batches, are-new batches (path ∷ left) some, made)
   after-refused new faults errors.DiskFault (batches, left, some, fails) =
-      (left, commits_so_far old.shown (listed_in now.noted) batches left, are-new batches left some, so_far-refused batches left (listed_in now.noted) new faults errors.DiskFault fails)
+      (left, commits_so_far old.shown (listed_in now.given) batches left, are-new batches left some, so_far-refused batches left (listed_in now.given) new faults errors.DiskFault fails)
   after-refused new faults (errors.Closed fault) after = absurd after
   after-refused new faults (errors.Limit limit) (batches, left, some, passes) =
-      inr (left, commits_so_far old.shown (listed_in now.noted) batches left, are-new batches left some, so_far-refused batches left (listed_in now.noted) new faults (errors.Limit limit) passes)
+      inr (left, commits_so_far old.shown (listed_in now.given) batches left, are-new batches left some, so_far-refused batches left (listed_in now.given) new faults (errors.Limit limit) passes)
   after-refused new faults errors.NoMemory (batches, left, some, stops) =
-      inr (left, commits_so_far old.shown (listed_in now.noted) batches left, are-new batches left some, so_far-refused batches left (listed_in now.noted) new faults errors.NoMemory stops)
+      inr (left, commits_so_far old.shown (listed_in now.given) batches left, are-new batches left some, so_far-refused batches left (listed_in now.given) new faults errors.NoMemory stops)
 
   -- they were
-  module _ (mid : WriterState) (batches : Batches) (some : HasReadSome before.mail now.mail before.noted now.noted compared.unknown batches []) (made : HasCommitted old (batch_commits old.shown batches) mid) where
-    gone-are : compared.gone ≡ gone old.shown.files (listed_in now.noted)
+  module _ (mid : WriterState) (batches : Batches) (some : HasReadSome before.mail now.mail before.given now.given compared.unknown batches []) (made : HasCommitted old (batch_commits old.shown batches) mid) where
+    gone-are : compared.gone ≡ gone old.shown.files (listed_in now.given)
     gone-are = h.gone_are ∙ ap (λ (l : List Given). gone old.shown.files (listed_in l)) (sym (some.given_is ∙ ap (λ (l : List Given). l ++ (some.answers ++ some.further)) h.given_is))
 
-    ids-are : compared.gone_ids ≡ message_ids (removed_files old.shown.files (listed_in now.noted))
+    ids-are : compared.gone_ids ≡ message_ids (removed_files old.shown.files (listed_in now.given))
     ids-are = h.ids_are ∙ ap (λ (l : List Given). message_ids (removed_files old.shown.files (listed_in l))) (sym (some.given_is ∙ ap (λ (l : List Given). l ++ (some.answers ++ some.further)) h.given_is))
 
     -- the commit of what is gone, on the index that the batches leave
     abbrev last : List Commit
-    last = removed_commit (folded old.shown (batch_commits old.shown batches)) old.shown.files (listed_in now.noted)
+    last = removed_commit (folded old.shown (batch_commits old.shown batches)) old.shown.files (listed_in now.given)
 
     last-is : commit_of mid.shown (map drop_of compared.gone) compared.gone_ids ≡ last
     last-is =
         ap (λ (b : Base). commit_of b (map drop_of compared.gone) compared.gone_ids) made.shown
         ∙ (ap (λ (l : List (List ℕ)). commit_of (folded old.shown (batch_commits old.shown batches)) (map drop_of l) compared.gone_ids) gone-are
-        ∙ ap (λ (l : List (List ℕ)). commit_of (folded old.shown (batch_commits old.shown batches)) (map drop_of (gone old.shown.files (listed_in now.noted))) l) ids-are)
+        ∙ ap (λ (l : List (List ℕ)). commit_of (folded old.shown (batch_commits old.shown batches)) (map drop_of (gone old.shown.files (listed_in now.given))) l) ids-are)
 
     pub gone-fit : FitInTurn mid.shown (commit_of mid.shown (map drop_of compared.gone) compared.gone_ids)
     gone-fit =
         subst (FitInTurn mid.shown) (sym last-is)
-        (subst (λ (b : Base). FitInTurn b last) (sym made.shown) (fit-second old.shown (batch_commits old.shown batches) last (all-fit batches [] some (listed_in now.noted))))
+        (subst (λ (b : Base). FitInTurn b last) (sym made.shown) (fit-second old.shown (batch_commits old.shown batches) last (all-fit batches [] some (listed_in now.given))))
 
     all-made : (new : WriterState) (faults : ℕ) (result : Result NewReport WriteError) → IsAfterCommits mid (commit_of mid.shown (map drop_of compared.gone) compared.gone_ids) faults result new
-        → IsAfterCommits old (new_commits old.shown (listed_in now.noted) batches) faults result new
+        → IsAfterCommits old (new_commits old.shown (listed_in now.given) batches) faults result new
     all-made new faults result after = then-made old mid new (batch_commits old.shown batches) last faults result made (subst (λ (l : List Commit). IsAfterCommits mid l faults result new) last-is after)
 
-    after-all : (new : WriterState) (faults : ℕ) (result : Result NewReport WriteError) → IsAfterCommits old (new_commits old.shown (listed_in now.noted) batches) faults result new
-        → IfOk result (λ report. report ≡ report_of old.shown.files new.shown.files now.noted) → IsAfterNew before.mail.tree now.noted old faults result new
-    after-all new faults (Ok report) after reported = ((new_commits old.shown (listed_in now.noted) batches, are-new batches [] some, after), reported)
+    after-all : (new : WriterState) (faults : ℕ) (result : Result NewReport WriteError) → IsAfterCommits old (new_commits old.shown (listed_in now.given) batches) faults result new
+        → IfOk result (λ report. report ≡ report_of old.shown.files new.shown.files now.given) → IsAfterNew before.mail.tree now.given old faults result new
+    after-all new faults (Ok report) after reported = ((new_commits old.shown (listed_in now.given) batches, are-new batches [] some, after), reported)
     after-all new faults (Err errors.MailFault) after reported = absurd after
-    after-all new faults (Err errors.DiskFault) after reported = ([], new_commits old.shown (listed_in now.noted) batches, are-new batches [] some, after)
+    after-all new faults (Err errors.DiskFault) after reported = ([], new_commits old.shown (listed_in now.given) batches, are-new batches [] some, after)
     after-all new faults (Err (errors.Closed fault)) after reported = absurd after
-    after-all new faults (Err (errors.Limit limit)) after reported = inr ([], new_commits old.shown (listed_in now.noted) batches, are-new batches [] some, after)
-    after-all new faults (Err errors.NoMemory) after reported = inr ([], new_commits old.shown (listed_in now.noted) batches, are-new batches [] some, after)
+    after-all new faults (Err (errors.Limit limit)) after reported = inr ([], new_commits old.shown (listed_in now.given) batches, are-new batches [] some, after)
+    after-all new faults (Err errors.NoMemory) after reported = inr ([], new_commits old.shown (listed_in now.given) batches, are-new batches [] some, after)
 
-    report-of : (new : WriterState) (result : Result NewReport WriteError) (removed : ℕ) (was : Base) (lent : List Given) → removed ≡ length compared.gone → was ≡ old.shown → lent ≡ now.noted
-        → IfOk result (λ report. report ≡ report_with removed was.files new.shown.files lent) → IfOk result (λ report. report ≡ report_of old.shown.files new.shown.files now.noted)
-    report-of new (Err error) removed was lent count same noted said = tt
-    report-of new (Ok report) removed was lent count same noted said =
+    report-of : (new : WriterState) (result : Result NewReport WriteError) (removed : ℕ) (was : Base) (lent : List Given) → removed ≡ length compared.gone → was ≡ old.shown → lent ≡ now.given
+        → IfOk result (λ report. report ≡ report_with removed was.files new.shown.files lent) → IfOk result (λ report. report ≡ report_of old.shown.files new.shown.files now.given)
+    report-of new (Err error) removed was lent count same given said = tt
+    report-of new (Ok report) removed was lent count same given said =
         said
         ∙ (ap (λ n. report_with n was.files new.shown.files lent) (count ∙ ap length gone-are)
-        ∙ (ap (λ (b : Base). report_with (length (gone old.shown.files (listed_in now.noted))) b.files new.shown.files lent) same
-        ∙ ap (λ (l : List Given). report_with (length (gone old.shown.files (listed_in now.noted))) old.shown.files new.shown.files l) noted))
+        ∙ (ap (λ (b : Base). report_with (length (gone old.shown.files (listed_in now.given))) b.files new.shown.files lent) same
+        ∙ ap (λ (l : List Given). report_with (length (gone old.shown.files (listed_in now.given))) old.shown.files new.shown.files l) given))
 
-    pub after-let_go : (new : WriterState) (faults : ℕ) (result : Result NewReport WriteError) (removed : ℕ) (was : Base) (lent : List Given) → removed ≡ length compared.gone → was ≡ old.shown → lent ≡ now.noted
-        → IsAfterCommits mid (commit_of mid.shown (map drop_of compared.gone) compared.gone_ids) faults result new → IfOk result (λ report. report ≡ report_with removed was.files new.shown.files lent) → IsAfterNew before.mail.tree now.noted old faults result new
-    after-let_go new faults result removed was lent count same noted after said = after-all new faults result (all-made new faults result after) (report-of new result removed was lent count same noted said)
+    pub after-let_go : (new : WriterState) (faults : ℕ) (result : Result NewReport WriteError) (removed : ℕ) (was : Base) (lent : List Given) → removed ≡ length compared.gone → was ≡ old.shown → lent ≡ now.given
+        → IsAfterCommits mid (commit_of mid.shown (map drop_of compared.gone) compared.gone_ids) faults result new → IfOk result (λ report. report ≡ report_with removed was.files new.shown.files lent) → IsAfterNew before.mail.tree now.given old faults result new
+    after-let_go new faults result removed was lent count same given after said = after-all new faults result (all-made new faults result after) (report-of new result removed was lent count same given said)

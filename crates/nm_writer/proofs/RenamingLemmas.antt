@@ -19,11 +19,11 @@ use Rattle.nm_maildir.specs.declared.answers.MailError.{MailError}
 use Rattle.nm_maildir.specs.declared.answers.Renamed.{Renamed}
 use Rattle.nm_maildir.specs.declared.answers.Renamed.TheVariants as answers
 use Rattle.nm_maildir.specs.declared.given.Given.{Given}
-use Rattle.nm_maildir.specs.declared.given.Given.TheVariants as given
+use Rattle.nm_maildir.specs.declared.given.Given.TheVariants as givens
 use Rattle.nm_answer.specs.Renaming.{IsFree, IsLong, IsTaken, Outcome, Target, WasLong, WasTaken, WasTried, answer_given, files_moved, note_of, outcomes, target_of, unmoved_in}
 use Rattle.nm_plan.specs.Moving.{move_given, move_if}
 use Rattle.nm_answer.specs.declared.sync_report.Unmoved.{Unmoved}
-use Rattle.nm_writer.specs.Renamed.{AnswersAlong, AreTried, AsksRenames, HasPlaces, IsDone, IsKept, IsLeft, TreesAlong, files_noted, outcomes_noted}
+use Rattle.nm_writer.specs.Renamed.{AnswersAlong, AreTried, AsksRenames, HasPlaces, IsDone, IsKept, IsLeft, TreesAlong, files_given, outcomes_given}
 use Rattle.nm_writer.specs.declared.renaming.Renaming.{Renaming}
 use Rattle.nm_plan.specs.SetLaws.{bytes_same}
 
@@ -34,8 +34,8 @@ flat-append : {A B : Type 0} (f : A → List B) (xs ys : List A) → flat_map f 
 flat-append f [] ys = refl
 flat-append {A} {B} f (x ∷ xs) ys = ap (λ (l : List B). f x ++ l) (flat-append f xs ys) ∙ sym (append_assoc (f x) (flat_map f xs) (flat_map f ys))
 
-noted-append : (files : List File) (xs ys : List Given) → files_noted files (xs ++ ys) ≡ files_noted (files_noted files xs) ys
-noted-append files xs ys = ap (fold changed files) (flat-append move_given xs ys) ∙ fold-append changed files (flat_map move_given xs) (flat_map move_given ys)
+given-append : (files : List File) (xs ys : List Given) → files_given files (xs ++ ys) ≡ files_given (files_given files xs) ys
+given-append files xs ys = ap (fold changed files) (flat-append move_given xs ys) ∙ fold-append changed files (flat_map move_given xs) (flat_map move_given ys)
 
 -- what comes of a rename whose target is this one
 abbrev at_target : List File → List ℕ → List Rename → List Renamed → Target → List Outcome
@@ -61,73 +61,73 @@ none-left [] h = refl
 none-left (rename ∷ list) h = absurd (omega (arith, h))
 
 -- the renames so far, and what comes of those that are left
-pub record InRenames (files : List File) (plan rest : List Rename) (noted : List Given) (kept : List (List ℕ × Unmoved)) : Type 0 where
+pub record InRenames (files : List File) (plan rest : List Rename) (given : List Given) (kept : List (List ℕ × Unmoved)) : Type 0 where
   pub done : List Outcome
-  pub goes : (told : List Renamed) → outcomes files plan (flat_map answer_given noted ++ told) ≡ done ++ outcomes (files_noted files noted) rest told
-  pub notes : noted ≡ flat_map note_of done
+  pub goes : (told : List Renamed) → outcomes files plan (flat_map answer_given given ++ told) ≡ done ++ outcomes (files_given files given) rest told
+  pub notes : given ≡ flat_map note_of done
   pub kept_are : kept ≡ flat_map unmoved_in done
   pub count : length done + length rest ≡ length plan
 
-pub no-rename : (files : List File) (plan rest : List Rename) (noted : List Given) (kept : List (List ℕ × Unmoved)) → rest ≡ plan → noted ≡ [] → kept ≡ [] → InRenames files plan rest noted kept
-no-rename files plan rest noted kept all none clean = record {
+pub no-rename : (files : List File) (plan rest : List Rename) (given : List Given) (kept : List (List ℕ × Unmoved)) → rest ≡ plan → given ≡ [] → kept ≡ [] → InRenames files plan rest given kept
+no-rename files plan rest given kept all none clean = record {
   done = [];
-  goes = λ told. ap (λ (n : List Given). outcomes files plan (flat_map answer_given n ++ told)) none ∙ sym (ap (λ (n : List Given). outcomes (files_noted files n) rest told) none ∙ ap (λ (l : List Rename). outcomes files l told) all);
+  goes = λ told. ap (λ (n : List Given). outcomes files plan (flat_map answer_given n ++ told)) none ∙ sym (ap (λ (n : List Given). outcomes (files_given files n) rest told) none ∙ ap (λ (l : List Rename). outcomes files l told) all);
   notes = none;
   kept_are = clean;
   count = omega (arith, ap (λ (l : List Rename). length l) all);
 }
 
-module _ (files : List File) (plan : List Rename) (rename : Rename) (rest : List Rename) (noted more : List Given) (kept now : List (List ℕ × Unmoved)) where
+module _ (files : List File) (plan : List Rename) (rename : Rename) (rest : List Rename) (given more : List Given) (kept now : List (List ℕ × Unmoved)) where
   abbrev here : List File
-  here = files_noted files noted
+  here = files_given files given
 
-  goes-on : (h : InRenames files plan (rename ∷ rest) noted kept) (step : IsDone here rename noted more) (told : List Renamed)
-      → outcomes files plan (flat_map answer_given more ++ told) ≡ (h.done ++ step.outcome ∷ []) ++ outcomes (files_noted files more) rest told
+  goes-on : (h : InRenames files plan (rename ∷ rest) given kept) (step : IsDone here rename given more) (told : List Renamed)
+      → outcomes files plan (flat_map answer_given more ++ told) ≡ (h.done ++ step.outcome ∷ []) ++ outcomes (files_given files more) rest told
   goes-on h step told =
       let note : List Given = note_of step.outcome in
-      ap (λ (n : List Given). outcomes files plan (flat_map answer_given n ++ told)) step.noted
-      ∙ (ap (λ (l : List Renamed). outcomes files plan (l ++ told)) (flat-append answer_given noted note)
-      ∙ (ap (outcomes files plan) (append_assoc (flat_map answer_given noted) (flat_map answer_given note) told)
+      ap (λ (n : List Given). outcomes files plan (flat_map answer_given n ++ told)) step.given_is
+      ∙ (ap (λ (l : List Renamed). outcomes files plan (l ++ told)) (flat-append answer_given given note)
+      ∙ (ap (outcomes files plan) (append_assoc (flat_map answer_given given) (flat_map answer_given note) told)
       ∙ (h.goes (flat_map answer_given note ++ told)
       ∙ (ap (λ (l : List Outcome). h.done ++ l) (step.first rest told)
-      ∙ (ap (λ (f : List File). h.done ++ step.outcome ∷ outcomes f rest told) (sym (ap (files_noted files) step.noted ∙ noted-append files noted note))
-      ∙ sym (append_assoc h.done (step.outcome ∷ []) (outcomes (files_noted files more) rest told)))))))
+      ∙ (ap (λ (f : List File). h.done ++ step.outcome ∷ outcomes f rest told) (sym (ap (files_given files) step.given_is ∙ given-append files given note))
+      ∙ sym (append_assoc h.done (step.outcome ∷ []) (outcomes (files_given files more) rest told)))))))
 
-  pub next-rename : (h : InRenames files plan (rename ∷ rest) noted kept) (step : IsDone here rename noted more) → now ≡ kept ++ unmoved_in step.outcome → InRenames files plan rest more now
+  pub next-rename : (h : InRenames files plan (rename ∷ rest) given kept) (step : IsDone here rename given more) → now ≡ kept ++ unmoved_in step.outcome → InRenames files plan rest more now
   next-rename h step kept_more = record {
     done = h.done ++ step.outcome ∷ [];
     goes = goes-on h step;
-    notes = step.noted ∙ (ap (λ (l : List Given). l ++ note_of step.outcome) h.notes ∙ (ap (λ (l : List Given). flat_map note_of h.done ++ l) (sym (append-nil (note_of step.outcome))) ∙ sym (flat-append note_of h.done (step.outcome ∷ []))));
+    notes = step.given_is ∙ (ap (λ (l : List Given). l ++ note_of step.outcome) h.notes ∙ (ap (λ (l : List Given). flat_map note_of h.done ++ l) (sym (append-nil (note_of step.outcome))) ∙ sym (flat-append note_of h.done (step.outcome ∷ []))));
     kept_are = kept_more
         ∙ (ap (λ (l : List (List ℕ × Unmoved)). l ++ unmoved_in step.outcome) h.kept_are ∙ (ap (λ (l : List (List ℕ × Unmoved)). flat_map unmoved_in h.done ++ l) (sym (append-nil (unmoved_in step.outcome))) ∙ sym (flat-append unmoved_in h.done (step.outcome ∷ []))));
     count = omega (arith, length-append h.done (step.outcome ∷ []), h.count);
   }
 
 -- just the first of the renames that are to be tried are noted
-pub so-far-tried : (files : List File) (plan rest : List Rename) (noted : List Given) (kept : List (List ℕ × Unmoved)) → InRenames files plan rest noted kept → AreTried files plan noted
-so-far-tried files plan rest noted kept h =
-    let left : List Outcome = outcomes (files_noted files noted) rest [] in
+pub so-far-tried : (files : List File) (plan rest : List Rename) (given : List Given) (kept : List (List ℕ × Unmoved)) → InRenames files plan rest given kept → AreTried files plan given
+so-far-tried files plan rest given kept h =
+    let left : List Outcome = outcomes (files_given files given) rest [] in
     h.notes
-    ∙ sym (ap (λ (l : List Renamed). flat_map note_of (outcomes files plan l)) (sym (append-nil (flat_map answer_given noted)))
+    ∙ sym (ap (λ (l : List Renamed). flat_map note_of (outcomes files plan l)) (sym (append-nil (flat_map answer_given given)))
     ∙ (ap (flat_map note_of) (h.goes [])
-    ∙ (flat-append note_of h.done left ∙ (ap (λ (l : List Given). flat_map note_of h.done ++ l) (silent rest (files_noted files noted)) ∙ append-nil (flat_map note_of h.done)))))
+    ∙ (flat-append note_of h.done left ∙ (ap (λ (l : List Given). flat_map note_of h.done ++ l) (silent rest (files_given files given)) ∙ append-nil (flat_map note_of h.done)))))
 
 -- where none is left, all are done
-pub all-done : (files : List File) (plan : List Rename) (noted : List Given) (kept : List (List ℕ × Unmoved)) (h : InRenames files plan [] noted kept) → outcomes_noted files plan noted ≡ h.done
-all-done files plan noted kept h = ap (outcomes files plan) (sym (append-nil (flat_map answer_given noted))) ∙ (h.goes [] ∙ append-nil h.done)
+pub all-done : (files : List File) (plan : List Rename) (given : List Given) (kept : List (List ℕ × Unmoved)) (h : InRenames files plan [] given kept) → outcomes_given files plan given ≡ h.done
+all-done files plan given kept h = ap (outcomes files plan) (sym (append-nil (flat_map answer_given given))) ∙ (h.goes [] ∙ append-nil h.done)
 
-pub all-count : (files : List File) (plan : List Rename) (noted : List Given) (kept : List (List ℕ × Unmoved)) → InRenames files plan [] noted kept → length (outcomes_noted files plan noted) ≡ length plan
-all-count files plan noted kept h = omega (arith, ap (λ (l : List Outcome). length l) (all-done files plan noted kept h), h.count)
+pub all-count : (files : List File) (plan : List Rename) (given : List Given) (kept : List (List ℕ × Unmoved)) → InRenames files plan [] given kept → length (outcomes_given files plan given) ≡ length plan
+all-count files plan given kept h = omega (arith, ap (λ (l : List Outcome). length l) (all-done files plan given kept h), h.count)
 
-pub all-kept : (files : List File) (plan : List Rename) (noted : List Given) (kept : List (List ℕ × Unmoved)) → InRenames files plan [] noted kept → kept ≡ flat_map unmoved_in (outcomes_noted files plan noted)
-all-kept files plan noted kept h = h.kept_are ∙ ap (flat_map unmoved_in) (sym (all-done files plan noted kept h))
+pub all-kept : (files : List File) (plan : List Rename) (given : List Given) (kept : List (List ℕ × Unmoved)) → InRenames files plan [] given kept → kept ≡ flat_map unmoved_in (outcomes_given files plan given)
+all-kept files plan given kept h = h.kept_are ∙ ap (flat_map unmoved_in) (sym (all-done files plan given kept h))
 
 -- where one is left to be tried, not all are
-pub left-count : (files : List File) (plan : List Rename) (rename : Rename) (rest : List Rename) (noted : List Given) (kept : List (List ℕ × Unmoved)) → InRenames files plan (rename ∷ rest) noted kept → IsLeft (files_noted files noted) rename
-    → length (outcomes_noted files plan noted) < length plan
-left-count files plan rename rest noted kept h left =
-    let are : outcomes_noted files plan noted ≡ h.done =
-    ap (outcomes files plan) (sym (append-nil (flat_map answer_given noted))) ∙ (h.goes [] ∙ (ap (λ (l : List Outcome). h.done ++ l) (left rest) ∙ append-nil h.done)) in
+pub left-count : (files : List File) (plan : List Rename) (rename : Rename) (rest : List Rename) (given : List Given) (kept : List (List ℕ × Unmoved)) → InRenames files plan (rename ∷ rest) given kept → IsLeft (files_given files given) rename
+    → length (outcomes_given files plan given) < length plan
+left-count files plan rename rest given kept h left =
+    let are : outcomes_given files plan given ≡ h.done =
+    ap (outcomes files plan) (sym (append-nil (flat_map answer_given given))) ∙ (h.goes [] ∙ (ap (λ (l : List Outcome). h.done ++ l) (left rest) ∙ append-nil h.done)) in
     omega (arith, ap (λ (l : List Outcome). length l) are, h.count)
 
 -- what a rename becomes
@@ -135,7 +135,7 @@ abbrev pub long-done : (files : List File) (rename : Rename) (old new : List Giv
 long-done files rename old new is same = record {
   outcome = WasLong rename.from;
   first = λ more told. ap (λ (to : Option (List ℕ)). at_target files rename.from more told (target_of files to)) is;
-  noted = same ∙ sym (append-nil old);
+  given_is = same ∙ sym (append-nil old);
 }
 
 abbrev pub taken-done : (files : List File) (rename : Rename) (to : List ℕ) (old new : List Given) → rename.to ≡ Some to → has_path files to ≡ true → new ≡ old → IsDone files rename old new
@@ -143,22 +143,22 @@ taken-done files rename to old new is there same = record {
   outcome = WasTaken rename.from;
   first = λ more told.
       ap (λ (o : Option (List ℕ)). at_target files rename.from more told (target_of files o)) is ∙ ap (λ (b : Bool). at_target files rename.from more told (cond b IsTaken (IsFree to))) there;
-  noted = same ∙ sym (append-nil old);
+  given_is = same ∙ sym (append-nil old);
 }
 
-pub moved-noted : (files : List File) (from to : List ℕ) (answer : Renamed) → files_noted files (given.Renamed from to answer ∷ []) ≡ files_moved files from to answer
-moved-noted files from to answers.Moved = refl
-moved-noted files from to answers.Missing = refl
-moved-noted files from to answers.Exists = refl
+pub moved-given : (files : List File) (from to : List ℕ) (answer : Renamed) → files_given files (givens.Renamed from to answer ∷ []) ≡ files_moved files from to answer
+moved-given files from to answers.Moved = refl
+moved-given files from to answers.Missing = refl
+moved-given files from to answers.Exists = refl
 
-abbrev pub tried-done : (files : List File) (rename : Rename) (to : List ℕ) (answer : Renamed) (old new : List Given) → rename.to ≡ Some to → has_path files to ≡ false → new ≡ old ++ given.Renamed rename.from to answer ∷ [] → IsDone files rename old new
-tried-done files rename to answer old new is free noted = record {
+abbrev pub tried-done : (files : List File) (rename : Rename) (to : List ℕ) (answer : Renamed) (old new : List Given) → rename.to ≡ Some to → has_path files to ≡ false → new ≡ old ++ givens.Renamed rename.from to answer ∷ [] → IsDone files rename old new
+tried-done files rename to answer old new is free given = record {
   outcome = WasTried rename.from to answer;
   first = λ more told.
       ap (λ (o : Option (List ℕ)). at_target files rename.from more (answer ∷ told) (target_of files o)) is
       ∙ (ap (λ (b : Bool). at_target files rename.from more (answer ∷ told) (cond b IsTaken (IsFree to))) free
-      ∙ ap (λ (f : List File). WasTried rename.from to answer ∷ outcomes f more told) (sym (moved-noted files rename.from to answer)));
-  noted = noted;
+      ∙ ap (λ (f : List File). WasTried rename.from to answer ∷ outcomes f more told) (sym (moved-given files rename.from to answer)));
+  given_is = given;
 }
 
 pub still-left : (files : List File) (rename : Rename) (to : List ℕ) → rename.to ≡ Some to → has_path files to ≡ false → IsLeft files rename
@@ -166,24 +166,24 @@ still-left files rename to is free = λ more.
     ap (λ (o : Option (List ℕ)). at_target files rename.from more [] (target_of files o)) is ∙ ap (λ (b : Bool). at_target files rename.from more [] (cond b IsTaken (IsFree to))) free
 
 -- what is kept after an answer
-pub kept-more : (files : List File) (noted now : List Given) (from to : List ℕ) (answer : Renamed) (done new : Renaming) → IsKept files noted done → now ≡ noted ++ given.Renamed from to answer ∷ [] → new.moves ≡ done.moves ++ move_if from to answer
-    → ((mid : List File) → has_path mid to ≡ false → HasPlaces files mid done.places → HasPlaces files (files_moved mid from to answer) new.places) → has_path (files_noted files noted) to ≡ false → IsKept files now new
-kept-more files noted now from to answer done new kept is moves places free =
-    let note : List Given = given.Renamed from to answer ∷ [] in
-    let after : files_noted files now ≡ files_moved (files_noted files noted) from to answer = ap (files_noted files) is ∙ (noted-append files noted note ∙ moved-noted (files_noted files noted) from to answer) in
+pub kept-more : (files : List File) (given now : List Given) (from to : List ℕ) (answer : Renamed) (done new : Renaming) → IsKept files given done → now ≡ given ++ givens.Renamed from to answer ∷ [] → new.moves ≡ done.moves ++ move_if from to answer
+    → ((mid : List File) → has_path mid to ≡ false → HasPlaces files mid done.places → HasPlaces files (files_moved mid from to answer) new.places) → has_path (files_given files given) to ≡ false → IsKept files now new
+kept-more files given now from to answer done new kept is moves places free =
+    let note : List Given = givens.Renamed from to answer ∷ [] in
+    let after : files_given files now ≡ files_moved (files_given files given) from to answer = ap (files_given files) is ∙ (given-append files given note ∙ moved-given (files_given files given) from to answer) in
     record {
       moves = moves
           ∙ (ap (λ (l : List Change). l ++ move_if from to answer) kept.moves
-          ∙ (ap (λ (l : List Change). flat_map move_given noted ++ l) (sym (append-nil (move_if from to answer))) ∙ (sym (flat-append move_given noted note) ∙ ap (flat_map move_given) (sym is))));
-      places = subst (λ (f : List File). HasPlaces files f new.places) (sym after) (places (files_noted files noted) free kept.places);
+          ∙ (ap (λ (l : List Change). flat_map move_given given ++ l) (sym (append-nil (move_if from to answer))) ∙ (sym (flat-append move_given given note) ∙ ap (flat_map move_given) (sym is))));
+      places = subst (λ (f : List File). HasPlaces files f new.places) (sym after) (places (files_given files given) free kept.places);
     }
 
 -- where it stops, the rename was noted or not
-pub stopped-tried : (files : List File) (plan : List Rename) (rename : Rename) (rest : List Rename) (noted now : List Given) (kept : List (List ℕ × Unmoved)) → InRenames files plan (rename ∷ rest) noted kept
-    → (now ≡ noted) ⊎ IsDone (files_noted files noted) rename noted now → AreTried files plan now
-stopped-tried files plan rename rest noted now kept h (inl same) = subst (AreTried files plan) (sym same) (so-far-tried files plan (rename ∷ rest) noted kept h)
-stopped-tried files plan rename rest noted now kept h (inr step) =
-    so-far-tried files plan rest now (kept ++ unmoved_in step.outcome) (next-rename files plan rename rest noted now kept (kept ++ unmoved_in step.outcome) h step refl)
+pub stopped-tried : (files : List File) (plan : List Rename) (rename : Rename) (rest : List Rename) (given now : List Given) (kept : List (List ℕ × Unmoved)) → InRenames files plan (rename ∷ rest) given kept
+    → (now ≡ given) ⊎ IsDone (files_given files given) rename given now → AreTried files plan now
+stopped-tried files plan rename rest given now kept h (inl same) = subst (AreTried files plan) (sym same) (so-far-tried files plan (rename ∷ rest) given kept h)
+stopped-tried files plan rename rest given now kept h (inr step) =
+    so-far-tried files plan rest now (kept ++ unmoved_in step.outcome) (next-rename files plan rename rest given now kept (kept ++ unmoved_in step.outcome) h step refl)
 
 -- a note in the place of the last one
 pub last-set : (front : List Given) (last note : Given) → slice_set (front ++ last ∷ []) (length front) note ≡ front ++ note ∷ []
@@ -270,9 +270,9 @@ places-moved before files old mid new from to there put_from put_to lay none has
 -- what the folder is asked
 along-append : (tree mid after : Tree) (first second : List Given) → AnswersAlong tree first mid → AnswersAlong mid second after → AnswersAlong tree (first ++ second) after
 along-append tree mid after [] second h k = subst (λ (t : Tree). AnswersAlong t second after) h k
-along-append tree mid after (given.Listed paths ∷ first) second h k = absurd h
-along-append tree mid after (given.Read path answer ∷ first) second h k = absurd h
-along-append tree mid after (given.Renamed from to answer ∷ first) second h k = (h.0, along-append (tree_with {E = MailError} tree from to (Ok answer)) mid after first second h.1 k)
+along-append tree mid after (givens.Listed paths ∷ first) second h k = absurd h
+along-append tree mid after (givens.Read path answer ∷ first) second h k = absurd h
+along-append tree mid after (givens.Renamed from to answer ∷ first) second h k = (h.0, along-append (tree_with {E = MailError} tree from to (Ok answer)) mid after first second h.1 k)
 
 trees-append : (old mid new : Option Tree) (first second : List Given) → TreesAlong old first mid → TreesAlong mid second new → TreesAlong old (first ++ second) new
 trees-append None mid new first second h k = subst (λ (t : Option Tree). TreesAlong t second new) h k
@@ -280,10 +280,10 @@ trees-append (Some tree) mid new first second h k =
     let rest = subst (λ (t : Option Tree). TreesAlong t second new) h.1 k in
     (rest.0, rest.1, along-append tree h.0 rest.0 first second h.2 rest.2)
 
-pub asks-then : (old mid new : ObservedMail) (noted more all : List Given) → AsksRenames old mid noted more → AsksRenames mid new more all → AsksRenames old new noted all
-asks-then old mid new noted more all h k = record {
+pub asks-then : (old mid new : ObservedMail) (given more all : List Given) → AsksRenames old mid given more → AsksRenames mid new more all → AsksRenames old new given all
+asks-then old mid new given more all h k = record {
   more = h.more ++ k.more;
-  noted = k.noted ∙ (ap (λ (l : List Given). l ++ k.more) h.noted ∙ append_assoc noted h.more k.more);
+  given_is = k.given_is ∙ (ap (λ (l : List Given). l ++ k.more) h.given_is ∙ append_assoc given h.more k.more);
   tree = trees-append old.tree mid.tree new.tree h.more k.more h.tree k.tree;
   reads = k.reads ∙ h.reads;
 }
@@ -292,21 +292,21 @@ trees-none : (old new : Option Tree) → new ≡ old → TreesAlong old [] new
 trees-none None new h = h
 trees-none (Some tree) new h = (tree, h, refl)
 
-pub asks-nothing : (old new : ObservedMail) (noted now : List Given) → new.tree ≡ old.tree → new.reads ≡ old.reads → now ≡ noted → AsksRenames old new noted now
-asks-nothing old new noted now tree reads same = record { more = []; noted = same ∙ sym (append-nil noted); tree = trees-none old.tree new.tree tree; reads = reads }
+pub asks-nothing : (old new : ObservedMail) (given now : List Given) → new.tree ≡ old.tree → new.reads ≡ old.reads → now ≡ given → AsksRenames old new given now
+asks-nothing old new given now tree reads same = record { more = []; given_is = same ∙ sym (append-nil given); tree = trees-none old.tree new.tree tree; reads = reads }
 
 failed-tree : (from to : List ℕ) (error : MailError) (old : Option Tree) → option_map (λ tree. tree_with {E = MailError} tree from to (Err error)) old ≡ old
 failed-tree from to error None = refl
 failed-tree from to error (Some tree) = refl
 
-pub asks-failed : (old new : ObservedMail) (from to : List ℕ) (error : MailError) (noted now : List Given) → new.tree ≡ (after_rename old from to (Err error)).tree → new.reads ≡ old.reads → now ≡ noted → AsksRenames old new noted now
-asks-failed old new from to error noted now tree reads same = asks-nothing old new noted now (tree ∙ failed-tree from to error old.tree) reads same
+pub asks-failed : (old new : ObservedMail) (from to : List ℕ) (error : MailError) (given now : List Given) → new.tree ≡ (after_rename old from to (Err error)).tree → new.reads ≡ old.reads → now ≡ given → AsksRenames old new given now
+asks-failed old new from to error given now tree reads same = asks-nothing old new given now (tree ∙ failed-tree from to error old.tree) reads same
 
 trees-one : (old new : Option Tree) (from to : List ℕ) (answer : Renamed) → new ≡ option_map (λ tree. tree_with {E = MailError} tree from to (Ok answer)) old → IfSome old (λ tree. answer ≡ renamed_of tree from to)
-    → TreesAlong old (given.Renamed from to answer ∷ []) new
+    → TreesAlong old (givens.Renamed from to answer ∷ []) new
 trees-one None new from to answer is answered = is
 trees-one (Some tree) new from to answer is answered = (tree_with {E = MailError} tree from to (Ok answer), is, (answered, refl))
 
-pub asks-one : (old new : ObservedMail) (from to : List ℕ) (answer : Renamed) (noted now : List Given) → new.tree ≡ (after_rename old from to (Ok answer)).tree → new.reads ≡ old.reads → IfSome old.tree (λ tree. answer ≡ renamed_of tree from to)
-    → now ≡ noted ++ given.Renamed from to answer ∷ [] → AsksRenames old new noted now
-asks-one old new from to answer noted now tree reads answered is = record { more = given.Renamed from to answer ∷ []; noted = is; tree = trees-one old.tree new.tree from to answer tree answered; reads = reads }
+pub asks-one : (old new : ObservedMail) (from to : List ℕ) (answer : Renamed) (given now : List Given) → new.tree ≡ (after_rename old from to (Ok answer)).tree → new.reads ≡ old.reads → IfSome old.tree (λ tree. answer ≡ renamed_of tree from to)
+    → now ≡ given ++ givens.Renamed from to answer ∷ [] → AsksRenames old new given now
+asks-one old new from to answer given now tree reads answered is = record { more = givens.Renamed from to answer ∷ []; given_is = is; tree = trees-one old.tree new.tree from to answer tree answered; reads = reads }

@@ -7,7 +7,7 @@ use Rattle.nm_commit.specs.Files.{has_path}
 use Rattle.nm_maildir.specs.Observed.{ObservedMail}
 use Rattle.nm_maildir.specs.Tree.{Tree}
 use Rattle.nm_maildir.specs.declared.given.Given.{Given}
-use Rattle.nm_maildir.specs.declared.given.Given.TheVariants as given
+use Rattle.nm_maildir.specs.declared.given.Given.TheVariants as givens
 use Rattle.nm_plan.specs.Plan.{message_ids, removed_files, to_read}
 use Rattle.nm_scan.specs.Walking.{scanned}
 use Rattle.nm_scan.specs.Reading.{HasRead, NotesReads, answers_at, read_with}
@@ -32,10 +32,10 @@ none_more None = refl
 none_more (Some paths) = ap Some (sym (append-nil paths))
 
 -- nothing is read and nothing more is noted
-read_none : (mail : ObservedMail) (noted : List Given) (paths : List (List ℕ)) → HasRead mail mail noted noted paths
-read_none mail noted paths = record {
-  noted = [];
-  given_is = sym (append-nil noted);
+read_none : (mail : ObservedMail) (given : List Given) (paths : List (List ℕ)) → HasRead mail mail given given paths
+read_none mail given paths = record {
+  given = [];
+  given_is = sym (append-nil given);
   reading = record {
     answered = 0;
     asked = 0;
@@ -55,46 +55,46 @@ gone-end files listed paths start rest found sorted same begins none so_far =
     ∙ (so_far ∙ ap (filter (λ path. not (has_text listed path))) (begins ∙ paths-are files paths sorted same)))
 
 -- the listing and the first of the paths were asked
-pub asked_reading : (old mid new : ObservedMail) (files : List (List ℕ × Facts)) (before noted0 noted : List Given) (listed paths : List (List ℕ)) → mid.tree ≡ old.tree → mid.reads ≡ old.reads → before ≡ [] → noted0 ≡ before ++ given.Listed listed ∷ []
-    → IsSorted listed → IfSome old.tree (λ t. scanned t ≡ Ok listed) → paths ≡ to_read files listed → HasRead mid new noted0 noted paths → AsksNew old new files noted
-asked_reading old mid new files before noted0 noted listed paths same_tree same none is rising told paths_are h' =
-    let h : HasRead mid new noted0 noted (to_read files listed) = subst (λ (l : List (List ℕ)). HasRead mid new noted0 noted l) paths_are h' in
+pub asked_reading : (old mid new : ObservedMail) (files : List (List ℕ × Facts)) (before noted0 given : List Given) (listed paths : List (List ℕ)) → mid.tree ≡ old.tree → mid.reads ≡ old.reads → before ≡ [] → noted0 ≡ before ++ givens.Listed listed ∷ []
+    → IsSorted listed → IfSome old.tree (λ t. scanned t ≡ Ok listed) → paths ≡ to_read files listed → HasRead mid new noted0 given paths → AsksNew old new files given
+asked_reading old mid new files before noted0 given listed paths same_tree same none is rising told paths_are h' =
+    let h : HasRead mid new noted0 given (to_read files listed) = subst (λ (l : List (List ℕ)). HasRead mid new noted0 given l) paths_are h' in
     let reading = h.reading in
     inr (record {
       listed = listed;
       listing = record { rising = rising; told = told };
-      answers = h.noted;
-      given_is = h.given_is ∙ ap (λ l. l ++ h.noted) (is ∙ ap (λ l. l ++ given.Listed listed ∷ []) none);
+      answers = h.given;
+      given_is = h.given_is ∙ ap (λ l. l ++ h.given) (is ∙ ap (λ l. l ++ givens.Listed listed ∷ []) none);
       reading = record {
         answered = reading.answered;
         asked = reading.asked;
         within = reading.within;
         last = reading.last;
-        notes = subst (λ (t : Option Tree). NotesReads t h.noted (take reading.answered (to_read files listed))) same_tree reading.notes;
+        notes = subst (λ (t : Option Tree). NotesReads t h.given (take reading.answered (to_read files listed))) same_tree reading.notes;
         read = reading.read ∙ ap (λ (r : Option (List (List ℕ))). read_with r (take reading.asked (to_read files listed))) same;
       };
     })
 
 -- the listing alone was asked
-pub asked_listing : (old mid : ObservedMail) (files : List (List ℕ × Facts)) (before noted : List Given) (listed : List (List ℕ)) → mid.tree ≡ old.tree → mid.reads ≡ old.reads → before ≡ [] → noted ≡ before ++ given.Listed listed ∷ []
-    → IsSorted listed → IfSome old.tree (λ t. scanned t ≡ Ok listed) → AsksNew old mid files noted
-asked_listing old mid files before noted listed same_tree same none is rising told =
-    asked_reading old mid mid files before noted noted listed (to_read files listed) same_tree same none is rising told refl (read_none mid noted (to_read files listed))
+pub asked_listing : (old mid : ObservedMail) (files : List (List ℕ × Facts)) (before given : List Given) (listed : List (List ℕ)) → mid.tree ≡ old.tree → mid.reads ≡ old.reads → before ≡ [] → given ≡ before ++ givens.Listed listed ∷ []
+    → IsSorted listed → IfSome old.tree (λ t. scanned t ≡ Ok listed) → AsksNew old mid files given
+asked_listing old mid files before given listed same_tree same none is rising told =
+    asked_reading old mid mid files before given given listed (to_read files listed) same_tree same none is rising told refl (read_none mid given (to_read files listed))
 
 -- what was listed is compared with the index
-pub has_listed : (tree : Option Tree) (files : List (List ℕ × Facts)) (before noted : List Given) (listed unknown away ids : List (List ℕ)) → before ≡ [] → noted ≡ before ++ given.Listed listed ∷ [] → IsSorted listed
+pub has_listed : (tree : Option Tree) (files : List (List ℕ × Facts)) (before given : List Given) (listed unknown away ids : List (List ℕ)) → before ≡ [] → given ≡ before ++ givens.Listed listed ∷ [] → IsSorted listed
     → IfSome tree (λ t. scanned t ≡ Ok listed) → unknown ≡ to_read files listed → away ≡ gone files listed → ids ≡ message_ids (removed_files files listed)
-    → HasListed tree files noted (record { unknown = unknown; gone = away; gone_ids = ids })
-has_listed tree files before noted listed unknown away ids none is rising told unknown_are gone_are ids_are = record {
+    → HasListed tree files given (record { unknown = unknown; gone = away; gone_ids = ids })
+has_listed tree files before given listed unknown away ids none is rising told unknown_are gone_are ids_are = record {
   listed = listed;
   listing = record { rising = rising; told = told };
-  given_is = is ∙ ap (λ (l : List Given). l ++ given.Listed listed ∷ []) none;
+  given_is = is ∙ ap (λ (l : List Given). l ++ givens.Listed listed ∷ []) none;
   unknown_are = unknown_are;
   gone_are = gone_are;
   ids_are = ids_are;
 }
 
 -- and of what is unknown the first paths were read
-pub asks-some : (old new : ObservedMail) (files : List (List ℕ × Facts)) (noted0 noted : List Given) (compared : Compared) → HasListed old.tree files noted0 compared → HasRead old new noted0 noted compared.unknown → AsksNew old new files noted
-asks-some old new files noted0 noted compared h read =
-    asked_reading old old new files [] noted0 noted h.listed compared.unknown refl refl refl h.given_is h.listing.rising h.listing.told h.unknown_are read
+pub asks-some : (old new : ObservedMail) (files : List (List ℕ × Facts)) (noted0 given : List Given) (compared : Compared) → HasListed old.tree files noted0 compared → HasRead old new noted0 given compared.unknown → AsksNew old new files given
+asks-some old new files noted0 given compared h read =
+    asked_reading old old new files [] noted0 given h.listed compared.unknown refl refl refl h.given_is h.listing.rising h.listing.told h.unknown_are read

@@ -103,50 +103,50 @@ abbrev report_of : List (List ℕ × Unmoved) → SyncReport
 report_of list = record { unmoved = list }
 
 -- nothing is tried while nothing is noted
-pub none-tried : (index wanted : Base) (noted : List Given) → noted ≡ [] → HasTried index wanted noted
-none-tried index wanted noted none =
+pub none-tried : (index wanted : Base) (given : List Given) → given ≡ [] → HasTried index wanted given
+none-tried index wanted given none =
     none ∙ sym (ap (λ (n : List Given). flat_map note_of (renames_done index wanted n)) none ∙ silent (renames_for index wanted) index.files)
 
 -- and no move is due
-pub no-moves : (index wanted : Base) (noted : List Given) → noted ≡ [] → tag_commits index wanted noted ≡ tag_commit index wanted
-no-moves index wanted noted none = ap (tag_commits index wanted) none ∙ append-nil (tag_commit index wanted)
+pub no-moves : (index wanted : Base) (given : List Given) → given ≡ [] → tag_commits index wanted given ≡ tag_commit index wanted
+no-moves index wanted given none = ap (tag_commits index wanted) none ∙ append-nil (tag_commit index wanted)
 
 -- the commit of tags was refused, before any rename
-pub tags-refused : (old new : WriterState) (wanted : Base) (noted : List Given) (faults : ℕ) (error : WriteError) → noted ≡ [] → IsAfterCommits {T = Unit {0}} old (tag_commit old.shown wanted) faults (Err error) new
-    → IsAfterTags wanted noted old faults (Err error) new
-tags-refused old new wanted noted faults errors.MailFault none h = absurd h
-tags-refused old new wanted noted faults errors.DiskFault none h =
-    (none-tried old.shown wanted noted none, subst (λ (due : List Commit). FailsWithin old due faults new) (sym (no-moves old.shown wanted noted none)) h)
-tags-refused old new wanted noted faults (errors.Closed fault) none h = absurd h
-tags-refused old new wanted noted faults (errors.Limit limit) none h =
-    (none-tried old.shown wanted noted none, subst (λ (due : List Commit). PassesWithin old due limit new) (sym (no-moves old.shown wanted noted none)) h)
-tags-refused old new wanted noted faults errors.NoMemory none h =
-    (none-tried old.shown wanted noted none, subst (λ (due : List Commit). StopsWithin old due new) (sym (no-moves old.shown wanted noted none)) h)
+pub tags-refused : (old new : WriterState) (wanted : Base) (given : List Given) (faults : ℕ) (error : WriteError) → given ≡ [] → IsAfterCommits {T = Unit {0}} old (tag_commit old.shown wanted) faults (Err error) new
+    → IsAfterTags wanted given old faults (Err error) new
+tags-refused old new wanted given faults errors.MailFault none h = absurd h
+tags-refused old new wanted given faults errors.DiskFault none h =
+    (none-tried old.shown wanted given none, subst (λ (due : List Commit). FailsWithin old due faults new) (sym (no-moves old.shown wanted given none)) h)
+tags-refused old new wanted given faults (errors.Closed fault) none h = absurd h
+tags-refused old new wanted given faults (errors.Limit limit) none h =
+    (none-tried old.shown wanted given none, subst (λ (due : List Commit). PassesWithin old due limit new) (sym (no-moves old.shown wanted given none)) h)
+tags-refused old new wanted given faults errors.NoMemory none h =
+    (none-tried old.shown wanted given none, subst (λ (due : List Commit). StopsWithin old due new) (sym (no-moves old.shown wanted given none)) h)
 
 -- memory was wanting before anything was done
-pub nothing-set : (old : WriterState) (wanted : Base) (noted : List Given) (faults : ℕ) → noted ≡ [] → IsAfterTags wanted noted old faults (Err errors.NoMemory) old
-nothing-set old wanted noted faults none = (none-tried old.shown wanted noted none, none-stopped old (tag_commits old.shown wanted noted))
+pub nothing-set : (old : WriterState) (wanted : Base) (given : List Given) (faults : ℕ) → given ≡ [] → IsAfterTags wanted given old faults (Err errors.NoMemory) old
+nothing-set old wanted given faults none = (none-tried old.shown wanted given none, none-stopped old (tag_commits old.shown wanted given))
 
 -- The commit of tags was made, and then the renames were tried.
-module _ (old mid new : WriterState) (wanted : Base) (noted : List Given) (faults : ℕ) (made : HasCommitted old (tag_commit old.shown wanted) mid) where
-  renames-then : (result : Result SyncReport WriteError) → HasTried old.shown wanted noted → IsAfterRenames old.shown.files (renames_for old.shown wanted) noted mid faults result new → IsAfterTags wanted noted old faults result new
-  renames-then (Ok report) tried h = (tried, h.0, made-made old mid new (tag_commit old.shown wanted) (move_commit noted) made h.1, ap (λ (l : List (List ℕ × Unmoved)). report_of l) h.2)
+module _ (old mid new : WriterState) (wanted : Base) (given : List Given) (faults : ℕ) (made : HasCommitted old (tag_commit old.shown wanted) mid) where
+  renames-then : (result : Result SyncReport WriteError) → HasTried old.shown wanted given → IsAfterRenames old.shown.files (renames_for old.shown wanted) given mid faults result new → IsAfterTags wanted given old faults result new
+  renames-then (Ok report) tried h = (tried, h.0, made-made old mid new (tag_commit old.shown wanted) (move_commit given) made h.1, ap (λ (l : List (List ℕ × Unmoved)). report_of l) h.2)
   renames-then (Err errors.MailFault) tried h = (tried, h.0, (mid, made, h.1))
-  renames-then (Err errors.DiskFault) tried h = (tried, then-made {T = Unit {0}} old mid new (tag_commit old.shown wanted) (move_commit noted) faults (Err errors.DiskFault) made h)
+  renames-then (Err errors.DiskFault) tried h = (tried, then-made {T = Unit {0}} old mid new (tag_commit old.shown wanted) (move_commit given) faults (Err errors.DiskFault) made h)
   renames-then (Err (errors.Closed fault)) tried h = absurd h
-  renames-then (Err (errors.Limit limit)) tried h = (tried, then-made {T = Unit {0}} old mid new (tag_commit old.shown wanted) (move_commit noted) faults (Err (errors.Limit limit)) made h)
-  renames-then (Err errors.NoMemory) tried h = (tried, then-made {T = Unit {0}} old mid new (tag_commit old.shown wanted) (move_commit noted) faults (Err errors.NoMemory) made h)
+  renames-then (Err (errors.Limit limit)) tried h = (tried, then-made {T = Unit {0}} old mid new (tag_commit old.shown wanted) (move_commit given) faults (Err (errors.Limit limit)) made h)
+  renames-then (Err errors.NoMemory) tried h = (tried, then-made {T = Unit {0}} old mid new (tag_commit old.shown wanted) (move_commit given) faults (Err errors.NoMemory) made h)
 
-  pub tags-then : (plan : List Rename) (result : Result SyncReport WriteError) → plan ≡ renames_for old.shown wanted → mid.shown.files ≡ old.shown.files → AreTried mid.shown.files plan noted
-      → IsAfterRenames mid.shown.files plan noted mid faults result new → IsAfterTags wanted noted old faults result new
+  pub tags-then : (plan : List Rename) (result : Result SyncReport WriteError) → plan ≡ renames_for old.shown wanted → mid.shown.files ≡ old.shown.files → AreTried mid.shown.files plan given
+      → IsAfterRenames mid.shown.files plan given mid faults result new → IsAfterTags wanted given old faults result new
   tags-then plan result are same tried h =
-      renames-then result (subst (λ (p : List Rename). AreTried old.shown.files p noted) are (subst (λ (f : List (List ℕ × Facts)). AreTried f plan noted) same tried))
-      (subst (λ (p : List Rename). IsAfterRenames old.shown.files p noted mid faults result new) are (subst (λ (f : List (List ℕ × Facts)). IsAfterRenames f plan noted mid faults result new) same h))
+      renames-then result (subst (λ (p : List Rename). AreTried old.shown.files p given) are (subst (λ (f : List (List ℕ × Facts)). AreTried f plan given) same tried))
+      (subst (λ (p : List Rename). IsAfterRenames old.shown.files p given mid faults result new) are (subst (λ (f : List (List ℕ × Facts)). IsAfterRenames f plan given mid faults result new) same h))
 
 -- whatever was tried, the moves fit behind the tags
-pub moves-fit : (fit : (index wanted : Base) (noted : List Given) → AreNumbered index → AreApart index.files → HasTried index wanted noted → FitInTurn index (tag_commits index wanted noted)) (old mid : WriterState) (wanted : Base) (plan : List Rename)
+pub moves-fit : (fit : (index wanted : Base) (given : List Given) → AreNumbered index → AreApart index.files → HasTried index wanted given → FitInTurn index (tag_commits index wanted given)) (old mid : WriterState) (wanted : Base) (plan : List Rename)
     → AreNumbered old.shown → AreApart old.shown.files → plan ≡ renames_for old.shown wanted → mid.shown.files ≡ old.shown.files → HasCommitted old (tag_commit old.shown wanted) mid
-    → (noted : List Given) → AreTried mid.shown.files plan noted → FitInTurn mid.shown (move_commit noted)
-moves-fit fit old mid wanted plan numbered apart are same made noted tried =
-    let tried_all : HasTried old.shown wanted noted = subst (λ (p : List Rename). AreTried old.shown.files p noted) are (subst (λ (f : List (List ℕ × Facts)). AreTried f plan noted) same tried) in
-    subst (λ (b : Base). FitInTurn b (move_commit noted)) (sym made.shown) (fit-second old.shown (tag_commit old.shown wanted) (move_commit noted) (fit old.shown wanted noted numbered apart tried_all))
+    → (given : List Given) → AreTried mid.shown.files plan given → FitInTurn mid.shown (move_commit given)
+moves-fit fit old mid wanted plan numbered apart are same made given tried =
+    let tried_all : HasTried old.shown wanted given = subst (λ (p : List Rename). AreTried old.shown.files p given) are (subst (λ (f : List (List ℕ × Facts)). AreTried f plan given) same tried) in
+    subst (λ (b : Base). FitInTurn b (move_commit given)) (sym made.shown) (fit-second old.shown (tag_commit old.shown wanted) (move_commit given) (fit old.shown wanted given numbered apart tried_all))

@@ -13,28 +13,28 @@ use Rattle.nm_maildir.specs.Tree.{Tree, renamed_of}
 use Rattle.nm_maildir.specs.declared.answers.MailError.{MailError}
 use Rattle.nm_maildir.specs.declared.answers.Renamed.{Renamed}
 use Rattle.nm_maildir.specs.declared.given.Given.{Given}
-use Rattle.nm_maildir.specs.declared.given.Given.TheVariants as given
+use Rattle.nm_maildir.specs.declared.given.Given.TheVariants as givens
 use Rattle.nm_answer.specs.Renaming.{Outcome, answer_given, note_of, outcomes}
 use Rattle.nm_plan.specs.Moving.{move_given}
 use Rattle.nm_writer.specs.declared.renaming.Renaming.{Renaming}
 
 -- the files of the index once the moves that were noted are made
-abbrev pub files_noted : List (List ℕ × Facts) → List Given → List (List ℕ × Facts)
-files_noted files noted = fold changed files (flat_map move_given noted)
+abbrev pub files_given : List (List ℕ × Facts) → List Given → List (List ℕ × Facts)
+files_given files given = fold changed files (flat_map move_given given)
 
 -- what becomes of these renames, by what was noted
-abbrev pub outcomes_noted : List (List ℕ × Facts) → List Rename → List Given → List Outcome
-outcomes_noted files plan noted = outcomes files plan (flat_map answer_given noted)
+abbrev pub outcomes_given : List (List ℕ × Facts) → List Rename → List Given → List Outcome
+outcomes_given files plan given = outcomes files plan (flat_map answer_given given)
 
 -- just the renames that are to be tried are noted, the first of them
 abbrev pub AreTried : List (List ℕ × Facts) → List Rename → List Given → Type 0
-AreTried files plan noted = noted ≡ flat_map note_of (outcomes_noted files plan noted)
+AreTried files plan given = given ≡ flat_map note_of (outcomes_given files plan given)
 
 -- what became of a rename, whatever stands behind it, and what is noted of it
 pub record IsDone (files : List (List ℕ × Facts)) (rename : Rename) (old new : List Given) : Type 0 where
   pub outcome : Outcome
-  pub first : (more : List Rename) (told : List Renamed) → outcomes files (rename ∷ more) (flat_map answer_given (note_of outcome) ++ told) ≡ outcome ∷ outcomes (files_noted files (note_of outcome)) more told
-  pub noted : new ≡ old ++ note_of outcome
+  pub first : (more : List Rename) (told : List Renamed) → outcomes files (rename ∷ more) (flat_map answer_given (note_of outcome) ++ told) ≡ outcome ∷ outcomes (files_given files (note_of outcome)) more told
+  pub given_is : new ≡ old ++ note_of outcome
 
 -- the rename is to be tried
 abbrev pub IsLeft : List (List ℕ × Facts) → Rename → Type 0
@@ -45,25 +45,25 @@ abbrev pub HasPlaces : List (List ℕ × Facts) → List (List ℕ × Facts) →
 HasPlaces before files places = (path : List ℕ) → has_path files path ≡ unwrap_or (get (slice_cmp nat_cmp) places path) (has_path before path)
 
 -- what is kept of the renames that are done: their moves, and which paths these freed and took
-pub record IsKept (files : List (List ℕ × Facts)) (noted : List Given) (done : Renaming) : Type 0 where
-  pub moves : done.moves ≡ flat_map move_given noted
-  pub places : HasPlaces files (files_noted files noted) done.places
+pub record IsKept (files : List (List ℕ × Facts)) (given : List Given) (done : Renaming) : Type 0 where
+  pub moves : done.moves ≡ flat_map move_given given
+  pub places : HasPlaces files (files_given files given) done.places
 
 -- the tree after renames, each answered as the tree then stood
 abbrev pub AnswersAlong : Tree → List Given → Tree → Type 0
 AnswersAlong tree [] after = after ≡ tree
-AnswersAlong tree (given.Listed paths ∷ more) after = ⊥
-AnswersAlong tree (given.Read path answer ∷ more) after = ⊥
-AnswersAlong tree (given.Renamed from to answer ∷ more) after = (answer ≡ renamed_of tree from to) × AnswersAlong (tree_with {E = MailError} tree from to (Ok answer)) more after
+AnswersAlong tree (givens.Listed paths ∷ more) after = ⊥
+AnswersAlong tree (givens.Read path answer ∷ more) after = ⊥
+AnswersAlong tree (givens.Renamed from to answer ∷ more) after = (answer ≡ renamed_of tree from to) × AnswersAlong (tree_with {E = MailError} tree from to (Ok answer)) more after
 
 -- the same, where the folder tells its tree
 abbrev pub TreesAlong : Option Tree → List Given → Option Tree → Type 0
-TreesAlong None noted after = after ≡ None
-TreesAlong (Some tree) noted after = (left : Tree) × (after ≡ Some left) × AnswersAlong tree noted left
+TreesAlong None given after = after ≡ None
+TreesAlong (Some tree) given after = (left : Tree) × (after ≡ Some left) × AnswersAlong tree given left
 
 -- The folder is asked for the renames that are noted, and for nothing else.
-pub record AsksRenames (old new : ObservedMail) (old_noted new_noted : List Given) : Type 0 where
+pub record AsksRenames (old new : ObservedMail) (old_given new_given : List Given) : Type 0 where
   pub more : List Given
-  pub noted : new_noted ≡ old_noted ++ more
+  pub given_is : new_given ≡ old_given ++ more
   pub tree : TreesAlong old.tree more new.tree
   pub reads : new.reads ≡ old.reads

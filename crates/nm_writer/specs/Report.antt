@@ -13,10 +13,10 @@ lacking files id = if has_id files id then [] else id ∷ []
 
 -- the report where so many files were removed; those that were added are the mails noted
 abbrev pub report_with : ℕ → List (List ℕ × Facts) → List (List ℕ × Facts) → List Given → NewReport
-report_with removed before after noted = record {
-  added = length (flat_map mail_given noted);
+report_with removed before after given = record {
+  added = length (flat_map mail_given given);
   removed = removed;
   born = length (only_in before after);
   died = length (only_in after before);
-  skipped = flat_map skip_given noted;
+  skipped = flat_map skip_given given;
 }

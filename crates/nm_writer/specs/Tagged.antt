@@ -10,7 +10,7 @@ use Rattle.nm_answer.specs.Renaming.{renames_done, renames_for, sync_report, unm
 use Rattle.nm_plan.specs.Moving.{HasDoneAll, HasTried, move_commit, tag_commits}
 use Rattle.nm_plan.specs.Tagging.{tag_commit}
 use Rattle.nm_answer.specs.declared.sync_report.SyncReport.{SyncReport}
-use Rattle.nm_writer.specs.Renamed.{outcomes_noted}
+use Rattle.nm_writer.specs.Renamed.{outcomes_given}
 use Rattle.nm_writer.specs.Writer.{WriterState}
 use Rattle.nm_writer.specs.Writing.{FailsWithin, HasCommitted, IsAfterCommits, PassesWithin, StopsWithin}
 use Rattle.nm_writer.specs.declared.write_error.WriteError.{WriteError}
@@ -24,24 +24,24 @@ pub record MakesOrRefuses (old : WriterState) (due : List Commit) (faults : ℕ)
 -- What the renames leave, and the commit of the moves behind them. Where the folder fails in a rename not all are done, and the commit of
 -- the moves so far is made where nothing refuses it.
 abbrev pub IsAfterRenames : List (List ℕ × Facts) → List Rename → List Given → WriterState → ℕ → Result SyncReport WriteError → WriterState → Type 0
-IsAfterRenames files plan noted old faults (Ok report) new =
-    (length (outcomes_noted files plan noted) ≡ length plan) × HasCommitted old (move_commit noted) new × (report.unmoved ≡ flat_map unmoved_in (outcomes_noted files plan noted))
-IsAfterRenames files plan noted old faults (Err errors.MailFault) new = (length (outcomes_noted files plan noted) < length plan) × MakesOrRefuses old (move_commit noted) faults new
-IsAfterRenames files plan noted old faults (Err errors.DiskFault) new = FailsWithin old (move_commit noted) faults new
-IsAfterRenames files plan noted old faults (Err (errors.Closed fault)) new = ⊥
-IsAfterRenames files plan noted old faults (Err (errors.Limit limit)) new = PassesWithin old (move_commit noted) limit new
-IsAfterRenames files plan noted old faults (Err errors.NoMemory) new = StopsWithin old (move_commit noted) new
+IsAfterRenames files plan given old faults (Ok report) new =
+    (length (outcomes_given files plan given) ≡ length plan) × HasCommitted old (move_commit given) new × (report.unmoved ≡ flat_map unmoved_in (outcomes_given files plan given))
+IsAfterRenames files plan given old faults (Err errors.MailFault) new = (length (outcomes_given files plan given) < length plan) × MakesOrRefuses old (move_commit given) faults new
+IsAfterRenames files plan given old faults (Err errors.DiskFault) new = FailsWithin old (move_commit given) faults new
+IsAfterRenames files plan given old faults (Err (errors.Closed fault)) new = ⊥
+IsAfterRenames files plan given old faults (Err (errors.Limit limit)) new = PassesWithin old (move_commit given) limit new
+IsAfterRenames files plan given old faults (Err errors.NoMemory) new = StopsWithin old (move_commit given) new
 
 -- What a command that wants these tags leaves, the folder being asked as was noted. The commit of tags is made, all renames are done, and
 -- the commit of the moves is made; or by its error: the folder failed in a rename, so that not all are done, and the tags stay, and the moves
 -- made so far where nothing refuses their commit; or one of the commits failed on the disk or would pass a limit; memory may be wanting anywhere.
 abbrev pub IsAfterTags : Base → List Given → WriterState → ℕ → Result SyncReport WriteError → WriterState → Type 0
-IsAfterTags wanted noted old faults (Ok report) new =
-    HasTried old.shown wanted noted × HasDoneAll old.shown wanted noted × HasCommitted old (tag_commits old.shown wanted noted) new × (report ≡ sync_report old.shown wanted noted)
-IsAfterTags wanted noted old faults (Err errors.MailFault) new =
-    HasTried old.shown wanted noted × (length (renames_done old.shown wanted noted) < length (renames_for old.shown wanted))
-    × ((mid : WriterState) × HasCommitted old (tag_commit old.shown wanted) mid × MakesOrRefuses mid (move_commit noted) faults new)
-IsAfterTags wanted noted old faults (Err errors.DiskFault) new = HasTried old.shown wanted noted × FailsWithin old (tag_commits old.shown wanted noted) faults new
-IsAfterTags wanted noted old faults (Err (errors.Closed fault)) new = (old.closed ≡ Some fault) × (noted ≡ []) × (new ≡ old)
-IsAfterTags wanted noted old faults (Err (errors.Limit limit)) new = HasTried old.shown wanted noted × PassesWithin old (tag_commits old.shown wanted noted) limit new
-IsAfterTags wanted noted old faults (Err errors.NoMemory) new = HasTried old.shown wanted noted × StopsWithin old (tag_commits old.shown wanted noted) new
+IsAfterTags wanted given old faults (Ok report) new =
+    HasTried old.shown wanted given × HasDoneAll old.shown wanted given × HasCommitted old (tag_commits old.shown wanted given) new × (report ≡ sync_report old.shown wanted given)
+IsAfterTags wanted given old faults (Err errors.MailFault) new =
+    HasTried old.shown wanted given × (length (renames_done old.shown wanted given) < length (renames_for old.shown wanted))
+    × ((mid : WriterState) × HasCommitted old (tag_commit old.shown wanted) mid × MakesOrRefuses mid (move_commit given) faults new)
+IsAfterTags wanted given old faults (Err errors.DiskFault) new = HasTried old.shown wanted given × FailsWithin old (tag_commits old.shown wanted given) faults new
+IsAfterTags wanted given old faults (Err (errors.Closed fault)) new = (old.closed ≡ Some fault) × (given ≡ []) × (new ≡ old)
+IsAfterTags wanted given old faults (Err (errors.Limit limit)) new = HasTried old.shown wanted given × PassesWithin old (tag_commits old.shown wanted given) limit new
+IsAfterTags wanted given old faults (Err errors.NoMemory) new = HasTried old.shown wanted given × StopsWithin old (tag_commits old.shown wanted given) new

@@ -55,23 +55,23 @@ impl Writer {
         rt: &R,
         mail: &mut M,
         disk: &mut D,
-        noted: &mut Many<Given>,
+        given: &mut Many<Given>,
     ) -> Result<NewReport, WriteError>
-        requires fresh { noted.old ≡ [] }
+        requires fresh { given.old ≡ [] }
         requires stands { self.old.closed ≡ None → IfSome (D.observed disk.old).told (λ moments. StandsOnIndex moments.present self.old) }
 
         // All commits that are due are made, or by the error the first of them; the report is that of the index before and after.
         // Whatever the error, the commits of the batches before it stay.
-        ensures after { IsAfterNew (M.observed mail.old).tree noted.new self.old (D.observed disk.new).faults result self.new }
+        ensures after { IsAfterNew (M.observed mail.old).tree given.new self.old (D.observed disk.new).faults result self.new }
 
         // After all went well over a tree that is told, the files are the listed ones that are mail, those that have come with the facts of
         // their bytes.
-        ensures mail { IfSome (M.observed mail.old).tree (λ tree. IfOk result (λ _. HoldsTheMail tree (listed_in noted.new) self.old.shown.files self.new.shown.files)) }
+        ensures mail { IfSome (M.observed mail.old).tree (λ tree. IfOk result (λ _. HoldsTheMail tree (listed_in given.new) self.old.shown.files self.new.shown.files)) }
 
         // A writer that is closed says so, and no device is asked.
         ensures closed { IfSome self.old.closed (λ fault. (result ≡ Err (WriteError.Closed fault)) × (M.observed mail.new ≡ M.observed mail.old) × (D.observed disk.new ≡ D.observed disk.old)) }
 
-        ensures asks { AsksNew (M.observed mail.old) (M.observed mail.new) self.old.shown.files noted.new }
+        ensures asks { AsksNew (M.observed mail.old) (M.observed mail.new) self.old.shown.files given.new }
         ensures tree { (M.observed mail.new).tree ≡ (M.observed mail.old).tree }
         ensures mail_cause { HasCauseOf is_read_fault (M.observed mail.old).faults (M.observed mail.new).faults result }
         ensures disk_cause { HasCauseOf is_write_fault (D.observed disk.old).faults (D.observed disk.new).faults result }
@@ -86,7 +86,7 @@ impl Writer {
         new_leaves_what_is_listed();
         match self.closed {
             Some(fault) => Err(WriteError::Closed { fault }),
-            None => self.scan_and_take_in(rt, mail, disk, noted),
+            None => self.scan_and_take_in(rt, mail, disk, given),
         }
     }
 
@@ -96,13 +96,13 @@ impl Writer {
         rt: &R,
         mail: &mut M,
         disk: &mut D,
-        noted: &mut Many<Given>,
+        given: &mut Many<Given>,
     ) -> Result<NewReport, WriteError>
         requires alive { self.old.closed ≡ None }
-        requires fresh { noted.old ≡ [] }
+        requires fresh { given.old ≡ [] }
         requires stands { IfSome (D.observed disk.old).told (λ moments. StandsOnIndex moments.present self.old) }
-        ensures after { IsAfterNew (M.observed mail.old).tree noted.new self.old (D.observed disk.new).faults result self.new }
-        ensures asks { AsksNew (M.observed mail.old) (M.observed mail.new) self.old.shown.files noted.new }
+        ensures after { IsAfterNew (M.observed mail.old).tree given.new self.old (D.observed disk.new).faults result self.new }
+        ensures asks { AsksNew (M.observed mail.old) (M.observed mail.new) self.old.shown.files given.new }
         ensures tree { (M.observed mail.new).tree ≡ (M.observed mail.old).tree }
         ensures mail_cause { HasCauseOf is_read_fault (M.observed mail.old).faults (M.observed mail.new).faults result }
         ensures disk_cause { HasCauseOf is_write_fault (D.observed disk.old).faults (D.observed disk.new).faults result }
@@ -110,8 +110,8 @@ impl Writer {
         ensures durable { (entry : ObservedDisk) (opening : Base) → IsDurable entry opening (D.observed disk.old) self.old
             → IsDurable entry opening (D.observed disk.new) self.new }
     {
-        match compare(self.alloc, self.snapshot(), mail, noted) {
-            Ok(compared) => self.take_in(rt, mail, disk, compared, noted),
+        match compare(self.alloc, self.snapshot(), mail, given) {
+            Ok(compared) => self.take_in(rt, mail, disk, compared, given),
             Err(ScanError::MailFault) => Err(WriteError::MailFault),
             Err(ScanError::Limit(limit)) => Err(WriteError::Limit(limit)),
             Err(ScanError::NoMemory) => Err(WriteError::NoMemory),
@@ -125,13 +125,13 @@ impl Writer {
         mail: &mut M,
         disk: &mut D,
         compared: Compared,
-        noted: &mut Many<Given>,
+        given: &mut Many<Given>,
     ) -> Result<NewReport, WriteError>
         requires alive { self.old.closed ≡ None }
-        requires listed { HasListed (M.observed mail.old).tree self.old.shown.files noted.old compared }
+        requires listed { HasListed (M.observed mail.old).tree self.old.shown.files given.old compared }
         requires stands { IfSome (D.observed disk.old).told (λ moments. StandsOnIndex moments.present self.old) }
-        ensures after { IsAfterNew (M.observed mail.old).tree noted.new self.old (D.observed disk.new).faults result self.new }
-        ensures asks { AsksNew (M.observed mail.old) (M.observed mail.new) self.old.shown.files noted.new }
+        ensures after { IsAfterNew (M.observed mail.old).tree given.new self.old (D.observed disk.new).faults result self.new }
+        ensures asks { AsksNew (M.observed mail.old) (M.observed mail.new) self.old.shown.files given.new }
         ensures tree { (M.observed mail.new).tree ≡ (M.observed mail.old).tree }
         ensures mail_cause { HasCauseOf is_read_fault (M.observed mail.old).faults (M.observed mail.new).faults result }
         ensures disk_cause { HasCauseOf is_write_fault (D.observed disk.old).faults (D.observed disk.new).faults result }
@@ -149,13 +149,13 @@ impl Writer {
         } = compared;
         let removed = gone.len() as u64;
         let went = drops(self.alloc, gone)?;
-        match self.take_in_batches(rt, mail, disk, unknown, noted) {
+        match self.take_in_batches(rt, mail, disk, unknown, given) {
             Ok(()) => {
                 let gone = Gone {
                     changes: went,
                     ids: gone_ids,
                 };
-                self.let_go(rt, disk, &before, gone, removed, noted.as_slice())
+                self.let_go(rt, disk, &before, gone, removed, given.as_slice())
             },
             Err(error) => Err(error),
         }
@@ -168,12 +168,12 @@ impl Writer {
         mail: &mut M,
         disk: &mut D,
         unknown: Many<MailPath>,
-        noted: &mut Many<Given>,
+        given: &mut Many<Given>,
     ) -> Result<(), WriteError>
         requires alive { self.old.closed ≡ None }
         requires unknown { AreUnknown self.old.shown.files unknown }
         requires stands { IfSome (D.observed disk.old).told (λ moments. StandsOnIndex moments.present self.old) }
-        ensures after { IsAfterBatches (record { mail = M.observed mail.old; noted = noted.old }) (record { mail = M.observed mail.new; noted = noted.new })
+        ensures after { IsAfterBatches (record { mail = M.observed mail.old; given = given.old }) (record { mail = M.observed mail.new; given = given.new })
             unknown self.old (D.observed disk.new).faults result self.new }
         ensures mail_cause { HasCauseOf is_read_fault (M.observed mail.old).faults (M.observed mail.new).faults result }
         ensures disk_cause { HasCauseOf is_write_fault (D.observed disk.old).faults (D.observed disk.new).faults result }
@@ -188,7 +188,7 @@ impl Writer {
         a_batch_that_stops_is_unfinished();
         let mut paths = unknown.into_vec().into_iter();
         'batches: while paths.len() > 0 {
-            match self.take_in_batch(rt, mail, disk, &mut paths, noted) {
+            match self.take_in_batch(rt, mail, disk, &mut paths, given) {
                 Ok(()) => {}
                 Err(error) => return Err(error),
             }
@@ -203,14 +203,14 @@ impl Writer {
         mail: &mut M,
         disk: &mut D,
         paths: &mut IntoIter<MailPath, Global>,
-        noted: &mut Many<Given>,
+        given: &mut Many<Given>,
     ) -> Result<(), WriteError>
         requires alive { self.old.closed ≡ None }
         requires whole { into_iter_len paths.old ≡ length (into_iter_items paths.old) }
         requires some { 0 < length (into_iter_items paths.old) }
-        requires fit { BatchFits self.old.shown (record { mail = M.observed mail.old; noted = noted.old }) (into_iter_items paths.old) }
+        requires fit { BatchFits self.old.shown (record { mail = M.observed mail.old; given = given.old }) (into_iter_items paths.old) }
         requires stands { IfSome (D.observed disk.old).told (λ moments. StandsOnIndex moments.present self.old) }
-        ensures after { IsAfterBatch (record { mail = M.observed mail.old; noted = noted.old }) (record { mail = M.observed mail.new; noted = noted.new })
+        ensures after { IsAfterBatch (record { mail = M.observed mail.old; given = given.old }) (record { mail = M.observed mail.new; given = given.new })
             (into_iter_items paths.old) (into_iter_items paths.new) self.old (D.observed disk.new).faults result self.new }
         ensures whole { into_iter_len paths.new ≡ length (into_iter_items paths.new) }
         ensures mail_cause { HasCauseOf is_read_fault (M.observed mail.old).faults (M.observed mail.new).faults result }
@@ -219,7 +219,7 @@ impl Writer {
         ensures durable { (entry : ObservedDisk) (opening : Base) → IsDurable entry opening (D.observed disk.old) self.old
             → IsDurable entry opening (D.observed disk.new) self.new }
     {
-        match read_batch(self.alloc, mail, paths, noted) {
+        match read_batch(self.alloc, mail, paths, given) {
             Ok(added) => self.commit_added(rt, disk, added),
             Err(MailError::Failed) => Err(WriteError::MailFault),
             Err(MailError::NoMemory) => Err(WriteError::NoMemory),
@@ -257,14 +257,14 @@ impl Writer {
         before: &Snapshot,
         gone: Gone,
         removed: u64,
-        noted: &[Given],
+        given: &[Given],
     ) -> Result<NewReport, WriteError>
         requires alive { self.old.closed ≡ None }
         requires before { (commits : List Commit) × (self.old.shown ≡ folded before.now commits) }
         requires fit { FitInTurn self.old.shown (commit_of self.old.shown gone.changes gone.ids) }
         requires stands { IfSome (D.observed disk.old).told (λ moments. StandsOnIndex moments.present self.old) }
         ensures after { IsAfterCommits self.old (commit_of self.old.shown gone.changes gone.ids) (D.observed disk.new).faults result self.new }
-        ensures report { IfOk result (λ report. report ≡ report_with removed before.now.files self.new.shown.files noted.now) }
+        ensures report { IfOk result (λ report. report ≡ report_with removed before.now.files self.new.shown.files given.now) }
         ensures cause { HasCauseOf is_write_fault (D.observed disk.old).faults (D.observed disk.new).faults result }
         ensures stands { self.new.closed ≡ None → IfSome (D.observed disk.new).told (λ moments. StandsOnIndex moments.present self.new) }
         ensures durable { (entry : ObservedDisk) (opening : Base) → IsDurable entry opening (D.observed disk.old) self.old
@@ -273,7 +273,7 @@ impl Writer {
         let Gone { changes, ids } = gone;
         match self.commit_some(rt, disk, changes, &ids) {
             Ok(()) => {
-                let report = report(self.alloc, before, self.snapshot(), removed, noted)?;
+                let report = report(self.alloc, before, self.snapshot(), removed, given)?;
                 Ok(report)
             }
             Err(error) => Err(error),

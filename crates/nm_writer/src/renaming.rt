@@ -10,7 +10,7 @@ ghost use Rattle.nm_commit.specs.Files.{has_path, with_moved};
 ghost use Rattle.nm_maildir.specs.Observed.{HasMailCause};
 ghost use Rattle.nm_answer.specs.Renaming.{files_moved, unmoved_by, unmoved_in};
 ghost use Rattle.nm_plan.specs.Moving.{move_given, move_if};
-ghost use Rattle.nm_writer.specs.Renamed.{AreTried, AsksRenames, HasPlaces, IsDone, IsKept, IsLeft, files_noted, outcomes_noted};
+ghost use Rattle.nm_writer.specs.Renamed.{AreTried, AsksRenames, HasPlaces, IsDone, IsKept, IsLeft, files_given, outcomes_given};
 
 use nm_answer::Unmoved;
 use nm_base::{Copies, MailPath, Many, NoMemory};
@@ -53,22 +53,22 @@ pub(crate) fn rename_all<M: Maildir>(
     shown: &Snapshot,
     plan: Many<Rename>,
     done: &mut Renaming,
-    noted: &mut Many<Given>,
+    given: &mut Many<Given>,
 ) -> Result<(), MailError>
-    requires fresh { noted.old ≡ [] }
+    requires fresh { given.old ≡ [] }
     requires none { done.old.unmoved ≡ [] }
-    requires kept { IsKept shown.now.files noted.old done.old }
-    ensures tried { AreTried shown.now.files plan noted.new }
-    ensures all { OnOk result (length (outcomes_noted shown.now.files plan noted.new) ≡ length plan) }
-    ensures unmoved { OnOk result (done.new.unmoved ≡ flat_map unmoved_in (outcomes_noted shown.now.files plan noted.new)) }
-    ensures failed { result ≡ Err MailError.Failed → length (outcomes_noted shown.now.files plan noted.new) < length plan }
-    ensures moves { OnOk result (done.new.moves ≡ flat_map move_given noted.new) }
-    ensures moves_failed { result ≡ Err MailError.Failed → done.new.moves ≡ flat_map move_given noted.new }
-    ensures asks { AsksRenames (M.observed mail.old) (M.observed mail.new) noted.old noted.new }
+    requires kept { IsKept shown.now.files given.old done.old }
+    ensures tried { AreTried shown.now.files plan given.new }
+    ensures all { OnOk result (length (outcomes_given shown.now.files plan given.new) ≡ length plan) }
+    ensures unmoved { OnOk result (done.new.unmoved ≡ flat_map unmoved_in (outcomes_given shown.now.files plan given.new)) }
+    ensures failed { result ≡ Err MailError.Failed → length (outcomes_given shown.now.files plan given.new) < length plan }
+    ensures moves { OnOk result (done.new.moves ≡ flat_map move_given given.new) }
+    ensures moves_failed { result ≡ Err MailError.Failed → done.new.moves ≡ flat_map move_given given.new }
+    ensures asks { AsksRenames (M.observed mail.old) (M.observed mail.new) given.old given.new }
     ensures cause { HasMailCause (M.observed mail.old).faults (M.observed mail.new).faults result }
 {
     'renames: for rename in plan.into_vec() {
-        match rename_one(alloc, mail, shown, rename, done, noted) {
+        match rename_one(alloc, mail, shown, rename, done, given) {
             Ok(()) => {}
             Err(error) => return Err(error),
         }
@@ -83,14 +83,14 @@ fn rename_one<M: Maildir>(
     shown: &Snapshot,
     rename: Rename,
     done: &mut Renaming,
-    noted: &mut Many<Given>,
+    given: &mut Many<Given>,
 ) -> Result<(), MailError>
-    requires kept { IsKept shown.now.files noted.old done.old }
-    ensures kept { OnOk result (IsKept shown.now.files noted.new done.new) }
-    ensures done { OnOk result ((step : IsDone (files_noted shown.now.files noted.old) rename noted.old noted.new) × (done.new.unmoved ≡ done.old.unmoved ++ unmoved_in step.outcome)) }
-    ensures failed { result ≡ Err MailError.Failed → (noted.new ≡ noted.old) × (done.new.moves ≡ done.old.moves) × IsLeft (files_noted shown.now.files noted.old) rename }
-    ensures stops { OnErr result ((noted.new ≡ noted.old) ⊎ IsDone (files_noted shown.now.files noted.old) rename noted.old noted.new) }
-    ensures asks { AsksRenames (M.observed mail.old) (M.observed mail.new) noted.old noted.new }
+    requires kept { IsKept shown.now.files given.old done.old }
+    ensures kept { OnOk result (IsKept shown.now.files given.new done.new) }
+    ensures done { OnOk result ((step : IsDone (files_given shown.now.files given.old) rename given.old given.new) × (done.new.unmoved ≡ done.old.unmoved ++ unmoved_in step.outcome)) }
+    ensures failed { result ≡ Err MailError.Failed → (given.new ≡ given.old) × (done.new.moves ≡ done.old.moves) × IsLeft (files_given shown.now.files given.old) rename }
+    ensures stops { OnErr result ((given.new ≡ given.old) ⊎ IsDone (files_given shown.now.files given.old) rename given.old given.new) }
+    ensures asks { AsksRenames (M.observed mail.old) (M.observed mail.new) given.old given.new }
     ensures cause { HasMailCause (M.observed mail.old).faults (M.observed mail.new).faults result }
 {
     let Rename { from, to } = rename;
@@ -102,7 +102,7 @@ fn rename_one<M: Maildir>(
         done.unmoved.push((from, Unmoved::Exists))?;
         return Ok(());
     }
-    match try_rename(alloc, mail, &from, &to, noted) {
+    match try_rename(alloc, mail, &from, &to, given) {
         Ok(answer) => {
             follow(shown, from, to, answer, done)?;
             Ok(())
@@ -127,40 +127,40 @@ fn try_rename<M: Maildir>(
     mail: &mut M,
     from: &MailPath,
     to: &MailPath,
-    noted: &mut Many<Given>,
+    given: &mut Many<Given>,
 ) -> Result<Renamed, MailError>
-    ensures ok { IfOk result (λ answer. noted.new ≡ noted.old ++ Given.Renamed from.now to.now answer ∷ []) }
-    ensures err { OnErr result (noted.new ≡ noted.old) }
-    ensures asks { AsksRenames (M.observed mail.old) (M.observed mail.new) noted.old noted.new }
+    ensures ok { IfOk result (λ answer. given.new ≡ given.old ++ Given.Renamed from.now to.now answer ∷ []) }
+    ensures err { OnErr result (given.new ≡ given.old) }
+    ensures asks { AsksRenames (M.observed mail.old) (M.observed mail.new) given.old given.new }
     ensures cause { HasMailCause (M.observed mail.old).faults (M.observed mail.new).faults result }
 {
-    let noted_from = from.copy()?;
-    let noted_to = to.copy()?;
-    noted.push(Given::Listed(Many::new(alloc)))?;
+    let given_from = from.copy()?;
+    let given_to = to.copy()?;
+    given.push(Given::Listed(Many::new(alloc)))?;
     match mail.rename(from, to) {
         Ok(answer) => {
-            let given = Given::Renamed {
-                from: noted_from,
-                to: noted_to,
+            let renamed = Given::Renamed {
+                from: given_from,
+                to: given_to,
                 answer,
             };
-            replace_last(noted, given);
+            replace_last(given, renamed);
             Ok(answer)
         }
         Err(error) => {
-            noted.pop();
+            given.pop();
             Err(error)
         }
     }
 }
 
 /// Puts this in the place of the last note.
-fn replace_last(noted: &mut Many<Given>, given: Given)
-    requires { 0 < length noted.old }
-    ensures { (front : List Given) (last : Given) → noted.old ≡ front ++ last ∷ [] → noted.new ≡ front ++ given ∷ [] }
+fn replace_last(given: &mut Many<Given>, renamed: Given)
+    requires { 0 < length given.old }
+    ensures { (front : List Given) (last : Given) → given.old ≡ front ++ last ∷ [] → given.new ≡ front ++ renamed ∷ [] }
 {
-    let at = noted.len() - 1;
-    noted.replace(at, given);
+    let at = given.len() - 1;
+    given.replace(at, renamed);
 }
 
 /// Keeps what follows from the answer: a move with its two places, or the file that keeps its name.

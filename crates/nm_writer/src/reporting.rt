@@ -21,14 +21,14 @@ pub(crate) fn report(
     before: &Snapshot,
     after: &Snapshot,
     removed: u64,
-    noted: &[Given],
+    given: &[Given],
 ) -> Result<NewReport, NoMemory>
     requires { (commits : List Commit) × (after.now ≡ folded before.now commits) }
-    ensures { IfOk result (λ report. report ≡ report_with removed before.now.files after.now.files noted.now) }
+    ensures { IfOk result (λ report. report ≡ report_with removed before.now.files after.now.files given.now) }
 {
-    let added = count_mails(noted);
+    let added = count_mails(given);
     let (born, died) = messages_changed(alloc, before, after)?;
-    let skipped = skips(alloc, noted)?;
+    let skipped = skips(alloc, given)?;
     Ok(NewReport {
         added,
         removed,
@@ -39,22 +39,22 @@ pub(crate) fn report(
 }
 
 /// How many files were read and found to be mail.
-fn count_mails(noted: &[Given]) -> u64
-    ensures { result ≡ length (flat_map mail_given noted.now) }
+fn count_mails(given: &[Given]) -> u64
+    ensures { result ≡ length (flat_map mail_given given.now) }
 {
     let mut count: usize = 0;
-    'noted: for given in noted {
-        if is_mail(given) {
+    'given: for answer in given {
+        if is_mail(answer) {
             count += 1;
         }
     }
     count as u64
 }
 
-fn is_mail(given: &Given) -> bool
-    ensures { (if result then 1 else 0) ≡ length (mail_given given.now) }
+fn is_mail(answer: &Given) -> bool
+    ensures { (if result then 1 else 0) ≡ length (mail_given answer.now) }
 {
-    match given {
+    match answer {
         Given::Read { path: _, answer } => matches!(answer, ReadAnswer::Mail),
         Given::Listed(_) | Given::Renamed { .. } => false,
     }
@@ -115,20 +115,20 @@ pub(crate) fn has_message(snapshot: &Snapshot, id: &MessageId) -> bool
 }
 
 /// The files that were read and passed over.
-fn skips(alloc: Global, noted: &[Given]) -> Result<Many<(MailPath, Skip)>, NoMemory>
-    ensures { IfOk result (λ skips. skips ≡ flat_map skip_given noted.now) }
+fn skips(alloc: Global, given: &[Given]) -> Result<Many<(MailPath, Skip)>, NoMemory>
+    ensures { IfOk result (λ skips. skips ≡ flat_map skip_given given.now) }
 {
     let mut skips = Many::new(alloc);
-    'noted: for given in noted {
-        add_skip(&mut skips, given)?;
+    'given: for answer in given {
+        add_skip(&mut skips, answer)?;
     }
     Ok(skips)
 }
 
-fn add_skip(skips: &mut Many<(MailPath, Skip)>, given: &Given) -> Result<(), NoMemory>
-    ensures { OnOk result (skips.new ≡ skips.old ++ skip_given given.now) }
+fn add_skip(skips: &mut Many<(MailPath, Skip)>, answer: &Given) -> Result<(), NoMemory>
+    ensures { OnOk result (skips.new ≡ skips.old ++ skip_given answer.now) }
 {
-    match given {
+    match answer {
         Given::Read { path, answer } => add_read(skips, path, answer),
         _ => Ok(()),
     }

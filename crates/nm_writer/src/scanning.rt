@@ -31,14 +31,14 @@ pub(crate) fn compare<M: Maildir>(
     alloc: Global,
     shown: &Snapshot,
     mail: &mut M,
-    noted: &mut Many<Given>,
+    given: &mut Many<Given>,
 ) -> Result<Compared, ScanError>
-    requires { noted.old ≡ [] }
-    ensures ok { IfOk result (HasListed (M.observed mail.old).tree shown.now.files noted.new) }
+    requires { given.old ≡ [] }
+    ensures ok { IfOk result (HasListed (M.observed mail.old).tree shown.now.files given.new) }
     ensures mail { IfOk result (λ _. M.observed mail.new ≡ M.observed mail.old) }
-    ensures unlisted { IfErr result (λ error. error ≡ ScanError.MailFault → noted.new ≡ []) }
-    ensures limit { (limit : Limit) → result ≡ Err (ScanError.Limit limit) → (noted.new ≡ []) × PassesListing (M.observed mail.old).tree limit }
-    ensures asked { AsksNew (M.observed mail.old) (M.observed mail.new) shown.now.files noted.new }
+    ensures unlisted { IfErr result (λ error. error ≡ ScanError.MailFault → given.new ≡ []) }
+    ensures limit { (limit : Limit) → result ≡ Err (ScanError.Limit limit) → (given.new ≡ []) × PassesListing (M.observed mail.old).tree limit }
+    ensures asked { AsksNew (M.observed mail.old) (M.observed mail.new) shown.now.files given.new }
     ensures tree { (M.observed mail.new).tree ≡ (M.observed mail.old).tree }
     ensures cause { HasCauseOf is_scan_fault (M.observed mail.old).faults (M.observed mail.new).faults result }
 {
@@ -46,7 +46,7 @@ pub(crate) fn compare<M: Maildir>(
         Ok(listed) => listed,
         Err(error) => return Err(error),
     };
-    note_listed(alloc, &listed, noted)?;
+    note_listed(alloc, &listed, given)?;
     let unknown = unknown_paths(alloc, shown, &listed)?;
     let gone = gone_paths(alloc, shown, &listed)?;
     let gone_ids = gone_ids(alloc, shown, &listed)?;
@@ -60,14 +60,14 @@ pub(crate) fn compare<M: Maildir>(
 fn note_listed(
     alloc: Global,
     listed: &TextSet<MailPath>,
-    noted: &mut Many<Given>,
+    given: &mut Many<Given>,
 ) -> Result<(), NoMemory>
-    ensures ok { OnOk result (noted.new ≡ noted.old ++ Given.Listed listed.now ∷ []) }
+    ensures ok { OnOk result (given.new ≡ given.old ++ Given.Listed listed.now ∷ []) }
     ensures rising { OnOk result (IsSorted listed.now) }
-    ensures err { OnErr result (noted.new ≡ noted.old) }
+    ensures err { OnErr result (given.new ≡ given.old) }
 {
     let paths = listed.to_list(alloc)?;
-    noted.push(Given::Listed(paths))?;
+    given.push(Given::Listed(paths))?;
     Ok(())
 }
 

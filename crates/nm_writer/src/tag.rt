@@ -38,20 +38,20 @@ impl Writer {
         disk: &mut D,
         lines: &Many<Tagging>,
         moment: i64,
-        noted: &mut Many<Given>,
+        given: &mut Many<Given>,
     ) -> Result<SyncReport, WriteError>
         requires moment { IsMoment moment }
-        requires fresh { noted.old ≡ [] }
+        requires fresh { given.old ≡ [] }
         requires stands { self.old.closed ≡ None → IfSome (D.observed disk.old).told (λ moments. StandsOnIndex moments.present self.old) }
 
         // Both commits are made, or by the error the first of them; the report is of the renames that the tags ask for.
-        ensures after { IsAfterTags (wanted_by moment self.old.shown lines.now) noted.new self.old (D.observed disk.new).faults result self.new }
+        ensures after { IsAfterTags (wanted_by moment self.old.shown lines.now) given.new self.old (D.observed disk.new).faults result self.new }
 
         // A writer that is closed says so, and no device is asked.
         ensures closed { IfSome self.old.closed (λ fault. (result ≡ Err (WriteError.Closed fault)) × (M.observed mail.new ≡ M.observed mail.old) × (D.observed disk.new ≡ D.observed disk.old)) }
 
         // The folder is asked for the renames that are noted, and for nothing else.
-        ensures asks { AsksRenames (M.observed mail.old) (M.observed mail.new) noted.old noted.new }
+        ensures asks { AsksRenames (M.observed mail.old) (M.observed mail.new) given.old given.new }
         ensures mail_cause { HasCauseOf is_read_fault (M.observed mail.old).faults (M.observed mail.new).faults result }
 
         // The disk's count rose exactly where the writer is closed now; after a fault of the folder that may be so too.
@@ -64,7 +64,7 @@ impl Writer {
     {
         match self.closed {
             Some(fault) => Err(WriteError::Closed { fault }),
-            None => self.want_and_set(rt, mail, disk, lines, moment, noted),
+            None => self.want_and_set(rt, mail, disk, lines, moment, given),
         }
     }
 
@@ -76,14 +76,14 @@ impl Writer {
         disk: &mut D,
         lines: &Many<Tagging>,
         moment: i64,
-        noted: &mut Many<Given>,
+        given: &mut Many<Given>,
     ) -> Result<SyncReport, WriteError>
         requires moment { IsMoment moment }
         requires alive { self.old.closed ≡ None }
-        requires fresh { noted.old ≡ [] }
+        requires fresh { given.old ≡ [] }
         requires stands { IfSome (D.observed disk.old).told (λ moments. StandsOnIndex moments.present self.old) }
-        ensures after { IsAfterTags (wanted_by moment self.old.shown lines.now) noted.new self.old (D.observed disk.new).faults result self.new }
-        ensures asks { AsksRenames (M.observed mail.old) (M.observed mail.new) noted.old noted.new }
+        ensures after { IsAfterTags (wanted_by moment self.old.shown lines.now) given.new self.old (D.observed disk.new).faults result self.new }
+        ensures asks { AsksRenames (M.observed mail.old) (M.observed mail.new) given.old given.new }
         ensures mail_cause { HasCauseOf is_read_fault (M.observed mail.old).faults (M.observed mail.new).faults result }
         ensures disk_cause { Counts (is_some self.new.closed) (D.observed disk.old).faults (D.observed disk.new).faults }
         ensures stands { self.new.closed ≡ None → IfSome (D.observed disk.new).told (λ moments. StandsOnIndex moments.present self.new) }
@@ -91,7 +91,7 @@ impl Writer {
             → IsDurable entry opening (D.observed disk.new) self.new }
     {
         match wanted_by(self.alloc, self.snapshot(), lines.as_slice(), moment) {
-            Ok(wanted) => self.set_tags(rt, mail, disk, &wanted, noted),
+            Ok(wanted) => self.set_tags(rt, mail, disk, &wanted, given),
             Err(error) => Err(error.into()),
         }
     }
@@ -103,14 +103,14 @@ impl Writer {
         mail: &mut M,
         disk: &mut D,
         wanted: &Wanted,
-        noted: &mut Many<Given>,
+        given: &mut Many<Given>,
     ) -> Result<SyncReport, WriteError>
         requires alive { self.old.closed ≡ None }
         requires touched { AreTouched self.old.shown wanted.now.after wanted.now.ids }
-        requires fresh { noted.old ≡ [] }
+        requires fresh { given.old ≡ [] }
         requires stands { IfSome (D.observed disk.old).told (λ moments. StandsOnIndex moments.present self.old) }
-        ensures after { IsAfterTags wanted.now.after noted.new self.old (D.observed disk.new).faults result self.new }
-        ensures asks { AsksRenames (M.observed mail.old) (M.observed mail.new) noted.old noted.new }
+        ensures after { IsAfterTags wanted.now.after given.new self.old (D.observed disk.new).faults result self.new }
+        ensures asks { AsksRenames (M.observed mail.old) (M.observed mail.new) given.old given.new }
         ensures mail_cause { HasCauseOf is_read_fault (M.observed mail.old).faults (M.observed mail.new).faults result }
         ensures disk_cause { Counts (is_some self.new.closed) (D.observed disk.old).faults (D.observed disk.new).faults }
         ensures stands { self.new.closed ≡ None → IfSome (D.observed disk.new).told (λ moments. StandsOnIndex moments.present self.new) }
@@ -122,7 +122,7 @@ impl Writer {
         let planned = plan_tags(self.alloc, self.snapshot(), wanted)?;
         let Planned { changes, renames } = planned;
         match self.commit_changes(rt, disk, changes) {
-            Ok(()) => self.rename_files(rt, mail, disk, renames, noted),
+            Ok(()) => self.rename_files(rt, mail, disk, renames, given),
             Err(error) => Err(error),
         }
     }
@@ -134,15 +134,15 @@ impl Writer {
         mail: &mut M,
         disk: &mut D,
         plan: Many<Rename>,
-        noted: &mut Many<Given>,
+        given: &mut Many<Given>,
     ) -> Result<SyncReport, WriteError>
         requires alive { self.old.closed ≡ None }
-        requires fresh { noted.old ≡ [] }
-        requires fit { (noted : List Given) → AreTried self.old.shown.files plan noted → FitInTurn self.old.shown (move_commit noted) }
+        requires fresh { given.old ≡ [] }
+        requires fit { (given : List Given) → AreTried self.old.shown.files plan given → FitInTurn self.old.shown (move_commit given) }
         requires stands { IfSome (D.observed disk.old).told (λ moments. StandsOnIndex moments.present self.old) }
-        ensures tried { AreTried self.old.shown.files plan noted.new }
-        ensures after { IsAfterRenames self.old.shown.files plan noted.new self.old (D.observed disk.new).faults result self.new }
-        ensures asks { AsksRenames (M.observed mail.old) (M.observed mail.new) noted.old noted.new }
+        ensures tried { AreTried self.old.shown.files plan given.new }
+        ensures after { IsAfterRenames self.old.shown.files plan given.new self.old (D.observed disk.new).faults result self.new }
+        ensures asks { AsksRenames (M.observed mail.old) (M.observed mail.new) given.old given.new }
         ensures mail_cause { HasCauseOf is_read_fault (M.observed mail.old).faults (M.observed mail.new).faults result }
         ensures disk_cause { Counts (is_some self.new.closed) (D.observed disk.old).faults (D.observed disk.new).faults }
         ensures stands { self.new.closed ≡ None → IfSome (D.observed disk.new).told (λ moments. StandsOnIndex moments.present self.new) }
@@ -150,7 +150,7 @@ impl Writer {
             → IsDurable entry opening (D.observed disk.new) self.new }
     {
         let mut done = Renaming::new(self.alloc);
-        match rename_all(self.alloc, mail, self.snapshot(), plan, &mut done, noted) {
+        match rename_all(self.alloc, mail, self.snapshot(), plan, &mut done, given) {
             Ok(()) => {
                 let Renaming { unmoved, moves, .. } = done;
                 match self.commit_changes(rt, disk, moves) {

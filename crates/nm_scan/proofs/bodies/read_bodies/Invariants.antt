@@ -6,4 +6,4 @@ use Rattle.nm_scan.proofs.bodies.read_bodies.Given as goal
 abbrev pub invariant-paths : goal.invariant-paths
 invariant-paths g l =
     let mail = g.M.Maildir in
-    InBodies (mail.observed l.initial.mail) (mail.observed l.mail) l.left l.rest l.initial.noted l.noted (take l.path-index l.paths)
+    InBodies (mail.observed l.initial.mail) (mail.observed l.mail) l.left l.rest l.initial.given l.given (take l.path-index l.paths)

@@ -8,7 +8,7 @@ abbrev pub invariant-files : goal.invariant-files
 invariant-files g l =
     let mail = g.M.Maildir in
     record {
-      batch : InBatch (mail.observed l.initial.mail) (mail.observed l.mail) l.initial.noted l.noted (into_iter_items l.initial.paths) (into_iter_items l.paths) l.added l.answers l.bytes;
+      batch : InBatch (mail.observed l.initial.mail) (mail.observed l.mail) l.initial.given l.given (into_iter_items l.initial.paths) (into_iter_items l.paths) l.added l.answers l.bytes;
       whole : into_iter_len l.paths ≡ length (into_iter_items l.paths);
     }
 

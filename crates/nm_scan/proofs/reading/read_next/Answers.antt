@@ -13,6 +13,6 @@ returns-clause-ok g c =
     let mail = g.M.Maildir in (
       arrival c.args.path c.in_ok-answer.found,
       c.in_ok-note.ensures.ok.1,
-      one_read_all (mail.observed c.args.mail.now) (mail.observed c.read.new.self) c.args.noted.now c.note.new.noted c.args.path c.in_ok-got.got (c.in_ok-answer.answer, c.in_ok-answer.found) c.in_ok-answer.ensures c.in_ok-got.ensures.got
+      one_read_all (mail.observed c.args.mail.now) (mail.observed c.read.new.self) c.args.given.now c.note.new.given c.args.path c.in_ok-got.got (c.in_ok-answer.answer, c.in_ok-answer.found) c.in_ok-answer.ensures c.in_ok-got.ensures.got
           c.in_ok-note.ensures.ok.0 c.read.ensures.keeps.tree c.in_ok-got.ensures.keeps.reads c.in_ok-got.ensures.keeps.cause,
     )

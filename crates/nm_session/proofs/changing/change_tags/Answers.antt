@@ -29,8 +29,8 @@ wanted-is request input lines one moment index second are = ap (λ m. wanted_by 
 pub returns-in-Ok-clause-ends : goal.returns-in-Ok-clause-ends
 returns-in-Ok-clause-ends g c = λ left line is asked.
     let old = place_at c.args.writer.now (g.M.Maildir.observed c.args.mail.now) (g.D.Disk.observed c.args.disk.now) left in
-    let new = place_at c.tag.new.self (g.M.Maildir.observed c.tag.new.mail) (g.D.Disk.observed c.tag.new.disk) (left_after left c.tag.new.noted) in
-    let noted = c.tag.new.noted in
+    let new = place_at c.tag.new.self (g.M.Maildir.observed c.tag.new.mail) (g.D.Disk.observed c.tag.new.disk) (left_after left c.tag.new.given) in
+    let noted = c.tag.new.given in
     let request = c.args.changes.request in
     let moment = c.args.setting.now.moment in
     let index = c.args.writer.now.shown in
@@ -49,8 +49,8 @@ returns-in-Ok-clause-ends g c = λ left line is asked.
 pub returns-in-Err-clause-ends : goal.returns-in-Err-clause-ends
 returns-in-Err-clause-ends g c = λ left line is asked.
     let old = place_at c.args.writer.now (g.M.Maildir.observed c.args.mail.now) (g.D.Disk.observed c.args.disk.now) left in
-    let new = place_at c.tag.new.self (g.M.Maildir.observed c.tag.new.mail) (g.D.Disk.observed c.tag.new.disk) (left_after left c.tag.new.noted) in
-    let noted = c.tag.new.noted in
+    let new = place_at c.tag.new.self (g.M.Maildir.observed c.tag.new.mail) (g.D.Disk.observed c.tag.new.disk) (left_after left c.tag.new.given) in
+    let noted = c.tag.new.given in
     let request = c.args.changes.request in
     let moment = c.args.setting.now.moment in
     let index = c.args.writer.now.shown in

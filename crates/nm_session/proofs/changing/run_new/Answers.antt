@@ -16,7 +16,7 @@ returns-in_err-texts g c = record {
 
 pub returns-in-Ok : goal.returns-in-Ok
 returns-in-Ok g c =
-    let noted = c.new_mail.new.noted in
+    let noted = c.new_mail.new.given in
     let h = c.in-Ok.ensures in
     record {
       ends = λ moment left line is.
@@ -31,7 +31,7 @@ returns-in-Ok g c =
 
 pub returns-in-Err : goal.returns-in-Err
 returns-in-Err g c =
-    let noted = c.new_mail.new.noted in
+    let noted = c.new_mail.new.given in
     let h = c.in-Err.ensures in
     record {
       ends = λ moment left line is.

@@ -8,9 +8,9 @@ abbrev pub invariant-renames : goal.invariant-renames
 invariant-renames g l =
     let mail = g.M.Maildir in
     record {
-      renames : InRenames l.shown.files l.fn.plan l.rename-iterator.rest.items l.noted l.done.unmoved;
+      renames : InRenames l.shown.files l.fn.plan l.rename-iterator.rest.items l.given l.done.unmoved;
       whole : l.rename-iterator.rest.len ≡ length l.rename-iterator.rest.items;
-      kept : IsKept l.shown.files l.noted l.done;
-      asks : AsksRenames (mail.observed l.initial.mail) (mail.observed l.mail) l.initial.noted l.noted;
+      kept : IsKept l.shown.files l.given l.done;
+      asks : AsksRenames (mail.observed l.initial.mail) (mail.observed l.mail) l.initial.given l.given;
       mail_same : (mail.observed l.mail).faults ≡ (mail.observed l.initial.mail).faults;
     }

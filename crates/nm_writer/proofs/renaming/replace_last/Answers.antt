@@ -8,4 +8,4 @@ pub returns : goal.returns
 returns c = λ front last are.
     let at : c.len-at.result - 1 ≡ length front = omega (arith, c.len-at.ensures, ap (λ (l : List Given). length l) are, length-append front (last ∷ [])) in
     c.replace.ensures.list
-    ∙ (ap (λ (l : List Given). slice_set l (c.len-at.result - 1) c.args.given) are ∙ (ap (λ n. slice_set (front ++ last ∷ []) n c.args.given) at ∙ last-set front last c.args.given))
+    ∙ (ap (λ (l : List Given). slice_set l (c.len-at.result - 1) c.args.renamed) are ∙ (ap (λ n. slice_set (front ++ last ∷ []) n c.args.renamed) at ∙ last-set front last c.args.renamed))

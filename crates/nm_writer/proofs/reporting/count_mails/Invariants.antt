@@ -3,8 +3,8 @@ use Rattle.std.specs.List.{flat_map}
 use Rattle.nm_answer.specs.NewText.{mail_given}
 use Rattle.nm_writer.proofs.reporting.count_mails.Given as goal
 
-abbrev pub invariant-noted : goal.invariant-noted
-invariant-noted l = record {
-  count : l.count ≡ length (flat_map mail_given (take l.given-index l.noted));
-  few : l.count ≤ l.given-index;
+abbrev pub invariant-given : goal.invariant-given
+invariant-given l = record {
+  count : l.count ≡ length (flat_map mail_given (take l.answer-index l.given));
+  few : l.count ≤ l.answer-index;
 }

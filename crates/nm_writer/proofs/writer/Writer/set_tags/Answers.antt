@@ -17,8 +17,8 @@ pub returns-in_err-planned-clause-after : goal.returns-in_err-planned-clause-aft
 returns-in_err-planned-clause-after g c =
     let faults = (g.D.Disk.observed c.args.disk.now).faults in
     let is : c.from_residual.result ≡ Err errors.NoMemory = search rules in
-    subst (λ result. IsAfterTags c.args.wanted.now.after c.args.noted.now c.args.self.now faults result c.args.self.now) (sym is)
-    (nothing-set c.args.self.now c.args.wanted.now.after c.args.noted.now faults c.requires.fresh)
+    subst (λ result. IsAfterTags c.args.wanted.now.after c.args.given.now c.args.self.now faults result c.args.self.now) (sym is)
+    (nothing-set c.args.self.now c.args.wanted.now.after c.args.given.now faults c.requires.fresh)
 
 pub commit_changes-requires-clause-fit : goal.commit_changes-requires-clause-fit
 commit_changes-requires-clause-fit g c =
@@ -45,7 +45,7 @@ returns-in-Ok-clause-after g c =
     let changes : c.in_ok-planned.planned.changes ≡ tag_changes old.shown wanted = c.in_ok-planned.ensures.changes ∙ ap (λ (b : Base). tag_changes b wanted) c.snapshot.ensures in
     let are : c.in_ok-planned.planned.renames ≡ renames_for old.shown wanted = c.in_ok-planned.ensures.renames ∙ ap (λ (b : Base). renames_for b wanted) c.snapshot.ensures in
     let made : HasCommitted old (tag_commit old.shown wanted) mid = subst (λ (l : List Change). HasCommitted old (commit_with l) mid) changes c.in-Ok.ensures.after in
-    tags-then old mid c.rename_files.new.self wanted c.rename_files.new.noted (g.D.Disk.observed c.rename_files.new.disk).faults made c.in_ok-planned.planned.renames c.rename_files.result are
+    tags-then old mid c.rename_files.new.self wanted c.rename_files.new.given (g.D.Disk.observed c.rename_files.new.disk).faults made c.in_ok-planned.planned.renames c.rename_files.result are
     (ap (λ (b : Base). b.files) made.shown ∙ c.the_commit_of_tags_leaves_what_is_wanted.ensures.files old.shown wanted) c.rename_files.ensures.tried c.rename_files.ensures.after
 
 pub returns-in-Err-clause-after : goal.returns-in-Err-clause-after
@@ -54,5 +54,5 @@ returns-in-Err-clause-after g c =
     let old = c.args.self.now in
     let faults = (g.D.Disk.observed c.commit_changes.new.disk).faults in
     let changes : c.in_ok-planned.planned.changes ≡ tag_changes old.shown wanted = c.in_ok-planned.ensures.changes ∙ ap (λ (b : Base). tag_changes b wanted) c.snapshot.ensures in
-    tags-refused old c.commit_changes.new.self wanted c.args.noted.now faults c.in-Err.error c.requires.fresh
+    tags-refused old c.commit_changes.new.self wanted c.args.given.now faults c.in-Err.error c.requires.fresh
     (subst (λ (l : List Change). IsAfterCommits {T = Unit {0}} old (commit_with l) faults (Err c.in-Err.error) c.commit_changes.new.self) changes c.in-Err.ensures.after)

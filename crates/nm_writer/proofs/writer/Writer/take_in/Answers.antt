@@ -10,15 +10,15 @@ use Rattle.nm_writer.proofs.writer.Writer.take_in.Goals as goal
 pub returns-in_err-before-clause-asks : goal.returns-in_err-before-clause-asks
 returns-in_err-before-clause-asks g c =
     let h = c.requires.listed in
-    asked_listing _ (g.M.Maildir.observed c.args.mail.now) c.args.self.now.shown.files [] c.args.noted.now h.listed refl refl refl h.given_is h.listing.rising h.listing.told
+    asked_listing _ (g.M.Maildir.observed c.args.mail.now) c.args.self.now.shown.files [] c.args.given.now h.listed refl refl refl h.given_is h.listing.rising h.listing.told
 
 pub returns-in_err-went-clause-asks : goal.returns-in_err-went-clause-asks
 returns-in_err-went-clause-asks g c =
     let h = c.requires.listed in
-    asked_listing _ (g.M.Maildir.observed c.args.mail.now) c.args.self.now.shown.files [] c.args.noted.now h.listed refl refl refl h.given_is h.listing.rising h.listing.told
+    asked_listing _ (g.M.Maildir.observed c.args.mail.now) c.args.self.now.shown.files [] c.args.given.now h.listed refl refl refl h.given_is h.listing.rising h.listing.told
 
 pub take_in_batches-requires-clause-unknown : goal.take_in_batches-requires-clause-unknown
-take_in_batches-requires-clause-unknown g c = unknown-listed (g.M.Maildir.observed c.args.mail.now).tree c.args.self.now.shown.files c.args.noted.now c.args.compared c.requires.listed
+take_in_batches-requires-clause-unknown g c = unknown-listed (g.M.Maildir.observed c.args.mail.now).tree c.args.self.now.shown.files c.args.given.now c.args.compared c.requires.listed
 
 pub let_go-requires-clause-fit : goal.let_go-requires-clause-fit
 let_go-requires-clause-fit g c =
@@ -26,7 +26,7 @@ let_go-requires-clause-fit g c =
     let made = c.in-Ok.ensures.after in
     subst (λ (l : List Change). FitInTurn c.take_in_batches.new.self.shown (commit_of c.take_in_batches.new.self.shown l c.args.compared.gone_ids)) (sym c.in_ok-went.ensures)
     (gone-fit (record { fits = c.new_commits_fit.ensures; in_one = c.batches_are_what_was_read.ensures })
-    (record { mail = mail.observed c.args.mail.now; noted = c.args.noted.now }) (record { mail = mail.observed c.take_in_batches.new.mail; noted = c.take_in_batches.new.noted })
+    (record { mail = mail.observed c.args.mail.now; given = c.args.given.now }) (record { mail = mail.observed c.take_in_batches.new.mail; given = c.take_in_batches.new.given })
     c.args.compared c.args.self.now c.requires.listed c.take_in_batches.new.self made.0 made.1 made.2)
 
 pub returns-in-Ok-clause-after : goal.returns-in-Ok-clause-after
@@ -35,7 +35,7 @@ returns-in-Ok-clause-after g c =
     let made = c.in-Ok.ensures.after in
     let faults = (g.D.Disk.observed c.let_go.new.disk).faults in
     after-let_go (record { fits = c.new_commits_fit.ensures; in_one = c.batches_are_what_was_read.ensures })
-    (record { mail = mail.observed c.args.mail.now; noted = c.args.noted.now }) (record { mail = mail.observed c.take_in_batches.new.mail; noted = c.take_in_batches.new.noted })
+    (record { mail = mail.observed c.args.mail.now; given = c.args.given.now }) (record { mail = mail.observed c.take_in_batches.new.mail; given = c.take_in_batches.new.given })
     c.args.compared c.args.self.now c.requires.listed c.take_in_batches.new.self made.0 made.1 made.2 c.let_go.new.self faults c.let_go.result c.len-removed.result c.in_ok-before.before c.as_slice.result.now
     c.len-removed.ensures (c.in_ok-before.ensures ∙ c.snapshot.ensures) c.as_slice.ensures
     (subst (λ (l : List Change). IsAfterCommits c.take_in_batches.new.self (commit_of c.take_in_batches.new.self.shown l c.args.compared.gone_ids) faults c.let_go.result c.let_go.new.self) c.in_ok-went.ensures c.let_go.ensures.after) c.let_go.ensures.report
@@ -44,5 +44,5 @@ pub returns-clause-after : goal.returns-clause-after
 returns-clause-after g c =
     let mail = g.M.Maildir in
     after-refused (record { fits = c.new_commits_fit.ensures; in_one = c.batches_are_what_was_read.ensures })
-    (record { mail = mail.observed c.args.mail.now; noted = c.args.noted.now }) (record { mail = mail.observed c.take_in_batches.new.mail; noted = c.take_in_batches.new.noted })
+    (record { mail = mail.observed c.args.mail.now; given = c.args.given.now }) (record { mail = mail.observed c.take_in_batches.new.mail; given = c.take_in_batches.new.given })
     c.args.compared c.args.self.now c.requires.listed c.take_in_batches.new.self (g.D.Disk.observed c.take_in_batches.new.disk).faults c.in-Err.error c.in-Err.ensures.after

@@ -16,7 +16,7 @@ batches-init g c =
         more = c.a_batch_more_is_read.ensures;
         finished = c.batches_are_finished.ensures;
         unfinished = c.a_batch_that_stops_is_unfinished.ensures;
-      }) (record { mail = mail.observed c.args.mail.now; noted = c.args.noted.now }) (into_iter_items c.into_iter-paths.result) (into_iter_items c.into_iter-paths.result) c.args.self.now refl;
+      }) (record { mail = mail.observed c.args.mail.now; given = c.args.given.now }) (into_iter_items c.into_iter-paths.result) (into_iter_items c.into_iter-paths.result) c.args.self.now refl;
       whole = search rules;
       alive = c.requires.alive;
       mail_same = refl;
@@ -37,7 +37,7 @@ take_in_batch-requires-clause-fit g c =
       more = c.a_batch_more_is_read.ensures;
       finished = c.batches_are_finished.ensures;
       unfinished = c.a_batch_that_stops_is_unfinished.ensures;
-    }) (record { mail = mail.observed c.args.mail.now; noted = c.args.noted.now }) (record { mail = mail.observed c.batches.mail; noted = c.batches.noted }) (into_iter_items c.into_iter-paths.result) (into_iter_items c.batches.paths)
+    }) (record { mail = mail.observed c.args.mail.now; given = c.args.given.now }) (record { mail = mail.observed c.batches.mail; given = c.batches.given }) (into_iter_items c.into_iter-paths.result) (into_iter_items c.batches.paths)
     c.args.self.now c.batches.self c.batches.invariant.batches
     (subst (AreUnknown c.args.self.now.shown.files) (sym (c.into_iter-paths.ensures.rest ∙ c.into_vec.ensures)) c.requires.unknown)
 
@@ -47,7 +47,7 @@ take_in_batch-requires-clause-stands g c = c.batches.invariant.stands
 pub batches-smaller : goal.batches-smaller
 batches-smaller g c =
     let mail = g.M.Maildir in
-    let fewer = batch_smaller (record { mail = mail.observed c.batches.mail; noted = c.batches.noted }) (record { mail = mail.observed c.take_in_batch.new.mail; noted = c.take_in_batch.new.noted })
+    let fewer = batch_smaller (record { mail = mail.observed c.batches.mail; given = c.batches.given }) (record { mail = mail.observed c.take_in_batch.new.mail; given = c.take_in_batch.new.given })
     (into_iter_items c.batches.paths) (into_iter_items c.take_in_batch.new.paths) c.batches.self c.take_in_batch.new.self (g.D.Disk.observed c.take_in_batch.new.disk).faults c.in-Ok.field-0 c.in-Ok.ensures.after in
     omega (arith, fewer, c.in-Ok.ensures.whole, c.batches.invariant.whole)
 
@@ -63,8 +63,8 @@ batches-preserved g c =
         more = c.a_batch_more_is_read.ensures;
         finished = c.batches_are_finished.ensures;
         unfinished = c.a_batch_that_stops_is_unfinished.ensures;
-      }) (record { mail = mail.observed c.args.mail.now; noted = c.args.noted.now }) (record { mail = mail.observed c.batches.mail; noted = c.batches.noted }) (into_iter_items c.into_iter-paths.result) (into_iter_items c.batches.paths)
-          c.args.self.now c.batches.self so_far.batches (record { mail = mail.observed c.take_in_batch.new.mail; noted = c.take_in_batch.new.noted }) (into_iter_items c.take_in_batch.new.paths) c.take_in_batch.new.self
+      }) (record { mail = mail.observed c.args.mail.now; given = c.args.given.now }) (record { mail = mail.observed c.batches.mail; given = c.batches.given }) (into_iter_items c.into_iter-paths.result) (into_iter_items c.batches.paths)
+          c.args.self.now c.batches.self so_far.batches (record { mail = mail.observed c.take_in_batch.new.mail; given = c.take_in_batch.new.given }) (into_iter_items c.take_in_batch.new.paths) c.take_in_batch.new.self
           (g.D.Disk.observed c.take_in_batch.new.disk).faults c.in-Ok.field-0 c.in-Ok.ensures.after;
       whole = c.in-Ok.ensures.whole;
       alive = alive;
@@ -78,7 +78,7 @@ pub returns-in-Err-clause-after : goal.returns-in-Err-clause-after
 returns-in-Err-clause-after g c =
     let mail = g.M.Maildir in
     let faults = (g.D.Disk.observed c.take_in_batch.new.disk).faults in
-    subst (λ (l : List (List ℕ)). IsAfterBatches {T = Unit {0}} (record { mail = mail.observed c.args.mail.now; noted = c.args.noted.now }) (record { mail = mail.observed c.take_in_batch.new.mail; noted = c.take_in_batch.new.noted })
+    subst (λ (l : List (List ℕ)). IsAfterBatches {T = Unit {0}} (record { mail = mail.observed c.args.mail.now; given = c.args.given.now }) (record { mail = mail.observed c.take_in_batch.new.mail; given = c.take_in_batch.new.given })
     l c.args.self.now faults (Err c.in-Err.error) c.take_in_batch.new.self) (c.into_iter-paths.ensures.rest ∙ c.into_vec.ensures)
     (refused_batches (record {
       fits = c.new_commits_fit.ensures;
@@ -86,8 +86,8 @@ returns-in-Err-clause-after g c =
       more = c.a_batch_more_is_read.ensures;
       finished = c.batches_are_finished.ensures;
       unfinished = c.a_batch_that_stops_is_unfinished.ensures;
-    }) (record { mail = mail.observed c.args.mail.now; noted = c.args.noted.now }) (record { mail = mail.observed c.batches.mail; noted = c.batches.noted }) (into_iter_items c.into_iter-paths.result) (into_iter_items c.batches.paths)
-    c.args.self.now c.batches.self c.batches.invariant.batches (record { mail = mail.observed c.take_in_batch.new.mail; noted = c.take_in_batch.new.noted }) (into_iter_items c.take_in_batch.new.paths) c.take_in_batch.new.self
+    }) (record { mail = mail.observed c.args.mail.now; given = c.args.given.now }) (record { mail = mail.observed c.batches.mail; given = c.batches.given }) (into_iter_items c.into_iter-paths.result) (into_iter_items c.batches.paths)
+    c.args.self.now c.batches.self c.batches.invariant.batches (record { mail = mail.observed c.take_in_batch.new.mail; given = c.take_in_batch.new.given }) (into_iter_items c.take_in_batch.new.paths) c.take_in_batch.new.self
     faults c.in-Err.error (omega (arith, c.batches-test.true, c.len.ensures, c.batches.invariant.whole)) c.in-Err.ensures.after)
 
 pub returns-in-Err-clause-mail_cause : goal.returns-in-Err-clause-mail_cause
@@ -103,7 +103,7 @@ pub returns-clause-after : goal.returns-clause-after
 returns-clause-after g c =
     let mail = g.M.Maildir in
     let none = none_left (into_iter_items c.batches.paths) (omega (arith, c.batches-test.false, c.len.ensures, c.batches.invariant.whole)) in
-    subst (λ (l : List (List ℕ)). IsAfterBatches {T = Unit {0}} (record { mail = mail.observed c.args.mail.now; noted = c.args.noted.now }) (record { mail = mail.observed c.batches.mail; noted = c.batches.noted })
+    subst (λ (l : List (List ℕ)). IsAfterBatches {T = Unit {0}} (record { mail = mail.observed c.args.mail.now; given = c.args.given.now }) (record { mail = mail.observed c.batches.mail; given = c.batches.given })
     l c.args.self.now 0 (Ok tt) c.batches.self) (c.into_iter-paths.ensures.rest ∙ c.into_vec.ensures)
     (all_batches (record {
       fits = c.new_commits_fit.ensures;
@@ -111,7 +111,7 @@ returns-clause-after g c =
       more = c.a_batch_more_is_read.ensures;
       finished = c.batches_are_finished.ensures;
       unfinished = c.a_batch_that_stops_is_unfinished.ensures;
-    }) (record { mail = mail.observed c.args.mail.now; noted = c.args.noted.now }) (record { mail = mail.observed c.batches.mail; noted = c.batches.noted }) (into_iter_items c.into_iter-paths.result) (into_iter_items c.batches.paths)
+    }) (record { mail = mail.observed c.args.mail.now; given = c.args.given.now }) (record { mail = mail.observed c.batches.mail; given = c.batches.given }) (into_iter_items c.into_iter-paths.result) (into_iter_items c.batches.paths)
     c.args.self.now c.batches.self c.batches.invariant.batches 0 tt none)
 
 pub returns-clause-mail_cause : goal.returns-clause-mail_cause

@@ -14,7 +14,7 @@ invariant-batches g l =
     let mail = g.M.Maildir in
     let disk = g.D.Disk in
     record {
-      batches : InBatches (record { mail = mail.observed l.initial.mail; noted = l.initial.noted }) (record { mail = mail.observed l.mail; noted = l.noted }) (into_iter_items l.initial.paths) (into_iter_items l.paths) l.initial.self l.self;
+      batches : InBatches (record { mail = mail.observed l.initial.mail; given = l.initial.given }) (record { mail = mail.observed l.mail; given = l.given }) (into_iter_items l.initial.paths) (into_iter_items l.paths) l.initial.self l.self;
       whole : into_iter_len l.paths ≡ length (into_iter_items l.paths);
       alive : l.self.closed ≡ None;
       mail_same : (mail.observed l.mail).faults ≡ (mail.observed l.initial.mail).faults;
