@@ -1,6 +1,8 @@
 -- No two files lie at one path: what comes and what moves goes where none lies. For the proof of `files_stay_apart`.
 use Rattle.std.proofs.Common.{◌≡◌, ℕ, Bool, true, false, ◌||◌, cond, not, List, [], ◌∷◌, ◌++◌, fold, filter, refl, sym, ap, ◌∙◌, subst}
 use Rattle.std.specs.Cmp.Lexicographic.{nat_list_eq_equiv}
+use Rattle.std.proofs.lemmas.Bool.{or_from, or_parts}
+use Rattle.std.proofs.Math.Bool.{or-true}
 use Rattle.nm_base.specs.Order.{same_text}
 use Rattle.nm_base.specs.declared.facts.Facts.{Facts}
 use Rattle.nm_commit.specs.Files.{FitChanges, FitsChange, changed, files_after, has_path, moved_path, with_moved}
@@ -11,8 +13,7 @@ use Rattle.nm_index.specs.Fits.{FitInTurn}
 use Rattle.nm_index.specs.Index.{committed, folded}
 use Rattle.nm_index.specs.declared.base.Base.{Base}
 use Rattle.nm_plan.specs.Apart.{AreApart}
-use Rattle.nm_plan.proofs.FitLemmas.{not_there, or_true}
-use Rattle.nm_plan.proofs.NumberLemmas.{neither}
+use Rattle.nm_plan.proofs.FitLemmas.{not_there}
 use Rattle.nm_plan.specs.SetLaws.{bytes_same}
 
 abbrev File : Type 0
@@ -21,18 +22,15 @@ File = List ℕ × Facts
 turned : (a b : List ℕ) (t : Bool) → same_text a b ≡ t → same_text b a ≡ t
 turned a b t h = nat_list_eq_equiv.symm b a ∙ h
 
-or-false : (a b : Bool) → a ≡ false → b ≡ false → (a || b) ≡ false
-or-false a b h k = ap (λ (t : Bool). t || b) h ∙ k
-
 -- a filter adds no path
 pub none-cond : (b : Bool) (file : File) (rest : List File) (path : List ℕ) → same_text path file.0 ≡ false → has_path rest path ≡ false → has_path (cond b (file ∷ rest) rest) path ≡ false
-none-cond true file rest path first more = or-false _ _ first more
+none-cond true file rest path first more = or_from _ _ first more
 none-cond false file rest path first more = more
 
 pub none-filter : (keep : File → Bool) (files : List File) (path : List ℕ) → has_path files path ≡ false → has_path (filter keep files) path ≡ false
 none-filter keep [] path h = refl
 none-filter keep (file ∷ files) path h =
-    let apart = neither (same_text path file.0) (has_path files path) h in
+    let apart = or_parts (same_text path file.0) (has_path files path) h in
     none-cond (keep file) file (filter keep files) path apart.0 (none-filter keep files path apart.1)
 
 apart-cond : (b : Bool) (file : File) (rest : List File) → has_path rest file.0 ≡ false → AreApart rest → AreApart (cond b (file ∷ rest) rest)
@@ -47,7 +45,7 @@ files-filter keep (file ∷ files) h = apart-cond (keep file) file (filter keep 
 files-push : (files : List File) (path : List ℕ) (facts : Facts) → AreApart files → has_path files path ≡ false → AreApart (files ++ (path, facts) ∷ [])
 files-push [] path facts h none = (refl, tt)
 files-push (file ∷ files) path facts h none =
-    let apart = neither (same_text path file.0) (has_path files path) none in (
+    let apart = or_parts (same_text path file.0) (has_path files path) none in (
       not_there files (path, facts) file.0 h.0 apart.0,
       files-push files path facts h.1 apart.1,
     )
@@ -60,14 +58,14 @@ moved-by false to old path other apart = apart
 moved-none : (files : List File) (from to path : List ℕ) → has_path files path ≡ false → same_text path to ≡ false → has_path (with_moved files from to) path ≡ false
 moved-none [] from to path h other = refl
 moved-none (file ∷ files) from to path h other =
-    let apart = neither (same_text path file.0) (has_path files path) h in
-    or-false _ _ (moved-by (same_text from file.0) to file.0 path other apart.0) (moved-none files from to path apart.1 other)
+    let apart = or_parts (same_text path file.0) (has_path files path) h in
+    or_from _ _ (moved-by (same_text from file.0) to file.0 path other apart.0) (moved-none files from to path apart.1 other)
 
 -- a move from where none lies changes nothing
 unmoved : (files : List File) (from to : List ℕ) → has_path files from ≡ false → with_moved files from to ≡ files
 unmoved [] from to h = refl
 unmoved (file ∷ files) from to h =
-    let apart = neither (same_text from file.0) (has_path files from) h in
+    let apart = or_parts (same_text from file.0) (has_path files from) h in
     ap (λ (b : Bool). (cond b to file.0, file.1) ∷ with_moved files from to) apart.0 ∙ ap (λ (l : List File). file ∷ l) (unmoved files from to apart.1)
 
 -- what lies elsewhere stays
@@ -75,7 +73,7 @@ still-by : (file : File) (from to path : List ℕ) (b : Bool) (rest : Bool) → 
 still-by file from to path true rest is apart more =
     let one : path ≡ file.0 = bytes_same path file.0 (sym is) in
     ap (λ (t : Bool). same_text path (cond t to file.0) || rest) (ap (same_text from) (sym one) ∙ apart) ∙ ap (λ (t : Bool). t || rest) is
-still-by file from to path false rest is apart more = ap (λ (t : Bool). same_text path (moved_path from to file.0) || t) (more refl) ∙ or_true (same_text path (moved_path from to file.0))
+still-by file from to path false rest is apart more = ap (λ (t : Bool). same_text path (moved_path from to file.0) || t) (more refl) ∙ or-true (same_text path (moved_path from to file.0))
 
 there-after : (a b : Bool) → (a || b) ≡ true → a ≡ false → b ≡ true
 there-after true b h k = absurd (cc)
@@ -97,7 +95,7 @@ first-moved file files from to false is first apart none = moved-none files from
 files-moved : (files : List File) (from to : List ℕ) → AreApart files → has_path files to ≡ false → AreApart (with_moved files from to)
 files-moved [] from to h none = tt
 files-moved (file ∷ files) from to h none =
-    let apart = neither (same_text to file.0) (has_path files to) none in
+    let apart = or_parts (same_text to file.0) (has_path files to) none in
     (first-moved file files from to (same_text from file.0) refl h.0 apart.0 apart.1, files-moved files from to h.1 apart.1)
 
 change-apart : (files : List File) (change : Change) → AreApart files → FitsChange files change → AreApart (changed files change)

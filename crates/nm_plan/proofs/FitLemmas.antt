@@ -21,6 +21,8 @@ use Rattle.nm_answer.specs.View.{tags_of}
 use Rattle.nm_plan.specs.NameTags.{commit_of, follow_names, live_of, named_tags, set_tags}
 use Rattle.nm_plan.specs.Plan.{AreAdded, add_of, all_added, batch_commit, batch_commits, drop_of, message_ids, new_commits, removed_commit, removed_files}
 use Rattle.std.specs.List.Sorted.{IsStrictlySortedBy}
+use Rattle.std.proofs.Math.Bool.{or-true}
+use Rattle.std.proofs.lemmas.Bool.{not-true}
 use Rattle.nm_plan.proofs.FoldLemmas.{batch-files, new-files, next-files}
 use Rattle.nm_plan.specs.OrderLaws.{IsSorted-sorted}
 use Rattle.nm_plan.specs.SetLaws.{bytes_same, has_text-filter, has_text-sorted}
@@ -132,20 +134,12 @@ fit-drops files (path ∷ paths) apart there = (
 same_as_itself : (text : List ℕ) → same_text text text ≡ true
 same_as_itself text = nat_list_eq_equiv.refl text
 
-pub or_true : (b : Bool) → (b || true) ≡ true
-or_true true = refl
-or_true false = refl
-
 pub every-in : (texts : List (List ℕ)) → AllByRecursion (λ text. has_text texts text ≡ true) texts
 every-in [] = tt
 every-in (text ∷ texts) = (
   ap (λ b. b || has_text texts text) (same_as_itself text),
-  every-map (λ other. has_text texts other ≡ true) (λ other. has_text (text ∷ texts) other ≡ true) texts (λ other h. ap (λ b. same_text other text || b) h ∙ or_true (same_text other text)) (every-in texts),
+  every-map (λ other. has_text texts other ≡ true) (λ other. has_text (text ∷ texts) other ≡ true) texts (λ other h. ap (λ b. same_text other text || b) h ∙ or-true (same_text other text)) (every-in texts),
 )
-
-not-true : (b : Bool) → not b ≡ true → b ≡ false
-not-true true h = sym h
-not-true false h = refl
 
 -- tags are set of messages that have a file
 set-cond : (files : List (List ℕ × Facts)) (b : Bool) (id : List ℕ) (tags : List (List ℕ)) (more : List Change) → has_id files id ≡ true → FitChanges files more → FitChanges files (cond b [] (SetTags id tags ∷ []) ++ more)

@@ -3,6 +3,8 @@
 use Rattle.std.proofs.Common.{◌≡◌, ℕ, Bool, true, false, ◌||◌, ◌&&◌, not, cond, List, [], ◌∷◌, ◌++◌, map, filter, fold, refl, sym, ap, ◌∙◌, append-nil, append_assoc}
 use Rattle.std.specs.Cmp.Lexicographic.{nat_list_eq_equiv, pointwise}
 use Rattle.std.specs.List.{flat_map}
+use Rattle.std.proofs.lemmas.List.Elements.{filter_agree}
+use Rattle.std.proofs.lemmas.Grind.{fold-append}
 use Rattle.nm_base.specs.Order.{has_text, same_text}
 use Rattle.nm_base.specs.declared.facts.Facts.{Facts}
 use Rattle.nm_commit.specs.Files.{changed, files_after, files_with, without_path}
@@ -36,10 +38,6 @@ not-or : (a b : Bool) → (not a && not b) ≡ not (a || b)
 not-or true b = refl
 not-or false b = refl
 
-pub filter-same : {X : Type 0} (p q : X → Bool) → ((x : X) → p x ≡ q x) → (xs : List X) → filter p xs ≡ filter q xs
-filter-same p q h [] = refl
-filter-same {X} p q h (x ∷ xs) = ap (λ (b : Bool). cond b (x ∷ filter p xs) (filter p xs)) (h x) ∙ ap (λ (l : List X). cond (q x) (x ∷ l) l) (filter-same p q h xs)
-
 pub filter-all : (files : List (List ℕ × Facts)) → filter (λ file. not false) files ≡ files
 filter-all [] = refl
 filter-all (file ∷ files) = ap (λ (l : List (List ℕ × Facts)). file ∷ l) (filter-all files)
@@ -47,11 +45,7 @@ filter-all (file ∷ files) = ap (λ (l : List (List ℕ × Facts)). file ∷ l)
 -- what is gone, one by one
 fold-drops : (files : List (List ℕ × Facts)) (paths : List (List ℕ)) → fold changed files (map drop_of paths) ≡ filter (λ file. not (has_text paths file.0)) files
 fold-drops files [] = sym (filter-all files)
-fold-drops files (path ∷ paths) = fold-drops (without_path files path) paths ∙ (filter-filter (λ file. not (same_text path file.0)) (λ file. not (has_text paths file.0)) files ∙ filter-same _ _ (λ file. not-or (same_text path file.0) (has_text paths file.0) ∙ ap (λ b. not (b || has_text paths file.0)) (nat_list_eq_equiv.symm path file.0)) files)
-
-pub fold-append : {A B : Type 0} (f : A → B → A) (a : A) (xs ys : List B) → fold f a (xs ++ ys) ≡ fold f (fold f a xs) ys
-fold-append f a [] ys = refl
-fold-append f a (x ∷ xs) ys = fold-append f (f a x) xs ys
+fold-drops files (path ∷ paths) = fold-drops (without_path files path) paths ∙ (filter-filter (λ file. not (same_text path file.0)) (λ file. not (has_text paths file.0)) files ∙ filter_agree _ _ (λ file. not-or (same_text path file.0) (has_text paths file.0) ∙ ap (λ b. not (b || has_text paths file.0)) (nat_list_eq_equiv.symm path file.0)) files)
 
 -- tags that are set change no file
 silent-cond : (files : List (List ℕ × Facts)) (b : Bool) (id : List ℕ) (tags : List (List ℕ)) (more : List Change) → fold changed files (cond b [] (SetTags id tags ∷ []) ++ more) ≡ fold changed files more

@@ -9,6 +9,8 @@ use Rattle.std.specs.List.{flat_map}
 use Rattle.std.specs.Map.{lookup, remove_entry}
 use Rattle.std.specs.Ordering.{nat_cmp}
 use Rattle.std.proofs.lemmas.Bool.{false≢true}
+use Rattle.std.proofs.Math.Bool.{or-true}
+use Rattle.std.proofs.lemmas.Grind.{fold-append}
 use Rattle.nm_answer.specs.NewText.{gone}
 use Rattle.nm_answer.specs.View.{message_paths, tags_of}
 use Rattle.nm_base.specs.Order.{IsSorted, has_text, same_text}
@@ -25,8 +27,7 @@ use Rattle.nm_index.specs.declared.base.Base.{Base}
 use Rattle.nm_tags.specs.Operations.{after_ops}
 use Rattle.nm_plan.specs.NameTags.{commit_of, follow_names, live_of, named_tags, set_tags}
 use Rattle.nm_plan.specs.Plan.{add_of, batch_commit, batch_commits, drop_of, message_ids, new_commits, removed_commit, removed_files}
-use Rattle.nm_plan.proofs.FitLemmas.{or_true}
-use Rattle.nm_plan.proofs.FoldLemmas.{commit_of-files, fold-adds, fold-append, next-files}
+use Rattle.nm_plan.proofs.FoldLemmas.{commit_of-files, fold-adds, next-files}
 use Rattle.nm_plan.specs.SetLaws.{bytes_same}
 use Rattle.nm_plan.proofs.TagLemmas.{entries-tags, mail-tags, tags-own, tags-stay}
 
@@ -65,7 +66,7 @@ has_id-more (file ∷ files) more id there = more-by (same_text id file.1.id) (h
 
 fewer-by : (keep : Bool) (file : File) (rest : List File) (id : List ℕ) (b : Bool) → has_id (cond keep (file ∷ rest) rest) id ≡ true → (has_id rest id ≡ true → b ≡ true) → (same_text id file.1.id || b) ≡ true
 fewer-by true file rest id b there more = more-by (same_text id file.1.id) (has_id rest id) b there more
-fewer-by false file rest id b there more = ap (λ (t : Bool). same_text id file.1.id || t) (more there) ∙ or_true (same_text id file.1.id)
+fewer-by false file rest id b there more = ap (λ (t : Bool). same_text id file.1.id || t) (more there) ∙ or-true (same_text id file.1.id)
 
 has_id-fewer : (keep : File → Bool) (files : List File) (id : List ℕ) → has_id (filter keep files) id ≡ true → has_id files id ≡ true
 has_id-fewer keep [] id there = there

@@ -1,6 +1,7 @@
 -- The moves fit: each file lies where its rename says, and goes where none lies. For the proof of `tag_commits_fit`.
 use Rattle.std.proofs.Common.{◌≡◌, ℕ, Bool, true, false, ◌||◌, ◌&&◌, cond, not, List, [], ◌∷◌, ◌++◌, Option, None, Some, filter, map, refl, sym, ap, ◌∙◌, subst}
 use Rattle.std.specs.List.{AllByRecursion, flat_map}
+use Rattle.std.proofs.lemmas.Bool.{or_from, and_left, or_parts}
 use Rattle.nm_base.specs.Order.{has_text, same_text}
 use Rattle.nm_base.specs.declared.facts.Facts.{Facts}
 use Rattle.nm_commit.specs.Files.{FitChanges, files_after, has_path, paths_of, with_moved}
@@ -23,7 +24,6 @@ use Rattle.nm_plan.specs.Numbering.{AreNumbered}
 use Rattle.nm_plan.specs.Tagging.{tag_commit}
 use Rattle.nm_plan.proofs.ApartLemmas.{files-filter, moved-still, none-filter}
 use Rattle.nm_plan.proofs.FitLemmas.{IsApart, apart-filter, every-both, every-filter, every-in, every-map, fit-append, has_text-append}
-use Rattle.nm_plan.proofs.NumberLemmas.{neither}
 use Rattle.nm_plan.specs.SetLaws.{bytes_same, has_text-filter}
 use Rattle.nm_plan.proofs.TaggingLemmas.{fit-with, tags-files, tags-fit}
 use Rattle.nm_plan.proofs.TagLemmas.{live-apart}
@@ -37,7 +37,7 @@ Texts = List (List ℕ)
 -- none of the texts is this one
 none-all : (texts : Texts) (text : List ℕ) → has_text texts text ≡ false → AllByRecursion (λ other. same_text text other ≡ false) texts
 none-all [] text h = tt
-none-all (first ∷ texts) text h = let apart = neither (same_text text first) (has_text texts text) h in (apart.0, none-all texts text apart.1)
+none-all (first ∷ texts) text h = let apart = or_parts (same_text text first) (has_text texts text) h in (apart.0, none-all texts text apart.1)
 
 paths-apart : (files : List File) → AreApart files → IsApart (paths_of files)
 paths-apart [] h = tt
@@ -50,9 +50,6 @@ all-append P (x ∷ xs) ys h k = (h.0, all-append P xs ys h.1 k)
 apart-append : (xs ys : Texts) → IsApart xs → IsApart ys → AllByRecursion (λ x. has_text ys x ≡ false) xs → IsApart (xs ++ ys)
 apart-append [] ys h k none = k
 apart-append (x ∷ xs) ys h k none = (all-append (λ other. same_text x other ≡ false) xs ys h.0 (none-all ys x none.0), apart-append xs ys h.1 k none.1)
-
-or-false : (a b : Bool) → a ≡ false → b ≡ false → (a || b) ≡ false
-or-false a b h k = ap (λ (t : Bool). t || b) h ∙ k
 
 -- a path is that of one message
 module _ (one two : List ℕ) (apart : same_text one two ≡ false) (path : List ℕ) where
@@ -104,14 +101,11 @@ module _ (files : List File) (apart : AreApart files) (keep : List ℕ → List 
   paths-all P pick [] h = tt
   paths-all P pick (file ∷ all) h = paths-cond P (pick file) file (filter pick all) h.0 (paths-all P pick all h.1)
 
-  and-false : (a b : Bool) → a ≡ false → (a && b) ≡ false
-  and-false a b h = ap (λ (t : Bool). t && b) h
-
   none-others : (id path : List ℕ) (ids : Texts) → has_text (message_paths files id) path ≡ true → AllByRecursion (λ other. same_text id other ≡ false) ids → has_text (flat_map some_paths ids) path ≡ false
   none-others id path [] there h = refl
   none-others id path (other ∷ ids) there h =
       has_text-append (some_paths other) (flat_map some_paths ids) path
-      ∙ or-false _ _ (has_text-filter (keep other) (message_paths files other) path ∙ and-false _ _ (cross id other h.0 path files apart there)) (none-others id path ids there h.1)
+      ∙ or_from _ _ (has_text-filter (keep other) (message_paths files other) path ∙ and_left _ _ (cross id other h.0 path files apart there)) (none-others id path ids there h.1)
 
   pub some-apart : (ids : Texts) → IsApart ids → IsApart (flat_map some_paths ids)
   some-apart [] h = tt

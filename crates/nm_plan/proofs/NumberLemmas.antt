@@ -3,6 +3,7 @@
 use Rattle.std.proofs.Common.{◌≡◌, ℕ, ◌+◌, ◌<◌, Bool, true, false, ◌||◌, cond, List, [], ◌∷◌, ◌++◌, fold, filter, refl, ◌∙◌, arith}
 use Rattle.std.specs.List.{AllByRecursion, list_any}
 use Rattle.std.specs.Cmp.Lexicographic.{nat_list_eq_equiv}
+use Rattle.std.proofs.lemmas.Bool.{or_parts}
 use Rattle.nm_base.specs.Order.{same_text}
 use Rattle.nm_base.specs.declared.facts.Facts.{Facts}
 use Rattle.nm_commit.specs.declared.change.Change.{Change}
@@ -18,10 +19,6 @@ Entry = List ℕ × ℕ
 abbrev IsBelow : Entry → Entry → Type 0
 IsBelow entry other = (same_text entry.0 other.0 ≡ false) × (entry.1 < other.1)
 
-pub neither : (a b : Bool) → (a || b) ≡ false → (a ≡ false) × (b ≡ false)
-neither true b h = absurd (cc)
-neither false b h = (refl, h)
-
 -- one more, behind all others
 below-push : (entry last : Entry) (more : List Entry) → AllByRecursion (IsBelow entry) more → IsBelow entry last → AllByRecursion (IsBelow entry) (more ++ last ∷ [])
 below-push entry last [] h is = (is, tt)
@@ -30,7 +27,7 @@ below-push entry last (other ∷ more) h is = (h.0, below-push entry last more h
 order-push : (next : ℕ) (id : List ℕ) (entries : List Entry) → InOrder next entries → list_any (is_of id) entries ≡ false → InOrder (next + 1) (entries ++ (id, next) ∷ [])
 order-push next id [] h none = (omega arith, tt, tt)
 order-push next id (entry ∷ entries) h none =
-    let apart = neither (is_of id entry) (list_any (is_of id) entries) none in (
+    let apart = or_parts (is_of id entry) (list_any (is_of id) entries) none in (
       omega (arith, h.0),
       below-push entry (id, next) entries h.1 (nat_list_eq_equiv.symm entry.0 id ∙ apart.0, h.0),
       order-push next id entries h.2 apart.1,

@@ -9,6 +9,8 @@ use Rattle.std.specs.Map.{lookup}
 use Rattle.std.specs.Ordering.{is_eq, match_ordering, nat_cmp}
 use Rattle.std.specs.declared.cmp.Ordering.{Ordering}
 use Rattle.std.specs.declared.cmp.Ordering.TheVariants.{Less, Equal, Greater}
+use Rattle.std.proofs.lemmas.Grind.{fold-append}
+use Rattle.std.proofs.lemmas.Bool.{or_parts, and_right}
 use Rattle.nm_base.specs.Order.{has_text, same_text}
 use Rattle.nm_base.specs.declared.facts.Facts.{Facts}
 use Rattle.nm_commit.specs.Files.{has_id}
@@ -21,8 +23,7 @@ use Rattle.nm_plan.specs.NameTags.{commit_of, follow_names, live_of, named_tags,
 use Rattle.nm_plan.specs.Numbering.{AreNumbered, InOrder}
 use Rattle.nm_plan.specs.Plan.{add_of}
 use Rattle.nm_plan.proofs.FitLemmas.{IsApart, apart-filter}
-use Rattle.nm_plan.proofs.FoldLemmas.{fold-append}
-use Rattle.nm_plan.proofs.NumberLemmas.{changes-kept, neither}
+use Rattle.nm_plan.proofs.NumberLemmas.{changes-kept}
 use Rattle.nm_plan.specs.SetLaws.{bytes_same, has_text-filter}
 
 abbrev Texts : Type 0
@@ -103,7 +104,7 @@ module _ (others : (index : Base) (id other : List ℕ) (tags : Texts) → same_
     pub sets-other : (ids : Texts) (index : Base) (id : List ℕ) → has_text ids id ≡ false → tags_of (fold applied index (sets ids)) id ≡ tags_of index id
     sets-other [] index id none = refl
     sets-other (x ∷ ids) index id none =
-        let apart = neither (same_text id x) (has_text ids id) none in
+        let apart = or_parts (same_text id x) (has_text ids id) none in
         let b : Bool = pointwise same_text (old x) (new x) in
         ap (λ (i : Base). tags_of i id) (first-set b index x (new x) (sets ids)) ∙ (sets-other ids (cond b index (with_tags index x (new x))) id apart.1 ∙ other-by b index x id (new x) apart.0)
 
@@ -135,10 +136,6 @@ module _ (others : (index : Base) (id other : List ℕ) (tags : Texts) → same_
       ∙ sets-own (tags_of mid) (named_tags mid) (live_of mid ids) mid id
       (apart-filter (has_text ids) (live_ids mid.files mid.entries) (live-apart mid.files mid.next mid.entries (changes-kept (change ∷ changes) index numbered))) there refl
 
-  and-false : (a b : Bool) → b ≡ false → (a && b) ≡ false
-  and-false true b h = h
-  and-false false b h = refl
-
   -- and all others
   pub tags-stay : (index : Base) (change : Change) (changes : List Change) (ids : Texts) (id : List ℕ) → has_text ids id ≡ false
       → tags_of (folded index (commit_of index (change ∷ changes) ids)) id ≡ tags_of (fold applied index (change ∷ changes)) id
@@ -146,7 +143,7 @@ module _ (others : (index : Base) (id other : List ℕ) (tags : Texts) → same_
       let mid : Base = fold applied index (change ∷ changes) in
       ap (λ (i : Base). tags_of i id) (fold-append applied index (change ∷ changes) (follow_names mid ids))
       ∙ sets-other (tags_of mid) (named_tags mid) (live_of mid ids) mid id
-      (has_text-filter (has_text ids) (live_ids mid.files mid.entries) id ∙ and-false (has_text (live_ids mid.files mid.entries) id) (has_text ids id) none)
+      (has_text-filter (has_text ids) (live_ids mid.files mid.entries) id ∙ and_right (has_text (live_ids mid.files mid.entries) id) (has_text ids id) none)
 
   entry-tags : (b : Bool) (index : Base) (id : List ℕ) → (cond b index (record index { entries = index.entries ++ (id, index.next) ∷ []; next = index.next + 1 })).tags ≡ index.tags
   entry-tags true index id = refl
@@ -165,7 +162,7 @@ module _ (others : (index : Base) (id other : List ℕ) (tags : Texts) → same_
   adds-tags : (added : List (List ℕ × Facts)) (index : Base) (id : List ℕ) → has_id added id ≡ false → tags_of (fold applied index (map add_of added)) id ≡ tags_of index id
   adds-tags [] index id none = refl
   adds-tags (arrival ∷ added) index id none =
-      let apart = neither (same_text id arrival.1.id) (has_id added id) none in
+      let apart = or_parts (same_text id arrival.1.id) (has_id added id) none in
       adds-tags added (with_mail index arrival.0 arrival.1) id apart.1 ∙ mail-tags index arrival.0 arrival.1 id apart.0
 
   -- so what has come leaves the tags of all other messages

@@ -7,6 +7,7 @@ use Rattle.std.specs.Cmp.Lexicographic.{slice_cmp}
 use Rattle.std.specs.List.{AllByRecursion}
 use Rattle.std.specs.Map.{lookup}
 use Rattle.std.specs.Ordering.{nat_cmp}
+use Rattle.std.proofs.lemmas.Bool.{or_parts, or_from}
 use Rattle.nm_answer.specs.Matches.{is_match}
 use Rattle.nm_answer.specs.View.{view_of}
 use Rattle.nm_base.specs.Order.{has_text, same_text}
@@ -24,7 +25,6 @@ use Rattle.nm_plan.specs.Tagging.{commit_with, tag_changes, tag_commit}
 use Rattle.nm_answer.specs.declared.tagging.Tagging.{Tagging}
 use Rattle.nm_plan.proofs.FitLemmas.{all-live, every-filter, fit-sets}
 use Rattle.nm_plan.proofs.FoldLemmas.{silent}
-use Rattle.nm_plan.proofs.NumberLemmas.{neither}
 use Rattle.nm_plan.specs.SetLaws.{bytes_same, has_text-filter}
 use Rattle.nm_plan.proofs.TagLemmas.{live-apart, sets-other, sets-own, tags-own}
 
@@ -68,9 +68,6 @@ first-true : (a : Bool) → (a || false) ≡ true → true ≡ a
 first-true true h = refl
 first-true false h = sym h
 
-or-false : (a b : Bool) → a ≡ false → b ≡ false → (a || b) ≡ false
-or-false a b h k = ap (λ (t : Bool). t || b) h ∙ k
-
 none-live : (moment : ℤ) (index : Base) (line : Tagging) (id : List ℕ) → has_text (live_ids index.files index.entries) id ≡ false → has_text (found_by moment index line) id ≡ false
 none-live moment index line id none =
     let keep : List ℕ → Bool = λ other. is_match line.query moment false (view_of index other) in
@@ -82,7 +79,7 @@ never-found moment index [] id none = refl
 never-found moment index (line ∷ lines) id none =
     let after : Base = wanted_after moment index line in
     let sets : Sets = line_sets moment index line in
-    or-false _ _ (none-live moment index line id none)
+    or_from _ _ (none-live moment index line id none)
     (never-found moment after lines id (ap (λ (f : List (List ℕ × Facts)). has_text (live_ids f after.entries) id) (retag-files index sets) ∙ (ap (λ (e : List (List ℕ × ℕ)). has_text (live_ids index.files e) id) (retag-entries index sets) ∙ none)))
 
 module _ (others : (index : Base) (id other : List ℕ) (tags : Texts) → same_text other id ≡ false → lookup (is_at (slice_cmp nat_cmp other)) (with_tags index id tags).tags ≡ lookup (is_at (slice_cmp nat_cmp other)) index.tags) where
@@ -96,7 +93,7 @@ module _ (others : (index : Base) (id other : List ℕ) (tags : Texts) → same_
     given-other : (ids : Texts) (index : Base) (id : List ℕ) → has_text ids id ≡ false → tags_of (retagged index (sets ids)) id ≡ tags_of index id
     given-other [] index id none = refl
     given-other (x ∷ ids) index id none =
-        let apart = neither (same_text id x) (has_text ids id) none in
+        let apart = or_parts (same_text id x) (has_text ids id) none in
         given-other ids (with_tags index x (tags x)) id apart.1 ∙ one-other index x id (tags x) apart.0
 
     first-by : (x : List ℕ) (ids : Texts) (index : Base) (id : List ℕ) (b : Bool) → has_text ids id ≡ b → (same_text id x || b) ≡ true
@@ -121,7 +118,7 @@ module _ (others : (index : Base) (id other : List ℕ) (tags : Texts) → same_
   lines-kept moment index [] id none = refl
   lines-kept moment index (line ∷ lines) id none =
       let after : Base = wanted_after moment index line in
-      let apart = neither (has_text (found_by moment index line) id) (is_found moment after lines id) none in
+      let apart = or_parts (has_text (found_by moment index line) id) (is_found moment after lines id) none in
       lines-kept moment after lines id apart.1 ∙ line-others moment index line id apart.0
 
   folded-with : (index : Base) (changes : List Change) (id : List ℕ) → tags_of (folded index (commit_with changes)) id ≡ tags_of (fold applied index changes) id

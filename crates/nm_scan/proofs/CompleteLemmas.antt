@@ -3,6 +3,7 @@
 use Rattle.std.proofs.Common.{◌≡◌, ◌⊎◌, inl, inr, ℕ, zero, suc, ◌+◌, ◌==◌, Bool, true, false, ◌||◌, List, [], ◌∷◌, ◌++◌, Result, Ok, Err, filter, fold, map, refl, sym, ap, ◌∙◌, cond, codes, nat_le}
 use Rattle.std.specs.List.{flat_map, list_any}
 use Rattle.std.proofs.lemmas.List.Folds.{list_any-append}
+use Rattle.std.proofs.lemmas.Bool.{or_parts, or_cases, or_left, or_right}
 use Rattle.nm_base.specs.Limits.{max_files, max_folders}
 use Rattle.nm_base.specs.MailPath.{is_mail_path}
 use Rattle.nm_base.specs.Order.{has_text, insert, same_text, sorted}
@@ -12,7 +13,7 @@ use Rattle.nm_maildir.specs.Tree.{Tree, listing_of}
 use Rattle.nm_scan.specs.Mail.{IsMailAt, IsReached, below, mail_of, paths_met, root}
 use Rattle.nm_scan.specs.Walking.{Met, counts, file, folder, inside, is_walked, mail_met, met_in, not_begun, part_met, paths_in, paths_walked, scanned, walked, walked_through, with_met}
 use Rattle.nm_scan.specs.declared.walking.Walk.{Walk}
-use Rattle.nm_scan.proofs.MailLemmas.{meets, meets-both, met-files, or-left, or-right, or-split, same-is, same-self}
+use Rattle.nm_scan.proofs.MailLemmas.{meets, meets-both, met-files, same-is, same-self}
 use Rattle.nm_scan.proofs.WalkLemmas.{err-stays}
 
 -- a folder that lies too deep
@@ -77,16 +78,12 @@ all-counted (met ∷ all) from to e =
           (rest.0 ∙ (ap (λ l. fold insert l (paths_met all)) c.paths ∙ met-first met all from.paths), ap (λ b. b || list_any is_end all) c.goes_on ∙ rest.1))
     ]
 
-neither : (a b : Bool) → (a || b) ≡ false → (a ≡ false) × (b ≡ false)
-neither true b h = absurd (cc)
-neither false b h = (refl, h)
-
 -- where none of the folders holds one that lies too deep, none of them does
 flat-none : (f : List ℕ → List Met) (names : List (List ℕ)) (name : List ℕ) → has_text names name ≡ true → list_any is_end (flat_map f names) ≡ false → list_any is_end (f name) ≡ false
 flat-none f [] name h e = absurd (cc)
 flat-none f (first ∷ names) name h e =
-    let parts = neither (list_any is_end (f first)) (list_any is_end (flat_map f names)) (sym (list_any-append is_end (f first) (flat_map f names)) ∙ e) in
-    elim (or-split (same_text name first) (has_text names name) h) [
+    let parts = or_parts (list_any is_end (f first)) (list_any is_end (flat_map f names)) (sym (list_any-append is_end (f first) (flat_map f names)) ∙ e) in
+    elim (or_cases (same_text name first) (has_text names name) h) [
       | inl here ↦ ap (λ (l : List ℕ). list_any is_end (f l)) (same-is name first here) ∙ parts.0
       | inr there ↦ flat-none f names name there parts.1
     ]
@@ -96,15 +93,15 @@ flat-meets : (f : List ℕ → List Met) (names : List (List ℕ)) (name path : 
 flat-meets f [] name path h k = absurd (cc)
 flat-meets f (first ∷ names) name path h k =
     meets-both (f first) (flat_map f names) path
-    ∙ elim (or-split (same_text name first) (has_text names name) h) [
-      | inl here ↦ or-left (meets (f first) path) (meets (flat_map f names) path) (ap (λ (l : List ℕ). meets (f l) path) (sym (same-is name first here)) ∙ k)
-      | inr there ↦ or-right (meets (f first) path) (meets (flat_map f names) path) (flat-meets f names name path there k)
+    ∙ elim (or_cases (same_text name first) (has_text names name) h) [
+      | inl here ↦ or_left (meets (f first) path) (meets (flat_map f names) path) (ap (λ (l : List ℕ). meets (f l) path) (sym (same-is name first here)) ∙ k)
+      | inr there ↦ or_right (meets (f first) path) (meets (flat_map f names) path) (flat-meets f names name path there k)
     ]
 
 keeps-case : (test : List ℕ → Bool) (first : List ℕ) (names : List (List ℕ)) (name : List ℕ) (passes : Bool) → test first ≡ passes → (same_text name first ≡ true) ⊎ (has_text (filter test names) name ≡ true) → test name ≡ true
     → has_text (cond passes (first ∷ filter test names) (filter test names)) name ≡ true
-keeps-case test first names name true e (inl here) k = or-left (same_text name first) (has_text (filter test names) name) here
-keeps-case test first names name true e (inr there) k = or-right (same_text name first) (has_text (filter test names) name) there
+keeps-case test first names name true e (inl here) k = or_left (same_text name first) (has_text (filter test names) name) here
+keeps-case test first names name true e (inr there) k = or_right (same_text name first) (has_text (filter test names) name) there
 keeps-case test first names name false e (inl here) k = absurd (let no : true ≡ false = sym k ∙ (ap test (same-is name first here) ∙ e) in cc)
 keeps-case test first names name false e (inr there) k = there
 
@@ -113,15 +110,15 @@ filter-keeps : (test : List ℕ → Bool) (names : List (List ℕ)) (name : List
 filter-keeps test [] name h k = absurd (cc)
 filter-keeps test (first ∷ names) name h k =
     keeps-case test first names name (test first) refl
-    (elim (or-split (same_text name first) (has_text names name) h) [ inl here ↦ inl here | inr there ↦ inr (filter-keeps test names name there k) ]) k
+    (elim (or_cases (same_text name first) (has_text names name) h) [ inl here ↦ inl here | inr there ↦ inr (filter-keeps test names name there k) ]) k
 
 joined-keeps : (dir : List ℕ) (names : List (List ℕ)) (name : List ℕ) → has_text names name ≡ true → has_text (map (λ it. dir ++ 47 ∷ it) names) (dir ++ 47 ∷ name) ≡ true
 joined-keeps dir [] name h = absurd (cc)
 joined-keeps dir (first ∷ names) name h =
-    elim (or-split (same_text name first) (has_text names name) h) [
-      | inl here ↦ or-left (same_text (dir ++ 47 ∷ name) (dir ++ 47 ∷ first)) (has_text (map (λ it. dir ++ 47 ∷ it) names) (dir ++ 47 ∷ name))
+    elim (or_cases (same_text name first) (has_text names name) h) [
+      | inl here ↦ or_left (same_text (dir ++ 47 ∷ name) (dir ++ 47 ∷ first)) (has_text (map (λ it. dir ++ 47 ∷ it) names) (dir ++ 47 ∷ name))
           (ap (λ (l : List ℕ). same_text (dir ++ 47 ∷ name) (dir ++ 47 ∷ l)) (sym (same-is name first here)) ∙ same-self (dir ++ 47 ∷ name))
-      | inr there ↦ or-right (same_text (dir ++ 47 ∷ name) (dir ++ 47 ∷ first)) (has_text (map (λ it. dir ++ 47 ∷ it) names) (dir ++ 47 ∷ name)) (joined-keeps dir names name there)
+      | inr there ↦ or_right (same_text (dir ++ 47 ∷ name) (dir ++ 47 ∷ first)) (has_text (map (λ it. dir ++ 47 ∷ it) names) (dir ++ 47 ∷ name)) (joined-keeps dir names name there)
     ]
 
 -- A walk that meets this folder, and what it meets there.
@@ -142,11 +139,11 @@ child tree dir name path all levels there none holds =
     let two : List Met = part_met levels tree dir (codes "cur") in
     let f : List ℕ → List Met = λ name. met_in levels tree (inside dir name) in
     let names : List (List ℕ) = filter is_walked (listing_of tree dir).dirs in
-    let first = neither (list_any is_end one) (list_any is_end (two ++ flat_map f names)) (sym (list_any-append is_end one (two ++ flat_map f names)) ∙ none) in
-    let second = neither (list_any is_end two) (list_any is_end (flat_map f names)) (sym (list_any-append is_end two (flat_map f names)) ∙ first.1) in
+    let first = or_parts (list_any is_end one) (list_any is_end (two ++ flat_map f names)) (sym (list_any-append is_end one (two ++ flat_map f names)) ∙ none) in
+    let second = or_parts (list_any is_end two) (list_any is_end (flat_map f names)) (sym (list_any-append is_end two (flat_map f names)) ∙ first.1) in
     deeper tree (inside dir name) path all levels (flat-none f names name there second.1)
-    (λ k. holds (meets-both one (two ++ flat_map f names) path ∙ or-right (meets one path) (meets (two ++ flat_map f names) path)
-    (meets-both two (flat_map f names) path ∙ or-right (meets two path) (meets (flat_map f names) path) (flat-meets f names name path there k))))
+    (λ k. holds (meets-both one (two ++ flat_map f names) path ∙ or_right (meets one path) (meets (two ++ flat_map f names) path)
+    (meets-both two (flat_map f names) path ∙ or_right (meets two path) (meets (flat_map f names) path) (flat-meets f names name path there k))))
 
 -- a walk that meets no folder that lies too deep meets each that it comes to
 reach : (tree : Tree) (dir path : List ℕ) (levels : ℕ) → IsReached tree dir → list_any is_end (met_in levels tree []) ≡ false → Within tree dir path (met_in levels tree [])
@@ -174,11 +171,11 @@ mail-met tree path levels none m =
     let two : List Met = part_met within.under tree m.dir (codes "cur") in
     let others : List Met = flat_map (λ name. met_in within.under tree (inside m.dir name)) (filter is_walked (listing_of tree m.dir).dirs) in
     within.holds (meets-both one (two ++ others) path
-    ∙ elim (or-split (same_text m.part (codes "new")) (same_text m.part (codes "cur") || false) m.is_part) [
-      | inl new ↦ or-left (meets one path) (meets (two ++ others) path) (ap (λ (l : List ℕ). meets (part_met within.under tree m.dir l) path) (sym (same-is m.part (codes "new") new)) ∙ met)
-      | inr more ↦ or-right (meets one path) (meets (two ++ others) path) (meets-both two others path
-          ∙ elim (or-split (same_text m.part (codes "cur")) false more) [
-            | inl cur ↦ or-left (meets two path) (meets others path) (ap (λ (l : List ℕ). meets (part_met within.under tree m.dir l) path) (sym (same-is m.part (codes "cur") cur)) ∙ met)
+    ∙ elim (or_cases (same_text m.part (codes "new")) (same_text m.part (codes "cur") || false) m.is_part) [
+      | inl new ↦ or_left (meets one path) (meets (two ++ others) path) (ap (λ (l : List ℕ). meets (part_met within.under tree m.dir l) path) (sym (same-is m.part (codes "new") new)) ∙ met)
+      | inr more ↦ or_right (meets one path) (meets (two ++ others) path) (meets-both two others path
+          ∙ elim (or_cases (same_text m.part (codes "cur")) false more) [
+            | inl cur ↦ or_left (meets two path) (meets others path) (ap (λ (l : List ℕ). meets (part_met within.under tree m.dir l) path) (sym (same-is m.part (codes "cur") cur)) ∙ met)
             | inr nowhere ↦ absurd (cc)
           ])
     ])

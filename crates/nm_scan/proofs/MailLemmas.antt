@@ -4,6 +4,7 @@ use Rattle.std.proofs.Common.{◌≡◌, ◌⊎◌, inl, inr, ℕ, zero, suc, Bo
 use Rattle.std.specs.Cmp.Lexicographic as lexicographic
 use Rattle.std.specs.List.{flat_map}
 use Rattle.std.proofs.lemmas.List.Folds.{list_any-append}
+use Rattle.std.proofs.lemmas.Bool.{or_cases, or_left, or_right}
 use Rattle.nm_base.specs.MailPath.{is_mail_path}
 use Rattle.nm_base.specs.Order.{has_text, same_text}
 use Rattle.nm_maildir.specs.Tree.{Tree, listing_of}
@@ -17,18 +18,6 @@ same-is a b h = lexicographic.same_text a b (sym h)
 pub same-self : (a : List ℕ) → same_text a a ≡ true
 same-self [] = refl
 same-self (x ∷ a) = grind (arith, same-self a)
-
-pub or-split : (a b : Bool) → (a || b) ≡ true → (a ≡ true) ⊎ (b ≡ true)
-or-split true b h = inl refl
-or-split false b h = inr h
-
-pub or-left : (a b : Bool) → a ≡ true → (a || b) ≡ true
-or-left true b h = refl
-or-left false b h = absurd (cc)
-
-pub or-right : (a b : Bool) → b ≡ true → (a || b) ≡ true
-or-right true b h = refl
-or-right false b h = h
 
 -- an element of two lists is one of the first or of the second
 has-both : (xs ys : List (List ℕ)) (path : List ℕ) → has_text (xs ++ ys) path ≡ (has_text xs path || has_text ys path)
@@ -56,16 +45,16 @@ record Found (names : List (List ℕ)) (holds : List ℕ → Type 0) : Type 0 wh
   has : holds name
 
 found-more : (first : List ℕ) (names : List (List ℕ)) (holds : List ℕ → Type 0) → Found names holds → Found (first ∷ names) holds
-found-more first names holds found = record { name = found.name; there = or-right (same_text found.name first) (has_text names found.name) found.there; has = found.has }
+found-more first names holds found = record { name = found.name; there = or_right (same_text found.name first) (has_text names found.name) found.there; has = found.has }
 
 found-first : (first : List ℕ) (names : List (List ℕ)) (holds : List ℕ → Type 0) → holds first → Found (first ∷ names) holds
-found-first first names holds h = record { name = first; there = or-left (same_text first first) (has_text names first) (same-self first); has = h }
+found-first first names holds h = record { name = first; there = or_left (same_text first first) (has_text names first) (same-self first); has = h }
 
 -- what is met in one of some folders
 flat-found : (f : List ℕ → List Met) (names : List (List ℕ)) (path : List ℕ) → meets (flat_map f names) path ≡ true → Found names (λ name. meets (f name) path ≡ true)
 flat-found f [] path h = absurd (cc)
 flat-found f (name ∷ names) path h =
-    elim (or-split (meets (f name) path) (meets (flat_map f names) path) (sym (meets-both (f name) (flat_map f names) path) ∙ h)) [
+    elim (or_cases (meets (f name) path) (meets (flat_map f names) path) (sym (meets-both (f name) (flat_map f names) path) ∙ h)) [
       | inl here ↦ found-first name names (λ name. meets (f name) path ≡ true) here
       | inr there ↦ found-more name names (λ name. meets (f name) path ≡ true) (flat-found f names path there)
     ]
@@ -75,14 +64,14 @@ abbrev Passes : (List ℕ → Bool) → List (List ℕ) → List ℕ → Type 0
 Passes test names name = (has_text names name ≡ true) × (test name ≡ true)
 
 passes-more : (test : List ℕ → Bool) (first : List ℕ) (names : List (List ℕ)) (name : List ℕ) → Passes test names name → Passes test (first ∷ names) name
-passes-more test first names name more = (or-right (same_text name first) (has_text names name) more.0, more.1)
+passes-more test first names name more = (or_right (same_text name first) (has_text names name) more.0, more.1)
 
 filter-case : (test : List ℕ → Bool) (first : List ℕ) (names : List (List ℕ)) (name : List ℕ) (passes : Bool) → test first ≡ passes → (has_text (filter test names) name ≡ true → Passes test names name)
     → has_text (cond passes (first ∷ filter test names) (filter test names)) name ≡ true → Passes test (first ∷ names) name
 filter-case test first names name false e rest h = passes-more test first names name (rest h)
 filter-case test first names name true e rest h =
-    elim (or-split (same_text name first) (has_text (filter test names) name) h) [
-      | inl here ↦ (or-left (same_text name first) (has_text names name) here, ap test (same-is name first here) ∙ e)
+    elim (or_cases (same_text name first) (has_text (filter test names) name) h) [
+      | inl here ↦ (or_left (same_text name first) (has_text names name) here, ap test (same-is name first here) ∙ e)
       | inr there ↦ passes-more test first names name (rest there)
     ]
 
@@ -101,7 +90,7 @@ record IsNamed (dir : List ℕ) (names : List (List ℕ)) (path : List ℕ) : Ty
 joined-found : (dir : List ℕ) (names : List (List ℕ)) (path : List ℕ) → has_text (map (λ name. dir ++ 47 ∷ name) names) path ≡ true → Found names (λ name. path ≡ dir ++ 47 ∷ name)
 joined-found dir [] path h = absurd (cc)
 joined-found dir (name ∷ names) path h =
-    elim (or-split (same_text path (dir ++ 47 ∷ name)) (has_text (map (λ name. dir ++ 47 ∷ name) names) path) h) [
+    elim (or_cases (same_text path (dir ++ 47 ∷ name)) (has_text (map (λ name. dir ++ 47 ∷ name) names) path) h) [
       | inl here ↦ found-first name names (λ name. path ≡ dir ++ 47 ∷ name) (same-is path (dir ++ 47 ∷ name) here)
       | inr there ↦ found-more name names (λ name. path ≡ dir ++ 47 ∷ name) (joined-found dir names path there)
     ]
@@ -130,9 +119,9 @@ met-mail (suc levels) tree dir path reached h =
     let one : List Met = part_met levels tree dir (codes "new") in
     let two : List Met = part_met levels tree dir (codes "cur") in
     let others : List Met = flat_map (λ name. met_in levels tree (inside dir name)) (filter is_walked (listing_of tree dir).dirs) in
-    elim (or-split (meets one path) (meets (two ++ others) path) (sym (meets-both one (two ++ others) path) ∙ h)) [
+    elim (or_cases (meets one path) (meets (two ++ others) path) (sym (meets-both one (two ++ others) path) ∙ h)) [
       | inl here ↦ part-mail levels tree dir (codes "new") path (has_text (listing_of tree dir).dirs (codes "new")) refl reached refl here
-      | inr rest ↦ elim (or-split (meets two path) (meets others path) (sym (meets-both two others path) ∙ rest)) [
+      | inr rest ↦ elim (or_cases (meets two path) (meets others path) (sym (meets-both two others path) ∙ rest)) [
         | inl here ↦ part-mail levels tree dir (codes "cur") path (has_text (listing_of tree dir).dirs (codes "cur")) refl reached refl here
         | inr deeper ↦ (let found = flat-found (λ name. met_in levels tree (inside dir name)) (filter is_walked (listing_of tree dir).dirs) path deeper in
             let walked = filter-found is_walked (listing_of tree dir).dirs found.name found.there in

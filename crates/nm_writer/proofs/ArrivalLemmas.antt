@@ -5,6 +5,8 @@ use Rattle.std.specs.List.{AllByRecursion, flat_map, IsDistinct}
 use Rattle.std.specs.Cmp.Lexicographic.{slice_cmp, texts_ties, nat_list_eq_equiv}
 use Rattle.std.specs.Ordering.{eq_by_cmp, nat_cmp}
 use Rattle.std.proofs.lemmas.Map.Keys.{IsDistinct-cons, IsDistinct-from_sorted}
+use Rattle.std.proofs.Math.Bool.{or-true}
+use Rattle.std.proofs.lemmas.Bool.{not-true}
 use Rattle.nm_base.specs.Order.{IsSorted, has_text, same_text}
 use Rattle.nm_base.specs.declared.facts.Facts.{Facts}
 use Rattle.nm_base.specs.Limits.{IsDate}
@@ -85,20 +87,12 @@ distinct-mail ((path, answers.Body bytes) ∷ reads) h = distinct-mail reads h.1
 same_as_itself : (text : List ℕ) → same_text text text ≡ true
 same_as_itself text = nat_list_eq_equiv.refl text
 
-pub or_true : (b : Bool) → (b || true) ≡ true
-or_true true = refl
-or_true false = refl
-
 pub every-in : (texts : List (List ℕ)) → AllByRecursion (λ text. has_text texts text ≡ true) texts
 every-in [] = tt
 every-in (text ∷ texts) = (
   ap (λ b. b || has_text texts text) (same_as_itself text),
-  every-map (λ other. has_text texts other ≡ true) (λ other. has_text (text ∷ texts) other ≡ true) texts (λ other h. ap (λ b. same_text other text || b) h ∙ or_true (same_text other text)) (every-in texts),
+  every-map (λ other. has_text texts other ≡ true) (λ other. has_text (text ∷ texts) other ≡ true) texts (λ other h. ap (λ b. same_text other text || b) h ∙ or-true (same_text other text)) (every-in texts),
 )
-
-not-true : (b : Bool) → not b ≡ true → b ≡ false
-not-true true h = sym h
-not-true false h = refl
 
 -- the listed paths that an index lacks are unknown to it, each once
 pub are-unknown : (files : List (List ℕ × Facts)) (listed : List (List ℕ)) → IsSorted listed → AreUnknown files (to_read files listed)

@@ -2,6 +2,7 @@
 -- For the proof of `Writer::take_in_batches`.
 use Rattle.std.proofs.Common.{◌≡◌, inl, inr, ℕ, ◌<◌, List, [], ◌∷◌, ◌++◌, Result, Ok, Err, length, refl, sym, ap, ◌∙◌, subst, append-nil, append_assoc, length-append, arith}
 use Rattle.std.proofs.lemmas.List.Sums.{fold-append}
+use Rattle.std.proofs.lemmas.List.{nil_from_length}
 use Rattle.nm_base.specs.declared.facts.Facts.{Facts}
 use Rattle.nm_commit.specs.declared.change.Commit.{Commit}
 use Rattle.nm_faults.specs.Faults.{HasCauseOf}
@@ -146,10 +147,6 @@ module _ (laws : Laws) where
 pub batch_smaller : (before now : Reading) (paths rest : List (List ℕ)) (old new : WriterState) (faults : ℕ) (done : Unit {0}) → IsAfterBatch {T = Unit {0}} before now paths rest old faults (Ok done) new → length rest < length paths
 batch_smaller before now paths rest old new faults done (added, k, made) =
     omega (arith, ap length k.paths_are ∙ length-append k.read rest, ap length k.batch.read_are ∙ length-append k.batch.before (k.batch.last ∷ []))
-
-pub none_left : (paths : List (List ℕ)) → length paths ≡ 0 → paths ≡ []
-none_left [] none = refl
-none_left (path ∷ paths) none = absurd (omega (arith, none))
 
 -- what was read, however it ended
 pub first-read : {T : Type 0} (before now : Reading) (paths : List (List ℕ)) (old new : WriterState) (faults : ℕ) (result : Result T WriteError) → IsAfterBatches before now paths old faults result new

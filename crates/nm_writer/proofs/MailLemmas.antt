@@ -4,6 +4,7 @@ use Rattle.std.proofs.Common.{◌≡◌, ◌⊎◌, inl, inr, ℕ, Bool, true, f
 use Rattle.std.proofs.lemmas.List.Elements.{All-contains_itself, recursion_from_All}
 use Rattle.std.specs.List.{AllByRecursion, Contains, flat_map}
 use Rattle.std.specs.Prelude.{IsTrue}
+use Rattle.std.proofs.Math.Bool.{and-false}
 use Rattle.nm_answer.specs.NewText.{gone, listed_in}
 use Rattle.nm_answer.specs.declared.report.NewReport.{NewReport}
 use Rattle.nm_base.specs.Limits.{max_mail_bytes}
@@ -20,7 +21,7 @@ use Rattle.nm_plan.specs.Plan.{all_added, files_after_new, new_commits, to_read}
 use Rattle.nm_scan.specs.Batches.{ReadsBatches}
 use Rattle.nm_scan.specs.Reading.{Reads, arrival, arrival_at, arrival_of, found_in}
 use Rattle.nm_writer.proofs.ArrivalLemmas.{are-unknown, every-in, every-filter}
-use Rattle.nm_plan.specs.SetLaws.{and_false, bytes_same, has_text-filter}
+use Rattle.nm_plan.specs.SetLaws.{bytes_same, has_text-filter}
 use Rattle.nm_writer.specs.New.{HasCome, HoldsTheMail, IsAfterNew, StillHolds, facts_at}
 use Rattle.nm_writer.specs.Writer.{WriterState}
 use Rattle.nm_writer.specs.declared.write_error.WriteError.{WriteError}
@@ -67,7 +68,7 @@ module _ (tree : Tree) where
       → has_path rest path ≡ (has_text paths path && is_some (facts_at tree path)) → has_path (arrival first facts ++ rest) path ≡ ((b || has_text paths path) && is_some (facts_at tree path))
   found-case path first paths rest None true is same h =
       let none : is_some (facts_at tree path) ≡ false = ap (λ (p : List ℕ). is_some (facts_at tree p)) (bytes_same path first (sym same)) ∙ ap (λ (o : Option Facts). is_some o) is in
-      h ∙ (ap (λ m. has_text paths path && m) none ∙ (and_false (has_text paths path) ∙ sym none))
+      h ∙ (ap (λ m. has_text paths path && m) none ∙ (and-false (has_text paths path) ∙ sym none))
   found-case path first paths rest None false is same h = h
   found-case path first paths rest (Some facts) true is same h =
       let some : is_some (facts_at tree path) ≡ true = ap (λ (p : List ℕ). is_some (facts_at tree p)) (bytes_same path first (sym same)) ∙ ap (λ (o : Option Facts). is_some o) is in

@@ -10,6 +10,8 @@ use Rattle.std.specs.Map.{values_of}
 use Rattle.std.specs.Ordering.{match_ordering, nat_cmp}
 use Rattle.std.specs.declared.cmp.Ordering.{Ordering}
 use Rattle.std.specs.declared.cmp.Ordering.TheVariants.{Less, Equal, Greater}
+use Rattle.std.proofs.Math.Bool.{or-true}
+use Rattle.std.proofs.lemmas.Bool.{or_parts}
 use Rattle.nm_base.specs.Order.{has_text, same_text}
 use Rattle.nm_base.specs.declared.facts.Facts.{Facts}
 use Rattle.nm_commit.specs.Files.{has_id, paths_of}
@@ -20,7 +22,6 @@ use Rattle.nm_answer.specs.View.{message_paths, tags_of}
 use Rattle.nm_plan.specs.NameTags.{follow_names, live_of, named_tags, set_tags, with_names}
 use Rattle.nm_plan.specs.Numbering.{AreNumbered, InOrder}
 use Rattle.nm_writer.specs.Naming.{at_numbers, live_at_numbers}
-use Rattle.nm_writer.proofs.ArrivalLemmas.{or_true}
 use Rattle.nm_plan.specs.SetLaws.{bytes_same}
 
 abbrev Entry : Type 0
@@ -122,15 +123,11 @@ module _ (p q : List ℕ → Bool) where
     put next [] order (k, within, at) = absurd (omega (arith, within))
     put next (entry ∷ entries) order among = put-by next entry entries (same_text id entry.0) refl order among (put next entries order.2)
 
-  neither : (a b : Bool) → (a || b) ≡ false → (a ≡ false) × (b ≡ false)
-  neither true b h = absurd (cc)
-  neither false b h = (refl, h)
-
   -- an id without a number comes to no place
   no-number : (id : List ℕ) → ((other : List ℕ) → same_text id other ≡ false → q other ≡ p other) → (entries : List Entry) → list_any (is_of id) entries ≡ false → at_numbers p entries ≡ at_numbers q entries
   no-number id agree [] none = refl
   no-number id agree (entry ∷ entries) none =
-      let apart = neither (is_of id entry) (list_any (is_of id) entries) none in
+      let apart = or_parts (is_of id entry) (list_any (is_of id) entries) none in
       ap (λ (l : List Pair). cond (p entry.0) ((entry.1, entry.0) ∷ l) l) (no-number id agree entries apart.1)
       ∙ ap (λ (b : Bool). cond b ((entry.1, entry.0) ∷ at_numbers q entries) (at_numbers q entries)) (sym (agree entry.0 apart.0))
 
@@ -147,7 +144,7 @@ has-other (first ∷ ids) id other apart = ap (λ b. same_text other first || b)
 
 has-last : (ids : List (List ℕ)) (id : List ℕ) → has_text (ids ++ id ∷ []) id ≡ true
 has-last [] id = ap (λ b. b || false) (nat_list_eq_equiv.refl id)
-has-last (first ∷ ids) id = ap (λ b. same_text id first || b) (has-last ids id) ∙ or_true (same_text id first)
+has-last (first ∷ ids) id = ap (λ b. same_text id first || b) (has-last ids id) ∙ or-true (same_text id first)
 
 module _ (index : Base) (ids : List (List ℕ)) (id : List ℕ) where
   abbrev before : List ℕ → Bool

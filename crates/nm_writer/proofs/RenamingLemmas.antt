@@ -8,6 +8,9 @@ use Rattle.std.specs.Cmp.Lexicographic.{nat_list_eq_equiv, slice_cmp, texts_ties
 use Rattle.std.specs.List.{flat_map}
 use Rattle.std.specs.Option.{option_map}
 use Rattle.std.specs.Ordering.{nat_cmp}
+use Rattle.std.proofs.lemmas.Grind.{flat_map-append}
+use Rattle.std.proofs.lemmas.List.{nil_from_length}
+use Rattle.std.proofs.lemmas.Bool.{or_parts}
 use Rattle.nm_base.specs.Order.{same_text}
 use Rattle.nm_base.specs.declared.facts.Facts.{Facts}
 use Rattle.nm_commit.specs.Files.{changed, has_path, moved_path, with_moved}
@@ -30,12 +33,8 @@ use Rattle.nm_plan.specs.SetLaws.{bytes_same}
 abbrev File : Type 0
 File = List ℕ × Facts
 
-flat-append : {A B : Type 0} (f : A → List B) (xs ys : List A) → flat_map f (xs ++ ys) ≡ flat_map f xs ++ flat_map f ys
-flat-append f [] ys = refl
-flat-append {A} {B} f (x ∷ xs) ys = ap (λ (l : List B). f x ++ l) (flat-append f xs ys) ∙ sym (append_assoc (f x) (flat_map f xs) (flat_map f ys))
-
 given-append : (files : List File) (xs ys : List Given) → files_given files (xs ++ ys) ≡ files_given (files_given files xs) ys
-given-append files xs ys = ap (fold changed files) (flat-append move_given xs ys) ∙ fold-append changed files (flat_map move_given xs) (flat_map move_given ys)
+given-append files xs ys = ap (fold changed files) (flat_map-append move_given xs ys) ∙ fold-append changed files (flat_map move_given xs) (flat_map move_given ys)
 
 -- what comes of a rename whose target is this one
 abbrev at_target : List File → List ℕ → List Rename → List Renamed → Target → List Outcome
@@ -55,10 +54,6 @@ silent-target files from more (IsFree to) h = refl
 pub silent : (rest : List Rename) (files : List File) → flat_map note_of (outcomes files rest []) ≡ []
 silent [] files = refl
 silent (rename ∷ rest) files = silent-target files rename.from rest (target_of files rename.to) (silent rest files)
-
-pub none-left : (list : List Rename) → length list ≡ 0 → list ≡ []
-none-left [] h = refl
-none-left (rename ∷ list) h = absurd (omega (arith, h))
 
 -- the renames so far, and what comes of those that are left
 pub record InRenames (files : List File) (plan rest : List Rename) (given : List Given) (kept : List (List ℕ × Unmoved)) : Type 0 where
@@ -86,7 +81,7 @@ module _ (files : List File) (plan : List Rename) (rename : Rename) (rest : List
   goes-on h step told =
       let note : List Given = note_of step.outcome in
       ap (λ (n : List Given). outcomes files plan (flat_map answer_given n ++ told)) step.given_is
-      ∙ (ap (λ (l : List Renamed). outcomes files plan (l ++ told)) (flat-append answer_given given note)
+      ∙ (ap (λ (l : List Renamed). outcomes files plan (l ++ told)) (flat_map-append answer_given given note)
       ∙ (ap (outcomes files plan) (append_assoc (flat_map answer_given given) (flat_map answer_given note) told)
       ∙ (h.goes (flat_map answer_given note ++ told)
       ∙ (ap (λ (l : List Outcome). h.done ++ l) (step.first rest told)
@@ -97,9 +92,9 @@ module _ (files : List File) (plan : List Rename) (rename : Rename) (rest : List
   next-rename h step kept_more = record {
     done = h.done ++ step.outcome ∷ [];
     goes = goes-on h step;
-    notes = step.given_is ∙ (ap (λ (l : List Given). l ++ note_of step.outcome) h.notes ∙ (ap (λ (l : List Given). flat_map note_of h.done ++ l) (sym (append-nil (note_of step.outcome))) ∙ sym (flat-append note_of h.done (step.outcome ∷ []))));
+    notes = step.given_is ∙ (ap (λ (l : List Given). l ++ note_of step.outcome) h.notes ∙ (ap (λ (l : List Given). flat_map note_of h.done ++ l) (sym (append-nil (note_of step.outcome))) ∙ sym (flat_map-append note_of h.done (step.outcome ∷ []))));
     kept_are = kept_more
-        ∙ (ap (λ (l : List (List ℕ × Unmoved)). l ++ unmoved_in step.outcome) h.kept_are ∙ (ap (λ (l : List (List ℕ × Unmoved)). flat_map unmoved_in h.done ++ l) (sym (append-nil (unmoved_in step.outcome))) ∙ sym (flat-append unmoved_in h.done (step.outcome ∷ []))));
+        ∙ (ap (λ (l : List (List ℕ × Unmoved)). l ++ unmoved_in step.outcome) h.kept_are ∙ (ap (λ (l : List (List ℕ × Unmoved)). flat_map unmoved_in h.done ++ l) (sym (append-nil (unmoved_in step.outcome))) ∙ sym (flat_map-append unmoved_in h.done (step.outcome ∷ []))));
     count = omega (arith, length-append h.done (step.outcome ∷ []), h.count);
   }
 
@@ -110,7 +105,7 @@ so-far-tried files plan rest given kept h =
     h.notes
     ∙ sym (ap (λ (l : List Renamed). flat_map note_of (outcomes files plan l)) (sym (append-nil (flat_map answer_given given)))
     ∙ (ap (flat_map note_of) (h.goes [])
-    ∙ (flat-append note_of h.done left ∙ (ap (λ (l : List Given). flat_map note_of h.done ++ l) (silent rest (files_given files given)) ∙ append-nil (flat_map note_of h.done)))))
+    ∙ (flat_map-append note_of h.done left ∙ (ap (λ (l : List Given). flat_map note_of h.done ++ l) (silent rest (files_given files given)) ∙ append-nil (flat_map note_of h.done)))))
 
 -- where none is left, all are done
 pub all-done : (files : List File) (plan : List Rename) (given : List Given) (kept : List (List ℕ × Unmoved)) (h : InRenames files plan [] given kept) → outcomes_given files plan given ≡ h.done
@@ -174,7 +169,7 @@ kept-more files given now from to answer done new kept is moves places free =
     record {
       moves = moves
           ∙ (ap (λ (l : List Change). l ++ move_if from to answer) kept.moves
-          ∙ (ap (λ (l : List Change). flat_map move_given given ++ l) (sym (append-nil (move_if from to answer))) ∙ (sym (flat-append move_given given note) ∙ ap (flat_map move_given) (sym is))));
+          ∙ (ap (λ (l : List Change). flat_map move_given given ++ l) (sym (append-nil (move_if from to answer))) ∙ (sym (flat_map-append move_given given note) ∙ ap (flat_map move_given) (sym is))));
       places = subst (λ (f : List File). HasPlaces files f new.places) (sym after) (places (files_given files given) free kept.places);
     }
 
@@ -194,11 +189,6 @@ last-set (first ∷ front) last note = ap (λ (l : List Given). first ∷ l) (la
 pub where-err : {T E P : Type 0} (result : Result T E) → P → OnErr result P
 where-err (Ok value) h = tt
 where-err (Err error) h = h
-
--- where files lie after a move to where none lay
-neither : (a b : Bool) → (a || b) ≡ false → (a ≡ false) × (b ≡ false)
-neither true b h = absurd (cc)
-neither false b h = (refl, h)
 
 module _ (from to path : List ℕ) where
   abbrev lies : Bool → Bool → Bool → Bool → Bool
@@ -235,7 +225,7 @@ module _ (from to path : List ℕ) where
   pub lie-moved : (files : List File) → has_path files to ≡ false → has_path (with_moved files from to) path ≡ lies (same_text path to) (same_text path from) (has_path files from) (has_path files path)
   lie-moved [] none = none-lie (same_text path to) (same_text path from)
   lie-moved (file ∷ files) none =
-      let apart = neither (same_text to file.0) (has_path files to) none in
+      let apart = or_parts (same_text to file.0) (has_path files to) none in
       lie-by file.0 (same_text path to) (same_text path from) refl refl apart.0 (has_path (with_moved files from to) path) (has_path files from) (has_path files path) (lie-moved files apart.1)
 
 abbrev Places : Type 0

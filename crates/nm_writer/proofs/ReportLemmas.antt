@@ -1,6 +1,7 @@
 -- A report where no commit lies between the index before and the one after. For the proof of `messages_changed`.
 use Rattle.std.proofs.Common.{◌≡◌, ℕ, ◌+◌, true, not, cond, List, [], ◌∷◌, filter, length, refl, sym, ap, ◌∙◌, arith}
 use Rattle.std.specs.List.{AllByRecursion}
+use Rattle.std.proofs.lemmas.List.{nil_from_length}
 use Rattle.nm_base.specs.Order.{has_text}
 use Rattle.nm_base.specs.declared.facts.Facts.{Facts}
 use Rattle.nm_answer.specs.NewText.{ids_of, only_in}
@@ -22,14 +23,10 @@ revision-more : (index : Base) (commits : List Commit) → (folded index commits
 revision-more index [] = omega arith
 revision-more index (commit ∷ commits) = revision-more (committed index commit) commits ∙ omega arith
 
-no_commits : (commits : List Commit) → length commits ≡ 0 → commits ≡ []
-no_commits [] none = refl
-no_commits (commit ∷ commits) none = absurd (omega (arith, none))
-
 -- at one revision they are the same
 pub same_index : (before after : Base) (commits : List Commit) → after ≡ folded before commits → before.revision ≡ after.revision → after ≡ before
 same_index before after commits is same =
-    let none : commits ≡ [] = no_commits commits (omega (arith, same, ap (λ (b : Base). b.revision) is ∙ revision-more before commits)) in
+    let none : commits ≡ [] = nil_from_length commits (omega (arith, same, ap (λ (b : Base). b.revision) is ∙ revision-more before commits)) in
     is ∙ ap (folded before) none
 
 pub none_born : (before after : Base) (commits : List Commit) → after ≡ folded before commits → before.revision ≡ after.revision → 0 ≡ length (only_in before.files after.files)

@@ -3,6 +3,7 @@
 use Rattle.std.proofs.Common.{◌≡◌, ℕ, Bool, true, false, ◌&&◌, cond, not, List, [], ◌∷◌, ◌++◌, filter, length, refl, sym, ap, ◌∙◌, arith, subst, Result, Ok, Err, append-nil}
 use Rattle.std.specs.Cmp.Lexicographic.{nat_list_eq_equiv, pointwise}
 use Rattle.std.specs.List.{flat_map}
+use Rattle.std.proofs.lemmas.Bool.{cond-true}
 use Rattle.nm_base.specs.Order.{has_text, same_text}
 use Rattle.nm_commit.specs.Files.{Fits}
 use Rattle.nm_commit.specs.declared.change.Change.{Change}
@@ -52,10 +53,6 @@ texts-alike (text ∷ texts) = ap (λ (b : Bool). b && pointwise same_text texts
 
 alike : (old new : Texts) → new ≡ old → pointwise same_text old new ≡ true
 alike old new same = ap (pointwise same_text old) same ∙ texts-alike old
-
-cond-true : {X : Type 0} (b : Bool) (x y : X) → b ≡ true → cond b x y ≡ x
-cond-true true x y h = refl
-cond-true false x y h = absurd (cc)
 
 module _ (index wanted : Base) (ids : Texts) (touched : AreTouched index wanted ids) where
   pub changes-are : (changes : List Change) → changes ≡ flat_map (λ id. set_tags id (tags_of index id) (tags_of wanted id)) ids → changes ≡ tag_changes index wanted

@@ -5,6 +5,7 @@ use Rattle.std.proofs.lemmas.List.{take_more}
 use Rattle.std.proofs.lemmas.List.Sums.{fold-append}
 use Rattle.std.specs.Map.{values_of}
 use Rattle.std.specs.Prelude.{OnOk}
+use Rattle.std.proofs.lemmas.Bool.{or_parts}
 use Rattle.nm_base.specs.Order.{has_text, same_text}
 use Rattle.nm_index.specs.declared.base.Base.{Base}
 use Rattle.nm_answer.specs.View.{tags_of}
@@ -40,10 +41,6 @@ has-append : (texts others : Texts) (text : List ℕ) → has_text (texts ++ oth
 has-append [] others text = refl
 has-append (first ∷ texts) others text = or-step (same_text text first) _ (has_text texts text) (has_text others text) (has-append texts others text)
 
-neither : (a b : Bool) → (a || b) ≡ false → (a ≡ false) × (b ≡ false)
-neither true b h = absurd (cc)
-neither false b h = (refl, h)
-
 module _ (others : (moment : ℤ) (index : Base) (line : Tagging) (id : List ℕ) → has_text (found_by moment index line) id ≡ false → tags_of (wanted_after moment index line) id ≡ tags_of index id)
     (rest : (moment : ℤ) (index : Base) (lines : List Tagging) → wanted_by moment index lines ≡ record index { tags = (wanted_by moment index lines).tags }) where
   -- all but tags is that of the index
@@ -65,7 +62,7 @@ module _ (others : (moment : ℤ) (index : Base) (line : Tagging) (id : List ℕ
         after_is = is ∙ (ap (λ (i : Base). wanted_after moment i line) h.after_is ∙ sym (fold-append (wanted_after moment) shown lines (line ∷ [])));
         among = h.among ++ found;
         pairs_are = put h.among (h.pairs_are ∙ sym (same_numbers moment shown lines before pairs h h.among)) ∙ same_numbers moment shown lines before pairs h (h.among ++ found);
-        others = λ id apart. let none = neither (has_text h.among id) (has_text found id) (sym (has-append h.among found id) ∙ apart) in
+        others = λ id apart. let none = or_parts (has_text h.among id) (has_text found id) (sym (has-append h.among found id) ∙ apart) in
             ap (λ (i : Base). tags_of i id) is ∙ (others moment before line id none.1 ∙ h.others id none.0);
       }
 

@@ -1,8 +1,9 @@
 use Rattle.std.proofs.Common.{rules, ◌≡◌, ◌<◌, List, [], ◌∷◌, length, arith, refl, ap, sym, ◌∙◌, subst}
+use Rattle.std.proofs.lemmas.List.{nil_from_length}
 use Rattle.nm_flags.specs.declared.renames.Rename.{Rename}
 use Rattle.nm_maildir.specs.declared.given.Given.{Given}
 use Rattle.nm_writer.specs.Renamed.{outcomes_given}
-use Rattle.nm_writer.proofs.RenamingLemmas.{InRenames, all-count, all-kept, asks-nothing, asks-then, left-count, next-rename, no-rename, none-left, so-far-tried, stopped-tried}
+use Rattle.nm_writer.proofs.RenamingLemmas.{InRenames, all-count, all-kept, asks-nothing, asks-then, left-count, next-rename, no-rename, so-far-tried, stopped-tried}
 use Rattle.nm_writer.proofs.renaming.rename_all.Goals as goal
 
 pub renames-init : goal.renames-init
@@ -58,12 +59,12 @@ returns-clause-tried g c = so-far-tried c.args.shown.now.files c.args.plan c.ren
 
 pub returns-clause-all : goal.returns-clause-all
 returns-clause-all g c =
-    let none : c.renames.rename-iterator.rest.items ≡ [] = none-left c.renames.rename-iterator.rest.items (omega (arith, c.renames.invariant.whole, c.in-None.ensures.steps.0)) in
+    let none : c.renames.rename-iterator.rest.items ≡ [] = nil_from_length c.renames.rename-iterator.rest.items (omega (arith, c.renames.invariant.whole, c.in-None.ensures.steps.0)) in
     all-count c.args.shown.now.files c.args.plan c.renames.given c.renames.done.unmoved
     (subst (λ (l : List Rename). InRenames c.args.shown.now.files c.args.plan l c.renames.given c.renames.done.unmoved) none c.renames.invariant.renames)
 
 pub returns-clause-unmoved : goal.returns-clause-unmoved
 returns-clause-unmoved g c =
-    let none : c.renames.rename-iterator.rest.items ≡ [] = none-left c.renames.rename-iterator.rest.items (omega (arith, c.renames.invariant.whole, c.in-None.ensures.steps.0)) in
+    let none : c.renames.rename-iterator.rest.items ≡ [] = nil_from_length c.renames.rename-iterator.rest.items (omega (arith, c.renames.invariant.whole, c.in-None.ensures.steps.0)) in
     all-kept c.args.shown.now.files c.args.plan c.renames.given c.renames.done.unmoved
     (subst (λ (l : List Rename). InRenames c.args.shown.now.files c.args.plan l c.renames.given c.renames.done.unmoved) none c.renames.invariant.renames)

@@ -1,7 +1,8 @@
 use Rattle.std.proofs.Common.{rules, ℕ, List, Ok, Err, refl, sym, ◌∙◌, subst, arith}
 use Rattle.std.specs.Vec.Iter.{into_iter_items}
+use Rattle.std.proofs.lemmas.List.{nil_from_length}
 use Rattle.nm_faults.specs.Faults.{Counts}
-use Rattle.nm_writer.proofs.BatchLemmas.{all_batches, batch_smaller, in_batches, next_fits, next_in_batches, none_left, refused_batches}
+use Rattle.nm_writer.proofs.BatchLemmas.{all_batches, batch_smaller, in_batches, next_fits, next_in_batches, refused_batches}
 use Rattle.nm_writer.specs.Batch.{AreUnknown, IsAfterBatches}
 use Rattle.nm_writer.specs.Writing.{is_read_fault, is_write_fault}
 use Rattle.nm_writer.proofs.writer.Writer.take_in_batches.Goals as goal
@@ -102,7 +103,7 @@ returns-in-Err-clause-durable g c = λ entry opening h. c.in-Err.ensures.durable
 pub returns-clause-after : goal.returns-clause-after
 returns-clause-after g c =
     let mail = g.M.Maildir in
-    let none = none_left (into_iter_items c.batches.paths) (omega (arith, c.batches-test.false, c.len.ensures, c.batches.invariant.whole)) in
+    let none = nil_from_length (into_iter_items c.batches.paths) (omega (arith, c.batches-test.false, c.len.ensures, c.batches.invariant.whole)) in
     subst (λ (l : List (List ℕ)). IsAfterBatches {T = Unit {0}} (record { mail = mail.observed c.args.mail.now; given = c.args.given.now }) (record { mail = mail.observed c.batches.mail; given = c.batches.given })
     l c.args.self.now 0 (Ok tt) c.batches.self) (c.into_iter-paths.ensures.rest ∙ c.into_vec.ensures)
     (all_batches (record {
