@@ -1,14 +1,14 @@
 -- A text is cut at the first place of an ASCII character: the parts, and that each is text.
--- For the proof of `cut_at`.
-use Rattle.std.proofs.Common.{◌≡◌, ℕ, ◌+◌, ◌-◌, ◌<◌, ◌≤◌, false, List, [], ◌∷◌, length, take, drop, get_or, refl, sym, ap, ◌∙◌, arith}
+use Rattle.std.proofs.Common.{◌≡◌, ℕ, ◌+◌, ◌-◌, ◌<◌, ◌≤◌, false, List, [], ◌∷◌, length, take, drop, get_or, refl, sym, ap, subst, ◌∙◌, arith, inl, inr}
 use Rattle.std.specs.Prelude.{IsUtf8}
 use Rattle.std.specs.Str.{IsCharBoundary}
 use Rattle.std.specs.List.{position_or_len, slice_split}
-use Rattle.std.proofs.lemmas.Bool.{eqb-true}
+use Rattle.std.proofs.lemmas.Bool.{cases_lt, eqb-true}
+use Rattle.std.proofs.lemmas.List.{take_all}
 use Rattle.std.proofs.lemmas.List.Elements.{All-from_get_or}
 use Rattle.std.proofs.lemmas.List.Splits.{slice_split_first, slice_split_none}
 use Rattle.std.proofs.lemmas.List.Sums.{fails_before_first, passes_at_first}
-use Rattle.std.proofs.lemmas.Str.{IsCharBoundary-after_ascii, IsCharBoundary-before_ascii}
+use Rattle.std.proofs.lemmas.Str.{IsCharBoundary-after_ascii, IsCharBoundary-before_ascii, IsUtf8-drop, IsUtf8-take}
 use Rattle.nm_text.specs.Cuts.{is_byte}
 
 -- the place, as a loop over the bytes of the text gives it
@@ -36,3 +36,14 @@ module _ (wanted : ℕ) (text bytes : List ℕ) (at : ℕ) (same : bytes ≡ tex
   split_first within =
       let here = first in
       slice_split_first (is_byte wanted) text 0 (omega arith) ∙ ap (λ n. take n text ∷ slice_split (is_byte wanted) (drop (n + 1) text)) (sym here)
+
+-- what stands before an ASCII character of a text is text, and so is what stands after it
+pub before_utf8 : (wanted : ℕ) (bytes : List ℕ) (at : ℕ) → at ≡ position_or_len (is_byte wanted) bytes → wanted < 128 → IsUtf8 bytes → IsUtf8 (take at bytes)
+before_utf8 wanted bytes at place ascii u =
+    elim (cases_lt at (length bytes)) [
+      | inl within ↦ IsUtf8-take bytes at u (before_place wanted bytes bytes at refl place ascii within)
+      | inr past ↦ subst IsUtf8 (sym (take_all at bytes past)) u
+    ]
+
+pub after_utf8 : (wanted : ℕ) (bytes : List ℕ) (at : ℕ) → at ≡ position_or_len (is_byte wanted) bytes → at < length bytes → wanted < 128 → IsUtf8 bytes → IsUtf8 (drop (at + 1) bytes)
+after_utf8 wanted bytes at place within ascii u = IsUtf8-drop bytes (at + 1) u (after_place wanted bytes bytes at refl place ascii within u)

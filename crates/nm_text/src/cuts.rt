@@ -1,6 +1,6 @@
 //! The first place of a byte, and texts cut there: `lines`, the decoders of `nm_decode`, and `nm_command` for options.
 
-ghost use Rattle.std.specs.Prelude.{◌≡◌, [], ◌∷◌, ◌<◌, ◌≤◌, length, IfSome, MatchOption};
+ghost use Rattle.std.specs.Prelude.{◌≡◌, [], ◌∷◌, ◌<◌, ◌≤◌, length, IfSome, IsUtf8, MatchOption};
 ghost use Rattle.std.specs.List.{after_first, before_first, position_or_len, slice_split};
 ghost use Rattle.nm_text.specs.Cuts.{is_byte};
 
@@ -27,10 +27,33 @@ pub fn cut_at(text: &str, wanted: u8) -> Option<(&str, &str)>
     ensures split { MatchOption result (slice_split (is_byte wanted) text.now ≡ text.now ∷ [])
         (λ cut. slice_split (is_byte wanted) text.now ≡ cut.0.now ∷ slice_split (is_byte wanted) cut.1.now) }
     ensures shorter { IfSome result (λ cut. length cut.1.now < length text.now) }
+    ensures text { IfSome result (λ cut. IsUtf8 cut.0.now × IsUtf8 cut.1.now) }
 {
     let at = first_place(text.as_bytes(), wanted);
     if at == text.len() {
         return None;
     }
     Some((&text[..at], &text[at + 1..]))
+}
+
+/// What stands before the first such byte, or all.
+pub fn before_first(bytes: &[u8], wanted: u8) -> &[u8]
+    ensures value { result.now ≡ before_first (is_byte wanted) bytes.now }
+    ensures text { wanted < 128 → IsUtf8 bytes.now → IsUtf8 result.now }
+{
+    &bytes[..first_place(bytes, wanted)]
+}
+
+/// What stands after the first such byte, or nothing.
+pub fn after_first(bytes: &[u8], wanted: u8) -> &[u8]
+    ensures value { result.now ≡ after_first (is_byte wanted) bytes.now }
+    ensures within { length result.now ≤ length bytes.now }
+    ensures text { wanted < 128 → IsUtf8 bytes.now → IsUtf8 result.now }
+{
+    let at = first_place(bytes, wanted);
+    if at == bytes.len() {
+        return &bytes[at..];
+    }
+    let (_, after) = bytes.split_at(at + 1);
+    after
 }

@@ -11,7 +11,7 @@ mod utf8;
 mod white_space;
 
 pub use case::{lowercase, same_ignoring_case};
-pub use cuts::{cut_at, first_place};
+pub use cuts::{after_first, before_first, cut_at, first_place};
 pub use laws::{nothing_is_cut_away, the_first_line_ends_at_the_first_line_feed};
 pub use lines::{content, line_len, next_line};
 pub use quoted_strings::{is_special, pair_len, quoted_len, unquoted};

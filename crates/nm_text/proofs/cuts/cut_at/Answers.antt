@@ -28,3 +28,6 @@ returns-clause-split c =
     let front : c.range.result.now ≡ take at c.args.text.now = c.range.ensures.value ∙ ap (λ n. take n c.args.text.now) (omega arith) in
     split_first c.args.wanted c.args.text.now c.as_bytes.result.now at c.as_bytes.ensures.value c.first_place-at.ensures.place (omega (arith, c.if-at-text.false))
     ∙ ap (λ x. x ∷ slice_split (is_byte c.args.wanted) (drop (at + 1) c.args.text.now)) (sym front) ∙ ap (λ x. c.range.result.now ∷ slice_split (is_byte c.args.wanted) x) (sym c.range_from.ensures.value)
+
+pub returns-clause-text : goal.returns-clause-text
+returns-clause-text c = (c.range.utf8, c.range_from.utf8)
