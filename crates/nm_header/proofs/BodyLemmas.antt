@@ -8,11 +8,12 @@ use Rattle.std.proofs.lemmas.List.{take_all}
 use Rattle.std.proofs.lemmas.List.Folds.{list_any-append, list_any_more}
 use Rattle.nm_base.specs.Bounds.{is_white_space}
 use Rattle.nm_header.specs.declared.header.HeaderField.{HeaderField}
-use Rattle.nm_header.specs.Fields.{begins_field, continues, field_of, fields_in, folded_of, header_of, is_colon, is_from_line, joined_of, without_from_line}
+use Rattle.nm_header.specs.Fields.{begins_field, continues, field_of, fields_in, folded_of, header_of, is_from_line, joined_of, without_from_line}
 use Rattle.nm_header.specs.Laws.{stands_on_one_line}
 use Rattle.nm_header.specs.HeaderLines.{header_lines, is_empty_line}
 use Rattle.nm_text.specs.Lines.{content, is_line_feed, lines_of}
 use Rattle.nm_text.specs.WhiteSpace.{trimmed}
+use Rattle.nm_text.specs.Cuts.{is_byte}
 
 -- what no item of a list passes, none of a part of it passes
 any_take : {X : Type 0} (p : X → Bool) (n : ℕ) (xs : List X) → list_any p xs ≡ false → list_any p (take n xs) ≡ false
@@ -99,7 +100,7 @@ trimmed_free text e =
 
 body_free : (line : List ℕ) (more : List (List ℕ)) → broken line ≡ false → list_any broken more ≡ false → list_any is_line_feed (trimmed (joined_of line more)) ≡ false
 body_free line more e f =
-    trimmed_free (joined_of line more) (any_both is_line_feed (after_first is_colon (content line)) (folded_of more) (any_drop is_line_feed (position_or_len is_colon (content line) + 1) (content line) e) (joined_free (take_while continues more) (any_take broken (prefix_len continues more) more f)))
+    trimmed_free (joined_of line more) (any_both is_line_feed (after_first (is_byte 58) (content line)) (folded_of more) (any_drop is_line_feed (position_or_len (is_byte 58) (content line) + 1) (content line) e) (joined_free (take_while continues more) (any_take broken (prefix_len continues more) more f)))
 
 abbrev whole_fields : List HeaderField → Bool
 whole_fields fields = list_all (λ field. stands_on_one_line field.body) fields

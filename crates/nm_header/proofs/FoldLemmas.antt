@@ -2,7 +2,7 @@
 -- For the proof of `a_folded_body_is_read_whole`.
 use Rattle.std.proofs.Common.{◌≡◌, ℕ, suc, ◌==◌, ◌+◌, ◌-◌, ◌<◌, Bool, true, false, cond, not, ◌&&◌, ◌||◌, List, [], ◌∷◌, ◌++◌, Some, None, length, take, drop, get_or, map, refl, sym, ap, ◌∙◌, arith, append_assoc}
 use Rattle.std.proofs.lemmas.Bool.{and_parts, or_parts}
-use Rattle.std.specs.Prelude.{is_some, nat_eq, position}
+use Rattle.std.specs.Prelude.{nat_eq}
 use Rattle.std.specs.Char.{to_ascii_lowercase}
 use Rattle.std.specs.Cmp.Lexicographic.{pointwise}
 use Rattle.std.specs.List.{after_first, before_first, concat, list_all, list_any, onto_first, position_or_len, prefix_len, suffix_len, take_while}
@@ -13,16 +13,14 @@ use Rattle.std.proofs.lemmas.List.Folds.{list_all_at, list_any-append, list_any_
 use Rattle.std.proofs.lemmas.List.Sums.{suffix_len_is, take_while-cons}
 use Rattle.nm_base.specs.Bounds.{is_white_space}
 use Rattle.nm_header.specs.declared.header.HeaderField.{HeaderField}
-use Rattle.nm_header.specs.Fields.{begins_field, continues, field_of, fields_in, folded_of, header_of, is_colon, is_from_line, is_name, is_name_byte, joined_of, name_of, without_from_line}
+use Rattle.nm_header.specs.Fields.{begins_field, continues, field_of, fields_in, folded_of, header_of, is_from_line, is_name, is_name_byte, joined_of, name_of, without_from_line}
 use Rattle.nm_header.specs.Laws.{folded, is_line_end}
 use Rattle.nm_header.specs.HeaderLines.{header_lines, is_empty_line}
 use Rattle.nm_text.specs.Lines.{content, is_line_feed, lines_of}
 use Rattle.nm_text.specs.WhiteSpace.{trimmed, trimmed_end}
 use Rattle.nm_header.proofs.HeaderLemmas.{continues_begins_none}
-
-and_false : (a : Bool) → (a && false) ≡ false
-and_false true = refl
-and_false false = refl
+use Rattle.nm_text.specs.Cuts.{is_byte}
+use Rattle.std.proofs.Math.Bool.{and-false}
 
 -- the first item that passes stands behind those that don't
 first_place : (p : ℕ → Bool) (front : List ℕ) (b : ℕ) (rest : List ℕ) → list_any p front ≡ false → p b ≡ true → position_or_len p (front ++ b ∷ rest) ≡ length front
@@ -100,12 +98,12 @@ trimmed_name name e =
     ap (λ n. take n name) kept ∙ take_all (length name) name (omega arith)
 
 -- a line that begins with a name and a colon is not the first of an mbox
-not_from : (word name rest : List ℕ) → list_any is_colon word ≡ false → list_all is_name_byte name ≡ true → pointwise nat_eq (word ++ 32 ∷ []) (take (suc (length word)) (name ++ 58 ∷ rest)) ≡ false
+not_from : (word name rest : List ℕ) → list_any (is_byte 58) word ≡ false → list_all is_name_byte name ≡ true → pointwise nat_eq (word ++ 32 ∷ []) (take (suc (length word)) (name ++ 58 ∷ rest)) ≡ false
 not_from [] [] rest w e = refl
 not_from [] (b ∷ name) rest w e = ap (λ v. v && true) (no_space_byte b (and_parts (is_name_byte b) (list_all is_name_byte name) e).0)
-not_from (c ∷ word) [] rest w e = ap (λ v. v && pointwise nat_eq (word ++ 32 ∷ []) (take (suc (length word)) rest)) (or_parts (is_colon c) (list_any is_colon word) w).0
+not_from (c ∷ word) [] rest w e = ap (λ v. v && pointwise nat_eq (word ++ 32 ∷ []) (take (suc (length word)) rest)) (or_parts (is_byte 58 c) (list_any (is_byte 58) word) w).0
 not_from (c ∷ word) (b ∷ name) rest w e =
-    ap (λ v. nat_eq c b && v) (not_from word name rest (or_parts (is_colon c) (list_any is_colon word) w).1 (and_parts (is_name_byte b) (list_all is_name_byte name) e).1) ∙ and_false (nat_eq c b)
+    ap (λ v. nat_eq c b && v) (not_from word name rest (or_parts (is_byte 58 c) (list_any (is_byte 58) word) w).1 (and_parts (is_name_byte b) (list_all is_name_byte name) e).1) ∙ and-false (nat_eq c b)
 
 some_name : (name : List ℕ) → is_name name ≡ true → list_all is_name_byte name ≡ true
 some_name name e = (and_parts (not (length name == 0)) (list_all is_name_byte name) e).1
@@ -136,33 +134,30 @@ blank_trimmed text =
     ap (λ k. trimmed_end (drop k (32 ∷ text))) (let next : 1 + n ≡ suc n = omega arith in next)
 
 -- the place of the colon
-module _ (name rest : List ℕ) (e : is_name name ≡ true) (colon : list_any is_colon name ≡ false) where
-  place : position_or_len is_colon (name ++ 58 ∷ rest) ≡ length name
-  place = first_place is_colon name 58 rest colon refl
+module _ (name rest : List ℕ) (e : is_name name ≡ true) (colon : list_any (is_byte 58) name ≡ false) where
+  place : position_or_len (is_byte 58) (name ++ 58 ∷ rest) ≡ length name
+  place = first_place (is_byte 58) name 58 rest colon refl
 
-  has_colon : is_some (position is_colon (name ++ 58 ∷ rest)) ≡ true
+  has_colon : list_any (is_byte 58) (name ++ 58 ∷ rest) ≡ true
   has_colon =
-      let long : length (name ++ 58 ∷ rest) ≡ length name + length (58 ∷ rest) = length-append name (58 ∷ rest) in
-      let here : position_or_len is_colon (name ++ 58 ∷ rest) ≡ length name = place in
-      let within : position_or_len is_colon (name ++ 58 ∷ rest) < length (name ++ 58 ∷ rest) = omega arith in
-      ap (λ v. is_some (cond v (Some (position_or_len is_colon (name ++ 58 ∷ rest))) None)) ((Decides-ltb (position_or_len is_colon (name ++ 58 ∷ rest)) (length (name ++ 58 ∷ rest))).1 within)
+      list_any-append (is_byte 58) name (58 ∷ rest) ∙ ap (λ v. v || list_any (is_byte 58) (58 ∷ rest)) colon
 
-  name_before : trimmed_end (before_first is_colon (name ++ 58 ∷ rest)) ≡ name
+  name_before : trimmed_end (before_first (is_byte 58) (name ++ 58 ∷ rest)) ≡ name
   name_before = ap trimmed_end (ap (λ n. take n (name ++ 58 ∷ rest)) place ∙ take_at name (58 ∷ rest) (length name) refl) ∙ trimmed_name name (some_name name e)
 
-  rest_after : after_first is_colon (name ++ 58 ∷ rest) ≡ rest
+  rest_after : after_first (is_byte 58) (name ++ 58 ∷ rest) ≡ rest
   rest_after =
       ap (λ n. drop (n + 1) (name ++ 58 ∷ rest)) place ∙ ap (λ w. drop (length name + 1) w) (sym (append_assoc name (58 ∷ []) rest)) ∙ drop_at (name ++ 58 ∷ []) rest (length name + 1) (length-append name (58 ∷ []))
 
   begins : (line : List ℕ) → content line ≡ name ++ 58 ∷ rest → continues line ≡ false → begins_field line ≡ true
   begins line k none =
-      ap (λ v. not v && (is_some (position is_colon (content line)) && is_name (name_of line))) none ∙ ap (λ x. is_some (position is_colon x) && is_name (trimmed_end (before_first is_colon x))) k ∙ ap (λ v. v && is_name (trimmed_end (before_first is_colon (name ++ 58 ∷ rest)))) has_colon ∙ ap is_name name_before ∙ e
+      ap (λ v. not v && (list_any (is_byte 58) (content line) && is_name (name_of line))) none ∙ ap (λ x. list_any (is_byte 58) x && is_name (trimmed_end (before_first (is_byte 58) x))) k ∙ ap (λ v. v && is_name (trimmed_end (before_first (is_byte 58) (name ++ 58 ∷ rest)))) has_colon ∙ ap is_name name_before ∙ e
 
 abbrev named : List ℕ → List ℕ → HeaderField
 named name body = record { name = map to_ascii_lowercase name; body = body }
 
 -- a header of two lines, of which the second continues the field on the first
-module _ (name front back : List ℕ) (e : is_name name ≡ true) (colon : list_any is_colon name ≡ false) (ends : list_any is_line_end (front ++ back) ≡ false) (blank : continues back ≡ true) where
+module _ (name front back : List ℕ) (e : is_name name ≡ true) (colon : list_any (is_byte 58) name ≡ false) (ends : list_any is_line_end (front ++ back) ≡ false) (blank : continues back ≡ true) where
   abbrev text : List ℕ
   text = name ++ 58 ∷ 32 ∷ front
 
@@ -217,16 +212,16 @@ module _ (name front back : List ℕ) (e : is_name name ≡ true) (colon : list_
   second_folded = ap (λ l. concat (map content l)) (take_while-cons continues second [] ∙ ap (λ v. cond v (second ∷ []) []) second_continues) ∙ append-nil (content second) ∙ second_content
 
   body_joined : joined_of first (second ∷ []) ≡ 32 ∷ (front ++ back)
-  body_joined = ap (λ x. after_first is_colon x ++ folded_of (second ∷ [])) first_content ∙ ap (λ x. x ++ folded_of (second ∷ [])) (rest_after name (32 ∷ front) e colon) ∙ ap (λ x. 32 ∷ (front ++ x)) second_folded
+  body_joined = ap (λ x. after_first (is_byte 58) x ++ folded_of (second ∷ [])) first_content ∙ ap (λ x. x ++ folded_of (second ∷ [])) (rest_after name (32 ∷ front) e colon) ∙ ap (λ x. 32 ∷ (front ++ x)) second_folded
 
   field_read : field_of first (second ∷ []) ≡ named name (trimmed (front ++ back))
   field_read =
-      ap (λ n. named n (trimmed (joined_of first (second ∷ [])))) (ap (λ x. trimmed_end (before_first is_colon x)) first_content ∙ name_before name (32 ∷ front) e colon) ∙ ap (named name) (ap trimmed body_joined ∙ blank_trimmed (front ++ back))
+      ap (λ n. named n (trimmed (joined_of first (second ∷ [])))) (ap (λ x. trimmed_end (before_first (is_byte 58) x)) first_content ∙ name_before name (32 ∷ front) e colon) ∙ ap (named name) (ap trimmed body_joined ∙ blank_trimmed (front ++ back))
 
   pub one_field : (header_of (folded name front back)).list ≡ named name (trimmed (front ++ back)) ∷ []
   one_field =
       ap (λ l. fields_in (without_from_line l)) two_lines ∙ ap (λ v. fields_in (cond v (second ∷ []) (first ∷ second ∷ []))) no_mbox ∙ ap (λ v. cond v (field_of first (second ∷ []) ∷ fields_in (second ∷ [])) (fields_in (second ∷ []))) first_begins ∙ ap (λ v. field_of first (second ∷ []) ∷ cond v (field_of second [] ∷ []) []) (continues_begins_none second second_continues) ∙ ap (λ f. f ∷ []) field_read
 
-pub whole_body : (name front back : List ℕ) → is_name name ≡ true → list_any is_colon name ≡ false → list_any is_line_end (front ++ back) ≡ false → continues back ≡ true → trimmed (front ++ back) ≡ front ++ back → (header_of (folded name front back)).list ≡ (record { name = map to_ascii_lowercase name; body = front ++ back }) ∷ []
+pub whole_body : (name front back : List ℕ) → is_name name ≡ true → list_any (is_byte 58) name ≡ false → list_any is_line_end (front ++ back) ≡ false → continues back ≡ true → trimmed (front ++ back) ≡ front ++ back → (header_of (folded name front back)).list ≡ (record { name = map to_ascii_lowercase name; body = front ++ back }) ∷ []
 whole_body name front back e colon ends blank whole =
     one_field name front back e colon ends blank ∙ ap (λ body. named name body ∷ []) whole

@@ -5,11 +5,10 @@ use Rattle.std.specs.List.{concat, onto_first, take_while}
 use Rattle.std.proofs.lemmas.List.{length-take-le}
 use Rattle.std.proofs.lemmas.Bool.{eqb-true}
 use Rattle.std.proofs.lemmas.List.Sums.{take_while-cons}
-use Rattle.nm_text.specs.Cuts.{len_through}
+use Rattle.nm_text.specs.Cuts.{is_byte, len_through}
 use Rattle.nm_header.specs.HeaderLines.{BeginsWithLine, LeavesOf, header_lines, is_empty_line, rest_of}
 use Rattle.nm_text.specs.Lines.{content, is_line_feed, lines_of}
-use Rattle.std.specs.Prelude.{is_some, position}
-use Rattle.nm_header.specs.Fields.{begins_field, continues, field_of, fields_in, folded_of, is_colon, is_name, name_of}
+use Rattle.nm_header.specs.Fields.{begins_field, continues, field_of, fields_in, folded_of, is_name, name_of}
 
 -- a first line that is not empty begins the header
 pub header_begins : (bs : List ℕ) (n : ℕ) → lines_of bs ≡ take n bs ∷ lines_of (drop n bs) → is_empty_line (take n bs) ≡ false → 0 < n → n ≤ length bs → BeginsWithLine bs n
@@ -98,7 +97,7 @@ fields_take bs n b e =
     ap fields_in b.header ∙ ap (λ v. cond v (field_of (take n bs) (header_lines (drop n bs)) ∷ fields_in (header_lines (drop n bs))) (fields_in (header_lines (drop n bs)))) e
 
 pub continues_begins_none : (line : List ℕ) → continues line ≡ true → begins_field line ≡ false
-continues_begins_none line e = ap (λ v. not v && (is_some (position is_colon (content line)) && is_name (name_of line))) e
+continues_begins_none line e = ap (λ v. not v && (list_any (is_byte 58) (content line) && is_name (name_of line))) e
 
 pub leaves_all : (bs : List ℕ) → LeavesOf bs bs
 leaves_all bs = record { rest = refl; within = omega arith }

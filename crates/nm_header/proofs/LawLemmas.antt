@@ -9,8 +9,8 @@ use Rattle.std.proofs.lemmas.List.Splits.{slice_split-cons_no}
 use Rattle.nm_header.proofs.IdLemmas.{closed-cons}
 use Rattle.nm_base.specs.MessageId.{is_id_byte, is_id_text, is_message_id}
 use Rattle.nm_base.specs.Bounds.{fits_length, is_white_space}
-use Rattle.nm_text.specs.Cuts.{len_through}
-use Rattle.nm_header.specs.Ids.{closed, ids_in, ids_of, is_greater_than}
+use Rattle.nm_text.specs.Cuts.{is_byte, len_through}
+use Rattle.nm_header.specs.Ids.{closed, ids_in, ids_of}
 use Rattle.nm_header.specs.Laws.{line_after_header, put_together, written}
 use Rattle.nm_header.specs.HeaderLines.{header_lines, is_empty_line, rest_of}
 use Rattle.nm_text.specs.Lines.{lines_of}
@@ -40,11 +40,11 @@ id_byte false true more e = absurd (cc)
 id_byte false false true e = absurd (cc)
 id_byte false false false e = (refl, refl)
 
-no_close : (id : List ℕ) → list_all is_id_byte id ≡ true → list_any is_greater_than id ≡ false
+no_close : (id : List ℕ) → list_all is_id_byte id ≡ true → list_any (is_byte 62) id ≡ false
 no_close [] e = refl
 no_close (b ∷ id) e =
     let first = id_byte (is_white_space b) (b == 60) (b == 62) (and_parts (is_id_byte b) (list_all is_id_byte id) e).0 in
-    ap (λ v. v || list_any is_greater_than id) first.1 ∙ no_close id (and_parts (is_id_byte b) (list_all is_id_byte id) e).1
+    ap (λ v. v || list_any (is_byte 62) id) first.1 ∙ no_close id (and_parts (is_id_byte b) (list_all is_id_byte id) e).1
 
 all_kept : (id : List ℕ) → list_all is_id_byte id ≡ true → without_white_space id ≡ id
 all_kept [] e = refl
@@ -52,10 +52,10 @@ all_kept (b ∷ id) e =
     let first = id_byte (is_white_space b) (b == 60) (b == 62) (and_parts (is_id_byte b) (list_all is_id_byte id) e).0 in
     ap (λ v. cond (not v) (b ∷ without_white_space id) (without_white_space id)) first.0 ∙ ap (λ l. b ∷ l) (all_kept id (and_parts (is_id_byte b) (list_all is_id_byte id) e).1)
 
-split_close : (front rest : List ℕ) → list_any is_greater_than front ≡ false → slice_split is_greater_than (front ++ 62 ∷ rest) ≡ front ∷ slice_split is_greater_than rest
+split_close : (front rest : List ℕ) → list_any (is_byte 62) front ≡ false → slice_split (is_byte 62) (front ++ 62 ∷ rest) ≡ front ∷ slice_split (is_byte 62) rest
 split_close [] rest e = refl
 split_close (b ∷ front) rest e =
-    slice_split-cons_no is_greater_than b (front ++ 62 ∷ rest) (or_parts (is_greater_than b) (list_any is_greater_than front) e).0 ∙ ap (onto_first b) (split_close front rest (or_parts (is_greater_than b) (list_any is_greater_than front) e).1)
+    slice_split-cons_no (is_byte 62) b (front ++ 62 ∷ rest) (or_parts (is_byte 62 b) (list_any (is_byte 62) front) e).0 ∙ ap (onto_first b) (split_close front rest (or_parts (is_byte 62 b) (list_any (is_byte 62) front) e).1)
 
 pub ids-written : (ids : List (List ℕ)) → list_all is_message_id ids ≡ true → ids_of (written ids) ≡ ids
 ids-written [] e = refl
@@ -64,5 +64,5 @@ ids-written (id ∷ ids) e =
     let bytes : list_all is_id_byte id ≡ true = (and_parts (fits_length 1000 id) (is_id_text id) one).1 in
     let rest : List ℕ = written ids in
     let text : written (id ∷ ids) ≡ (32 ∷ 60 ∷ id) ++ 62 ∷ rest = ap (λ l. 32 ∷ 60 ∷ l) (append_assoc id (62 ∷ []) rest) in
-    let split : slice_split is_greater_than ((32 ∷ 60 ∷ id) ++ 62 ∷ rest) ≡ (32 ∷ 60 ∷ id) ∷ slice_split is_greater_than rest = split_close (32 ∷ 60 ∷ id) rest (no_close id bytes) in
+    let split : slice_split (is_byte 62) ((32 ∷ 60 ∷ id) ++ 62 ∷ rest) ≡ (32 ∷ 60 ∷ id) ∷ slice_split (is_byte 62) rest = split_close (32 ∷ 60 ∷ id) rest (no_close id bytes) in
     ap ids_of text ∙ ap (λ l. ids_in (closed l)) split ∙ ap ids_in (closed-cons (32 ∷ 60 ∷ id) rest) ∙ ap (λ x. cond (is_message_id x) (x ∷ ids_of rest) (ids_of rest)) (all_kept id bytes) ∙ ap (λ v. cond v (id ∷ ids_of rest) (ids_of rest)) one ∙ ap (λ l. id ∷ l) (ids-written ids (and_parts (is_message_id id) (list_all is_message_id ids) e).1)

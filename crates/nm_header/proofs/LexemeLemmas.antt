@@ -1,23 +1,14 @@
 -- The first lexeme of a text, and the lexemes before a special.
--- For the proofs of `angle_len`, `mailbox_lexeme_len` and `stop_len`.
-use Rattle.std.proofs.Common.{◌≡◌, ℕ, zero, suc, ◌+◌, ◌-◌, ◌<◌, ◌≤◌, Bool, true, false, cond, not, ◌||◌, ◌==◌, List, [], ◌∷◌, ◌++◌, Some, None, length, take, drop, get_or, refl, sym, ap, subst, ◌∙◌, arith, min, length-take, length-append, append_assoc}
-use Rattle.std.specs.Prelude.{position}
+use Rattle.std.proofs.Common.{◌≡◌, ℕ, zero, suc, ◌+◌, ◌-◌, ◌<◌, ◌≤◌, Bool, true, false, cond, not, ◌||◌, ◌==◌, List, [], ◌∷◌, ◌++◌, length, take, drop, get_or, refl, sym, ap, subst, ◌∙◌, arith, min, length-take, length-append, append_assoc}
 use Rattle.std.specs.List.{before_first, concat, list_any, position_or_len}
 use Rattle.std.proofs.lemmas.Bool.{eqb-true, or_parts}
 use Rattle.std.proofs.lemmas.List.{append-nil, drop_at, drop_min, length-take-le, take_at, take_min, take-append-drop}
 use Rattle.std.proofs.lemmas.List.Folds.{concat-append, list_any-append}
-use Rattle.nm_header.specs.Ids.{is_greater_than}
 use Rattle.nm_text.specs.QuotedStrings.{pair_more, pairs_of, quoted_len}
 use Rattle.nm_header.specs.Mailboxes.{StopsAt, begins_with, lexemes_before, mailbox_lexeme_more, mailbox_lexemes_of}
 use Rattle.nm_header.proofs.CutLemmas.{cut-cons, cut-nil}
 use Rattle.nm_header.proofs.DepthLemmas.{neq}
-use Rattle.nm_header.proofs.SplitLemmas.{no_place_of, place_of}
-
-pub angle_some : (text : List ℕ) (at : ℕ) → position is_greater_than text ≡ Some at → at + 1 ≡ min (position_or_len is_greater_than text + 1) (length text)
-angle_some text at e = let place = place_of is_greater_than text at e in let inside = place.0 in let same = place.1 in omega arith
-
-pub angle_none : (text : List ℕ) → position is_greater_than text ≡ None → length text ≡ min (position_or_len is_greater_than text + 1) (length text)
-angle_none text e = let long = no_place_of is_greater_than text e in omega arith
+use Rattle.nm_text.specs.Cuts.{is_byte}
 
 first_of : (b : ℕ) (text : List ℕ) (n : ℕ) → mailbox_lexeme_more b text ≡ n → mailbox_lexemes_of (b ∷ text) ≡ take (1 + n) (b ∷ text) ∷ mailbox_lexemes_of (drop (1 + n) (b ∷ text))
 first_of b text n e =
@@ -28,11 +19,11 @@ pub first_quoted : (text behind : List ℕ) (n : ℕ) → 0 < length text → ge
 first_quoted [] behind n h e r k = absurd (omega arith)
 first_quoted (b ∷ text) behind n h e r k = first_of b text n (ap (λ x. mailbox_lexeme_more x text) e ∙ ap quoted_len (sym r) ∙ sym k)
 
-pub first_angle : (text behind : List ℕ) (n : ℕ) → 0 < length text → get_or text 0 0 ≡ 60 → behind ≡ drop 1 text → n ≡ min (position_or_len is_greater_than behind + 1) (length behind) → mailbox_lexemes_of text ≡ take (1 + n) text ∷ mailbox_lexemes_of (drop (1 + n) text)
+pub first_angle : (text behind : List ℕ) (n : ℕ) → 0 < length text → get_or text 0 0 ≡ 60 → behind ≡ drop 1 text → n ≡ min (position_or_len (is_byte 62) behind + 1) (length behind) → mailbox_lexemes_of text ≡ take (1 + n) text ∷ mailbox_lexemes_of (drop (1 + n) text)
 first_angle [] behind n h e r k = absurd (omega arith)
 first_angle (b ∷ text) behind n h e r k =
-    let m : ℕ = position_or_len is_greater_than text + 1 in
-    let size : n ≡ min m (length text) = k ∙ ap (λ x. min (position_or_len is_greater_than x + 1) (length x)) r in
+    let m : ℕ = position_or_len (is_byte 62) text + 1 in
+    let size : n ≡ min m (length text) = k ∙ ap (λ x. min (position_or_len (is_byte 62) x + 1) (length x)) r in
     let one : 1 + n ≡ suc n = omega arith in
     cut-cons mailbox_lexeme_more b text ∙ ap (λ x. (b ∷ take (mailbox_lexeme_more x text) text) ∷ mailbox_lexemes_of (drop (mailbox_lexeme_more x text) text)) e ∙ ap (λ x. (b ∷ x) ∷ mailbox_lexemes_of (drop m text)) (sym (take_min m text)) ∙ ap (λ x. (b ∷ take (min m (length text)) text) ∷ mailbox_lexemes_of x) (sym (drop_min m text)) ∙ ap (λ k. (b ∷ take k text) ∷ mailbox_lexemes_of (drop k text)) (sym size) ∙ ap (λ k. take k (b ∷ text) ∷ mailbox_lexemes_of (drop k (b ∷ text))) (sym one)
 
@@ -46,7 +37,7 @@ first_pair (b ∷ text) n h no_quote no_angle first within =
     let short : length (take m text) ≡ min m (length text) = length-take m text in
     let size : n ≡ suc (min m (length text)) = omega arith in
     let rest : drop n (b ∷ text) ≡ drop m text = ap (λ k. drop k (b ∷ text)) size ∙ drop_min m text in
-    let more : mailbox_lexeme_more b text ≡ m = ap (λ v. cond v (quoted_len text) (cond (b == 60) (position_or_len is_greater_than text + 1) (pair_more b text))) (neq b 34 no_quote) ∙ ap (λ v. cond v (position_or_len is_greater_than text + 1) (pair_more b text)) (neq b 60 no_angle) in
+    let more : mailbox_lexeme_more b text ≡ m = ap (λ v. cond v (quoted_len text) (cond (b == 60) (position_or_len (is_byte 62) text + 1) (pair_more b text))) (neq b 34 no_quote) ∙ ap (λ v. cond v (position_or_len (is_byte 62) text + 1) (pair_more b text)) (neq b 60 no_angle) in
     cut-cons mailbox_lexeme_more b text ∙ ap (λ k. (b ∷ take k text) ∷ mailbox_lexemes_of (drop k text)) more ∙ ap (λ x. x ∷ mailbox_lexemes_of (drop m text)) same ∙ ap (λ x. take n (b ∷ text) ∷ mailbox_lexemes_of x) (sym rest)
 
 -- ---- the lexemes before a special

@@ -4,18 +4,18 @@ use Rattle.std.proofs.Common.{◌≡◌, ℕ, suc, ◌+◌, ◌-◌, ◌<◌, �
 use Rattle.std.specs.Prelude.{IsUtf8}
 use Rattle.std.specs.Str.{IsCharBoundary}
 use Rattle.std.specs.List.{before_first, concat, flat_map, list_all, list_any, onto_first, position_or_len, slice_split}
-use Rattle.std.proofs.lemmas.Bool.{and_parts, eqb-true, ltb-false, ltb-true, or_parts}
+use Rattle.std.proofs.lemmas.Bool.{and_parts, eqb-true, ltb-false, ltb-true, or_parts, or_right}
 use Rattle.std.proofs.lemmas.List.{append-nil, drop_all, drop_more, drop-drop}
 use Rattle.std.proofs.lemmas.List.Splits.{length-slice_split, slice_split-cons_no, slice_split-cons_yes}
 use Rattle.std.proofs.lemmas.Str.{IsCharBoundary-after_ascii, IsCharBoundary-before_ascii, IsCharBoundary-end}
 use Rattle.nm_base.specs.declared.facts.Mailbox.{Mailbox}
-use Rattle.nm_header.specs.Ids.{is_greater_than}
 use Rattle.nm_text.specs.WhiteSpace.{without_white_space}
 use Rattle.nm_header.specs.Mailboxes.{StopsAt, after_colon, begins_with, is_angle, is_colon, is_separator, lexemes_before, mailbox_from, mailbox_in, mailbox_lexeme_more, mailbox_lexemes_of, mailbox_of, mailboxes_in, name_ends, part_ends, spaced_of}
 use Rattle.nm_text.specs.QuotedStrings.{unquoted}
 use Rattle.nm_header.proofs.CutLemmas.{cut-cons, cut-nil}
 use Rattle.nm_header.proofs.DepthLemmas.{neq}
 use Rattle.nm_header.proofs.LexemeLemmas.{before_first-no, before_is}
+use Rattle.nm_text.specs.Cuts.{is_byte}
 
 -- ---- where the text may be cut
 special_small : (specials : List ℕ) (b : ℕ) → list_all (λ s. ltb s 128) specials ≡ true → list_any (λ s. s == b) specials ≡ true → b < 128
@@ -140,13 +140,9 @@ colon_first c part e =
       | false ↦ λ h. ap (λ v. cond v part (c ∷ part)) e ∙ sym (colon_none part h)
     ] refl
 
-or_true : (a b : Bool) → b ≡ true → (a || b) ≡ true
-or_true true b e = refl
-or_true false b e = e
-
 has_colon : (before : List (List ℕ)) (c : List ℕ) (part : List (List ℕ)) → is_colon c ≡ true → list_any is_colon (before ++ c ∷ part) ≡ true
 has_colon [] c part e = ap (λ v. v || list_any is_colon part) e
-has_colon (x ∷ before) c part e = or_true (is_colon x) (list_any is_colon (before ++ c ∷ part)) (has_colon before c part e)
+has_colon (x ∷ before) c part e = or_right (is_colon x) (list_any is_colon (before ++ c ∷ part)) (has_colon before c part e)
 
 colon_after : (before : List (List ℕ)) (c : List ℕ) (part : List (List ℕ)) → is_colon c ≡ true → after_colon (before ++ c ∷ part) ≡ after_colon part
 colon_after [] c part e = colon_first c part e
@@ -237,7 +233,7 @@ made name address = record { name = spaced_of (unquoted name); address = without
 abbrev bare : List ℕ → Mailbox
 bare address = record { name = []; address = without_white_space address }
 
-angle_from : (text behind : List ℕ) (b : ℕ) (m : ℕ) → StopsAt name_ends text m → drop m text ≡ b ∷ behind → b ≡ 60 → mailbox_of (lexemes_before part_ends text) ≡ made (take m text) (before_first is_greater_than behind)
+angle_from : (text behind : List ℕ) (b : ℕ) (m : ℕ) → StopsAt name_ends text m → drop m text ≡ b ∷ behind → b ≡ 60 → mailbox_of (lexemes_before part_ends text) ≡ made (take m text) (before_first (is_byte 62) behind)
 angle_from text behind b m s e special =
     let before : List (List ℕ) = lexemes_before name_ends text in
     let more : List ℕ = take (mailbox_lexeme_more b behind) behind in
@@ -252,23 +248,23 @@ angle_from text behind b m s e special =
     let stop : position_or_len is_angle ((b ∷ more) ∷ others) ≡ 0 = ap (λ v. cond (not v) (1 + position_or_len is_angle others) 0) angle in
     let front : before_first is_angle (before ++ (b ∷ more) ∷ others) ≡ before = before_is is_angle before ((b ∷ more) ∷ others) none stop in
     let back : drop (position_or_len is_angle (before ++ (b ∷ more) ∷ others)) (before ++ (b ∷ more) ∷ others) ≡ (b ∷ more) ∷ others = drop_before is_angle before ((b ∷ more) ∷ others) none stop in
-    let size : mailbox_lexeme_more b behind ≡ position_or_len is_greater_than behind + 1 = ap (λ x. mailbox_lexeme_more x behind) special in
-    let inner : before_first is_greater_than more ≡ before_first is_greater_than behind = ap (λ k. before_first is_greater_than (take k behind)) size ∙ before_take is_greater_than behind in
-    ap mailbox_of part ∙ ap (λ x. mailbox_from x (drop (position_or_len is_angle (before ++ (b ∷ more) ∷ others)) (before ++ (b ∷ more) ∷ others))) front ∙ ap (λ x. mailbox_from before x) back ∙ ap (λ x. made x (before_first is_greater_than more)) s.bytes ∙ ap (λ x. made (take m text) x) inner
+    let size : mailbox_lexeme_more b behind ≡ position_or_len (is_byte 62) behind + 1 = ap (λ x. mailbox_lexeme_more x behind) special in
+    let inner : before_first (is_byte 62) more ≡ before_first (is_byte 62) behind = ap (λ k. before_first (is_byte 62) (take k behind)) size ∙ before_take (is_byte 62) behind in
+    ap mailbox_of part ∙ ap (λ x. mailbox_from x (drop (position_or_len is_angle (before ++ (b ∷ more) ∷ others)) (before ++ (b ∷ more) ∷ others))) front ∙ ap (λ x. mailbox_from before x) back ∙ ap (λ x. made x (before_first (is_byte 62) more)) s.bytes ∙ ap (λ x. made (take m text) x) inner
 
 or_false_true : (a : Bool) → (a || false) ≡ true → a ≡ true
 or_false_true true e = refl
 or_false_true false e = e
 
-angle_at : (text rest : List ℕ) (m : ℕ) → StopsAt name_ends text m → drop m text ≡ rest → is_angle rest ≡ true → mailbox_of (lexemes_before part_ends text) ≡ made (take m text) (before_first is_greater_than (drop (m + 1) text))
+angle_at : (text rest : List ℕ) (m : ℕ) → StopsAt name_ends text m → drop m text ≡ rest → is_angle rest ≡ true → mailbox_of (lexemes_before part_ends text) ≡ made (take m text) (before_first (is_byte 62) (drop (m + 1) text))
 angle_at text [] m s e angle = absurd (cc)
 angle_at text (b ∷ behind) m s e angle =
     let special : 60 ≡ b = eqb-true 60 b (or_false_true (60 == b) angle) in
     let same : behind ≡ drop (m + 1) text = sym (ap (drop 1) e) ∙ drop-drop 1 m text in
-    angle_from text behind b m s e (sym special) ∙ ap (λ x. made (take m text) (before_first is_greater_than x)) same
+    angle_from text behind b m s e (sym special) ∙ ap (λ x. made (take m text) (before_first (is_byte 62) x)) same
 
 -- with a `<`
-pub mailbox_angle : (text : List ℕ) (m : ℕ) → StopsAt name_ends text m → is_angle (drop m text) ≡ true → mailbox_of (lexemes_before part_ends text) ≡ record { name = spaced_of (unquoted (take m text)); address = without_white_space (before_first is_greater_than (drop (m + 1) text)) }
+pub mailbox_angle : (text : List ℕ) (m : ℕ) → StopsAt name_ends text m → is_angle (drop m text) ≡ true → mailbox_of (lexemes_before part_ends text) ≡ record { name = spaced_of (unquoted (take m text)); address = without_white_space (before_first (is_byte 62) (drop (m + 1) text)) }
 mailbox_angle text m s angle = angle_at text (drop m text) m s refl angle
 
 stops_too : (text rest : List ℕ) (m : ℕ) → StopsAt name_ends text m → drop m text ≡ rest → is_angle rest ≡ false → position_or_len (begins_with part_ends) (mailbox_lexemes_of rest) ≡ 0
@@ -310,8 +306,8 @@ plain_made text name address part n m s t angle e p a =
     let front : part ≡ take n text = p ∙ ap (λ k. take k text) (let none : n - 0 ≡ n = omega arith in none) in
     ap (λ x. make x address) e ∙ ap (λ y. make [] y) (a ∙ ap without_white_space front) ∙ sym (mailbox_plain text n m s t angle)
 
-pub angle_made : (text name address front behind inner : List ℕ) (m : ℕ) → StopsAt name_ends text m → is_angle (drop m text) ≡ true → front ≡ take (m - 0) text → name ≡ spaced_of (unquoted front) → behind ≡ drop (m + 1) text → inner ≡ before_first is_greater_than behind → address ≡ without_white_space inner → record { name = name; address = address } ≡ mailbox_of (lexemes_before part_ends text)
+pub angle_made : (text name address front behind inner : List ℕ) (m : ℕ) → StopsAt name_ends text m → is_angle (drop m text) ≡ true → front ≡ take (m - 0) text → name ≡ spaced_of (unquoted front) → behind ≡ drop (m + 1) text → inner ≡ before_first (is_byte 62) behind → address ≡ without_white_space inner → record { name = name; address = address } ≡ mailbox_of (lexemes_before part_ends text)
 angle_made text name address front behind inner m s angle f e b i a =
     let make : List ℕ → List ℕ → Mailbox = λ x y. record { name = x; address = y } in
     let whole : front ≡ take m text = f ∙ ap (λ k. take k text) (let none : m - 0 ≡ m = omega arith in none) in
-    ap (λ x. make x address) (e ∙ ap (λ x. spaced_of (unquoted x)) whole) ∙ ap (λ y. make (spaced_of (unquoted (take m text))) y) (a ∙ ap without_white_space (i ∙ ap (before_first is_greater_than) b)) ∙ sym (mailbox_angle text m s angle)
+    ap (λ x. make x address) (e ∙ ap (λ x. spaced_of (unquoted x)) whole) ∙ ap (λ y. make (spaced_of (unquoted (take m text))) y) (a ∙ ap without_white_space (i ∙ ap (before_first (is_byte 62)) b)) ∙ sym (mailbox_angle text m s angle)

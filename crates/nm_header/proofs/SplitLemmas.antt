@@ -8,22 +8,19 @@ use Rattle.std.proofs.lemmas.Bool.{ltb-true, ltb-false}
 use Rattle.std.proofs.lemmas.List.Splits.{slice_split_first}
 use Rattle.std.proofs.lemmas.List.Quantifiers.{position-Some}
 use Rattle.std.proofs.lemmas.Str.{IsCharBoundary-before_ascii, IsCharBoundary-after_ascii}
+use Rattle.std.proofs.lemmas.Option.{cond_some}
 
-pub some_of : (b : Bool) (n i : ℕ) → cond b (Some n) None ≡ Some i → (b ≡ true) × (n ≡ i)
-some_of true n i e = (refl, cc)
-some_of false n i e = absurd (cc)
-
-pub none_of : (b : Bool) (n : ℕ) → cond b (Some n) None ≡ None → b ≡ false
+none_of : (b : Bool) (n : ℕ) → cond b (Some n) None ≡ None → b ≡ false
 none_of true n e = absurd (cc)
 none_of false n e = refl
 
 -- the place that `position` gives is how many items do not pass before it
-pub place_of : (p : ℕ → Bool) (xs : List ℕ) (i : ℕ) → position p xs ≡ Some i → (position_or_len p xs < length xs) × (position_or_len p xs ≡ i)
+place_of : (p : ℕ → Bool) (xs : List ℕ) (i : ℕ) → position p xs ≡ Some i → (position_or_len p xs < length xs) × (position_or_len p xs ≡ i)
 place_of p xs i e =
-    let f = some_of (ltb (position_or_len p xs) (length xs)) (position_or_len p xs) i e in
+    let f = cond_some (ltb (position_or_len p xs) (length xs)) (position_or_len p xs) i e in
     (ltb-true _ _ f.0, f.1)
 
-pub no_place_of : (p : ℕ → Bool) (xs : List ℕ) → position p xs ≡ None → length xs ≤ position_or_len p xs
+no_place_of : (p : ℕ → Bool) (xs : List ℕ) → position p xs ≡ None → length xs ≤ position_or_len p xs
 no_place_of p xs e = ltb-false _ _ (none_of _ _ e)
 
 -- up to the first item that passes it is one id_text, and the rest is split likewise

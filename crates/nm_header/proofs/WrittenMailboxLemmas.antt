@@ -2,7 +2,7 @@
 -- For the proof of `written_mailboxes_are_read`.
 use Rattle.std.proofs.Common.{◌≡◌, ℕ, ◌+◌, ◌<◌, Bool, true, false, cond, not, ◌||◌, ◌&&◌, ◌==◌, List, [], ◌∷◌, ◌++◌, length, map, filter, take, drop, refl, sym, ap, ◌∙◌, arith, append_assoc, length-append}
 use Rattle.std.specs.List.{before_first, concat, flat_map, join_with_byte, list_all, list_any, onto_first, position_or_len, slice_split}
-use Rattle.std.proofs.lemmas.Bool.{and_parts}
+use Rattle.std.proofs.lemmas.Bool.{and_parts, not-true, or_parts}
 use Rattle.std.proofs.lemmas.Bool.Decides.{nat_tests}
 use Rattle.std.proofs.lemmas.List.{append-nil, drop_at, take_at}
 use Rattle.std.proofs.lemmas.List.Elements.{filter-append}
@@ -14,7 +14,6 @@ use Rattle.nm_text.specs.Cuts.{is_byte, len_through}
 use Rattle.nm_text.specs.QuotedStrings.{is_special, pair_more, pairs_of, quoted_len, unquoted, unquoted_pair}
 use Rattle.nm_text.specs.WhiteSpace.{is_all_white_space, without_white_space}
 use Rattle.nm_header.specs.Comments.{comment_len, lexeme_more, lexemes_of, plain_of, shown}
-use Rattle.nm_header.specs.Ids.{is_greater_than}
 use Rattle.nm_header.specs.Mailboxes.{begins_with, is_angle, is_some_text, mailbox_from, mailbox_in, mailbox_lexeme_more, mailbox_lexemes_of, mailbox_of, mailboxes_in, mailboxes_of, name_ends, part_ends, spaced_of}
 use Rattle.nm_header.specs.WrittenMailboxes.{WrittenMailbox, escaped, is_address_byte, is_spaced, is_unquoted_byte, is_word, is_writable, written_mailbox, written_mailboxes, written_name}
 use Rattle.nm_header.proofs.CutLemmas.{cut-cons, cut-nil}
@@ -22,14 +21,6 @@ use Rattle.nm_header.proofs.LexemeLemmas.{before_is}
 use Rattle.nm_header.proofs.MailboxLemmas.{drop_before, in_end, in_nil, in_separator, no_angle, no_part_end, none_of}
 
 -- ---- bytes
-or_of_two : (a b : Bool) → (a || b) ≡ false → (a ≡ false) × (b ≡ false)
-or_of_two true b e = absurd (cc)
-or_of_two false b e = (refl, e)
-
-not_of : (a : Bool) → not a ≡ true → a ≡ false
-not_of true e = absurd (cc)
-not_of false e = refl
-
 abbrev IsFree : ℕ → Type 0
 IsFree b = ((b == 34) ≡ false) × ((b == 40) ≡ false) × ((b == 92) ≡ false)
 
@@ -48,7 +39,7 @@ address_free b e = (grind (arith, nat_tests), grind (arith, nat_tests), grind (a
 address_dense : (b : ℕ) → is_address_byte b ≡ true → is_white_space b ≡ false
 address_dense b e = grind (arith, nat_tests)
 
-address_open : (b : ℕ) → is_address_byte b ≡ true → is_greater_than b ≡ false
+address_open : (b : ℕ) → is_address_byte b ≡ true → is_byte 62 b ≡ false
 address_open b e = grind (arith, nat_tests)
 
 -- ---- quoted names
@@ -58,14 +49,14 @@ pairs-escaped (b ∷ name) rest =
     let more : List ℕ = flat_map escaped name ++ rest in
     let front : pairs_of (escaped b ++ more) ≡ escaped b ∷ pairs_of more = elim (b == 34 || b == 92) as (λ v. (b == 34 || b == 92) ≡ v → pairs_of (cond v (92 ∷ b ∷ []) (b ∷ []) ++ more) ≡ cond v (92 ∷ b ∷ []) (b ∷ []) ∷ pairs_of more) [
       | true ↦ λ e. cut-cons pair_more 92 (b ∷ more)
-      | false ↦ λ e. cut-cons pair_more b more ∙ ap (λ v. (b ∷ take (cond v 1 0) more) ∷ pairs_of (drop (cond v 1 0) more)) (or_of_two (b == 34) (b == 92) e).1
+      | false ↦ λ e. cut-cons pair_more b more ∙ ap (λ v. (b ∷ take (cond v 1 0) more) ∷ pairs_of (drop (cond v 1 0) more)) (or_parts (b == 34) (b == 92) e).1
     ] refl in
     ap pairs_of (append_assoc (escaped b) (flat_map escaped name) rest) ∙ front ∙ ap (λ l. escaped b ∷ l) (pairs-escaped name rest)
 
 escaped_inside : (b : ℕ) → is_special 34 (escaped b) ≡ false
 escaped_inside b = elim (b == 34 || b == 92) as (λ v. (b == 34 || b == 92) ≡ v → is_special 34 (cond v (92 ∷ b ∷ []) (b ∷ [])) ≡ false) [
   | true ↦ λ e. refl
-  | false ↦ λ e. (or_of_two (b == 34) (b == 92) e).0
+  | false ↦ λ e. (or_parts (b == 34) (b == 92) e).0
 ] refl
 
 through-escaped : (name : List ℕ) (pairs : List (List ℕ)) → len_through (is_special 34) (map escaped name ++ (34 ∷ []) ∷ pairs) ≡ length (flat_map escaped name) + 1
@@ -84,7 +75,7 @@ quoted_len-escaped name rest =
 unquoted_pair-escaped : (b : ℕ) → unquoted_pair (escaped b) ≡ b ∷ []
 unquoted_pair-escaped b = elim (b == 34 || b == 92) as (λ v. (b == 34 || b == 92) ≡ v → unquoted_pair (cond v (92 ∷ b ∷ []) (b ∷ [])) ≡ b ∷ []) [
   | true ↦ λ e. refl
-  | false ↦ λ e. ap (λ v. cond v [] (b ∷ [])) (or_of_two (b == 34) (b == 92) e).0
+  | false ↦ λ e. ap (λ v. cond v [] (b ∷ [])) (or_parts (b == 34) (b == 92) e).0
 ] refl
 
 unquoted_pairs : (name : List ℕ) (pairs : List (List ℕ)) → flat_map unquoted_pair (map escaped name ++ pairs) ≡ name ++ flat_map unquoted_pair pairs
@@ -157,7 +148,7 @@ split_same (b ∷ text) e = elim (b == 32) as (λ v. (b == 32) ≡ v → slice_s
       let split : slice_split (is_byte 32) text ≡ word ∷ words = s.2 in
       let cut : slice_split (is_byte 32) (b ∷ text) ≡ (b ∷ word) ∷ words = slice_split-cons_no (is_byte 32) b text h ∙ ap (onto_first b) split in
       let both = and_parts (is_dense (b ∷ word)) (list_all is_dense words) (sym (ap (list_all is_dense) cut) ∙ e) in
-      let first = or_of_two (is_white_space b) (list_any is_white_space word) (not_of (list_any is_white_space (b ∷ word)) both.0) in
+      let first = or_parts (is_white_space b) (list_any is_white_space word) (not-true (list_any is_white_space (b ∷ word)) both.0) in
       let others : list_all is_dense (slice_split (is_byte 32) text) ≡ true = ap (list_all is_dense) split ∙ ap (λ v. not v && list_all is_dense words) first.1 ∙ both.1 in
       slice_split-cons_no is_white_space b text first.0 ∙ ap (onto_first b) (split_same text others) ∙ sym (slice_split-cons_no (is_byte 32) b text h)
 ] refl
@@ -193,14 +184,14 @@ address_kept (b ∷ address) e =
     ap (λ v. cond (not v) (b ∷ without_white_space address) (without_white_space address)) (address_dense b both.0) ∙ ap (λ l. b ∷ l) (address_kept address both.1)
 
 -- the first `>` after an address is the one that closes it
-address_end : (address rest : List ℕ) → list_all is_address_byte address ≡ true → position_or_len is_greater_than (address ++ 62 ∷ rest) ≡ length address
+address_end : (address rest : List ℕ) → list_all is_address_byte address ≡ true → position_or_len (is_byte 62) (address ++ 62 ∷ rest) ≡ length address
 address_end [] rest e = refl
 address_end (b ∷ address) rest e =
     let both = and_parts (is_address_byte b) (list_all is_address_byte address) e in
-    let next : position_or_len is_greater_than (address ++ 62 ∷ rest) ≡ length address = address_end address rest both.1 in
-    ap (λ v. cond (not v) (1 + position_or_len is_greater_than (address ++ 62 ∷ rest)) 0) (address_open b both.0) ∙ (let more : 1 + position_or_len is_greater_than (address ++ 62 ∷ rest) ≡ length (b ∷ address) = omega arith in more)
+    let next : position_or_len (is_byte 62) (address ++ 62 ∷ rest) ≡ length address = address_end address rest both.1 in
+    ap (λ v. cond (not v) (1 + position_or_len (is_byte 62) (address ++ 62 ∷ rest)) 0) (address_open b both.0) ∙ (let more : 1 + position_or_len (is_byte 62) (address ++ 62 ∷ rest) ≡ length (b ∷ address) = omega arith in more)
 
-address_before : (address : List ℕ) → list_all is_address_byte address ≡ true → before_first is_greater_than (address ++ 62 ∷ []) ≡ address
+address_before : (address : List ℕ) → list_all is_address_byte address ≡ true → before_first (is_byte 62) (address ++ 62 ∷ []) ≡ address
 address_before address e = ap (λ n. take n (address ++ 62 ∷ [])) (address_end address [] e) ∙ take_at address (62 ∷ []) (length address) refl
 
 -- ---- a text that is closed by one byte: what is taken with it, and what is left
@@ -278,7 +269,7 @@ plain-written (written ∷ next ∷ more) e =
 -- ---- lexemes
 lexeme-byte : (b : ℕ) (rest : List ℕ) → (b == 34) ≡ false → (b == 60) ≡ false → (b == 92) ≡ false → mailbox_lexemes_of (b ∷ rest) ≡ (b ∷ []) ∷ mailbox_lexemes_of rest
 lexeme-byte b rest quote angle pair =
-    let more : mailbox_lexeme_more b rest ≡ 0 = ap (λ v. cond v (quoted_len rest) (cond (b == 60) (position_or_len is_greater_than rest + 1) (pair_more b rest))) quote ∙ ap (λ v. cond v (position_or_len is_greater_than rest + 1) (pair_more b rest)) angle ∙ ap (λ v. cond v 1 0) pair in
+    let more : mailbox_lexeme_more b rest ≡ 0 = ap (λ v. cond v (quoted_len rest) (cond (b == 60) (position_or_len (is_byte 62) rest + 1) (pair_more b rest))) quote ∙ ap (λ v. cond v (position_or_len (is_byte 62) rest + 1) (pair_more b rest)) angle ∙ ap (λ v. cond v 1 0) pair in
     cut-cons mailbox_lexeme_more b rest ∙ ap (λ n. (b ∷ take n rest) ∷ mailbox_lexemes_of (drop n rest)) more
 
 -- the lexemes of a written name
@@ -306,7 +297,7 @@ angled address = 60 ∷ (address ++ 62 ∷ [])
 
 lexeme-address : (address rest : List ℕ) → list_all is_address_byte address ≡ true → mailbox_lexemes_of (60 ∷ (address ++ 62 ∷ rest)) ≡ angled address ∷ mailbox_lexemes_of rest
 lexeme-address address rest e =
-    let n : ℕ = position_or_len is_greater_than (address ++ 62 ∷ rest) + 1 in
+    let n : ℕ = position_or_len (is_byte 62) (address ++ 62 ∷ rest) + 1 in
     let long : n ≡ length address + 1 = ap (λ k. k + 1) (address_end address rest e) in
     cut-cons mailbox_lexeme_more 60 (address ++ 62 ∷ rest) ∙ ap (λ l. (60 ∷ l) ∷ mailbox_lexemes_of (drop n (address ++ 62 ∷ rest))) (closed_take address rest 62 n long) ∙ ap (λ l. angled address ∷ mailbox_lexemes_of l) (closed_drop address rest 62 n long)
 
@@ -383,8 +374,8 @@ mailbox_read is_next written w =
     let none : list_any is_angle front ≡ false = none_of is_angle (begins_with name_ends) no_angle front (front_inside (blank_of is_next) written (blank_inside is_next) w) in
     let before : before_first is_angle (front ++ angle ∷ []) ≡ front = before_is is_angle front (angle ∷ []) none refl in
     let after : drop (position_or_len is_angle (front ++ angle ∷ [])) (front ++ angle ∷ []) ≡ angle ∷ [] = drop_before is_angle front (angle ∷ []) none refl in
-    let address : without_white_space (before_first is_greater_than (drop 1 angle)) ≡ written.mailbox.address = ap without_white_space (address_before written.mailbox.address w.2) ∙ address_kept written.mailbox.address w.2 in
-    let read : mailbox_of (front ++ angle ∷ []) ≡ written.mailbox = ap (λ l. mailbox_from l (drop (position_or_len is_angle (front ++ angle ∷ [])) (front ++ angle ∷ []))) before ∙ ap (mailbox_from front) after ∙ ap (λ x. make x (without_white_space (before_first is_greater_than (drop 1 angle)))) (name_read is_next written w) ∙ ap (make written.mailbox.name) address in
+    let address : without_white_space (before_first (is_byte 62) (drop 1 angle)) ≡ written.mailbox.address = ap without_white_space (address_before written.mailbox.address w.2) ∙ address_kept written.mailbox.address w.2 in
+    let read : mailbox_of (front ++ angle ∷ []) ≡ written.mailbox = ap (λ l. mailbox_from l (drop (position_or_len is_angle (front ++ angle ∷ [])) (front ++ angle ∷ []))) before ∙ ap (mailbox_from front) after ∙ ap (λ x. make x (without_white_space (before_first (is_byte 62) (drop 1 angle)))) (name_read is_next written w) ∙ ap (make written.mailbox.name) address in
     let some : is_all_white_space (concat (front ++ angle ∷ [])) ≡ false = ap is_all_white_space (concat-append front (angle ∷ []) ∙ ap (λ l. concat front ++ l) (append-nil angle)) ∙ not_blank (concat front) written.mailbox.address in
     ap (λ v. cond v [] (mailbox_of (front ++ angle ∷ []) ∷ [])) some ∙ ap (λ m. m ∷ []) read
 

@@ -1,11 +1,11 @@
 -- Header fields (RFC 5322, sections 2.2 and 2.2.3): one starting line and all continuing lines right after it.
--- Cited by `field_line`, `header`, `nm_mime` and others.
-use Rattle.std.specs.Prelude.{ℕ, Bool, false, ◌&&◌, ◌||◌, ◌==◌, not, List, [], ◌∷◌, ◌++◌, length, map, nat_le, nat_eq, is_some, position, codes, if◌then◌else◌}
+use Rattle.std.specs.Prelude.{ℕ, Bool, false, ◌&&◌, ◌||◌, ◌==◌, not, List, [], ◌∷◌, ◌++◌, length, map, nat_le, nat_eq, codes, if◌then◌else◌}
 use Rattle.std.specs.Char.{to_ascii_lowercase}
-use Rattle.std.specs.List.{before_first, after_first, concat, list_all, starts_with, take_while}
+use Rattle.std.specs.List.{before_first, after_first, concat, list_all, list_any, starts_with, take_while}
 use Rattle.nm_header.specs.declared.header.HeaderField.{HeaderField}
 use Rattle.nm_header.specs.declared.header.HeaderList.{HeaderList}
 use Rattle.nm_header.specs.HeaderLines.{header_lines, rest_of}
+use Rattle.nm_text.specs.Cuts.{is_byte}
 use Rattle.nm_text.specs.Lines.{content}
 use Rattle.nm_text.specs.WhiteSpace.{trimmed, trimmed_end}
 
@@ -18,17 +18,13 @@ continues (b ∷ line) = b == 32 || b == 9
 abbrev pub is_from_line : List ℕ → Bool
 is_from_line line = starts_with nat_eq line (codes "From ")
 
--- `:`
-abbrev pub is_colon : ℕ → Bool
-is_colon b = b == 58
-
 -- a printable ASCII character that is no space
 abbrev pub is_name_byte : ℕ → Bool
 is_name_byte b = nat_le 33 b && nat_le b 126
 
 -- what stands before the first colon, without white space at its end
 abbrev pub name_of : List ℕ → List ℕ
-name_of line = trimmed_end (before_first is_colon (content line))
+name_of line = trimmed_end (before_first (is_byte 58) (content line))
 
 -- such characters alone, and at least one
 abbrev pub is_name : List ℕ → Bool
@@ -36,7 +32,7 @@ is_name name = not (length name == 0) && list_all is_name_byte name
 
 -- a line that continues none and has a name before a colon
 abbrev pub begins_field : List ℕ → Bool
-begins_field line = not (continues line) && (is_some (position is_colon (content line)) && is_name (name_of line))
+begins_field line = not (continues line) && (list_any (is_byte 58) (content line) && is_name (name_of line))
 
 -- what the lines that continue a field add to its body, where these lines follow
 abbrev pub folded_of : List (List ℕ) → List ℕ
@@ -44,7 +40,7 @@ folded_of lines = concat (map content (take_while continues lines))
 
 -- what stands after the colon, and in the lines that continue it, without the line ends
 abbrev pub joined_of : List ℕ → List (List ℕ) → List ℕ
-joined_of line more = after_first is_colon (content line) ++ folded_of more
+joined_of line more = after_first (is_byte 58) (content line) ++ folded_of more
 
 -- the field that begins with this line, where these lines follow; names have no case
 abbrev pub field_of : List ℕ → List (List ℕ) → HeaderField

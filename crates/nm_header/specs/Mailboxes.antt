@@ -4,8 +4,7 @@ use Rattle.std.specs.Prelude.{◌≡◌, ℕ, ◌+◌, ◌<◌, ◌≤◌, Bool,
 use Rattle.std.specs.List.{before_first, concat, flat_map, join_with_byte, list_any, position_or_len, slice_split}
 use Rattle.nm_base.specs.Bounds.{is_white_space}
 use Rattle.nm_base.specs.declared.facts.Mailbox.{Mailbox}
-use Rattle.nm_text.specs.Cuts.{cut}
-use Rattle.nm_header.specs.Ids.{is_greater_than}
+use Rattle.nm_text.specs.Cuts.{cut, is_byte}
 use Rattle.nm_header.specs.Comments.{plain_of}
 use Rattle.nm_text.specs.QuotedStrings.{pair_more, quoted_len, unquoted}
 use Rattle.nm_text.specs.WhiteSpace.{is_all_white_space, without_white_space}
@@ -13,7 +12,7 @@ use Rattle.nm_text.specs.WhiteSpace.{is_all_white_space, without_white_space}
 -- quoted strings, what stands in `<..>`, pairs, and single bytes; each goes on to its closing special, or to the end
 abbrev pub mailbox_lexeme_more : ℕ → List ℕ → ℕ
 mailbox_lexeme_more b text =
-    if b == 34 then quoted_len text else (if b == 60 then position_or_len is_greater_than text + 1 else pair_more b text)
+    if b == 34 then quoted_len text else (if b == 60 then position_or_len (is_byte 62) text + 1 else pair_more b text)
 
 -- the lexemes of a text of mailboxes
 abbrev pub mailbox_lexemes_of : List ℕ → List (List ℕ)
@@ -36,7 +35,7 @@ spaced_of text = join_with_byte 32 (filter is_some_text (slice_split is_white_sp
 -- without `<` all is the address; else that is what stands in the `<..>`, and the name stands before it
 abbrev pub mailbox_from : List (List ℕ) → List (List ℕ) → Mailbox
 mailbox_from lexemes [] = record { name = []; address = without_white_space (concat lexemes) }
-mailbox_from lexemes (angle ∷ more) = record { name = spaced_of (unquoted (concat lexemes)); address = without_white_space (before_first is_greater_than (drop 1 angle)) }
+mailbox_from lexemes (angle ∷ more) = record { name = spaced_of (unquoted (concat lexemes)); address = without_white_space (before_first (is_byte 62) (drop 1 angle)) }
 
 -- it begins with `<`
 abbrev pub is_angle : List ℕ → Bool

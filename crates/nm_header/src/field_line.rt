@@ -1,14 +1,14 @@
 //! The line that begins a field, and the name in it, for `fields`.
 
-ghost use Rattle.std.specs.Prelude.{◌≡◌, IfOk, map, position, true, Some};
+ghost use Rattle.std.specs.Prelude.{◌≡◌, IfOk, map, true};
 ghost use Rattle.std.specs.Char.{to_ascii_lowercase};
-ghost use Rattle.std.specs.List.{after_first, before_first, list_all};
-ghost use Rattle.nm_header.specs.Fields.{begins_field, continues, is_colon, is_from_line, is_name, is_name_byte, name_of};
+ghost use Rattle.std.specs.List.{after_first, list_all, list_any};
+ghost use Rattle.nm_header.specs.Fields.{begins_field, continues, is_from_line, is_name, is_name_byte, name_of};
+ghost use Rattle.nm_text.specs.Cuts.{is_byte};
 ghost use Rattle.nm_text.specs.Lines.{content};
-ghost use Rattle.nm_text.specs.WhiteSpace.{trimmed_end};
 
 use nm_base::{NoMemory, Text};
-use nm_text::{content, lowercase, text_of, trimmed_end};
+use nm_text::{after_first, before_first, content, lowercase, text_of, trimmed_end};
 use std::alloc::Global;
 
 /// Whether the line goes on with the field before it.
@@ -34,11 +34,16 @@ pub(crate) fn begins_field(line: &[u8]) -> bool
     if continues(line) {
         return false;
     }
-    let text = content(line);
-    match colon_at(text) {
-        None => false,
-        Some(at) => is_name(name_before(text, at)),
+    if !has_colon(content(line)) {
+        return false;
     }
+    is_name(name_in(line))
+}
+
+fn has_colon(text: &[u8]) -> bool
+    ensures { result ≡ list_any (is_byte 58) text.now }
+{
+    text.contains(&b':')
 }
 
 /// The name of a field in lower case.
@@ -54,29 +59,14 @@ pub(crate) fn name_text(alloc: Global, line: &[u8]) -> Result<Text, NoMemory>
 fn name_in(line: &[u8]) -> &[u8]
     ensures { result.now ≡ name_of line.now }
 {
-    let text = content(line);
-    match colon_at(text) {
-        None => trimmed_end(text),
-        Some(at) => name_before(text, at),
-    }
+    trimmed_end(before_first(content(line), b':'))
 }
 
 /// What stands after the colon, or nothing.
 pub(crate) fn after_colon(line: &[u8]) -> &[u8]
-    ensures { result.now ≡ after_first is_colon (content line.now) }
+    ensures { result.now ≡ after_first (is_byte 58) (content line.now) }
 {
-    let text = content(line);
-    match colon_at(text) {
-        None => &text[text.len()..],
-        Some(at) => &text[at + 1..],
-    }
-}
-
-fn name_before(text: &[u8], at: usize) -> &[u8]
-    requires { position is_colon text.now ≡ Some at }
-    ensures { result.now ≡ trimmed_end (before_first is_colon text.now) }
-{
-    trimmed_end(&text[..at])
+    after_first(content(line), b':')
 }
 
 fn is_name(name: &[u8]) -> bool
@@ -98,10 +88,4 @@ fn is_name_byte(b: u8) -> bool
     ensures { result ≡ is_name_byte b }
 {
     33 <= b && b <= 126
-}
-
-fn colon_at(text: &[u8]) -> Option<usize>
-    ensures { result ≡ position is_colon text.now }
-{
-    text.iter().position(|b| *b == b':')
 }

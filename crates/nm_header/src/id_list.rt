@@ -1,10 +1,10 @@
 //! The ids in a field's text; `nm_extract` reads Message-ID, References and In-Reply-To with it.
 
-ghost use Rattle.std.specs.Prelude.{◌≡◌, [], ◌∷◌, ◌++◌, IfOk, OnOk, position};
-ghost use Rattle.nm_header.specs.Ids.{ids_in, ids_of, is_greater_than, is_less_than};
+ghost use Rattle.std.specs.Prelude.{◌≡◌, [], ◌∷◌, ◌++◌, IfOk, OnOk};
+ghost use Rattle.nm_header.specs.Ids.{ids_in, ids_of};
 
 use nm_base::{Many, MessageId, NoMemory};
-use nm_text::without_white_space;
+use nm_text::{cut_at, without_white_space};
 use std::alloc::Global;
 
 /// The ids in a field's text, in their order: what stands between `<` and the next `>`, white space
@@ -14,9 +14,9 @@ pub fn ids(alloc: Global, text: &str) -> Result<Many<MessageId>, NoMemory>
 {
     let mut found = Many::new(alloc);
     let mut left = text;
-    'id_texts: while let Some(at) = close_at(left) {
-        add_id(alloc, &left[..at], &mut found)?;
-        left = &left[at + 1..];
+    'id_texts: while let Some((id_text, more)) = cut_at(left, b'>') {
+        add_id(alloc, id_text, &mut found)?;
+        left = more;
     }
     Ok(found)
 }
@@ -24,26 +24,14 @@ pub fn ids(alloc: Global, text: &str) -> Result<Many<MessageId>, NoMemory>
 fn add_id(alloc: Global, id_text: &str, found: &mut Many<MessageId>) -> Result<(), NoMemory>
     ensures { OnOk result (found.new ≡ found.old ++ ids_in (id_text.now ∷ [])) }
 {
-    match open_at(id_text) {
+    match cut_at(id_text, b'<') {
         None => Ok(()),
-        Some(at) => {
-            let text = without_white_space(alloc, &id_text[at + 1..])?;
+        Some((_, inner)) => {
+            let text = without_white_space(alloc, inner)?;
             match MessageId::new(text) {
                 Ok(id) => found.push(id),
                 Err(_) => Ok(()),
             }
         }
     }
-}
-
-fn open_at(text: &str) -> Option<usize>
-    ensures { result ≡ position is_less_than text.now }
-{
-    text.as_bytes().iter().position(|b| *b == b'<')
-}
-
-pub(crate) fn close_at(text: &str) -> Option<usize>
-    ensures { result ≡ position is_greater_than text.now }
-{
-    text.as_bytes().iter().position(|b| *b == b'>')
 }

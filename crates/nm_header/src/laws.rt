@@ -3,12 +3,13 @@ ghost use Rattle.std.specs.Prelude.{◌≡◌, [], ◌∷◌, ◌++◌, List, �
 ghost use Rattle.std.specs.Char.{to_ascii_lowercase};
 ghost use Rattle.std.specs.List.{concat, list_all, list_any};
 ghost use Rattle.nm_base.specs.MessageId.{is_message_id};
-ghost use Rattle.nm_header.specs.Fields.{continues, header_of, is_colon, is_name};
+ghost use Rattle.nm_header.specs.Fields.{continues, header_of, is_name};
 ghost use Rattle.nm_header.specs.Ids.{ids_of};
 ghost use Rattle.nm_header.specs.Laws.{folded, is_line_end, put_together, stands_on_one_line, written};
 ghost use Rattle.nm_header.specs.Mailboxes.{mailbox_lexemes_of, mailboxes_of};
 ghost use Rattle.nm_header.specs.WrittenMailboxes.{WrittenMailbox, is_writable, written_mailboxes};
 ghost use Rattle.nm_header.specs.Comments.{lexemes_of};
+ghost use Rattle.nm_text.specs.Cuts.{is_byte};
 ghost use Rattle.nm_text.specs.WhiteSpace.{trimmed};
 
 use nm_text::nothing_is_cut_away;
@@ -45,5 +46,5 @@ pub fn a_body_has_no_line_feed()
 
 /// A body that is folded before a space or tab is read as it was (RFC 5322, section 2.2.3).
 pub fn a_folded_body_is_read_whole()
-    ensures { (name front back : List ℕ) → is_name name ≡ true → list_any is_colon name ≡ false → list_any is_line_end (front ++ back) ≡ false → continues back ≡ true → trimmed (front ++ back) ≡ front ++ back → (header_of (folded name front back)).list ≡ (record { name = map to_ascii_lowercase name; body = front ++ back }) ∷ [] }
+    ensures { (name front back : List ℕ) → is_name name ≡ true → list_any (is_byte 58) name ≡ false → list_any is_line_end (front ++ back) ≡ false → continues back ≡ true → trimmed (front ++ back) ≡ front ++ back → (header_of (folded name front back)).list ≡ (record { name = map to_ascii_lowercase name; body = front ++ back }) ∷ [] }
 {}

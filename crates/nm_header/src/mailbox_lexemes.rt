@@ -1,11 +1,11 @@
 //! How far a name or an address goes in a field of mailboxes, for `mailboxes`.
 
-ghost use Rattle.std.specs.Prelude.{◌≡◌, ◌+◌, ◌∷◌, ◌<◌, ◌≤◌, length, min, take, drop, position};
+ghost use Rattle.std.specs.Prelude.{◌≡◌, ◌+◌, ◌∷◌, ◌<◌, ◌≤◌, length, min, take, drop};
 ghost use Rattle.std.specs.List.{position_or_len};
-ghost use Rattle.nm_header.specs.Ids.{is_greater_than};
 ghost use Rattle.nm_header.specs.Mailboxes.{StopsAt, begins_with, mailbox_lexemes_of};
+ghost use Rattle.nm_text.specs.Cuts.{is_byte};
 
-use nm_text::{pair_len, quoted_len};
+use nm_text::{first_place, pair_len, quoted_len};
 
 /// How many bytes stand before the first lexeme that begins with one of these specials.
 pub(crate) fn stop_len(text: &[u8], specials: &[u8]) -> usize
@@ -50,17 +50,9 @@ fn mailbox_lexeme_len(text: &[u8]) -> usize
 
 /// How many bytes stand up to the next `>`, and with it.
 fn angle_len(text: &[u8]) -> usize
-    ensures value { result ≡ min (position_or_len is_greater_than text.now + 1) (length text.now) }
+    ensures value { result ≡ min (position_or_len (is_byte 62) text.now + 1) (length text.now) }
     ensures within { result ≤ length text.now }
 {
-    match close_at(text) {
-        Some(at) => at + 1,
-        None => text.len(),
-    }
-}
-
-fn close_at(text: &[u8]) -> Option<usize>
-    ensures { result ≡ position is_greater_than text.now }
-{
-    text.iter().position(|b| *b == b'>')
+    let at = first_place(text, b'>');
+    if at < text.len() { at + 1 } else { at }
 }

@@ -1,18 +1,17 @@
 //! The mailboxes in a field's text; `nm_extract` reads From, To, Cc and Bcc with it.
 
-ghost use Rattle.std.specs.Prelude.{◌≡◌, ◌++◌, ◌<◌, ◌≤◌, drop, length, IfOk, OnOk, position};
+ghost use Rattle.std.specs.Prelude.{◌≡◌, ◌++◌, ◌<◌, ◌≤◌, drop, length, IfOk, OnOk};
 ghost use Rattle.std.specs.List.{before_first, list_all};
 ghost use Rattle.std.specs.Str.{IsCharBoundary};
 ghost use Rattle.nm_base.specs.Bounds.{is_white_space};
-ghost use Rattle.nm_header.specs.Ids.{is_greater_than};
 ghost use Rattle.nm_header.specs.Mailboxes.{StopsAt, is_angle, lexemes_before, mailbox_in, mailbox_lexemes_of, mailbox_of, mailboxes_in, mailboxes_of, part_ends};
+ghost use Rattle.nm_text.specs.Cuts.{is_byte};
 
 use crate::display_name::display_name;
-use crate::id_list::close_at;
 use crate::mailbox_lexemes::{begins_with, stop_len};
 use crate::plain;
 use nm_base::{Mailbox, Many, NoMemory, Text};
-use nm_text::{is_all_white_space, without_white_space};
+use nm_text::{cut_at, is_all_white_space, without_white_space};
 use std::alloc::Global;
 
 /// The mailboxes in a field's text, in their order (RFC 5322, section 3.4). Comments are dropped, and so
@@ -92,10 +91,10 @@ fn is_angle(text: &[u8], at: usize) -> bool
 
 /// What stands before the next `>`, or all.
 fn enclosed(text: &str) -> &str
-    ensures { result.now ≡ before_first is_greater_than text.now }
+    ensures { result.now ≡ before_first (is_byte 62) text.now }
 {
-    match close_at(text) {
-        Some(at) => &text[..at],
+    match cut_at(text, b'>') {
+        Some((front, _)) => front,
         None => text,
     }
 }

@@ -1,8 +1,8 @@
 use Rattle.std.proofs.Common.{sym}
-use Rattle.nm_header.specs.Ids.{is_greater_than}
-use Rattle.nm_header.proofs.IdLemmas.{close_is_ascii}
-use Rattle.nm_header.proofs.SplitLemmas.{boundary_before}
+use Rattle.std.specs.List.{position_or_len}
+use Rattle.std.proofs.lemmas.List.{take_all}
+use Rattle.nm_text.specs.Cuts.{is_byte}
 use Rattle.nm_header.proofs.mailbox_list.enclosed.Goals as goal
 
-pub range-requires-clause-end_boundary : goal.range-requires-clause-end_boundary
-range-requires-clause-end_boundary c = boundary_before is_greater_than close_is_ascii _ _ (sym c.in-Some.ensures)
+pub returns-in-None : goal.returns-in-None
+returns-in-None c = sym (take_all (position_or_len (is_byte 62) c.args.text.now) c.args.text.now c.in-None.ensures.place)
