@@ -14,6 +14,7 @@ use Rattle.nm_mime.specs.Laws.{lines_between, parts_between, read_parts, texts_b
 use Rattle.nm_mime.specs.Parts.{bytes_in}
 use Rattle.nm_mime.specs.declared.children.Delimiters.{Delimiters}
 use Rattle.nm_mime.specs.declared.children.Span.{Span}
+use Rattle.std.proofs.Math.Seq.{take-append-add}
 
 -- ---- the content of a line is the front of it
 front_take : (n : ℕ) (line : List ℕ) → take (length (take n line)) line ≡ take n line
@@ -119,10 +120,6 @@ goes_first delimiters line (m ∷ rest) g gs e s =
     ap (λ x. first_text closed (line ∷ x) gs) (sym same.0) ∙ text_more closed line m b.0 gs ∙ ap (λ x. line ++ first_text closed x gs) same.0
 
 -- ---- the texts
-take_more : (xs ys : List ℕ) (k : ℕ) → take (length xs + k) (xs ++ ys) ≡ xs ++ take k ys
-take_more [] ys k = let none : 0 + k ≡ k = omega arith in ap (λ n. take n ys) none
-take_more (x ∷ xs) ys k = let one : suc (length xs) + k ≡ suc (length xs + k) = omega arith in ap (λ n. take n (x ∷ (xs ++ ys))) one ∙ ap (λ l. x ∷ l) (take_more xs ys k)
-
 cut_first : (bytes front rest : List ℕ) (size : ℕ) → bytes ≡ front ++ rest → bytes_in bytes (length bytes - length rest) (length bytes - length rest + size) ≡ take size rest
 cut_first bytes front rest size b =
     let from : ℕ = length bytes - length rest in
@@ -169,7 +166,7 @@ between_read delimiters bytes front (line ∷ more) g gs b e =
                 let kept : take size all ≡ first_text any (line ∷ s.0) s.1 =
                 elim (stops delimiters more) as (λ v. stops delimiters more ≡ v → take (cond v (length (content line)) (length line + part_len delimiters more)) all ≡ first_text any (line ∷ s.0) s.1) [
                   | true ↦ λ t. content_take line (concat more) ∙ sym (stop_first delimiters line more s.0 s.1 s.2 t)
-                  | false ↦ λ t. take_more line (concat more) (part_len delimiters more) ∙ ap (λ x. line ++ x) r.0 ∙ sym (goes_first delimiters line more s.0 s.1 s.2 t)
+                  | false ↦ λ t. take-append-add line (concat more) (part_len delimiters more) ∙ ap (λ x. line ++ x) r.0 ∙ sym (goes_first delimiters line more s.0 s.1 s.2 t)
                 ] refl in
                 let none : ends_part delimiters line ≡ false = ap (λ v. v || is_line_of delimiters.closing line) d ∙ c in (
                   ap (λ v. take (cond v 0 size) all) none ∙ kept ∙ ap (λ v. first_text v (line ∷ s.0) s.1) (sym goes) ∙ ap (λ x. first_text closed x s.1) same.0 ∙ ap (λ y. first_text closed g y) same.1,

@@ -7,34 +7,32 @@ use Rattle.std.specs.List.{after_first, position_or_len, prefix_len}
 use Rattle.std.proofs.lemmas.List.{append-nil}
 use Rattle.std.proofs.lemmas.Bool.{eqb-true, ltb-false}
 use Rattle.nm_mime.specs.declared.param_list.Param.{Param}
-use Rattle.nm_mime.specs.Params.{after_name, after_param, after_quoted, after_value, begins_with, ends_name, is_semicolon, kept_param, param_from, param_in, params_in, params_of, params_upto, value_in}
+use Rattle.nm_mime.specs.Params.{after_name, after_param, after_quoted, after_value, begins_with, ends_name, kept_param, param_from, param_in, params_in, params_of, params_upto, value_in}
 use Rattle.nm_base.specs.Bounds.{is_white_space}
 use Rattle.nm_text.specs.QuotedStrings.{quoted_len}
 use Rattle.nm_text.specs.WhiteSpace.{trimmed_start}
+use Rattle.nm_text.specs.Cuts.{is_byte}
+use Rattle.std.proofs.lemmas.Option.{cond_some}
 
 -- ---- the place that `position` gives
-some_of : (b : Bool) (n i : ℕ) → cond b (Some n) None ≡ Some i → (b ≡ true) × (n ≡ i)
-some_of true n i e = (refl, cc)
-some_of false n i e = absurd (cc)
-
 none_of : (b : Bool) (n : ℕ) → cond b (Some n) None ≡ None → b ≡ false
 none_of true n e = absurd (cc)
 none_of false n e = refl
 
 -- ---- all parameters
-pub after_less : (text : List ℕ) → length (after_first is_semicolon text) ≤ length text - 1
+pub after_less : (text : List ℕ) → length (after_first (is_byte 59) text) ≤ length text - 1
 after_less text =
-    let long : length (after_first is_semicolon text) ≡ length text - (position_or_len is_semicolon text + 1) = length-drop (position_or_len is_semicolon text + 1) text in
+    let long : length (after_first (is_byte 59) text) ≡ length text - (position_or_len (is_byte 59) text + 1) = length-drop (position_or_len (is_byte 59) text + 1) text in
     omega arith
 
 pub place_some : (p : ℕ → Bool) (text : List ℕ) (at : ℕ) → position p text ≡ Some at → at ≡ position_or_len p text
-place_some p text at e = sym (some_of (ltb (position_or_len p text) (length text)) (position_or_len p text) at e).1
+place_some p text at e = sym (cond_some (ltb (position_or_len p text) (length text)) (position_or_len p text) at e).1
 
 pub place_none : (p : ℕ → Bool) (text : List ℕ) → position p text ≡ None → length text ≡ position_or_len p text
 place_none p text e = let long : length text ≤ position_or_len p text = ltb-false (position_or_len p text) (length text) (none_of (ltb (position_or_len p text) (length text)) (position_or_len p text) e) in let most = prefix_len-le-length (λ x. not (p x)) text in omega arith
 
 -- the parameters one by one: the number of them counts for nothing where it is large enough
-after_short : (text : List ℕ) → length (after_name text) ≤ length text → length (after_first is_semicolon (after_name text)) ≤ length text - 1
+after_short : (text : List ℕ) → length (after_name text) ≤ length text → length (after_first (is_byte 59) (after_name text)) ≤ length text - 1
 after_short text h = let one = after_less (after_name text) in omega arith
 
 value_short : (text : List ℕ) → length (after_value text) ≤ length text
@@ -110,5 +108,5 @@ pub some_left : (left : List ℕ) → (length left == 0) ≡ false → 0 < lengt
 some_left [] e = absurd (cc)
 some_left (b ∷ left) e = omega arith
 
-pub params_begin : (found : List Param) (left text : List ℕ) → found ≡ [] → left ≡ after_first is_semicolon text → found ++ params_in left ≡ params_of text
+pub params_begin : (found : List Param) (left text : List ℕ) → found ≡ [] → left ≡ after_first (is_byte 59) text → found ++ params_in left ≡ params_of text
 params_begin found left text f l = ap (λ x. x ++ params_in left) f ∙ ap params_in l

@@ -4,7 +4,7 @@ use Rattle.std.specs.Prelude.{slice_index}
 use Rattle.std.specs.List.{concat, list_all, list_any, onto_first}
 use Rattle.std.specs.Cmp.Lexicographic.{pointwise}
 use Rattle.std.specs.Str.Lines.{strip_carriage_return}
-use Rattle.std.proofs.lemmas.Bool.{and_parts, eq-eqb, eqb-true, or_parts, or_right}
+use Rattle.std.proofs.lemmas.Bool.{and_parts, eq-eqb, eqb-true, not-true, or_parts, or_right}
 use Rattle.std.proofs.lemmas.List.{append-nil, drop_all, drop_at, get_or_at, take_all, take_at}
 use Rattle.nm_base.specs.Bounds.{is_white_space}
 use Rattle.nm_text.specs.Lines.{content, is_line_feed, lines_of}
@@ -128,16 +128,12 @@ read_text delimiters end front (b ∷ text) tail whole w e k t =
           read_text delimiters end (front ++ b ∷ []) text tail whole (w ∙ sym (append_assoc front (b ∷ []) text)) (any-append front (b ∷ []) e (ap (λ v. v || false) h)) k t
     ] refl
 
-not_true : (b : Bool) → not b ≡ true → b ≡ false
-not_true true e = absurd (cc)
-not_true false e = refl
-
 module _ (boundary : List ℕ) (one : is_one_line boundary ≡ true) where
   abbrev delimiters : Delimiters
   delimiters = delimiters_of boundary
 
   no_feed : list_any is_line_feed delimiters.delimiter ≡ false
-  no_feed = not_true (list_any is_line_feed boundary) one
+  no_feed = not-true (list_any is_line_feed boundary) one
 
   no_feed_closing : list_any is_line_feed delimiters.closing ≡ false
   no_feed_closing = any-append delimiters.delimiter (codes "--") no_feed refl
@@ -167,7 +163,7 @@ module _ (boundary : List ℕ) (one : is_one_line boundary ≡ true) where
       let line : List ℕ = delimiters.delimiter ++ line_end in
       let more : List (List ℕ) = lines_of (part ++ rest) in
       let cut : List Span → List (List ℕ) = map (λ span. bytes_in bytes span.from span.to) in
-      let kept : list_any (ends_part delimiters) (lines_of (part ++ line_end)) ≡ false = not_true (list_any (ends_part delimiters) (lines_of (part ++ line_end))) (and_parts (is_kept delimiters part) (list_all (is_kept delimiters) parts) k).0 in
+      let kept : list_any (ends_part delimiters) (lines_of (part ++ line_end)) ≡ false = not-true (list_any (ends_part delimiters) (lines_of (part ++ line_end))) (and_parts (is_kept delimiters part) (list_all (is_kept delimiters) parts) k).0 in
       let r : IsRead delimiters end part (written_parts delimiters parts) = read_text delimiters end [] part (written_parts delimiters parts) part refl refl kept (written_stops parts) in
       let lines : lines_of (written_parts delimiters (part ∷ parts)) ≡ line ∷ more = crlf_then delimiters.delimiter (part ++ rest) no_feed in
       let spans : spans_in delimiters end (line ∷ more) ≡ part_after delimiters end more ∷ spans_in delimiters end more =

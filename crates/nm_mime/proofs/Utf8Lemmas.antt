@@ -3,7 +3,7 @@
 use Rattle.std.proofs.Common.{◌≡◌, ℕ, zero, suc, ◌+◌, ◌-◌, ◌<◌, ◌≤◌, Bool, true, false, cond, not, ◌==◌, List, [], ◌∷◌, ◌++◌, length, take, drop, get_or, reverse, ltb, refl, sym, ap, subst, ◌∙◌, arith, append_assoc, length-append}
 use Rattle.std.specs.Prelude.{IsUtf8}
 use Rattle.std.specs.List.{after_first, before_first, position_or_len, prefix_len, suffix_len}
-use Rattle.std.proofs.lemmas.Bool.{eqb-true, ltb-false, ltb-true}
+use Rattle.std.proofs.lemmas.Bool.{eqb-true, ltb-false, ltb-true, not-false}
 use Rattle.std.proofs.lemmas.Bool.Decides.{nat_tests}
 use Rattle.std.proofs.lemmas.List.{drop_all, drop_at, drop-drop, get_or-reverse, get_or_at, length-reverse, take_all, take_at}
 use Rattle.std.proofs.lemmas.List.Sums.{prefix_len_passes, prefix_len_stops, suffix_len-le-length}
@@ -12,8 +12,9 @@ use Rattle.std.proofs.lemmas.Str.Ascii.{IsAscii-cons, IsAscii-nil}
 use Rattle.nm_base.specs.Bounds.{is_white_space}
 use Rattle.nm_text.specs.QuotedStrings.{quoted_len}
 use Rattle.nm_text.specs.WhiteSpace.{trimmed, trimmed_end, trimmed_start}
-use Rattle.nm_mime.specs.Params.{after_name, after_param, after_quoted, after_value, begins_with, ends_name, ends_value, is_semicolon}
+use Rattle.nm_mime.specs.Params.{after_name, after_param, after_quoted, after_value, begins_with, ends_name, ends_value}
 use Rattle.nm_mime.proofs.QuotedLemmas.{quoted-byte, quoted-close, quoted-last, quoted-nil, quoted-pair}
+use Rattle.nm_text.specs.Cuts.{is_byte}
 
 -- what stands before an ASCII character is text, and what stands behind it
 pub split_ascii : (xs ys : List ℕ) (b : ℕ) → b < 128 → IsUtf8 (xs ++ b ∷ ys) → IsUtf8 xs × IsUtf8 ys
@@ -30,14 +31,10 @@ split_ascii xs ys b small u =
 drop_ascii : (xs ys : List ℕ) (b : ℕ) → b < 128 → IsUtf8 (xs ++ b ∷ ys) → IsUtf8 (xs ++ ys)
 drop_ascii xs ys b small u = let parts = split_ascii xs ys b small u in IsUtf8-append xs ys parts.0 parts.1
 
-passes : (b : Bool) → not b ≡ false → b ≡ true
-passes true e = refl
-passes false e = absurd (cc)
-
 -- ---- cut at the first ASCII sign
 module _ (p : ℕ → Bool) (ascii : (b : ℕ) → p b ≡ true → b < 128) where
   sign_small : (text : List ℕ) → position_or_len p text < length text → get_or text (position_or_len p text) 0 < 128
-  sign_small text h = ascii (get_or text (position_or_len p text) 0) (passes (p (get_or text (position_or_len p text) 0)) (prefix_len_stops (λ b. not (p b)) text 0 h))
+  sign_small text h = ascii (get_or text (position_or_len p text) 0) (not-false (p (get_or text (position_or_len p text) 0)) (prefix_len_stops (λ b. not (p b)) text 0 h))
 
   pub before_utf8 : (text : List ℕ) → IsUtf8 text → IsUtf8 (before_first p text)
   before_utf8 text u =
@@ -66,7 +63,7 @@ module _ (p : ℕ → Bool) (ascii : (b : ℕ) → p b ≡ true → b < 128) whe
 name_end_small : (b : ℕ) → ends_name b ≡ true → b < 128
 name_end_small b e = grind (arith, nat_tests)
 
-semicolon_small : (b : ℕ) → is_semicolon b ≡ true → b < 128
+semicolon_small : (b : ℕ) → is_byte 59 b ≡ true → b < 128
 semicolon_small b e = let same : b ≡ 59 = eqb-true b 59 e in omega arith
 
 space_small : (b : ℕ) → is_white_space b ≡ true → b < 128
@@ -81,8 +78,8 @@ name_utf8 text u = before_utf8 ends_name name_end_small text u
 pub rest_utf8 : (text : List ℕ) → IsUtf8 text → IsUtf8 (drop (position_or_len ends_name text) text)
 rest_utf8 text u = from_utf8 ends_name name_end_small text u
 
-pub semicolon_utf8 : (text : List ℕ) → IsUtf8 text → IsUtf8 (after_first is_semicolon text)
-semicolon_utf8 text u = after_utf8 is_semicolon semicolon_small text u
+pub semicolon_utf8 : (text : List ℕ) → IsUtf8 text → IsUtf8 (after_first (is_byte 59) text)
+semicolon_utf8 text u = after_utf8 (is_byte 59) semicolon_small text u
 
 -- ---- white space taken off
 pub tail_utf8 : (b : ℕ) (more : List ℕ) → b < 128 → IsUtf8 (b ∷ more) → IsUtf8 more

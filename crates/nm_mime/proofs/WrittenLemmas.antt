@@ -10,10 +10,11 @@ use Rattle.nm_base.specs.Bounds.{is_white_space}
 use Rattle.nm_text.specs.QuotedStrings.{quoted_len, unquoted}
 use Rattle.nm_text.specs.WhiteSpace.{trimmed, trimmed_end}
 use Rattle.nm_mime.specs.Laws.{is_name_byte, is_quoted_byte, is_writable, written_params}
-use Rattle.nm_mime.specs.Params.{after_name, after_param, after_quoted, ends_name, is_semicolon, is_star, kept_param, param_from, param_in, params_in, params_of, quoted_text}
+use Rattle.nm_mime.specs.Params.{after_name, after_param, after_quoted, ends_name, kept_param, param_from, param_in, params_in, params_of, quoted_text}
 use Rattle.nm_mime.specs.declared.param_list.Param.{Param}
 use Rattle.nm_mime.proofs.ParamLemmas.{params-cons, params-nil}
 use Rattle.nm_mime.proofs.QuotedLemmas.{quoted-byte, quoted-close, unquoted-byte, unquoted-close, unquoted-nil}
+use Rattle.nm_text.specs.Cuts.{is_byte}
 
 -- the first item that passes stands after those that don't
 first_at : (p : ℕ → Bool) (front : List ℕ) (b : ℕ) (rest : List ℕ) → list_any p front ≡ false → p b ≡ true → position_or_len p (front ++ b ∷ rest) ≡ length front
@@ -31,8 +32,8 @@ four false false true d e = absurd (cc)
 four false false false false e = absurd (cc)
 four false false false true e = (refl, refl, refl, refl)
 
-name_byte : (b : ℕ) → is_name_byte b ≡ true → (is_white_space b ≡ false) × (ends_name b ≡ false) × (is_star b ≡ false) × ((to_ascii_lowercase b == b) ≡ true)
-name_byte b e = four (is_white_space b) (ends_name b) (is_star b) (to_ascii_lowercase b == b) e
+name_byte : (b : ℕ) → is_name_byte b ≡ true → (is_white_space b ≡ false) × (ends_name b ≡ false) × (is_byte 42 b ≡ false) × ((to_ascii_lowercase b == b) ≡ true)
+name_byte b e = four (is_white_space b) (ends_name b) (is_byte 42 b) (to_ascii_lowercase b == b) e
 
 no_end : (name : List ℕ) → list_all is_name_byte name ≡ true → list_any ends_name name ≡ false
 no_end [] e = refl
@@ -41,12 +42,12 @@ no_end (b ∷ name) e =
     let first = name_byte b both.0 in
     ap (λ v. v || list_any ends_name name) first.1 ∙ no_end name both.1
 
-no_star : (name : List ℕ) → list_all is_name_byte name ≡ true → list_any is_star name ≡ false
+no_star : (name : List ℕ) → list_all is_name_byte name ≡ true → list_any (is_byte 42) name ≡ false
 no_star [] e = refl
 no_star (b ∷ name) e =
     let both = and_parts (is_name_byte b) (list_all is_name_byte name) e in
     let first = name_byte b both.0 in
-    ap (λ v. v || list_any is_star name) first.2 ∙ no_star name both.1
+    ap (λ v. v || list_any (is_byte 42) name) first.2 ∙ no_star name both.1
 
 lower_same : (name : List ℕ) → list_all is_name_byte name ≡ true → map to_ascii_lowercase name ≡ name
 lower_same [] e = refl
@@ -63,7 +64,7 @@ no_space_front (b ∷ name) e =
     ap (λ v. cond v (1 + prefix_len is_white_space name) 0) first.0
 
 white_in_no_name : (b : ℕ) → is_white_space b ≡ true → is_name_byte b ≡ false
-white_in_no_name b e = ap (λ v. not (v || ends_name b || is_star b || not (to_ascii_lowercase b == b))) e
+white_in_no_name b e = ap (λ v. not (v || ends_name b || is_byte 42 b || not (to_ascii_lowercase b == b))) e
 
 trimmed_name : (name : List ℕ) → list_all is_name_byte name ≡ true → trimmed_end name ≡ name
 trimmed_name name e =
@@ -133,5 +134,5 @@ params-written (param ∷ params) e =
     let back : drop (position_or_len ends_name text) text ≡ 61 ∷ said = ap (λ n. drop n text) at ∙ drop_at (32 ∷ name) (61 ∷ said) (length (32 ∷ name)) refl in
     let v = value_said value rest parts.1 in
     let one : param_in text ≡ param ∷ [] = ap (λ x. param_from x (drop (position_or_len ends_name text) text)) front ∙ ap (param_from (32 ∷ name)) back ∙ ap (kept_param (32 ∷ name)) v.0 ∙ kept name value parts.0 in
-    let more : after_param text ≡ after_first is_semicolon rest = ap (λ x. after_first is_semicolon (after_name x)) back ∙ ap (after_first is_semicolon) v.1 in
+    let more : after_param text ≡ after_first (is_byte 59) rest = ap (λ x. after_first (is_byte 59) (after_name x)) back ∙ ap (after_first (is_byte 59)) v.1 in
     params-cons text (omega arith) ∙ ap (λ x. x ++ params_in (after_param text)) one ∙ ap (λ x. param ∷ params_in x) more ∙ ap (λ l. param ∷ l) (params-written params both.1)

@@ -4,7 +4,7 @@ use Rattle.std.specs.Prelude.{◌≡◌, ℕ, ◌+◌, ◌≤◌, Bool, ◌&&◌
 use Rattle.std.specs.Char.{to_ascii_lowercase}
 use Rattle.std.specs.List.{before_first, concat, list_all, list_any, slice_split}
 use Rattle.nm_base.specs.Bounds.{is_white_space}
-use Rattle.nm_mime.specs.Params.{ends_name, is_star}
+use Rattle.nm_mime.specs.Params.{ends_name}
 use Rattle.nm_mime.specs.declared.param_list.Param.{Param}
 use Rattle.nm_text.specs.Lines.{content, is_line_feed, lines_of}
 use Rattle.nm_mime.specs.Children.{ends_part, is_line_of, spans_of}
@@ -12,6 +12,7 @@ use Rattle.nm_mime.specs.Parts.{bytes_in}
 use Rattle.nm_mime.specs.declared.children.Delimiters.{Delimiters}
 use Rattle.nm_mime.specs.declared.children.Span.{Span}
 use Rattle.nm_mime.specs.declared.entity.Part.{Part}
+use Rattle.nm_text.specs.Cuts.{is_byte}
 
 -- they stand one after the other, between two places
 abbrev pub AreApart : ℕ → ℕ → List Span → Type 0
@@ -66,7 +67,7 @@ parts_between delimiters lines = texts_between (list_any (is_line_of delimiters.
 
 -- a byte of a name as it is written: no white space, no upper-case letter, none of `=`, `;` and `*`
 abbrev pub is_name_byte : ℕ → Bool
-is_name_byte b = not (is_white_space b || ends_name b || is_star b || not (to_ascii_lowercase b == b))
+is_name_byte b = not (is_white_space b || ends_name b || is_byte 42 b || not (to_ascii_lowercase b == b))
 
 -- a byte that a quoted string says as it stands
 abbrev pub is_quoted_byte : ℕ → Bool

@@ -9,14 +9,7 @@ use Rattle.nm_base.specs.Bounds.{is_white_space}
 use Rattle.nm_text.specs.QuotedStrings.{quoted_len, unquoted}
 use Rattle.nm_text.specs.WhiteSpace.{trimmed, trimmed_start}
 use Rattle.nm_mime.specs.declared.param_list.Param.{Param}
-
--- `;`
-abbrev pub is_semicolon : ℕ → Bool
-is_semicolon b = b == 59
-
--- `*`
-abbrev pub is_star : ℕ → Bool
-is_star b = b == 42
+use Rattle.nm_text.specs.Cuts.{is_byte}
 
 -- `=` or `;`
 abbrev pub ends_name : ℕ → Bool
@@ -52,7 +45,7 @@ begins_with special (b ∷ more) = b == special
 -- names have no case; one with a `*` is passed over
 abbrev pub kept_param : List ℕ → List ℕ → List Param
 kept_param name value =
-    if list_any is_star name then [] else record { name = map to_ascii_lowercase (trimmed name); value = value } ∷ []
+    if list_any (is_byte 42) name then [] else record { name = map to_ascii_lowercase (trimmed name); value = value } ∷ []
 
 -- the parameter of a name after which this stands: there is none where no `=` follows it
 abbrev pub param_from : List ℕ → List ℕ → List Param
@@ -70,7 +63,7 @@ param_in text = param_from (before_first ends_name text) (drop (position_or_len 
 
 -- what stands after the `;` that ends it
 abbrev pub after_param : List ℕ → List ℕ
-after_param text = after_first is_semicolon (after_name (drop (position_or_len ends_name text) text))
+after_param text = after_first (is_byte 59) (after_name (drop (position_or_len ends_name text) text))
 
 -- the first n parameters
 abbrev pub params_upto : ℕ → List ℕ → List Param
@@ -83,7 +76,7 @@ params_in text = params_upto (length text) text
 
 -- the parameters in a field's text: after its first `;`
 abbrev pub params_of : List ℕ → List Param
-params_of text = params_in (after_first is_semicolon text)
+params_of text = params_in (after_first (is_byte 59) text)
 
 -- the parameter has this name
 abbrev pub is_param : List ℕ → Param → Bool

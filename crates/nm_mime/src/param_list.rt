@@ -2,13 +2,14 @@
 
 ghost use Rattle.std.specs.Prelude.{◌≡◌, ◌++◌, ◌<◌, ◌≤◌, IfOk, IsUtf8, OnOk, drop, find, length, map, position, string_bytes};
 ghost use Rattle.std.specs.Char.{to_ascii_lowercase};
-ghost use Rattle.std.specs.List.{after_first, before_first, list_any, position_or_len};
+ghost use Rattle.std.specs.List.{before_first, list_any, position_or_len};
 ghost use Rattle.std.specs.Option.{option_copied, option_map};
+ghost use Rattle.nm_text.specs.Cuts.{is_byte};
 ghost use Rattle.nm_text.specs.WhiteSpace.{trimmed};
-ghost use Rattle.nm_mime.specs.Params.{after_name, after_param, after_quoted, after_value, begins_with, ends_name, ends_value, is_param, is_semicolon, is_star, kept_param, param_from, param_in, param_of, params_in, params_of, quoted_text, value_in, value_of};
+ghost use Rattle.nm_mime.specs.Params.{after_name, after_param, after_quoted, after_value, begins_with, ends_name, ends_value, is_param, kept_param, param_from, param_in, param_of, params_in, params_of, quoted_text, value_in, value_of};
 
 use nm_base::{Copies, Many, NoMemory, Text};
-use nm_text::{is_white_space, lowercase, quoted_len, text_of, trimmed, trimmed_start, unquoted};
+use nm_text::{after_first, is_white_space, lowercase, quoted_len, text_of, trimmed, trimmed_start, unquoted};
 use std::alloc::Global;
 
 /// A parameter of a header field.
@@ -26,7 +27,7 @@ pub(crate) fn params(alloc: Global, text: &[u8]) -> Result<Many<Param>, NoMemory
     ensures { IfOk result (λ params. params ≡ params_of text.now) }
 {
     let mut found = Many::new(alloc);
-    let mut left = after_semicolon(text);
+    let mut left = after_first(text, b';');
     'params: while !left.is_empty() {
         left = add_param(alloc, left, &mut found)?;
     }
@@ -48,7 +49,7 @@ fn add_param<'a>(
 {
     let (name, after) = text.split_at(name_len(text));
     add_named(alloc, name, after, found)?;
-    Ok(after_semicolon(after_name(after)))
+    Ok(after_first(after_name(after), b';'))
 }
 
 /// Adds the parameter of the name after which this stands.
@@ -156,9 +157,9 @@ fn begins_with(special: u8, text: &[u8]) -> bool
 }
 
 fn has_star(name: &[u8]) -> bool
-    ensures { result ≡ list_any is_star name.now }
+    ensures { result ≡ list_any (is_byte 42) name.now }
 {
-    name.iter().any(|b| *b == b'*')
+    name.contains(&b'*')
 }
 
 /// How many bytes stand before the first `=` or `;`.
@@ -177,22 +178,6 @@ fn name_end(text: &[u8]) -> Option<usize>
     ensures { result ≡ position ends_name text.now }
 {
     text.iter().position(|b| *b == b'=' || *b == b';')
-}
-
-/// What stands after the first `;`, or nothing.
-fn after_semicolon(text: &[u8]) -> &[u8]
-    ensures { result.now ≡ after_first is_semicolon text.now }
-{
-    match semicolon_at(text) {
-        Some(at) => &text[at + 1..],
-        None => &text[text.len()..],
-    }
-}
-
-fn semicolon_at(text: &[u8]) -> Option<usize>
-    ensures { result ≡ position is_semicolon text.now }
-{
-    text.iter().position(|b| *b == b';')
 }
 
 /// The value of the first parameter with this name, which is in lower case.

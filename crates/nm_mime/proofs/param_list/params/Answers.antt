@@ -1,13 +1,13 @@
-use Rattle.std.proofs.Common.{sym, subst, ◌∙◌}
+use Rattle.std.proofs.Common.{sym, subst, ◌∙◌, arith}
 use Rattle.std.specs.Prelude.{IsUtf8}
 use Rattle.nm_mime.proofs.ParamLemmas.{params_begin, params_end, params_turn, some_left}
-use Rattle.nm_mime.proofs.Utf8Lemmas.{param_utf8, semicolon_utf8}
+use Rattle.nm_mime.proofs.Utf8Lemmas.{param_utf8}
 use Rattle.nm_mime.proofs.param_list.params.Goals as goal
 
 pub params-init : goal.params-init
 params-init c = (
-  params_begin c.new-found.result c.after_semicolon-left.result.now c.args.text.now c.new-found.ensures c.after_semicolon-left.ensures,
-  subst IsUtf8 (sym c.after_semicolon-left.ensures) (semicolon_utf8 c.args.text.now c.requires),
+  params_begin c.new-found.result c.after_first-left.result.now c.args.text.now c.new-found.ensures c.after_first-left.ensures.value,
+  c.after_first-left.ensures.text (omega arith) c.requires,
 )
 
 pub params-preserved : goal.params-preserved
