@@ -1,7 +1,7 @@
 -- The standard encoding of bytes reads back as the bytes. For the proof of `base64_reads_back`.
 use Rattle.std.proofs.Common.{◌≡◌, ℕ, zero, suc, ◌+◌, ◌*◌, ◌/◌, ◌%◌, ◌<◌, ◌≤◌, Bool, true, false, not, ◌&&◌, List, [], ◌∷◌, ◌++◌, map, take, replicate, length, get_or, slice_index, refl, ap, ◌∙◌, cond, eqb, ◌⊎◌, inl, inr, arith}
 use Rattle.std.specs.List.{before_first, filter, position_or_len}
-use Rattle.std.proofs.lemmas.Bool.{cases_lt, eqb-true}
+use Rattle.std.proofs.lemmas.Bool.{and_parts, cases_lt, eqb-true, not-true}
 use Rattle.base64.specs.Engines.{standard}
 use Rattle.base64.specs.GeneralPurpose.{encode_of, engine_symbols}
 use Rattle.base64.specs.Rfc4648.{encode_symbols, padding_len}
@@ -20,11 +20,6 @@ is_good v = is_symbol (symbol_at v) && (eqb (six_bits (symbol_at v)) v && not (e
 all_good : all_below is_good 64 ≡ true
 all_good = refl
 
-both : (s t : Bool) → (s && t) ≡ true → (s ≡ true) × (t ≡ true)
-both true true e = (refl, refl)
-both true false e = (cc)
-both false t e = (cc)
-
 below-step : (p : ℕ → Bool) (n v : ℕ) → v < suc n → (v < n) ⊎ (n ≤ v) → p n ≡ true → (v < n → p v ≡ true) → p v ≡ true
 below-step p n v l (inl k) e h = h k
 below-step p n v l (inr k) e h = let q : v ≡ n = omega arith in ap p q ∙ e
@@ -32,7 +27,7 @@ below-step p n v l (inr k) e h = let q : v ≡ n = omega arith in ap p q ∙ e
 pub below : (p : ℕ → Bool) (n v : ℕ) → v < n → all_below p n ≡ true → p v ≡ true
 below p zero v l e = absurd (omega arith)
 below p (suc n) v l e =
-    let h = both (p n) (all_below p n) e in
+    let h = and_parts (p n) (all_below p n) e in
     below-step p n v l (cases_lt v n) h.0 (λ k. below p n v k h.1)
 
 good : (v : ℕ) → v < 64 → is_good v ≡ true
@@ -55,20 +50,16 @@ abbrev pub Small : List ℕ → Type 0
 Small [] = Unit {0}
 Small (v ∷ vs) = (v < 64) × Small vs
 
-not-false : (t : Bool) → not t ≡ true → t ≡ false
-not-false true e = (cc)
-not-false false e = refl
-
 -- their characters, with padding after them, give them back
 kept-back : (vs : List ℕ) (k : ℕ) → Small vs → map six_bits (kept (map symbol_at vs ++ replicate k 61)) ≡ vs
 kept-back [] zero h = refl
 kept-back [] (suc k) h = refl
 kept-back (v ∷ vs) k h =
     let g = good v h.0 in
-    let p = both (is_symbol (symbol_at v)) (eqb (six_bits (symbol_at v)) v && not (eqb (symbol_at v) 61)) g in
-    let q = both (eqb (six_bits (symbol_at v)) v) (not (eqb (symbol_at v) 61)) p.1 in
+    let p = and_parts (is_symbol (symbol_at v)) (eqb (six_bits (symbol_at v)) v && not (eqb (symbol_at v) 61)) g in
+    let q = and_parts (eqb (six_bits (symbol_at v)) v) (not (eqb (symbol_at v) 61)) p.1 in
     let rest = map symbol_at vs ++ replicate k 61 in
-    ap (λ xs. map six_bits (filter is_symbol xs)) (before-more (symbol_at v) rest (not-false (eqb (symbol_at v) 61) q.1))
+    ap (λ xs. map six_bits (filter is_symbol xs)) (before-more (symbol_at v) rest (not-true (eqb (symbol_at v) 61) q.1))
     ∙ ap (map six_bits) (filter-keep (symbol_at v) (before_first (is_byte 61) rest) p.0)
     ∙ ap (λ x. x ∷ map six_bits (kept rest)) (eqb-true (six_bits (symbol_at v)) v q.0)
     ∙ ap (λ xs. v ∷ xs) (kept-back vs k h.1)

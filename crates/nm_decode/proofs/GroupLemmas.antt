@@ -4,6 +4,7 @@ use Rattle.std.specs.List.{filter}
 use Rattle.std.proofs.lemmas.List.{at_drop_more}
 use Rattle.nm_decode.specs.Base64.{bytes_of_groups, is_symbol, six_bits, symbol_of}
 use Rattle.nm_decode.specs.GroupSteps.{made}
+use Rattle.std.proofs.lemmas.Option.{cond_some}
 
 -- the bytes that symbols make from a place of a group on, with the symbol before them
 abbrev pub after : ℕ → ℕ → List ℕ → List ℕ
@@ -46,10 +47,6 @@ skip-turn place last i b out kept all l e h g =
     ∙ ap (λ xs. out ++ xs) (sym (at_drop_more (λ xs. after place last (values xs)) kept i 0 l))
     ∙ g
 
-chosen : (t : Bool) (x y : ℕ) → cond t (Some x) None ≡ Some y → (t ≡ true) × (x ≡ y)
-chosen true x y e = (refl, (cc))
-chosen false x y e = (cc)
-
 not_chosen : (t : Bool) (x : ℕ) → cond t (Some x) None ≡ None → t ≡ false
 not_chosen true x e = (cc)
 not_chosen false x e = refl
@@ -59,7 +56,7 @@ pub symbol-turn : (place last i b bits : ℕ) (out kept all : List ℕ) → i < 
     → out ++ after place last (values (drop i kept)) ≡ all
     → (out ++ made place last bits) ++ after ((place + 1) % 4) bits (values (drop (i + 1) kept)) ≡ all
 symbol-turn place last i b bits out kept all l e h g =
-    let p = chosen (is_symbol b) (six_bits b) bits h in
+    let p = cond_some (is_symbol b) (six_bits b) bits h in
     let P : ℕ → Type 0 = λ x. (out ++ made place last x) ++ after ((place + 1) % 4) x (values (drop (i + 1) kept)) ≡ all in
     subst P p.1 (keep-turn place last i b out kept all l e p.0 g)
 

@@ -1,7 +1,7 @@
 -- The laws of links. For the proofs of `a_mail_links_to_others_once` and `links_stand_in_order_of_first_naming`.
 use Rattle.std.proofs.Common.{◌≡◌, ℕ, Bool, true, false, ◌||◌, cond, List, [], ◌∷◌, ◌++◌, fold, refl, sym, ap, ◌∙◌, append_assoc}
 use Rattle.std.proofs.Math.Bool.{or-false, or_assoc}
-use Rattle.std.proofs.lemmas.Bool.{or_parts, or_right}
+use Rattle.std.proofs.lemmas.Bool.{or_from, or_parts, or_right}
 use Rattle.std.proofs.lemmas.List.{append-nil}
 use Rattle.std.proofs.lemmas.List.Sums.{fold-append}
 use Rattle.std.specs.Cmp.Lexicographic.{nat_list_eq_equiv}
@@ -15,14 +15,11 @@ has_more : (texts : List (List ℕ)) (text other : List ℕ) → has_text (texts
 has_more [] text other = or-false (same_text other text)
 has_more (first ∷ texts) text other = ap (λ b. same_text other first || b) (has_more texts text other) ∙ sym (or_assoc (same_text other first) (has_text texts other) (same_text other text))
 
-or_both : (a b : Bool) → a ≡ false → b ≡ false → (a || b) ≡ false
-or_both a b h k = ap (λ t. t || b) h ∙ k
-
 -- a text that is not there stands once after the others
 once_more : (texts : List (List ℕ)) (text : List ℕ) → AreDistinct texts → has_text texts text ≡ false → AreDistinct (texts ++ text ∷ [])
 once_more [] text once none = (refl, tt)
 once_more (first ∷ texts) text once none = (
-  has_more texts text first ∙ or_both (has_text texts first) (same_text first text) once.0 (nat_list_eq_equiv.symm first text ∙ (or_parts (same_text text first) (has_text texts text) none).0),
+  has_more texts text first ∙ or_from (has_text texts first) (same_text first text) once.0 (nat_list_eq_equiv.symm first text ∙ (or_parts (same_text text first) (has_text texts text) none).0),
   once_more texts text once.1 ((or_parts (same_text text first) (has_text texts text) none).1),
 )
 
@@ -34,7 +31,7 @@ record AreLinks (own : List ℕ) (links : List (List ℕ)) : Type 0 where
 link_case : (b : Bool) (own id : List ℕ) (links : List (List ℕ)) → has_text (own ∷ links) id ≡ b → AreLinks own links → AreLinks own (cond b links (links ++ id ∷ []))
 link_case true own id links e h = h
 link_case false own id links e h = record {
-  others = has_more links id own ∙ or_both (has_text links own) (same_text own id) h.others (nat_list_eq_equiv.symm own id ∙ (or_parts (same_text id own) (has_text links id) e).0);
+  others = has_more links id own ∙ or_from (has_text links own) (same_text own id) h.others (nat_list_eq_equiv.symm own id ∙ (or_parts (same_text id own) (has_text links id) e).0);
   once = once_more links id h.once ((or_parts (same_text id own) (has_text links id) e).1);
 }
 
@@ -121,7 +118,7 @@ pub links_in_order : (own id : List ℕ) (before after : List (List ℕ)) → ha
 links_in_order own id before after h =
     let links = links_among own before in
     let p = or_parts (same_text id own) (has_text before id) h in
-    let fresh : has_text (own ∷ links) id ≡ false = or_both (same_text id own) (has_text links id) p.0 (not_named (has_text links id) own id before refl p.1) in
+    let fresh : has_text (own ∷ links) id ≡ false = or_from (same_text id own) (has_text links id) p.0 (not_named (has_text links id) own id before refl p.1) in
     let r = front_from own after (links ++ id ∷ []) in (
       r.0,
       fold-append (with_link own) [] before (id ∷ after) ∙ ap (λ t. fold (with_link own) (cond t links (links ++ id ∷ [])) after) fresh ∙ r.1,
