@@ -2,6 +2,7 @@
 //! it for its words.
 
 use crate::{Lines, Paragraph, RowError, unescaped};
+use nm_text::{after_first, before_first};
 use std::alloc::{AllocError, Global};
 
 /// A row: its head `KIND: NAME`, and its marked lines.
@@ -45,10 +46,7 @@ pub fn read_row<'a>(alloc: Global, paragraph: &Paragraph<'a>) -> Result<Row<'a>,
 
 /// What stands before the first such byte, and what stands after it.
 pub fn cut(line: &[u8], byte: u8) -> (&[u8], &[u8]) {
-    match line.iter().position(|b| *b == byte) {
-        Some(at) => (&line[..at], &line[at + 1..]),
-        None => (line, b""),
-    }
+    (before_first(line, byte), after_first(line, byte))
 }
 
 impl Row<'_> {
