@@ -2,7 +2,6 @@ pub mod Base64Law
 pub mod Escapes
 pub mod GapLaw
 pub mod GroupLemmas
-pub mod Lines
 pub mod MarkLaw
 pub mod Segments
 pub mod QTexts

@@ -1,4 +1,4 @@
--- What was found with what is left to find is all.
+-- What was found with what is left to find is all. For the proof of `ids`.
 use Rattle.std.proofs.Common.{◌≡◌, ℕ, ◌+◌, ◌<◌, true, false, cond, List, [], ◌∷◌, ◌++◌, length, refl, sym, ap, ◌∙◌, arith, append_assoc}
 use Rattle.std.specs.List.{slice_split, after_first, count_by}
 use Rattle.std.proofs.lemmas.List.Splits.{length-slice_split}

@@ -1,4 +1,5 @@
 -- The first lexeme of a text, and the lexemes before a special.
+-- For the proofs of `mailbox_lexeme_len` and `stop_len`.
 use Rattle.std.proofs.Common.{◌≡◌, ℕ, zero, suc, ◌+◌, ◌-◌, ◌<◌, ◌≤◌, Bool, true, false, cond, not, ◌||◌, ◌==◌, List, [], ◌∷◌, ◌++◌, length, take, drop, get_or, refl, sym, ap, subst, ◌∙◌, arith, min, length-take, length-append, append_assoc}
 use Rattle.std.specs.List.{before_first, concat, list_any, position_or_len}
 use Rattle.std.proofs.lemmas.Bool.{eqb-true, or_parts}

@@ -1,4 +1,5 @@
 -- Header fields (RFC 5322, sections 2.2 and 2.2.3): one starting line and all continuing lines right after it.
+-- Cited by `field_line`, `header`, `nm_mime` and others.
 use Rattle.std.specs.Prelude.{ℕ, Bool, false, ◌&&◌, ◌||◌, ◌==◌, not, List, [], ◌∷◌, ◌++◌, length, map, nat_le, nat_eq, codes, if◌then◌else◌}
 use Rattle.std.specs.Char.{to_ascii_lowercase}
 use Rattle.std.specs.List.{before_first, after_first, concat, list_all, list_any, starts_with, take_while}

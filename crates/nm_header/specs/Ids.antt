@@ -1,4 +1,5 @@
 -- Message ids in a field's text (RFC 5322, section 3.6.4): what stands between `<` and the next `>`.
+-- Cited by `id_list` and `nm_extract`.
 use Rattle.std.specs.Prelude.{ℕ, List, [], ◌∷◌, filter, map}
 use Rattle.std.specs.List.{after_first, slice_split}
 use Rattle.nm_base.specs.MessageId.{is_message_id}
