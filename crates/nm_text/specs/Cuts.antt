@@ -1,10 +1,26 @@
 -- Cuts: a text before and after a byte, and a text cut into lexemes one after the other.
--- Cited by `cuts`, `nm_decode`, `nm_eval` and others.
-use Rattle.std.specs.Prelude.{ℕ, zero, suc, ◌+◌, Bool, ◌==◌, List, [], ◌∷◌, length, take, drop, if◌then◌else◌}
+use Rattle.std.specs.Prelude.{ℕ, zero, suc, ◌+◌, ◌-◌, Bool, false, ◌&&◌, ◌==◌, List, [], ◌∷◌, length, take, drop, nat_lt, slice_index, if◌then◌else◌}
 
 -- this byte
 abbrev pub is_byte : ℕ → ℕ → Bool
 is_byte wanted b = b == wanted
+
+-- `<`
+abbrev pub is_less_than : ℕ → Bool
+is_less_than b = b == 60
+
+-- `>`
+abbrev pub is_greater_than : ℕ → Bool
+is_greater_than b = b == 62
+
+-- the byte stands first
+abbrev pub begins_with : ℕ → List ℕ → Bool
+begins_with byte [] = false
+begins_with byte (first ∷ more) = first == byte
+
+-- the byte stands last
+abbrev pub ends_with : ℕ → List ℕ → Bool
+ends_with byte text = nat_lt 0 (length text) && slice_index text (length text - 1) == byte
 
 -- each lexeme has its first byte, and as many more as `more` says of that byte and of what follows it; n bounds how many lexemes there are
 abbrev pub cut_upto : ℕ → (ℕ → List ℕ → ℕ) → List ℕ → List (List ℕ)

@@ -2,7 +2,27 @@
 
 ghost use Rattle.std.specs.Prelude.{◌≡◌, [], ◌∷◌, ◌<◌, ◌≤◌, length, IfSome, IsUtf8, MatchOption};
 ghost use Rattle.std.specs.List.{after_first, before_first, position_or_len, slice_split};
-ghost use Rattle.nm_text.specs.Cuts.{is_byte};
+ghost use Rattle.nm_text.specs.Cuts.{begins_with, ends_with, is_byte};
+
+/// Whether this byte stands first.
+pub fn begins_with(byte: u8, text: &[u8]) -> bool
+    ensures { result ≡ begins_with byte text.now }
+{
+    match text {
+        [] => false,
+        [first, ..] => *first == byte,
+    }
+}
+
+/// Whether this byte stands last.
+pub fn ends_with(byte: u8, text: &[u8]) -> bool
+    ensures { result ≡ ends_with byte text.now }
+{
+    if text.is_empty() {
+        return false;
+    }
+    text[text.len() - 1] == byte
+}
 
 /// The first place of a byte, or the length where it isn't there.
 pub fn first_place(bytes: &[u8], wanted: u8) -> usize

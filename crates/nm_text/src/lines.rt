@@ -19,6 +19,16 @@ pub fn next_line(bytes: &[u8]) -> Option<(&[u8], &[u8])>
     Some(bytes.split_at(line_len(bytes)))
 }
 
+/// The first line without its end, and what follows it.
+pub fn next_content(bytes: &[u8]) -> Option<(&[u8], &[u8])>
+    ensures { MatchOption result (lines bytes.now ≡ []) (λ cut. (lines bytes.now ≡ cut.0.now ∷ lines cut.1.now) × (length cut.1.now < length bytes.now)) }
+{
+    match next_line(bytes) {
+        Some((line, rest)) => Some((content(line), rest)),
+        None => None,
+    }
+}
+
 /// How many bytes the first line has, its end with it.
 pub fn line_len(bytes: &[u8]) -> usize
     requires { 0 < length bytes.now }
