@@ -1,20 +1,18 @@
 -- The first piece of a word, and what is left behind the character that ends it.
--- For the proofs of `add_pieces` and `add_words`.
-use Rattle.std.proofs.Common.{◌≡◌, ℕ, ◌+◌, ◌-◌, ◌<◌, ◌≤◌, Bool, true, false, cond, not, ◌&&◌, List, [], ◌∷◌, ◌++◌, Some, None, length, take, drop, get_or, ltb, refl, sym, ap, ◌∙◌, arith, append_assoc}
-use Rattle.std.specs.List.{slice_split, position_or_len, onto_first, flat_map}
+use Rattle.std.proofs.Common.{◌≡◌, ℕ, ◌+◌, ◌-◌, ◌<◌, Bool, true, false, cond, List, [], ◌∷◌, ◌++◌, Some, None, filter, length, map, take, drop, get_or, ltb, refl, sym, ap, ◌∙◌, arith, append_assoc}
+use Rattle.std.specs.List.{slice_split, position_or_len, flat_map}
 use Rattle.std.specs.Prelude.{position, IsUtf8}
 use Rattle.std.specs.Str.{IsCharBoundary}
 use Rattle.std.proofs.lemmas.Str.{IsCharBoundary-before_ascii, IsCharBoundary-after_ascii}
-use Rattle.std.proofs.lemmas.Bool.{ltb-true, ltb-false}
-use Rattle.std.proofs.lemmas.List.Splits.{slice_split_first}
-use Rattle.std.proofs.lemmas.List.{flat_map_more}
+use Rattle.std.proofs.lemmas.Bool.{and_parts, ltb-true, ltb-false}
+use Rattle.std.proofs.lemmas.List.{flat_map_more, map-append}
+use Rattle.std.proofs.lemmas.List.Elements.{All-from_get_or, filter-append}
+use Rattle.std.proofs.lemmas.List.Splits.{slice_split_first, slice_split_none}
+use Rattle.std.proofs.lemmas.List.Sums.{fails_before_first}
+use Rattle.std.proofs.lemmas.Option.{cond_some}
 use Rattle.std.proofs.lemmas.List.Quantifiers.{position-Some}
 use Rattle.nm_base.specs.Word.{is_word}
 use Rattle.nm_words.specs.Words.{is_cut, words_in, folded}
-
-some_of : (b : Bool) (n i : ℕ) → cond b (Some n) None ≡ Some i → (b ≡ true) × (n ≡ i)
-some_of true n i e = (refl, cc)
-some_of false n i e = absurd (cc)
 
 none_of : (b : Bool) (n : ℕ) → cond b (Some n) None ≡ None → b ≡ false
 none_of true n e = absurd (cc)
@@ -23,31 +21,21 @@ none_of false n e = refl
 -- up to the first item that passes it is one piece, and the rest is split likewise
 pub split_at : (p : ℕ → Bool) (xs : List ℕ) (i : ℕ) → position p xs ≡ Some i → slice_split p xs ≡ take i xs ∷ slice_split p (drop (i + 1) xs)
 split_at p xs i e =
-    let f = some_of (ltb (position_or_len p xs) (length xs)) (position_or_len p xs) i e in
+    let f = cond_some (ltb (position_or_len p xs) (length xs)) (position_or_len p xs) i e in
     let whole = slice_split_first p xs 0 (ltb-true _ _ f.0) in
     rw f.1 at whole
 
-split_none_if : (p : ℕ → Bool) (xs : List ℕ) → length xs ≤ position_or_len p xs → slice_split p xs ≡ xs ∷ []
-split_none_if p [] e = refl
-split_none_if p (x ∷ xs) e =
-    elim (p x) as (λ b. length (x ∷ xs) ≤ cond (not b) (1 + position_or_len p xs) 0 → cond b ([] ∷ slice_split p xs) (onto_first x (slice_split p xs)) ≡ (x ∷ xs) ∷ []) [
-      | true ↦ λ h. absurd (omega arith)
-      | false ↦ λ h. ap (onto_first x) (split_none_if p xs (omega arith))
-    ] e
-
 -- where no item passes there is one piece
 pub split_none : (p : ℕ → Bool) (xs : List ℕ) → position p xs ≡ None → slice_split p xs ≡ xs ∷ []
-split_none p xs e = split_none_if p xs (ltb-false _ _ (none_of _ _ e))
-
-first_true : (a b : Bool) → (a && b) ≡ true → a ≡ true
-first_true true b e = refl
-first_true false b e = e
+split_none p xs e =
+    let long = ltb-false _ _ (none_of _ _ e) in
+    slice_split_none p xs (All-from_get_or (λ x. p x ≡ false) xs 0 (λ i within. fails_before_first p xs i 0 (omega arith)))
 
 -- the place where a piece ends holds an ASCII character
 pub cut_is_ascii : (xs : List ℕ) (i : ℕ) → position is_cut xs ≡ Some i → (i < length xs) × (get_or xs i 0 < 128)
 cut_is_ascii xs i e =
     let h = position-Some is_cut xs i 0 e in
-    (h.0, ltb-true _ _ (first_true _ _ h.1))
+    (h.0, ltb-true _ _ (and_parts _ _ h.1).0)
 
 -- so the text may be cut before it and behind it
 pub boundary_before : (xs : List ℕ) (i : ℕ) → position is_cut xs ≡ Some i → IsCharBoundary xs i
@@ -56,15 +44,12 @@ boundary_before xs i e = let h = cut_is_ascii xs i e in IsCharBoundary-before_as
 pub boundary_after : (xs : List ℕ) (i : ℕ) → IsUtf8 xs → position is_cut xs ≡ Some i → IsCharBoundary xs (i + 1)
 boundary_after xs i u e = let h = cut_is_ascii xs i e in IsCharBoundary-after_ascii xs i u h.0 h.1
 
--- words of one piece more
-pub words_in-cons : (piece : List ℕ) (pieces : List (List ℕ)) → words_in (piece ∷ pieces) ≡ words_in (piece ∷ []) ++ words_in pieces
-words_in-cons piece pieces =
-    elim (is_word (folded piece)) as (λ b. cond b (folded piece ∷ words_in pieces) (words_in pieces) ≡ cond b (folded piece ∷ []) [] ++ words_in pieces) [ true ↦ refl | false ↦ refl ]
+-- the words of two lists of pieces, and of one piece more
+pub words_in-append : (xs ys : List (List ℕ)) → words_in (xs ++ ys) ≡ words_in xs ++ words_in ys
+words_in-append xs ys = ap (filter is_word) (map-append folded xs ys) ∙ filter-append is_word (map folded xs) (map folded ys)
 
-words_in-append : (xs ys : List (List ℕ)) → words_in (xs ++ ys) ≡ words_in xs ++ words_in ys
-words_in-append [] ys = refl
-words_in-append (x ∷ xs) ys =
-    words_in-cons x (xs ++ ys) ∙ ap (λ more. words_in (x ∷ []) ++ more) (words_in-append xs ys) ∙ sym (append_assoc (words_in (x ∷ [])) (words_in xs) (words_in ys)) ∙ ap (λ front. front ++ words_in ys) (sym (words_in-cons x xs))
+pub words_in-cons : (piece : List ℕ) (pieces : List (List ℕ)) → words_in (piece ∷ pieces) ≡ words_in (piece ∷ []) ++ words_in pieces
+words_in-cons piece pieces = words_in-append (piece ∷ []) pieces
 
 -- words of a text of one word more
 pub more_words : (ws : List (List ℕ)) (w : List ℕ) → words_in (flat_map (slice_split is_cut) (ws ++ w ∷ [])) ≡ words_in (flat_map (slice_split is_cut) ws) ++ words_in (slice_split is_cut w)

@@ -1,16 +1,14 @@
 //! A word of UAX 29 cut at ASCII signs and folded, for `words`.
 
-ghost use Rattle.std.specs.Prelude.{◌≡◌, [], ◌∷◌, ◌++◌, IsAscii, OnOk, position, string_bytes};
+ghost use Rattle.std.specs.Prelude.{◌≡◌, [], ◌∷◌, ◌++◌, OnOk, position, string_bytes};
 ghost use Rattle.std.specs.List.{slice_split};
 ghost use Rattle.nm_words.specs.Words.{folded, is_cut, words_in};
 
-use caseless::default_case_fold_str;
+use caseless::Caseless;
 use nm_base::{NoMemory, WordList, is_word};
-use std::alloc::Global;
 
 /// The pieces of one word, without case, after those that were found before. `room` is for folding.
 pub(crate) fn add_pieces(
-    alloc: Global,
     word: &str,
     room: &mut String,
     found: &mut WordList,
@@ -19,21 +17,16 @@ pub(crate) fn add_pieces(
 {
     let mut left = word;
     'pieces: while let Some(at) = cut_at(left) {
-        add_piece(alloc, &left[..at], room, found)?;
+        add_piece(&left[..at], room, found)?;
         left = &left[at + 1..];
     }
-    add_piece(alloc, left, room, found)
+    add_piece(left, room, found)
 }
 
-fn add_piece(
-    alloc: Global,
-    piece: &str,
-    room: &mut String,
-    found: &mut WordList,
-) -> Result<(), NoMemory>
+fn add_piece(piece: &str, room: &mut String, found: &mut WordList) -> Result<(), NoMemory>
     ensures { OnOk result (found.new ≡ found.old ++ words_in (piece.now ∷ [])) }
 {
-    fold(alloc, piece, room)?;
+    fold(piece, room)?;
     let word = room.as_str();
     if !is_word(word) {
         return Ok(());
@@ -41,26 +34,19 @@ fn add_piece(
     found.push(word)
 }
 
-/// Leaves the piece without case in `room`.
-fn fold(alloc: Global, piece: &str, room: &mut String) -> Result<(), NoMemory>
-    ensures { OnOk result (string_bytes room.new ≡ folded piece.now) }
-{
-    // Nearly all pieces are ASCII, where no character has to be decoded.
-    if piece.is_ascii() {
-        return fold_ascii(piece, room);
-    }
-    *room = default_case_fold_str(alloc, piece)?;
-    Ok(())
-}
-
+/// Leaves the piece without case in `room`, whose memory serves all pieces of a text.
 #[tactic(auto, using(crate::proofs::FoldLemmas::folded_ascii))]
-fn fold_ascii(piece: &str, room: &mut String) -> Result<(), NoMemory>
-    requires { IsAscii piece.now }
+fn fold(piece: &str, room: &mut String) -> Result<(), NoMemory>
     ensures { OnOk result (string_bytes room.new ≡ folded piece.now) }
 {
     room.clear();
-    room.push_str(piece)?;
-    room.make_ascii_lowercase();
+    // Nearly all pieces are ASCII, where no character has to be decoded.
+    if piece.is_ascii() {
+        room.push_str(piece)?;
+        room.make_ascii_lowercase();
+        return Ok(());
+    }
+    room.extend(piece.chars().default_case_fold())?;
     Ok(())
 }
 

@@ -27,7 +27,7 @@ pub fn add_words(alloc: Global, text: &str, found: &mut WordList) -> Result<(), 
     // Each piece is folded in here, so that only a word that is kept takes memory of its own.
     let mut room = String::new(alloc);
     'words: for word in text.unicode_words() {
-        add_pieces(alloc, word, &mut room, found)?;
+        add_pieces(word, &mut room, found)?;
     }
     Ok(())
 }
