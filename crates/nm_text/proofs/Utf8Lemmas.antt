@@ -1,4 +1,5 @@
 -- Text stays text where ASCII characters are taken out of it, or where it is cut at one.
+-- For the proofs of `lowercase` and `without_white_space`.
 use Rattle.std.proofs.Common.{◌≡◌, ℕ, suc, ◌+◌, ◌-◌, ◌<◌, Bool, true, false, cond, not, List, [], ◌∷◌, ◌++◌, length, map, take, drop, get_or, reverse, ltb, refl, sym, ap, subst, ◌∙◌, arith, filter, append_assoc, length-append}
 use Rattle.std.specs.Prelude.{IsUtf8}
 use Rattle.std.specs.Char.{to_ascii_lowercase}

@@ -1,4 +1,5 @@
 -- Cuts: a text before and after a byte, and a text cut into lexemes one after the other.
+-- Cited by `cuts`, `nm_decode`, `nm_eval` and others.
 use Rattle.std.specs.Prelude.{ℕ, zero, suc, ◌+◌, ◌-◌, Bool, false, ◌&&◌, ◌==◌, List, [], ◌∷◌, length, take, drop, nat_lt, slice_index, if◌then◌else◌}
 
 -- this byte

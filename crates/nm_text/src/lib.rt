@@ -11,7 +11,7 @@ mod utf8;
 mod white_space;
 
 pub use case::{lowercase, same_ignoring_case};
-pub use cuts::{begins_with, cut_at, ends_with, first_place};
+pub use cuts::{after_first, before_first, begins_with, cut_at, ends_with, first_place};
 pub use laws::{
     a_cut_goes_on_after_its_first_lexeme, nothing_is_cut_away, text_stays_text,
     the_first_line_ends_at_the_first_line_feed,

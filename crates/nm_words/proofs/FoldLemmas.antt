@@ -1,4 +1,4 @@
--- Where every byte is ASCII, folding is the lower case of each byte. For the proof of `fold_ascii`.
+-- Where every byte is ASCII, folding is the lower case of each byte. For the proof of `fold`.
 use Rattle.std.proofs.Common.{◌≡◌, ℕ, List, map, chars, encode_utf8_all, IsAscii, ap, ◌∙◌}
 use Rattle.std.specs.Char.{to_ascii_lowercase}
 use Rattle.std.proofs.lemmas.Str.{chars-IsAscii}

@@ -1,4 +1,5 @@
 -- The first piece of a word, and what is left behind the character that ends it.
+-- For the proofs of `add_pieces` and `add_words`.
 use Rattle.std.proofs.Common.{◌≡◌, ℕ, ◌+◌, ◌-◌, ◌<◌, Bool, true, false, cond, List, [], ◌∷◌, ◌++◌, Some, None, filter, length, map, take, drop, get_or, ltb, refl, sym, ap, ◌∙◌, arith, append_assoc}
 use Rattle.std.specs.List.{slice_split, position_or_len, flat_map}
 use Rattle.std.specs.Prelude.{position, IsUtf8}
