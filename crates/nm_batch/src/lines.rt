@@ -3,12 +3,12 @@
 ghost use Rattle.nm_answer.specs.BatchLines.{read_each};
 ghost use Rattle.nm_batch.specs.Faults.{IsFirstFault};
 ghost use Rattle.nm_tags.specs.declared.line_error.LineKind.{LineKind};
-ghost use Rattle.std.specs.Prelude.{◌≡◌, ◌+◌, ◌<◌, ℕ, List, [], ◌∷◌, length, IfOk, MatchOption, MatchResult, Ok, Err, Option, Result};
+ghost use Rattle.std.specs.Prelude.{◌≡◌, ◌+◌, ℕ, List, [], ◌∷◌, length, IfOk, MatchResult, Ok, Err, Option, Result};
 ghost use Rattle.std.specs.Str.Lines.{lines};
 
 use nm_base::{Many, NoMemory};
 use nm_tags::{LineError, LineKind};
-use nm_text::{content, next_line};
+use nm_text::next_content;
 use std::alloc::Global;
 
 /// How one line is read.
@@ -57,12 +57,3 @@ fn next_number(number: u32) -> Result<u32, NoMemory>
     number.checked_add(1).ok_or(NoMemory)
 }
 
-/// The first line without its end, and the bytes behind it.
-fn next_content(bytes: &[u8]) -> Option<(&[u8], &[u8])>
-    ensures { MatchOption result (lines bytes.now ≡ []) (λ cut. (lines bytes.now ≡ cut.0.now ∷ lines cut.1.now) × (length cut.1.now < length bytes.now)) }
-{
-    match next_line(bytes) {
-        Some((line, rest)) => Some((content(line), rest)),
-        None => None,
-    }
-}

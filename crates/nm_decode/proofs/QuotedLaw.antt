@@ -9,7 +9,8 @@ use Rattle.nm_text.specs.Lines.{lines_of}
 use Rattle.nm_text.specs.WhiteSpace.{trimmed_end}
 use Rattle.nm_decode.specs.Bytes.{hex_byte, hex_value, is_hex}
 use Rattle.nm_decode.specs.Laws.{IsUnencodedTest, hex_digit, quoted_byte, quoted_line}
-use Rattle.nm_decode.specs.QuotedPrintable.{ends_with, line_bytes, quoted_of, unescaped}
+use Rattle.nm_text.specs.Cuts.{ends_with}
+use Rattle.nm_decode.specs.QuotedPrintable.{line_bytes, quoted_of, unescaped}
 use Rattle.nm_decode.proofs.Escapes.{unescaped-plain}
 
 -- hex digits

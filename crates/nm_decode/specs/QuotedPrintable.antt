@@ -2,6 +2,7 @@
 -- Cited by `quoted` and `nm_extract`.
 use Rattle.std.specs.Prelude.{ℕ, Bool, ◌&&◌, ◌==◌, nat_lt, if◌then◌else◌, ◌-◌, List, [], ◌∷◌, ◌++◌, length, take, slice_index}
 use Rattle.std.specs.List.{flat_map}
+use Rattle.nm_text.specs.Cuts.{ends_with}
 use Rattle.nm_text.specs.Lines.{lines_of}
 use Rattle.nm_text.specs.WhiteSpace.{trimmed_end}
 use Rattle.nm_decode.specs.Bytes.{hex_byte, is_hex}
@@ -13,10 +14,6 @@ unescaped (a ∷ []) = a ∷ []
 unescaped (a ∷ b ∷ []) = a ∷ b ∷ []
 unescaped (a ∷ b ∷ c ∷ more) =
     if a == 61 && is_hex b && is_hex c then hex_byte b c ∷ unescaped more else a ∷ unescaped (b ∷ c ∷ more)
-
--- the last byte is this one
-abbrev pub ends_with : ℕ → List ℕ → Bool
-ends_with byte line = nat_lt 0 (length line) && slice_index line (length line - 1) == byte
 
 -- a `=` as the last byte is a soft break: it and the line end vanish
 abbrev pub line_bytes : List ℕ → List ℕ

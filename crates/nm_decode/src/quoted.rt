@@ -2,10 +2,11 @@
 
 ghost use Rattle.std.specs.Prelude.{◌≡◌, ◌≤◌, ◌<◌, ◌++◌, length, IfOk, IfSome, OnOk};
 ghost use Rattle.nm_decode.specs.Bytes.{escape_of, hex_of};
-ghost use Rattle.nm_decode.specs.QuotedPrintable.{ends_with, line_bytes, quoted_of, unescaped};
+ghost use Rattle.nm_text.specs.Cuts.{ends_with};
+ghost use Rattle.nm_decode.specs.QuotedPrintable.{line_bytes, quoted_of, unescaped};
 
 use nm_base::{Many, NoMemory};
-use nm_text::{first_place, line_len, trimmed_end};
+use nm_text::{ends_with, first_place, line_len, trimmed_end};
 use std::alloc::Global;
 
 /// The bytes of a quoted-printable body (RFC 2045, section 6.7), line by line: white space at a line's end is dropped,
@@ -27,23 +28,14 @@ fn push_line(out: &mut Vec<u8>, line: &[u8]) -> Result<(), NoMemory>
     ensures { OnOk result (out.new.items ≡ out.old.items ++ line_bytes line.now) }
 {
     let content = trimmed_end(line);
-    if ends_with(content, b'=') {
+    if ends_with(b'=', content) {
         return push_unescaped(out, &content[..content.len() - 1]);
     }
     push_unescaped(out, content)?;
-    if ends_with(line, b'\n') {
+    if ends_with(b'\n', line) {
         out.push(b'\n')?;
     }
     Ok(())
-}
-
-fn ends_with(line: &[u8], byte: u8) -> bool
-    ensures { result ≡ ends_with byte line.now }
-{
-    match line.last() {
-        Some(last) => *last == byte,
-        None => false,
-    }
 }
 
 /// Runs of bytes that stand for themselves go over at once.

@@ -1,6 +1,6 @@
 //! The call `read_dump`: what the lines of a dump ask for. `nm_session` reads the input of `restore` with it.
 
-ghost use Rattle.std.specs.Prelude.{◌≡◌, ◌+◌, ◌<◌, [], ◌∷◌, length, IfOk, MatchOption, MatchResult, Ok, Err, if◌then◌else◌};
+ghost use Rattle.std.specs.Prelude.{◌≡◌, ◌+◌, [], ◌∷◌, length, IfOk, MatchResult, Ok, Err, if◌then◌else◌};
 ghost use Rattle.std.specs.Str.Lines.{lines};
 ghost use Rattle.nm_answer.specs.BatchTag.{read_batch_tag};
 ghost use Rattle.nm_answer.specs.DumpReading.{begins_changes, classified, form_of, is_passed_over, read_dump, read_line, told_form, IsDumpFault};
@@ -9,7 +9,7 @@ use crate::ids::id_of_query;
 use crate::sup::read_sup;
 use nm_base::{DumpForm, Many, MessageId, NoMemory, ReadForm, TagOp};
 use nm_tags::{LineError, LineKind, Wanted, changes_of, text_of};
-use nm_text::{content, next_line, trimmed_start};
+use nm_text::{next_content, trimmed_start};
 use std::alloc::Global;
 
 /// Reads the lines of a dump, each ended by LF or CR LF. Empty lines and those that begin with `#` are passed over; the first line
@@ -49,16 +49,6 @@ fn bad_line(line: u32, kind: LineKind) -> Result<Many<Wanted>, LineError>
     ensures { result ≡ Err (LineError.BadLine line kind) }
 {
     Err(LineError::BadLine { line, kind })
-}
-
-/// The first line without its end, and the bytes behind it.
-fn next_content(bytes: &[u8]) -> Option<(&[u8], &[u8])>
-    ensures { MatchOption result (lines bytes.now ≡ []) (λ cut. (lines bytes.now ≡ cut.0.now ∷ lines cut.1.now) × (length cut.1.now < length bytes.now)) }
-{
-    match next_line(bytes) {
-        Some((line, rest)) => Some((content(line), rest)),
-        None => None,
-    }
 }
 
 /// The form in which the lines are read.

@@ -7,11 +7,11 @@ use Rattle.std.specs.List.{after_first, position_or_len, prefix_len}
 use Rattle.std.proofs.lemmas.List.{append-nil}
 use Rattle.std.proofs.lemmas.Bool.{eqb-true, ltb-false}
 use Rattle.nm_mime.specs.declared.param_list.Param.{Param}
-use Rattle.nm_mime.specs.Params.{after_name, after_param, after_quoted, after_value, begins_with, ends_name, kept_param, param_from, param_in, params_in, params_of, params_upto, value_in}
+use Rattle.nm_mime.specs.Params.{after_name, after_param, after_quoted, after_value, ends_name, kept_param, param_from, param_in, params_in, params_of, params_upto, value_in}
 use Rattle.nm_base.specs.Bounds.{is_white_space}
 use Rattle.nm_text.specs.QuotedStrings.{quoted_len}
 use Rattle.nm_text.specs.WhiteSpace.{trimmed_start}
-use Rattle.nm_text.specs.Cuts.{is_byte}
+use Rattle.nm_text.specs.Cuts.{begins_with, is_byte}
 use Rattle.std.proofs.lemmas.Option.{cond_some}
 
 -- ---- the place that `position` gives

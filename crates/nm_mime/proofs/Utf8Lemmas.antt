@@ -12,9 +12,9 @@ use Rattle.std.proofs.lemmas.Str.Ascii.{IsAscii-cons, IsAscii-nil}
 use Rattle.nm_base.specs.Bounds.{is_white_space}
 use Rattle.nm_text.specs.QuotedStrings.{quoted_len}
 use Rattle.nm_text.specs.WhiteSpace.{trimmed, trimmed_end, trimmed_start}
-use Rattle.nm_mime.specs.Params.{after_name, after_param, after_quoted, after_value, begins_with, ends_name, ends_value}
+use Rattle.nm_mime.specs.Params.{after_name, after_param, after_quoted, after_value, ends_name, ends_value}
 use Rattle.nm_mime.proofs.QuotedLemmas.{quoted-byte, quoted-close, quoted-last, quoted-nil, quoted-pair}
-use Rattle.nm_text.specs.Cuts.{is_byte}
+use Rattle.nm_text.specs.Cuts.{begins_with, is_byte}
 
 -- what stands before an ASCII character is text, and what stands behind it
 pub split_ascii : (xs ys : List ℕ) (b : ℕ) → b < 128 → IsUtf8 (xs ++ b ∷ ys) → IsUtf8 xs × IsUtf8 ys

@@ -37,11 +37,6 @@ abbrev pub after_value : List ℕ → List ℕ
 after_value [] = []
 after_value (b ∷ more) = if b == 34 then after_quoted more else b ∷ more
 
--- this byte at the front
-abbrev pub begins_with : ℕ → List ℕ → Bool
-begins_with special [] = false
-begins_with special (b ∷ more) = b == special
-
 -- names have no case; one with a `*` is passed over
 abbrev pub kept_param : List ℕ → List ℕ → List Param
 kept_param name value =

@@ -4,12 +4,15 @@ ghost use Rattle.std.specs.Prelude.{◌≡◌, ◌++◌, ◌<◌, ◌≤◌, IfO
 ghost use Rattle.std.specs.Char.{to_ascii_lowercase};
 ghost use Rattle.std.specs.List.{before_first, list_any, position_or_len};
 ghost use Rattle.std.specs.Option.{option_copied, option_map};
-ghost use Rattle.nm_text.specs.Cuts.{is_byte};
+ghost use Rattle.nm_text.specs.Cuts.{begins_with, is_byte};
 ghost use Rattle.nm_text.specs.WhiteSpace.{trimmed};
-ghost use Rattle.nm_mime.specs.Params.{after_name, after_param, after_quoted, after_value, begins_with, ends_name, ends_value, is_param, kept_param, param_from, param_in, param_of, params_in, params_of, quoted_text, value_in, value_of};
+ghost use Rattle.nm_mime.specs.Params.{after_name, after_param, after_quoted, after_value, ends_name, ends_value, is_param, kept_param, param_from, param_in, param_of, params_in, params_of, quoted_text, value_in, value_of};
 
 use nm_base::{Copies, Many, NoMemory, Text};
-use nm_text::{after_first, is_white_space, lowercase, quoted_len, text_of, trimmed, trimmed_start, unquoted};
+use nm_text::{
+    after_first, begins_with, is_white_space, lowercase, quoted_len, text_of, trimmed,
+    trimmed_start, unquoted,
+};
 use std::alloc::Global;
 
 /// A parameter of a header field.
@@ -145,15 +148,6 @@ fn after_quoted(text: &[u8]) -> &[u8]
 {
     let (_, after) = text.split_at(quoted_len(text));
     after
-}
-
-fn begins_with(special: u8, text: &[u8]) -> bool
-    ensures { result ≡ begins_with special text.now }
-{
-    match text {
-        [] => false,
-        [first, ..] => *first == special,
-    }
 }
 
 fn has_star(name: &[u8]) -> bool

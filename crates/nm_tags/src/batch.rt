@@ -1,7 +1,7 @@
 //! The call `batch_lines`: lines of tag changes, as `tag --batch` takes them, for `nm_batch`; `nm_dump` reads lines
 //! of dumps with it.
 
-ghost use Rattle.std.specs.Prelude.{◌≡◌, ◌+◌, ◌<◌, [], ◌∷◌, true, length, IfOk, IfSome, MatchOption, MatchResult, Some, None, Ok, Err};
+ghost use Rattle.std.specs.Prelude.{◌≡◌, ◌+◌, [], ◌∷◌, true, length, IfOk, IfSome, MatchOption, MatchResult, Some, None, Ok, Err};
 ghost use Rattle.std.specs.Str.Lines.{lines};
 ghost use Rattle.nm_tags.specs.TagLines.{asked_in, batch_lines, classified, is_passed_over, is_tag_word, op_of, query_after, read_line, with_op, IsLineFault};
 
@@ -9,7 +9,7 @@ use crate::decode::{decode_tag, text_of};
 use crate::words::{is_tag_word, next_word, query_after, without_space};
 use crate::{LineError, LineKind, TagLine, TagOp};
 use nm_base::{Many, NoMemory, Text};
-use nm_text::{content, next_line};
+use nm_text::next_content;
 use std::alloc::Global;
 
 /// Reads lines of tag changes, each ended by LF or CR LF. Empty lines and comments are passed over; the first line that is none
@@ -48,16 +48,6 @@ fn bad_line(line: u32, kind: LineKind) -> Result<Many<TagLine>, LineError>
     ensures { result ≡ Err (LineError.BadLine line kind) }
 {
     Err(LineError::BadLine { line, kind })
-}
-
-/// The first line without its end, and the bytes behind it.
-fn next_content(bytes: &[u8]) -> Option<(&[u8], &[u8])>
-    ensures { MatchOption result (lines bytes.now ≡ []) (λ cut. (lines bytes.now ≡ cut.0.now ∷ lines cut.1.now) × (length cut.1.now < length bytes.now)) }
-{
-    match next_line(bytes) {
-        Some((line, rest)) => Some((content(line), rest)),
-        None => None,
-    }
 }
 
 /// What one line asks for, without its end: nothing where it is passed over, or its fault.
