@@ -1,6 +1,5 @@
 -- Bytes that are decoded one by one, and texts.
--- For the proofs of `decoded_bytes`, `text_of` and `a_written_tag_is_read_back`.
-use Rattle.std.proofs.Common.{◌≡◌, ℕ, zero, suc, ◌/◌, ◌%◌, ◌<◌, ◌==◌, ◌&&◌, Bool, true, false, List, [], ◌∷◌, ◌++◌, refl, sym, ap, ◌∙◌, subst, arith, inl, inr, cond, append_assoc, slice_index, Option, Some, None, Ok}
+use Rattle.std.proofs.Common.{◌≡◌, ℕ, zero, suc, ◌/◌, ◌%◌, ◌<◌, ◌==◌, ◌&&◌, true, false, List, [], ◌∷◌, ◌++◌, refl, sym, ap, ◌∙◌, subst, arith, inl, inr, cond, append_assoc, slice_index, Option, Some, None, Ok}
 use Rattle.std.specs.Str.{is_utf8}
 use Rattle.std.proofs.lemmas.Bool.{cases_Bool}
 use Rattle.std.proofs.lemmas.Bool.Decides.{nat_tests}
@@ -14,11 +13,6 @@ use Rattle.nm_tags.specs.Encoding.{encoded_byte, encoded_tag, escaped, is_writte
 pub joined_one_more : (before : List ℕ) (byte : ℕ) (more : Option (List ℕ)) → joined (Ok (before ++ byte ∷ [])) more ≡ joined (Ok before) (joined (Ok (byte ∷ [])) more)
 joined_one_more before byte (Some more) = ap Some (append_assoc before (byte ∷ []) more)
 joined_one_more before byte None = refl
-
--- what is not true is false
-pub is_false : (b : Bool) → (b ≡ true → ⊥) → b ≡ false
-is_false true h = absurd (h refl)
-is_false false h = refl
 
 -- a byte other than `%` stands for itself
 plain_byte : (byte : ℕ) (more : List ℕ) → (byte == 37) ≡ false → decoded_bytes (byte ∷ more) ≡ joined (Ok (byte ∷ [])) (decoded_bytes more)

@@ -93,12 +93,6 @@ asked_first text e =
     ∙ (ap (λ b. cond b (with_op (op_of (first_word text)) (asked_upto (length text) (after_first_word text))) (Some ([], query_after text))) e
     ∙ ap (with_op (op_of (first_word text))) (same_upto (length text) (length (after_first_word text)) (after_first_word text) (omega arith) (omega arith)))
 
--- a text without one is a query
-pub asked_last : (text : List ℕ) → is_tag_word (first_word text) ≡ false → asked_in text ≡ Some ([], query_after text)
-asked_last text e =
-    same_upto (length text) (suc (length text)) text (omega arith) (omega arith)
-    ∙ ap (λ b. cond b (with_op (op_of (first_word text)) (asked_upto (length text) (after_first_word text))) (Some ([], query_after text))) e
-
 -- operations before what else is asked
 abbrev pub with_ops : List TagOp → Option (List TagOp × List ℕ) → Option (List TagOp × List ℕ)
 with_ops ops (Some asked) = Some (ops ++ asked.0, asked.1)

@@ -8,6 +8,8 @@ use Rattle.std.specs.declared.cmp.Ordering.{Ordering}
 use Rattle.std.specs.declared.cmp.Ordering.TheVariants.{Less, Equal, Greater}
 use Rattle.std.specs.List.Sorted.{IsStrictlySortedBy}
 use Rattle.std.proofs.lemmas.Map.Keys.{sorted_head, sorted_tail}
+use Rattle.std.proofs.Math.Bool.{and-false, or_assoc, or_comm, or_self_left}
+use Rattle.std.proofs.lemmas.Bool.{or_parts}
 use Rattle.nm_base.specs.Order.{IsSorted, same_text}
 use Rattle.nm_base.specs.Tags.{has_tag, with_tag, without_tag}
 use Rattle.nm_base.specs.declared.tag_op.TagOp.{TagOp}
@@ -32,6 +34,9 @@ in_both other key [] e = refl
 in_both other key (x ∷ xs) e =
     ap (λ b. b || has_tag xs other) (nat_list_eq_equiv.congr other key x e) ∙ ap (λ b. same_text key x || b) (in_both other key xs e)
 
+or_swap : (a b c : Bool) → (a || (b || c)) ≡ (b || (a || c))
+or_swap a b c = sym (or_assoc a b c) ∙ (ap (λ t. t || c) (or_comm a b) ∙ or_assoc b a c)
+
 module _ (key other x : List ℕ) (xs : List (List ℕ)) where
   -- the removal of a tag that stands first
   first_removed : (is_same : Bool) → same_text other key ≡ is_same → same_text key x ≡ true → IsSorted (x ∷ xs)
@@ -50,29 +55,16 @@ module _ (key other x : List ℕ) (xs : List (List ℕ)) where
   removed_at rest true e s h = first_removed (same_text other key) refl (same key x ∙ e) s
   removed_at rest false e s h = later_removed (same_text other key) (has_tag rest other) refl (same key x ∙ e) h
 
-  or_swap : (a b c : Bool) → (a || (b || c)) ≡ (b || (a || c))
-  or_swap true true c = refl
-  or_swap true false c = refl
-  or_swap false b c = refl
-
-  or_same : (a b : Bool) → (a || (a || b)) ≡ (a || b)
-  or_same true b = refl
-  or_same false b = refl
-
   set_at : (rest : List (List ℕ)) (o : Ordering) → slice_cmp nat_cmp key x ≡ o → has_tag rest other ≡ (same_text other key || has_tag xs other)
       → has_tag (match_ordering o (key ∷ x ∷ xs) (x ∷ xs) (x ∷ rest)) other ≡ (same_text other key || (same_text other x || has_tag xs other))
   set_at rest Less e h = refl
   set_at rest Equal e h =
-      sym (or_same (same_text other x) (has_tag xs other)) ∙ ap (λ b. b || (same_text other x || has_tag xs other)) (sym (alike other key x (same key x ∙ ap is_eq e)))
+      sym (or_self_left (same_text other x) (has_tag xs other)) ∙ ap (λ b. b || (same_text other x || has_tag xs other)) (sym (alike other key x (same key x ∙ ap is_eq e)))
   set_at rest Greater e h = ap (λ b. same_text other x || b) h ∙ or_swap (same_text other x) (same_text other key) (has_tag xs other)
-
-and_false : (b : Bool) → (b && false) ≡ false
-and_false true = refl
-and_false false = refl
 
 -- a tag that is taken off is not there, and every other tag is as it was
 has-without : (tags : List (List ℕ)) (tag other : List ℕ) → IsSorted tags → has_tag (without_tag tags tag) other ≡ (not (same_text other tag) && has_tag tags other)
-has-without [] tag other s = sym (and_false (not (same_text other tag)))
+has-without [] tag other s = sym (and-false (not (same_text other tag)))
 has-without (x ∷ xs) tag other s =
     removed_at tag other x xs (without_tag xs tag) (is_eq (slice_cmp nat_cmp tag x)) refl s (has-without xs tag other (sorted_tail (slice_cmp nat_cmp) x xs s))
 
@@ -150,20 +142,13 @@ has_by : (tags : List (List ℕ)) (tag other : List ℕ) (add : Bool) → IsSort
 has_by tags tag other true s = has-with tags tag other ∙ or_chosen (same_text other tag) (has_tag tags other)
 has_by tags tag other false s = has-without tags tag other s ∙ and_chosen (same_text other tag) (has_tag tags other)
 
-or_left : (a b : Bool) → (a || b) ≡ false → a ≡ false
-or_left true b h = h
-or_left false b h = refl
-
-or_right : (a b : Bool) → (a || b) ≡ false → b ≡ false
-or_right true b h = cc
-or_right false b h = h
-
 -- a tag that no operation names is there where it was
 pub unnamed_stays : (tags : List (List ℕ)) (ops : List TagOp) (tag : List ℕ) → IsSorted tags → is_named tag ops ≡ false → has_tag (after_ops tags ops) tag ≡ has_tag tags tag
 unnamed_stays tags [] tag s h = refl
 unnamed_stays tags (op ∷ ops) tag s h =
-    unnamed_stays (after_op tags op) ops tag (sorted_by tags op.tag op.add s) (or_right (same_text tag op.tag) (is_named tag ops) h)
-    ∙ (has_by tags op.tag tag op.add s ∙ ap (λ b. if b then op.add else has_tag tags tag) (or_left (same_text tag op.tag) (is_named tag ops) h))
+    let apart = or_parts (same_text tag op.tag) (is_named tag ops) h in
+    unnamed_stays (after_op tags op) ops tag (sorted_by tags op.tag op.add s) apart.1
+    ∙ (has_by tags op.tag tag op.add s ∙ ap (λ b. if b then op.add else has_tag tags tag) apart.0)
 
 after-append : (tags : List (List ℕ)) (xs ys : List TagOp) → after_ops tags (xs ++ ys) ≡ after_ops (after_ops tags xs) ys
 after-append tags [] ys = refl
