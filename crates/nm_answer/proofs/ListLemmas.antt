@@ -1,35 +1,16 @@
--- Items and texts among those that pass a test. For `MatchLemmas`.
-use Rattle.std.proofs.Common.{◌≡◌, refl, sym, ap, ◌∙◌, ℕ, zero, suc, Bool, true, false, ◌&&◌, ◌||◌, cond, List, [], ◌∷◌, map, filter, arith, true≢false, inl, inr}
+-- Items and texts among those that pass a test.
+use Rattle.std.proofs.Common.{◌≡◌, refl, sym, ap, ◌∙◌, ℕ, zero, suc, Bool, true, false, ◌&&◌, ◌||◌, cond, List, [], ◌∷◌, map, filter, arith}
 use Rattle.std.specs.Prelude.{Contains}
 use Rattle.std.specs.List.{AllByRecursion, IsDistinct, list_any}
-use Rattle.std.proofs.lemmas.Bool.{or_cases, or_left, or_right}
+use Rattle.std.proofs.lemmas.Bool.{and_right}
 use Rattle.std.proofs.lemmas.Slice.Eq.{bytes_eq-Decides}
 use Rattle.nm_base.specs.Order.{has_text, same_text}
-
-pub same_from : (a b : List ℕ) → same_text a b ≡ true → a ≡ b
-same_from a b is = (bytes_eq-Decides a b).0 is
-
-pub same_of : (a : List ℕ) → same_text a a ≡ true
-same_of a = (bytes_eq-Decides a a).1 refl
 
 pub there : {X : Type 0} (x : X) (xs : List X) (y : X) → Contains xs y → Contains (x ∷ xs) y
 there x xs y (k, below, is) = (suc k, (omega (arith, below)), is)
 
 pub first : {X : Type 0} (x : X) (xs : List X) (y : X) → x ≡ y → Contains (x ∷ xs) y
 first x xs y is = (zero, (omega arith), is)
-
--- an item that passes a test
-pub one_of : {X : Type 0} (p : X → Bool) (xs : List X) → list_any p xs ≡ true → (x : X) × Contains xs x × (p x ≡ true)
-one_of p [] is = absurd (true≢false (sym is))
-one_of p (x ∷ xs) is = elim (or_cases (p x) (list_any p xs) is) [
-  | inl here ↦ (x, first x xs x refl, here)
-  | inr after ↦ let one = one_of p xs after in (one.0, there x xs one.0 one.1, one.2)
-]
-
-pub any_of : {X : Type 0} (p : X → Bool) (xs : List X) (x : X) → Contains xs x → p x ≡ true → list_any p xs ≡ true
-any_of p [] x among is = absurd (omega (arith, among.1))
-any_of p (y ∷ xs) x (zero, below, here) is = or_left (p y) (list_any p xs) (ap p here ∙ is)
-any_of p (y ∷ xs) x (suc k, below, here) is = or_right (p y) (list_any p xs) (any_of p xs x (k, (omega (arith, below)), here) is)
 
 -- what a filter keeps was there and passes its test
 kept_by : {X : Type 0} (p : X → Bool) (y : X) (xs : List X) (test : Bool) → p y ≡ test → (x : X) → (Contains (filter p xs) x → Contains xs x × (p x ≡ true))
@@ -53,15 +34,13 @@ keeps p (y ∷ xs) x (zero, below, here) is = rw (ap p here ∙ is) (first y (fi
 keeps p (y ∷ xs) x (suc k, below, here) is = keeps_by p y xs (p y) x (keeps p xs x (k, (omega (arith, below)), here) is)
 
 -- a text is among those that pass where it is among all and passes
-neither : (a b : Bool) → b ≡ false → (a && b) ≡ b
-neither true b is = refl
-neither false b is = sym is
-
 text_by : (p : List ℕ → Bool) (id x : List ℕ) (xs : List (List ℕ)) (test same : Bool) → p x ≡ test → same_text id x ≡ same → has_text (filter p xs) id ≡ (has_text xs id && p id)
     → has_text (cond test (x ∷ filter p xs) (filter p xs)) id ≡ ((same || has_text xs id) && p id)
-text_by p id x xs true true is here rest = rw here (sym (ap p (same_from id x here) ∙ is))
+text_by p id x xs true true is here rest = rw here (sym (ap p ((bytes_eq-Decides id x).0 here) ∙ is))
 text_by p id x xs true false is here rest = rw here rest
-text_by p id x xs false true is here rest = rest ∙ neither (has_text xs id) (p id) (ap p (same_from id x here) ∙ is)
+text_by p id x xs false true is here rest =
+    let out = ap p ((bytes_eq-Decides id x).0 here) ∙ is in
+    rest ∙ and_right (has_text xs id) (p id) out ∙ sym out
 text_by p id x xs false false is here rest = rest
 
 pub has_text-filter : (p : List ℕ → Bool) (xs : List (List ℕ)) (id : List ℕ) → has_text (filter p xs) id ≡ (has_text xs id && p id)

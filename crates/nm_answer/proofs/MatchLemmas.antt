@@ -4,6 +4,8 @@ use Rattle.std.proofs.Common.{◌≡◌, ◌↔◌, sym, ap, subst, ◌∙◌, �
 use Rattle.std.specs.Prelude.{IsTrue}
 use Rattle.std.specs.List.{AllByRecursion, IsDistinct}
 use Rattle.std.proofs.lemmas.Bool.{and_from, and_parts, false_from_ne_true, not-true, not_from_false, or_cases}
+use Rattle.std.proofs.lemmas.List.Folds.{Any-from_list_any, list_any-from_Any}
+use Rattle.std.proofs.lemmas.Slice.Eq.{bytes_eq-Decides}
 use Rattle.nm_base.specs.Order.{has_text, same_text}
 use Rattle.nm_base.specs.Tags.{has_tag}
 use Rattle.nm_base.specs.declared.facts.Facts.{Facts}
@@ -16,20 +18,20 @@ use Rattle.nm_threads.specs.Same.{ids_of}
 use Rattle.nm_base.specs.declared.facts.LinkRow.{LinkRow}
 use Rattle.nm_answer.specs.Matches.{Excludes, excluding_tags, is_excluded, is_match, matches_of, names_tag, tags_excluded}
 use Rattle.nm_answer.specs.View.{View, view_of}
-use Rattle.nm_answer.proofs.ListLemmas.{any_of, distinct_kept, entry_ids_have, has_text-filter, ids_kept, keeps, kept, one_of, same_from}
+use Rattle.nm_answer.proofs.ListLemmas.{distinct_kept, entry_ids_have, has_text-filter, ids_kept, keeps, kept}
 
 -- ---- exclusion
 
 excluded_from : (query : Query) (message : View) → IsTrue (is_excluded query message) → (tag : List ℕ) × Excludes query message tag
 excluded_from query message is =
-    let one = one_of (has_tag message.tags) (tags_excluded query) is in
-    let among = kept (λ tag. not (names_tag query tag)) excluding_tags one.0 one.1 in
-    (one.0, (among.0, one.2, λ named. true≢false (sym named ∙ not-true (names_tag query one.0) among.1)))
+    let one = Any-from_list_any (has_tag message.tags) (tags_excluded query) is in
+    let among = kept (λ tag. not (names_tag query tag)) excluding_tags one.1 (one.0, one.2, one.3) in
+    (one.1, (among.0, one.4, λ named. true≢false (sym named ∙ not-true (names_tag query one.1) among.1)))
 
 excluded_of : (query : Query) (message : View) → (tag : List ℕ) × Excludes query message tag → IsTrue (is_excluded query message)
 excluded_of query message (tag, (among, has, unnamed)) =
-    any_of (has_tag message.tags) (tags_excluded query) tag
-    (keeps (λ tag. not (names_tag query tag)) excluding_tags tag among (not_from_false (names_tag query tag) (false_from_ne_true (names_tag query tag) unnamed))) has
+    let kept_at = keeps (λ tag. not (names_tag query tag)) excluding_tags tag among (not_from_false (names_tag query tag) (false_from_ne_true (names_tag query tag) unnamed)) in
+    list_any-from_Any (has_tag message.tags) (tags_excluded query) (kept_at.0, tag, kept_at.1, kept_at.2, has)
 
 pub excluded_by : (query : Query) (message : View) → IsTrue (is_excluded query message) ↔ ((tag : List ℕ) × Excludes query message tag)
 excluded_by query message = (excluded_from query message, excluded_of query message)
@@ -42,7 +44,7 @@ file_entry : (index : Base) (id : List ℕ) (files : List (List ℕ × Facts)) (
     → has_id files id ≡ true → has_entry index id ≡ true
 file_entry index id [] rows all has = absurd (true≢false (sym has))
 file_entry index id (file ∷ files) rows all has = elim (or_cases (same_text id file.1.id) (has_id files id) has) [
-  | inl here ↦ ap (has_entry index) (same_from id file.1.id here) ∙ all.0.0
+  | inl here ↦ ap (has_entry index) ((bytes_eq-Decides id file.1.id).0 here) ∙ all.0.0
   | inr there ↦ file_entry index id files rows all.1 there
 ]
 

@@ -4,13 +4,14 @@ use Rattle.std.proofs.Common.{◌≡◌, ◌-◌, ℕ, Bool, true, false, ◌||�
 use Rattle.std.specs.Prelude.{min}
 use Rattle.std.specs.List.{AllByRecursion, IsDistinct, list_any}
 use Rattle.std.proofs.lemmas.List.{length-drop, length-take, take-append-drop}
+use Rattle.std.proofs.Math.Bool.{or-false, or_assoc, or_comm}
+use Rattle.std.proofs.lemmas.Bool.{eqb-true, or_parts}
+use Rattle.std.proofs.lemmas.Option.{same_Some}
+use Rattle.std.proofs.lemmas.List.Folds.{list_any-append}
 use Rattle.nm_answer.specs.Listing.{each_once, part_of, with_new}
 use Rattle.nm_answer.specs.Orders.{IsPart}
 
 -- ---- parts
-
-some_same : (a b : ℕ) → Some a ≡ Some b → a ≡ b
-some_same a b is = cc
 
 pub part_is : {X : Type 0} (offset : ℕ) (limit : Option ℕ) (items : List X) → IsPart offset limit items (part_of offset limit items)
 part_is offset None items = record {
@@ -26,32 +27,19 @@ part_is offset (Some limit) items = record {
   after = drop limit (drop offset items);
   whole = sym (take-append-drop offset items) ∙ ap (λ rest. take offset items ++ rest) (sym (take-append-drop limit (drop offset items)));
   passed = length-take offset items;
-  max = λ n is. length-take limit (drop offset items) ∙ ap (min limit) (length-drop offset items) ∙ ap (λ m. min m (length items - offset)) (some_same limit n is);
+  max = λ n is. length-take limit (drop offset items) ∙ ap (min limit) (length-drop offset items) ∙ ap (λ m. min m (length items - offset)) (same_Some limit n is);
   all = λ is. cc;
 }
 
 -- ---- once
 
-or_swap : (a b c : Bool) → (a || (b || c)) ≡ (b || (a || c))
-or_swap true true c = refl
-or_swap true false c = refl
-or_swap false b c = refl
-
-or_nothing : (a : Bool) → (a || false) ≡ a
-or_nothing true = refl
-or_nothing false = refl
-
 -- an item at the end is among them as at the front
 any_end : {X : Type 0} (p : X → Bool) (items : List X) (item : X) → list_any p (items ++ item ∷ []) ≡ (p item || list_any p items)
-any_end p [] item = refl
-any_end p (first ∷ items) item = ap (λ b. p first || b) (any_end p items item) ∙ or_swap (p first) (p item) (list_any p items)
-
-same_number : (a b : ℕ) → nat_eq a b ≡ true → a ≡ b
-same_number a b is = search (arith, is)
+any_end p items item = list_any-append p items (item ∷ []) ∙ ap (λ b. list_any p items || b) (or-false (p item)) ∙ or_comm (list_any p items) (p item)
 
 -- a number is among those once where it is among all
 absorbed : (n name : ℕ) (names : List ℕ) (same : Bool) → nat_eq n name ≡ same → list_any (nat_eq name) names ≡ true → list_any (nat_eq n) names ≡ (nat_eq n name || list_any (nat_eq n) names)
-absorbed n name names true is among = ap (λ m. list_any (nat_eq m) names) (same_number n name is) ∙ among ∙ sym (ap (λ b. b || list_any (nat_eq n) names) is)
+absorbed n name names true is among = ap (λ m. list_any (nat_eq m) names) (eqb-true n name is) ∙ among ∙ sym (ap (λ b. b || list_any (nat_eq n) names) is)
 absorbed n name names false is among = sym (ap (λ b. b || list_any (nat_eq n) names) is)
 
 more_by : (n name : ℕ) (names : List ℕ) (old : Bool) → list_any (nat_eq name) names ≡ old
@@ -60,15 +48,11 @@ more_by n name names true is = absorbed n name names (nat_eq n name) refl is
 more_by n name names false is = any_end (nat_eq n) names name
 
 any_more : (n : ℕ) (once names : List ℕ) → list_any (nat_eq n) (fold (with_new nat_eq) once names) ≡ (list_any (nat_eq n) once || list_any (nat_eq n) names)
-any_more n once [] = sym (or_nothing (list_any (nat_eq n) once))
+any_more n once [] = sym (or-false (list_any (nat_eq n) once))
 any_more n once (name ∷ names) =
     any_more n (with_new nat_eq once name) names
-    ∙ (ap (λ b. b || list_any (nat_eq n) names) (more_by n name once (list_any (nat_eq name) once) refl)
-    ∙ moved (nat_eq n name) (list_any (nat_eq n) once) (list_any (nat_eq n) names)) where
-      moved : (a b c : Bool) → ((a || b) || c) ≡ (b || (a || c))
-      moved true true c = refl
-      moved true false c = refl
-      moved false b c = refl
+    ∙ ap (λ b. b || list_any (nat_eq n) names) (more_by n name once (list_any (nat_eq name) once) refl ∙ or_comm (nat_eq n name) (list_any (nat_eq n) once))
+    ∙ or_assoc (list_any (nat_eq n) once) (nat_eq n name) (list_any (nat_eq n) names)
 
 pub same_members : (names : List ℕ) (name : ℕ) → list_any (nat_eq name) (each_once nat_eq names) ≡ list_any (nat_eq name) names
 same_members names name = any_more name [] names
@@ -78,10 +62,6 @@ apart_end : (first name : ℕ) (names : List ℕ) → AllByRecursion (λ other. 
 apart_end first name [] all is = (is, tt)
 apart_end first name (next ∷ names) all is = (all.0, apart_end first name names all.1 is)
 
-or_false : (a b : Bool) → (a || b) ≡ false → (a ≡ false) × (b ≡ false)
-or_false false b is = (refl, is)
-or_false true b is = absurd (cc)
-
 turned : (a b : ℕ) → nat_eq a b ≡ false → nat_eq b a ≡ false
 turned a b is = search (arith, is)
 
@@ -89,7 +69,7 @@ distinct_end : (name : ℕ) (names : List ℕ) → IsDistinct nat_eq names → l
 unfolding IsDistinct
 distinct_end name [] distinct new = (tt, tt)
 distinct_end name (first ∷ names) distinct new =
-    let parts = or_false (nat_eq name first) (list_any (nat_eq name) names) new in
+    let parts = or_parts (nat_eq name first) (list_any (nat_eq name) names) new in
     (apart_end first name names distinct.0 (turned name first parts.0), distinct_end name names distinct.1 parts.1)
 
 distinct_by : (name : ℕ) (names : List ℕ) (old : Bool) → list_any (nat_eq name) names ≡ old → IsDistinct nat_eq names → IsDistinct nat_eq (if old then names else names ++ name ∷ [])

@@ -3,17 +3,12 @@ use Rattle.std.proofs.Common.{◌≡◌, refl, sym, ap, ap₂, ◌∙◌, ℕ, B
 use Rattle.std.proofs.lemmas.Bool.{and_from, and_parts, or_cases, or_left, or_right}
 use Rattle.std.proofs.lemmas.Slice.Eq.{bytes_eq-Decides, starts_is}
 use Rattle.std.proofs.lemmas.Bool.Decides.{Decides-eqb}
+use Rattle.std.specs.Cmp.Lexicographic.{nat_list_eq_equiv}
 use Rattle.std.specs.Prelude.{IsTrue, nat_eq}
 use Rattle.std.specs.List.{starts_with}
 use Rattle.nm_base.specs.Order.{same_text}
 use Rattle.nm_answer.specs.Runs.{Stand, StandWithFront}
 use Rattle.nm_answer.specs.Words.{begins_with, has_words}
-
-same_from : (a b : List ℕ) → same_text a b ≡ true → a ≡ b
-same_from a b is = (bytes_eq-Decides a b).0 is
-
-same_of : (a : List ℕ) → same_text a a ≡ true
-same_of a = (bytes_eq-Decides a a).1 refl
 
 -- a word that begins with a front has a rest
 front_from : (front found : List ℕ) → starts_with nat_eq found front ≡ true → found ≡ front ++ drop (length front) found
@@ -27,16 +22,16 @@ front_of front rest = (starts_is Decides-eqb (front ++ rest) front (starts_with 
 fronts_from : (words list : List (List ℕ)) → begins_with false words list ≡ true → (after : List (List ℕ)) × (list ≡ words ++ after)
 fronts_from [] list is = (list, refl)
 fronts_from (word ∷ words) [] is = absurd (true≢false (sym is))
-fronts_from (word ∷ []) (found ∷ list) is = (list, ap (λ w. w ∷ list) (sym (same_from word found is)))
+fronts_from (word ∷ []) (found ∷ list) is = (list, ap (λ w. w ∷ list) (sym ((bytes_eq-Decides word found).0 is)))
 fronts_from (word ∷ next ∷ words) (found ∷ list) is =
     let parts = and_parts (same_text word found) (begins_with false (next ∷ words) list) is in
     let rest = fronts_from (next ∷ words) list parts.1 in
-    (rest.0, ap₂ (λ w more. w ∷ more) (sym (same_from word found parts.0)) rest.1)
+    (rest.0, ap₂ (λ w more. w ∷ more) (sym ((bytes_eq-Decides word found).0 parts.0)) rest.1)
 
 fronts_of : (words after : List (List ℕ)) → begins_with false words (words ++ after) ≡ true
 fronts_of [] after = refl
-fronts_of (word ∷ []) after = same_of word
-fronts_of (word ∷ next ∷ words) after = and_from (same_text word word) (begins_with false (next ∷ words) ((next ∷ words) ++ after)) (same_of word) (fronts_of (next ∷ words) after)
+fronts_of (word ∷ []) after = nat_list_eq_equiv.refl word
+fronts_of (word ∷ next ∷ words) after = and_from (same_text word word) (begins_with false (next ∷ words) ((next ∷ words) ++ after)) (nat_list_eq_equiv.refl word) (fronts_of (next ∷ words) after)
 
 -- ---- the last by its front
 
@@ -58,13 +53,13 @@ last_from (word ∷ next ∷ words) last [] is = absurd (true≢false (sym is))
 last_from (word ∷ words) last (found ∷ list) is =
     let parts = and_parts (same_text word found) (begins_with true (words ++ last ∷ []) list) (sym (one_more word last found words list) ∙ is) in
     let more = last_from words last list parts.1 in
-    (more.0, more.1, ap₂ (λ w all. w ∷ all) (sym (same_from word found parts.0)) more.2)
+    (more.0, more.1, ap₂ (λ w all. w ∷ all) (sym ((bytes_eq-Decides word found).0 parts.0)) more.2)
 
 last_of : (words : List (List ℕ)) (last rest : List ℕ) (after : List (List ℕ)) → begins_with true (words ++ last ∷ []) (words ++ (last ++ rest) ∷ after) ≡ true
 last_of [] last rest after = front_of last rest
 last_of (word ∷ words) last rest after =
     one_more word last word words (words ++ (last ++ rest) ∷ after)
-    ∙ and_from (same_text word word) (begins_with true (words ++ last ∷ []) (words ++ (last ++ rest) ∷ after)) (same_of word) (last_of words last rest after)
+    ∙ and_from (same_text word word) (begins_with true (words ++ last ∷ []) (words ++ (last ++ rest) ∷ after)) (nat_list_eq_equiv.refl word) (last_of words last rest after)
 
 -- ---- from some place on
 
