@@ -1,8 +1,8 @@
--- What holds of each byte of a text that is written. For `SupWholeLemmas`, `TagLineLemmas` and `WholeLemmas`.
-use Rattle.std.proofs.Common.{◌≡◌, ℕ, zero, suc, ◌/◌, ◌%◌, ◌==◌, ◌&&◌, ◌||◌, not, nat_lt, Bool, true, false, List, [], ◌∷◌, ◌++◌, slice_index, refl, sym, ap, ◌∙◌, subst, arith, inl, inr, cond}
+-- What holds of each byte of a text that is written.
+use Rattle.std.proofs.Common.{◌≡◌, ℕ, zero, suc, ◌/◌, ◌%◌, ◌==◌, ◌||◌, not, nat_lt, Bool, true, List, [], ◌∷◌, ◌++◌, slice_index, refl, sym, ap, ◌∙◌, subst, arith, inl, inr, cond}
 use Rattle.std.specs.List.{flat_map, list_all}
 use Rattle.std.specs.Str.{IsAscii}
-use Rattle.std.proofs.lemmas.Bool.{and_parts, cases_Bool}
+use Rattle.std.proofs.lemmas.Bool.{and_from, and_parts, cases_Bool}
 use Rattle.std.proofs.lemmas.Bool.Decides.{nat_tests}
 use Rattle.std.proofs.lemmas.List.Folds.{list_all-append}
 use Rattle.hex.specs.Hex.{encode_lower, encode_with, lower_digits}
@@ -23,14 +23,6 @@ is_inner b = not (b == 10 || b == 13)
 abbrev pub is_low : ℕ → Bool
 is_low b = nat_lt b 128
 
-pub both : (a b : Bool) → a ≡ true → b ≡ true → (a && b) ≡ true
-both true b h k = k
-both false b h k = h
-
-pub is_false : (b : Bool) → not b ≡ true → b ≡ false
-is_false true h = sym h
-is_false false h = refl
-
 -- what holds of all bytes and of zero holds at each place
 pub holds_at : (p : ℕ → Bool) (xs : List ℕ) (i : ℕ) → p 0 ≡ true → list_all p xs ≡ true → p (slice_index xs i) ≡ true
 holds_at p [] i z h = z
@@ -39,7 +31,7 @@ holds_at p (x ∷ xs) (suc i) z h = holds_at p xs i z (and_parts (p x) _ h).1
 
 -- a part and another
 pub append_all : (p : ℕ → Bool) (xs ys : List ℕ) → list_all p xs ≡ true → list_all p ys ≡ true → list_all p (xs ++ ys) ≡ true
-append_all p xs ys h k = list_all-append p xs ys ∙ both (list_all p xs) _ h k
+append_all p xs ys h k = list_all-append p xs ys ∙ and_from (list_all p xs) _ h k
 
 -- parts of many
 pub parts_all : {X : Type 0} (p : ℕ → Bool) (f : X → List ℕ) → ((x : X) → list_all p (f x) ≡ true) → (xs : List X) → list_all p (flat_map f xs) ≡ true
@@ -49,7 +41,7 @@ parts_all p f each (x ∷ xs) = append_all p (f x) (flat_map f xs) (each x) (par
 -- what one test says another says
 pub weaker : (p q : ℕ → Bool) → ((b : ℕ) → p b ≡ true → q b ≡ true) → (xs : List ℕ) → list_all p xs ≡ true → list_all q xs ≡ true
 weaker p q says [] h = refl
-weaker p q says (b ∷ xs) h = both (q b) _ (says b (and_parts (p b) _ h).0) (weaker p q says xs (and_parts (p b) _ h).1)
+weaker p q says (b ∷ xs) h = and_from (q b) _ (says b (and_parts (p b) _ h).0) (weaker p q says xs (and_parts (p b) _ h).1)
 
 pub dark_inner : (b : ℕ) → is_dark b ≡ true → is_inner b ≡ true
 dark_inner b e = grind (arith, nat_tests)
@@ -68,14 +60,14 @@ two_digits byte = refl
 escaped_all : (p : ℕ → Bool) → p 0 ≡ true → p 37 ≡ true → list_all p lower_digits ≡ true → (byte : ℕ) → list_all p (escaped byte) ≡ true
 escaped_all p z percent digits byte =
     ap (λ d. list_all p (37 ∷ d)) (two_digits byte)
-    ∙ both (p 37) _ percent (both (p (slice_index lower_digits (byte / 16))) _ (holds_at p lower_digits (byte / 16) z digits)
-    (both (p (slice_index lower_digits (byte % 16))) true (holds_at p lower_digits (byte % 16) z digits) refl))
+    ∙ and_from (p 37) _ percent (and_from (p (slice_index lower_digits (byte / 16))) _ (holds_at p lower_digits (byte / 16) z digits)
+    (and_from (p (slice_index lower_digits (byte % 16))) true (holds_at p lower_digits (byte % 16) z digits) refl))
 
 encoded_byte_all : (p : ℕ → Bool) → p 0 ≡ true → p 37 ≡ true → list_all p lower_digits ≡ true → ((b : ℕ) → is_written b ≡ true → p b ≡ true)
     → (byte : ℕ) → list_all p (encoded_byte byte) ≡ true
 encoded_byte_all p z percent digits written byte =
     elim (cases_Bool (is_written byte)) [
-      | inl e ↦ subst (λ b. list_all p (cond b (byte ∷ []) (escaped byte)) ≡ true) (sym e) (both (p byte) true (written byte e) refl)
+      | inl e ↦ subst (λ b. list_all p (cond b (byte ∷ []) (escaped byte)) ≡ true) (sym e) (and_from (p byte) true (written byte e) refl)
       | inr e ↦ subst (λ b. list_all p (cond b (byte ∷ []) (escaped byte)) ≡ true) (sym e) (escaped_all p z percent digits byte)
     ]
 
@@ -96,8 +88,8 @@ tag_low tag = parts_all is_low encoded_byte (encoded_byte_all is_low refl refl r
 doubled_dark : (byte : ℕ) → is_dark byte ≡ true → list_all is_dark (doubled byte) ≡ true
 doubled_dark byte h =
     elim (cases_Bool (byte == 34)) [
-      | inl e ↦ subst (λ b. list_all is_dark (cond b (byte ∷ byte ∷ []) (byte ∷ [])) ≡ true) (sym e) (both (is_dark byte) _ h (both (is_dark byte) true h refl))
-      | inr e ↦ subst (λ b. list_all is_dark (cond b (byte ∷ byte ∷ []) (byte ∷ [])) ≡ true) (sym e) (both (is_dark byte) true h refl)
+      | inl e ↦ subst (λ b. list_all is_dark (cond b (byte ∷ byte ∷ []) (byte ∷ [])) ≡ true) (sym e) (and_from (is_dark byte) _ h (and_from (is_dark byte) true h refl))
+      | inr e ↦ subst (λ b. list_all is_dark (cond b (byte ∷ byte ∷ []) (byte ∷ [])) ≡ true) (sym e) (and_from (is_dark byte) true h refl)
     ]
 
 quoted_dark : (text : List ℕ) → list_all is_dark text ≡ true → list_all is_dark (flat_map doubled text) ≡ true
@@ -111,7 +103,7 @@ id_byte_dark byte e = grind (arith, nat_tests)
 id_text_dark : (id : List ℕ) → is_id_text id ≡ true → list_all is_dark id ≡ true
 id_text_dark [] h = refl
 id_text_dark (byte ∷ id) h =
-    both (is_dark byte) _ (id_byte_dark byte (and_parts (is_id_byte byte) _ h).0) (id_text_dark id (and_parts (is_id_byte byte) _ h).1)
+    and_from (is_dark byte) _ (id_byte_dark byte (and_parts (is_id_byte byte) _ h).0) (id_text_dark id (and_parts (is_id_byte byte) _ h).1)
 
 -- an id has no white space
 pub id_dark : (id : List ℕ) → is_message_id id ≡ true → list_all is_dark id ≡ true

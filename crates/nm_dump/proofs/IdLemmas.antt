@@ -1,8 +1,8 @@
--- Ids as they are written, and read again. For the proof of `a_written_id_is_read_back`.
-use Rattle.std.proofs.Common.{◌≡◌, ℕ, ◌<◌, ◌==◌, ◌&&◌, ◌||◌, Bool, true, false, List, [], ◌∷◌, ◌++◌, length, nat_eq, codes, refl, sym, ap, ◌∙◌, subst, arith, append_assoc, inl, inr, cond, Some, None}
+-- Ids as they are written, and read again.
+use Rattle.std.proofs.Common.{◌≡◌, ℕ, ◌<◌, ◌==◌, ◌&&◌, true, false, List, [], ◌∷◌, ◌++◌, length, nat_eq, codes, refl, sym, ap, ◌∙◌, subst, arith, append_assoc, inl, inr, cond, Some, None}
 use Rattle.std.specs.List.{flat_map, starts_with}
 use Rattle.std.specs.Str.{is_utf8}
-use Rattle.std.proofs.lemmas.Bool.{cases_Bool}
+use Rattle.std.proofs.lemmas.Bool.{cases_Bool, or_parts}
 use Rattle.std.proofs.lemmas.Bool.Decides.{nat_tests}
 use Rattle.nm_base.specs.MessageId.{is_message_id}
 use Rattle.nm_answer.specs.Dump.{has_parenthesis}
@@ -41,22 +41,15 @@ quoted_read (byte ∷ text) =
     ap unquoted (append_assoc (doubled byte) (flat_map doubled text) (34 ∷ []))
     ∙ (doubled_read byte (flat_map doubled text ++ 34 ∷ []) (closed (flat_map doubled text)) ∙ ap (with_byte byte) (quoted_read text))
 
-or_left : (a b : Bool) → (a || b) ≡ false → a ≡ false
-or_left true b h = h
-or_left false b h = refl
-
-or_right : (a b : Bool) → (a || b) ≡ false → b ≡ false
-or_right true b h = cc
-or_right false b h = h
-
 -- an id without `)` and a quote in front stands as it is
 plain_read : (id : List ℕ) → is_message_id id ≡ true → wants_quotes id ≡ false → id_text id ≡ Some id
 plain_read [] is e = absurd (cc)
 plain_read (first ∷ more) is e =
-    let quote : starts_with nat_eq (first ∷ more) (34 ∷ []) ≡ false = or_right (has_parenthesis (first ∷ more)) _ e in
+    let apart = or_parts (has_parenthesis (first ∷ more)) _ e in
+    let quote : starts_with nat_eq (first ∷ more) (34 ∷ []) ≡ false = apart.1 in
     let other : (first == 34) ≡ false = grind (arith, nat_tests) in
     ap (λ b. cond b (unquoted more) (cond (has_parenthesis (first ∷ more)) None (Some (first ∷ more)))) other
-    ∙ ap (λ b. cond b None (Some (first ∷ more))) (or_left (has_parenthesis (first ∷ more)) _ e)
+    ∙ ap (λ b. cond b None (Some (first ∷ more))) apart.0
 
 -- the text of an id is read as it was written
 written_read : (id : List ℕ) → is_message_id id ≡ true → id_text (written_id id) ≡ Some id

@@ -1,9 +1,9 @@
--- Where a text in parentheses may be cut. For the proof of `inside`.
-use Rattle.std.proofs.Common.{◌≡◌, ℕ, ◌-◌, ◌==◌, ◌&&◌, ◌<◌, ◌≤◌, true, nat_le, List, length, slice_index, arith}
+-- Where a text in parentheses may be cut.
+use Rattle.std.proofs.Common.{◌≡◌, ℕ, ◌==◌, ◌&&◌, ◌<◌, ◌≤◌, true, nat_le, List, length, slice_index, arith}
 use Rattle.std.specs.Str.{IsUtf8, IsCharBoundary}
 use Rattle.std.proofs.lemmas.Bool.{and_parts}
 use Rattle.std.proofs.lemmas.Bool.Decides.{nat_tests}
-use Rattle.std.proofs.lemmas.Str.{IsCharBoundary-after_ascii, IsCharBoundary-before_ascii}
+use Rattle.std.proofs.lemmas.Str.{IsCharBoundary-after_ascii}
 use Rattle.nm_answer.specs.Sup.{is_in_parentheses}
 
 -- it has two bytes at least
@@ -19,11 +19,3 @@ cut_after_first text u e =
     let long = two_bytes text e in
     let low : slice_index text 0 < 128 = grind (arith, nat_tests) in
     IsCharBoundary-after_ascii text 0 u (omega arith) low
-
--- before the closing one
-pub cut_before : (text : List ℕ) → is_in_parentheses text ≡ true → IsCharBoundary text (length text - 1)
-cut_before text e =
-    let last = (and_parts (nat_le 2 (length text) && slice_index text 0 == 40) _ e).1 in
-    let long = two_bytes text e in
-    let low : slice_index text (length text - 1) < 128 = grind (arith, nat_tests) in
-    IsCharBoundary-before_ascii text (length text - 1) (omega arith) low

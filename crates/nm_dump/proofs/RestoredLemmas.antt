@@ -1,6 +1,8 @@
 -- What a restore comes to: line by line, each message has what the lines so far say of it.
 -- For the proof of `a_restore_sets_the_tags_of_each_message`.
 use Rattle.std.proofs.Common.{◌≡◌, ℕ, ℤ, Bool, true, false, not, ◌||◌, ◌&&◌, cond, List, [], ◌∷◌, filter, fold, map, refl, sym, ap, ◌∙◌, IsTrue}
+use Rattle.std.proofs.Math.Bool.{and-false, and-true}
+use Rattle.std.proofs.lemmas.Bool.{or_parts}
 use Rattle.std.specs.Cmp.Lexicographic as lexicographic
 use Rattle.std.specs.Cmp.Lexicographic.{nat_list_eq_equiv}
 use Rattle.nm_answer.specs.Matches.{is_match}
@@ -22,31 +24,15 @@ use Rattle.nm_tags.specs.declared.wanted.Wanted.{Wanted}
 abbrev Texts : Type 0
 Texts = List (List ℕ)
 
--- texts that are told to be the same are
-one_text : (a b : List ℕ) → same_text a b ≡ true → a ≡ b
-one_text a b h = lexicographic.same_text a b (sym h)
-
 same_swap : (a b : List ℕ) → same_text a b ≡ same_text b a
 same_swap a b = nat_list_eq_equiv.symm a b
-
-neither : (a b : Bool) → (a || b) ≡ false → (a ≡ false) × (b ≡ false)
-neither true b h = absurd (cc)
-neither false b h = (refl, h)
-
-and_false : (a : Bool) → (a && false) ≡ false
-and_false true = refl
-and_false false = refl
-
-and_true : (a : Bool) → (a && true) ≡ a
-and_true true = refl
-and_true false = refl
 
 -- a filter has a text where the list has it and it is kept
 kept_by : (keep : List ℕ → Bool) (x p : List ℕ) (xs : Texts) (b c : Bool) → keep x ≡ b → same_text p x ≡ c → has_text (filter keep xs) p ≡ (has_text xs p && keep p)
     → has_text (cond b (x ∷ filter keep xs) (filter keep xs)) p ≡ ((c || has_text xs p) && keep p)
-kept_by keep x p xs true true e d h = ap (λ t. t || has_text (filter keep xs) p) d ∙ sym (ap keep (one_text p x d) ∙ e)
+kept_by keep x p xs true true e d h = ap (λ t. t || has_text (filter keep xs) p) d ∙ sym (ap keep (lexicographic.same_text p x (sym d)) ∙ e)
 kept_by keep x p xs true false e d h = ap (λ t. t || has_text (filter keep xs) p) d ∙ h
-kept_by keep x p xs false true e d h = h ∙ (ap (λ t. has_text xs p && t) (ap keep (one_text p x d) ∙ e) ∙ (and_false (has_text xs p) ∙ sym (ap keep (one_text p x d) ∙ e)))
+kept_by keep x p xs false true e d h = h ∙ (ap (λ t. has_text xs p && t) (ap keep (lexicographic.same_text p x (sym d)) ∙ e) ∙ (and-false (has_text xs p) ∙ sym (ap keep (lexicographic.same_text p x (sym d)) ∙ e)))
 kept_by keep x p xs false false e d h = h
 
 filter_has : (keep : List ℕ → Bool) (texts : Texts) (p : List ℕ) → has_text (filter keep texts) p ≡ (has_text texts p && keep p)
@@ -58,7 +44,7 @@ passes-Id : (id : List ℕ) (message : View) (moment : ℤ) → passes (Id id) m
 passes-Id id message moment = ap (λ q. passes q message moment) (sym (rolls-Id id)) ∙ fold-roll-Query Bool (node_passes message moment) (Query-F.Id id)
 
 match-Id : (id : List ℕ) (message : View) (moment : ℤ) → is_match (Id id) moment false message ≡ same_text id message.id
-match-Id id message moment = and_true (passes (Id id) message moment) ∙ passes-Id id message moment
+match-Id id message moment = and-true (passes (Id id) message moment) ∙ passes-Id id message moment
 
 -- the line of an id finds the live message of that id, and no other
 found_is : (accumulate : Bool) (moment : ℤ) (index : Base) (line : Bool × Wanted) (id : List ℕ)
@@ -98,14 +84,14 @@ module _ (found : (moment : ℤ) (index : Base) (line : Tagging) (id : List ℕ)
       → tags_of (wanted_by moment index (lines_after accumulate named (line ∷ lines))) id ≡ after_lines (cond b (line ∷ lines_naming lines id) (lines_naming lines id)) (begun_with (not (has_text named id) && (not accumulate && (b || is_named_in lines id))) (tags_of index id))
   step_by accumulate moment index named line lines id true is live more =
       let asked : Tagging = restoring_of accumulate (not (has_text named line.id), line) in
-      let one : id ≡ line.id = one_text id line.id is in
+      let one : id ≡ line.id = lexicographic.same_text id line.id (sym is) in
       let here : has_text (found_by moment index asked) id ≡ true =
       found_is accumulate moment index (not (has_text named line.id), line) id ∙ (ap (λ (t : Bool). t && same_text id line.id) live ∙ is) in
       more
       ∙ (ap (λ (t : Bool). after_lines (lines_naming lines id) (begun_with (not (t || has_text named id) && (not accumulate && is_named_in lines id)) (tags_of (wanted_after moment index asked) id))) is
       ∙ (ap (after_lines (lines_naming lines id)) (found moment index asked id here)
       ∙ (ap (λ (x : List ℕ). after_lines (lines_naming lines id) (after_ops (begun_with (not (has_text named x) && not accumulate) (tags_of index id)) line.ops)) (sym one)
-      ∙ ap (λ (t : Bool). after_lines (lines_naming lines id) (after_ops (begun_with (not (has_text named id) && t) (tags_of index id)) line.ops)) (sym (and_true (not accumulate))))))
+      ∙ ap (λ (t : Bool). after_lines (lines_naming lines id) (after_ops (begun_with (not (has_text named id) && t) (tags_of index id)) line.ops)) (sym (and-true (not accumulate))))))
   step_by accumulate moment index named line lines id false is live more =
       let asked : Tagging = restoring_of accumulate (not (has_text named line.id), line) in
       let none : has_text (found_by moment index asked) id ≡ false =
@@ -118,7 +104,7 @@ module _ (found : (moment : ℤ) (index : Base) (line : Tagging) (id : List ℕ)
   restored_after : (accumulate : Bool) (moment : ℤ) (index : Base) (named : Texts) (lines : List Wanted) (id : List ℕ) → is_live index id ≡ true
       → tags_of (wanted_by moment index (lines_after accumulate named lines)) id ≡ after_lines (lines_naming lines id) (begun_with (clears accumulate named lines id) (tags_of index id))
   restored_after accumulate moment index named [] id live =
-      ap (λ (t : Bool). begun_with t (tags_of index id)) (sym (ap (λ (t : Bool). not (has_text named id) && t) (and_false (not accumulate)) ∙ and_false (not (has_text named id))))
+      ap (λ (t : Bool). begun_with t (tags_of index id)) (sym (ap (λ (t : Bool). not (has_text named id) && t) (and-false (not accumulate)) ∙ and-false (not (has_text named id))))
   restored_after accumulate moment index named (line ∷ lines) id live =
       let asked : Tagging = restoring_of accumulate (not (has_text named line.id), line) in
       step_by accumulate moment index named line lines id (same_text id line.id) refl live
@@ -141,9 +127,9 @@ module _ (found : (moment : ℤ) (index : Base) (line : Tagging) (id : List ℕ)
   not_named accumulate moment index named [] id none = refl
   not_named accumulate moment index named (line ∷ lines) id none =
       let asked : Tagging = restoring_of accumulate (not (has_text named line.id), line) in
-      let apart = neither (same_text id line.id) (is_named_in lines id) none in
+      let apart = or_parts (same_text id line.id) (is_named_in lines id) none in
       ap (λ (b : Bool). b || is_found moment (wanted_after moment index asked) (lines_after accumulate (line.id ∷ named) lines) id)
-      (found_is accumulate moment index (not (has_text named line.id), line) id ∙ (ap (λ (b : Bool). is_live index id && b) apart.0 ∙ and_false (is_live index id)))
+      (found_is accumulate moment index (not (has_text named line.id), line) id ∙ (ap (λ (b : Bool). is_live index id && b) apart.0 ∙ and-false (is_live index id)))
       ∙ not_named accumulate moment (wanted_after moment index asked) (line.id ∷ named) lines id apart.1
 
   module _ (kept : (moment : ℤ) (index : Base) (lines : List Tagging) (id : List ℕ) → is_found moment index lines id ≡ false → tags_of (wanted_by moment index lines) id ≡ tags_of index id) where

@@ -2,7 +2,7 @@
 use Rattle.std.proofs.Common.{◌≡◌, ℕ, zero, suc, ◌+◌, ◌-◌, ◌≤◌, ◌==◌, ◌&&◌, nat_le, true, false, List, [], ◌∷◌, ◌++◌, length, map, slice_index, take, drop, codes, refl, ap, ◌∙◌, arith, append_assoc, cond, Some, None, Ok, Err}
 use Rattle.std.specs.List.{before_first, join_with_byte, list_all, position_or_len, prefix_len, AllByRecursion}
 use Rattle.std.specs.Str.{is_utf8, IsUtf8}
-use Rattle.std.proofs.lemmas.Bool.{and_parts}
+use Rattle.std.proofs.lemmas.Bool.{and_from, and_parts, not-true}
 use Rattle.std.proofs.lemmas.Bool.Decides.{nat_tests}
 use Rattle.std.proofs.lemmas.List.{length-append, take_all}
 use Rattle.std.proofs.Math.Seq.{drop-length, get_or-append_seam, take-append_seam}
@@ -21,14 +21,14 @@ use Rattle.nm_dump.specs.Tags.{set_tag, AreTags}
 use Rattle.nm_dump.specs.ReadBack.{wanted_from, without_spaces, AreFitForSup, AreMessages}
 use Rattle.nm_answer.specs.DumpReading.{is_passed_over, read_dump}
 use Rattle.nm_answer.specs.Sup.{inside, is_in_parentheses, read_sup, set_all, set_before, sup_asked, with_tags}
-use Rattle.nm_dump.proofs.ByteLemmas.{append_all, ascii_from_low, both, dark_inner, id_dark, is_dark, is_false, is_inner, weaker}
+use Rattle.nm_dump.proofs.ByteLemmas.{append_all, ascii_from_low, dark_inner, id_dark, is_dark, is_inner, weaker}
 use Rattle.nm_dump.proofs.TagLineLemmas.{after_is, first_is}
 use Rattle.nm_dump.proofs.WholeLemmas.{classified_by, messages_read, IsReadBack}
 
 -- ---- texts that begin with an id or a tag
 
 dark_light : (b : ℕ) → is_dark b ≡ true → is_white_space b ≡ false
-dark_light b h = is_false (is_white_space b) h
+dark_light b h = not-true (is_white_space b) h
 
 -- no white space stands before a byte that is none
 no_space_first : (b : ℕ) (more : List ℕ) → is_white_space b ≡ false → trimmed_start (b ∷ more) ≡ b ∷ more
@@ -143,7 +143,7 @@ inside_is text =
     let last : slice_index whole (length whole - 1) ≡ 41 = ap (slice_index whole) place ∙ get_or-append_seam front 41 [] 0 in
     let closes : (slice_index whole (length whole - 1) == 41) ≡ true = grind (arith, nat_tests) in
     let stands : is_in_parentheses whole ≡ true =
-    both (nat_le 2 (length whole) && slice_index whole 0 == 40) _ (both (nat_le 2 (length whole)) (slice_index whole 0 == 40) long refl) closes in
+    and_from (nat_le 2 (length whole) && slice_index whole 0 == 40) _ (and_from (nat_le 2 (length whole)) (slice_index whole 0 == 40) long refl) closes in
     ap (λ b. cond b (Some (take (length whole - 1 - 1) (text ++ 41 ∷ []))) None) stands
     ∙ (ap (λ n. Some (take n (text ++ 41 ∷ []))) count ∙ ap Some (take-append_seam text (41 ∷ [])))
 

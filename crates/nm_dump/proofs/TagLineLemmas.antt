@@ -2,7 +2,7 @@
 use Rattle.std.proofs.Common.{◌≡◌, ℕ, zero, suc, ◌+◌, ◌-◌, ◌≤◌, true, List, [], ◌∷◌, ◌++◌, length, take, drop, map, slice_index, codes, refl, ap, ◌∙◌, arith, append_assoc, cond, Option, Some, None, Ok, Err}
 use Rattle.std.specs.List.{flat_map, before_first, list_all, position_or_len, suffix_len}
 use Rattle.std.specs.Str.{is_utf8}
-use Rattle.std.proofs.lemmas.Bool.{and_parts}
+use Rattle.std.proofs.lemmas.Bool.{and_parts, not-true}
 use Rattle.std.proofs.lemmas.List.{length-append, take_all}
 use Rattle.std.proofs.lemmas.List.Sums.{suffix_len_is}
 use Rattle.std.proofs.Math.Seq.{take-append_seam, drop-append_seam}
@@ -20,7 +20,7 @@ use Rattle.nm_tags.specs.declared.line_error.LineKind.TheVariants as kinds
 use Rattle.nm_answer.specs.BatchTag.{id_of_query, read_batch_tag, with_id}
 use Rattle.nm_answer.specs.Dump.{changes_line, written_id, written_tag}
 use Rattle.nm_dump.specs.Tags.{set_tag, AreTags}
-use Rattle.nm_dump.proofs.ByteLemmas.{holds_at, is_dark, is_false, tag_dark, written_id_dark}
+use Rattle.nm_dump.proofs.ByteLemmas.{holds_at, is_dark, tag_dark, written_id_dark}
 use Rattle.nm_dump.proofs.IdLemmas.{id_read}
 
 -- dark bytes go up to the white space after them
@@ -103,7 +103,7 @@ end_stays text h =
     let n = length text in
     let dark : is_dark (slice_index text (n - 1)) ≡ true = holds_at is_dark text (n - 1) refl h in
     let none : suffix_len is_white_space text ≡ n - n =
-    suffix_len_is is_white_space text n 0 (omega arith) (λ k low high. absurd (omega arith)) (λ some. is_false (is_white_space (slice_index text (n - 1))) dark) in
+    suffix_len_is is_white_space text n 0 (omega arith) (λ k low high. absurd (omega arith)) (λ some. not-true (is_white_space (slice_index text (n - 1))) dark) in
     ap (λ s. take (n - s) text) none ∙ take_all (n - (n - n)) text (omega arith)
 
 -- a line of tag changes is read as it was written
