@@ -1,6 +1,7 @@
 -- Words ask for what the grammar says, and else the word is at fault that it says.
 -- For the proofs of `a_request_that_is_written_out_is_read_back`, `words_are_read_as_the_grammar_says` and `words_have_one_answer`.
 use Rattle.std.proofs.Common.{◌≡◌, ◌⊎◌, inl, inr, ℕ, Bool, true, false, cond, List, [], ◌∷◌, refl, sym, ap, subst, ◌∙◌}
+use Rattle.std.proofs.lemmas.Bool.{and_parts}
 use Rattle.std.specs.Prelude.{Some, None, Result, Ok, Err}
 use Rattle.nm_base.specs.declared.refusals.UsageKind.{UsageKind}
 use Rattle.nm_base.specs.declared.refusals.UsageKind.TheVariants as kinds
@@ -19,7 +20,6 @@ use Rattle.nm_command.specs.declared.settings.Settings.{Settings}
 use Rattle.nm_command.specs.declared.table.CommandName.{CommandName}
 use Rattle.nm_command.specs.declared.table.CommandName.TheVariants.{Count, Dump, New, Restore, Search, Session, Show, Tag}
 use Rattle.nm_command.proofs.ReadingLemmas.{IsRead, fault-read, has-read, read-is}
-use Rattle.nm_command.proofs.RowLemmas.{and-left}
 use Rattle.nm_command.proofs.TagLemmas.{IsAsked, asked-is, batch-by, has-asked, query-asked, read-change, tag-refused, untagged}
 
 -- what is answered, by the grammar
@@ -73,7 +73,7 @@ batch-is name words settings (word ∷ more) found has batch =
     elim (is_tag_word word) as (λ v. is_tag_word word ≡ v → IsAnswer (name ∷ words) (cond v (refused word (batch_fault (op_of word)))
     (without_words kinds.Clash (requests.Tag (tag_ask settings [] [])) (query_words (word ∷ more))))) [
       | true ↦ λ is. (elim (op_of word) as (λ op. op_of word ≡ op → IsRefused (name ∷ words) word (batch_fault op)) [
-        | Some op ↦ λ says. tag-faulty name words settings (word ∷ more) found has true batch word kinds.Clash (a_change_too_many word op more (read-change word op (and-left _ _ is) says))
+        | Some op ↦ λ says. tag-faulty name words settings (word ∷ more) found has true batch word kinds.Clash (a_change_too_many word op more (read-change word op (and_parts _ _ is).0 says))
         | None ↦ λ says. tag-faulty name words settings (word ∷ more) found has true batch word kinds.Tag (untagged true word more is says)
       ] refl)
       | false ↦ λ other. batch-query name words settings (word ∷ more) found has batch (query_words (word ∷ more)) (query-asked word more other)

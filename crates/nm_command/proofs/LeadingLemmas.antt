@@ -1,13 +1,12 @@
 -- Leading options: what is written is cut again at its first `=`, and a name that stands twice is found.
--- For the proofs of `leading_options_are_read_as_written` and `leading_words_are_refused`.
-use Rattle.std.proofs.Common.{◌≡◌, ℕ, ◌++◌, Bool, true, false, cond, ◌&&◌, not, List, [], ◌∷◌, length, map, refl, sym, ap, ◌∙◌, arith}
-use Rattle.std.specs.Prelude.{ℤ, pos, negsuc, Option, Some, None, Result, Ok, Err, codes, is_some, nat_eq, nat_le, nat_lt}
+use Rattle.std.proofs.Common.{◌≡◌, ℕ, ◌++◌, Bool, true, false, cond, ◌&&◌, not, List, [], ◌∷◌, length, map, refl, sym, ap, ◌∙◌}
+use Rattle.std.specs.Prelude.{ℤ, pos, negsuc, Option, Some, None, Result, Ok, Err, codes, is_some, nat_le, nat_lt}
 use Rattle.std.specs.Cmp.Lexicographic.{nat_list_eq_equiv}
 use Rattle.std.specs.Fmt.{decimal}
 use Rattle.std.specs.List.{before_first, list_all, take_while}
 use Rattle.std.specs.Option.{option_and_then}
-use Rattle.std.proofs.lemmas.Bool.Decides.{nat_tests}
 use Rattle.std.proofs.lemmas.List.Sums.{take_while-cons}
+use Rattle.std.proofs.lemmas.Bool.{and_from, and_left, and_parts, and_right, eqb-true, not-true}
 use Rattle.nm_base.specs.Order.{same_text}
 use Rattle.nm_text.specs.Cuts.{is_byte}
 use Rattle.nm_command.specs.Leading.{are_distinct, are_options, cut_option, is_command, is_option, leading_of, may_be, options_in, told_by}
@@ -21,7 +20,7 @@ use Rattle.nm_command.specs.declared.leading.HeadError.TheVariants.{Usage}
 use Rattle.nm_command.specs.declared.leading.Leading.{Leading}
 use Rattle.nm_command.proofs.NameLemmas.{is_name, name-cut, name-dashes_on, name-lacks, value-cut}
 use Rattle.nm_command.proofs.NumberLemmas.{moment-back, workers-back}
-use Rattle.nm_command.proofs.RowLemmas.{AllRows, and-left, and-right, both, row-holds}
+use Rattle.nm_command.proofs.RowLemmas.{AllRows, row-holds}
 
 -- the names of the options have dashes and no `=`
 all_names : AllRows (λ name form. is_name name ≡ true) leading_options
@@ -55,19 +54,15 @@ none-more [] h = refl
 none-more (word ∷ words) h =
     ap (map cut_option) (take_while-cons begins_with_dashes word words)
     ∙ ap (λ v. map cut_option (cond v (word ∷ take_while begins_with_dashes words) [])) (not-true (begins_with_dashes word) h)
-  where
-    not-true : (v : Bool) → not v ≡ true → v ≡ false
-    not-true true h = sym h
-    not-true false h = refl
 
 written-back : (options : List (List ℕ × List ℕ)) (words : List (List ℕ)) → list_all is_option options ≡ true → is_command words ≡ true →
     options_in (in_words options ++ words) ≡ options
 written-back [] words good command = none-more words command
 written-back (written ∷ more) words good command =
-    let is = and-left (is_option written) (list_all is_option more) good in
+    let is = (and_parts (is_option written) (list_all is_option more) good).0 in
     one-more (option written.0 written.1) (in_words more ++ words) (good-dashes written is)
     ∙ ap (λ first. first ∷ options_in (in_words more ++ words)) (good-cut written is)
-    ∙ ap (λ rest. written ∷ rest) (written-back more words (and-right (is_option written) (list_all is_option more) good) command)
+    ∙ ap (λ rest. written ∷ rest) (written-back more words (and_parts (is_option written) (list_all is_option more) good).1 command)
 
 abbrev answer : List (List ℕ × List ℕ) → Bool → Result Leading HeadError
 answer options good = cond good (Ok (told_by options)) (Err Usage)
@@ -75,7 +70,7 @@ answer options good = cond good (Ok (told_by options)) (Err Usage)
 pub options-told : (options : List (List ℕ × List ℕ)) (words : List (List ℕ)) → are_options options ≡ true → is_command words ≡ true →
     leading_of (in_words options ++ words) ≡ Ok (told_by options)
 options-told options words good command =
-    ap (λ options. answer options (are_options options)) (written-back options words (and-left (list_all is_option options) (are_distinct options) good) command)
+    ap (λ options. answer options (are_options options)) (written-back options words (and_parts (list_all is_option options) (are_distinct options) good).0 command)
     ∙ ap (answer options) good
 
 -- what these options can say
@@ -87,18 +82,21 @@ record IsTold (leading : Leading) : Type 0 where
   moment : moment_fits leading.moment ≡ true
   rest : leading.rest ≡ length (leading_spelled leading)
 
-is_same : (m n : ℕ) → nat_eq m n ≡ true → m ≡ n
-is_same m n h = grind (arith, nat_tests)
-
 is-told : (leading : Leading) → can_be_told leading ≡ true → IsTold leading
-is-told leading h = record {
-  mail = and-left _ _ (and-left _ _ (and-left _ _ (and-left _ _ (and-left _ _ h))));
-  index = and-right _ _ (and-left _ _ (and-left _ _ (and-left _ _ (and-left _ _ h))));
-  some = and-right _ _ (and-left _ _ (and-left _ _ (and-left _ _ h)));
-  few = and-right _ _ (and-left _ _ (and-left _ _ h));
-  moment = and-right _ _ (and-left _ _ h);
-  rest = is_same leading.rest (length (leading_spelled leading)) (and-right _ _ h);
-}
+is-told leading h =
+    let rest = and_parts _ _ h in
+    let moment = and_parts _ _ rest.0 in
+    let few = and_parts _ _ moment.0 in
+    let some = and_parts _ _ few.0 in
+    let texts = and_parts _ _ some.0 in
+    record {
+      mail = texts.0;
+      index = texts.1;
+      some = some.1;
+      few = few.1;
+      moment = moment.1;
+      rest = eqb-true leading.rest (length (leading_spelled leading)) rest.1;
+    }
 
 moment-good : (moment : Option ℤ) → moment_fits moment ≡ true → list_all is_option (moment_options moment) ≡ true
 moment-good None h = refl
@@ -120,8 +118,8 @@ spelled-distinct mail index workers (Some (negsuc second)) = refl
 spelled-good : (leading : Leading) → IsTold leading → are_options (leading_spelled leading) ≡ true
 spelled-good leading is =
     let workers : is_some (workers_in (decimal leading.workers)) ≡ true = ap is_some (workers-back leading.workers is.some is.few) in
-    both (list_all is_option (leading_spelled leading)) (are_distinct (leading_spelled leading))
-    (both _ _ is.mail (both _ _ is.index (both _ _ workers (moment-good leading.moment is.moment))))
+    and_from (list_all is_option (leading_spelled leading)) (are_distinct (leading_spelled leading))
+    (and_from _ _ is.mail (and_from _ _ is.index (and_from _ _ workers (moment-good leading.moment is.moment))))
     (spelled-distinct leading.mail leading.index (decimal leading.workers) leading.moment)
 
 spelled-told : (leading : Leading) → IsTold leading → told_by (leading_spelled leading) ≡ leading
@@ -140,8 +138,8 @@ leading-back leading words h command =
 front-options : (front words : List (List ℕ)) → list_all begins_with_dashes front ≡ true → options_in (front ++ words) ≡ map cut_option front ++ options_in words
 front-options [] words h = refl
 front-options (word ∷ front) words h =
-    one-more word (front ++ words) (and-left (begins_with_dashes word) (list_all begins_with_dashes front) h)
-    ∙ ap (λ rest. cut_option word ∷ rest) (front-options front words (and-right (begins_with_dashes word) (list_all begins_with_dashes front) h))
+    one-more word (front ++ words) (and_parts (begins_with_dashes word) (list_all begins_with_dashes front) h).0
+    ∙ ap (λ rest. cut_option word ∷ rest) (front-options front words (and_parts (begins_with_dashes word) (list_all begins_with_dashes front) h).1)
 
 front-then : (front : List (List ℕ)) (word : List ℕ) (words : List (List ℕ)) → list_all begins_with_dashes front ≡ true → begins_with_dashes word ≡ true →
     options_in (front ++ word ∷ words) ≡ map cut_option front ++ cut_option word ∷ options_in words
@@ -151,24 +149,17 @@ front-then front word words all begins =
 refused-so : (words : List (List ℕ)) (options : List (List ℕ × List ℕ)) → options_in words ≡ options → are_options options ≡ false → leading_of words ≡ Err Usage
 refused-so words options is bad = ap (λ options. answer options (are_options options)) is ∙ ap (answer options) bad
 
-right-false : (a b : Bool) → b ≡ false → (a && b) ≡ false
-right-false true b h = h
-right-false false b h = refl
-
-left-false : (a b : Bool) → a ≡ false → (a && b) ≡ false
-left-false a b h = ap (λ v. v && b) h
-
 -- an option that is none of them
 bad-found : (front : List (List ℕ × List ℕ)) (written : List ℕ × List ℕ) (rest : List (List ℕ × List ℕ)) → is_option written ≡ false → list_all is_option (front ++ written ∷ rest) ≡ false
-bad-found [] written rest h = left-false (is_option written) (list_all is_option rest) h
-bad-found (first ∷ front) written rest h = right-false (is_option first) (list_all is_option (front ++ written ∷ rest)) (bad-found front written rest h)
+bad-found [] written rest h = and_left (is_option written) (list_all is_option rest) h
+bad-found (first ∷ front) written rest h = and_right (is_option first) (list_all is_option (front ++ written ∷ rest)) (bad-found front written rest h)
 
 pub word-refused : (before : List (List ℕ)) (word : List ℕ) (after : List (List ℕ)) → list_all begins_with_dashes before ≡ true → begins_with_dashes word ≡ true →
     is_option (cut_option word) ≡ false → leading_of (before ++ word ∷ after) ≡ Err Usage
 word-refused before word after all begins bad =
     let options = map cut_option before ++ cut_option word ∷ options_in after in
     refused-so (before ++ word ∷ after) options (front-then before word after all begins)
-    (left-false (list_all is_option options) (are_distinct options) (bad-found (map cut_option before) (cut_option word) (options_in after) bad))
+    (and_left (list_all is_option options) (are_distinct options) (bad-found (map cut_option before) (cut_option word) (options_in after) bad))
 
 -- a name that stands further on is found there
 found-later : (name : List ℕ) (between : List (List ℕ × List ℕ)) (other : List ℕ × List ℕ) (rest : List (List ℕ × List ℕ)) → name ≡ other.0 →
@@ -186,7 +177,7 @@ twice-found : (before : List (List ℕ × List ℕ)) (written : List ℕ × List
 twice-found [] written between other rest same =
     ap (λ v. not v && are_distinct (between ++ other ∷ rest)) (found-later written.0 between other rest same)
 twice-found (first ∷ before) written between other rest same =
-    right-false (not (is_some (meaning_of first.0 (before ++ written ∷ (between ++ other ∷ rest))))) (are_distinct (before ++ written ∷ (between ++ other ∷ rest)))
+    and_right (not (is_some (meaning_of first.0 (before ++ written ∷ (between ++ other ∷ rest))))) (are_distinct (before ++ written ∷ (between ++ other ∷ rest)))
     (twice-found before written between other rest same)
 
 map-both : (before : List (List ℕ)) (word : List ℕ) (between : List (List ℕ)) (rest : List (List ℕ × List ℕ)) →
@@ -201,5 +192,5 @@ repeated-refused before word between other after all begins same =
     let options = map cut_option before ++ cut_option word ∷ (map cut_option between ++ cut_option other ∷ options_in after) in
     refused-so ((before ++ word ∷ between) ++ other ∷ after) options
     (front-then (before ++ word ∷ between) other after all begins ∙ map-both before word between (cut_option other ∷ options_in after))
-    (right-false (list_all is_option options) (are_distinct options)
+    (and_right (list_all is_option options) (are_distinct options)
     (twice-found (map cut_option before) (cut_option word) (map cut_option between) (cut_option other) (options_in after) same))

@@ -5,6 +5,8 @@ use Rattle.std.specs.List.{after_first, before_first, list_all, position_or_len}
 use Rattle.std.specs.Option.{option_map}
 use Rattle.std.proofs.lemmas.Bool.Decides.{nat_tests}
 use Rattle.std.proofs.lemmas.List.Sums.{passes_at_first, split_at_first}
+use Rattle.std.proofs.lemmas.Bool.{lt-ltb, ltb-true}
+use Rattle.std.proofs.lemmas.Option.{same_Some}
 use Rattle.nm_base.specs.Order.{same_text}
 use Rattle.nm_base.specs.declared.refusals.UsageKind.{UsageKind}
 use Rattle.nm_base.specs.declared.refusals.UsageKind.TheVariants as kinds
@@ -18,7 +20,7 @@ use Rattle.nm_command.specs.declared.settings.Settings.{Settings}
 use Rattle.nm_command.specs.declared.table.CommandName.{CommandName}
 use Rattle.nm_command.specs.declared.table.Form.{Form}
 use Rattle.nm_command.specs.declared.table.Form.TheVariants.{Flag, Number, OneOf}
-use Rattle.nm_command.proofs.NameLemmas.{cut-nowhere, cut-there, is_below, name-cut, name-dashes, name-dashes_on, name-found, name-lacks, name-more, name-more_on, value-cut}
+use Rattle.nm_command.proofs.NameLemmas.{cut-nowhere, cut-there, name-cut, name-dashes, name-dashes_on, name-found, name-lacks, name-more, name-more_on, value-cut}
 
 pub setting_of-cut : (command : CommandName) (word name value : List ℕ) (r : Result Setting UsageKind) → position_or_len (is_byte 61) word < length word →
     name ≡ before_first (is_byte 61) word → value ≡ after_first (is_byte 61) word →
@@ -28,7 +30,7 @@ setting_of-cut command word name value r within front back h =
     ∙ ap (λ (x : List ℕ). or_no_option (meaning_of x (options_of command)) (λ form. value_setting form value)) front
     ∙ ap (λ (x : List ℕ). or_no_option (meaning_of (before_first (is_byte 61) word) (options_of command)) (λ form. value_setting form x)) back
     ∙ ap (λ v. cond v (or_no_option (meaning_of (before_first (is_byte 61) word) (options_of command)) (λ form. value_setting form (after_first (is_byte 61) word)))
-    (or_no_option (meaning_of word (options_of command)) flag_setting)) (sym (is_below (position_or_len (is_byte 61) word) (length word) within))
+    (or_no_option (meaning_of word (options_of command)) flag_setting)) (sym (lt-ltb (position_or_len (is_byte 61) word) (length word) within))
 
 abbrev pub flagged : CommandName → List ℕ → Result Setting UsageKind
 flagged command word = or_no_option (meaning_of word (options_of command)) flag_setting
@@ -63,10 +65,7 @@ option-read command word setting (a_number _ name digits which number found told
 -- and what is read as an option, the grammar takes for one
 flag-option : (command : CommandName) (name : List ℕ) (setting : Setting) (form : Form) → meaning_of name (options_of command) ≡ Some form → flag_setting form ≡ Some setting →
     IsOption command name setting
-flag-option command name setting (Flag other) found told = a_flag command name setting (found ∙ ap (λ setting. Some (Flag setting)) (same other setting told))
-  where
-    same : (first second : Setting) → Some first ≡ Some second → first ≡ second
-    same first second h = cc
+flag-option command name setting (Flag other) found told = a_flag command name setting (found ∙ ap (λ setting. Some (Flag setting)) (same_Some other setting told))
 flag-option command name setting (OneOf which) found told = absurd (cc)
 flag-option command name setting (Number which) found told = absurd (cc)
 
@@ -74,10 +73,7 @@ number-option : (command : CommandName) (name digits : List ℕ) (which : _) (se
     (number : Option ℕ) → number_in digits ≡ number → option_map (number_setting which) number ≡ Some setting → IsOption command (name ++ 61 ∷ digits) setting
 number-option command name digits which setting found None is told = absurd (cc)
 number-option command name digits which setting found (Some number) is told =
-    subst (IsOption command (name ++ 61 ∷ digits)) (same (number_setting which number) setting told) (a_number command name digits which number found is)
-  where
-    same : (first second : Setting) → Some first ≡ Some second → first ≡ second
-    same first second h = cc
+    subst (IsOption command (name ++ 61 ∷ digits)) (same_Some (number_setting which number) setting told) (a_number command name digits which number found is)
 
 value-option : (command : CommandName) (name value : List ℕ) (setting : Setting) (form : Form) → meaning_of name (options_of command) ≡ Some form →
     value_setting form value ≡ Some setting → IsOption command (name ++ 61 ∷ value) setting
@@ -105,13 +101,10 @@ read-form command setting name sets whole is h =
 -- a word with an `=` is its name, that, and its value
 cut-word : (word : List ℕ) → nat_lt (position_or_len (is_byte 61) word) (length word) ≡ true → before_first (is_byte 61) word ++ 61 ∷ after_first (is_byte 61) word ≡ word
 cut-word word h =
-    let within = is_below-at (position_or_len (is_byte 61) word) (length word) h in
+    let within = ltb-true (position_or_len (is_byte 61) word) (length word) h in
     let there : get_or word (position_or_len (is_byte 61) word) 0 ≡ 61 = is_equals (get_or word (position_or_len (is_byte 61) word) 0) (passes_at_first (is_byte 61) word 0 within) in
     ap (λ b. before_first (is_byte 61) word ++ b ∷ after_first (is_byte 61) word) (sym there) ∙ sym (split_at_first (is_byte 61) word 0 within)
   where
-    is_below-at : (m n : ℕ) → nat_lt m n ≡ true → m < n
-    is_below-at m n h = grind (arith, nat_tests)
-
     is_equals : (b : ℕ) → is_byte 61 b ≡ true → b ≡ 61
     is_equals b h = grind (arith, nat_tests)
 

@@ -1,6 +1,8 @@
 -- What words ask for can be written out: its numbers fit, and `count` counts what it is asked to.
 -- For the proof of `a_request_that_is_written_out_is_read_back`.
 use Rattle.std.proofs.Common.{◌≡◌, ℕ, Bool, true, false, cond, ◌&&◌, List, [], ◌∷◌, refl, ap, subst, ◌∙◌}
+use Rattle.std.proofs.lemmas.Bool.{and_from, and_parts}
+use Rattle.std.proofs.lemmas.Option.{same_Some}
 use Rattle.std.specs.Prelude.{Option, Some, None, nat_le}
 use Rattle.std.specs.List.{list_all}
 use Rattle.std.specs.Str.Parse.{digits_value}
@@ -24,7 +26,7 @@ use Rattle.nm_command.specs.declared.table.Form.{Form}
 use Rattle.nm_command.specs.declared.table.Form.TheVariants.{Flag, Number, OneOf}
 use Rattle.nm_command.specs.declared.table.Numbered.{Numbered}
 use Rattle.nm_command.specs.declared.table.Numbered.TheVariants as numbers
-use Rattle.nm_command.proofs.RowLemmas.{AllRows, and-left, and-right, both, row-holds}
+use Rattle.nm_command.proofs.RowLemmas.{AllRows, row-holds}
 
 -- each command but `count` takes any output
 abbrev takes : CommandName → Output → Bool
@@ -72,12 +74,9 @@ all_fit Session = tt
 number-fits : (digits : List ℕ) (number : ℕ) → number_in digits ≡ Some number → fits number ≡ true
 number-fits digits number h =
     elim (is_number digits) as (λ v. is_number digits ≡ v → cond v (Some (digits_value 10 digits)) None ≡ Some number → fits number ≡ true) [
-      | true ↦ λ is h. subst (λ n. fits n ≡ true) (same (digits_value 10 digits) number h) (and-right (are_digits 10 digits) (nat_le (digits_value 10 digits) 4294967295) is)
+      | true ↦ λ is h. subst (λ n. fits n ≡ true) (same_Some (digits_value 10 digits) number h) (and_parts (are_digits 10 digits) (nat_le (digits_value 10 digits) 4294967295) is).1
       | false ↦ λ is h. absurd (cc)
     ] refl h
-  where
-    same : (first second : ℕ) → Some first ≡ Some second → first ≡ second
-    same first second h = cc
 
 number-setting-fits : (command : CommandName) (which : Numbered) (number : ℕ) → fits number ≡ true → setting_fits command (number_setting which number) ≡ true
 number-setting-fits command numbers.Offset number h = h
@@ -107,16 +106,16 @@ one-more-fits command settings (sets.Json json) h k = h
 one-more-fits command settings (sets.Raw raw) h k = h
 one-more-fits command settings (sets.DumpForm form) h k = h
 one-more-fits command settings (sets.ReadForm form) h k = h
-one-more-fits command settings (sets.Output output) h k = both (takes command output) (offset_fits settings.offset && limit_fits settings.limit) k (and-right (output_fits command settings.output) (offset_fits settings.offset && limit_fits settings.limit) h)
+one-more-fits command settings (sets.Output output) h k = and_from (takes command output) (offset_fits settings.offset && limit_fits settings.limit) k (and_parts (output_fits command settings.output) (offset_fits settings.offset && limit_fits settings.limit) h).1
 one-more-fits command settings (sets.Oldest oldest) h k = h
 one-more-fits command settings (sets.Offset offset) h k =
-    let numbers = and-right (output_fits command settings.output) (offset_fits settings.offset && limit_fits settings.limit) h in
-    both (output_fits command settings.output) (fits offset && limit_fits settings.limit) (and-left (output_fits command settings.output) (offset_fits settings.offset && limit_fits settings.limit) h)
-    (both (fits offset) (limit_fits settings.limit) k (and-right (offset_fits settings.offset) (limit_fits settings.limit) numbers))
+    let numbers = (and_parts (output_fits command settings.output) (offset_fits settings.offset && limit_fits settings.limit) h).1 in
+    and_from (output_fits command settings.output) (fits offset && limit_fits settings.limit) (and_parts (output_fits command settings.output) (offset_fits settings.offset && limit_fits settings.limit) h).0
+    (and_from (fits offset) (limit_fits settings.limit) k (and_parts (offset_fits settings.offset) (limit_fits settings.limit) numbers).1)
 one-more-fits command settings (sets.Limit limit) h k =
-    let numbers = and-right (output_fits command settings.output) (offset_fits settings.offset && limit_fits settings.limit) h in
-    both (output_fits command settings.output) (offset_fits settings.offset && fits limit) (and-left (output_fits command settings.output) (offset_fits settings.offset && limit_fits settings.limit) h)
-    (both (offset_fits settings.offset) (fits limit) (and-left (offset_fits settings.offset) (limit_fits settings.limit) numbers) k)
+    let numbers = (and_parts (output_fits command settings.output) (offset_fits settings.offset && limit_fits settings.limit) h).1 in
+    and_from (output_fits command settings.output) (offset_fits settings.offset && fits limit) (and_parts (output_fits command settings.output) (offset_fits settings.offset && limit_fits settings.limit) h).0
+    (and_from (offset_fits settings.offset) (fits limit) (and_parts (offset_fits settings.offset) (limit_fits settings.limit) numbers).0 k)
 one-more-fits command settings (sets.Exclude exclude) h k = h
 one-more-fits command settings sets.Batch h k = h
 one-more-fits command settings sets.Clear h k = h
@@ -144,8 +143,8 @@ output-told (Some o) h = h
 counted-fits : (settings : Settings) (query : List ℕ) → settings_fit Count settings ≡ true → lacks_query settings.batch query ≡ true →
     (is_counted (or_default settings.output output.Messages) && lacks_query settings.batch query) ≡ true
 counted-fits settings query h lacks =
-    both (is_counted (or_default settings.output output.Messages)) (lacks_query settings.batch query)
-    (output-told settings.output (and-left (output_fits Count settings.output) (offset_fits settings.offset && limit_fits settings.limit) h)) lacks
+    and_from (is_counted (or_default settings.output output.Messages)) (lacks_query settings.batch query)
+    (output-told settings.output (and_parts (output_fits Count settings.output) (offset_fits settings.offset && limit_fits settings.limit) h).0) lacks
 
 -- each change that words ask for is of a tag
 change-fits : (word : List ℕ) (op : TagOp) → IsChange word op → is_tag op.tag ≡ true
@@ -157,15 +156,15 @@ changes-fit words query ops nothing_left = refl
 changes-fit words query ops (query_after_dashes _) = refl
 changes-fit words query ops (query_at_once word more unsigned) = refl
 changes-fit words query ops (one_change word op more _ others is has) =
-    both (is_tag op.tag) (list_all (λ op. is_tag op.tag) others) (change-fits word op is) (changes-fit more query others has)
+    and_from (is_tag op.tag) (list_all (λ op. is_tag op.tag) others) (change-fits word op is) (changes-fit more query others has)
 
 pub request-fits : (words : List (List ℕ)) (request : Request) → IsRequest words request → can_be_asked request ≡ true
 request-fits words request (a_new name more settings found has) = refl
 request-fits words request (a_search name word more query settings found has) =
     let fit = options-fit Search nothing_set settings more (word ∷ query) has (nothing-fits Search) in
-    let numbers = and-right (output_fits Search settings.output) (offset_fits settings.offset && limit_fits settings.limit) fit in
-    both (fits (or_default settings.offset 0)) (limit_fits settings.limit) (offset-told settings.offset (and-left (offset_fits settings.offset) (limit_fits settings.limit) numbers))
-    (and-right (offset_fits settings.offset) (limit_fits settings.limit) numbers)
+    let numbers = (and_parts (output_fits Search settings.output) (offset_fits settings.offset && limit_fits settings.limit) fit).1 in
+    and_from (fits (or_default settings.offset 0)) (limit_fits settings.limit) (offset-told settings.offset (and_parts (offset_fits settings.offset) (limit_fits settings.limit) numbers).0)
+    (and_parts (offset_fits settings.offset) (limit_fits settings.limit) numbers).1
 request-fits words request (a_count name more query settings found has single) =
     counted-fits settings (query_of query) (options-fit Count nothing_set settings more query has (nothing-fits Count)) (ap (λ batch. lacks_query batch (query_of query)) single)
 request-fits words request (a_batch_count name more settings found has batch) =
@@ -173,7 +172,7 @@ request-fits words request (a_batch_count name more settings found has batch) =
 request-fits words request (a_show name word more query settings found has) = refl
 request-fits words request (a_tag name word more rest query settings ops found has single changes some) =
     ap (λ batch. are_changes settings.clear batch ops (query_of (word ∷ query))) single
-    ∙ both (changes_tags settings.clear ops) (list_all (λ op. is_tag op.tag) ops) some (changes-fit rest (word ∷ query) ops changes)
+    ∙ and_from (changes_tags settings.clear ops) (list_all (λ op. is_tag op.tag) ops) some (changes-fit rest (word ∷ query) ops changes)
 request-fits words request (a_batch_tag name more rest settings found has batch changes) = ap (λ batch. are_changes settings.clear batch [] []) batch
 request-fits words request (a_dump name more query settings found has) = refl
 request-fits words request (a_restore name more settings found has) = refl

@@ -1,6 +1,7 @@
 -- Two options of one name set the same, and two of different names do not; these may change places.
 -- For the proofs of `an_option_stands_once` and `options_may_change_places`.
 use Rattle.std.proofs.Common.{◌≡◌, ◌≢◌, ℕ, true, false, List, ◌∷◌, ◌++◌, refl, sym, ap, ◌∙◌, arith}
+use Rattle.std.proofs.lemmas.Option.{same_Some}
 use Rattle.std.specs.Prelude.{Some, codes}
 use Rattle.std.specs.List.{before_first}
 use Rattle.nm_text.specs.Cuts.{is_byte}
@@ -116,9 +117,6 @@ given-same settings sets.Clear sets.Clear h = refl
 given-same settings sets.Accumulate sets.Accumulate h = refl
 given-same settings first second h = absurd (omega (arith, h))
 
-same_form : (first second : Form) → Some first ≡ Some second → first ≡ second
-same_form first second h = cc
-
 pub repeated-given : (command : CommandName) (settings : Settings) (word other : List ℕ) (first second : Setting) → IsOption command word first → IsOption command other second →
     before_first (is_byte 61) word ≡ before_first (is_byte 61) other → is_given (with_setting settings first) second ≡ true
 repeated-given command settings word other first second one two same =
@@ -126,7 +124,7 @@ repeated-given command settings word other first second one two same =
     let other_form = option-form command other second two in
     given-same settings first second
     (form.sets
-    ∙ ap form_field (same_form form.form other_form.form (sym form.found ∙ ap (λ name. meaning_of name (options_of command)) same ∙ other_form.found))
+    ∙ ap form_field (same_Some form.form other_form.form (sym form.found ∙ ap (λ name. meaning_of name (options_of command)) same ∙ other_form.found))
     ∙ sym other_form.sets)
 
 -- the name of the option that sets it

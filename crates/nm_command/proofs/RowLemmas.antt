@@ -1,21 +1,10 @@
 -- What all rows of a table keep, and what a word that is found there keeps.
--- For `AnswerLemmas`, `DefaultLemmas`, `LeadingLemmas` and others.
-use Rattle.std.proofs.Common.{◌≡◌, ℕ, Bool, true, false, cond, ◌&&◌, List, [], ◌∷◌, refl, sym, ap, subst, ◌∙◌}
+use Rattle.std.proofs.Common.{◌≡◌, ℕ, true, false, cond, List, [], ◌∷◌, refl, sym, subst}
+use Rattle.std.proofs.lemmas.Option.{same_Some}
 use Rattle.std.specs.Prelude.{Some}
 use Rattle.std.specs.Cmp.Lexicographic.{same_text as text_is}
 use Rattle.nm_base.specs.Order.{same_text}
 use Rattle.nm_command.specs.Table.{meaning_of}
-
-pub and-left : (a b : Bool) → (a && b) ≡ true → a ≡ true
-and-left true b h = refl
-and-left false b h = h
-
-pub and-right : (a b : Bool) → (a && b) ≡ true → b ≡ true
-and-right true b h = h
-and-right false b h = absurd (cc)
-
-pub both : (a b : Bool) → a ≡ true → b ≡ true → (a && b) ≡ true
-both a b h k = ap (λ v. v && b) h ∙ k
 
 -- each row is such a pair
 abbrev pub AllRows : {A : Type 0} → (List ℕ → A → Type 0) → List (List ℕ × A) → Type 0
@@ -24,11 +13,8 @@ AllRows P (row ∷ more) = P row.0 row.1 × AllRows P more
 
 pub row-holds : {A : Type 0} (P : List ℕ → A → Type 0) (rows : List (List ℕ × A)) (word : List ℕ) (value : A) → AllRows P rows → meaning_of word rows ≡ Some value → P word value
 row-holds P [] word value all is = absurd (cc)
-row-holds {A = A} P (row ∷ more) word value all is =
+row-holds P (row ∷ more) word value all is =
     elim (same_text row.0 word) as (λ v. same_text row.0 word ≡ v → cond v (Some row.1) (meaning_of word more) ≡ Some value → P word value) [
-      | true ↦ λ same is. subst (λ word. P word value) (text_is row.0 word (sym same)) (subst (P row.0) (same_value row.1 value is) all.0)
+      | true ↦ λ same is. subst (λ word. P word value) (text_is row.0 word (sym same)) (subst (P row.0) (same_Some row.1 value is) all.0)
       | false ↦ λ other is. row-holds P more word value all.1 is
     ] refl is
-  where
-    same_value : (first second : A) → Some first ≡ Some second → first ≡ second
-    same_value first second h = cc

@@ -1,6 +1,7 @@
 -- A request whose every option is written out is read back.
 -- For the proof of `a_request_that_is_written_out_is_read_back`.
 use Rattle.std.proofs.Common.{◌≡◌, ℕ, Bool, true, false, cond, List, [], ◌∷◌, ◌++◌, map, refl}
+use Rattle.std.proofs.lemmas.Bool.{and_parts}
 use Rattle.std.specs.Prelude.{Option, Some, None, codes}
 use Rattle.std.specs.Fmt.{decimal}
 use Rattle.std.specs.List.{list_all}
@@ -32,7 +33,6 @@ use Rattle.nm_command.specs.declared.table.Form.TheVariants.{OneOf}
 use Rattle.nm_command.specs.declared.table.Numbered.TheVariants as numbers
 use Rattle.nm_command.specs.declared.table.Values.TheVariants as values
 use Rattle.nm_command.proofs.NumberLemmas.{number-back}
-use Rattle.nm_command.proofs.RowLemmas.{and-left, and-right}
 
 format-option : (json : Bool) → IsOption Search (option (codes "--format") (cond json (codes "json") (codes "text"))) (sets.Json json)
 format-option true = one_of Search (codes "--format") (codes "json") values.SearchFormat (sets.Json true) refl refl
@@ -124,8 +124,8 @@ search-back ask h =
     (an_option Search nothing_set after (sets.Json ask.json) format (output ∷ sort ∷ offset ∷ limited) rest (format-option ask.json) refl
     (an_option Search with_format after (sets.Output ask.output) output (sort ∷ offset ∷ limited) rest (output-option ask.output) refl
     (an_option Search with_output after (sets.Oldest ask.oldest) sort (offset ∷ limited) rest (sort-option ask.oldest) refl
-    (an_option Search with_sort after (sets.Offset ask.offset) offset limited rest (offset-option ask.offset (and-left (fits ask.offset) (limit_fits ask.limit) h)) refl
-    (limit-has ask ask.limit (and-right (fits ask.offset) (limit_fits ask.limit) h))))))
+    (an_option Search with_sort after (sets.Offset ask.offset) offset limited rest (offset-option ask.offset (and_parts (fits ask.offset) (limit_fits ask.limit) h).0) refl
+    (limit-has ask ask.limit (and_parts (fits ask.offset) (limit_fits ask.limit) h).1)))))
 
 count-back : (ask : CountAsk) → is_counted ask.output ≡ true → (batch : Bool) (query : List ℕ) → lacks_query batch query ≡ true →
     IsRequest (spelled (requests.Count (record { output = ask.output; exclude = ask.exclude; batch = batch; query = query })))
@@ -178,8 +178,8 @@ op-back false tag h = takes_off tag h
 ops-back : (ops : List TagOp) (query : List (List ℕ)) → list_all (λ op. is_tag op.tag) ops ≡ true → HasChanges (map op_word ops ++ codes "--" ∷ query) ops query
 ops-back [] query h = query_after_dashes query
 ops-back (op ∷ ops) query h =
-    one_change (op_word op) op (map op_word ops ++ codes "--" ∷ query) query ops (op-back op.add op.tag (and-left (is_tag op.tag) (list_all (λ op. is_tag op.tag) ops) h))
-    (ops-back ops query (and-right (is_tag op.tag) (list_all (λ op. is_tag op.tag) ops) h))
+    one_change (op_word op) op (map op_word ops ++ codes "--" ∷ query) query ops (op-back op.add op.tag (and_parts (is_tag op.tag) (list_all (λ op. is_tag op.tag) ops) h).0)
+    (ops-back ops query (and_parts (is_tag op.tag) (list_all (λ op. is_tag op.tag) ops) h).1)
 
 -- the options of `tag`, in the order in which they are spelled
 abbrev cleared : Bool → Bool → Settings
@@ -207,8 +207,8 @@ tag-back clear false ops query h =
     let rest = map op_word ops ++ codes "--" ∷ query ∷ [] in
     a_tag (codes "tag") query (before_flag clear (codes "--remove-all") (tag_words false ops query)) rest [] (cleared clear false) ops refl
     (clear-flag clear false (codes "--" ∷ rest) rest (dashes Tag (cleared clear false) rest)) refl
-    (ops-back ops (query ∷ []) (and-right (changes_tags clear ops) (list_all (λ op. is_tag op.tag) ops) h))
-    (and-left (changes_tags clear ops) (list_all (λ op. is_tag op.tag) ops) h)
+    (ops-back ops (query ∷ []) (and_parts (changes_tags clear ops) (list_all (λ op. is_tag op.tag) ops) h).1)
+    (and_parts (changes_tags clear ops) (list_all (λ op. is_tag op.tag) ops) h).0
 
 accumulate-flag : (form : ReadForm) (accumulate : Bool) → HasOptions Restore (record nothing_set { read_form = Some form }) (before_flag accumulate (codes "--accumulate") [])
     (record nothing_set { read_form = Some form; accumulate = accumulate }) []
@@ -229,7 +229,7 @@ pub spelled-back : (request : Request) → can_be_asked request ≡ true → IsR
 spelled-back requests.New h = a_new (codes "new") [] nothing_set refl (no_words New nothing_set)
 spelled-back (requests.Search ask) h = search-back ask h
 spelled-back (requests.Count ask) h =
-    count-back ask (and-left (is_counted ask.output) (lacks_query ask.batch ask.query) h) ask.batch ask.query (and-right (is_counted ask.output) (lacks_query ask.batch ask.query) h)
+    count-back ask (and_parts (is_counted ask.output) (lacks_query ask.batch ask.query) h).0 ask.batch ask.query (and_parts (is_counted ask.output) (lacks_query ask.batch ask.query) h).1
 spelled-back (requests.Show ask) h = show-back ask
 spelled-back (requests.Tag ask) h = tag-back ask.clear ask.batch ask.ops ask.query h
 spelled-back (requests.Dump ask) h = dump-back ask

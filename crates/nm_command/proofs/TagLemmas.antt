@@ -4,6 +4,8 @@ use Rattle.std.specs.Prelude.{Option, Some, None, Result, Ok, Err, codes}
 use Rattle.std.specs.Cmp.Lexicographic.{other_text, same_text as text_is}
 use Rattle.std.proofs.lemmas.Bool.Decides.{nat_tests}
 use Rattle.std.proofs.lemmas.Str.{IsCharBoundary-after_ascii}
+use Rattle.std.proofs.lemmas.Bool.{and_parts, eqb-true, not-true}
+use Rattle.std.proofs.lemmas.Option.{same_Some}
 use Rattle.std.specs.Str.{IsUtf8, IsCharBoundary}
 use Rattle.nm_base.specs.Bounds.{fits_length}
 use Rattle.nm_base.specs.Order.{same_text}
@@ -19,8 +21,6 @@ use Rattle.nm_command.specs.declared.command_error.CommandError.TheVariants.{Usa
 use Rattle.nm_command.specs.declared.request.Request.{Request}
 use Rattle.nm_command.specs.declared.request.Request.TheVariants as requests
 use Rattle.nm_command.specs.declared.settings.Settings.{Settings}
-use Rattle.nm_command.proofs.NameLemmas.{not-true}
-use Rattle.nm_command.proofs.RowLemmas.{and-left, and-right}
 
 -- changes before what else is asked
 abbrev pub with_ops : List TagOp → Result (List TagOp × List (List ℕ)) (List ℕ) → Result (List TagOp × List (List ℕ)) (List ℕ)
@@ -33,21 +33,18 @@ pub with_one_more : (word : List ℕ) (ops : List TagOp) (op : TagOp) (asked : R
 with_one_more word ops op (Ok asked) = ap (λ l. Ok (l, asked.1)) (append_assoc ops (op ∷ []) asked.0)
 with_one_more word ops op (Err other) = refl
 
-is_same : (a b : ℕ) → (a == b) ≡ true → a ≡ b
-is_same a b h = grind (arith, nat_tests)
-
 sign_below : (sign : ℕ) → (sign == 43 || sign == 45) ≡ true → sign < 128
 sign_below sign h = grind (arith, nat_tests)
 
 -- a tag word may be cut behind its sign
 pub cut_after_sign : (word : List ℕ) → IsUtf8 word → is_tag_word word ≡ true → IsCharBoundary word 1
 cut_after_sign [] u h = absurd (cc)
-cut_after_sign (sign ∷ tag) u h = IsCharBoundary-after_ascii (sign ∷ tag) 0 u (omega arith) (sign_below sign (and-left _ _ h))
+cut_after_sign (sign ∷ tag) u h = IsCharBoundary-after_ascii (sign ∷ tag) 0 u (omega arith) (sign_below sign (and_parts _ _ h).0)
 
 -- a tag behind `-` makes no `--`
 tag-differs : (tag : List ℕ) → is_tag tag ≡ true → same_text (45 ∷ tag) (codes "--") ≡ false
 tag-differs [] h = absurd (cc)
-tag-differs (b ∷ more) h = ap (λ v. v && same_text more []) (not-true (b == 45) (and-right (fits_length 200 (b ∷ more)) (not (b == 45)) h))
+tag-differs (b ∷ more) h = ap (λ v. v && same_text more []) (not-true (b == 45) (and_parts (fits_length 200 (b ∷ more)) (not (b == 45)) h).1)
 
 -- a change is a tag word, and asks for what it says
 change-word : (word : List ℕ) (op : TagOp) → IsChange word op → is_tag_word word ≡ true
@@ -61,8 +58,8 @@ change-op word op (takes_off tag h) = ap (λ v. cond v (Some (record { add = fal
 signed : (sign : ℕ) (tag : List ℕ) → (sign == 43 || sign == 45) ≡ true → is_tag tag ≡ true → IsChange (sign ∷ tag) (record { add = sign == 43; tag = tag })
 signed sign tag h good =
     elim (sign == 43) as (λ v. (sign == 43) ≡ v → (v || sign == 45) ≡ true → IsChange (sign ∷ tag) (record { add = v; tag = tag })) [
-      | true ↦ λ plus h. subst (λ sign. IsChange (sign ∷ tag) (record { add = true; tag = tag })) (sym (is_same sign 43 plus)) (sets_tag tag good)
-      | false ↦ λ other h. subst (λ sign. IsChange (sign ∷ tag) (record { add = false; tag = tag })) (sym (is_same sign 45 h)) (takes_off tag good)
+      | true ↦ λ plus h. subst (λ sign. IsChange (sign ∷ tag) (record { add = true; tag = tag })) (sym (eqb-true sign 43 plus)) (sets_tag tag good)
+      | false ↦ λ other h. subst (λ sign. IsChange (sign ∷ tag) (record { add = false; tag = tag })) (sym (eqb-true sign 45 h)) (takes_off tag good)
     ] refl h
 
 -- and a word with a sign that asks for something is a change
@@ -70,17 +67,14 @@ pub read-change : (word : List ℕ) (op : TagOp) → has_sign word ≡ true → 
 read-change [] op h is = absurd (cc)
 read-change (sign ∷ tag) op h is =
     elim (is_tag tag) as (λ v. is_tag tag ≡ v → cond v (Some (record { add = sign == 43; tag = tag })) None ≡ Some op → IsChange (sign ∷ tag) op) [
-      | true ↦ λ good is. subst (IsChange (sign ∷ tag)) (same (record { add = sign == 43; tag = tag }) op is) (signed sign tag h good)
+      | true ↦ λ good is. subst (IsChange (sign ∷ tag)) (same_Some (record { add = sign == 43; tag = tag }) op is) (signed sign tag h good)
       | false ↦ λ bad is. absurd (cc)
     ] refl is
-  where
-    same : (first second : TagOp) → Some first ≡ Some second → first ≡ second
-    same first second h = cc
 
 -- a tag word that asks for nothing is at fault
 pub untagged : (batch : Bool) (word : List ℕ) (words : List (List ℕ)) → is_tag_word word ≡ true → op_of word ≡ None → HasTagFault batch (word ∷ words) word kinds.Tag
 untagged batch word words is none =
-    without_tag batch word words (and-left _ _ is) (other_text word (codes "--") (sym (not-true _ (and-right _ _ is)))) (λ op change. clash op (sym (change-op word op change) ∙ none))
+    without_tag batch word words (and_parts _ _ is).0 (other_text word (codes "--") (sym (not-true _ (and_parts _ _ is).1))) (λ op change. clash op (sym (change-op word op change) ∙ none))
   where
     clash : (op : TagOp) → Some op ≡ None → ⊥
     clash op h = absurd (cc)
@@ -117,8 +111,8 @@ IsAsked words (Err word) = HasTagFault false words word kinds.Tag
 
 tag-asked : (word : List ℕ) (words : List (List ℕ)) → is_tag_word word ≡ true → (op : Option TagOp) → op_of word ≡ op → (asked : Result (List TagOp × List (List ℕ)) (List ℕ)) →
     IsAsked words asked → IsAsked (word ∷ words) (with_op word op asked)
-tag-asked word words is (Some op) says (Ok asked) are = one_change word op words asked.1 asked.0 (read-change word op (and-left _ _ is) says) are
-tag-asked word words is (Some op) says (Err other) are = after_change word other op words kinds.Tag (read-change word op (and-left _ _ is) says) are
+tag-asked word words is (Some op) says (Ok asked) are = one_change word op words asked.1 asked.0 (read-change word op (and_parts _ _ is).0 says) are
+tag-asked word words is (Some op) says (Err other) are = after_change word other op words kinds.Tag (read-change word op (and_parts _ _ is).0 says) are
 tag-asked word words is None says asked are = untagged false word words is says
 
 pub asked-is : (words : List (List ℕ)) → IsAsked words (changes_of words)
