@@ -5,6 +5,8 @@ use Rattle.std.specs.Result.{is_ok}
 use Rattle.std.specs.List.{AllByRecursion, IsDistinct, list_all}
 use Rattle.std.proofs.lemmas.Bool.{and_from, and_parts, or_left, or_right}
 use Rattle.std.proofs.lemmas.Slice.Eq.{bytes_eq-Decides}
+use Rattle.std.specs.Cmp.{both_ways}
+use Rattle.std.specs.Cmp.Lexicographic.{nat_list_eq_equiv}
 use Rattle.nm_base.specs.Bounds.{checked, fits_length}
 use Rattle.nm_base.specs.MessageId.{is_id_text, is_message_id}
 use Rattle.nm_base.specs.Order.{has_text, same_text}
@@ -15,32 +17,24 @@ use Rattle.nm_query.specs.declared.query.Query.{Query}
 use Rattle.nm_query.specs.declared.query.Query.TheOpen.{Query-F}
 use Rattle.nm_query.specs.declared.query.Query.TheFolds.{fold-roll-Query}
 use Rattle.nm_query.specs.declared.query.Query.TheVariants as tree
-use Rattle.nm_query.specs.declared.query.Query.TheVariants.{rolls-And, rolls-Id}
+use Rattle.nm_query.specs.declared.query.Query.TheVariants.{rolls-And}
 use Rattle.nm_answer.specs.Matches.{is_match, matches_of}
 use Rattle.nm_answer.specs.View.{view_of}
 use Rattle.nm_eval.specs.Asking.{AsksFor, asked_text, first_some, node_asks}
 
-same_of : (a : List ℕ) → same_text a a ≡ true
-same_of a = (bytes_eq-Decides a a).1 refl
-
 none_after : (x : List ℕ) (xs : List (List ℕ)) → AllByRecursion (λ y. same_text x y ≡ false) xs → ((y : List ℕ) → has_text xs y ≡ true → same_text x y ≡ true) → [] ≡ xs
 none_after x [] apart same = refl
-none_after x (y ∷ xs) apart same = absurd (true≢false (sym (same y (or_left (same_text y y) (has_text xs y) (same_of y))) ∙ apart.0))
+none_after x (y ∷ xs) apart same = absurd (true≢false (sym (same y (or_left (same_text y y) (has_text xs y) (nat_list_eq_equiv.refl y))) ∙ apart.0))
 
 -- texts without repeats that are all the same: it alone where it is among them, and else none
 one_alone : (x : List ℕ) (xs : List (List ℕ)) (among : Bool) → IsDistinct same_text xs → ((y : List ℕ) → has_text xs y ≡ true → same_text x y ≡ true) → has_text xs x ≡ among → cond among (x ∷ []) [] ≡ xs
 unfolding IsDistinct
 one_alone x [] among distinct same is = ap (λ b. cond b (x ∷ []) []) (sym is)
 one_alone x (y ∷ xs) among distinct same is =
-    let first : same_text x y ≡ true = same y (or_left (same_text y y) (has_text xs y) (same_of y)) in
+    let first : same_text x y ≡ true = same y (or_left (same_text y y) (has_text xs y) (nat_list_eq_equiv.refl y)) in
     let here : x ≡ y = (bytes_eq-Decides x y).0 first in
     let rest : [] ≡ xs = none_after y xs distinct.0 (λ z has. subst (λ t. same_text t z ≡ true) here (same z (or_right (same_text z y) (has_text xs z) has))) in
     ap (λ b. cond b (x ∷ []) []) (sym is ∙ or_left (same_text x y) (has_text xs x) first) ∙ (λ i. here i ∷ rest i)
-
-both_ways : (a b : Bool) → (IsTrue a → IsTrue b) → (IsTrue b → IsTrue a) → a ≡ b
-both_ways true b to from = sym (to refl)
-both_ways false true to from = from refl
-both_ways false false to from = refl
 
 -- what is found is the message that is asked for, where it is live and matches
 pub asked_alone : (index : Base) (query : Query) (moment : ℤ) (exclude : Bool) (id : List ℕ) (is : Bool) → AsksFor query id
@@ -80,9 +74,6 @@ pub checked_is : (text : List ℕ) → is_ok (checked 1000 is_id_text text) ≡ 
 checked_is text = checked_ok (fits_length 1000 text) (is_id_text text) text
 
 -- ---- the text that is asked for
-
-pub asked-Id : (text : List ℕ) → asked_text (tree.Id text) ≡ Some text
-asked-Id text = ap asked_text (sym (rolls-Id text)) ∙ fold-roll-Query (Option (List ℕ)) node_asks (Query-F.Id text)
 
 pub asked-And : (queries : List Query) → asked_text (tree.And queries) ≡ first_some (map asked_text queries)
 asked-And queries = ap asked_text (sym (rolls-And queries)) ∙ fold-roll-Query (Option (List ℕ)) node_asks (Query-F.And queries)

@@ -1,5 +1,6 @@
--- The two tags that exclude, one by one. For the proofs of `all_matches`, `is_live_match` and `is_match`.
-use Rattle.std.proofs.Common.{◌≡◌, refl, ap, ap₂, ◌∙◌, ℤ, Bool, true, false, not, cond, ◌&&◌, ◌||◌, [], ◌∷◌, codes, true≢false}
+-- The two tags that exclude, one by one.
+use Rattle.std.proofs.Common.{◌≡◌, refl, sym, ap, ap₂, ◌∙◌, ℤ, Bool, true, false, not, cond, ◌&&◌, ◌||◌, [], ◌∷◌, codes, true≢false}
+use Rattle.std.proofs.Math.Bool.{or-false}
 use Rattle.std.specs.List.{list_any}
 use Rattle.nm_base.specs.Tags.{has_tag}
 use Rattle.nm_query.specs.declared.query.Query.{Query}
@@ -9,17 +10,13 @@ use Rattle.nm_answer.specs.View.{View}
 use Rattle.nm_eval.specs.Excluding.{exclusion_of, leaves_out}
 use Rattle.nm_eval.specs.declared.exclusion.Exclusion.{Exclusion}
 
-or_false : (a : Bool) → a ≡ (a || false)
-or_false true = refl
-or_false false = refl
-
 -- what two items pass, of those that a filter keeps
 one_of_two : {X : Type 0} (asked keeps_first keeps_second : Bool) (has : X → Bool) (first second : X)
     → (((asked && keeps_first) && has first) || ((asked && keeps_second) && has second))
     ≡ (asked && list_any has (cond keeps_first (first ∷ cond keeps_second (second ∷ []) []) (cond keeps_second (second ∷ []) [])))
-one_of_two true true true has first second = ap (λ b. has first || b) (or_false (has second))
+one_of_two true true true has first second = ap (λ b. has first || b) (sym (or-false (has second)))
 one_of_two true true false has first second = refl
-one_of_two true false true has first second = or_false (has second)
+one_of_two true false true has first second = sym (or-false (has second))
 one_of_two true false false has first second = refl
 one_of_two false keeps_first keeps_second has first second = refl
 

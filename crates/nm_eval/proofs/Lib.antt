@@ -2,8 +2,6 @@ mod AskingLemmas
 mod ExclusionLemmas
 mod FileLemmas
 mod FoundLemmas
-mod OddLemmas
 mod PlaceLemmas
 mod PreparingLemmas
 mod QuickLemmas
-mod WordLemmas

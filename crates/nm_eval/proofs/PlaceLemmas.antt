@@ -1,6 +1,6 @@
--- Paths below a folder, by what stands behind it. For the proofs of `after_folder`, `is_below`, `is_in` and others.
-use Rattle.std.proofs.Common.{◌≡◌, ◌≢◌, refl, sym, ap, ap₂, ◌∙◌, ℕ, Bool, true, false, not, ◌&&◌, ◌||◌, List, [], ◌∷◌, ◌++◌, append_assoc, drop, length, codes, nat_eq, true≢false, ◌+◌, ◌==◌, take, arith, Option, None, Some, is_some, MatchOption, Bor}
-use Rattle.std.proofs.lemmas.Bool.{false_from_ne_true, ne_eqb, or_from}
+-- Paths below a folder, by what stands behind it.
+use Rattle.std.proofs.Common.{◌≡◌, ◌≢◌, refl, sym, ap, ap₂, ◌∙◌, ℕ, Bool, true, false, not, ◌&&◌, ◌||◌, List, [], ◌∷◌, ◌++◌, append_assoc, drop, length, codes, nat_eq, true≢false, ◌+◌, ◌==◌, take, Option, None, Some, is_some, MatchOption, Bor}
+use Rattle.std.proofs.lemmas.Bool.{false_from_ne_true, or_from}
 use Rattle.std.proofs.lemmas.Bool.Decides.{Decides-eqb}
 use Rattle.std.proofs.lemmas.List.{append_cancel_left}
 use Rattle.std.proofs.lemmas.Slice.Eq.{starts_is, strip_prefix_is}
@@ -14,11 +14,6 @@ use Rattle.nm_answer.specs.Places.{front_of, is_below, is_in, is_in_maildir}
 front_some : (folder : List ℕ) → (length folder == 0) ≡ false → front_of folder ≡ folder ++ 47 ∷ []
 front_some [] is = absurd (true≢false is)
 front_some (b ∷ folder) is = refl
-
--- all paths lie below the root
-pub below_root : (folder path : List ℕ) → (length folder == 0) ≡ true → path ≡ front_of folder ++ path
-below_root [] path is = refl
-below_root (b ∷ folder) path is = absurd (true≢false (sym is ∙ ne_eqb (length (b ∷ folder)) 0 (λ none. omega (arith, none))))
 
 abbrev pub Strips : List ℕ → List ℕ → Option (Bor (List ℕ)) → Type 0
 Strips text front told =

@@ -1,9 +1,8 @@
--- Queries that are passed alike. For the proof of `preparing`.
-use Rattle.std.proofs.Common.{◌≡◌, refl, sym, ap, ap₂, ◌∙◌, ℕ, ◌+◌, ◌<◌, ℤ, Bool, true, ◌&&◌, ◌||◌, List, [], ◌∷◌, ◌++◌, length, map, take, Option, Some}
-use Rattle.std.specs.Prelude.{int_le, slice_index_or}
+-- Queries that are passed alike.
+use Rattle.std.proofs.Common.{◌≡◌, refl, sym, ap, ap₂, ◌∙◌, ℕ, ◌+◌, ◌<◌, ℤ, Bool, ◌&&◌, ◌||◌, List, [], ◌∷◌, ◌++◌, length, map, take, Option}
+use Rattle.std.specs.Prelude.{slice_index_or}
 use Rattle.std.specs.List.{list_all, list_any}
 use Rattle.std.proofs.lemmas.List.{map-append, take_more}
-use Rattle.nm_dates.specs.Seconds.{is_end, seconds_of}
 use Rattle.nm_dates.specs.declared.end.End.{End}
 use Rattle.nm_query.specs.declared.query.Query.TheOpen.{Query-F}
 use Rattle.nm_query.specs.declared.query.Query.TheFolds.{fold-roll-Query}
@@ -23,15 +22,6 @@ pub same_dates : (from to first last : Option End) (moment : ℤ) → ((date : �
     → (message : View) → passes (tree.Dates first last) message moment ≡ passes (tree.Dates from to) message moment
 same_dates from to first last moment begins ends message =
     passes-Dates first last message moment ∙ ap₂ (λ a b. a && b) (begins (lead_date message.files)) (ends (lead_date message.files)) ∙ sym (passes-Dates from to message moment)
-
--- an end that begins with the same second
-pub same_from : (other end : End) (moment : ℤ) → is_end other ≡ true → is_end end ≡ true → (seconds_of other moment).first ≡ (seconds_of end moment).first
-    → (date : ℤ) → is_from (Some other) moment date ≡ is_from (Some end) moment date
-same_from other end moment one is same date = ap₂ (λ a first. a && int_le first date) (one ∙ sym is) same
-
-pub same_to : (other end : End) (moment : ℤ) → is_end other ≡ true → is_end end ≡ true → (seconds_of other moment).last ≡ (seconds_of end moment).last
-    → (date : ℤ) → is_to (Some other) moment date ≡ is_to (Some end) moment date
-same_to other end moment one is same date = ap₂ (λ a last. a && int_le date last) (one ∙ sym is) same
 
 -- ---- lists
 

@@ -2,12 +2,13 @@
 -- For the proofs of `preparing` and `quick`.
 use Rattle.std.proofs.Common.{◌≡◌, refl, sym, ap, ◌∙◌, Bool, true, false, not, cond, ◌&&◌, ◌||◌, List, [], ◌∷◌, filter, map}
 use Rattle.std.proofs.lemmas.List.Folds.{list_all-append, list_any-append}
+use Rattle.std.proofs.Math.Bool.{and-false, or-true}
 use Rattle.std.specs.List.{list_all, list_any}
 use Rattle.nm_query.specs.declared.query.Query.{Query}
 use Rattle.nm_query.specs.declared.query.Query.TheOpen.{Query-F}
 use Rattle.nm_query.specs.declared.query.Query.TheFolds.{fold-roll-Query}
 use Rattle.nm_query.specs.declared.query.Query.TheVariants as tree
-use Rattle.nm_query.specs.declared.query.Query.TheVariants.{rolls-And, rolls-Not, rolls-Or, rolls-Xor}
+use Rattle.nm_query.specs.declared.query.Query.TheVariants.{rolls-And, rolls-Or, rolls-Xor}
 use Rattle.nm_eval.specs.Quick.{is_quick, node_is_quick, quick_first}
 
 -- ---- by what it joins
@@ -15,9 +16,6 @@ use Rattle.nm_eval.specs.Quick.{is_quick, node_is_quick, quick_first}
 all_answers : {X : Type 0} (f : X → Bool) (xs : List X) → list_all (λ answer. answer) (map f xs) ≡ list_all f xs
 all_answers f [] = refl
 all_answers f (x ∷ xs) = ap (λ more. f x && more) (all_answers f xs)
-
-pub quick-Not : (query : Query) → is_quick (tree.Not query) ≡ is_quick query
-quick-Not query = ap is_quick (sym (rolls-Not query)) ∙ fold-roll-Query Bool node_is_quick (Query-F.Not query)
 
 pub quick-And : (queries : List Query) → is_quick (tree.And queries) ≡ list_all is_quick queries
 quick-And queries = ap is_quick (sym (rolls-And queries)) ∙ fold-roll-Query Bool node_is_quick (Query-F.And queries) ∙ all_answers is_quick queries
@@ -30,28 +28,20 @@ quick-Xor queries = ap is_quick (sym (rolls-Xor queries)) ∙ fold-roll-Query Bo
 
 -- ---- in two turns
 
-and_no : (a : Bool) → (a && false) ≡ false
-and_no true = refl
-and_no false = refl
-
-or_yes : (a : Bool) → (a || true) ≡ true
-or_yes true = refl
-or_yes false = refl
-
 all_first : (a first second all : Bool) → (first && second) ≡ all → ((a && first) && second) ≡ (a && all)
 all_first true first second all is = is
 all_first false first second all is = refl
 
 all_second : (a first second all : Bool) → (first && second) ≡ all → (first && (a && second)) ≡ (a && all)
 all_second true first second all is = is
-all_second false first second all is = and_no first
+all_second false first second all is = and-false first
 
 any_first : (a first second all : Bool) → (first || second) ≡ all → ((a || first) || second) ≡ (a || all)
 any_first true first second all is = refl
 any_first false first second all is = is
 
 any_second : (a first second all : Bool) → (first || second) ≡ all → (first || (a || second)) ≡ (a || all)
-any_second true first second all is = or_yes first
+any_second true first second all is = or-true first
 any_second false first second all is = is
 
 -- an item more, in its turn
