@@ -1,4 +1,5 @@
 -- Leading options: what is written is cut again at its first `=`, and a name that stands twice is found.
+-- For the proofs of `leading_options_are_read_as_written` and `leading_words_are_refused`.
 use Rattle.std.proofs.Common.{◌≡◌, ℕ, ◌++◌, Bool, true, false, cond, ◌&&◌, not, List, [], ◌∷◌, length, map, refl, sym, ap, ◌∙◌}
 use Rattle.std.specs.Prelude.{ℤ, pos, negsuc, Option, Some, None, Result, Ok, Err, codes, is_some, nat_le, nat_lt}
 use Rattle.std.specs.Cmp.Lexicographic.{nat_list_eq_equiv}

@@ -1,4 +1,4 @@
--- What holds of each byte of a text that is written.
+-- What holds of each byte of a text that is written. For `SupWholeLemmas`, `TagLineLemmas` and `WholeLemmas`.
 use Rattle.std.proofs.Common.{◌≡◌, ℕ, zero, suc, ◌/◌, ◌%◌, ◌==◌, ◌||◌, not, nat_lt, Bool, true, List, [], ◌∷◌, ◌++◌, slice_index, refl, sym, ap, ◌∙◌, subst, arith, inl, inr, cond}
 use Rattle.std.specs.List.{flat_map, list_all}
 use Rattle.std.specs.Str.{IsAscii}

@@ -1,4 +1,4 @@
--- Ids as they are written, and read again.
+-- Ids as they are written, and read again. For the proof of `a_written_id_is_read_back`.
 use Rattle.std.proofs.Common.{◌≡◌, ℕ, ◌<◌, ◌==◌, ◌&&◌, true, false, List, [], ◌∷◌, ◌++◌, length, nat_eq, codes, refl, sym, ap, ◌∙◌, subst, arith, append_assoc, inl, inr, cond, Some, None}
 use Rattle.std.specs.List.{flat_map, starts_with}
 use Rattle.std.specs.Str.{is_utf8}

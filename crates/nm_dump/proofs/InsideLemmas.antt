@@ -1,4 +1,4 @@
--- Where a text in parentheses may be cut.
+-- Where a text in parentheses may be cut. For the proof of `inside`.
 use Rattle.std.proofs.Common.{◌≡◌, ℕ, ◌==◌, ◌&&◌, ◌<◌, ◌≤◌, true, nat_le, List, length, slice_index, arith}
 use Rattle.std.specs.Str.{IsUtf8, IsCharBoundary}
 use Rattle.std.proofs.lemmas.Bool.{and_parts}

@@ -1,4 +1,4 @@
--- The two tags that exclude, one by one.
+-- The two tags that exclude, one by one. For the proofs of `all_matches`, `is_live_match` and `is_match`.
 use Rattle.std.proofs.Common.{◌≡◌, refl, sym, ap, ap₂, ◌∙◌, ℤ, Bool, true, false, not, cond, ◌&&◌, ◌||◌, [], ◌∷◌, codes, true≢false}
 use Rattle.std.proofs.Math.Bool.{or-false}
 use Rattle.std.specs.List.{list_any}

@@ -1,4 +1,4 @@
--- Paths below a folder, by what stands behind it.
+-- Paths below a folder, by what stands behind it. For the proofs of `after_folder`, `is_below`, `is_in` and others.
 use Rattle.std.proofs.Common.{◌≡◌, ◌≢◌, refl, sym, ap, ap₂, ◌∙◌, ℕ, Bool, true, false, not, ◌&&◌, ◌||◌, List, [], ◌∷◌, ◌++◌, append_assoc, drop, length, codes, nat_eq, true≢false, ◌+◌, ◌==◌, take, Option, None, Some, is_some, MatchOption, Bor}
 use Rattle.std.proofs.lemmas.Bool.{false_from_ne_true, or_from}
 use Rattle.std.proofs.lemmas.Bool.Decides.{Decides-eqb}

@@ -1,4 +1,4 @@
--- Bytes that are decoded one by one, and texts.
+-- Bytes that are decoded one by one, and texts. For the proofs of `decoded_bytes` and `a_written_tag_is_read_back`.
 use Rattle.std.proofs.Common.{◌≡◌, ℕ, zero, suc, ◌/◌, ◌%◌, ◌<◌, ◌==◌, ◌&&◌, true, false, List, [], ◌∷◌, ◌++◌, refl, sym, ap, ◌∙◌, subst, arith, inl, inr, cond, append_assoc, slice_index, Option, Some, None, Ok}
 use Rattle.std.specs.Str.{is_utf8}
 use Rattle.std.proofs.lemmas.Bool.{cases_Bool}
