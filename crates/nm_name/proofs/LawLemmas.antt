@@ -3,7 +3,7 @@
 use Rattle.std.proofs.Common.{inl, inr, ◌≡◌, ℕ, Bool, true, false, ◌&&◌, ◌||◌, ◌==◌, if◌then◌else◌, List, [], ◌∷◌, ◌++◌, filter, Option, None, Some, codes, refl, sym, ap, ◌∙◌, arith}
 use Rattle.std.specs.Char.{is_ascii_alphabetic}
 use Rattle.std.specs.List.{list_all}
-use Rattle.std.proofs.Math.Bool.{and-true}
+use Rattle.std.proofs.Math.Bool.{and-false, and-true}
 use Rattle.std.proofs.lemmas.Bool.{agree_below_at, and_parts, cases_Bool, eqb-true, false_from_ne_true, false≢true, or_from}
 use Rattle.std.proofs.lemmas.List.{append_assoc}
 use Rattle.nm_name.specs.Cuts.{cut_last, holds}
@@ -31,12 +31,8 @@ passing p wanted x xs false fails rest =
       | inr e ↦ rest ∙ sym (ap (λ b. p wanted && (b || holds wanted xs)) e)
     ]
 
-none_passes : (b : Bool) → false ≡ (b && false)
-none_passes true = refl
-none_passes false = refl
-
 holds_filter : (p : ℕ → Bool) (wanted : ℕ) (xs : List ℕ) → holds wanted (filter p xs) ≡ (p wanted && holds wanted xs)
-holds_filter p wanted [] = none_passes (p wanted)
+holds_filter p wanted [] = sym (and-false (p wanted))
 holds_filter p wanted (x ∷ xs) = passing p wanted x xs (p x) refl (holds_filter p wanted xs)
 
 all_filter : (letters : List ℕ) (flags : Flags) (xs : List ℕ) → AreLetters xs → AreLetters (filter (is_carried letters flags) xs)

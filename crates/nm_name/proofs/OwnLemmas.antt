@@ -9,6 +9,7 @@ use Rattle.std.specs.Option.{MatchOption}
 use Rattle.std.proofs.lemmas.Bool.{and_parts, eqb-false, eqb-true, false_from_ne_true, false≢true, or_from}
 use Rattle.std.proofs.lemmas.List.{append_assoc}
 use Rattle.std.proofs.lemmas.List.Elements.{filter_agree}
+use Rattle.std.proofs.Math.Bool.{or-true}
 use Rattle.nm_base.specs.Order.{same_text}
 use Rattle.nm_name.specs.Cuts.{cut_before, cut_last, holds}
 use Rattle.nm_name.specs.Names.{flags_of, flags_of_letters, is_mark, last_part, letters_at, letters_of, name_of}
@@ -17,10 +18,6 @@ use Rattle.nm_name.specs.declared.flags.Flags.{Flags}
 use Rattle.nm_name.proofs.CutLemmas.{cut_again, cut_joins}
 use Rattle.nm_name.proofs.LawLemmas.{lacks_other, new_are_letters, other_letters_stay, stem_slash, what_is_written_is_read}
 use Rattle.nm_name.proofs.PathLemmas.{slash_join}
-
-or_true : (b : Bool) → (b || true) ≡ true
-or_true true = refl
-or_true false = refl
 
 -- the letters of a name are letters
 letters_by : (tail : List ℕ) (b : Bool) → is_mark tail ≡ b → AreLetters (if b then drop 2 tail else [])
@@ -97,7 +94,7 @@ module _ (stem letters : List ℕ) (are : AreLetters letters) where
 
   colon : (front : List ℕ) → holds 58 (front ++ codes ":2," ++ letters) ≡ true
   colon [] = refl
-  colon (x ∷ front) = ap (λ (b : Bool). (x == 58) || b) (colon front) ∙ or_true (x == 58)
+  colon (x ∷ front) = ap (λ (b : Bool). (x == 58) || b) (colon front) ∙ or-true (x == 58)
 
   -- in `cur` it stays where its letters are those that are to be written
   pub stays : (folder : List ℕ) (flags : Flags) → name_of folder ≡ codes "cur" → holds 47 stem ≡ false → new_letters letters flags ≡ letters → renamed (folder ++ 47 ∷ name) flags ≡ folder ++ 47 ∷ name

@@ -103,11 +103,6 @@ joined_is folder name is zero slash component =
     (ap (list_all is_component) (parts_append folder name ∙ ap (λ p. components_of folder ++ p) (one_part name slash))
     ∙ list_all-append is_component (components_of folder) (name ∷ []) ∙ and_from (list_all is_component (components_of folder)) (is_component name && true) f.1 (and_from (is_component name) true component refl))
 
-pub alone_is : (name : List ℕ) → has_no_zero name ≡ true → holds 47 name ≡ false → is_component name ≡ true → is_path_text name ≡ true
-alone_is name zero slash component =
-    and_from (has_no_zero name) (list_all is_component (components_of name)) zero
-    (ap (list_all is_component) (one_part name slash) ∙ and_from (is_component name) true component refl)
-
 -- a name with its mark
 module _ (stem letters : List ℕ) (stem_zero : has_no_zero stem ≡ true) (stem_slash : holds 47 stem ≡ false) (letters_zero : has_no_zero letters ≡ true) (letters_slash : holds 47 letters ≡ false) where
   pub mark_zero : has_no_zero (stem ++ codes ":2," ++ letters) ≡ true
