@@ -22,7 +22,6 @@ use Rattle.nm_plan.specs.NameTags.{commit_of, follow_names, live_of, named_tags,
 use Rattle.nm_plan.specs.Plan.{AreAdded, add_of, all_added, batch_commit, batch_commits, drop_of, message_ids, new_commits, removed_commit, removed_files}
 use Rattle.std.specs.List.Sorted.{IsStrictlySortedBy}
 use Rattle.std.proofs.Math.Bool.{or-true}
-use Rattle.std.proofs.lemmas.Bool.{not-true}
 use Rattle.nm_plan.proofs.FoldLemmas.{batch-files, new-files, next-files}
 use Rattle.nm_plan.specs.OrderLaws.{IsSorted-sorted}
 use Rattle.nm_plan.specs.SetLaws.{bytes_same, has_text-filter, has_text-sorted}

@@ -1,6 +1,6 @@
 -- What a walk meets is the mail of a tree: each path that it lists is one, and it lists each one where no limit is passed.
 -- For the proof of `a_walk_lists_the_mail_of_the_tree`.
-use Rattle.std.proofs.Common.{◌≡◌, ◌⊎◌, inl, inr, ℕ, zero, suc, Bool, true, false, ◌||◌, List, [], ◌∷◌, ◌++◌, filter, map, refl, sym, ap, ◌∙◌, cond, codes, arith}
+use Rattle.std.proofs.Common.{◌≡◌, inl, inr, ℕ, zero, suc, Bool, true, false, ◌||◌, List, [], ◌∷◌, ◌++◌, filter, map, refl, sym, ap, ◌∙◌, cond, codes, arith}
 use Rattle.std.specs.Cmp.Lexicographic as lexicographic
 use Rattle.std.specs.List.{flat_map}
 use Rattle.std.proofs.lemmas.List.Folds.{list_any-append}

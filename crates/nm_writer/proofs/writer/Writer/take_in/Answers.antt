@@ -1,4 +1,4 @@
-use Rattle.std.proofs.Common.{List, [], refl, sym, ap, ◌∙◌, subst}
+use Rattle.std.proofs.Common.{List, [], refl, sym, ◌∙◌, subst}
 use Rattle.nm_commit.specs.declared.change.Change.{Change}
 use Rattle.nm_index.specs.Fits.{FitInTurn}
 use Rattle.nm_plan.specs.NameTags.{commit_of}
