@@ -1,8 +1,9 @@
--- When data is an index. Cited by `nm_answer`, `nm_state`, `rows_index` and others.
+-- When data is an index. The bounds of ids, paths, tags and words are those of their types.
 use Rattle.std.specs.Prelude.{◌↔◌, ℕ, ◌<◌, ◌≤◌, IsTrue, List, map}
 use Rattle.std.specs.List.{AllByRecursion, IsDistinct}
 use Rattle.std.specs.List.Sorted.{IsStrictlySortedBy}
 use Rattle.std.specs.Ordering.{nat_cmp}
+use Rattle.nm_base.specs.Limits.{IsDate}
 use Rattle.nm_base.specs.Order.{IsSorted, has_text, same_text}
 use Rattle.nm_commit.specs.Files.{has_id, paths_of}
 use Rattle.nm_threads.specs.Same.{ids_of}
@@ -23,6 +24,8 @@ tagged_ids index = map (λ tagged. tagged.0) index.tags
 pub record IsValid (index : Base) : Type 0 where
   -- no two files lie at one path
   pub paths : IsDistinct same_text (paths_of index.files)
+  -- the date of each mail is in the range
+  pub dates : AllByRecursion (λ file. IsDate file.1.date) index.files
   -- kept rows are in order, each once
   pub rows : IsStrictlySortedBy row_cmp index.kept
   -- no id has two numbers, and numbers rise from 1 up to the next one

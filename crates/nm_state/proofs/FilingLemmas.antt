@@ -12,6 +12,7 @@ use Rattle.std.specs.Option.{is_some, option_copied}
 use Rattle.std.specs.Ordering.{is_eq, nat_cmp}
 use Rattle.std.proofs.lemmas.Cmp.{nat_cmp_total}
 use Rattle.std.proofs.lemmas.Option.{none-some, same_Some}
+use Rattle.nm_base.specs.Limits.{IsDate}
 use Rattle.nm_base.specs.Order.{same_text}
 use Rattle.nm_base.specs.declared.facts.Facts.{Facts}
 use Rattle.nm_commit.specs.Files.{has_id, has_path, moved_path, with_moved, without_path}
@@ -118,7 +119,7 @@ module _ (old new : Filing) (path : List ℕ) (facts : Facts) (are : AreFiled ol
     (files_found : (place : ℕ) → at_place place new.files ≡ (if is_eq (nat_cmp place old.next) then Some (path, facts) else at_place place old.files))
     (places_found : (other : List ℕ) → at_text other new.places ≡ (if is_eq (slice_cmp nat_cmp other path) then Some old.next else at_text other old.places))
     (ids_found : (id : List ℕ) → at_text id new.of_id ≡ (if is_eq (slice_cmp nat_cmp id facts.id) then Some (told_places old.of_id facts.id ++ old.next ∷ []) else at_text id old.of_id))
-    (next : new.next ≡ old.next + 1) where
+    (next : new.next ≡ old.next + 1) (date : IsDate facts.date) where
   below_next : (x : ℕ × (List ℕ × Facts)) → Contains old.files x → x.0 < old.next
   below_next x among = are.below x.0 x.1 (found_at old.files are.sorted x among)
 
@@ -136,6 +137,15 @@ module _ (old new : Filing) (path : List ℕ) (facts : Facts) (are : AreFiled ol
   new_below place file at = elim (cases_number place old.next) [
     | inl same ↦ omega (arith, same, next)
     | inr not ↦ omega (arith, next, are.below place file (other (is_eq (nat_cmp place old.next)) (Some (path, facts)) (at_place place old.files) (Some file) (other_number place old.next not) (sym (files_found place) ∙ at)))
+  ]
+
+  new_dated : (place : ℕ) (file : List ℕ × Facts) → at_place place new.files ≡ Some file → IsDate file.1.date
+  new_dated place file at = elim (cases_number place old.next) [
+    | inl same ↦
+        subst (λ (f : List ℕ × Facts). IsDate f.1.date)
+        (same_Some (path, facts) file (chosen (is_eq (nat_cmp place old.next)) (Some (path, facts)) (at_place place old.files) (Some file) (same_number place old.next same) (sym (files_found place) ∙ at)))
+        date
+    | inr not ↦ are.dated place file (other (is_eq (nat_cmp place old.next)) (Some (path, facts)) (at_place place old.files) (Some file) (other_number place old.next not) (sym (files_found place) ∙ at))
   ]
 
   new_found : (p : List ℕ) (place : ℕ) → at_text p new.places ≡ Some place → (of : Facts) × (at_place place new.files ≡ Some (p, of))
@@ -179,6 +189,7 @@ module _ (old new : Filing) (path : List ℕ) (facts : Facts) (are : AreFiled ol
   filed_added = record {
     sorted = subst (λ es. IsStrictlySortedBy nat_cmp (keys_of es)) (sym files) (sorted_insert nat_cmp_total old.files old.next (path, facts) are.sorted);
     below = new_below;
+    dated = new_dated;
     found = new_found;
     kept = new_kept;
     ids = new_ids;
@@ -192,7 +203,7 @@ module _ (old new : Filing) (path key : List ℕ) (facts : Facts) (value : List 
     (files_found : (place : ℕ) → at_place place new.files ≡ (if is_eq (nat_cmp place old.next) then Some value else at_place place old.files))
     (places_found : (other : List ℕ) → at_text other new.places ≡ (if is_eq (slice_cmp nat_cmp other key) then Some old.next else at_text other old.places))
     (ids_found : (id : List ℕ) → at_text id new.of_id ≡ (if is_eq (slice_cmp nat_cmp id facts.id) then Some (told_places old.of_id facts.id ++ old.next ∷ []) else at_text id old.of_id))
-    (next : new.next ≡ old.next + 1) where
+    (next : new.next ≡ old.next + 1) (date : IsDate facts.date) where
   pub added : AreFiled new × (files_in new ≡ files_in old ++ (path, facts) ∷ [])
   added =
       let at : new.files ≡ insert_entry nat_cmp old.files old.next (path, facts) = subst (λ v. new.files ≡ insert_entry nat_cmp old.files old.next v) is files in
@@ -200,7 +211,7 @@ module _ (old new : Filing) (path key : List ℕ) (facts : Facts) (value : List 
       λ place. subst (λ v. at_place place new.files ≡ (if is_eq (nat_cmp place old.next) then Some v else at_place place old.files)) is (files_found place) in
       let places : (other : List ℕ) → at_text other new.places ≡ (if is_eq (slice_cmp nat_cmp other path) then Some old.next else at_text other old.places) =
       λ other. subst (λ k. at_text other new.places ≡ (if is_eq (slice_cmp nat_cmp other k) then Some old.next else at_text other old.places)) key_is (places_found other) in
-      (filed_added old new path facts are free at at_found places ids_found next, files_added old new path facts are free at at_found places ids_found next)
+      (filed_added old new path facts are free at at_found places ids_found next date, files_added old new path facts are free at at_found places ids_found next date)
 
 -- ---- what lies at a path that has a file
 
@@ -265,6 +276,15 @@ module _ (old : Filing) (are : AreFiled old) (path : List ℕ) (place : ℕ) (fa
       | inr not ↦ omega (arith, next, are.below n file (other (is_eq (nat_cmp n place)) (Some (to, facts)) (at_place n old.files) (Some file) (other_number n place not) (sym (files_found n) ∙ is)))
     ]
 
+    moved_dated : (n : ℕ) (file : List ℕ × Facts) → at_place n new.files ≡ Some file → IsDate file.1.date
+    moved_dated n file is = elim (cases_number n place) [
+      | inl same ↦
+          subst (λ (f : List ℕ × Facts). IsDate f.1.date)
+          (same_Some (to, facts) file (chosen (is_eq (nat_cmp n place)) (Some (to, facts)) (at_place n old.files) (Some file) (same_number n place same) (sym (files_found n) ∙ is)))
+          (are.dated place (path, facts) at)
+      | inr not ↦ are.dated n file (other (is_eq (nat_cmp n place)) (Some (to, facts)) (at_place n old.files) (Some file) (other_number n place not) (sym (files_found n) ∙ is))
+    ]
+
     moved_found : (p : List ℕ) (n : ℕ) → at_text p new.places ≡ Some n → (of : Facts) × (at_place n new.files ≡ Some (p, of))
     moved_found p n is = elim (cases_id p to) [
       | inl same ↦
@@ -299,6 +319,7 @@ module _ (old : Filing) (are : AreFiled old) (path : List ℕ) (place : ℕ) (fa
       record {
         sorted = subst (λ es. IsStrictlySortedBy nat_cmp (keys_of es)) (sym files) (sorted_insert nat_cmp_total old.files place (to, facts) are.sorted);
         below = moved_below;
+        dated = moved_dated;
         found = moved_found;
         kept = moved_kept;
         ids = λ id. ap (at_text id) of_id ∙ are.ids id ∙ ap told (sym (ap (λ es. places_of es id) in_place ∙ same_places id old.files each_moved));
@@ -475,6 +496,7 @@ module _ (old : Filing) (are : AreFiled old) (path : List ℕ) (place : ℕ) (fa
     record {
       sorted = subst (λ es. IsStrictlySortedBy nat_cmp (keys_of es)) (sym files) (sorted_remove nat_cmp (is_at (nat_cmp place)) old.files are.sorted);
       below = λ n file is. omega (arith, next, are.below n file (still_at n file is).1);
+      dated = λ n file is. are.dated n file (still_at n file is).1;
       found = gone_found;
       kept = gone_kept;
       ids = gone_ids;

@@ -188,6 +188,7 @@ renumbered_valid index valid =
     λ id. has_is index.entries id ∙ ap (λ all. has_text all id) (sym (counted_ids 1 index.entries)) ∙ sym (has_is (counted 1 index.entries) id) in
     record {
       paths = valid.paths;
+      dates = valid.dates;
       rows = valid.rows;
       ids = subst (IsDistinct same_text) (sym (counted_ids 1 index.entries)) valid.ids;
       rising = rising 1 index.entries;

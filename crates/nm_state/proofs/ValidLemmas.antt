@@ -7,6 +7,7 @@ use Rattle.std.specs.List.Sorted.{IsStrictlySortedBy}
 use Rattle.std.specs.Map.{keys_of, values_of}
 use Rattle.std.specs.Ordering.{is_eq, nat_cmp}
 use Rattle.std.specs.declared.cmp.Ordering.TheVariants.{Less}
+use Rattle.nm_base.specs.Limits.{IsDate}
 use Rattle.nm_base.specs.Order.{IsSorted, has_text, same_text}
 use Rattle.nm_base.specs.declared.facts.Facts.{Facts}
 use Rattle.nm_base.specs.declared.facts.LinkRow.{LinkRow}
@@ -93,6 +94,10 @@ parts_valid parts are labelling least sorted =
     let entries : List (List ℕ × ℕ) = entries_of parts.labels.labels in
     record {
       paths = distinct_paths parts are.filed;
+      dates = all_from (λ file. IsDate file.1.date) (files_in parts.filing)
+          (λ file among.
+          let entry = Contains_from_map (λ (x : ℕ × (List ℕ × Facts)). x.1) parts.filing.files file among in
+          subst (λ (f : List ℕ × Facts). IsDate f.1.date) entry.2 (are.filed.dated entry.0.0 entry.0.1 (found_at parts.filing.files are.filed.sorted entry.0 entry.1)));
       rows = sorted_rows parts.kept are.kept.sorted are.kept.keyed;
       ids = distinct_ids parts.labels.labels labelling.rising labelling.ids;
       rising = subst (IsStrictlySortedBy nat_cmp) (numbers_same parts.labels.labels) labelling.rising;

@@ -7,6 +7,7 @@ use Rattle.std.specs.List.{filter_map}
 use Rattle.std.specs.List.Sorted.{IsStrictlySortedBy}
 use Rattle.std.specs.Map.{keys_of, lookup, values_of}
 use Rattle.std.specs.Ordering.{nat_cmp}
+use Rattle.nm_base.specs.Limits.{IsDate}
 use Rattle.nm_base.specs.Order.{same_text}
 use Rattle.nm_base.specs.declared.facts.Facts.{Facts}
 use Rattle.nm_state.specs.declared.filing.Filing.{Filing}
@@ -48,10 +49,12 @@ files_at_places files places = filter_map (λ place. at_place place files) place
 abbrev pub lying_in : List (List ℕ × Facts) → List ℕ → List (List ℕ × Facts)
 lying_in files path = filter (λ file. same_text path file.0) files
 
--- the maps tell one thing: files by rising places below the next one, the place of each path, the places of each message
+-- the maps tell one thing: files by rising places below the next one, each with a date in the range, the place of each path, the
+-- places of each message
 pub record AreFiled (filing : Filing) : Type 0 where
   pub sorted : IsStrictlySortedBy nat_cmp (keys_of filing.files)
   pub below : (place : ℕ) (file : List ℕ × Facts) → at_place place filing.files ≡ Some file → place < filing.next
+  pub dated : (place : ℕ) (file : List ℕ × Facts) → at_place place filing.files ≡ Some file → IsDate file.1.date
   pub found : (path : List ℕ) (place : ℕ) → at_text path filing.places ≡ Some place → (facts : Facts) × (at_place place filing.files ≡ Some (path, facts))
   pub kept : (place : ℕ) (path : List ℕ) (facts : Facts) → at_place place filing.files ≡ Some (path, facts) → at_text path filing.places ≡ Some place
   pub ids : (id : List ℕ) → at_text id filing.of_id ≡ told (places_of filing.files id)

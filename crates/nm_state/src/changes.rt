@@ -1,6 +1,7 @@
 //! What each change does to the parts of a snapshot, for `applying`. Where there is no memory the parts are of no use any more.
 
 ghost use Rattle.std.specs.Prelude.{◌≡◌, ◌≤◌, ◌^◌, false, true, OnOk};
+ghost use Rattle.nm_base.specs.Limits.{IsDate};
 ghost use Rattle.nm_commit.specs.Files.{has_id, has_path, with_moved};
 ghost use Rattle.nm_index.specs.Index.{with_mail, with_tags};
 ghost use Rattle.nm_state.specs.Parts.{AreParts, base_of, with_files};
@@ -22,6 +23,7 @@ pub fn add_mail(
 ) -> Result<(), NoMemory>
     requires parts { AreParts parts.old }
     requires new { has_path (base_of parts.old).files path.now ≡ false }
+    requires dated { IsDate facts.now.date }
     requires room { (with_mail (base_of parts.old) path.now facts.now).next ≤ 2 ^ 63 }
     ensures parts { OnOk result (AreParts parts.new) }
     ensures base { OnOk result (base_of parts.new ≡ with_mail (base_of parts.old) path.now facts.now) }

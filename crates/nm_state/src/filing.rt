@@ -4,6 +4,7 @@ ghost use Rattle.std.specs.Prelude.{◌≡◌, ◌∷◌, ◌++◌, [], ℕ, Lis
 ghost use Rattle.std.specs.Cmp.Lexicographic.{slice_cmp};
 ghost use Rattle.std.specs.List.{filter};
 ghost use Rattle.std.specs.Ordering.{is_eq, nat_cmp};
+ghost use Rattle.nm_base.specs.Limits.{IsDate};
 ghost use Rattle.nm_base.specs.Order.{IsSorted, has_text, same_text};
 ghost use Rattle.std.specs.Map.{values_of};
 ghost use Rattle.nm_commit.specs.Files.{has_id, has_path, with_moved, without_path};
@@ -103,6 +104,7 @@ pub fn add_file(
 ) -> Result<(), NoMemory>
     requires filed { AreFiled filing.old }
     requires new { has_path (files_in filing.old) path.now ≡ false }
+    requires dated { IsDate facts.now.date }
     ensures filed { OnOk result (AreFiled filing.new) }
     ensures files { OnOk result (files_in filing.new ≡ files_in filing.old ++ (path.now, facts.now) ∷ []) }
 {

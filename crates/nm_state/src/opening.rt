@@ -1,9 +1,10 @@
 //! A snapshot made of an index as data, for `snapshot` and `renumbering`.
 
 ghost use Rattle.std.specs.Prelude.{◌≡◌, ◌≤◌, ◌^◌, ◌++◌, map, IfOk};
-ghost use Rattle.std.specs.List.{IsDistinct};
+ghost use Rattle.std.specs.List.{AllByRecursion, IsDistinct};
 ghost use Rattle.std.specs.List.Sorted.{IsStrictlySortedBy};
 ghost use Rattle.std.specs.Map.{keys_of, values_of};
+ghost use Rattle.nm_base.specs.Limits.{IsDate};
 ghost use Rattle.nm_base.specs.Order.{IsSorted, same_text};
 ghost use Rattle.nm_commit.specs.Files.{paths_of};
 ghost use Rattle.nm_index.specs.Index.{row_cmp, row_of};
@@ -27,7 +28,8 @@ use std::alloc::Global;
 
 /// The files in their maps.
 fn file_all(alloc: Global, files: &[(MailPath, Facts)]) -> Result<Filing, NoMemory>
-    requires { IsDistinct same_text (paths_of files.now) }
+    requires paths { IsDistinct same_text (paths_of files.now) }
+    requires dates { AllByRecursion (λ file. IsDate file.1.date) files.now }
     ensures filed { IfOk result (λ filing. AreFiled filing) }
     ensures files { IfOk result (λ filing. files_in filing ≡ files.now) }
 {

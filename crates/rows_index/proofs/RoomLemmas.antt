@@ -17,6 +17,7 @@ none_sorted order = tt
 pub no_files_are_valid : (revision next : ℕ) → 1 ≤ next → IsValid record { revision = revision; next = next; files = []; kept = []; entries = []; tags = [] }
 no_files_are_valid revision next h = record {
   paths = none_twice _;
+  dates = search rules;
   rows = none_sorted _;
   ids = none_twice _;
   rising = none_sorted _;
