@@ -1,6 +1,9 @@
 -- The files of an index and their maps: what is there, and what an arrival, a move and a removal leave.
 -- For the proofs of `add_file`, `has_file`, `is_live` and others.
 use Rattle.std.proofs.Common.{◌≡◌, ◌≢◌, refl, sym, ap, subst, ◌∙◌, ℕ, ◌+◌, ◌<◌, Bool, true, false, ◌||◌, ◌==◌, not, cond, List, map, [], ◌∷◌, ◌++◌, arith, inl, inr, true≢false, if◌then◌else◌, eq-eqb, eqb-true}
+use Rattle.std.proofs.lemmas.List.{append-nil}
+use Rattle.std.specs.Cmp.{both_ways}
+use Rattle.std.proofs.lemmas.Bool.{cond-true, cond-false, false_from_ne_true}
 use Rattle.std.specs.Prelude.{Contains, Option, Some, None, unwrap_or}
 use Rattle.std.specs.BTreeMap.{insert_entry, is_at}
 use Rattle.std.specs.Cmp.Lexicographic.{slice_cmp}
@@ -18,7 +21,7 @@ use Rattle.nm_base.specs.declared.facts.Facts.{Facts}
 use Rattle.nm_commit.specs.Files.{has_id, has_path, moved_path, with_moved, without_path}
 use Rattle.nm_state.specs.Filing.{AreFiled, at_place, at_text, files_in, lying_in, places_of, told, told_places, without_place}
 use Rattle.nm_state.specs.declared.filing.Filing.{Filing}
-use Rattle.nm_state.proofs.KeyLemmas.{same_bool, false_from, Contains_there, Contains_first, Contains_cases, Contains_none, Contains_map, Contains_from_map, any_one, any_of, same_text_from, same_text_of, text_same, text_other, same_id, other_id, cases_id, same_number, other_number, cases_number, number_from, chosen, other, choose, leave, some_by}
+use Rattle.nm_state.proofs.KeyLemmas.{Contains_there, Contains_first, Contains_cases, Contains_none, Contains_map, Contains_from_map, any_one, any_of, same_text_from, same_text_of, text_same, text_other, same_id, other_id, cases_id, same_number, other_number, cases_number, number_from, chosen, other, some_by}
 use Rattle.nm_state.proofs.OrderLemmas.{sorted_remove, sorted_insert, sorted_rest, not_first, found_at, found_in, pushed_entry, revalued, inserted_at}
 
 -- ---- what a look-up answered
@@ -51,7 +54,7 @@ module _ (f : Filing) (are : AreFiled f) where
   -- a path has a place just where a file lies there
   pub has_place : (path : List ℕ) → is_some (at_text path f.places) ≡ has_path (files_in f) path
   has_place path =
-      same_bool (is_some (at_text path f.places)) (has_path (files_in f) path) (λ is. let one = some_by (at_text path f.places) is in path_of path one.0 one.1) (λ has. let there = path_from path has in ap is_some there.2)
+      both_ways (is_some (at_text path f.places)) (has_path (files_in f) path) (λ is. let one = some_by (at_text path f.places) is in path_of path one.0 one.1) (λ has. let there = path_from path has in ap is_some there.2)
 
   pub no_place : (path : List ℕ) → has_path (files_in f) path ≡ true → None ≡ at_text path f.places → ⊥
   no_place path has none = let there = path_from path has in none-some there.0 (none ∙ there.2)
@@ -104,10 +107,6 @@ places_more (x ∷ es) e id =
     map_cond (same_text id x.1.1.id) x (filter (λ file. same_text id file.1.1.id) (es ++ e ∷ []))
     ∙ sym (one_more (same_text id x.1.1.id) x (filter (λ file. same_text id file.1.1.id) es) (places_of (es ++ e ∷ []) id) (if same_text id e.1.1.id then e.0 ∷ [] else []) (places_more es e id))
 
-nothing_more : {X : Type 0} (xs : List X) → xs ++ [] ≡ xs
-nothing_more [] = refl
-nothing_more (x ∷ xs) = ap (λ more. x ∷ more) (nothing_more xs)
-
 values_push : (es : List (ℕ × (List ℕ × Facts))) (e : ℕ × (List ℕ × Facts)) → values_of (es ++ e ∷ []) ≡ values_of es ++ e.1 ∷ []
 values_push [] e = refl
 values_push (x ∷ es) e = ap (λ more. x.1 ∷ more) (values_push es e)
@@ -131,7 +130,7 @@ module _ (old new : Filing) (path : List ℕ) (facts : Facts) (are : AreFiled ol
 
   old_place : (place : ℕ) (file : List ℕ × Facts) → at_place place old.files ≡ Some file → at_place place new.files ≡ Some file
   old_place place file at =
-      files_found place ∙ leave (is_eq (nat_cmp place old.next)) (Some (path, facts)) (at_place place old.files) (other_number place old.next (λ same. omega (arith, are.below place file at, same))) ∙ at
+      files_found place ∙ cond-false (is_eq (nat_cmp place old.next)) (Some (path, facts)) (at_place place old.files) (other_number place old.next (λ same. omega (arith, are.below place file at, same))) ∙ at
 
   new_below : (place : ℕ) (file : List ℕ × Facts) → at_place place new.files ≡ Some file → place < new.next
   new_below place file at = elim (cases_number place old.next) [
@@ -153,7 +152,7 @@ module _ (old new : Filing) (path : List ℕ) (facts : Facts) (are : AreFiled ol
     | inl same ↦
         let is : old.next ≡ place = same_Some old.next place (chosen (is_eq (slice_cmp nat_cmp p path)) (Some old.next) (at_text p old.places) (Some place) (same_id p path same) (sym (places_found p) ∙ at)) in (
           facts,
-          files_found place ∙ choose (is_eq (nat_cmp place old.next)) (Some (path, facts)) (at_place place old.files) (same_number place old.next (sym is)) ∙ ap (λ q. Some (q, facts)) (sym same),
+          files_found place ∙ cond-true (is_eq (nat_cmp place old.next)) (Some (path, facts)) (at_place place old.files) (same_number place old.next (sym is)) ∙ ap (λ q. Some (q, facts)) (sym same),
         )
     | inr not ↦
         let there = are.found p place (other (is_eq (slice_cmp nat_cmp p path)) (Some old.next) (at_text p old.places) (Some place) (other_id p path not) (sym (places_found p) ∙ at)) in (there.0, old_place place (p, there.0) there.1)
@@ -163,10 +162,10 @@ module _ (old new : Filing) (path : List ℕ) (facts : Facts) (are : AreFiled ol
   new_kept place p of at = elim (cases_number place old.next) [
     | inl same ↦
         let is : (path, facts) ≡ (p, of) = same_Some (path, facts) (p, of) (chosen (is_eq (nat_cmp place old.next)) (Some (path, facts)) (at_place place old.files) (Some (p, of)) (same_number place old.next same) (sym (files_found place) ∙ at)) in
-        places_found p ∙ choose (is_eq (slice_cmp nat_cmp p path)) (Some old.next) (at_text p old.places) (same_id p path (sym (ap (λ x. x.0) is))) ∙ ap Some (sym same)
+        places_found p ∙ cond-true (is_eq (slice_cmp nat_cmp p path)) (Some old.next) (at_text p old.places) (same_id p path (sym (ap (λ x. x.0) is))) ∙ ap Some (sym same)
     | inr not ↦
         let at_old : at_text p old.places ≡ Some place = are.kept place p of (other (is_eq (nat_cmp place old.next)) (Some (path, facts)) (at_place place old.files) (Some (p, of)) (other_number place old.next not) (sym (files_found place) ∙ at)) in
-        places_found p ∙ leave (is_eq (slice_cmp nat_cmp p path)) (Some old.next) (at_text p old.places) (other_id p path (λ same. none_there place (subst (λ q. at_text q old.places ≡ Some place) same at_old))) ∙ at_old
+        places_found p ∙ cond-false (is_eq (slice_cmp nat_cmp p path)) (Some old.next) (at_text p old.places) (other_id p path (λ same. none_there place (subst (λ q. at_text q old.places ≡ Some place) same at_old))) ∙ at_old
   ]
 
   more_places : (id : List ℕ) → places_of new.files id ≡ places_of old.files id ++ (if same_text id facts.id then old.next ∷ [] else [])
@@ -175,14 +174,14 @@ module _ (old new : Filing) (path : List ℕ) (facts : Facts) (are : AreFiled ol
   new_ids : (id : List ℕ) → at_text id new.of_id ≡ told (places_of new.files id)
   new_ids id = elim (cases_id id facts.id) [
     | inl same ↦
-        ids_found id ∙ choose (is_eq (slice_cmp nat_cmp id facts.id)) (Some (told_places old.of_id facts.id ++ old.next ∷ [])) (at_text id old.of_id) (same_id id facts.id same)
+        ids_found id ∙ cond-true (is_eq (slice_cmp nat_cmp id facts.id)) (Some (told_places old.of_id facts.id ++ old.next ∷ [])) (at_text id old.of_id) (same_id id facts.id same)
         ∙ ap (λ xs. Some (xs ++ old.next ∷ [])) (told_is old are facts.id ∙ ap (places_of old.files) (sym same))
         ∙ sym (told_last (places_of old.files id) old.next)
-        ∙ ap told (sym (more_places id ∙ ap (λ xs. places_of old.files id ++ xs) (choose (same_text id facts.id) (old.next ∷ []) [] (text_same id facts.id same))))
+        ∙ ap told (sym (more_places id ∙ ap (λ xs. places_of old.files id ++ xs) (cond-true (same_text id facts.id) (old.next ∷ []) [] (text_same id facts.id same))))
     | inr not ↦
-        ids_found id ∙ leave (is_eq (slice_cmp nat_cmp id facts.id)) (Some (told_places old.of_id facts.id ++ old.next ∷ [])) (at_text id old.of_id) (other_id id facts.id not)
+        ids_found id ∙ cond-false (is_eq (slice_cmp nat_cmp id facts.id)) (Some (told_places old.of_id facts.id ++ old.next ∷ [])) (at_text id old.of_id) (other_id id facts.id not)
         ∙ are.ids id
-        ∙ ap told (sym (more_places id ∙ ap (λ xs. places_of old.files id ++ xs) (leave (same_text id facts.id) (old.next ∷ []) [] (text_other id facts.id not)) ∙ nothing_more (places_of old.files id)))
+        ∙ ap told (sym (more_places id ∙ ap (λ xs. places_of old.files id ++ xs) (cond-false (same_text id facts.id) (old.next ∷ []) [] (text_other id facts.id not)) ∙ append-nil (places_of old.files id)))
   ]
 
   pub filed_added : AreFiled new
@@ -226,7 +225,7 @@ module _ (old : Filing) (are : AreFiled old) (path : List ℕ) (place : ℕ) (fa
   -- the file of the place is the one at the path
   pub agree : (e : ℕ × (List ℕ × Facts)) → Contains old.files e → is_eq (nat_cmp place e.0) ≡ same_text path e.1.0
   agree e among =
-      same_bool (is_eq (nat_cmp place e.0)) (same_text path e.1.0) (λ is. text_same path e.1.0 (sym (ap (λ x. x.0) (the_file e among (number_from place e.0 is)))))
+      both_ways (is_eq (nat_cmp place e.0)) (same_text path e.1.0) (λ is. text_same path e.1.0 (sym (ap (λ x. x.0) (the_file e among (number_from place e.0 is)))))
       (λ is. same_number place e.0 (the_place e among (same_text_from path e.1.0 is)))
 
   -- ---- a move
@@ -246,11 +245,11 @@ module _ (old : Filing) (are : AreFiled old) (path : List ℕ) (place : ℕ) (fa
     each_moved e among = elim (cases_number place e.0) [
       | inl same ↦
           let file : e.1 ≡ (path, facts) = the_file e among same in
-          let path_is : to ≡ moved_path path to e.1.0 = sym (choose (same_text path e.1.0) to e.1.0 (text_same path e.1.0 (sym (ap (λ x. x.0) file)))) in
-          let facts_is : facts ≡ e.1.1 = sym (ap (λ x. x.1) file) in choose (is_eq (nat_cmp place e.0)) (to, facts) e.1 (same_number place e.0 same) ∙ (λ i. (path_is i, facts_is i))
+          let path_is : to ≡ moved_path path to e.1.0 = sym (cond-true (same_text path e.1.0) to e.1.0 (text_same path e.1.0 (sym (ap (λ x. x.0) file)))) in
+          let facts_is : facts ≡ e.1.1 = sym (ap (λ x. x.1) file) in cond-true (is_eq (nat_cmp place e.0)) (to, facts) e.1 (same_number place e.0 same) ∙ (λ i. (path_is i, facts_is i))
       | inr not ↦
-          let path_is : e.1.0 ≡ moved_path path to e.1.0 = sym (leave (same_text path e.1.0) to e.1.0 (text_other path e.1.0 (λ same. not (the_place e among same)))) in
-          leave (is_eq (nat_cmp place e.0)) (to, facts) e.1 (other_number place e.0 not) ∙ (λ i. (path_is i, e.1.1))
+          let path_is : e.1.0 ≡ moved_path path to e.1.0 = sym (cond-false (same_text path e.1.0) to e.1.0 (text_other path e.1.0 (λ same. not (the_place e among same)))) in
+          cond-false (is_eq (nat_cmp place e.0)) (to, facts) e.1 (other_number place e.0 not) ∙ (λ i. (path_is i, e.1.1))
     ]
 
     moved_values : (es : List (ℕ × (List ℕ × Facts))) → ((e : ℕ × (List ℕ × Facts)) → Contains es e → (revalued place (to, facts) e).1 ≡ (moved_path path to e.1.0, e.1.1))
@@ -290,7 +289,7 @@ module _ (old : Filing) (are : AreFiled old) (path : List ℕ) (place : ℕ) (fa
       | inl same ↦
           let n_is : place ≡ n = same_Some place n (chosen (is_eq (slice_cmp nat_cmp p to)) (Some place) _ (Some n) (same_id p to same) (sym (places_found p) ∙ is)) in (
             facts,
-            files_found n ∙ choose (is_eq (nat_cmp n place)) (Some (to, facts)) (at_place n old.files) (same_number n place (sym n_is)) ∙ ap (λ q. Some (q, facts)) (sym same),
+            files_found n ∙ cond-true (is_eq (nat_cmp n place)) (Some (to, facts)) (at_place n old.files) (same_number n place (sym n_is)) ∙ ap (λ q. Some (q, facts)) (sym same),
           )
       | inr not ↦
           let inner : (if is_eq (slice_cmp nat_cmp p path) then None else at_text p old.places) ≡ Some n = other (is_eq (slice_cmp nat_cmp p to)) (Some place) _ (Some n) (other_id p to not) (sym (places_found p) ∙ is) in
@@ -299,7 +298,7 @@ module _ (old : Filing) (are : AreFiled old) (path : List ℕ) (place : ℕ) (fa
             | inr apart ↦
                 let there = are.found p n (other (is_eq (slice_cmp nat_cmp p path)) None (at_text p old.places) (Some n) (other_id p path apart) inner) in
                 let n_not : n ≢ place = λ same. apart (ap (λ x. x.0) (same_Some (p, there.0) (path, facts) (sym there.1 ∙ ap (λ m. at_place m old.files) same ∙ at))) in
-                (there.0, files_found n ∙ leave (is_eq (nat_cmp n place)) (Some (to, facts)) (at_place n old.files) (other_number n place n_not) ∙ there.1)
+                (there.0, files_found n ∙ cond-false (is_eq (nat_cmp n place)) (Some (to, facts)) (at_place n old.files) (other_number n place n_not) ∙ there.1)
           ]
     ]
 
@@ -307,11 +306,11 @@ module _ (old : Filing) (are : AreFiled old) (path : List ℕ) (place : ℕ) (fa
     moved_kept n p of is = elim (cases_number n place) [
       | inl same ↦
           let file : (to, facts) ≡ (p, of) = same_Some (to, facts) (p, of) (chosen (is_eq (nat_cmp n place)) (Some (to, facts)) (at_place n old.files) (Some (p, of)) (same_number n place same) (sym (files_found n) ∙ is)) in
-          places_found p ∙ choose (is_eq (slice_cmp nat_cmp p to)) (Some place) _ (same_id p to (sym (ap (λ x. x.0) file))) ∙ ap Some (sym same)
+          places_found p ∙ cond-true (is_eq (slice_cmp nat_cmp p to)) (Some place) _ (same_id p to (sym (ap (λ x. x.0) file))) ∙ ap Some (sym same)
       | inr not ↦
           let old_at : at_text p old.places ≡ Some n = are.kept n p of (other (is_eq (nat_cmp n place)) (Some (to, facts)) (at_place n old.files) (Some (p, of)) (other_number n place not) (sym (files_found n) ∙ is)) in
-          places_found p ∙ leave (is_eq (slice_cmp nat_cmp p to)) (Some place) _ (other_id p to (λ same. not_free n (subst (λ q. at_text q old.places ≡ Some n) same old_at)))
-          ∙ leave (is_eq (slice_cmp nat_cmp p path)) None (at_text p old.places) (other_id p path (λ same. not (same_Some n place (sym old_at ∙ ap (λ q. at_text q old.places) same ∙ at_path)))) ∙ old_at
+          places_found p ∙ cond-false (is_eq (slice_cmp nat_cmp p to)) (Some place) _ (other_id p to (λ same. not_free n (subst (λ q. at_text q old.places ≡ Some n) same old_at)))
+          ∙ cond-false (is_eq (slice_cmp nat_cmp p path)) None (at_text p old.places) (other_id p path (λ same. not (same_Some n place (sym old_at ∙ ap (λ q. at_text q old.places) same ∙ at_path)))) ∙ old_at
     ]
 
     pub moved : AreFiled new × (files_in new ≡ with_moved (files_in old) path to)
@@ -338,7 +337,7 @@ not_gap true x xs is = absurd (true≢false is)
 not_gap false x xs is = refl
 
 other_place : (a b : ℕ) → a ≢ b → (a == b) ≡ false
-other_place a b apart = false_from (a == b) (λ is. apart (eqb-true a b is))
+other_place a b apart = false_from_ne_true (a == b) (λ is. apart (eqb-true a b is))
 
 -- a place that is not there is not missed
 not_there : (place : ℕ) (xs : List ℕ) → ((n : ℕ) → Contains xs n → n ≢ place) → without_place xs place ≡ xs
@@ -392,7 +391,7 @@ module _ (place : ℕ) (id : List ℕ) where
   kept_by e es true is apart rest =
       sym
       (map_cond (same_text id e.1.1.id) e (filter (λ file. same_text id file.1.1.id) es)
-      ∙ leave (same_text id e.1.1.id) (e.0 ∷ places_of es id) (places_of es id) (apart (number_from place e.0 is)))
+      ∙ cond-false (same_text id e.1.1.id) (e.0 ∷ places_of es id) (places_of es id) (apart (number_from place e.0 is)))
   kept_by e es false is apart rest =
       map_cond (same_text id e.1.1.id) e (filter (λ file. same_text id file.1.1.id) (remove_entry (is_at (nat_cmp place)) es))
       ∙ (λ i. cond (same_text id e.1.1.id) (e.0 ∷ rest i) (rest i))
@@ -421,7 +420,7 @@ module _ (place : ℕ) (path : List ℕ) where
 
   none_lie : (es : List (ℕ × (List ℕ × Facts))) → ((x : ℕ × (List ℕ × Facts)) → Contains es x → same_text path x.1.0 ≡ false) → lying_in (values_of es) path ≡ []
   none_lie [] none = refl
-  none_lie (e ∷ es) none = leave (same_text path e.1.0) (e.1 ∷ lying_in (values_of es) path) (lying_in (values_of es) path) (none e (Contains_first e es)) ∙ none_lie es (λ x among. none x (Contains_there e es x among))
+  none_lie (e ∷ es) none = cond-false (same_text path e.1.0) (e.1 ∷ lying_in (values_of es) path) (lying_in (values_of es) path) (none e (Contains_first e es)) ∙ none_lie es (λ x among. none x (Contains_there e es x among))
 
   values_by : (e : ℕ × (List ℕ × Facts)) (es : List (ℕ × (List ℕ × Facts))) (test : Bool) → is_eq (nat_cmp place e.0) ≡ test → IsStrictlySortedBy nat_cmp (keys_of (e ∷ es)) → Agree (e ∷ es)
       → values_of (remove_entry (is_at (nat_cmp place)) es) ≡ without_path (values_of es) path → values_of (cond test es (e ∷ remove_entry (is_at (nat_cmp place)) es)) ≡ without_path (values_of (e ∷ es)) path
@@ -441,10 +440,10 @@ module _ (place : ℕ) (path : List ℕ) where
   one_lies (e ∷ es) sorted agrees file among = elim (Contains_cases e es (place, file) among) [
     | inl here ↦
         let same : place ≡ e.0 = sym (ap (λ x. x.0) here) in
-        choose (same_text path e.1.0) (e.1 ∷ lying_in (values_of es) path) (lying_in (values_of es) path) (sym (agrees e (Contains_first e es)) ∙ same_number place e.0 same)
+        cond-true (same_text path e.1.0) (e.1 ∷ lying_in (values_of es) path) (lying_in (values_of es) path) (sym (agrees e (Contains_first e es)) ∙ same_number place e.0 same)
         ∙ (let first : e.1 ≡ file = ap (λ x. x.1) here in let rest : lying_in (values_of es) path ≡ [] = none_lie es (none_after e es sorted agrees same) in (λ i. first i ∷ rest i))
     | inr there ↦
-        leave (same_text path e.1.0) (e.1 ∷ lying_in (values_of es) path) (lying_in (values_of es) path)
+        cond-false (same_text path e.1.0) (e.1 ∷ lying_in (values_of es) path) (lying_in (values_of es) path)
         (sym (agrees e (Contains_first e es)) ∙ other_number place e.0 (λ same. not_first e es sorted (place, file) there (sym same)))
         ∙ one_lies es (sorted_rest e es sorted) (agree_rest e es agrees) file there
   ]
@@ -467,23 +466,23 @@ module _ (old : Filing) (are : AreFiled old) (path : List ℕ) (place : ℕ) (fa
     | inr apart ↦
         let there = are.found p n (other (is_eq (slice_cmp nat_cmp p path)) None (at_text p old.places) (Some n) (other_id p path apart) (sym (places_found p) ∙ is)) in
         let n_not : n ≢ place = λ same. apart (ap (λ x. x.0) (same_Some (p, there.0) (path, facts) (sym there.1 ∙ ap (λ m. at_place m old.files) same ∙ at))) in
-        (there.0, files_found n ∙ leave (is_eq (nat_cmp n place)) None (at_place n old.files) (other_number n place n_not) ∙ there.1)
+        (there.0, files_found n ∙ cond-false (is_eq (nat_cmp n place)) None (at_place n old.files) (other_number n place n_not) ∙ there.1)
   ]
 
   gone_kept : (n : ℕ) (p : List ℕ) (of : Facts) → at_place n new.files ≡ Some (p, of) → at_text p new.places ≡ Some n
   gone_kept n p of is =
       let still = still_at n (p, of) is in
       let old_at : at_text p old.places ≡ Some n = are.kept n p of still.1 in
-      places_found p ∙ leave (is_eq (slice_cmp nat_cmp p path)) None (at_text p old.places) (other_id p path (λ same. still.0 (same_Some n place (sym old_at ∙ ap (λ q. at_text q old.places) same ∙ at_path)))) ∙ old_at
+      places_found p ∙ cond-false (is_eq (slice_cmp nat_cmp p path)) None (at_text p old.places) (other_id p path (λ same. still.0 (same_Some n place (sym old_at ∙ ap (λ q. at_text q old.places) same ∙ at_path)))) ∙ old_at
 
   gone_ids : (id : List ℕ) → at_text id new.of_id ≡ told (places_of new.files id)
   gone_ids id = elim (cases_id id facts.id) [
     | inl same ↦
-        ids_found id ∙ choose (is_eq (slice_cmp nat_cmp id facts.id)) (told (without_place (told_places old.of_id facts.id) place)) (at_text id old.of_id) (same_id id facts.id same)
+        ids_found id ∙ cond-true (is_eq (slice_cmp nat_cmp id facts.id)) (told (without_place (told_places old.of_id facts.id) place)) (at_text id old.of_id) (same_id id facts.id same)
         ∙ ap (λ xs. told (without_place xs place)) (told_is old are facts.id ∙ ap (places_of old.files) (sym same))
         ∙ ap told (sym (ap (λ es. places_of es id) files ∙ places_removed place id old.files are.sorted))
     | inr apart ↦
-        ids_found id ∙ leave (is_eq (slice_cmp nat_cmp id facts.id)) (told (without_place (told_places old.of_id facts.id) place)) (at_text id old.of_id) (other_id id facts.id apart)
+        ids_found id ∙ cond-false (is_eq (slice_cmp nat_cmp id facts.id)) (told (without_place (told_places old.of_id facts.id) place)) (at_text id old.of_id) (other_id id facts.id apart)
         ∙ are.ids id
         ∙ ap told
         (sym

@@ -7,21 +7,10 @@ use Rattle.std.specs.declared.cmp.Ordering.TheVariants.{Less, Equal, Greater}
 use Rattle.std.specs.Cmp.{nat_cmp_is}
 use Rattle.std.specs.Cmp.Lexicographic.{slice_cmp}
 use Rattle.std.specs.Ordering.{nat_cmp, is_eq}
-use Rattle.std.proofs.lemmas.Bool.{cases_order, or_cases, or_left, or_right}
+use Rattle.std.proofs.lemmas.Bool.{cases_order, or_cases, or_left, or_right, false_from_ne_true}
 use Rattle.std.proofs.lemmas.Map.Text.{is_eq-slice_cmp}
 use Rattle.std.proofs.lemmas.Slice.Eq.{bytes_eq-Decides}
 use Rattle.nm_base.specs.Order.{same_text}
-
--- ---- tests
-
-pub same_bool : (a b : Bool) → (a ≡ true → b ≡ true) → (b ≡ true → a ≡ true) → a ≡ b
-same_bool true b forth back = sym (forth refl)
-same_bool false true forth back = back refl
-same_bool false false forth back = refl
-
-pub false_from : (a : Bool) → (a ≡ true → ⊥) → a ≡ false
-false_from true not = absurd (not refl)
-false_from false not = refl
 
 -- ---- items
 
@@ -93,7 +82,7 @@ pub text_same : (a b : List ℕ) → a ≡ b → same_text a b ≡ true
 text_same a b is = ap (same_text a) (sym is) ∙ same_text_of a
 
 pub text_other : (a b : List ℕ) → a ≢ b → same_text a b ≡ false
-text_other a b not = false_from (same_text a b) (λ is. not (same_text_from a b is))
+text_other a b not = false_from_ne_true (same_text a b) (λ is. not (same_text_from a b is))
 
 pub same_id : (a b : List ℕ) → a ≡ b → is_eq (slice_cmp nat_cmp a b) ≡ true
 same_id a b is = is_eq-slice_cmp a b ∙ text_same a b is
@@ -140,14 +129,6 @@ chosen false x y z is e = absurd (true≢false (sym is))
 pub other : {A : Type 0} (test : Bool) (x y z : A) → test ≡ false → cond test x y ≡ z → y ≡ z
 other true x y z is e = absurd (true≢false is)
 other false x y z is e = e
-
-pub choose : {A : Type 0} (test : Bool) (x y : A) → test ≡ true → cond test x y ≡ x
-choose true x y is = refl
-choose false x y is = absurd (true≢false (sym is))
-
-pub leave : {A : Type 0} (test : Bool) (x y : A) → test ≡ false → cond test x y ≡ y
-leave true x y is = absurd (true≢false is)
-leave false x y is = refl
 
 -- ---- options
 

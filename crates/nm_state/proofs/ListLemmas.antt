@@ -1,5 +1,5 @@
--- Items of two lists put together. For `AddLemmas`, `HeldLemmas` and `RenumberLemmas`.
-use Rattle.std.proofs.Common.{◌≡◌, refl, ap, subst, List, [], ◌∷◌, ◌++◌, map, inl, inr, ◌⊎◌}
+-- Items of two lists put together.
+use Rattle.std.proofs.Common.{subst, List, [], ◌∷◌, ◌++◌, inl, inr, ◌⊎◌}
 use Rattle.std.specs.Prelude.{Contains}
 use Rattle.nm_state.proofs.KeyLemmas.{Contains_there, Contains_first, Contains_cases, Contains_none}
 
@@ -21,7 +21,3 @@ module _ {X : Type 0} where
     | inl here ↦ inl (subst (λ w. Contains (z ∷ xs) w) here (Contains_first z xs))
     | inr there ↦ elim (in_either xs ys x there) [ inl left ↦ inl (Contains_there z xs x left) | inr right ↦ inr right ]
   ]
-
-pub map_push : {X Y : Type 0} (f : X → Y) (xs : List X) (x : X) → map f (xs ++ x ∷ []) ≡ map f xs ++ f x ∷ []
-map_push f [] x = refl
-map_push f (y ∷ xs) x = ap (λ more. f y ∷ more) (map_push f xs x)

@@ -1,6 +1,7 @@
 -- The kept rows of one mail stand side by side: their bytes begin alike.
 -- For the proofs of `forget_mail`, `forget_rows` and `row_of_mail`.
 use Rattle.std.proofs.Common.{◌≡◌, refl, sym, ap, subst, ◌∙◌, ℕ, ◌+◌, Bool, true, false, ◌||◌, not, cond, List, [], ◌∷◌, ◌++◌, length, take, arith, inl, inr, true≢false, eq-eqb}
+use Rattle.std.proofs.Math.Bool.{or-false}
 use Rattle.std.specs.Prelude.{Contains, Some, slice_index_or, ◌<◌, nat_eq}
 use Rattle.std.specs.BTreeMap.{is_at}
 use Rattle.std.specs.BTreeMap.Range.{entries_from}
@@ -10,14 +11,14 @@ use Rattle.std.specs.List.Sorted.{IsStrictlySortedBy}
 use Rattle.std.specs.Map.{keys_of, lookup, remove_entry, values_of}
 use Rattle.std.specs.Ordering.{is_le, nat_cmp, ordering_then}
 use Rattle.std.specs.declared.cmp.Ordering.TheVariants.{Less}
-use Rattle.std.proofs.lemmas.Bool.{and_from, cases_order}
+use Rattle.std.proofs.lemmas.Bool.{and_from, cases_order, false_from_ne_true}
 use Rattle.std.proofs.lemmas.List.{take_more}
 use Rattle.std.proofs.lemmas.Option.{none-some, same_Some}
 use Rattle.nm_base.specs.Order.{has_text, same_text}
 use Rattle.nm_base.specs.declared.facts.LinkRow.{LinkRow}
 use Rattle.nm_codec.specs.Spelling.{list_bytes, text_bytes}
 use Rattle.nm_state.specs.Kept.{AreKept}
-use Rattle.nm_state.proofs.KeyLemmas.{Contains_first, Contains_there, Contains_cases, Contains_none, Contains_map, Contains_from_map, all_at, equal_is, false_from, greater_is, same_text_from, text_same}
+use Rattle.nm_state.proofs.KeyLemmas.{Contains_first, Contains_there, Contains_cases, Contains_none, Contains_map, Contains_from_map, all_at, equal_is, greater_is, same_text_from, text_same}
 use Rattle.nm_state.proofs.KeptLemmas.{sorted_filter}
 use Rattle.nm_state.proofs.OrderLemmas.{sorted_remove}
 use Rattle.nm_state.proofs.PruneLemmas.{filter_same, in_filter, from_filter}
@@ -70,7 +71,7 @@ module _ (kept : Rows) (are : AreKept kept) (id start : List ℕ) (start_is : st
 
   pub none_ahead : ahead ≡ [] → (row : LinkRow) → Contains (values_of kept) row → same_text row.id id ≡ false
   none_ahead none row among =
-      false_from (same_text row.id id)
+      false_from_ne_true (same_text row.id id)
       (λ same. let one = value_of row among (same_text_from row.id id same) in Contains_none one.0 (subst (λ es. Contains es one.0) none one.1))
 
   less_than_rest : (e : List ℕ × LinkRow) (more : Rows) → IsStrictlySortedBy (slice_cmp nat_cmp) (keys_of (e ∷ more)) → (x : List ℕ × LinkRow) → Contains more x → slice_cmp nat_cmp e.0 x.0 ≡ Less
@@ -79,7 +80,7 @@ module _ (kept : Rows) (are : AreKept kept) (id start : List ℕ) (start_is : st
 
   pub other_ahead : (e : List ℕ × LinkRow) (more : Rows) → ahead ≡ e ∷ more → ((rest : List ℕ) → e.0 ≡ start ++ rest → ⊥) → (row : LinkRow) → Contains (values_of kept) row → same_text row.id id ≡ false
   other_ahead e more is not row among =
-      false_from (same_text row.id id)
+      false_from_ne_true (same_text row.id id)
       (λ same.
       let one = value_of row among (same_text_from row.id id same) in
       let first = from_filter (λ (x : List ℕ × LinkRow). is_le (slice_cmp nat_cmp start x.0)) kept e (subst (λ es. Contains es e) (sym is) (Contains_first e more)) in
@@ -169,11 +170,7 @@ both p q r [] same other = refl
 both p q r (x ∷ xs) same other = both_by p q r x xs (p x) (same x) (other x) (both p q r xs same other)
 
 has_push : (ids : List (List ℕ)) (id other : List ℕ) → has_text (ids ++ id ∷ []) other ≡ (has_text ids other || same_text other id)
-has_push [] id other = or_none (same_text other id)
-  where
-    or_none : (b : Bool) → (b || false) ≡ b
-    or_none true = refl
-    or_none false = refl
+has_push [] id other = or-false (same_text other id)
 has_push (x ∷ ids) id other = (λ i. same_text other x || has_push ids id other i) ∙ grouped (same_text other x) (has_text ids other) (same_text other id)
   where
     grouped : (a b c : Bool) → (a || (b || c)) ≡ ((a || b) || c)

@@ -1,6 +1,7 @@
 -- Sums over the pairs of maps, over entries and over ids.
 -- For the proofs of `MeasuredLabels::drop_thread`, `count_new`, `entry_len` and others.
 use Rattle.std.proofs.Common.{◌≡◌, refl, sym, ap, ◌∙◌, ℕ, ◌+◌, ◌-◌, ◌≤◌, Bool, true, false, cond, ◌||◌, List, [], ◌∷◌, ◌++◌, length, length-append, map, min, not, arith, true≢false}
+use Rattle.std.proofs.Math.Bool.{or-false}
 use Rattle.std.specs.Prelude.{Contains, MatchOption, Option, None, Some}
 use Rattle.std.specs.BTreeMap.{insert_entry, is_at}
 use Rattle.std.specs.Cmp.{IsTotalOrder}
@@ -148,18 +149,10 @@ new_by : (id : List ℕ) (es : List (List ℕ × ℕ)) (next : ℕ) → has_entr
 new_by id es next is = ap (λ b. cond b (es, next) (es ++ (id, next) ∷ [], next + 1)) is
 
 pub none_seen : (labels : Labelling) → AreSeen labels [] [] 0
-none_seen labels = record { known = λ id. or_none (has_entry (entries_of labels.labels) id); counted = omega arith }
-  where
-    or_none : (b : Bool) → b ≡ (b || false)
-    or_none true = refl
-    or_none false = refl
+none_seen labels = record { known = λ id. sym (or-false (has_entry (entries_of labels.labels) id)); counted = omega arith }
 
 has-append : (es : List (List ℕ × ℕ)) (e : List ℕ × ℕ) (id : List ℕ) → has_entry (es ++ e ∷ []) id ≡ (has_entry es id || same_text id e.0)
-has-append [] e id = or_none (same_text id e.0)
-  where
-    or_none : (b : Bool) → (b || false) ≡ b
-    or_none true = refl
-    or_none false = refl
+has-append [] e id = or-false (same_text id e.0)
 has-append (x ∷ es) e id = by (same_text id x.0) (has-append es e id)
   where
     by : (b : Bool) → has_entry (es ++ e ∷ []) id ≡ (has_entry es id || same_text id e.0) → (b || has_entry (es ++ e ∷ []) id) ≡ ((b || has_entry es id) || same_text id e.0)

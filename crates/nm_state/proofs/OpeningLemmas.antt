@@ -1,6 +1,6 @@
 -- A snapshot made of an index as data: each list goes into its map in its own order.
--- For the proofs of `file_all`, `keep_all`, `parts_of` and others.
-use Rattle.std.proofs.Common.{◌≡◌, refl, sym, ap, subst, ◌∙◌, ℕ, zero, suc, ◌+◌, ◌<◌, ◌≤◌, ◌^◌, Bool, true, false, ◌||◌, List, [], ◌∷◌, ◌++◌, length, map, take, arith}
+use Rattle.std.proofs.Common.{◌≡◌, refl, sym, ap, subst, ◌∙◌, ℕ, zero, suc, ◌+◌, ◌<◌, ◌≤◌, ◌^◌, true, false, List, [], ◌∷◌, ◌++◌, length, map, take, arith}
+use Rattle.std.proofs.lemmas.Bool.{or_from}
 use Rattle.std.specs.Prelude.{slice_index_or, IsTrue}
 use Rattle.std.specs.BTreeMap.{insert_entry}
 use Rattle.std.specs.BTreeSet.{insert_key}
@@ -29,9 +29,6 @@ use Rattle.nm_state.specs.declared.parts.Parts.{Parts}
 use Rattle.nm_state.proofs.KeyLemmas.{Contains_map, all_at, text_other, text_same}
 use Rattle.nm_state.proofs.TagLemmas.{opened_tagged}
 
-neither : (a b : Bool) → a ≡ false → b ≡ false → (a || b) ≡ false
-neither a b first second = ap (λ x. x || b) first ∙ second
-
 -- ---- files
 
 module _ {X K : Type 0} (key : X → K) where
@@ -48,7 +45,7 @@ path_is_free [] i d distinct lt = absurd (omega (arith, lt))
 path_is_free (file ∷ files) zero d distinct lt = refl
 path_is_free (file ∷ files) (suc i) d distinct lt =
     let x : List ℕ = (slice_index_or files i d).0 in
-    neither (same_text x file.0) (has_path (take i files) x)
+    or_from (same_text x file.0) (has_path (take i files) x)
     (other_way file.0 x (at_index (λ (f : List ℕ × Facts). f.0) (λ y. same_text file.0 y ≡ false) files i d (IsDistinct-head same_text file.0 (paths_of files) distinct) (omega (arith, lt))))
     (path_is_free files i d (IsDistinct-tail same_text file.0 (paths_of files) distinct) (omega (arith, lt)))
 

@@ -1,9 +1,10 @@
 -- What goes once the thread of a mail that went has no live message. For the proof of `prune`.
 use Rattle.std.proofs.Common.{◌≡◌, refl, sym, ap, subst, ◌∙◌, ℕ, Bool, true, false, ◌&&◌, ◌||◌, not, cond, List, [], ◌∷◌, map, inl, inr, ◌⊎◌, true≢false}
+use Rattle.std.specs.Cmp.{both_ways}
 use Rattle.std.specs.Prelude.{Contains}
 use Rattle.std.specs.List.{filter, list_any}
 use Rattle.std.specs.Map.{values_of}
-use Rattle.std.proofs.lemmas.Bool.{and_parts, or_left}
+use Rattle.std.proofs.lemmas.Bool.{and_parts, or_left, false_from_ne_true, not-true, not_from_false}
 use Rattle.nm_base.specs.Order.{has_text, same_text}
 use Rattle.nm_base.specs.declared.facts.Facts.{Facts}
 use Rattle.nm_base.specs.declared.facts.LinkRow.{LinkRow}
@@ -18,7 +19,7 @@ use Rattle.nm_state.specs.Parts.{AreLoose, AreParts, AreTagged, base_of}
 use Rattle.nm_state.specs.ThreadLaws.{ThreadLaws}
 use Rattle.nm_state.specs.declared.filing.Filing.{Filing}
 use Rattle.nm_state.specs.declared.parts.Parts.{Parts}
-use Rattle.nm_state.proofs.KeyLemmas.{same_bool, false_from, any_one, any_of, Contains_first, Contains_there, Contains_cases, Contains_none, Contains_map, Contains_from_map, same_text_from, same_text_of}
+use Rattle.nm_state.proofs.KeyLemmas.{any_one, any_of, Contains_first, Contains_there, Contains_cases, Contains_none, Contains_map, Contains_from_map, same_text_from, same_text_of}
 use Rattle.nm_state.proofs.HeldLemmas.{file_row, kept_row, a_row, held_by, held_from, of_row}
 
 -- ---- what a filter leaves
@@ -60,14 +61,6 @@ all_pass : {X : Type 0} (xs : List X) → filter (λ _. true) xs ≡ xs
 all_pass [] = refl
 all_pass (x ∷ xs) = ap (λ more. x ∷ more) (all_pass xs)
 
-not_true : (b : Bool) → not b ≡ true → b ≡ false
-not_true true is = absurd (true≢false (sym is))
-not_true false is = refl
-
-not_false : (b : Bool) → b ≡ false → not b ≡ true
-not_false true is = absurd (true≢false is)
-not_false false is = refl
-
 -- ---- a thread that stays keeps its chains
 
 module _ (laws : ThreadLaws) (rows others : List LinkRow) (id : List ℕ) (stay : (row : LinkRow) → Contains rows row → is_same rows id row.id ≡ false → Contains others row) where
@@ -77,7 +70,7 @@ module _ (laws : ThreadLaws) (rows others : List LinkRow) (id : List ℕ) (stay 
       let parts = and_parts (has_text (ids_of one.0) a) (has_text (ids_of one.0) next) one.2 in
       let own : has_text (ids_of one.0) one.0.id ≡ true = or_left (same_text one.0.id one.0.id) (has_text one.0.links one.0.id) (same_text_of one.0.id) in
       let other : is_same rows id one.0.id ≡ false =
-      false_from (is_same rows id one.0.id)
+      false_from_ne_true (is_same rows id one.0.id)
       (λ same. apart (laws.through rows id one.0.id a ((laws.computed rows id one.0.id).0 same) (of_row laws rows one.0 one.1 one.0.id a own parts.0))) in (
         any_of (λ (row : LinkRow). has_text (ids_of row) a && has_text (ids_of row) next) others one.0 (stay one.0 one.1 other) one.2,
         λ same. apart (laws.through rows id next a same (of_row laws rows one.0 one.1 next a parts.1 parts.0)),
@@ -148,16 +141,16 @@ module _ (laws : ThreadLaws) (old : Parts) (id : List ℕ) (loose : AreLoose old
         true≢false (sym (any_of (has_id index.files) ids there.0 there.1 (subst (λ x. has_id index.files x ≡ true) (same_text_from file.1.id there.0 there.2) (file_live index.files file among))) ∙ dead)
 
     other_file : (file : List ℕ × Facts) → Contains index.files file → is_same rows id file.1.id ≡ false
-    other_file file among = false_from (is_same rows id file.1.id) (λ is. no_file file among ((laws.computed rows id file.1.id).0 is))
+    other_file file among = false_from_ne_true (is_same rows id file.1.id) (λ is. no_file file among ((laws.computed rows id file.1.id).0 is))
 
     held_is : (x : List ℕ) → (is_held index x ≡ true) ⊎ Same rows x id → is_held index x ≡ not (is_same rows id x)
     held_is x why =
-        same_bool (is_held index x) (not (is_same rows id x))
+        both_ways (is_held index x) (not (is_same rows id x))
         (λ held. let file = held_from laws index x held in
-        not_false (is_same rows id x) (false_from (is_same rows id x) (λ same. no_file file.0 file.1 (laws.through rows id x file.0.1.id ((laws.computed rows id x).0 same) file.2))))
+        not_from_false (is_same rows id x) (false_from_ne_true (is_same rows id x) (λ same. no_file file.0 file.1 (laws.through rows id x file.0.1.id ((laws.computed rows id x).0 same) file.2))))
         (λ other. elim why [
           | inl held ↦ held
-          | inr same ↦ absurd (true≢false (sym ((laws.computed rows id x).1 (laws.turned rows x id same)) ∙ not_true (is_same rows id x) other))
+          | inr same ↦ absurd (true≢false (sym ((laws.computed rows id x).1 (laws.turned rows x id same)) ∙ not-true (is_same rows id x) other))
         ])
 
     module _ (new : Parts) (revision : new.revision ≡ old.revision) (filing : new.filing ≡ old.filing) (tags : new.tags ≡ old.tags) (next : new.labels.next ≡ old.labels.next)
@@ -186,7 +179,7 @@ module _ (laws : ThreadLaws) (old : Parts) (id : List ℕ) (loose : AreLoose old
         | inl of_file ↦ subst (λ r. Contains (rows_of after) r) of_file.2 (file_row after of_file.0 (subst (λ fs. Contains fs of_file.0) (sym files_same) of_file.1))
         | inr in_kept ↦
             kept_row after row
-            (subst (λ all. Contains all row) (sym kept_is) (in_filter (λ (r : LinkRow). not (has_text ids r.id)) index.kept row in_kept (not_false (has_text ids row.id) (row_member row in_kept ∙ other))))
+            (subst (λ all. Contains all row) (sym kept_is) (in_filter (λ (r : LinkRow). not (has_text ids r.id)) index.kept row in_kept (not_from_false (has_text ids row.id) (row_member row in_kept ∙ other))))
       ]
 
       stayed : (row : LinkRow) → Contains (rows_of after) row → Contains (filter (λ row. not (is_same rows id row.id)) rows) row
@@ -194,7 +187,7 @@ module _ (laws : ThreadLaws) (old : Parts) (id : List ℕ) (loose : AreLoose old
         | inl of_file ↦
             let before : Contains index.files of_file.0 = subst (λ fs. Contains fs of_file.0) files_same of_file.1 in
             subst (λ r. Contains (filter (λ row. not (is_same rows id row.id)) rows) r) of_file.2
-            (in_filter (λ (r : LinkRow). not (is_same rows id r.id)) rows (row_of of_file.0.1) (file_row index of_file.0 before) (not_false (is_same rows id of_file.0.1.id) (other_file of_file.0 before)))
+            (in_filter (λ (r : LinkRow). not (is_same rows id r.id)) rows (row_of of_file.0.1) (file_row index of_file.0 before) (not_from_false (is_same rows id of_file.0.1.id) (other_file of_file.0 before)))
         | inr in_kept ↦
             let before = from_filter (λ (r : LinkRow). not (has_text ids r.id)) index.kept row (subst (λ all. Contains all row) kept_is in_kept) in
             in_filter (λ (r : LinkRow). not (is_same rows id r.id)) rows row (kept_row index row before.0) (ap not (sym (row_member row before.0)) ∙ before.1)
@@ -212,7 +205,7 @@ module _ (laws : ThreadLaws) (old : Parts) (id : List ℕ) (loose : AreLoose old
           filed = subst (λ f. AreFiled f) (sym filing) loose.filed;
           kept = kept;
           labels = laws.unordered (filter (λ row. not (is_same rows id row.id)) rows) (rows_of after) new.labels.labels
-              (λ row among. let before = from_filter (λ (r : LinkRow). not (is_same rows id r.id)) rows row among in stays row before.0 (not_true (is_same rows id row.id) before.1)) stayed labels;
+              (λ row among. let before = from_filter (λ (r : LinkRow). not (is_same rows id r.id)) rows row among in stays row before.0 (not-true (is_same rows id row.id) before.1)) stayed labels;
           held = record {
             rows = λ row among. held_after row.id (from_filter (λ (r : LinkRow). is_held index r.id) index.kept row (subst (λ all. Contains all row) pruned_kept among)).1;
             entries = λ entry among. held_after entry.0 (from_filter (λ (e : List ℕ × ℕ). is_held index e.0) index.entries entry (subst (λ all. Contains all entry) pruned_entries among)).1;

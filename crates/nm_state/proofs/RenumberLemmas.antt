@@ -9,7 +9,7 @@ use Rattle.std.specs.List.{AllByRecursion, IsDistinct, filter, list_any, sum_by}
 use Rattle.std.specs.List.Sorted.{IsStrictlySortedBy}
 use Rattle.std.specs.Ordering.{nat_cmp}
 use Rattle.std.specs.declared.cmp.Ordering.TheVariants.{Less}
-use Rattle.std.proofs.lemmas.List.{take_more}
+use Rattle.std.proofs.lemmas.List.{take_more, map_push}
 use Rattle.nm_base.specs.Limits.{max_count}
 use Rattle.nm_base.specs.Order.{has_text, same_text}
 use Rattle.nm_base.specs.declared.facts.Facts.{Facts}
@@ -30,7 +30,6 @@ use Rattle.nm_state.specs.Renumbered.{counted, renumbered}
 use Rattle.nm_state.specs.declared.room.Counts.{Counts}
 use Rattle.nm_state.proofs.AddLemmas.{mailed, mailed_is}
 use Rattle.nm_state.proofs.KeyLemmas.{less_is}
-use Rattle.nm_state.proofs.ListLemmas.{map_push}
 use Rattle.nm_state.proofs.MeasureLemmas.{entries_ids}
 use Rattle.nm_state.proofs.TakeLemmas.{dropped_is}
 

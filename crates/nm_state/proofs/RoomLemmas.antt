@@ -5,7 +5,7 @@ use Rattle.std.specs.Prelude.{Contains, Option, None, Some, Result, Ok, Err, nat
 use Rattle.std.specs.List.{sum_by}
 use Rattle.std.specs.Map.{values_of}
 use Rattle.std.specs.Option.{is_some}
-use Rattle.std.proofs.lemmas.Bool.{lt-ltb, le-ltb, ltb-false, or_left, or_right}
+use Rattle.std.proofs.lemmas.Bool.{lt-ltb, le-ltb, ltb-false, or_left, or_right, or_from}
 use Rattle.std.proofs.lemmas.List.Sums.{sum_by-cons}
 use Rattle.nm_base.specs.Limits.{max_count, max_files, max_index_bytes}
 use Rattle.nm_base.specs.declared.limit.Limit.{Limit}
@@ -115,9 +115,6 @@ module _ (index : Base) (counts : Counts) (revision : ℕ) (are : AreCounts inde
   small : counts.bytes ≤ max_index_bytes → bytes ≡ false
   small le = le-ltb max_index_bytes (base_len index) (omega (arith, le, are.bytes))
 
-  neither : (a b : Bool) → a ≡ false → b ≡ false → (a || b) ≡ false
-  neither a b e f = ap (λ x. x || b) e ∙ f
-
   pub too_many : max_files < counts.files → Some Files ≡ limit_passed index
   too_many lt = first files bytes numbers (lt-ltb max_files (length index.files) (omega (arith, lt, are.files)))
 
@@ -133,9 +130,9 @@ module _ (index : Base) (counts : Counts) (revision : ℕ) (are : AreCounts inde
   pub within : counts.files ≤ max_files → counts.bytes ≤ max_index_bytes → counts.next ≤ max_number → revision < max_number → None ≡ limit_passed index
   within le le2 le3 lt =
       none files bytes numbers (few le) (small le2)
-      (neither (nat_lt max_number index.next) (nat_lt max_number index.revision) (le-ltb max_number index.next (omega (arith, le3, are.next))) (le-ltb max_number index.revision (omega (arith, lt, is))))
+      (or_from (nat_lt max_number index.next) (nat_lt max_number index.revision) (le-ltb max_number index.next (omega (arith, le3, are.next))) (le-ltb max_number index.revision (omega (arith, lt, is))))
 
--- an index that passes no limit has used up neither its numbers nor its revisions
+-- an index that passes no limit has used up or_from its numbers nor its revisions
 numbers_false : (a b n r : Bool) → chain a b (n || r) ≡ None → n ≡ false
 numbers_false true b n r e = absurd (true≢false (ap is_some e))
 numbers_false false true n r e = absurd (true≢false (ap is_some e))

@@ -1,6 +1,8 @@
 -- Tags stand beside the messages that have a file, whatever comes and goes.
 -- For the proofs of `tag_message`, `untag` and `tag_first`.
 use Rattle.std.proofs.Common.{◌≡◌, ◌≢◌, refl, sym, ap, subst, ◌∙◌, ℕ, Bool, true, false, ◌||◌, not, cond, List, [], ◌∷◌, ◌++◌, inl, inr, true≢false, if◌then◌else◌}
+use Rattle.std.proofs.Math.Bool.{or-false}
+use Rattle.std.specs.Cmp.{both_ways}
 use Rattle.std.specs.Prelude.{Contains, IsTrue, Option, None, Some, ◌↔◌}
 use Rattle.std.specs.Cmp.Lexicographic.{slice_cmp}
 use Rattle.std.specs.List.{AllByRecursion}
@@ -9,7 +11,7 @@ use Rattle.std.specs.Map.{keys_of}
 use Rattle.std.specs.Option.{is_some}
 use Rattle.std.specs.Ordering.{is_eq, nat_cmp}
 use Rattle.std.specs.declared.cmp.Ordering.TheVariants.{Less}
-use Rattle.std.proofs.lemmas.Bool.{or_right}
+use Rattle.std.proofs.lemmas.Bool.{or_right, cond-true, cond-false}
 use Rattle.std.proofs.lemmas.Map.Text.{is_eq-slice_cmp}
 use Rattle.std.proofs.lemmas.Option.{none-some, same_Some}
 use Rattle.nm_base.specs.Order.{IsSorted, has_text, same_text}
@@ -18,7 +20,7 @@ use Rattle.nm_commit.specs.Files.{has_id, with_moved, without_path}
 use Rattle.nm_index.specs.declared.base.Base.{Base}
 use Rattle.nm_state.specs.Filing.{at_text, lying_in}
 use Rattle.nm_state.specs.Parts.{AreTagged}
-use Rattle.nm_state.proofs.KeyLemmas.{same_bool, Contains_first, Contains_there, Contains_cases, Contains_none, Contains_map, all_at, text_same, text_other, same_id, other_id, cases_id, choose, leave}
+use Rattle.nm_state.proofs.KeyLemmas.{Contains_first, Contains_there, Contains_cases, Contains_none, Contains_map, all_at, text_same, text_other, same_id, other_id, cases_id}
 use Rattle.nm_state.proofs.PruneLemmas.{in_filter}
 
 abbrev Tagging : Type 0
@@ -83,10 +85,10 @@ none_tagged = record { live = λ id. refl; sets = λ id set is. absurd (none-som
 module _ (files : Arrivals) (old new : Tagging) (id : List ℕ) (set : List (List ℕ)) (sorted : IsSorted set)
     (found : (other : List ℕ) → at_text other new ≡ (if is_eq (slice_cmp nat_cmp other id) then Some set else at_text other old)) where
   set_here : (other : List ℕ) → other ≡ id → at_text other new ≡ Some set
-  set_here other same = found other ∙ choose (is_eq (slice_cmp nat_cmp other id)) (Some set) (at_text other old) (same_id other id same)
+  set_here other same = found other ∙ cond-true (is_eq (slice_cmp nat_cmp other id)) (Some set) (at_text other old) (same_id other id same)
 
   set_there : (other : List ℕ) → other ≢ id → at_text other new ≡ at_text other old
-  set_there other not = found other ∙ leave (is_eq (slice_cmp nat_cmp other id)) (Some set) (at_text other old) (other_id other id not)
+  set_there other not = found other ∙ cond-false (is_eq (slice_cmp nat_cmp other id)) (Some set) (at_text other old) (other_id other id not)
 
   sets_after : AreTagged files old → (other : List ℕ) (tags : List (List ℕ)) → at_text other new ≡ Some tags → IsSorted tags
   sets_after are other tags is = elim (cases_id other id) [
@@ -105,12 +107,8 @@ module _ (files : Arrivals) (old new : Tagging) (id : List ℕ) (set : List (Lis
 
 -- ---- a mail more
 
-either_not : (a : Bool) → (a || false) ≡ a
-either_not true = refl
-either_not false = refl
-
 either : (a : Bool) → (a || false) ≡ (false || a)
-either a = either_not a
+either a = or-false a
 
 grouped : (a b c : Bool) → (a || (b || c)) ≡ ((a || b) || c)
 grouped true b c = refl
@@ -125,7 +123,7 @@ module _ (files : Arrivals) (path : List ℕ) (facts : Facts) where
   has_here id same = has_more files (path, facts) id ∙ or_right (has_id files id) (same_text id facts.id) (text_same id facts.id same)
 
   has_there : (id : List ℕ) → id ≢ facts.id → has_id (files ++ (path, facts) ∷ []) id ≡ has_id files id
-  has_there id not = has_more files (path, facts) id ∙ ap (λ test. has_id files id || test) (text_other id facts.id not) ∙ either_not (has_id files id)
+  has_there id not = has_more files (path, facts) id ∙ ap (λ test. has_id files id || test) (text_other id facts.id not) ∙ or-false (has_id files id)
 
   -- of a message that had a file: its tags stay
   pub mailed_again : (tags : Tagging) → AreTagged files tags → has_id files facts.id ≡ true → AreTagged (files ++ (path, facts) ∷ []) tags
@@ -180,12 +178,12 @@ module _ (files after : Arrivals) (id : List ℕ) (others : (other : List ℕ) �
   pub no_longer_live : (old new : Tagging) → AreTagged files old → has_id after id ≡ false → ((other : List ℕ) → at_text other new ≡ (if is_eq (slice_cmp nat_cmp other id) then None else at_text other old)) → AreTagged after new
   no_longer_live old new are is found = record {
     live = λ other. elim (cases_id other id) [
-      | inl same ↦ ap is_some (found other ∙ choose (is_eq (slice_cmp nat_cmp other id)) None (at_text other old) (same_id other id same)) ∙ sym (ap (has_id after) same ∙ is)
-      | inr not ↦ ap is_some (found other ∙ leave (is_eq (slice_cmp nat_cmp other id)) None (at_text other old) (other_id other id not)) ∙ are.live other ∙ sym (others other not)
+      | inl same ↦ ap is_some (found other ∙ cond-true (is_eq (slice_cmp nat_cmp other id)) None (at_text other old) (same_id other id same)) ∙ sym (ap (has_id after) same ∙ is)
+      | inr not ↦ ap is_some (found other ∙ cond-false (is_eq (slice_cmp nat_cmp other id)) None (at_text other old) (other_id other id not)) ∙ are.live other ∙ sym (others other not)
     ];
     sets = λ other tags at. elim (cases_id other id) [
-      | inl same ↦ absurd (none-some tags (sym (found other ∙ choose (is_eq (slice_cmp nat_cmp other id)) None (at_text other old) (same_id other id same)) ∙ at))
-      | inr not ↦ are.sets other tags (sym (found other ∙ leave (is_eq (slice_cmp nat_cmp other id)) None (at_text other old) (other_id other id not)) ∙ at)
+      | inl same ↦ absurd (none-some tags (sym (found other ∙ cond-true (is_eq (slice_cmp nat_cmp other id)) None (at_text other old) (same_id other id same)) ∙ at))
+      | inr not ↦ are.sets other tags (sym (found other ∙ cond-false (is_eq (slice_cmp nat_cmp other id)) None (at_text other old) (other_id other id not)) ∙ at)
     ];
   }
 
@@ -202,6 +200,6 @@ moved_tagged files from to tags are = record { live = λ id. are.live id ∙ sym
 
 pub opened_tagged : (files : Arrivals) (tags : Tagging) → ((id : List ℕ) → IsTrue (has_text (keys_of tags) id) ↔ IsTrue (has_id files id)) → AllByRecursion (λ tagged. IsSorted tagged.1) tags → AreTagged files tags
 opened_tagged files tags live sets = record {
-  live = λ id. found_is tags id ∙ same_bool (has_text (keys_of tags) id) (has_id files id) (live id).0 (live id).1;
+  live = λ id. found_is tags id ∙ both_ways (has_text (keys_of tags) id) (has_id files id) (live id).0 (live id).1;
   sets = λ id set at. let one = set_among tags id set at in subst IsSorted one.2 (all_at (λ (tagged : List ℕ × List (List ℕ)). IsSorted tagged.1) tags sets one.0 one.1);
 }

@@ -1,5 +1,5 @@
--- A file that is taken out, its row kept. For the proofs of `drop_mail` and `take_out`.
-use Rattle.std.proofs.Common.{◌≡◌, ◌≢◌, refl, sym, ap, subst, ◌∙◌, ℕ, Bool, true, false, not, List, [], ◌∷◌, inl, inr, ◌⊎◌}
+-- A file that is taken out, its row kept.
+use Rattle.std.proofs.Common.{◌≡◌, ◌≢◌, sym, ap, subst, ◌∙◌, ℕ, true, not, List, [], ◌∷◌, inl, inr, ◌⊎◌}
 use Rattle.std.specs.Prelude.{Contains}
 use Rattle.std.specs.BTreeMap.{is_at}
 use Rattle.std.specs.BTreeSet.{insert_key}
@@ -8,7 +8,7 @@ use Rattle.std.specs.Map.{remove_entry, values_of}
 use Rattle.std.specs.Ordering.{match_ordering, nat_cmp}
 use Rattle.std.specs.declared.cmp.Ordering.{Ordering}
 use Rattle.std.specs.declared.cmp.Ordering.TheVariants.{Less, Equal, Greater}
-use Rattle.std.proofs.lemmas.Bool.{or_left}
+use Rattle.std.proofs.lemmas.Bool.{or_left, cases_Bool}
 use Rattle.nm_base.specs.Order.{has_text, same_text}
 use Rattle.nm_base.specs.declared.facts.Facts.{Facts}
 use Rattle.nm_base.specs.declared.facts.LinkRow.{LinkRow}
@@ -59,10 +59,6 @@ new_row row (e ∷ rows) x among = new_by row e rows (row_cmp row e) x among (ne
 
 -- ---- the index without the file
 
-by_path : (test : Bool) → (test ≡ true) ⊎ (test ≡ false)
-by_path true = inl refl
-by_path false = inr refl
-
 module _ (laws : ThreadLaws) (old new : Parts) (path : List ℕ) (facts : Facts) (are : AreParts old) (filed : AreFiled new.filing) (kept : AreKept new.kept) (labels : new.labels ≡ old.labels)
     (files : files_in new.filing ≡ without_path (files_in old.filing) path) (lying : lying_in (files_in old.filing) path ≡ (path, facts) ∷ [])
     (rows : values_of new.kept ≡ insert_key row_cmp (values_of old.kept) (row_of facts)) (there : Contains (values_of new.kept) (row_of facts))
@@ -78,7 +74,7 @@ module _ (laws : ThreadLaws) (old new : Parts) (path : List ℕ) (facts : Facts)
 
   -- a file was another one, or this one
   file_by : (file : List ℕ × Facts) → Contains before.files file → Contains after.files file ⊎ ((path, facts) ≡ file)
-  file_by file among = elim (by_path (same_text path file.0)) [
+  file_by file among = elim (cases_Bool (same_text path file.0)) [
     | inl same ↦
         elim (Contains_cases (path, facts) [] file (subst (λ fs. Contains fs file) lying (in_filter (λ (f : List ℕ × Facts). same_text path f.0) before.files file among same))) [
           | inl here ↦ inr here
