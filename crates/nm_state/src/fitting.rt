@@ -4,13 +4,26 @@ ghost use Rattle.std.specs.Prelude.{◌≡◌, ◌↔◌, false, IfOk, IsTrue, O
 ghost use Rattle.nm_commit.specs.Files.{FitChanges, FitsChange, changed, has_path};
 ghost use Rattle.nm_state.specs.Filing.{AreFiled, files_in};
 
+use crate::additions::additions_fit;
 use crate::filing::{Filing, add_file, has_file, is_live, move_file, remove_file};
 use nm_base::{MailPath, NoMemory, is_date};
 use nm_commit::Change;
 use std::alloc::Global;
 
+/// Whether the changes fit the files.
+pub fn fit(alloc: Global, filing: &Filing, changes: &[Change]) -> Result<bool, NoMemory>
+    requires { AreFiled filing.now }
+    ensures { IfOk result (λ fit. IsTrue fit ↔ FitChanges (files_in filing.now) changes.now) }
+{
+    if let Some(fit) = additions_fit(alloc, filing, changes)? {
+        return Ok(fit);
+    }
+    let mut filing = filing.share()?;
+    changes_fit(alloc, &mut filing, changes)
+}
+
 /// Whether the changes fit the files. These are of no use any more.
-pub fn changes_fit(alloc: Global, filing: &mut Filing, changes: &[Change]) -> Result<bool, NoMemory>
+fn changes_fit(alloc: Global, filing: &mut Filing, changes: &[Change]) -> Result<bool, NoMemory>
     requires { AreFiled filing.old }
     ensures { IfOk result (λ fit. IsTrue fit ↔ FitChanges (files_in filing.old) changes.now) }
 {

@@ -2,6 +2,7 @@
 //! commit between them doesn't touch, and is seen as the plain index.
 #![tactic(auto)]
 
+mod additions;
 mod applying;
 mod changes;
 mod dropping;

@@ -20,7 +20,7 @@ ghost use Rattle.nm_state.specs.Snapshot.{retagged, thread_messages};
 use crate::applying::{apply_changes, retag};
 use crate::exporting::base_of;
 use crate::filing::{files_of, has_file, is_live, paths_of};
-use crate::fitting::changes_fit;
+use crate::fitting::fit;
 use crate::live_ids::LiveIds;
 use crate::messages::messages_of;
 use crate::numbers::has_ids;
@@ -202,8 +202,7 @@ impl Snapshot {
         if commit.changes.is_empty() {
             return Ok(false);
         }
-        let mut filing = self.parts.filing.share()?;
-        changes_fit(self.alloc, &mut filing, commit.changes.as_slice())
+        fit(self.alloc, &self.parts.filing, commit.changes.as_slice())
     }
 
     /// The ids of the messages that have a file, by their numbers.
