@@ -1,4 +1,4 @@
--- Items of two lists put together.
+-- Items of two lists put together. For `AddLemmas` and `HeldLemmas`.
 use Rattle.std.proofs.Common.{subst, List, [], ◌∷◌, ◌++◌, inl, inr, ◌⊎◌}
 use Rattle.std.specs.Prelude.{Contains}
 use Rattle.nm_state.proofs.KeyLemmas.{Contains_there, Contains_first, Contains_cases, Contains_none}

@@ -1,4 +1,5 @@
 -- A snapshot made of an index as data: each list goes into its map in its own order.
+-- For the proofs of `file_all`, `keep_all`, `parts_of` and others.
 use Rattle.std.proofs.Common.{◌≡◌, refl, sym, ap, subst, ◌∙◌, ℕ, zero, suc, ◌+◌, ◌<◌, ◌≤◌, ◌^◌, true, false, List, [], ◌∷◌, ◌++◌, length, map, take, arith}
 use Rattle.std.proofs.lemmas.Bool.{or_from}
 use Rattle.std.specs.Prelude.{slice_index_or, IsTrue}

@@ -1,4 +1,4 @@
--- A file that is taken out, its row kept.
+-- A file that is taken out, its row kept. For the proofs of `drop_mail` and `take_out`.
 use Rattle.std.proofs.Common.{◌≡◌, ◌≢◌, sym, ap, subst, ◌∙◌, ℕ, true, not, List, [], ◌∷◌, inl, inr, ◌⊎◌}
 use Rattle.std.specs.Prelude.{Contains}
 use Rattle.std.specs.BTreeMap.{is_at}

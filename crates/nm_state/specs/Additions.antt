@@ -1,4 +1,5 @@
 -- Changes that bring mails and set tags alone: what is known of the files that they leave, and of one that was tried.
+-- Cited by `additions`.
 use Rattle.std.specs.Prelude.{◌≡◌, ◌↔◌, ◌||◌, ℕ, Bool, true, IsTrue, List}
 use Rattle.nm_base.specs.Order.{has_text}
 use Rattle.nm_base.specs.declared.facts.Facts.{Facts}
