@@ -1,7 +1,7 @@
 -- The first line of a header, and what is left behind it.
 -- For the proofs of `join_folded`, `empty_line_len`, `folded_line_len` and others.
 use Rattle.std.proofs.Common.{◌≡◌, ℕ, zero, suc, ◌==◌, ◌+◌, ◌-◌, ◌<◌, ◌≤◌, true, false, cond, not, ◌&&◌, List, [], ◌∷◌, ◌++◌, length, take, drop, refl, sym, ap, ◌∙◌, arith, map, length-drop, append_assoc}
-use Rattle.std.specs.List.{concat, onto_first, take_while}
+use Rattle.std.specs.List.{concat, list_any, onto_first, take_while}
 use Rattle.std.proofs.lemmas.List.{length-take-le}
 use Rattle.std.proofs.lemmas.Bool.{eqb-true}
 use Rattle.std.proofs.lemmas.List.Sums.{take_while-cons}
