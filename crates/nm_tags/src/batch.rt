@@ -1,7 +1,7 @@
 //! The call `batch_lines`: lines of tag changes, as `tag --batch` takes them, for `nm_batch`; `nm_dump` reads lines
 //! of dumps with it.
 
-ghost use Rattle.std.specs.Prelude.{◌≡◌, ◌+◌, [], ◌∷◌, true, length, IfOk, IfSome, MatchOption, MatchResult, Some, None, Ok, Err};
+ghost use Rattle.std.specs.Prelude.{◌≡◌, ◌+◌, ◌<◌, [], ◌∷◌, true, length, IfOk, IfSome, MatchOption, MatchResult, Some, None, Ok, Err};
 ghost use Rattle.std.specs.Str.Lines.{lines};
 ghost use Rattle.nm_tags.specs.TagLines.{asked_in, batch_lines, classified, is_passed_over, is_tag_word, op_of, query_after, read_line, with_op, IsLineFault};
 
