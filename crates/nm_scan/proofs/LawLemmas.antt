@@ -10,8 +10,8 @@ use Rattle.nm_maildir.specs.Tree.{Tree}
 use Rattle.nm_maildir.specs.declared.given.Given.{Given}
 use Rattle.nm_plan.specs.Plan.{all_added}
 use Rattle.nm_scan.proofs.ReadLemmas.{NotesReads-append, Reads-append, begun_read, more_read, no_added, notes-none, read_with-more}
-use Rattle.nm_scan.specs.Batches.{HasReadBatch, HasReadBatches, HasReadSome, IsBatch, IsFull, IsOpen, IsUnfinished, ReadsBatches, StopsInBatch, full_answers, len_at_all}
-use Rattle.nm_scan.specs.Reading.{HasReadAll, NotesReads, Reads, read_with}
+use Rattle.nm_scan.specs.Batches.{HasReadBatch, HasReadBatches, HasReadSome, IsBatch, IsFull, IsOpen, IsUnfinished, ReadsBatches, StopsInBatch, len_at_all}
+use Rattle.nm_scan.specs.Reading.{HasReadAll, NotesReads, Reads, full_answers, read_with}
 
 abbrev Batches : Type 0
 Batches = List (List (List ℕ × Facts))
@@ -32,7 +32,7 @@ in-one tree given paths (added ∷ more) left (read, rest, answers, others, path
 
 -- few small files are one batch
 
-len-front : (t : Tree) (read rest : List (List ℕ)) → len_at_all t read ≤ len_at_all t (read ++ rest)
+pub len-front : (t : Tree) (read rest : List (List ℕ)) → len_at_all t read ≤ len_at_all t (read ++ rest)
 len-front t [] rest = omega arith
 len-front t (path ∷ read) rest = omega (arith, len-front t read rest)
 
@@ -96,7 +96,7 @@ more-batches m0 m1 m2 n0 n1 n2 paths batches left rest added h k =
 
 -- what was read so far
 
-none_small : (tree : Option Tree) → IfSome tree (λ t. len_at_all t [] < full_bytes)
+pub none_small : (tree : Option Tree) → IfSome tree (λ t. len_at_all t [] < full_bytes)
 none_small None = tt
 none_small (Some t) = omega arith
 

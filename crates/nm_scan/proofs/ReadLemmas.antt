@@ -1,6 +1,7 @@
 -- One read after another: what is noted, what has come, and which paths were read.
 -- For the proofs of `read_batch` and `read_next`.
 use Rattle.std.proofs.Common.{◌≡◌, ℕ, List, [], ◌∷◌, ◌++◌, Option, None, Some, IfErr, IfSome, is_some, Result, Ok, Err, map, refl, sym, ap, ◌∙◌, subst, append-nil, append_assoc, cond, arith}
+use Rattle.std.specs.Prelude.{OnErr}
 use Rattle.std.specs.List.{AllByRecursion, flat_map}
 use Rattle.std.specs.Option.{option_map}
 use Rattle.std.proofs.lemmas.Grind.{flat_map-append}
@@ -91,7 +92,7 @@ told_arrival None path g found is h = tt
 told_arrival (Some t) path g found is h = ap (arrival path) is ∙ (arrival_is path g ∙ (ap (arrival_of path) h ∙ sym (append-nil (arrival_at t path))))
 
 -- one file was read
-one_read : (tree : Option Tree) (path : List ℕ) (g : Got) (classified : ReadAnswer × Option Facts) → Classifies g classified → IfSome tree (λ t. g ≡ got_of t path max_mail_bytes)
+pub one_read : (tree : Option Tree) (path : List ℕ) (g : Got) (classified : ReadAnswer × Option Facts) → Classifies g classified → IfSome tree (λ t. g ≡ got_of t path max_mail_bytes)
     → Reads tree (givens.Read path classified.0 ∷ []) (path ∷ []) (arrival path classified.1)
 one_read tree path g classified h told = record {
   notes = record { reads = (path, classified.0) ∷ []; given_is = refl; each = refl; told = told_answer tree path g classified.0 h.answer told };
@@ -100,16 +101,7 @@ one_read tree path g classified h told = record {
   told = told_arrival tree path g classified.1 h.facts told;
 }
 
-pub one_read_all : (old new : ObservedMail) (given new_given : List Given) (path : List ℕ) (g : Got) (classified : ReadAnswer × Option Facts) → Classifies g classified → IfSome old.tree (λ t. g ≡ got_of t path max_mail_bytes)
-    → new_given ≡ given ++ givens.Read path classified.0 ∷ [] → new.tree ≡ old.tree → new.reads ≡ read_with old.reads (path ∷ []) → new.faults ≡ old.faults → HasReadAll old new given new_given (path ∷ []) (arrival path classified.1)
-one_read_all old new given new_given path g classified h told is tree read faults = record {
-  given = givens.Read path classified.0 ∷ [];
-  given_is = is;
-  reading = one_read old.tree path g classified h told;
-  mail = same_mail new (after_reads old (path ∷ [])) tree read faults;
-}
-
-AllByRecursion-append : {X : Type 0} (P : X → Type 0) (xs ys : List X) → AllByRecursion P xs → AllByRecursion P ys → AllByRecursion P (xs ++ ys)
+pub AllByRecursion-append : {X : Type 0} (P : X → Type 0) (xs ys : List X) → AllByRecursion P xs → AllByRecursion P ys → AllByRecursion P (xs ++ ys)
 AllByRecursion-append P [] ys h k = k
 AllByRecursion-append P (x ∷ xs) ys h k = (h.0, AllByRecursion-append P xs ys h.1 k)
 
@@ -163,13 +155,11 @@ more_read m0 m1 m2 n0 n1 n2 ps qs xs ys h k =
       mail = k.mail ∙ (ap (λ (m : ObservedMail). after_reads m qs) h.mail ∙ ap (λ (r : Option (List (List ℕ))). record { tree = m0.tree; reads = r; faults = m0.faults }) (read_with-more m0.reads ps qs));
     }
 
--- the loop goes on by one path
-pub next_read : (m0 m1 m2 : ObservedMail) (n0 n1 n2 : List Given) (ps : List (List ℕ)) (path : List ℕ) (before after : List (List ℕ × Facts)) → HasReadAll m0 m1 n0 n1 ps before
-    → (found : List (List ℕ × Facts)) × (after ≡ before ++ found) × HasReadAll m1 m2 n1 n2 (path ∷ []) found → HasReadAll m0 m2 n0 n2 (ps ++ path ∷ []) after
-next_read m0 m1 m2 n0 n1 n2 ps path before after h k =
-    subst (λ (l : List (List ℕ × Facts)). HasReadAll m0 m2 n0 n2 (ps ++ path ∷ []) l) (sym k.1) (more_read m0 m1 m2 n0 n1 n2 ps (path ∷ []) before k.0 h k.2)
-
 -- what is so of every error
 pub if_err : {T E : Type 0} (P : Type 0) (result : Result T E) → P → IfErr result (λ error. P)
 if_err P (Ok x) p = tt
 if_err P (Err error) p = p
+
+pub on_err : {T E : Type 0} (P : Type 0) (result : Result T E) → P → OnErr result P
+on_err P (Ok x) p = tt
+on_err P (Err error) p = p

@@ -10,11 +10,7 @@ use Rattle.nm_maildir.specs.declared.answers.Got.{Got}
 use Rattle.nm_maildir.specs.declared.answers.Got.TheVariants as got
 use Rattle.nm_maildir.specs.declared.given.Given.{Given}
 use Rattle.nm_plan.specs.Plan.{all_added}
-use Rattle.nm_scan.specs.Reading.{HasRead, HasReadAll, NotesReads, Reads}
-
--- the answers that close a batch
-abbrev pub full_answers : ℕ
-full_answers = 256
+use Rattle.nm_scan.specs.Reading.{HasRead, HasReadAll, NotesReads, Reads, full_answers}
 
 -- how many bytes a read finds
 abbrev pub found_len : Got → ℕ

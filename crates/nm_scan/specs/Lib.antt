@@ -1,5 +1,6 @@
 pub mod Batches
 pub mod Bodies
+pub mod Found
 pub mod Listing
 pub mod Reading
 pub mod Scanning

@@ -18,6 +18,10 @@ use Rattle.nm_maildir.specs.declared.given.ReadAnswer.{ReadAnswer}
 use Rattle.nm_maildir.specs.declared.given.ReadAnswer.TheVariants as answers
 use Rattle.nm_maildir.specs.Observed.{ObservedMail}
 
+-- the answers that close a batch
+abbrev pub full_answers : ℕ
+full_answers = 256
+
 -- what a read tells of a file
 abbrev pub answer_of : Got → ReadAnswer
 answer_of (got.Found bytes) = if is_some (facts_of bytes) then answers.Mail else answers.NotMail
@@ -79,12 +83,12 @@ pub record Reads (tree : Option Tree) (given : List Given) (paths : List (List �
   pub dated : AllByRecursion (λ arrival. IsDate arrival.1.date) added
   pub told : IfSome tree (λ t. added ≡ flat_map (arrival_at t) paths)
 
--- Of the paths the first were read, in order. Each answer is noted, but for the last where the reading stopped there.
+-- Of the paths the first were read, in order. Each answer is noted, but for those of the last batch where the reading stopped in it.
 pub record ReadsFirst (old new : ObservedMail) (given : List Given) (paths : List (List ℕ)) : Type 0 where
   pub answered : ℕ
   pub asked : ℕ
   pub within : asked ≤ length paths
-  pub last : (answered ≤ asked) × (asked ≤ answered + 1)
+  pub last : (answered ≤ asked) × (asked ≤ answered + full_answers)
   pub notes : NotesReads old.tree given (take answered paths)
   pub read : new.reads ≡ read_with old.reads (take asked paths)
 

@@ -4,6 +4,7 @@
 
 mod bodies;
 mod bodies_error;
+mod classifying;
 mod laws;
 mod reading;
 mod scan_error;

@@ -1,18 +1,20 @@
-//! Reading files of a mail folder, and noting what is answered: `nm_writer` reads what the index lacks, batch by
-//! batch, and `bodies` what is shown.
+//! Reading files of a mail folder; `new` reads what the index lacks, batch by batch.
 
-ghost use Rattle.std.specs.Prelude.{◌≡◌, ◌⊎◌, ℕ, List, ◌∷◌, [], ◌++◌, ◌<◌, ◌-◌, length, IfErr, IfOk, IfSome, MatchOption, OnErr, OnOk};
+ghost use Rattle.std.specs.Prelude.{◌≡◌, ◌⊎◌, ◌∷◌, [], ◌++◌, ◌<◌, ◌≤◌, length, IfErr, IfOk, IfSome, MatchOption, OnErr, OnOk};
 ghost use Rattle.std.specs.Vec.Iter.{into_iter_items, into_iter_len};
-ghost use Rattle.nm_base.specs.declared.facts.Facts.{Facts};
 ghost use Rattle.nm_maildir.specs.Observed.{HasMailCause};
+ghost use Rattle.nm_maildir.specs.declared.answers.Got.{Got};
 ghost use Rattle.nm_scan.specs.Batches.{HasReadBatch, StopsInBatch, found_len, len_at};
-ghost use Rattle.nm_scan.specs.Reading.{arrival};
-ghost use Rattle.nm_scan.specs.Reading.{AsksOnce, HasReadAll, Classifies};
+ghost use Rattle.nm_scan.specs.Found.{HasFound, HasFoundBatch, StopsFinding};
+ghost use Rattle.nm_scan.specs.Reading.{AsksOnce};
 
-use nm_base::{Copies, Facts, MailPath, Many, NoMemory};
-use nm_extract::{ExtractError, extract};
-use nm_maildir::{Given, Got, MailError, Maildir, ReadAnswer};
+use crate::classifying::take_found;
+use nm_base::{Facts, MailPath, Many};
+use nm_maildir::{Given, Got, MailError, Maildir};
+use nm_workers::Gate;
 use std::alloc::Global;
+use std::sync::Wait;
+use std::thread::Threads;
 use std::vec::IntoIter;
 
 /// A mail of the index: where it lies, and its facts.
@@ -27,13 +29,18 @@ const FULL_ANSWERS: usize = 256;
 /// The bytes that close a batch.
 const FULL_BYTES: u64 = 67_108_864;
 
-/// Reads the next batch of the files, notes what is answered of each, and gives those that are mail.
-pub fn read_batch<M: Maildir>(
+/// Reads the next batch of the files, in order; then 1 to 16 workers, who pass the gate, find which are mail. It notes what is
+/// answered of each, and gives the mails. Where the reading stops, what was read before is noted as far as memory goes.
+pub fn read_batch<R: Threads + Wait + Sync, M: Maildir, G: Gate + Sync>(
+    rt: &R,
     alloc: Global,
     mail: &mut M,
     paths: &mut IntoIter<MailPath, Global>,
+    workers: u32,
+    gate: &G,
     given: &mut Many<Given>,
 ) -> Result<Many<Mail>, MailError>
+    requires workers { (0 < workers) × (workers ≤ 16) }
     requires whole { into_iter_len paths.old ≡ length (into_iter_items paths.old) }
     requires some { 0 < length (into_iter_items paths.old) }
     ensures ok { IfOk result (λ added. HasReadBatch (M.observed mail.old) (M.observed mail.new) given.old given.new
@@ -42,15 +49,41 @@ pub fn read_batch<M: Maildir>(
     ensures whole { into_iter_len paths.new ≡ length (into_iter_items paths.new) }
     ensures cause { HasMailCause (M.observed mail.old).faults (M.observed mail.new).faults result }
 {
-    let mut added = Many::new(alloc);
+    let mut found = Many::new(alloc);
+    match read_files(mail, paths, &mut found) {
+        Ok(()) => {
+            let added = take_found(rt, alloc, workers, gate, found, given)?;
+            Ok(added)
+        }
+        Err(error) => {
+            let _ = take_found(rt, alloc, workers, gate, found, given);
+            Err(error)
+        }
+    }
+}
+
+/// Reads the files of a batch.
+fn read_files<M: Maildir>(
+    mail: &mut M,
+    paths: &mut IntoIter<MailPath, Global>,
+    found: &mut Many<(MailPath, Got)>,
+) -> Result<(), MailError>
+    requires none { found.old ≡ [] }
+    requires whole { into_iter_len paths.old ≡ length (into_iter_items paths.old) }
+    requires some { 0 < length (into_iter_items paths.old) }
+    ensures ok { OnOk result (HasFoundBatch (M.observed mail.old) (M.observed mail.new) (into_iter_items paths.old) (into_iter_items paths.new) found.new) }
+    ensures err { IfErr result (λ _. StopsFinding (M.observed mail.old) (M.observed mail.new) (into_iter_items paths.old) found.new) }
+    ensures whole { into_iter_len paths.new ≡ length (into_iter_items paths.new) }
+    ensures cause { HasMailCause (M.observed mail.old).faults (M.observed mail.new).faults result }
+{
     let mut answers = FULL_ANSWERS;
     let mut bytes = FULL_BYTES;
     'files: while let Some(path) = next_path(paths, answers, bytes) {
-        let found = read_next(alloc, mail, path, given, &mut added)?;
+        let len = read_next(mail, path, found)?;
         answers = answers.saturating_sub(1);
-        bytes = bytes.saturating_sub(found);
+        bytes = bytes.saturating_sub(len);
     }
-    Ok(added)
+    Ok(())
 }
 
 /// The next path of a batch that lacks so many answers and bytes until it is full.
@@ -67,25 +100,22 @@ fn next_path(paths: &mut IntoIter<MailPath, Global>, answers: usize, bytes: u64)
     paths.next()
 }
 
-/// Reads one file more, and notes what is answered of it. Where it is mail it joins the arrivals. Says how many bytes were found.
+/// Reads one file more, and keeps what is found. Says how many bytes these are.
 fn read_next<M: Maildir>(
-    alloc: Global,
     mail: &mut M,
     path: MailPath,
-    given: &mut Many<Given>,
-    added: &mut Many<Mail>,
+    found: &mut Many<(MailPath, Got)>,
 ) -> Result<u64, MailError>
-    ensures ok { IfOk result (λ _. (found : List (List ℕ × Facts)) × (added.new ≡ added.old ++ found)
-        × HasReadAll (M.observed mail.old) (M.observed mail.new) given.old given.new (path ∷ []) found) }
+    ensures ok { IfOk result (λ _. (got : Got) × (found.new ≡ found.old ++ (path, got) ∷ [])
+        × HasFound (M.observed mail.old) (M.observed mail.new) ((path, got) ∷ [])) }
     ensures bytes { IfOk result (λ len. IfSome (M.observed mail.old).tree (λ t. len ≡ len_at t path)) }
     ensures err { IfErr result (λ _. AsksOnce (M.observed mail.old) (M.observed mail.new) path) }
-    ensures unnoted { OnErr result (given.new ≡ given.old) }
+    ensures same { OnErr result (found.new ≡ found.old) }
     ensures cause { HasMailCause (M.observed mail.old).faults (M.observed mail.new).faults result }
 {
     let got = mail.read(&path, MAX_BYTES)?;
     let len = found_len(&got);
-    let (answer, found) = classify(alloc, got)?;
-    note(path, answer, found, given, added)?;
+    found.push((path, got))?;
     Ok(len)
 }
 
@@ -96,48 +126,5 @@ fn found_len(got: &Got) -> u64
     match got {
         Got::Missing | Got::TooLong => 0,
         Got::Found(bytes) => bytes.len() as u64,
-    }
-}
-
-/// Notes an answer. Where it is mail, it joins the arrivals.
-fn note(
-    path: MailPath,
-    answer: ReadAnswer,
-    found: Option<Facts>,
-    given: &mut Many<Given>,
-    added: &mut Many<Mail>,
-) -> Result<(), NoMemory>
-    ensures ok { OnOk result ((given.new ≡ given.old ++ Given.Read path answer ∷ []) × (added.new ≡ added.old ++ arrival path found)) }
-    ensures err { OnErr result (given.new ≡ given.old) }
-{
-    let copied = path.copy()?;
-    if let Some(facts) = found {
-        added.push((path, facts))?;
-    }
-    given.push(Given::Read {
-        path: copied,
-        answer,
-    })?;
-    Ok(())
-}
-
-/// What a read tells, and the facts where it found mail.
-fn classify(alloc: Global, got: Got) -> Result<(ReadAnswer, Option<Facts>), NoMemory>
-    ensures { IfOk result (Classifies got) }
-{
-    match got {
-        Got::Missing => Ok((ReadAnswer::Missing, None)),
-        Got::TooLong => Ok((ReadAnswer::TooLong, None)),
-        Got::Found(bytes) => classify_bytes(alloc, bytes.as_slice()),
-    }
-}
-
-fn classify_bytes(alloc: Global, bytes: &[u8]) -> Result<(ReadAnswer, Option<Facts>), NoMemory>
-    ensures { IfOk result (Classifies (Got.Found bytes.now)) }
-{
-    match extract(alloc, bytes) {
-        Ok(facts) => Ok((ReadAnswer::Mail, Some(facts))),
-        Err(ExtractError::NotMail) => Ok((ReadAnswer::NotMail, None)),
-        Err(ExtractError::NoMemory) => Err(NoMemory),
     }
 }

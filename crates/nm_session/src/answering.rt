@@ -31,6 +31,7 @@ use nm_tags::LineError;
 use nm_writer::Writer;
 use std::alloc::Global;
 use std::sync::Wait;
+use std::thread::Threads;
 
 /// What came of a line beside its commits.
 #[derive(Drop)]
@@ -42,7 +43,7 @@ pub(crate) struct LineAnswer {
 }
 
 /// Reads what the line asks for, and does it. `left` is how many bytes may still be shown.
-pub(crate) fn answer<R: Wait, M: Maildir, D: Disk>(
+pub(crate) fn answer<R: Threads + Wait + Sync, M: Maildir, D: Disk>(
     rt: &R,
     alloc: Global,
     setting: &Setting,

@@ -31,9 +31,11 @@ use nm_plan::tag_commits_fit;
 use nm_query::{QueryError, parse};
 use nm_state::Snapshot;
 use nm_tags::LineError;
+use nm_workers::OpenGate;
 use nm_writer::{WriteError, Writer};
 use std::alloc::Global;
 use std::sync::Wait;
+use std::thread::Threads;
 
 /// The lines of the faults of devices, made before one comes.
 #[derive(Drop)]
@@ -51,7 +53,7 @@ fn fault_texts(alloc: Global) -> Result<FaultTexts, NoMemory>
 }
 
 /// Takes in what has come and lets go what is gone.
-pub(crate) fn run_new<R: Wait, M: Maildir, D: Disk>(
+pub(crate) fn run_new<R: Threads + Wait + Sync, M: Maildir, D: Disk>(
     rt: &R,
     alloc: Global,
     writer: &mut Writer,
@@ -70,7 +72,7 @@ pub(crate) fn run_new<R: Wait, M: Maildir, D: Disk>(
         → IsDurable entry opening (D.observed disk.new) writer.new }
 {
     let texts = fault_texts(alloc)?;
-    match writer.new_mail(rt, mail, disk, given) {
+    match writer.new_mail(rt, mail, disk, 1, &OpenGate, given) {
         Ok(report) => reply_new(alloc, &report),
         Err(error) => refuse_write(alloc, error, texts),
     }

@@ -22,9 +22,10 @@ use nm_scan::left_after;
 use nm_writer::Writer;
 use std::alloc::Global;
 use std::sync::Wait;
+use std::thread::Threads;
 
 /// Runs one line, and notes it in places that are spare. `left` is how many bytes may still be shown; it says how many may behind the line.
-pub(crate) fn run_line<R: Wait, M: Maildir, D: Disk>(
+pub(crate) fn run_line<R: Threads + Wait + Sync, M: Maildir, D: Disk>(
     rt: &R,
     alloc: Global,
     setting: &Setting,
@@ -62,7 +63,7 @@ fn made_since(before: usize, writer: &Writer) -> usize
 }
 
 /// Runs the line. `spare` is its text where it finds no memory.
-fn line_log<R: Wait, M: Maildir, D: Disk>(
+fn line_log<R: Threads + Wait + Sync, M: Maildir, D: Disk>(
     rt: &R,
     alloc: Global,
     setting: &Setting,

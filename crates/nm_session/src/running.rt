@@ -28,12 +28,13 @@ use nm_maildir::Maildir;
 use nm_writer::Writer;
 use std::alloc::Global;
 use std::sync::Wait;
+use std::thread::Threads;
 
 /// The most bytes that all lines may show.
 const MAX_SHOWN: u64 = 67_108_864;
 
 /// Runs the lines in their order over the index that was opened, and tells what each did.
-pub(crate) fn run_lines<R: Wait, M: Maildir, D: Disk>(
+pub(crate) fn run_lines<R: Threads + Wait + Sync, M: Maildir, D: Disk>(
     rt: &R,
     alloc: Global,
     setting: &Setting,
@@ -71,7 +72,7 @@ pub(crate) fn run_lines<R: Wait, M: Maildir, D: Disk>(
 }
 
 /// Runs the lines, and notes each in the rooms. It says how many bytes may still be shown.
-fn run_each<R: Wait, M: Maildir, D: Disk>(
+fn run_each<R: Threads + Wait + Sync, M: Maildir, D: Disk>(
     rt: &R,
     alloc: Global,
     setting: &Setting,

@@ -17,11 +17,12 @@ use nm_maildir::Maildir;
 use nm_writer::{OpenError, Opened, Writer};
 use std::alloc::Global;
 use std::sync::Wait;
+use std::thread::Threads;
 
 /// Opens the index that the disk holds, and runs the lines over it and the mail folder, one after the other. All memory of the log
 /// is taken before the index is opened; a line that runs out of memory says so, and the next one runs. It may wait, but no reader is
 /// there yet to wait for.
-pub fn run_session<R: Wait, M: Maildir, D: Disk>(
+pub fn run_session<R: Threads + Wait + Sync, M: Maildir, D: Disk>(
     rt: &R,
     alloc: Global,
     setting: &Setting,
@@ -42,7 +43,7 @@ pub fn run_session<R: Wait, M: Maildir, D: Disk>(
 }
 
 /// Opens the index, and runs the lines.
-fn open_and_run<R: Wait, M: Maildir, D: Disk>(
+fn open_and_run<R: Threads + Wait + Sync, M: Maildir, D: Disk>(
     rt: &R,
     alloc: Global,
     setting: &Setting,

@@ -18,6 +18,7 @@ use nm_log::{Done, Setting};
 use nm_maildir::MailFolder;
 use std::alloc::Global;
 use std::sync::Wait;
+use std::thread::Threads;
 
 /// What a run begins with beside its words and devices.
 #[derive(Debug, Drop)]
@@ -30,7 +31,7 @@ pub struct Start {
 
 /// Runs the program: the words begin with options, each `--name=value`; then the mail folder and the index are opened, and the words behind
 /// the options are the call.
-pub fn program<R: Wait, M: MailFolder, D: DiskFolder, I: Source, O: Sink, E: Sink>(
+pub fn program<R: Threads + Wait + Sync, M: MailFolder, D: DiskFolder, I: Source, O: Sink, E: Sink>(
     rt: &R,
     alloc: Global,
     start: &Start,
@@ -57,7 +58,14 @@ pub fn program<R: Wait, M: MailFolder, D: DiskFolder, I: Source, O: Sink, E: Sin
 }
 
 /// Opens the mail folder, and goes on with the index.
-fn open_and_call<R: Wait, M: MailFolder, D: DiskFolder, I: Source, O: Sink, E: Sink>(
+fn open_and_call<
+    R: Threads + Wait + Sync,
+    M: MailFolder,
+    D: DiskFolder,
+    I: Source,
+    O: Sink,
+    E: Sink,
+>(
     rt: &R,
     alloc: Global,
     start: &Start,
@@ -89,7 +97,14 @@ fn open_and_call<R: Wait, M: MailFolder, D: DiskFolder, I: Source, O: Sink, E: S
 }
 
 /// Opens the index, and makes the call.
-fn open_index_and_call<R: Wait, M: MailFolder, D: DiskFolder, I: Source, O: Sink, E: Sink>(
+fn open_index_and_call<
+    R: Threads + Wait + Sync,
+    M: MailFolder,
+    D: DiskFolder,
+    I: Source,
+    O: Sink,
+    E: Sink,
+>(
     rt: &R,
     alloc: Global,
     start: &Start,

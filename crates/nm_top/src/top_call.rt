@@ -25,6 +25,7 @@ use nm_session::run_session;
 use nm_writer::OpenError;
 use std::alloc::Global;
 use std::sync::Wait;
+use std::thread::Threads;
 
 /// The most bytes of an input.
 const MAX_INPUT: u64 = 67_108_864;
@@ -33,7 +34,7 @@ const MAX_INPUT: u64 = 67_108_864;
 /// runs its lines and prints their replies, each behind a header, to `out`; any other is run as the one line, over the lines of `input`
 /// where it reads some, and its reply stands alone. `err` gains at most one line. It takes what memory it needs. It
 /// may wait as readers leave a snapshot, of which there are none yet.
-pub fn notmuch<R: Wait, M: Maildir, D: Disk, I: Source, O: Sink, E: Sink>(
+pub fn notmuch<R: Threads + Wait + Sync, M: Maildir, D: Disk, I: Source, O: Sink, E: Sink>(
     rt: &R,
     alloc: Global,
     words: &[Text],
@@ -64,7 +65,7 @@ pub fn notmuch<R: Wait, M: Maildir, D: Disk, I: Source, O: Sink, E: Sink>(
 }
 
 /// Does what the words say: they begin a session, or are a single command.
-fn answered<R: Wait, M: Maildir, D: Disk, I: Source, O: Sink, E: Sink>(
+fn answered<R: Threads + Wait + Sync, M: Maildir, D: Disk, I: Source, O: Sink, E: Sink>(
     rt: &R,
     alloc: Global,
     words: &[Text],
@@ -87,7 +88,7 @@ fn answered<R: Wait, M: Maildir, D: Disk, I: Source, O: Sink, E: Sink>(
 }
 
 /// Tests the words of a session, and runs its script.
-fn answer_session<R: Wait, M: Maildir, D: Disk, I: Source, O: Sink, E: Sink>(
+fn answer_session<R: Threads + Wait + Sync, M: Maildir, D: Disk, I: Source, O: Sink, E: Sink>(
     rt: &R,
     alloc: Global,
     words: &[Text],
@@ -117,7 +118,7 @@ fn answer_session<R: Wait, M: Maildir, D: Disk, I: Source, O: Sink, E: Sink>(
 }
 
 /// Tests the words of a single command and its query, and runs it.
-fn answer_command<R: Wait, M: Maildir, D: Disk, I: Source, O: Sink, E: Sink>(
+fn answer_command<R: Threads + Wait + Sync, M: Maildir, D: Disk, I: Source, O: Sink, E: Sink>(
     rt: &R,
     alloc: Global,
     words: &[Text],
@@ -143,7 +144,7 @@ fn answer_command<R: Wait, M: Maildir, D: Disk, I: Source, O: Sink, E: Sink>(
 }
 
 /// Runs a single command, over the input where it reads one.
-fn run_command<R: Wait, M: Maildir, D: Disk, I: Source, O: Sink, E: Sink>(
+fn run_command<R: Threads + Wait + Sync, M: Maildir, D: Disk, I: Source, O: Sink, E: Sink>(
     rt: &R,
     alloc: Global,
     words: &[Text],
@@ -170,7 +171,7 @@ fn run_command<R: Wait, M: Maildir, D: Disk, I: Source, O: Sink, E: Sink>(
 }
 
 /// Runs a single command that leaves the input as it is.
-fn run_alone<R: Wait, M: Maildir, D: Disk, O: Sink, E: Sink>(
+fn run_alone<R: Threads + Wait + Sync, M: Maildir, D: Disk, O: Sink, E: Sink>(
     rt: &R,
     alloc: Global,
     words: &[Text],
@@ -207,7 +208,7 @@ fn run_alone<R: Wait, M: Maildir, D: Disk, O: Sink, E: Sink>(
 }
 
 /// Reads the lines that a single command asks for, before any other device is asked, and runs it.
-fn read_lines_and_run<R: Wait, M: Maildir, D: Disk, I: Source, O: Sink, E: Sink>(
+fn read_lines_and_run<R: Threads + Wait + Sync, M: Maildir, D: Disk, I: Source, O: Sink, E: Sink>(
     rt: &R,
     alloc: Global,
     words: &[Text],
@@ -234,7 +235,7 @@ fn read_lines_and_run<R: Wait, M: Maildir, D: Disk, I: Source, O: Sink, E: Sink>
 }
 
 /// Runs a single command over the input that was read, where each of its lines is of its form.
-fn run_over<R: Wait, M: Maildir, D: Disk, O: Sink, E: Sink>(
+fn run_over<R: Threads + Wait + Sync, M: Maildir, D: Disk, O: Sink, E: Sink>(
     rt: &R,
     alloc: Global,
     words: &[Text],
@@ -288,7 +289,7 @@ fn refuse_unasked<M: Maildir, D: Disk, E: Sink>(
 }
 
 /// Reads the script, before any other device is asked, and runs it.
-fn read_and_run<R: Wait, M: Maildir, D: Disk, I: Source, O: Sink, E: Sink>(
+fn read_and_run<R: Threads + Wait + Sync, M: Maildir, D: Disk, I: Source, O: Sink, E: Sink>(
     rt: &R,
     alloc: Global,
     setting: &Setting,
@@ -325,7 +326,7 @@ fn read_and_run<R: Wait, M: Maildir, D: Disk, I: Source, O: Sink, E: Sink>(
 }
 
 /// Runs the lines over the index that the disk holds, prints their replies, and says how it ended.
-fn run_lines<R: Wait, M: Maildir, D: Disk, O: Sink, E: Sink>(
+fn run_lines<R: Threads + Wait + Sync, M: Maildir, D: Disk, O: Sink, E: Sink>(
     rt: &R,
     alloc: Global,
     setting: &Setting,

@@ -1,7 +1,7 @@
 //! The command `new`, for `nm_session`: it lists the mail folder, takes in what has come, batch by batch, and lets go
 //! what is gone.
 
-ghost use Rattle.std.specs.Prelude.{◌≡◌, ◌<◌, List, [], Err, IfOk, IfSome, None, length, map};
+ghost use Rattle.std.specs.Prelude.{◌≡◌, ◌<◌, ◌≤◌, List, [], Err, IfOk, IfSome, None, length, map};
 ghost use Rattle.std.specs.Vec.Iter.{into_iter_items, into_iter_len};
 ghost use Rattle.nm_answer.specs.NewText.{listed_in};
 ghost use Rattle.nm_commit.specs.declared.change.Commit.{Commit};
@@ -36,8 +36,10 @@ use nm_scan::{
 };
 use nm_shared::Shared;
 use nm_state::Snapshot;
+use nm_workers::Gate;
 use std::alloc::Global;
 use std::sync::Wait;
+use std::thread::Threads;
 use std::vec::IntoIter;
 
 /// What is gone: the changes that remove it, and the messages of its files.
@@ -49,14 +51,18 @@ struct Gone {
 
 impl Writer {
     /// Reads what has come to the mail folder, batch by batch, and makes a commit of each batch that has mail; then one of what is
-    /// gone, where there is something. What the folder answered is noted. A closed writer asks nothing.
-    pub fn new_mail<R: Wait, M: Maildir, D: Disk>(
+    /// gone, where there is something. 1 to 16 workers, who pass the gate, parse the mails of a batch at once; no clause knows how many
+    /// they are. What the folder answered is noted. A closed writer asks nothing.
+    pub fn new_mail<R: Threads + Wait + Sync, M: Maildir, D: Disk, G: Gate + Sync>(
         &mut self,
         rt: &R,
         mail: &mut M,
         disk: &mut D,
+        workers: u32,
+        gate: &G,
         given: &mut Many<Given>,
     ) -> Result<NewReport, WriteError>
+        requires workers { (0 < workers) × (workers ≤ 16) }
         requires fresh { given.old ≡ [] }
         requires stands { self.old.closed ≡ None → IfSome (D.observed disk.old).told (λ moments. StandsOnIndex moments.present self.old) }
 
@@ -86,18 +92,21 @@ impl Writer {
         new_leaves_what_is_listed();
         match self.closed {
             Some(fault) => Err(WriteError::Closed { fault }),
-            None => self.scan_and_take_in(rt, mail, disk, given),
+            None => self.scan_and_take_in(rt, mail, disk, workers, gate, given),
         }
     }
 
     /// Lists the folder, and takes in what it found.
-    fn scan_and_take_in<R: Wait, M: Maildir, D: Disk>(
+    fn scan_and_take_in<R: Threads + Wait + Sync, M: Maildir, D: Disk, G: Gate + Sync>(
         &mut self,
         rt: &R,
         mail: &mut M,
         disk: &mut D,
+        workers: u32,
+        gate: &G,
         given: &mut Many<Given>,
     ) -> Result<NewReport, WriteError>
+        requires workers { (0 < workers) × (workers ≤ 16) }
         requires alive { self.old.closed ≡ None }
         requires fresh { given.old ≡ [] }
         requires stands { IfSome (D.observed disk.old).told (λ moments. StandsOnIndex moments.present self.old) }
@@ -111,7 +120,7 @@ impl Writer {
             → IsDurable entry opening (D.observed disk.new) self.new }
     {
         match compare(self.alloc, self.snapshot(), mail, given) {
-            Ok(compared) => self.take_in(rt, mail, disk, compared, given),
+            Ok(compared) => self.take_in(rt, mail, disk, workers, gate, compared, given),
             Err(ScanError::MailFault) => Err(WriteError::MailFault),
             Err(ScanError::Limit(limit)) => Err(WriteError::Limit(limit)),
             Err(ScanError::NoMemory) => Err(WriteError::NoMemory),
@@ -119,14 +128,17 @@ impl Writer {
     }
 
     /// Takes in what has come, lets go what is gone, and reports both.
-    fn take_in<R: Wait, M: Maildir, D: Disk>(
+    fn take_in<R: Threads + Wait + Sync, M: Maildir, D: Disk, G: Gate + Sync>(
         &mut self,
         rt: &R,
         mail: &mut M,
         disk: &mut D,
+        workers: u32,
+        gate: &G,
         compared: Compared,
         given: &mut Many<Given>,
     ) -> Result<NewReport, WriteError>
+        requires workers { (0 < workers) × (workers ≤ 16) }
         requires alive { self.old.closed ≡ None }
         requires listed { HasListed (M.observed mail.old).tree self.old.shown.files given.old compared }
         requires stands { IfSome (D.observed disk.old).told (λ moments. StandsOnIndex moments.present self.old) }
@@ -149,7 +161,7 @@ impl Writer {
         } = compared;
         let removed = gone.len() as u64;
         let went = drops(self.alloc, gone)?;
-        match self.take_in_batches(rt, mail, disk, unknown, given) {
+        match self.take_in_batches(rt, mail, disk, workers, gate, unknown, given) {
             Ok(()) => {
                 let gone = Gone {
                     changes: went,
@@ -162,14 +174,17 @@ impl Writer {
     }
 
     /// Reads the paths batch by batch. A commit is made of the mails of a batch before the next one is read.
-    fn take_in_batches<R: Wait, M: Maildir, D: Disk>(
+    fn take_in_batches<R: Threads + Wait + Sync, M: Maildir, D: Disk, G: Gate + Sync>(
         &mut self,
         rt: &R,
         mail: &mut M,
         disk: &mut D,
+        workers: u32,
+        gate: &G,
         unknown: Many<MailPath>,
         given: &mut Many<Given>,
     ) -> Result<(), WriteError>
+        requires workers { (0 < workers) × (workers ≤ 16) }
         requires alive { self.old.closed ≡ None }
         requires unknown { AreUnknown self.old.shown.files unknown }
         requires stands { IfSome (D.observed disk.old).told (λ moments. StandsOnIndex moments.present self.old) }
@@ -188,7 +203,7 @@ impl Writer {
         a_batch_that_stops_is_unfinished();
         let mut paths = unknown.into_vec().into_iter();
         'batches: while paths.len() > 0 {
-            match self.take_in_batch(rt, mail, disk, &mut paths, given) {
+            match self.take_in_batch(rt, mail, disk, workers, gate, &mut paths, given) {
                 Ok(()) => {}
                 Err(error) => return Err(error),
             }
@@ -197,14 +212,17 @@ impl Writer {
     }
 
     /// Reads the next batch of the paths, and makes a commit of its mails, where it found some.
-    fn take_in_batch<R: Wait, M: Maildir, D: Disk>(
+    fn take_in_batch<R: Threads + Wait + Sync, M: Maildir, D: Disk, G: Gate + Sync>(
         &mut self,
         rt: &R,
         mail: &mut M,
         disk: &mut D,
+        workers: u32,
+        gate: &G,
         paths: &mut IntoIter<MailPath, Global>,
         given: &mut Many<Given>,
     ) -> Result<(), WriteError>
+        requires workers { (0 < workers) × (workers ≤ 16) }
         requires alive { self.old.closed ≡ None }
         requires whole { into_iter_len paths.old ≡ length (into_iter_items paths.old) }
         requires some { 0 < length (into_iter_items paths.old) }
@@ -219,7 +237,7 @@ impl Writer {
         ensures durable { (entry : ObservedDisk) (opening : Base) → IsDurable entry opening (D.observed disk.old) self.old
             → IsDurable entry opening (D.observed disk.new) self.new }
     {
-        match read_batch(self.alloc, mail, paths, given) {
+        match read_batch(rt, self.alloc, mail, paths, workers, gate, given) {
             Ok(added) => self.commit_added(rt, disk, added),
             Err(MailError::Failed) => Err(WriteError::MailFault),
             Err(MailError::NoMemory) => Err(WriteError::NoMemory),

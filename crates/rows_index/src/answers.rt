@@ -1,20 +1,21 @@
 //! What each kind of row asks stands in the modules beside this one: `main` runs a table by it.
 
 use crate::{
-    commit_rows, index_rows, journal_rows, room_rows, snapshot_rows, stop_rows, tag_rows,
+    commit_rows, index_rows, journal_rows, new_rows, room_rows, snapshot_rows, stop_rows, tag_rows,
     thread_rows,
 };
 use rows::{Program, Row, RowError};
 use std::alloc::Global;
 use std::sync::Wait;
+use std::thread::Threads;
 
 /// The program that runs the rows on the index.
 #[derive(Drop)]
-pub struct Index<'a, R: Wait> {
+pub struct Index<'a, R: Threads + Wait + Sync> {
     pub rt: &'a R,
 }
 
-impl<R: Wait> Program for Index<'_, R> {
+impl<R: Threads + Wait + Sync> Program for Index<'_, R> {
     fn answer(&self, alloc: Global, row: &Row<'_>) -> Result<Vec<u8>, RowError> {
         if let Some(answer) = journal_answer(alloc, row)? {
             return Ok(answer);
@@ -44,7 +45,7 @@ fn journal_answer(alloc: Global, row: &Row<'_>) -> Result<Option<Vec<u8>>, RowEr
 }
 
 /// The answer where the kind is of commits, tags, threads, snapshots and stored indices.
-fn index_answer<R: Wait>(
+fn index_answer<R: Threads + Wait + Sync>(
     rt: &R,
     alloc: Global,
     row: &Row<'_>,
@@ -57,6 +58,9 @@ fn index_answer<R: Wait>(
     }
     if row.kind == b"index".as_slice() {
         return Ok(Some(index_rows::opened(rt, alloc, row)?));
+    }
+    if row.kind == b"new".as_slice() {
+        return Ok(Some(new_rows::by_workers(rt, alloc, row)?));
     }
     if row.kind == b"commits".as_slice() {
         return Ok(Some(commit_rows::commits(alloc, row)?));

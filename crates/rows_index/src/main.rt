@@ -1,5 +1,5 @@
-//! Committing and publishing: the program that runs the rows on the index: threads, journals, stops of the disk, commits, tags and snapshots.
-//! The table stands on the standard input, and the standard output has a line for each row.
+//! Committing and publishing: the program that runs the rows on the index: threads, journals, stops of the disk, commits, tags, snapshots,
+//! workers. The table stands on the standard input, and the standard output has a line for each row.
 #![tactic(auto)]
 
 mod answers;
@@ -8,6 +8,7 @@ mod commit_rows;
 mod disks;
 mod index_rows;
 mod journal_rows;
+mod new_rows;
 mod room_rows;
 mod snapshot_rows;
 mod stop_rows;

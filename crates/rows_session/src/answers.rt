@@ -4,14 +4,15 @@ use crate::{line_rows, machine_rows, reply_rows, session_rows, stop_rows};
 use rows::{Program, Row, RowError};
 use std::alloc::Global;
 use std::sync::Wait;
+use std::thread::Threads;
 
 /// The program that runs the rows on sessions.
 #[derive(Drop)]
-pub struct Sessions<'a, R: Wait> {
+pub struct Sessions<'a, R: Threads + Wait + Sync> {
     pub rt: &'a R,
 }
 
-impl<R: Wait> Program for Sessions<'_, R> {
+impl<R: Threads + Wait + Sync> Program for Sessions<'_, R> {
     fn answer(&self, alloc: Global, row: &Row<'_>) -> Result<Vec<u8>, RowError> {
         if row.kind == b"session".as_slice() || row.kind == b"program".as_slice() {
             return session_rows::answer(self.rt, alloc, row);

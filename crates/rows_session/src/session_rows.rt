@@ -11,9 +11,14 @@ use nm_top::Step;
 use rows::{Lines, Row, RowError};
 use std::alloc::Global;
 use std::sync::Wait;
+use std::thread::Threads;
 
 /// Runs the calls that the row has.
-pub fn answer<R: Wait>(rt: &R, alloc: Global, row: &Row<'_>) -> Result<Vec<u8>, RowError> {
+pub fn answer<R: Threads + Wait + Sync>(
+    rt: &R,
+    alloc: Global,
+    row: &Row<'_>,
+) -> Result<Vec<u8>, RowError> {
     row.has_only(&[
         b"$",
         b"file",
@@ -37,7 +42,7 @@ pub fn answer<R: Wait>(rt: &R, alloc: Global, row: &Row<'_>) -> Result<Vec<u8>, 
     run_all(rt, alloc, row, sessions.as_slice())
 }
 
-fn run_all<R: Wait>(
+fn run_all<R: Threads + Wait + Sync>(
     rt: &R,
     alloc: Global,
     row: &Row<'_>,
@@ -51,7 +56,7 @@ fn run_all<R: Wait>(
     Ok(lines.into_bytes())
 }
 
-fn run_one<R: Wait>(
+fn run_one<R: Threads + Wait + Sync>(
     rt: &R,
     alloc: Global,
     session: &Row<'_>,

@@ -11,6 +11,7 @@ use nm_top::{Done, Setting, Start, notmuch, program};
 use rows::{Row, RowError};
 use std::alloc::Global;
 use std::sync::Wait;
+use std::thread::Threads;
 
 /// 12:00 of 2024-01-01.
 const MOMENT: i64 = 1_704_110_400;
@@ -38,7 +39,7 @@ pub struct Ran {
 }
 
 /// Runs the session over the disk.
-pub fn run<R: Wait>(
+pub fn run<R: Threads + Wait + Sync>(
     rt: &R,
     alloc: Global,
     row: &Row<'_>,
@@ -75,7 +76,7 @@ fn add_word(alloc: Global, words: &mut Many<Text>, word: &[u8]) -> Result<(), Ro
 }
 
 /// The call over the mail folder of the row. Each device has a function of its own, so that few paths let it go.
-fn on_mail<R: Wait>(
+fn on_mail<R: Threads + Wait + Sync>(
     rt: &R,
     alloc: Global,
     row: &Row<'_>,
@@ -86,7 +87,7 @@ fn on_mail<R: Wait>(
     on_input(rt, alloc, row, args, &mut mail, disk)
 }
 
-fn on_input<R: Wait>(
+fn on_input<R: Threads + Wait + Sync>(
     rt: &R,
     alloc: Global,
     row: &Row<'_>,
@@ -98,7 +99,7 @@ fn on_input<R: Wait>(
     on_output(rt, alloc, row, args, mail, disk, &mut input)
 }
 
-fn on_output<R: Wait>(
+fn on_output<R: Threads + Wait + Sync>(
     rt: &R,
     alloc: Global,
     row: &Row<'_>,
@@ -121,7 +122,7 @@ fn on_output<R: Wait>(
 }
 
 /// The call of the words; in a row on the program they begin with its options.
-fn call<R: Wait>(
+fn call<R: Threads + Wait + Sync>(
     rt: &R,
     alloc: Global,
     row: &Row<'_>,

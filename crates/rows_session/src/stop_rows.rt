@@ -8,6 +8,7 @@ use nm_top::{Done, LineLog};
 use rows::{Lines, Row, RowError, cut};
 use std::alloc::{AllocError, Global};
 use std::sync::Wait;
+use std::thread::Threads;
 
 /// What the ranges hold that are not synced, in the order of the columns.
 const PICKS: [Pick; 5] = [
@@ -19,7 +20,11 @@ const PICKS: [Pick; 5] = [
 ];
 
 /// A line for each call of the last session but one: what the last session replies after a stop within it, for each pick.
-pub fn answer<R: Wait>(rt: &R, alloc: Global, row: &Row<'_>) -> Result<Vec<u8>, RowError> {
+pub fn answer<R: Threads + Wait + Sync>(
+    rt: &R,
+    alloc: Global,
+    row: &Row<'_>,
+) -> Result<Vec<u8>, RowError> {
     row.has_only(&[b"file", b"gone", b"then", b"|", b"="])?;
     let sessions = sessions(alloc, row)?;
     match sessions.as_slice() {
@@ -28,7 +33,7 @@ pub fn answer<R: Wait>(rt: &R, alloc: Global, row: &Row<'_>) -> Result<Vec<u8>, 
     }
 }
 
-fn table<R: Wait>(
+fn table<R: Threads + Wait + Sync>(
     rt: &R,
     alloc: Global,
     before: &[Row<'_>],
@@ -45,7 +50,7 @@ fn table<R: Wait>(
 }
 
 /// Runs a session that no device fails.
-fn run_whole<R: Wait>(
+fn run_whole<R: Threads + Wait + Sync>(
     rt: &R,
     alloc: Global,
     session: &Row<'_>,
@@ -59,7 +64,7 @@ fn run_whole<R: Wait>(
 }
 
 /// The lines of the calls behind the call `from`, counted from 1.
-fn push_calls<R: Wait>(
+fn push_calls<R: Threads + Wait + Sync>(
     rt: &R,
     alloc: Global,
     disk: &MemDisk,
@@ -76,7 +81,7 @@ fn push_calls<R: Wait>(
     Ok(lines.into_bytes())
 }
 
-fn push_stops<R: Wait>(
+fn push_stops<R: Threads + Wait + Sync>(
     rt: &R,
     alloc: Global,
     lines: &mut Lines,
@@ -93,7 +98,7 @@ fn push_stops<R: Wait>(
 }
 
 /// The first lines of the replies, parted by commas, or the status where the session is not answered to its end.
-fn push_replies<R: Wait>(
+fn push_replies<R: Threads + Wait + Sync>(
     rt: &R,
     alloc: Global,
     lines: &mut Lines,

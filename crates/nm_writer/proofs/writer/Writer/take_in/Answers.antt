@@ -1,4 +1,4 @@
-use Rattle.std.proofs.Common.{List, [], refl, sym, ◌∙◌, subst}
+use Rattle.std.proofs.Common.{rules, List, [], refl, sym, ◌∙◌, subst}
 use Rattle.nm_commit.specs.declared.change.Change.{Change}
 use Rattle.nm_index.specs.Fits.{FitInTurn}
 use Rattle.nm_plan.specs.NameTags.{commit_of}
@@ -18,7 +18,9 @@ returns-in_err-went-clause-asks g c =
     asked_listing _ (g.M.Maildir.observed c.args.mail.now) c.args.self.now.shown.files [] c.args.given.now h.listed refl refl refl h.given_is h.listing.rising h.listing.told
 
 pub take_in_batches-requires-clause-unknown : goal.take_in_batches-requires-clause-unknown
-take_in_batches-requires-clause-unknown g c = unknown-listed (g.M.Maildir.observed c.args.mail.now).tree c.args.self.now.shown.files c.args.given.now c.args.compared c.requires.listed
+take_in_batches-requires-clause-unknown g c =
+    let unknown = unknown-listed (g.M.Maildir.observed c.args.mail.now).tree c.args.self.now.shown.files c.args.given.now c.args.compared c.requires.listed in
+    search (rules, unknown)
 
 pub let_go-requires-clause-fit : goal.let_go-requires-clause-fit
 let_go-requires-clause-fit g c =

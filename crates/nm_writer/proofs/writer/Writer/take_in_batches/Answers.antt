@@ -27,12 +27,12 @@ batches-init g c =
     }
 
 pub take_in_batch-requires-clause-alive : goal.take_in_batch-requires-clause-alive
-take_in_batch-requires-clause-alive g c = c.batches.invariant.alive
+take_in_batch-requires-clause-alive g c = search (rules, c.batches.invariant.alive)
 
 pub take_in_batch-requires-clause-fit : goal.take_in_batch-requires-clause-fit
 take_in_batch-requires-clause-fit g c =
     let mail = g.M.Maildir in
-    next_fits (record {
+    let fits = next_fits (record {
       fits = c.new_commits_fit.ensures;
       first = c.no_batch_is_read_at_first.ensures;
       more = c.a_batch_more_is_read.ensures;
@@ -40,10 +40,11 @@ take_in_batch-requires-clause-fit g c =
       unfinished = c.a_batch_that_stops_is_unfinished.ensures;
     }) (record { mail = mail.observed c.args.mail.now; given = c.args.given.now }) (record { mail = mail.observed c.batches.mail; given = c.batches.given }) (into_iter_items c.into_iter-paths.result) (into_iter_items c.batches.paths)
     c.args.self.now c.batches.self c.batches.invariant.batches
-    (subst (AreUnknown c.args.self.now.shown.files) (sym (c.into_iter-paths.ensures.rest ∙ c.into_vec.ensures)) c.requires.unknown)
+    (subst (AreUnknown c.args.self.now.shown.files) (sym (c.into_iter-paths.ensures.rest ∙ c.into_vec.ensures)) c.requires.unknown) in
+    search (rules, fits)
 
 pub take_in_batch-requires-clause-stands : goal.take_in_batch-requires-clause-stands
-take_in_batch-requires-clause-stands g c = c.batches.invariant.stands
+take_in_batch-requires-clause-stands g c = search (rules, c.batches.invariant.stands)
 
 pub batches-smaller : goal.batches-smaller
 batches-smaller g c =

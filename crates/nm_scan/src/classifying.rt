@@ -1,0 +1,131 @@
+//! Which of the files of a batch are mail, which several workers find at once, and what is given of each.
+
+ghost use Rattle.std.specs.Prelude.{◌≡◌, ◌<◌, ◌≤◌, ◌∷◌, [], ◌++◌, IfOk, OnErr, OnOk, map};
+ghost use Rattle.std.specs.List.{flat_map};
+ghost use Rattle.nm_scan.specs.Found.{HasNotedAll, HasNotedFront, HasNotedSome, given_of, mail_found};
+ghost use Rattle.nm_scan.specs.Reading.{Classifies};
+
+use crate::Mail;
+use nm_base::{Copies, Facts, MailPath, Many, NoMemory};
+use nm_extract::{ExtractError, extract};
+use nm_maildir::{Given, Got, ReadAnswer};
+use nm_workers::{Gate, Job, map_jobs};
+use std::alloc::Global;
+use std::sync::Wait;
+use std::thread::Threads;
+
+/// What a read tells of a file, and its facts where it is mail.
+#[derive(Drop)]
+pub(crate) struct Classified {
+    path: MailPath,
+    answer: ReadAnswer,
+    facts: Option<Facts>,
+}
+
+/// The job of the workers.
+#[derive(Clone, Copy)]
+struct Classifying {
+    alloc: Global,
+}
+
+impl Job for Classifying {
+    type In = (MailPath, Got);
+
+    type Out = Classified;
+
+    ghost use Rattle.nm_scan.specs.Found.{IsClassified};
+
+    ghost gives = { λ _ found classified. IsClassified found classified };
+
+    fn run(&self, input: &(MailPath, Got)) -> Result<Classified, NoMemory> {
+        let (answer, facts) = classify(self.alloc, &input.1)?;
+        let path = input.0.copy()?;
+        Ok(Classified {
+            path,
+            answer,
+            facts,
+        })
+    }
+}
+
+/// Classifies the files of a batch, and notes what is answered of each once all are classified. Gives those that are mail.
+#[tactic(auto, using(crate::proofs::NoteLemmas::noted_none))]
+pub(crate) fn take_found<R: Threads + Wait + Sync, G: Gate + Sync>(
+    rt: &R,
+    alloc: Global,
+    workers: u32,
+    gate: &G,
+    found: Many<(MailPath, Got)>,
+    given: &mut Many<Given>,
+) -> Result<Many<Mail>, NoMemory>
+    requires workers { (0 < workers) × (workers ≤ 16) }
+    ensures ok { IfOk result (HasNotedAll found given.old given.new) }
+    ensures err { OnErr result (HasNotedSome found given.old given.new) }
+{
+    let classified = map_jobs(rt, alloc, &Classifying { alloc }, &found, workers, gate)?;
+    // The bytes of the files are let go before anything is made of their facts.
+    drop(found);
+    note_all(alloc, classified, given)
+}
+
+/// Notes what is answered of each file, in order.
+fn note_all(
+    alloc: Global,
+    all: Many<Classified>,
+    given: &mut Many<Given>,
+) -> Result<Many<Mail>, NoMemory>
+    ensures ok { IfOk result (λ added. (given.new ≡ given.old ++ map given_of all) × (added ≡ flat_map mail_found all)) }
+    ensures err { OnErr result (HasNotedFront all given.old given.new) }
+{
+    let mut added = Many::new(alloc);
+    'all: for classified in all.into_vec() {
+        note(classified, given, &mut added)?;
+    }
+    Ok(added)
+}
+
+/// Notes an answer. Where it is mail, it joins the arrivals.
+fn note(
+    classified: Classified,
+    given: &mut Many<Given>,
+    added: &mut Many<Mail>,
+) -> Result<(), NoMemory>
+    ensures ok { OnOk result ((given.new ≡ given.old ++ given_of classified ∷ []) × (added.new ≡ added.old ++ mail_found classified)) }
+    ensures err { OnErr result (given.new ≡ given.old) }
+{
+    let Classified {
+        path,
+        answer,
+        facts,
+    } = classified;
+    let copied = path.copy()?;
+    if let Some(facts) = facts {
+        added.push((path, facts))?;
+    }
+    given.push(Given::Read {
+        path: copied,
+        answer,
+    })?;
+    Ok(())
+}
+
+/// What a read tells, and the facts where it found mail.
+fn classify(alloc: Global, got: &Got) -> Result<(ReadAnswer, Option<Facts>), NoMemory>
+    ensures { IfOk result (Classifies got.now) }
+{
+    match got {
+        Got::Missing => Ok((ReadAnswer::Missing, None)),
+        Got::TooLong => Ok((ReadAnswer::TooLong, None)),
+        Got::Found(bytes) => classify_bytes(alloc, bytes.as_slice()),
+    }
+}
+
+fn classify_bytes(alloc: Global, bytes: &[u8]) -> Result<(ReadAnswer, Option<Facts>), NoMemory>
+    ensures { IfOk result (Classifies (Got.Found bytes.now)) }
+{
+    match extract(alloc, bytes) {
+        Ok(facts) => Ok((ReadAnswer::Mail, Some(facts))),
+        Err(ExtractError::NotMail) => Ok((ReadAnswer::NotMail, None)),
+        Err(ExtractError::NoMemory) => Err(NoMemory),
+    }
+}
