@@ -1,4 +1,5 @@
-//! Which of the files of a batch are mail, which several workers find at once, and what is given of each.
+//! Which of the files of a batch are mail, which several workers find at once, and what is given of each, for
+//! `read_batch`.
 
 ghost use Rattle.std.specs.Prelude.{◌≡◌, ◌<◌, ◌≤◌, ◌∷◌, [], ◌++◌, IfOk, OnErr, OnOk, map};
 ghost use Rattle.std.specs.List.{flat_map};

@@ -1,4 +1,4 @@
-//! Reading files of a mail folder; `new` reads what the index lacks, batch by batch.
+//! Reading files of a mail folder: `new_mail` of `nm_writer` has what the index lacks read, batch by batch.
 
 ghost use Rattle.std.specs.Prelude.{◌≡◌, ◌⊎◌, ◌∷◌, [], ◌++◌, ◌<◌, ◌≤◌, length, IfErr, IfOk, IfSome, MatchOption, OnErr, OnOk};
 ghost use Rattle.std.specs.Vec.Iter.{into_iter_items, into_iter_len};

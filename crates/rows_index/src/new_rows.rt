@@ -1,4 +1,4 @@
-//! Rows on a `new` over the mails of the drill: what it leaves is the same for any number of workers, and two of them work at once.
+//! Rows on a `new` over the mails of the drill: what it leaves is the same for any number of workers, and two of them work at once, for `index_answer`.
 
 ghost use Rattle.std.specs.Prelude.{◌<◌, ◌≤◌, IfOk};
 
