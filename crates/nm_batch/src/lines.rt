@@ -56,4 +56,3 @@ fn next_number(number: u32) -> Result<u32, NoMemory>
 {
     number.checked_add(1).ok_or(NoMemory)
 }
-
