@@ -1,4 +1,4 @@
-use Rattle.std.proofs.Common.{List, length, take, refl, ◌∙◌, subst}
+use Rattle.std.proofs.Common.{rules, List, length, take, refl, ◌∙◌, subst}
 use Rattle.std.proofs.lemmas.List.{take_all}
 use Rattle.nm_base.specs.Limits.{max_mail_bytes}
 use Rattle.nm_log.specs.declared.script.ScriptLine.{ScriptLine}
@@ -69,10 +69,16 @@ lines-preserved g c =
       durable = λ entry opening h. done.ensures.durable entry opening (so_far.durable entry opening h);
     }
 
-pub run_line-left-requires : goal.run_line-left-requires
-run_line-left-requires g c = record {
-  moment = c.requires.moment;
-  spare = spare-next c.lines.line-index (length c.args.lines.now) (length c.lines.writer.begun) c.lines.rooms c.lines-test.true c.lines.invariant.spare;
-  even = c.lines.invariant.noted.even;
-  stands = c.lines.invariant.stands;
-}
+pub run_line-left-requires-clause-moment : goal.run_line-left-requires-clause-moment
+run_line-left-requires-clause-moment g c = search (rules, c.requires.moment)
+
+pub run_line-left-requires-clause-spare : goal.run_line-left-requires-clause-spare
+run_line-left-requires-clause-spare g c =
+    let spare = spare-next c.lines.line-index (length c.args.lines.now) (length c.lines.writer.begun) c.lines.rooms c.lines-test.true c.lines.invariant.spare in
+    search (rules, spare)
+
+pub run_line-left-requires-clause-even : goal.run_line-left-requires-clause-even
+run_line-left-requires-clause-even g c = search (rules, c.lines.invariant.noted.even)
+
+pub run_line-left-requires-clause-stands : goal.run_line-left-requires-clause-stands
+run_line-left-requires-clause-stands g c = search (rules, c.lines.invariant.stands)
