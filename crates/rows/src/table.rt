@@ -1,6 +1,6 @@
 //! A table is run row by row: the program of `rows_mail`, and each like it, says what comes of each.
 
-ghost use Rattle.std.specs.Prelude.{◌≡◌, IfOk, OnOk};
+ghost use Rattle.std.specs.Prelude.{◌≡◌, ⊤, IfOk, OnOk};
 ghost use Rattle.rows.specs.Report.{Reported, TellsOneMore, told, whole};
 ghost use Rattle.rows.specs.Table.{paragraph_count};
 
@@ -10,12 +10,17 @@ use std::alloc::Global;
 
 /// A program that runs rows.
 pub trait Program {
+    // What holds of a program that may run.
+    ghost ready: { Self → Type 0 } = { λ _. ⊤ };
+
     /// What comes of the row.
-    fn answer(&self, alloc: Global, row: &Row<'_>) -> Result<Vec<u8>, RowError>;
+    fn answer(&self, alloc: Global, row: &Row<'_>) -> Result<Vec<u8>, RowError>
+        requires { ready self.now };
 }
 
 /// Runs the rows of the table, and gives the report on them, which tells each row once. The lines `=` of a row are what it wants.
 pub fn run_table<P: Program>(alloc: Global, program: &P, table: &[u8]) -> Result<Many<u8>, NoMemory>
+    requires { P.ready program.now }
     ensures { IfOk result (λ report. (rows : Reported) × (report ≡ whole rows) × (told rows ≡ paragraph_count table.now)) }
 {
     let rows = paragraphs(alloc, table)?;
@@ -32,6 +37,7 @@ fn run_paragraph<P: Program>(
     paragraph: &Paragraph<'_>,
     report: &mut Report,
 ) -> Result<(), NoMemory>
+    requires { P.ready program.now }
     ensures { OnOk result (TellsOneMore report.old report.new) }
 {
     match read_row(alloc, paragraph) {
@@ -47,6 +53,7 @@ fn run_row<P: Program>(
     row: &Row<'_>,
     report: &mut Report,
 ) -> Result<(), NoMemory>
+    requires { P.ready program.now }
     ensures { OnOk result (TellsOneMore report.old report.new) }
 {
     let wanted = row.text(alloc, b"=")?;

@@ -16,6 +16,11 @@ pub struct Index<'a, R: Threads + Wait + Sync> {
 }
 
 impl<R: Threads + Wait + Sync> Program for Index<'_, R> {
+    ghost use Rattle.std.specs.Thread.{IsSync};
+
+    // The workers of a `new` share the runtime.
+    ghost ready = { λ _. IsSync R.row };
+
     fn answer(&self, alloc: Global, row: &Row<'_>) -> Result<Vec<u8>, RowError> {
         if let Some(answer) = journal_answer(alloc, row)? {
             return Ok(answer);

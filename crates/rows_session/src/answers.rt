@@ -13,6 +13,11 @@ pub struct Sessions<'a, R: Threads + Wait + Sync> {
 }
 
 impl<R: Threads + Wait + Sync> Program for Sessions<'_, R> {
+    ghost use Rattle.std.specs.Thread.{IsSync};
+
+    // The workers of a `new` share the runtime.
+    ghost ready = { λ _. IsSync R.row };
+
     fn answer(&self, alloc: Global, row: &Row<'_>) -> Result<Vec<u8>, RowError> {
         if row.kind == b"session".as_slice() || row.kind == b"program".as_slice() {
             return session_rows::answer(self.rt, alloc, row);
