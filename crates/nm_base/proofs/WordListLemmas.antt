@@ -1,6 +1,6 @@
 -- Words that stand one behind the other are read again, and one more may be put behind them.
--- For the proofs of `WordList::push` and `Words::take_first`.
-use Rattle.std.proofs.Common.{◌≡◌, ℕ, suc, ◌+◌, ◌-◌, ◌≤◌, min, true, List, [], ◌∷◌, ◌++◌, length, take, drop, ◌≢◌, refl, sym, ap, ◌∙◌, append_assoc, arith}
+-- For the proofs of `WordRow::push` and `Words::take_first`.
+use Rattle.std.proofs.Common.{◌≡◌, ℕ, suc, ◌+◌, ◌-◌, ◌≤◌, min, true, List, [], ◌∷◌, ◌++◌, length, take, drop, ◌≢◌, refl, ap, ◌∙◌, append_assoc, arith}
 use Rattle.std.proofs.lemmas.List.{drop_min, take_at, drop_at, take_min, length-append, length_push, flat_map_more}
 use Rattle.std.proofs.lemmas.List.Folds.{list_all-append}
 use Rattle.nm_base.specs.WordList.{IsPacked, is_kept, packed, packed_word, unpacked}

@@ -8,4 +8,5 @@ pub mod Tag
 pub mod Tags
 pub mod Word
 pub mod WordList
+pub mod WordRow
 pub mod formers

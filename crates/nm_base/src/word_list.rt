@@ -10,9 +10,17 @@ use crate::{Copies, NoMemory};
 use std::alloc::Global;
 use std::marker::Model;
 
-/// The words of a text in their order, each of 1 to 200 bytes and UTF-8. A word takes its bytes and one more.
+/// The words of a text in their order, each of 1 to 200 bytes and UTF-8. A word takes its bytes and one more. A
+/// mail may have many texts without words, so the list of none is small and takes no block.
 #[derive(Clone, Debug, Drop)]
 pub struct WordList {
+    alloc: Global,
+    row: Option<Box<WordRow>>,
+}
+
+/// One word or more.
+#[derive(Clone, Debug, Drop)]
+pub(crate) struct WordRow {
     count: usize,
     bytes: Vec<u8>,
 }
@@ -26,13 +34,22 @@ pub struct Words<'a> {
 
 impl Model for WordList {
     ghost use Rattle.std.specs.Prelude.{List, ℕ};
+    ghost use Rattle.nm_base.specs.WordRow.{words_of_row};
+
+    ghost Value = { List (List ℕ) };
+
+    ghost view = { λ list. words_of_row list.row };
+}
+
+impl Model for WordRow {
+    ghost use Rattle.std.specs.Prelude.{List, ℕ};
     ghost use Rattle.nm_base.specs.WordList.{IsPacked, unpacked};
 
     ghost Value = { List (List ℕ) };
 
-    ghost view = { λ list. unpacked list.count list.bytes.items };
+    ghost view = { λ row. unpacked row.count row.bytes.items };
 
-    ghost invariant = { λ list. IsPacked list.count list.bytes.items (unpacked list.count list.bytes.items) };
+    ghost invariant = { λ row. IsPacked row.count row.bytes.items (unpacked row.count row.bytes.items) };
 }
 
 impl<'a> Model for Words<'a> {
@@ -49,22 +66,22 @@ impl WordList {
     pub fn new(alloc: Global) -> WordList
         ensures { result ≡ [] }
     {
-        WordList {
-            count: 0,
-            bytes: Vec::new(alloc),
-        }
+        WordList { alloc, row: None }
     }
 
     pub fn len(&self) -> usize
         ensures { result ≡ length self.now }
     {
-        self.count
+        match &self.row {
+            None => 0,
+            Some(row) => row.len(),
+        }
     }
 
     pub fn is_empty(&self) -> bool
         ensures { IsTrue result ↔ (self.now ≡ []) }
     {
-        self.count == 0
+        self.len() == 0
     }
 
     /// How many bytes the words have, each with one more.
@@ -72,11 +89,74 @@ impl WordList {
         ensures len { result ≡ length (packed self.now) }
         ensures kept { list_all is_kept self.now ≡ true }
     {
-        self.bytes.len()
+        match &self.row {
+            None => 0,
+            Some(row) => row.bytes_len(),
+        }
     }
 
     /// All words from the first on.
     pub fn words(&self) -> Words<'_>
+        ensures { result ≡ self.now }
+    {
+        match &self.row {
+            None => Words {
+                count: 0,
+                bytes: &[],
+            },
+            Some(row) => row.words(),
+        }
+    }
+
+    /// Adds a word at the end.
+    pub fn push(&mut self, word: &str) -> Result<(), NoMemory>
+        requires { IsTrue (is_word word.now) }
+        ensures ok { OnOk result (self.new ≡ self.old ++ word.now ∷ []) }
+        ensures err { OnErr result (self.new ≡ self.old) }
+    {
+        if let Some(row) = &mut self.row {
+            return row.push(word);
+        }
+        let mut row = WordRow::new(self.alloc);
+        row.push(word)?;
+        self.row = Some(Box::new(self.alloc, row)?);
+        Ok(())
+    }
+
+    /// Gives back the memory that no word fills.
+    pub fn shrink_to_fit(&mut self)
+        ensures { self.new ≡ self.old }
+    {
+        if let Some(row) = &mut self.row {
+            row.shrink_to_fit();
+        }
+    }
+}
+
+impl WordRow {
+    fn new(alloc: Global) -> WordRow
+        ensures { result ≡ [] }
+    {
+        WordRow {
+            count: 0,
+            bytes: Vec::new(alloc),
+        }
+    }
+
+    fn len(&self) -> usize
+        ensures { result ≡ length self.now }
+    {
+        self.count
+    }
+
+    fn bytes_len(&self) -> usize
+        ensures len { result ≡ length (packed self.now) }
+        ensures kept { list_all is_kept self.now ≡ true }
+    {
+        self.bytes.len()
+    }
+
+    fn words(&self) -> Words<'_>
         ensures { result ≡ self.now }
     {
         Words {
@@ -85,8 +165,7 @@ impl WordList {
         }
     }
 
-    /// Adds a word at the end.
-    pub fn push(&mut self, word: &str) -> Result<(), NoMemory>
+    fn push(&mut self, word: &str) -> Result<(), NoMemory>
         requires { IsTrue (is_word word.now) }
         ensures ok { OnOk result (self.new ≡ self.old ++ word.now ∷ []) }
         ensures err { OnErr result (self.new ≡ self.old) }
@@ -100,8 +179,7 @@ impl WordList {
         Ok(())
     }
 
-    /// Gives back the memory that no word fills.
-    pub fn shrink_to_fit(&mut self)
+    fn shrink_to_fit(&mut self)
         ensures { self.new ≡ self.old }
     {
         self.bytes.shrink_to_fit();

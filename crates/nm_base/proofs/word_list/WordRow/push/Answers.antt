@@ -4,8 +4,8 @@ use Rattle.std.proofs.Common.{ℕ, List, refl, ◌≡◌, ◌+◌, true, length,
 use Rattle.std.proofs.lemmas.Str.{is_utf8-from_IsUtf8}
 use Rattle.nm_base.specs.WordList.{IsPacked, is_kept, unpacked}
 use Rattle.nm_base.proofs.WordListLemmas.{few, is_unpacked, pushed}
-use Rattle.nm_base.proofs.word_list.WordList.push.Goals as goal
-use Rattle.nm_base.proofs.word_list.WordList.push.Goals.{After-self-1}
+use Rattle.nm_base.proofs.word_list.WordRow.push.Goals as goal
+use Rattle.nm_base.proofs.word_list.WordRow.push.Goals.{After-self-1}
 
 pub overflow_add-self : goal.overflow_add-self
 overflow_add-self c = omega (arith, few (unpacked c.self.inside.count c.self.inside.bytes.items), c.self.invariant.count_is, ap length c.self.invariant.bytes_are, ap length c.in_ok-push.ensures.items, c.push.ensures.upper_bound, c.push.new.self.ok.0)
