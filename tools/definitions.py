@@ -4,8 +4,8 @@
     tools/definitions.py > docs/DEFINITIONS.md
 
 It begins with the clauses of `program` in `nm_top`, and follows what each clause and each definition names: by the
-`ghost use` and `use` lines of its file, or in the file itself. A type of the code brings the types of its fields, and
-what its `impl Model` names."""
+`ghost use` and `use` lines of its file, or in the file itself. A type of the code brings the types of its fields; one
+with an `impl Model` brings what that names, and what those of private types in its fields name."""
 import os
 import re
 import sys
@@ -175,15 +175,21 @@ class Reach:
                 self.types[source.path, name] = source.said[name]
                 model = source.models.get(name)
                 if model:
-                    self.follow_text(model, uses(model))
+                    private = [it for it in self.named_in(body) if it in source.models and it not in source.types]
+                    for text in [model, *(source.models[it] for it in private)]:
+                        self.follow_text(text, uses(text))
                 if kind == "trait":
                     self.follow_ghosts(source, name, body)
                     continue
-                for it in [] if model else re.findall(r"\b[A-Z]\w*", re.sub(r"//[^\n]*", "", body)):
+                for it in [] if model else self.named_in(body):
                     where = source.uses.get(it, "crate")
                     where = crate if where == "crate" else where
                     if where in self.crates:
                         self.follow_type(where, it)
+
+    def named_in(self, body):
+        """The types that the fields of a type have."""
+        return re.findall(r"\b[A-Z]\w*", re.sub(r"//[^\n]*", "", body))
 
     def follow_ghosts(self, source, name, body):
         """The ghost members of a trait: what is observed of an object."""

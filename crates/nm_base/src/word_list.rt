@@ -9,6 +9,7 @@ ghost use Rattle.nm_base.specs.WordList.{is_kept, packed};
 use crate::{Copies, NoMemory};
 use std::alloc::Global;
 use std::marker::Model;
+use std::mem::size_of;
 
 /// The words of a text in their order, each of 1 to 200 bytes and UTF-8. A word takes its bytes and one more. A
 /// mail may have many texts without words, so the list of none is small and takes no block.
@@ -17,6 +18,9 @@ pub struct WordList {
     alloc: Global,
     row: Option<Box<WordRow>>,
 }
+
+/// A mail may have a text without words for each 4 of its bytes; its list takes 4 bytes of memory for each of them.
+const _: () = prove!(size_of::<WordList>() <= 16);
 
 /// One word or more.
 #[derive(Clone, Debug, Drop)]
