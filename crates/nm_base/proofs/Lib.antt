@@ -1,3 +1,1 @@
-mod OrderLemmas
-mod SetLemmas
 mod WordListLemmas

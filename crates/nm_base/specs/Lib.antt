@@ -3,6 +3,8 @@ pub mod MailPath
 pub mod MessageId
 pub mod Limits
 pub mod Order
+pub mod OrderLaws
+pub mod SetLaws
 pub mod Stored
 pub mod Tag
 pub mod Tags

@@ -1,7 +1,7 @@
 -- The first line, its content, and what is left after it; nothing is lost.
 -- For the proofs of `nothing_is_cut_away`, `the_first_line_ends_at_the_first_line_feed` and `line_len`.
 use Rattle.std.proofs.Common.{◌≡◌, ℕ, zero, suc, ◌+◌, ◌-◌, ◌<◌, ◌≤◌, true, false, cond, not, ◌==◌, List, [], ◌∷◌, ◌++◌, length, map, take, drop, get_or, ltb, refl, sym, ap, ◌∙◌, arith, length-append, length-drop}
-use Rattle.std.specs.List.{after_first, before_first, concat, onto_first, position_or_len, slice_split}
+use Rattle.std.specs.List.{after_first, concat, onto_first, position_or_len, slice_split}
 use Rattle.std.specs.Str.Lines.{lines, lines_of_parts, strip_carriage_return}
 use Rattle.std.proofs.lemmas.Bool.{eqb-true, ltb-false, ltb-true}
 use Rattle.std.proofs.lemmas.Bool.Decides.{nat_tests}

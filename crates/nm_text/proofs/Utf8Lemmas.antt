@@ -1,21 +1,19 @@
 -- Text stays text where ASCII characters are taken out of it, or where it is cut at one.
 -- For the proofs of `lowercase` and `without_white_space`.
-use Rattle.std.proofs.Common.{◌≡◌, ℕ, suc, ◌+◌, ◌-◌, ◌<◌, Bool, true, false, cond, not, List, [], ◌∷◌, ◌++◌, length, map, take, drop, get_or, reverse, ltb, refl, sym, ap, subst, ◌∙◌, arith, filter, append_assoc, length-append}
+use Rattle.std.proofs.Common.{◌≡◌, ℕ, ◌+◌, ◌<◌, Bool, true, false, cond, not, List, [], ◌∷◌, ◌++◌, length, map, take, drop, get_or, ltb, refl, sym, ap, subst, ◌∙◌, arith, filter, append_assoc, length-append}
 use Rattle.std.specs.Prelude.{IsUtf8}
 use Rattle.std.specs.Char.{to_ascii_lowercase}
-use Rattle.std.specs.List.{prefix_len, suffix_len}
-use Rattle.std.proofs.lemmas.List.{take_at, take_all, drop_at, drop-drop, get_or_at, get_or-reverse, length-reverse}
-use Rattle.std.proofs.lemmas.List.Sums.{prefix_len_passes, suffix_len-le-length}
+use Rattle.std.proofs.lemmas.List.{take_at, drop_at, drop-drop, get_or_at}
 use Rattle.std.proofs.lemmas.Str.{IsUtf8-append, IsUtf8-take, IsUtf8-drop, IsCharBoundary-before_ascii, IsCharBoundary-after_ascii}
 use Rattle.std.proofs.lemmas.Str.{IsUtf8-from_ascii}
 use Rattle.std.proofs.lemmas.Str.Ascii.{IsAscii-cons, IsAscii-nil, lowercase_ascii, lowercase_is}
 use Rattle.std.proofs.lemmas.Bool.{ltb-false, ltb-true, not-false}
 use Rattle.std.proofs.lemmas.Bool.Decides.{nat_tests}
 use Rattle.nm_base.specs.Bounds.{is_white_space}
-use Rattle.nm_text.specs.WhiteSpace.{trimmed_end, trimmed_start, without_white_space}
+use Rattle.nm_text.specs.WhiteSpace.{without_white_space}
 
 -- what stands before an ASCII character is text, and what stands behind it
-pub split_ascii : (xs ys : List ℕ) (b : ℕ) → b < 128 → IsUtf8 (xs ++ b ∷ ys) → IsUtf8 xs × IsUtf8 ys
+split_ascii : (xs ys : List ℕ) (b : ℕ) → b < 128 → IsUtf8 (xs ++ b ∷ ys) → IsUtf8 xs × IsUtf8 ys
 split_ascii xs ys b small u =
     let at : get_or (xs ++ b ∷ ys) (length xs) 0 ≡ b = get_or_at xs b ys 0 (length xs) refl in
     let low : get_or (xs ++ b ∷ ys) (length xs) 0 < 128 = omega arith in
@@ -38,41 +36,14 @@ filter_after p ascii front (b ∷ bs) u =
     ] refl
 
 -- a filter that takes out ASCII characters alone
-pub IsUtf8-filter : (p : ℕ → Bool) (bs : List ℕ) → ((b : ℕ) → p b ≡ false → b < 128) → IsUtf8 bs → IsUtf8 (filter p bs)
+IsUtf8-filter : (p : ℕ → Bool) (bs : List ℕ) → ((b : ℕ) → p b ≡ false → b < 128) → IsUtf8 bs → IsUtf8 (filter p bs)
 IsUtf8-filter p bs ascii u = filter_after p ascii [] bs u
 
-pub white_space_is_ascii : (b : ℕ) → is_white_space b ≡ true → b < 128
+white_space_is_ascii : (b : ℕ) → is_white_space b ≡ true → b < 128
 white_space_is_ascii b e = grind (arith, nat_tests)
 
 pub without_white_space_utf8 : (bs : List ℕ) → IsUtf8 bs → IsUtf8 (without_white_space bs)
 without_white_space_utf8 bs u = IsUtf8-filter (λ b. not (is_white_space b)) bs (λ b e. white_space_is_ascii b (not-false (is_white_space b) e)) u
-
--- white space taken off at the front, and at the end
-pub start_utf8 : (text : List ℕ) → IsUtf8 text → IsUtf8 (trimmed_start text)
-start_utf8 [] u = u
-start_utf8 (b ∷ more) u =
-    let n : ℕ = prefix_len is_white_space more in
-    let one : 1 + n ≡ suc n = omega arith in
-    elim (is_white_space b) as (λ v. is_white_space b ≡ v → IsUtf8 (drop (cond v (1 + n) 0) (b ∷ more))) [
-      | true ↦ λ h. subst (λ k. IsUtf8 (drop k (b ∷ more))) (sym one) (start_utf8 more (split_ascii [] more b (white_space_is_ascii b h) u).1)
-      | false ↦ λ h. u
-    ] refl
-
-pub end_utf8 : (text : List ℕ) → IsUtf8 text → IsUtf8 (trimmed_end text)
-end_utf8 text u =
-    let s : ℕ = suffix_len is_white_space text in
-    let k : ℕ = length text - s in
-    let most = suffix_len-le-length is_white_space text in
-    elim (ltb 0 s) as (λ v. ltb 0 s ≡ v → IsUtf8 (take k text)) [
-      | true ↦ λ h.
-          let some = ltb-true 0 s h in
-          let long : length (reverse text) ≡ length text = length-reverse text in
-          let back : get_or (reverse text) (s - 1) 0 ≡ get_or text (length text - 1 - (s - 1)) 0 = get_or-reverse text (s - 1) 0 (omega arith) in
-          let at : length text - 1 - (s - 1) ≡ k = omega arith in
-          let white : is_white_space (get_or text k 0) ≡ true = ap is_white_space (sym (back ∙ ap (λ i. get_or text i 0) at)) ∙ prefix_len_passes is_white_space (reverse text) (s - 1) 0 (omega arith) in
-          IsUtf8-take text k u (IsCharBoundary-before_ascii text k (omega arith) (white_space_is_ascii (get_or text k 0) white))
-      | false ↦ λ h. let none = ltb-false 0 s h in subst IsUtf8 (sym (take_all k text (omega arith))) u
-    ] refl
 
 -- letters in lower case: only ASCII letters change, and into ASCII letters
 lower_after : (front text : List ℕ) → IsUtf8 (front ++ text) → IsUtf8 (front ++ map to_ascii_lowercase text)

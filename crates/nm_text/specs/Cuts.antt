@@ -6,14 +6,6 @@ use Rattle.std.specs.Prelude.{ℕ, zero, suc, ◌+◌, ◌-◌, Bool, false, ◌
 abbrev pub is_byte : ℕ → ℕ → Bool
 is_byte wanted b = b == wanted
 
--- `<`
-abbrev pub is_less_than : ℕ → Bool
-is_less_than b = b == 60
-
--- `>`
-abbrev pub is_greater_than : ℕ → Bool
-is_greater_than b = b == 62
-
 -- the byte stands first
 abbrev pub begins_with : ℕ → List ℕ → Bool
 begins_with byte [] = false

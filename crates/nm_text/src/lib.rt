@@ -12,10 +12,7 @@ mod white_space;
 
 pub use case::{lowercase, same_ignoring_case};
 pub use cuts::{after_first, before_first, begins_with, cut_at, ends_with, first_place};
-pub use laws::{
-    a_cut_goes_on_after_its_first_lexeme, nothing_is_cut_away, text_stays_text,
-    the_first_line_ends_at_the_first_line_feed,
-};
+pub use laws::{nothing_is_cut_away, the_first_line_ends_at_the_first_line_feed};
 pub use lines::{content, line_len, next_content, next_line};
 pub use quoted_strings::{is_special, pair_len, quoted_len, unquoted};
 pub use utf8::{as_text, text_of};

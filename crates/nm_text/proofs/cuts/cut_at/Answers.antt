@@ -1,4 +1,4 @@
-use Rattle.std.proofs.Common.{sym, ap, ◌∙◌, ◌+◌, ◌-◌, ◌∷◌, ◌≡◌, length, take, drop, arith}
+use Rattle.std.proofs.Common.{sym, ap, ◌∙◌, ◌+◌, ◌∷◌, ◌≡◌, length, take, drop, arith}
 use Rattle.std.specs.List.{slice_split}
 use Rattle.nm_text.specs.Cuts.{is_byte}
 use Rattle.nm_text.proofs.PlaceLemmas.{after_place, before_place, split_first, split_none}

@@ -1,7 +1,7 @@
 -- What is put in is there, and so is what was.
 use Rattle.std.proofs.Common.{ap, ◌∙◌, ◌||◌}
 use Rattle.std.specs.List.{list_any}
-use Rattle.nm_base.proofs.SetLemmas.{has-inserted}
+use Rattle.nm_base.specs.SetLaws.{has-inserted}
 use Rattle.nm_base.proofs.text_set.TextSet.insert.Goals as goal
 
 pub returns-clause-has : goal.returns-clause-has

@@ -1,5 +1,5 @@
 -- A set has what was put into it, and what it had; of texts, what a filter leaves too.
--- For the proofs of `a_set_has_what_is_put_into_it` and `TextSet::insert`.
+-- For proofs alone: that of `TextSet::insert`, and those of `nm_plan`, `nm_answer`, `nm_writer` and others.
 use Rattle.std.proofs.Common.{◌≡◌, ℕ, Bool, true, false, cond, ◌&&◌, ◌||◌, List, [], ◌∷◌, filter, fold, refl, sym, ap, ◌∙◌}
 use Rattle.std.proofs.Math.Bool.{or-false, or_assoc, or_comm, or_self_left, and-false}
 use Rattle.std.specs.List.{list_any}
@@ -34,7 +34,11 @@ module _ {K : Type 0} (cmp : K → K → Ordering) (eq : K → K → Bool) (same
   has-inserted (x ∷ xs) key other = put key x other xs (cmp key x) refl (has-inserted xs key other)
 
 -- ---- sets of texts
-pub has_text-put : (texts : List (List ℕ)) (text other : List ℕ) → has_text (insert texts text) other ≡ (same_text other text || has_text texts other)
+-- texts that are told to be the same are
+pub bytes_same : (a b : List ℕ) → true ≡ same_text a b → a ≡ b
+bytes_same a b e = lexicographic.same_text a b e
+
+has_text-put : (texts : List (List ℕ)) (text other : List ℕ) → has_text (insert texts text) other ≡ (same_text other text || has_text texts other)
 has_text-put = has-inserted (slice_cmp nat_cmp) (pointwise nat_eq) texts_ties nat_list_eq_equiv
 
 has_text-fold : (texts set : List (List ℕ)) (other : List ℕ) → has_text (fold insert set texts) other ≡ (has_text set other || has_text texts other)
@@ -49,10 +53,10 @@ has_text-sorted texts other = has_text-fold texts [] other
 
 kept_case : (keep : List ℕ → Bool) (x other : List ℕ) (xs : List (List ℕ)) (b c : Bool) → keep x ≡ b → same_text other x ≡ c → has_text (filter keep xs) other ≡ (has_text xs other && keep other)
     → has_text (cond b (x ∷ filter keep xs) (filter keep xs)) other ≡ ((c || has_text xs other) && keep other)
-kept_case keep x other xs true true e d h = ap (λ t. t || has_text (filter keep xs) other) d ∙ sym (ap keep (lexicographic.same_text other x (sym d)) ∙ e)
+kept_case keep x other xs true true e d h = ap (λ t. t || has_text (filter keep xs) other) d ∙ sym (ap keep (bytes_same other x (sym d)) ∙ e)
 kept_case keep x other xs true false e d h = ap (λ t. t || has_text (filter keep xs) other) d ∙ h
 kept_case keep x other xs false true e d h =
-    let no = ap keep (lexicographic.same_text other x (sym d)) ∙ e in
+    let no = ap keep (bytes_same other x (sym d)) ∙ e in
     h ∙ (ap (λ t. has_text xs other && t) no ∙ (and-false (has_text xs other) ∙ sym no))
 kept_case keep x other xs false false e d h = h
 

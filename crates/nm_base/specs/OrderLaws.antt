@@ -1,4 +1,4 @@
--- Texts that are put in order: none stands twice. For the proof of `texts_in_order_stand_once`.
+-- Texts that are put in order: none stands twice. For proofs alone: those of `nm_plan`, `nm_writer` and `nm_dump`.
 use Rattle.std.proofs.Common.{◌≡◌, ℕ, false, List, [], ◌∷◌, fold, refl, ap, ◌∙◌}
 use Rattle.std.proofs.lemmas.Map.Keys.{IsDistinct-from_sorted}
 use Rattle.std.specs.Cmp.Lexicographic.{nat_list_cmp_total, slice_cmp, texts_ties}
@@ -9,8 +9,12 @@ use Rattle.std.specs.declared.cmp.Ordering.{Ordering}
 use Rattle.std.specs.declared.cmp.Ordering.TheVariants.{Less, Equal, Greater}
 use Rattle.nm_base.specs.Order.{IsSorted, insert, same_text, sorted}
 
+-- two texts compared the other way round
+pub turned : (x y : List ℕ) (answer : Ordering) → slice_cmp nat_cmp x y ≡ answer → slice_cmp nat_cmp y x ≡ ordering_reverse answer
+turned x y answer is = nat_list_cmp_total.antisymm y x ∙ ap ordering_reverse is
+
 -- what is above a text is above all that is below it
-above_all : (key e : List ℕ) (ys : List (List ℕ)) → AllByRecursion (λ y. slice_cmp nat_cmp e y ≡ Less) ys → slice_cmp nat_cmp key e ≡ Less → AllByRecursion (λ y. slice_cmp nat_cmp key y ≡ Less) ys
+pub above_all : (key e : List ℕ) (ys : List (List ℕ)) → AllByRecursion (λ y. slice_cmp nat_cmp e y ≡ Less) ys → slice_cmp nat_cmp key e ≡ Less → AllByRecursion (λ y. slice_cmp nat_cmp key y ≡ Less) ys
 above_all key e [] all less = tt
 above_all key e (y ∷ ys) all less = (nat_list_cmp_total.trans key e y less all.0, above_all key e ys all.1 less)
 
@@ -30,9 +34,9 @@ unfolding IsStrictlySortedBy
 sorted_by x xs key Less is in_order rest = rw is ((is, above_all key x xs in_order.0 is), in_order)
 sorted_by x xs key Equal is in_order rest = rw is in_order
 sorted_by x xs key Greater is in_order rest =
-    rw is (all_put (λ y. slice_cmp nat_cmp x y ≡ Less) xs key in_order.0 (nat_list_cmp_total.antisymm x key ∙ ap ordering_reverse is), rest)
+    rw is (all_put (λ y. slice_cmp nat_cmp x y ≡ Less) xs key in_order.0 (turned key x Greater is), rest)
 
-pub sorted_put : (xs : List (List ℕ)) (key : List ℕ) → IsSorted xs → IsSorted (insert xs key)
+sorted_put : (xs : List (List ℕ)) (key : List ℕ) → IsSorted xs → IsSorted (insert xs key)
 unfolding IsStrictlySortedBy
 sorted_put [] key in_order = (tt, tt)
 sorted_put (x ∷ xs) key in_order = sorted_by x xs key (slice_cmp nat_cmp key x) refl in_order (sorted_put xs key in_order.1)
@@ -41,12 +45,12 @@ sorted_fold : (texts keys : List (List ℕ)) → IsSorted keys → IsSorted (fol
 sorted_fold [] keys in_order = in_order
 sorted_fold (text ∷ texts) keys in_order = sorted_fold texts (insert keys text) (sorted_put keys text in_order)
 
-none_sorted : IsSorted []
+pub none_sorted : IsSorted []
 unfolding IsStrictlySortedBy
 none_sorted = tt
 
-pub sorted_sorted : (texts : List (List ℕ)) → IsSorted (sorted texts)
-sorted_sorted texts = sorted_fold texts [] none_sorted
+pub IsSorted-sorted : (texts : List (List ℕ)) → IsSorted (sorted texts)
+IsSorted-sorted texts = sorted_fold texts [] none_sorted
 
 apart_all : (x : List ℕ) (xs : List (List ℕ)) → AllByRecursion (λ y. is_eq (slice_cmp nat_cmp x y) ≡ false) xs → AllByRecursion (λ y. same_text x y ≡ false) xs
 apart_all x [] h = tt
