@@ -14,7 +14,7 @@ use Rattle.nm_index.specs.Index.{committed, folded}
 use Rattle.nm_index.specs.declared.base.Base.{Base}
 use Rattle.nm_plan.specs.Apart.{AreApart}
 use Rattle.nm_plan.proofs.FitLemmas.{not_there}
-use Rattle.nm_plan.specs.SetLaws.{bytes_same}
+use Rattle.nm_base.specs.SetLaws.{bytes_same}
 
 abbrev File : Type 0
 File = List ℕ × Facts

@@ -23,8 +23,8 @@ use Rattle.nm_plan.specs.Plan.{AreAdded, add_of, all_added, batch_commit, batch_
 use Rattle.std.specs.List.Sorted.{IsStrictlySortedBy}
 use Rattle.std.proofs.Math.Bool.{or-true}
 use Rattle.nm_plan.proofs.FoldLemmas.{batch-files, new-files, next-files}
-use Rattle.nm_plan.specs.OrderLaws.{IsSorted-sorted}
-use Rattle.nm_plan.specs.SetLaws.{bytes_same, has_text-filter, has_text-sorted}
+use Rattle.nm_base.specs.OrderLaws.{IsSorted-sorted}
+use Rattle.nm_base.specs.SetLaws.{bytes_same, has_text-filter, has_text-sorted}
 
 -- no text stands twice
 abbrev pub IsApart : List (List ℕ) → Type 0

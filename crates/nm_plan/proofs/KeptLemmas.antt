@@ -28,7 +28,7 @@ use Rattle.nm_tags.specs.Operations.{after_ops}
 use Rattle.nm_plan.specs.NameTags.{commit_of, follow_names, live_of, named_tags, set_tags}
 use Rattle.nm_plan.specs.Plan.{add_of, batch_commit, batch_commits, drop_of, message_ids, new_commits, removed_commit, removed_files}
 use Rattle.nm_plan.proofs.FoldLemmas.{commit_of-files, fold-adds, next-files}
-use Rattle.nm_plan.specs.SetLaws.{bytes_same}
+use Rattle.nm_base.specs.SetLaws.{bytes_same}
 use Rattle.nm_plan.proofs.TagLemmas.{entries-tags, mail-tags, tags-own, tags-stay}
 
 abbrev Texts : Type 0

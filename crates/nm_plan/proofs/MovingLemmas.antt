@@ -24,7 +24,7 @@ use Rattle.nm_plan.specs.Numbering.{AreNumbered}
 use Rattle.nm_plan.specs.Tagging.{tag_commit}
 use Rattle.nm_plan.proofs.ApartLemmas.{files-filter, moved-still, none-filter}
 use Rattle.nm_plan.proofs.FitLemmas.{IsApart, apart-filter, every-both, every-filter, every-in, every-map, fit-append, has_text-append}
-use Rattle.nm_plan.specs.SetLaws.{bytes_same, has_text-filter}
+use Rattle.nm_base.specs.SetLaws.{bytes_same, has_text-filter}
 use Rattle.nm_plan.proofs.TaggingLemmas.{fit-with, tags-files, tags-fit}
 use Rattle.nm_plan.proofs.TagLemmas.{live-apart}
 

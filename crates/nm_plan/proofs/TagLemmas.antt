@@ -24,7 +24,7 @@ use Rattle.nm_plan.specs.Numbering.{AreNumbered, InOrder}
 use Rattle.nm_plan.specs.Plan.{add_of}
 use Rattle.nm_plan.proofs.FitLemmas.{IsApart, apart-filter}
 use Rattle.nm_plan.proofs.NumberLemmas.{changes-kept}
-use Rattle.nm_plan.specs.SetLaws.{bytes_same, has_text-filter}
+use Rattle.nm_base.specs.SetLaws.{bytes_same, has_text-filter}
 
 abbrev Texts : Type 0
 Texts = List (List ℕ)

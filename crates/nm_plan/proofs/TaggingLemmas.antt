@@ -25,7 +25,7 @@ use Rattle.nm_plan.specs.Tagging.{commit_with, tag_changes, tag_commit}
 use Rattle.nm_answer.specs.declared.tagging.Tagging.{Tagging}
 use Rattle.nm_plan.proofs.FitLemmas.{all-live, every-filter, fit-sets}
 use Rattle.nm_plan.proofs.FoldLemmas.{silent}
-use Rattle.nm_plan.specs.SetLaws.{bytes_same, has_text-filter}
+use Rattle.nm_base.specs.SetLaws.{bytes_same, has_text-filter}
 use Rattle.nm_plan.proofs.TagLemmas.{live-apart, sets-other, sets-own, tags-own}
 
 abbrev Texts : Type 0

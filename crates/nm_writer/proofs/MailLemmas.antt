@@ -21,7 +21,7 @@ use Rattle.nm_plan.specs.Plan.{all_added, files_after_new, new_commits, to_read}
 use Rattle.nm_scan.specs.Batches.{ReadsBatches}
 use Rattle.nm_scan.specs.Reading.{Reads, arrival, arrival_at, arrival_of, found_in}
 use Rattle.nm_writer.proofs.ArrivalLemmas.{are-unknown, every-in, every-filter}
-use Rattle.nm_plan.specs.SetLaws.{bytes_same, has_text-filter}
+use Rattle.nm_base.specs.SetLaws.{bytes_same, has_text-filter}
 use Rattle.nm_writer.specs.New.{HasCome, HoldsTheMail, IsAfterNew, StillHolds, facts_at}
 use Rattle.nm_writer.specs.Writer.{WriterState}
 use Rattle.nm_writer.specs.declared.write_error.WriteError.{WriteError}

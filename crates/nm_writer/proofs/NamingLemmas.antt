@@ -22,7 +22,7 @@ use Rattle.nm_answer.specs.View.{message_paths, tags_of}
 use Rattle.nm_plan.specs.NameTags.{follow_names, live_of, named_tags, set_tags, with_names}
 use Rattle.nm_plan.specs.Numbering.{AreNumbered, InOrder}
 use Rattle.nm_writer.specs.Naming.{at_numbers, live_at_numbers}
-use Rattle.nm_plan.specs.SetLaws.{bytes_same}
+use Rattle.nm_base.specs.SetLaws.{bytes_same}
 
 abbrev Entry : Type 0
 Entry = List ℕ × ℕ

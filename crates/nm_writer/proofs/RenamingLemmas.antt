@@ -27,7 +27,7 @@ use Rattle.nm_plan.specs.Moving.{move_given, move_if}
 use Rattle.nm_answer.specs.declared.sync_report.Unmoved.{Unmoved}
 use Rattle.nm_writer.specs.Renamed.{AnswersAlong, AreTried, AsksRenames, HasPlaces, IsDone, IsKept, IsLeft, TreesAlong, files_given, outcomes_given}
 use Rattle.nm_writer.specs.declared.renaming.Renaming.{Renaming}
-use Rattle.nm_plan.specs.SetLaws.{bytes_same}
+use Rattle.nm_base.specs.SetLaws.{bytes_same}
 
 abbrev File : Type 0
 File = List ℕ × Facts

@@ -12,8 +12,8 @@ use Rattle.nm_base.specs.Order.{IsSorted, has_text, insert, same_text, sorted}
 use Rattle.nm_base.specs.declared.facts.Facts.{Facts}
 use Rattle.nm_answer.specs.NewText.{ids_of, only_in}
 use Rattle.nm_commit.specs.Files.{has_id, has_path, paths_of}
-use Rattle.nm_plan.specs.OrderLaws.{IsSorted-sorted, above_all, turned}
-use Rattle.nm_plan.specs.SetLaws.{bytes_same, has_text-filter, has_text-sorted}
+use Rattle.nm_base.specs.OrderLaws.{IsSorted-sorted, above_all, turned}
+use Rattle.nm_base.specs.SetLaws.{bytes_same, has_text-filter, has_text-sorted}
 
 -- who is below all is none of them
 lacks : (text : List ℕ) (texts : List (List ℕ)) → AllByRecursion (λ y. slice_cmp nat_cmp text y ≡ Less) texts → has_text texts text ≡ false
