@@ -2,7 +2,6 @@ pub mod ByteLemmas
 pub mod DumpLemmas
 pub mod IdLemmas
 pub mod InsideLemmas
-pub mod OrderLemmas
 pub mod QuoteLemmas
 pub mod RestoreLemmas
 pub mod RestoredDumpLemmas

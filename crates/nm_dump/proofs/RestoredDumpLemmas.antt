@@ -19,7 +19,7 @@ use Rattle.nm_base.specs.declared.forms.ReadForm.TheVariants as forms
 use Rattle.nm_dump.specs.ReadBack.{wanted_from, AreFitForSup, AreMessages}
 use Rattle.nm_dump.specs.Restored.{is_live, is_named_in, lines_naming, restored_tags, HaveTheirTags, StandOnce}
 use Rattle.nm_dump.specs.Tags.{set_tag}
-use Rattle.nm_dump.proofs.OrderLemmas.{distinct_sorted, none_sorted, sorted_sorted}
+use Rattle.nm_base.specs.OrderLaws.{IsSorted-sorted, distinct_sorted, none_sorted}
 use Rattle.nm_dump.proofs.RestoreLemmas.{restored}
 use Rattle.nm_dump.proofs.RestoredLemmas.{after_lines}
 use Rattle.nm_index.specs.Valid.{IsValid}
@@ -139,7 +139,7 @@ all_sorted index (id ∷ ids) h = (tags_sorted id index.tags h, all_sorted index
 -- a dump of an index has each message once, with its tags in order
 pub tagged_once : (index : Base) (ids : Texts) → IsValid index → StandOnce (tagged index (sorted ids))
 tagged_once index ids valid = (
-  subst (IsDistinct same_text) (sym (ids_tagged index (sorted ids))) (distinct_sorted (sorted ids) (sorted_sorted ids)),
+  subst (IsDistinct same_text) (sym (ids_tagged index (sorted ids))) (distinct_sorted (sorted ids) (IsSorted-sorted ids)),
   all_sorted index (sorted ids) valid.sets,
 )
 
