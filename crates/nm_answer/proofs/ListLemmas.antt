@@ -1,9 +1,7 @@
 -- Items and texts among those that pass a test. For `MatchLemmas`.
-use Rattle.std.proofs.Common.{◌≡◌, refl, sym, ap, ◌∙◌, ℕ, zero, suc, Bool, true, false, ◌&&◌, ◌||◌, cond, List, [], ◌∷◌, map, filter, arith}
+use Rattle.std.proofs.Common.{◌≡◌, refl, sym, ap, ◌∙◌, ℕ, zero, suc, Bool, true, false, ◌||◌, cond, List, [], ◌∷◌, map, filter, arith}
 use Rattle.std.specs.Prelude.{Contains}
 use Rattle.std.specs.List.{AllByRecursion, IsDistinct, list_any}
-use Rattle.std.proofs.lemmas.Bool.{and_right}
-use Rattle.std.proofs.lemmas.Slice.Eq.{bytes_eq-Decides}
 use Rattle.nm_base.specs.Order.{has_text, same_text}
 
 pub there : {X : Type 0} (x : X) (xs : List X) (y : X) → Contains xs y → Contains (x ∷ xs) y
@@ -32,20 +30,6 @@ pub keeps : {X : Type 0} (p : X → Bool) (xs : List X) (x : X) → Contains xs 
 keeps p [] x among is = absurd (omega (arith, among.1))
 keeps p (y ∷ xs) x (zero, below, here) is = rw (ap p here ∙ is) (first y (filter p xs) x here)
 keeps p (y ∷ xs) x (suc k, below, here) is = keeps_by p y xs (p y) x (keeps p xs x (k, (omega (arith, below)), here) is)
-
--- a text is among those that pass where it is among all and passes
-text_by : (p : List ℕ → Bool) (id x : List ℕ) (xs : List (List ℕ)) (test same : Bool) → p x ≡ test → same_text id x ≡ same → has_text (filter p xs) id ≡ (has_text xs id && p id)
-    → has_text (cond test (x ∷ filter p xs) (filter p xs)) id ≡ ((same || has_text xs id) && p id)
-text_by p id x xs true true is here rest = rw here (sym (ap p ((bytes_eq-Decides id x).0 here) ∙ is))
-text_by p id x xs true false is here rest = rw here rest
-text_by p id x xs false true is here rest =
-    let out = ap p ((bytes_eq-Decides id x).0 here) ∙ is in
-    rest ∙ and_right (has_text xs id) (p id) out ∙ sym out
-text_by p id x xs false false is here rest = rest
-
-pub has_text-filter : (p : List ℕ → Bool) (xs : List (List ℕ)) (id : List ℕ) → has_text (filter p xs) id ≡ (has_text xs id && p id)
-has_text-filter p [] id = refl
-has_text-filter p (x ∷ xs) id = text_by p id x xs (p x) (same_text id x) refl refl (has_text-filter p xs id)
 
 -- a filter keeps texts apart
 all_by : {X : Type 0} (P : X → Type 0) (p : X → Bool) (x : X) (xs : List X) (test : Bool) → P x → AllByRecursion P (filter p xs) → AllByRecursion P (cond test (x ∷ filter p xs) (filter p xs))

@@ -15,10 +15,11 @@ use Rattle.nm_index.specs.Valid.{IsValid, entry_ids}
 use Rattle.nm_index.specs.declared.base.Base.{Base}
 use Rattle.nm_query.specs.declared.query.Query.{Query}
 use Rattle.nm_threads.specs.Same.{ids_of}
+use Rattle.nm_base.specs.SetLaws.{has_text-filter}
 use Rattle.nm_base.specs.declared.facts.LinkRow.{LinkRow}
 use Rattle.nm_answer.specs.Matches.{Excludes, excluding_tags, is_excluded, is_match, matches_of, names_tag, tags_excluded}
 use Rattle.nm_answer.specs.View.{View, view_of}
-use Rattle.nm_answer.proofs.ListLemmas.{distinct_kept, entry_ids_have, has_text-filter, ids_kept, keeps, kept}
+use Rattle.nm_answer.proofs.ListLemmas.{distinct_kept, entry_ids_have, ids_kept, keeps, kept}
 
 -- ---- exclusion
 
