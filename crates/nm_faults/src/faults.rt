@@ -4,6 +4,7 @@ ghost use Rattle.std.specs.Prelude.{◌≡◌};
 ghost use Rattle.nm_base.specs.Limits.{one_more};
 ghost use Rattle.nm_faults.specs.Faults.{HasRisen};
 
+use nm_base::Failed;
 use std::marker::Model;
 
 /// How often an object has failed. The count stops at its type's end.
@@ -43,5 +44,14 @@ impl Faults {
         ensures risen { HasRisen self.old self.new }
     {
         self.count = self.count.saturating_add(1);
+    }
+
+    /// Counts one more, and gives the error that tells of it.
+    pub fn failed(&mut self) -> Failed
+        ensures count { self.new ≡ one_more self.old }
+        ensures risen { HasRisen self.old self.new }
+    {
+        self.add();
+        Failed
     }
 }
