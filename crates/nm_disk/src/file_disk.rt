@@ -2,7 +2,6 @@
 
 ghost use Rattle.std.specs.Prelude.{◌≤◌, ◌+◌, None, IfOk, OnOk, length};
 ghost use Rattle.nm_base.specs.Limits.{max_count};
-ghost use Rattle.nm_faults.specs.Faults.{HasRisen};
 
 use crate::file_io::{DiskError, DiskFile, lock_folder, make_head, open_or_make};
 use crate::{Disk, DiskFolder, FileNo};
@@ -130,14 +129,14 @@ impl Disk for FileDisk {
     fn len(&mut self, file: FileNo) -> Result<u64, Failed> {
         match file_len(&mut self.folder, file) {
             Ok(len) => Ok(len),
-            Err(DiskError) => Err(count_fault(&mut self.faults)),
+            Err(DiskError) => Err(self.faults.failed()),
         }
     }
 
     fn read_at(&mut self, file: FileNo, at: u64, into: &mut [u8]) -> Result<usize, Failed> {
         match read_file(&mut self.folder, file, at, into) {
             Ok(n) => Ok(n),
-            Err(DiskError) => Err(count_fault(&mut self.faults)),
+            Err(DiskError) => Err(self.faults.failed()),
         }
     }
 
@@ -145,7 +144,7 @@ impl Disk for FileDisk {
         self.moments = self.moments.saturating_add(1);
         match write_file(&mut self.folder, file, at, bytes) {
             Ok(()) => Ok(()),
-            Err(DiskError) => Err(count_fault(&mut self.faults)),
+            Err(DiskError) => Err(self.faults.failed()),
         }
     }
 
@@ -153,7 +152,7 @@ impl Disk for FileDisk {
         self.moments = self.moments.saturating_add(1);
         match sync_files(&mut self.folder) {
             Ok(()) => Ok(()),
-            Err(DiskError) => Err(count_fault(&mut self.faults)),
+            Err(DiskError) => Err(self.faults.failed()),
         }
     }
 
@@ -175,14 +174,7 @@ impl DiskFolder for FileDisk {
                 self.folder = Some(folder);
                 Ok(())
             }
-            Err(DiskError) => Err(count_fault(&mut self.faults)),
+            Err(DiskError) => Err(self.faults.failed()),
         }
     }
-}
-
-fn count_fault(faults: &mut Faults) -> Failed
-    ensures { HasRisen faults.old faults.new }
-{
-    faults.add();
-    Failed
 }
