@@ -1,7 +1,7 @@
 //! A folder of the system as a `Maildir`, as `main` makes it and the top call opens it.
 
 ghost use Rattle.std.specs.Prelude.{None, IfOk};
-ghost use Rattle.nm_faults.specs.Faults.{Counts, HasRisen};
+ghost use Rattle.nm_faults.specs.Faults.{Counts};
 ghost use Rattle.nm_maildir.specs.Observed.{is_mail_fault};
 ghost use Rattle.nm_maildir.specs.Order.{AreInOrder};
 
@@ -43,14 +43,6 @@ fn count_fault(faults: &mut Faults, error: FolderError) -> MailError
         }
         FolderError::NoMemory => MailError::NoMemory,
     }
-}
-
-/// Counts an opening that failed.
-fn count_failed(faults: &mut Faults) -> Failed
-    ensures { HasRisen faults.old faults.new }
-{
-    faults.add();
-    Failed
 }
 
 /// The root, where a folder was opened.
@@ -122,10 +114,10 @@ impl<R: Files + AllocGlobal + Clone + Drop> MailFolder for FolderMail<R> {
     /// Fails where no folder is there or it may not be read, and the one that was opened stays.
     fn open(&mut self, dir: &Text) -> Result<(), Failed> {
         if !can_be_listed(&self.rt, dir) {
-            return Err(count_failed(&mut self.faults));
+            return Err(self.faults.failed());
         }
         let Ok(root) = dir.copy() else {
-            return Err(count_failed(&mut self.faults));
+            return Err(self.faults.failed());
         };
         self.root = Some(root);
         Ok(())
