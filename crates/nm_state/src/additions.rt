@@ -1,20 +1,38 @@
-//! Commits that bring mails and set tags alone, as most do: they are held against the files as these are, of which no handle is
-//! made; `fitting` calls it.
+//! Commits that bring mails and set tags alone, as those of `new` do over mail that came: they are held against the files as
+//! these are, of which no handle is made; `fitting` calls it.
 
-ghost use Rattle.std.specs.Prelude.{◌≡◌, ◌↔◌, ◌||◌, IfOk, IfSome, IsTrue};
+ghost use Rattle.std.specs.Prelude.{◌≡◌, ◌↔◌, ◌||◌, [], IfOk, IfSome, IsTrue};
 ghost use Rattle.nm_base.specs.Order.{has_text};
-ghost use Rattle.nm_commit.specs.Files.{FitChanges, has_path};
+ghost use Rattle.nm_commit.specs.Files.{FitChanges, has_id, has_path};
 ghost use Rattle.nm_commit.specs.declared.change.Change.TheVariants.{Add};
 ghost use Rattle.nm_state.specs.Additions.{IsTried};
 ghost use Rattle.nm_state.specs.Filing.{AreFiled, files_in};
 
 use crate::filing::{Filing, has_file, is_live};
-use nm_base::{Copies, Facts, MailPath, NoMemory, TextSet, is_date};
+use nm_base::{Copies, Facts, MailPath, MessageId, NoMemory, TextSet, is_date};
 use nm_commit::Change;
 use std::alloc::Global;
 
-/// Whether the changes fit the files, where they bring mails and set tags of messages that have a file already; none where one
-/// of them does something else.
+/// What the changes so far have brought: the paths of mails and the ids of their messages.
+#[derive(Drop)]
+struct Added {
+    paths: TextSet<MailPath>,
+    ids: TextSet<MessageId>,
+}
+
+impl Added {
+    fn new(alloc: Global) -> Added
+        ensures paths { result.paths ≡ [] }
+        ensures ids { result.ids ≡ [] }
+    {
+        Added {
+            paths: TextSet::new(alloc),
+            ids: TextSet::new(alloc),
+        }
+    }
+}
+
+/// Whether the changes fit the files, where they bring mails and set tags; none where one of them does something else.
 pub fn additions_fit(
     alloc: Global,
     filing: &Filing,
@@ -23,7 +41,7 @@ pub fn additions_fit(
     requires { AreFiled filing.now }
     ensures { IfOk result (λ told. IfSome told (λ fit. IsTrue fit ↔ FitChanges (files_in filing.now) changes.now)) }
 {
-    let mut added = TextSet::new(alloc);
+    let mut added = Added::new(alloc);
     'changes: for change in changes {
         let Some(fits) = try_change(filing, &mut added, change)? else {
             return Ok(None);
@@ -35,12 +53,8 @@ pub fn additions_fit(
     Ok(Some(true))
 }
 
-/// Whether a change fits, where it brings a mail or sets tags. The path of a mail is added.
-fn try_change(
-    filing: &Filing,
-    added: &mut TextSet<MailPath>,
-    change: &Change,
-) -> Result<Option<bool>, NoMemory>
+/// Whether a change fits, where it brings a mail or sets tags. What it brings is added.
+fn try_change(filing: &Filing, added: &mut Added, change: &Change) -> Result<Option<bool>, NoMemory>
     requires { AreFiled filing.now }
     ensures { IfOk result (λ told. IfSome told (λ fits. IsTried (files_in filing.now) change.now added.old added.new fits)) }
 {
@@ -49,19 +63,14 @@ fn try_change(
             let fits = try_mail(filing, added, path, facts.get())?;
             Ok(Some(fits))
         }
-        Change::SetTags { id, .. } => {
-            if is_live(filing, id) {
-                return Ok(Some(true));
-            }
-            Ok(None)
-        }
+        Change::SetTags { id, .. } => Ok(Some(has_mail(filing, added, id))),
         Change::Drop { .. } | Change::Move { .. } => Ok(None),
     }
 }
 
 fn try_mail(
     filing: &Filing,
-    added: &mut TextSet<MailPath>,
+    added: &mut Added,
     path: &MailPath,
     facts: &Facts,
 ) -> Result<bool, NoMemory>
@@ -74,13 +83,22 @@ fn try_mail(
     if !is_date(facts.date) {
         return Ok(false);
     }
-    added.insert(path.copy()?)?;
+    added.paths.insert(path.copy()?)?;
+    added.ids.insert(facts.id.copy()?)?;
     Ok(true)
 }
 
-fn lies_there(filing: &Filing, added: &TextSet<MailPath>, path: &MailPath) -> bool
+fn lies_there(filing: &Filing, added: &Added, path: &MailPath) -> bool
     requires { AreFiled filing.now }
-    ensures { result ≡ (has_text added.now path.now || has_path (files_in filing.now) path.now) }
+    ensures { result ≡ (has_text added.now.paths path.now || has_path (files_in filing.now) path.now) }
 {
-    added.contains(path) || has_file(filing, path)
+    added.paths.contains(path) || has_file(filing, path)
+}
+
+/// Whether a mail of the message is there, or has come with the changes so far.
+fn has_mail(filing: &Filing, added: &Added, id: &MessageId) -> bool
+    requires { AreFiled filing.now }
+    ensures { result ≡ (has_text added.now.ids id.now || has_id (files_in filing.now) id.now) }
+{
+    added.ids.contains(id) || is_live(filing, id)
 }

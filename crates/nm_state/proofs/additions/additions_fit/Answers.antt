@@ -7,11 +7,12 @@ use Rattle.nm_commit.specs.Files.{changed}
 use Rattle.nm_commit.specs.declared.change.Change.{Change}
 use Rattle.nm_state.specs.Additions.{AreWith, IsTried}
 use Rattle.nm_state.specs.Filing.{files_in}
+use Rattle.nm_state.specs.declared.additions.Added.{Added}
 use Rattle.nm_state.proofs.ChangeLemmas.{fit_at, fit_more}
 use Rattle.nm_state.proofs.additions.additions_fit.Goals as goal
 
 -- what was told of a change
-abbrev Told : List (List ℕ × Facts) → Change → List (List ℕ) → List (List ℕ) → Option Bool → Type 0
+abbrev Told : List (List ℕ × Facts) → Change → Added → Added → Option Bool → Type 0
 Told before change old new told = IfSome told (λ fits. IsTried before change old new fits)
 
 pub returns-then-not-fits : goal.returns-then-not-fits
