@@ -28,6 +28,6 @@ mod snapshot;
 mod tagging;
 
 pub use live_ids::LiveIds;
-pub use reading::{Files, MessageFiles, Paths};
+pub use reading::{Files, MessageFiles, Paths, Tagged};
 pub use room::RoomError;
 pub use snapshot::{Snapshot, a_snapshot_is_a_valid_index};

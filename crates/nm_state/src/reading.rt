@@ -6,7 +6,7 @@ ghost use Rattle.std.specs.Map.{keys_of, values_of};
 ghost use Rattle.std.specs.Map.Iter.{TakesFirst, deref, deref_pair};
 ghost use Rattle.nm_state.specs.Filing.{files_at_places};
 
-use nm_base::{Facts, MailPath};
+use nm_base::{Facts, MailPath, MessageId, Tags};
 use nm_shared::{Items, Shared, SharedMap};
 use std::marker::Model;
 
@@ -129,5 +129,40 @@ impl<'a> Iterator for MessageFiles<'a> {
                 return Some((&file.0, file.1.get()));
             }
         }
+    }
+}
+
+/// Messages by the bytes of their ids, each with its tags. A contract sees those that are left.
+#[derive(Drop)]
+pub struct Tagged<'a> {
+    rest: Items<'a, (MessageId, Shared<Tags>)>,
+}
+
+impl<'a> Model for Tagged<'a> {
+    ghost use Rattle.std.specs.Prelude.{List, ℕ};
+
+    ghost Value = { List (List ℕ × List (List ℕ)) };
+
+    ghost view = { λ t. t.rest };
+}
+
+impl<'a> Tagged<'a> {
+    pub(crate) fn of(tags: &'a SharedMap<MessageId, Shared<Tags>>) -> Tagged<'a>
+        ensures { result ≡ tags.now }
+    {
+        Tagged { rest: tags.iter() }
+    }
+}
+
+impl<'a> Iterator for Tagged<'a> {
+    type Item = (&'a MessageId, &'a Tags);
+
+    ghost next_gives = { TakesFirst deref_pair };
+
+    ghost remaining = { λ t. at_most (length t) };
+
+    fn next(&mut self) -> Option<(&'a MessageId, &'a Tags)> {
+        let entry = self.rest.next()?;
+        Some((&entry.0, entry.1.get()))
     }
 }

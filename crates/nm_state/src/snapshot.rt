@@ -26,7 +26,7 @@ use crate::messages::messages_of;
 use crate::numbers::has_ids;
 use crate::opening::parts_of;
 use crate::parts::Parts;
-use crate::reading::{Files, MessageFiles, Paths};
+use crate::reading::{Files, MessageFiles, Paths, Tagged};
 use crate::room::{RoomError, counts_after, counts_of, limit_passed};
 use nm_base::{Copies, MailPath, Many, MessageId, NoMemory, Tags};
 use nm_commit::Commit;
@@ -171,6 +171,13 @@ impl Snapshot {
     {
         let tags = self.parts.tags.get(id)?;
         Some(tags.get())
+    }
+
+    /// The messages that have a file, by the bytes of their ids, each with its tags.
+    pub fn tagged(&self) -> Tagged<'_>
+        ensures { result ≡ self.now.tags }
+    {
+        Tagged::of(self.parts.tags.pairs())
     }
 
     /// The number of an id that has been named.
