@@ -54,20 +54,14 @@ impl<W: Write> Sink for StdSink<W> {
     fn put(&mut self, bytes: &[u8]) -> Result<(), Failed> {
         match write_whole(&mut self.writer, bytes) {
             Ok(()) => Ok(()),
-            Err(Failed) => {
-                self.faults.add();
-                Err(Failed)
-            }
+            Err(Failed) => Err(self.faults.failed()),
         }
     }
 
     fn flush(&mut self) -> Result<(), Failed> {
         match self.writer.flush() {
             Ok(()) => Ok(()),
-            Err(_) => {
-                self.faults.add();
-                Err(Failed)
-            }
+            Err(_) => Err(self.faults.failed()),
         }
     }
 }

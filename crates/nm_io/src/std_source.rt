@@ -45,10 +45,7 @@ impl<R: Read> Source for StdSource<R> {
     fn take(&mut self, buf: &mut [u8]) -> Result<usize, Failed> {
         match read_once(&mut self.reader, buf) {
             Ok(n) => Ok(n),
-            Err(Failed) => {
-                self.faults.add();
-                Err(Failed)
-            }
+            Err(Failed) => Err(self.faults.failed()),
         }
     }
 }
