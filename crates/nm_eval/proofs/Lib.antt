@@ -1,7 +1,9 @@
-mod AskingLemmas
+mod AmongLemmas
 mod ExclusionLemmas
 mod FileLemmas
 mod FoundLemmas
+mod NamingLemmas
+mod NumberLemmas
 mod PlaceLemmas
 mod PreparingLemmas
 mod QuickLemmas

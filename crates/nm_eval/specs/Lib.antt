@@ -1,3 +1,4 @@
-pub mod Asking
 pub mod Excluding
+pub mod Naming
+pub mod Numbers
 pub mod Quick

@@ -1,14 +1,18 @@
-//! Searching: which messages of a snapshot a query finds, tested message by message, or that of an id alone where one is asked for.
+//! Searching: which messages of a snapshot a query finds, tested message by message: those of the ids that it names,
+//! or else all.
 #![tactic(auto)]
 
-mod asking;
 mod exclusion;
+mod laws;
 mod matching;
 mod message;
+mod naming;
+mod numbers;
 mod places;
 mod preparing;
 mod quick;
 mod testing;
 mod words;
 
+pub use laws::{no_more_is_tested_than_named, what_passes_is_named};
 pub use matching::matches;

@@ -1,0 +1,53 @@
+-- The ids that a query names: no message with another id passes it, so of such a query no other is tested.
+-- Cited by `laws`, `matching` and `naming`.
+use Rattle.std.specs.Prelude.{ℕ, List, [], ◌∷◌, ◌++◌, length, Option, Some, None, if◌then◌else◌}
+use Rattle.std.specs.List.{filter}
+use Rattle.nm_base.specs.MessageId.{is_message_id}
+use Rattle.nm_base.specs.Order.{has_text}
+use Rattle.nm_index.specs.Index.{live_ids}
+use Rattle.nm_index.specs.declared.base.Base.{Base}
+use Rattle.nm_query.specs.declared.query.Query.{Query}
+use Rattle.nm_query.specs.declared.query.Query.TheOpen.{Query-F}
+use Rattle.nm_query.specs.declared.query.Query.TheFolds.{fold-Query}
+
+-- the first of them that there is
+abbrev pub first_some : List (Option (List (List ℕ))) → Option (List (List ℕ))
+first_some [] = None
+first_some (None ∷ more) = first_some more
+first_some (Some ids ∷ more) = Some ids
+
+-- the ids of both, where there are both
+abbrev pub both : Option (List (List ℕ)) → Option (List (List ℕ)) → Option (List (List ℕ))
+both None more = None
+both (Some ids) None = None
+both (Some ids) (Some more) = Some (ids ++ more)
+
+-- the ids of all, where there are all
+abbrev pub all_some : List (Option (List (List ℕ))) → Option (List (List ℕ))
+all_some [] = Some []
+all_some (ids ∷ more) = both ids (all_some more)
+
+-- the id of a term `id:`, where its text is an id
+abbrev pub named_id : List ℕ → Option (List (List ℕ))
+named_id text = if is_message_id text then Some (text ∷ []) else None
+
+-- what one node names, from what the queries that it joins name: an `and` what the first names that names ids, an `or` what all
+-- name, where each names ids
+abbrev pub node_named : Query-F (Option (List (List ℕ))) → Option (List (List ℕ))
+node_named (Query-F.Id text) = named_id text
+node_named (Query-F.And named) = first_some named
+node_named (Query-F.Or named) = all_some named
+node_named _ = None
+
+-- the ids that the query names: those of its terms `id:`, where no message with another id can pass it
+abbrev pub named_ids : Query → Option (List (List ℕ))
+named_ids query = fold-Query (Option (List (List ℕ))) node_named query
+
+-- of these messages the named ones, or all where no ids are named
+abbrev pub among_named : Option (List (List ℕ)) → List (List ℕ) → List (List ℕ)
+among_named None live = live
+among_named (Some ids) live = filter (has_text ids) live
+
+-- how many messages are tested: the live ones that the query names, or all live ones
+abbrev pub tests : Base → Query → ℕ
+tests index query = length (among_named (named_ids query) (live_ids index.files index.entries))

@@ -1,0 +1,25 @@
+//! What the ids say that a query names. These functions run no code: their clauses are the laws, of which `matches` makes use.
+
+ghost use Rattle.std.specs.Prelude.{◌≡◌, ◌≤◌, ℕ, ℤ, List, Some, IsTrue, length};
+ghost use Rattle.nm_base.specs.Order.{has_text};
+ghost use Rattle.nm_index.specs.Valid.{IsValid};
+ghost use Rattle.nm_index.specs.declared.base.Base.{Base};
+ghost use Rattle.nm_query.specs.declared.query.Query.{Query};
+ghost use Rattle.nm_answer.specs.Test.{passes};
+ghost use Rattle.nm_answer.specs.View.{View};
+ghost use Rattle.nm_eval.specs.Naming.{named_ids, tests};
+
+use nm_answer::a_tree_passes_as_its_queries_do;
+
+/// Of a query that names ids each message that passes it has one of them.
+pub fn what_passes_is_named()
+    ensures { (query : Query) (ids : List (List ℕ)) (message : View) (moment : ℤ) → named_ids query ≡ Some ids → IsTrue (passes query message moment)
+        → IsTrue (has_text ids message.id) }
+{
+    a_tree_passes_as_its_queries_do();
+}
+
+/// Of a query that names ids no more messages are tested than it names.
+pub fn no_more_is_tested_than_named()
+    ensures { (index : Base) (query : Query) (ids : List (List ℕ)) → IsValid index → named_ids query ≡ Some ids → tests index query ≤ length ids }
+{}
