@@ -54,6 +54,7 @@ class Store:
     size: int = 0
     found: int = 0
     sizes: dict = dataclasses.field(default_factory=dict)
+    ids: list = dataclasses.field(default_factory=list)
 
     def __post_init__(self):
         for at in range(self.folders):
@@ -203,12 +204,19 @@ def realistic(folder, count, letters=None, folders=1, sizes=(2_000, 20_000)):
     for at in range(count):
         subject, has_word = texts.subject()
         store.add(header_of(texts, at, known, subject) + content_of(texts, at, sizes), has_word)
+    store.ids = [it[-1].strip("<>") for it in known]
     return store
 
 
 def first(count):
     """A query for the first of these mails: their dates are known."""
     return f"date:@{FIRST_SECOND}..@{FIRST_SECOND + count * SECONDS_BETWEEN - 1}"
+
+
+def spread(store, count):
+    """A query by id for so many of these mails, which stand all over the store, the last first."""
+    step = max(1, len(store.ids) // count)
+    return " or ".join(f"id:{it}" for it in reversed(store.ids[::step][:count]))
 
 
 def cyrillic(folder, count):
