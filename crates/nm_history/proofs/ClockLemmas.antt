@@ -1,5 +1,5 @@
 -- How many commits the steps of a line acknowledge. For the proof of `a_line_more_keeps_the_clocks`.
-use Rattle.std.proofs.Common.{◌≡◌, ℤ, ◌+◌, List, [], ◌∷◌, ◌++◌, length, map, refl, ap, suc, arith}
+use Rattle.std.proofs.Common.{◌≡◌, ℕ, ℤ, ◌+◌, List, [], ◌∷◌, ◌++◌, length, map, refl, ap, suc, arith}
 use Rattle.std.specs.List.{flat_map}
 use Rattle.std.proofs.lemmas.List.{length-append}
 use Rattle.nm_commit.specs.declared.change.Commit.{Commit}
@@ -12,7 +12,7 @@ use Rattle.nm_history.specs.LineResult.{IsLineResult, Place, StandsAt, begin_ste
 use Rattle.nm_history.specs.Lines.{RunLine}
 use Rattle.nm_history.specs.MachineRun.{Replied, reply_to}
 
-appends-append : (steps more : List Step) → appends (steps ++ more) ≡ appends steps + appends more
+pub appends-append : (steps more : List Step) → appends (steps ++ more) ≡ appends steps + appends more
 appends-append [] more = omega arith
 appends-append (Begin commit ∷ steps) more = appends-append steps more
 appends-append (Append ∷ steps) more = omega (arith, appends-append steps more)
@@ -31,7 +31,7 @@ appends-flight : (in_flight : List Commit) → appends (map begin_step in_flight
 appends-flight [] = refl
 appends-flight (commit ∷ in_flight) = appends-flight in_flight
 
-appends-replies : (replies : List Replied) → appends (map reply_step replies) ≡ 0
+pub appends-replies : (replies : List Replied) → appends (map reply_step replies) ≡ 0
 appends-replies [] = refl
 appends-replies (replied ∷ replies) = appends-replies replies
 
@@ -46,10 +46,10 @@ appends-line made in_flight replies =
       appends-replies replies,
     )
 
-pub clocks-more : (opening : Base) (moment : ℤ) (entry : Devices) (steps taken : List Step) (lines : List RunLine) (acknowledged : List Commit)
-    (old new : Place) (ran : RunLine) → StandsAt opening entry steps lines acknowledged old → (result : IsLineResult moment old ran taken new)
+pub clocks-more : (opening : Base) (moment : ℤ) (phase : ℕ) (entry : Devices) (steps taken : List Step) (lines : List RunLine) (acknowledged : List Commit)
+    (old new : Place) (ran : RunLine) → StandsAt opening entry steps lines acknowledged old → (result : IsLineResult moment phase old ran taken new)
     → length old.writer.acked ≡ appends steps → length new.writer.acked ≡ appends (steps ++ taken)
-clocks-more opening moment entry steps taken lines acknowledged old new ran at result h =
+clocks-more opening moment phase entry steps taken lines acknowledged old new ran at result h =
     omega (
       arith,
       ap length result.has_made.acked,

@@ -1,8 +1,9 @@
 -- A session in which nothing fails ends with status 0, or 7 out of memory.
 -- For the proofs of `a_call_that_reads_nothing_is_not_refused_for_its_input` and `a_history_is_complete`.
-use Rattle.std.proofs.Common.{◌≡◌, ◌≢◌, ℕ, ℤ, ◌<◌, ◌≤◌, ◌⊎◌, inl, inr, Bool, true, false, List, [], ◌∷◌, ◌++◌, Option, None, Some, IfSome, if◌then◌else◌, length, map, refl, sym, ap, ◌∙◌, subst, append-nil, arith, suc}
+use Rattle.std.proofs.Common.{◌≡◌, ◌≢◌, ℕ, ℤ, ◌<◌, ◌≤◌, ◌⊎◌, inl, inr, Bool, true, false, not, cond, List, [], ◌∷◌, ◌++◌, Option, None, Some, Result, Ok, Err, IfSome, if◌then◌else◌, length, map, refl, sym, ap, ◌∙◌, subst, append-nil, arith, suc}
 use Rattle.std.specs.Io.KnownBytes.{Consumes, IsAtEnd}
 use Rattle.std.specs.Str.Lines.{lines}
+use Rattle.std.proofs.lemmas.List.{length-map}
 use Rattle.std.proofs.lemmas.Slice.Zip.{seconds-zip}
 use Rattle.nm_base.specs.Limits.{max_count, max_input_bytes, max_lines}
 use Rattle.nm_base.specs.declared.limit.Limit.{Limit}
@@ -11,14 +12,13 @@ use Rattle.nm_disk.specs.Observed.{Moments, bytes_now}
 use Rattle.nm_disk.specs.declared.disk.FileNo.TheVariants.{Head}
 use Rattle.nm_index.specs.declared.base.Base.{Base}
 use Rattle.nm_io.specs.Observed.{ObservedStream}
-use Rattle.nm_log.specs.ParsedLine.{parse_single, reads_input}
+use Rattle.nm_log.specs.ParsedLine.{parse_line, parse_single, reads_input}
 use Rattle.nm_log.specs.declared.line_parser.ParsedLine.{ParsedLine}
 use Rattle.nm_log.specs.declared.line_parser.ParsedLine.TheVariants as asked
 use Rattle.nm_log.specs.declared.log.LineLog.{LineLog}
 use Rattle.nm_log.specs.declared.outcome.Outcome.{Outcome}
 use Rattle.nm_log.specs.declared.outcome.Outcome.TheVariants as outcomes
 use Rattle.nm_log.specs.declared.refusal.Refusal.TheVariants as refusals
-use Rattle.nm_log.specs.declared.script.ScriptLine.{ScriptLine}
 use Rattle.nm_machine.specs.declared.step.Step.{Step}
 use Rattle.nm_maildir.specs.Observed.{ObservedMail}
 use Rattle.nm_maildir.specs.declared.given.Given.{Given}
@@ -26,20 +26,25 @@ use Rattle.nm_faults.specs.Faults.{Counts}
 use Rattle.nm_answer.specs.BatchLines.{queries_in, taggings_in}
 use Rattle.nm_answer.specs.declared.request.Request.{Request}
 use Rattle.nm_answer.specs.declared.request.Request.TheVariants as requests
+use Rattle.nm_query.specs.Answers.{answer_of}
+use Rattle.nm_query.specs.declared.query.Query.{Query}
+use Rattle.nm_query.specs.declared.query_error.QueryError.{QueryError}
+use Rattle.nm_query.specs.declared.query_error.QueryError.TheVariants as query_errors
+use Rattle.nm_tags.specs.declared.line_error.LineKind.{LineKind}
 use Rattle.nm_writer.specs.StoredIndex.{HoldsIndex, HoldsNoIndex, HoldsWithin, PassesLimit}
-use Rattle.nm_history.specs.Call.{Call, Ending, Ran, Refused, Unasked, call_fault, call_lines, call_reads, command_reads, fault_of_input, input_fault, input_fault_by, is_session, reads_by}
+use Rattle.nm_history.specs.Call.{Call, Ending, PlacedLine, Ran, Refused, Unasked, call_fault, call_lines, call_reads, command_reads, fault_of_input, input_fault, input_fault_by, is_session, reads_by}
 use Rattle.nm_history.specs.Complete.{EndsWell, IsComplete, IsFinished, IsWithin, MayRead, NoFault, Opens}
 use Rattle.nm_history.specs.Given.{GivenAlong, IsGiven}
 use Rattle.nm_history.specs.History.{History}
-use Rattle.nm_history.specs.LineAnswers.{HasAnswer, HasCause, LineAnswers}
-use Rattle.nm_history.specs.Lines.{Along, Before, RunLine, after_line, after_lines, at_first, lines_run}
+use Rattle.nm_history.specs.LineAnswers.{HasAnswer, HasCause, LaneAnswers, LineAnswers, ends_by, refused_look}
+use Rattle.nm_history.specs.Lines.{Along, Before, RunLine, after_line, after_lines, at_first, is_in_lane_zero, lane_zero_lines, lines_run, other_lane_lines}
 use Rattle.nm_history.specs.PrintedOut.{AreLogsOf, PrintedOut, StreamAppends}
 use Rattle.nm_history.specs.Refusals.{IsInputPassed, IsRead, IsRefusedFor, PassesBefore, RefusesLine, TakesInput}
-use Rattle.nm_history.specs.Requests.{bad_line_in, first_bad_line, refused_line}
+use Rattle.nm_history.specs.Requests.{bad_line_in, first_bad_line, first_refusal, own_query, refused_line, refused_query, refused_text}
 use Rattle.nm_history.specs.Status.{Status, any_is_out_of_memory, fault_of, fault_or, first_fault, session_status, single_status, status_by, status_of_fault, write_fault}
 
 -- each line has its log
-logs-length : (script : List ScriptLine) (logs : List LineLog) → AreLogsOf script logs → length logs ≡ length script
+logs-length : (script : List PlacedLine) (logs : List LineLog) → AreLogsOf script logs → length logs ≡ length script
 logs-length [] [] h = refl
 logs-length (line ∷ script) [] h = absurd h
 logs-length [] (log ∷ logs) h = absurd h
@@ -96,6 +101,50 @@ quiet-lines opening moment steps before (ran ∷ done) old new h answers same m 
     let first = quiet-line _ _ before _ moment ran.1.given ran.1.mail_faults ran.1.disk_faults ran.1.disk_failed (omega arith) (omega arith) well ran.1.outcome answers.0.cause in
     ap (λ (f : Option ℕ). fault_or f (first_fault (logs-of done))) first
     ∙ quiet-lines opening moment steps (after_line before ran) done h.0 new h.2 answers.1 noted (omega arith) (omega arith) (omega arith) (omega (arith, h.1.disk_never_falls))
+
+-- ---- the lines of the other lanes ask no device
+
+quiet-query : (answered : Result Query QueryError) → fault_of (ends_by (refused_text answered)) ≡ None
+quiet-query (Ok query) = refl
+quiet-query (Err (query_errors.BadQuery at kind)) = refl
+quiet-query (Err (query_errors.BadDate at)) = refl
+quiet-query (Err (query_errors.Limit limit)) = refl
+quiet-query (Err query_errors.NoMemory) = refl
+
+quiet-own : (own : Option (List ℕ)) → fault_of (ends_by (refused_query own)) ≡ None
+quiet-own None = refl
+quiet-own (Some text) = quiet-query (answer_of text)
+
+quiet-text : (bad : Option (ℕ × LineKind)) (own : Option (List ℕ)) → fault_of (ends_by (first_refusal (refused_line bad) (refused_query own))) ≡ None
+quiet-text None own = quiet-own own
+quiet-text (Some bad) own = refl
+
+quiet-end : (line : ParsedLine) (input : List ℕ) → fault_of (ends_by (refused_look line input)) ≡ None
+quiet-end (asked.Usage word kind) input = refl
+quiet-end (asked.Request request) input = quiet-text (first_bad_line request input) (own_query request)
+
+module _ (opening : Base) (moment : ℤ) (steps : List Step) where
+  quiet-by : (ran : RunLine) → (ran.1.outcome ≡ ends_by (refused_look (parse_line ran.0) ran.0.input)) ⊎ (ran.1.outcome ≡ outcomes.NoMemory) → fault_of ran.1.outcome ≡ None
+  quiet-by ran (inl is) = ap fault_of is ∙ quiet-end (parse_line ran.0) ran.0.input
+  quiet-by ran (inr is) = ap fault_of is
+
+  or-none : (a b : Option ℕ) → fault_or a b ≡ None → (a ≡ None) × (b ≡ None)
+  or-none None b e = (refl, e)
+  or-none (Some status) b e = absurd (cc)
+
+  -- a line of lane 0 or of another lane, before lines of both
+  part : (zero : Bool) (ran : RunLine) (first others : List RunLine) → first_fault (logs-of (cond zero (ran ∷ first) first)) ≡ None
+      → LaneAnswers opening moment steps (cond (not zero) (ran ∷ others) others)
+      → (fault_of ran.1.outcome ≡ None) × (first_fault (logs-of first) ≡ None) × LaneAnswers opening moment steps others
+  part true ran first others none looks = let both = or-none (fault_of ran.1.outcome) (first_fault (logs-of first)) none in (both.0, both.1, looks)
+  part false ran first others none looks = (quiet-by ran looks.0.cause, none, looks.1)
+
+  -- where no line of lane 0 tells of a device, no line does
+  quiet-all : (lines : List RunLine) → first_fault (logs-of (lane_zero_lines lines)) ≡ None → LaneAnswers opening moment steps (other_lane_lines lines) → first_fault (logs-of lines) ≡ None
+  quiet-all [] none looks = refl
+  quiet-all (ran ∷ lines) none looks =
+      let parts = part (is_in_lane_zero ran) ran (lane_zero_lines lines) (other_lane_lines lines) none looks in
+      ap (λ (f : Option ℕ). fault_or f (first_fault (logs-of lines))) parts.0 ∙ quiet-all lines parts.1 parts.2
 
 -- what was read to its end is what was told
 read-is : (old new : Option (List ℕ)) (input read : List ℕ) → old ≡ Some input → Consumes old new read → IsAtEnd new → read ≡ input
@@ -214,41 +263,44 @@ module _ (not_bad : (bytes : List ℕ) (index : Base) (at : ℕ) → HoldsIndex 
   by-ending : (ending : Ending) (opening : Base) (read : List ℕ) (out_failed : Bool) (call : Call) (input : List ℕ)
       → call_fault call.words ≡ None → NoFault call → MayRead (call_reads call.words) input call → Opens call
       → PrintedOut ending read out_failed call → Status ending out_failed call
-      → LineAnswers opening call.setting.moment (at_first opening call.entry) call.done.log.steps (lines_run read call)
-      → IsGiven opening call.setting.moment call.done.log.steps (at_first opening call.entry) (lines_run read call) ending call.entry call.after
+      → LineAnswers opening call.setting.moment (at_first opening call.entry) call.done.log.steps (lane_zero_lines (lines_run read call))
+      → LaneAnswers opening call.setting.moment call.done.log.steps (other_lane_lines (lines_run read call))
+      → IsGiven opening call.setting.moment call.done.log.steps (at_first opening call.entry) (lane_zero_lines (lines_run read call)) ending call.entry call.after
       → IsFinished input call ⊎ (call.done.status ≡ 7)
-  by-ending (Refused (refusals.Usage word kind)) opening read out_failed call input right quiet within opens said status answers given =
+  by-ending (Refused (refusals.Usage word kind)) opening read out_failed call input right quiet within opens said status answers looks given =
       let wrong = sym right ∙ said.0.1 in absurd (cc)
-  by-ending (Refused (refusals.BadQuery at kind)) opening read out_failed call input right quiet within opens said status answers given = absurd said.0
-  by-ending (Refused (refusals.BadDate at)) opening read out_failed call input right quiet within opens said status answers given = absurd said.0
-  by-ending (Refused (refusals.BadLine line kind)) opening read out_failed call input right quiet within opens said status answers given = absurd said.0
-  by-ending (Refused refusals.ReadFault) opening read out_failed call input right quiet within opens said status answers given =
+  by-ending (Refused (refusals.BadQuery at kind)) opening read out_failed call input right quiet within opens said status answers looks given = absurd said.0
+  by-ending (Refused (refusals.BadDate at)) opening read out_failed call input right quiet within opens said status answers looks given = absurd said.0
+  by-ending (Refused (refusals.BadLine line kind)) opening read out_failed call input right quiet within opens said status answers looks given = absurd said.0
+  by-ending (Refused refusals.ReadFault) opening read out_failed call input right quiet within opens said status answers looks given =
       let rose = said.0.2.1 quiet.input.room in let same = quiet.input.same in absurd (omega arith)
-  by-ending (Refused (refusals.Limit limit)) opening read out_failed call input right quiet within opens said status answers given =
+  by-ending (Refused (refusals.Limit limit)) opening read out_failed call input right quiet within opens said status answers looks given =
       absurd (no-limit limit read input call right within opens said.0)
-  by-ending (Refused refusals.DiskFault) opening read out_failed call input right quiet within opens said status answers given =
+  by-ending (Refused refusals.DiskFault) opening read out_failed call input right quiet within opens said status answers looks given =
       let rose = said.0.1.1 quiet.disk.room in let same = quiet.disk.same in absurd (omega arith)
-  by-ending (Refused (refusals.BadIndex file at)) opening read out_failed call input right quiet within opens said status answers given =
+  by-ending (Refused (refusals.BadIndex file at)) opening read out_failed call input right quiet within opens said status answers looks given =
       absurd (clash-told call.entry.disk.told _ _ opens.told opens.holds said.0.2 (λ moments holds bad. not_bad (bytes_now moments Head) opens.index at holds.held bad))
-  by-ending (Refused refusals.NoMemory) opening read out_failed call input right quiet within opens said status answers given = inr status
-  by-ending (Unasked why) opening read out_failed call input right quiet within opens said status answers given =
+  by-ending (Refused refusals.NoMemory) opening read out_failed call input right quiet within opens said status answers looks given = inr status
+  by-ending (Unasked why) opening read out_failed call input right quiet within opens said status answers looks given =
       absurd (not-unasked why read input call right within said.0.cause)
-  by-ending Ran opening read out_failed call input right quiet within opens said status answers given =
+  by-ending Ran opening read out_failed call input right quiet within opens said status answers looks given =
       let logs : List LineLog = call.done.log.lines in
-      let script : List ScriptLine = call_lines call.words read in
+      let script : List PlacedLine = call_lines call.words read in
       let no_out : out_failed ≡ false = quiet-out out_failed call.entry.out call.after.out _ quiet.out.same quiet.out.room said.1.out in
       let each : length logs ≡ length script = logs-length script logs said.1.lines in
+      let zero : first_fault (logs-of (lane_zero_lines (lines_run read call))) ≡ None =
+      quiet-lines opening call.setting.moment call.done.log.steps (at_first opening call.entry) (lane_zero_lines (lines_run read call)) call.entry.mail call.after.mail given.along answers refl
+      (omega (arith, quiet.mail.same)) quiet.mail.room (omega (arith, quiet.disk.same, given.disk)) quiet.disk.room in
       let none : first_fault logs ≡ None =
-      subst (λ (l : List LineLog). first_fault l ≡ None) (seconds-zip script logs each)
-      (quiet-lines opening call.setting.moment call.done.log.steps (at_first opening call.entry) (lines_run read call) call.entry.mail call.after.mail given.along answers refl
-      (omega (arith, quiet.mail.same)) quiet.mail.room (omega (arith, quiet.disk.same, given.disk)) quiet.disk.room) in
+      subst (λ (l : List LineLog). first_fault l ≡ None) (seconds-zip (map (λ (line : PlacedLine). line.1) script) logs (each ∙ sym (length-map script (λ (line : PlacedLine). line.1))))
+      (quiet-all opening call.setting.moment call.done.log.steps (lines_run read call) zero looks) in
       let all : script ≡ call_lines call.words input =
       ap (call_lines call.words) (same-input (call_reads call.words) (is_session call.words) read input call said.0.takes within) in
       elim (ends-by (is_session call.words) call out_failed status none no_out) [
-        | inl well ↦ inl (record { ends = well; each = each ∙ ap (λ (l : List ScriptLine). length l) all })
+        | inl well ↦ inl (record { ends = well; each = each ∙ ap (λ (l : List PlacedLine). length l) all })
         | inr seven ↦ inr seven
       ]
 
   pub complete : (call : Call) → History call → IsComplete call
   complete call h input right quiet within opens =
-      by-ending h.2.ending h.0 h.1 h.2.out_failed call input right quiet within opens h.2.printed_out h.2.status h.2.line_answers h.2.given
+      by-ending h.2.ending h.0 h.1 h.2.out_failed call input right quiet within opens h.2.printed_out h.2.status h.2.line_answers h.2.lane_answers h.2.given

@@ -3,7 +3,9 @@ mod CompleteLemmas
 mod CrashLemmas
 mod LawLemmas
 mod LineLemmas
+mod LookLemmas
 mod MachineLemmas
+mod PhaseLemmas
 mod PrintedLemmas
 pub mod SettledLemmas
 pub mod TreeLemmas

@@ -38,7 +38,7 @@ begun-flight : (in_flight : List Commit) → begun (map begin_step in_flight) �
 begun-flight [] = refl
 begun-flight (commit ∷ in_flight) = ap (λ (l : List Commit). commit ∷ l) (begun-flight in_flight)
 
-begun-replies : (replies : List Replied) → begun (map reply_step replies) ≡ []
+pub begun-replies : (replies : List Replied) → begun (map reply_step replies) ≡ []
 begun-replies [] = refl
 begun-replies (replied ∷ replies) = begun-replies replies
 
@@ -109,8 +109,46 @@ before-is r m d c l s n e k o p q u v w =
     ap (λ x. before-with x m d c l) p ∙ ap (λ x. before-with s x d c l) q ∙ ap (λ x. before-with s n x c l) u ∙ ap (λ (x : Option ℕ). before-with s n e x l) v
     ∙ ap (λ x. before-with s n e k x) w
 
-module _ (opening : Base) (moment : ℤ) (entry : Devices) (steps taken : List Step) (lines : List RunLine) (acknowledged : List Commit)
-    (old new : Place) (ran : RunLine) (at : StandsAt opening entry steps lines acknowledged old) (result : IsLineResult moment old ran taken new) where
+-- an index stays where it is
+pub index-later : (opening : Base) (steps taken : List Step) (revision : ℕ) (index : Base) → IsIndexAt opening steps revision index → IsIndexAt opening (steps ++ taken) revision index
+index-later opening steps taken revision index h = record {
+  front = h.front;
+  more = h.more ++ begun taken;
+  begun_are =
+      begun-append steps taken ∙ ap (λ (l : List Commit). l ++ begun taken) h.begun_are ∙ append_assoc h.front h.more (begun taken);
+  revision_is = h.revision_is;
+  index_is = h.index_is;
+}
+
+-- and so does the answer to a line
+pub answer-later : (opening : Base) (moment : ℤ) (steps taken : List Step) (before : Before) (ran : RunLine) → HasAnswer opening moment steps before ran → HasAnswer opening moment (steps ++ taken) before ran
+answer-later opening moment steps taken before ran h = record {
+  index_before = h.index_before;
+  index = h.index;
+  at_before = index-later opening steps taken _ _ h.at_before;
+  at_after = index-later opening steps taken _ _ h.at_after;
+  cause = h.cause;
+  disk = h.disk;
+  status = h.status;
+  text = h.text;
+}
+
+-- and what it asked the folder
+pub asks-later : (opening : Base) (moment : ℤ) (steps taken : List Step) (before : Before) (ran : RunLine) (old new : ObservedMail) → Asks opening moment steps before ran old new
+    → Asks opening moment (steps ++ taken) before ran old new
+asks-later opening moment steps taken before ran old new h = record {
+  index = h.index;
+  at = index-later opening steps taken _ _ h.at;
+  asks = h.asks;
+  unasked = h.unasked;
+  tree = h.tree;
+  noted = h.noted;
+  never_falls = h.never_falls;
+  disk_never_falls = h.disk_never_falls;
+}
+
+module _ (opening : Base) (moment : ℤ) (phase : ℕ) (entry : Devices) (steps taken : List Step) (lines : List RunLine) (acknowledged : List Commit)
+    (old new : Place) (ran : RunLine) (at : StandsAt opening entry steps lines acknowledged old) (result : IsLineResult moment phase old ran taken new) where
   pub apart : Apart at.in_flight result.made result.in_flight
   apart = apart-by old.writer.closed at.in_flight result.made result.in_flight at.none_open result.has_made.idle
 
@@ -206,19 +244,8 @@ module _ (opening : Base) (moment : ℤ) (entry : Devices) (steps taken : List S
       (sym (begun-append steps taken ∙ ap (λ (l : List Commit). begun steps ++ l) (ap begun result.steps ∙ begun-line result.made result.in_flight (reply_to ran))))
       (makes-more entry.mail.tree [] (begun steps) lines refl h)
 
-  -- an index stays where it is
-  index-more : (revision : ℕ) (index : Base) → IsIndexAt opening steps revision index → IsIndexAt opening (steps ++ taken) revision index
-  index-more revision index h = record {
-    front = h.front;
-    more = h.more ++ begun taken;
-    begun_are =
-        begun-append steps taken ∙ ap (λ (l : List Commit). l ++ begun taken) h.begun_are ∙ append_assoc h.front h.more (begun taken);
-    revision_is = h.revision_is;
-    index_is = h.index_is;
-  }
-
   index-old : IsIndexAt opening (steps ++ taken) (before_at old).revision old.writer.shown
-  index-old = index-more _ _ (record {
+  index-old = index-later opening steps taken _ _ (record {
     front = acknowledged;
     more = at.in_flight;
     begun_are = at.begun_are;
@@ -252,16 +279,7 @@ module _ (opening : Base) (moment : ℤ) (entry : Devices) (steps taken : List S
       → Along (HasAnswer opening moment (steps ++ taken)) before (done ++ ran ∷ [])
   answers-more before [] e h = (subst (λ (b : Before). HasAnswer opening moment (steps ++ taken) b ran) (sym e) has-answer, tt)
   answers-more before (first ∷ done) e h = (
-    record {
-      index_before = h.0.index_before;
-      index = h.0.index;
-      at_before = index-more _ _ h.0.at_before;
-      at_after = index-more _ _ h.0.at_after;
-      cause = h.0.cause;
-      disk = h.0.disk;
-      status = h.0.status;
-      text = h.0.text;
-    },
+    answer-later opening moment steps taken before first h.0,
     answers-more (after_line before first) done e h.1,
   )
 
@@ -291,16 +309,7 @@ module _ (opening : Base) (moment : ℤ) (entry : Devices) (steps taken : List S
   )
   given-along before (first ∷ done) first_mail e h = (
     h.0,
-    record {
-      index = h.1.index;
-      at = index-more _ _ h.1.at;
-      asks = h.1.asks;
-      unasked = h.1.unasked;
-      tree = h.1.tree;
-      noted = h.1.noted;
-      never_falls = h.1.never_falls;
-      disk_never_falls = h.1.disk_never_falls;
-    },
+    asks-later opening moment steps taken before first first_mail h.0 h.1,
     given-along (after_line before first) done h.0 e h.2,
   )
 

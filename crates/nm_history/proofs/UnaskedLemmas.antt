@@ -1,7 +1,6 @@
 -- A single command that is refused before the mail folder and the disk are asked: its one line goes on from no line as any does.
 -- For the proof of `a_refused_line_is_a_history`.
 use Rattle.std.proofs.Common.{◌≡◌, inl, inr, ℕ, ℤ, ◌||◌, ◌==◌, Bool, true, false, List, [], ◌∷◌, Option, None, Some, IfSome, if◌then◌else◌, codes, length, map, fold, Result, Ok, Err, refl, sym, ap, ◌∙◌, subst, arith}
-use Rattle.std.specs.List.{zip}
 use Rattle.std.specs.Option.{option_map}
 use Rattle.nm_answer.specs.declared.request.Request.{Request}
 use Rattle.nm_answer.specs.declared.request.Request.TheVariants as requests
@@ -14,6 +13,8 @@ use Rattle.nm_index.specs.Index.{empty_index}
 use Rattle.nm_index.specs.declared.base.Base.{Base}
 use Rattle.nm_io.specs.Observed.{ObservedStream}
 use Rattle.nm_journal.specs.Journal.{IfTold}
+use Rattle.nm_lanes.specs.Lines.{in_lane}
+use Rattle.nm_lanes.specs.declared.script.ScriptLine.{ScriptLine}
 use Rattle.nm_log.specs.ParsedLine.{fed, parse_line, parse_single, reads_input, refused}
 use Rattle.nm_log.specs.Replies.{refusal_line}
 use Rattle.nm_log.specs.declared.line_parser.ParsedLine.{ParsedLine}
@@ -22,8 +23,6 @@ use Rattle.nm_log.specs.declared.log.LineLog.{LineLog}
 use Rattle.nm_log.specs.declared.log.Setting.{Setting}
 use Rattle.nm_log.specs.declared.outcome.Outcome.{Outcome}
 use Rattle.nm_log.specs.declared.outcome.Outcome.TheVariants as outcomes
-use Rattle.nm_log.specs.declared.script.CommandText.TheVariants as texts
-use Rattle.nm_log.specs.declared.script.ScriptLine.{ScriptLine}
 use Rattle.nm_maildir.specs.Observed.{ObservedMail}
 use Rattle.nm_maildir.specs.Tree.{Tree}
 use Rattle.nm_query.specs.Answers.{answer_of}
@@ -32,14 +31,14 @@ use Rattle.nm_query.specs.declared.query_error.QueryError.{QueryError}
 use Rattle.nm_query.specs.declared.query_error.QueryError.TheVariants as errors
 use Rattle.nm_tags.specs.declared.line_error.LineKind.{LineKind}
 use Rattle.nm_writer.specs.Renamed.{TreesAlong}
-use Rattle.nm_history.specs.Call.{Devices, Unasked, call_lines, call_of, command_reads, devices, fault_by, fault_of_command, fault_of_input, input_fault_by, is_session, lines_by, reads_by}
+use Rattle.nm_history.specs.Call.{Devices, Unasked, call_lines, call_of, command_reads, devices, fault_by, fault_of_command, fault_of_input, input_fault_by, is_session, phases_by, placed_from, reads_by}
 use Rattle.nm_history.specs.CrashPrefix.{KeepsCommits}
 use Rattle.nm_history.specs.Given.{AsksMail, AsksNothing, AsksShow, GivenAlong}
 use Rattle.nm_history.specs.History.{History}
-use Rattle.nm_history.specs.LineAnswers.{HasCause, LineAnswers, line_text}
+use Rattle.nm_history.specs.LineAnswers.{HasCause, LaneAnswers, LineAnswers, line_text}
 use Rattle.nm_history.specs.LineCommits.{LineCommits, Makes}
 use Rattle.nm_history.specs.LineResult.{IsLineResult, Place, StandsAt, before_at, reply_step}
-use Rattle.nm_history.specs.Lines.{RunLine, after_lines, at_first, given_in, tree_after_line}
+use Rattle.nm_history.specs.Lines.{RunLine, after_lines, at_first, given_in, lane_zero_lines, other_lane_lines, run_lines, tree_after_line}
 use Rattle.nm_history.specs.MachineRun.{MachineRun, Replied, replied_where}
 use Rattle.nm_history.specs.PrintedOut.{AreLogsOf, Prints}
 use Rattle.nm_history.specs.Refusals.{RefusesLine}
@@ -265,7 +264,7 @@ module _ (why : Outcome) (input : List ℕ) (words : List (List ℕ)) (setting :
   after = devices mail disk new out said
 
   abbrev line : ScriptLine
-  line = record { number = 1; text = texts.Words words; input = input }
+  line = in_lane 1 0 words input
 
   abbrev log : LineLog
   log = refused_log why mail.faults disk.faults
@@ -301,8 +300,9 @@ module _ (why : Outcome) (input : List ℕ) (words : List (List ℕ)) (setting :
   no-step : [] ≡ map reply_step (replied_where why (parse_line line) 0 0 (refusal_line why))
   no-step = sym (ap (λ (replies : List Replied). map reply_step replies) (no-reply why (parse_line line) 0 0 (refusal_line why) unasked))
 
-  result : IsLineResult setting.moment place (line, log) [] place
+  result : IsLineResult setting.moment 0 place (line, log) [] place
   result = record {
+    first = refl;
     made = [];
     in_flight = [];
     has_made = record { fit = tt; within = tt; idle = λ closed. refl; shown = refl; begun_are = refl; clocks = []; acked = refl; one_each = refl };
@@ -327,25 +327,25 @@ module _ (why : Outcome) (input : List ℕ) (words : List (List ℕ)) (setting :
   }
 
   -- the lines of the call are this one
-  runs : zip (call_lines words input) (log ∷ []) ≡ (line, log) ∷ []
-  runs = ap (λ (b : Bool). zip (lines_by b words input) (log ∷ [])) single
+  runs : run_lines (call_lines words input) (log ∷ []) ≡ (line, log) ∷ []
+  runs = ap (λ (b : Bool). run_lines (placed_from 0 (phases_by b words input)) (log ∷ [])) single
 
   logs : AreLogsOf (call_lines words input) (log ∷ [])
-  logs = subst (λ (b : Bool). AreLogsOf (lines_by b words input) (log ∷ [])) (sym single) (record { phase = refl; lane = refl; number = refl }, tt)
+  logs = subst (λ (b : Bool). AreLogsOf (placed_from 0 (phases_by b words input)) (log ∷ [])) (sym single) (record { phase = refl; lane = refl; number = refl }, tt)
 
-  machine-run : MachineRun empty_index setting.moment (at_first empty_index entry) [] ((line, log) ∷ []) []
+  machine-run : MachineRun empty_index setting.moment (at_first empty_index entry) [] ((line, log) ∷ []) [] 0
   unfolding result
-  machine-run = run-more setting.moment empty_index entry [] [] [] [] place place (line, log) stands result (run-none empty_index setting.moment entry)
+  machine-run = run-more setting.moment empty_index 0 entry [] [] [] [] place place (line, log) stands result (run-none empty_index setting.moment entry)
 
   commits : LineCommits empty_index setting.moment mail.tree [] ((line, log) ∷ []) []
   unfolding result
-  commits = commits-more empty_index setting.moment entry [] [] [] [] place place (line, log) stands result (refl, refl)
+  commits = commits-more empty_index setting.moment 0 entry [] [] [] [] place place (line, log) stands result (refl, refl)
 
   answers : LineAnswers empty_index setting.moment (at_first empty_index entry) [] ((line, log) ∷ [])
-  answers = line-answers-more empty_index setting.moment entry [] [] [] [] place place (line, log) stands result tt
+  answers = line-answers-more empty_index setting.moment 0 entry [] [] [] [] place place (line, log) stands result tt
 
   along : GivenAlong empty_index setting.moment [] (at_first empty_index entry) ((line, log) ∷ []) mail mail
-  along = given-more empty_index setting.moment entry [] [] [] [] place place (line, log) stands result refl
+  along = given-more empty_index setting.moment 0 entry [] [] [] [] place place (line, log) stands result refl
 
   refused-history : RefusesLine why input words old new → Prints (Some (refusal_line why)) err said → IfSome disk.told (λ moments. IsImage moments.present moments.present.now)
       → History (call_of words setting entry after (refused_done why mail.faults disk.faults))
@@ -357,12 +357,13 @@ module _ (why : Outcome) (input : List ℕ) (words : List (List ℕ)) (setting :
       out_failed = false;
       acknowledged = [];
       opening_index = refl;
-      machine_run = subst (λ (l : List RunLine). MachineRun empty_index setting.moment (at_first empty_index entry) [] l []) (sym runs) machine-run;
-      line_commits = subst (λ (l : List RunLine). LineCommits empty_index setting.moment mail.tree [] l []) (sym runs) commits;
-      line_answers = subst (λ (l : List RunLine). LineAnswers empty_index setting.moment (at_first empty_index entry) [] l) (sym runs) answers;
+      machine_run = subst (λ (l : List RunLine). MachineRun empty_index setting.moment (at_first empty_index entry) [] l [] 0) (sym runs) machine-run;
+      line_commits = subst (λ (l : List RunLine). LineCommits empty_index setting.moment mail.tree [] (lane_zero_lines l) []) (sym runs) commits;
+      line_answers = subst (λ (l : List RunLine). LineAnswers empty_index setting.moment (at_first empty_index entry) [] (lane_zero_lines l)) (sym runs) answers;
+      lane_answers = subst (λ (l : List RunLine). LaneAnswers empty_index setting.moment [] (other_lane_lines l)) (sym runs) tt;
       given = record {
-        along = subst (λ (l : List RunLine). GivenAlong empty_index setting.moment [] (at_first empty_index entry) l mail mail) (sym runs) along;
-        disk = subst (λ (l : List RunLine). (after_lines (at_first empty_index entry) l).disk_faults ≡ disk.faults) (sym runs) refl;
+        along = subst (λ (l : List RunLine). GivenAlong empty_index setting.moment [] (at_first empty_index entry) (lane_zero_lines l) mail mail) (sym runs) along;
+        disk = subst (λ (l : List RunLine). (after_lines (at_first empty_index entry) (lane_zero_lines l)).disk_faults ≡ disk.faults) (sym runs) refl;
       };
       printed_out = (
         record { single = single; cause = cause; disk = refl },

@@ -1,6 +1,7 @@
 -- One call of the program: what it is given, what is observed of the devices when it begins and when it has returned, and what it answers.
 -- Cited by `going_on`, `nm_session` and `nm_top`.
-use Rattle.std.specs.Prelude.{ℕ, Bool, true, false, List, [], ◌∷◌, codes, Option, None, Some, Result, Ok, Err}
+use Rattle.std.specs.Prelude.{ℕ, ◌+◌, ◌==◌, Bool, true, false, List, [], ◌∷◌, ◌++◌, codes, filter, length, map, Option, None, Some, Result, Ok, Err}
+use Rattle.std.specs.List.{flat_map, range_with_len}
 use Rattle.nm_base.specs.Order.{same_text}
 use Rattle.nm_command.specs.Requests.{request_of}
 use Rattle.nm_command.specs.declared.command_error.CommandError.{CommandError}
@@ -8,8 +9,11 @@ use Rattle.nm_command.specs.declared.command_error.CommandError.TheVariants as f
 use Rattle.nm_command.specs.declared.request.Request as asks
 use Rattle.nm_disk.specs.Observed.{ObservedDisk}
 use Rattle.nm_io.specs.Observed.{ObservedStream}
+use Rattle.nm_lanes.specs.Lines.{in_lane}
+use Rattle.nm_lanes.specs.Script.{script_of}
+use Rattle.nm_lanes.specs.declared.script.Phase.{Phase}
+use Rattle.nm_lanes.specs.declared.script.ScriptLine.{ScriptLine}
 use Rattle.nm_log.specs.ParsedLine.{parse_single, reads_input}
-use Rattle.nm_log.specs.Script.{script_lines, single_line}
 use Rattle.nm_log.specs.declared.line_parser.ParsedLine.{ParsedLine}
 use Rattle.nm_log.specs.declared.line_parser.ParsedLine.TheVariants as asked
 use Rattle.nm_log.specs.declared.log.Done.{Done}
@@ -17,7 +21,6 @@ use Rattle.nm_log.specs.declared.log.Setting.{Setting}
 use Rattle.nm_log.specs.declared.outcome.Outcome.{Outcome}
 use Rattle.nm_log.specs.declared.outcome.Outcome.TheVariants as outcomes
 use Rattle.nm_log.specs.declared.refusal.Refusal.{Refusal}
-use Rattle.nm_log.specs.declared.script.ScriptLine.{ScriptLine}
 use Rattle.nm_maildir.specs.Observed.{ObservedMail}
 use Rattle.nm_history.specs.Requests.{first_bad_line, own_query, refused_line, refused_query}
 
@@ -104,11 +107,51 @@ input_fault_by false words input = fault_of_input (parse_single words) input
 abbrev pub input_fault : List (List ℕ) → List ℕ → Option Outcome
 input_fault words input = input_fault_by (is_session words) words input
 
--- the lines of a script, or the one line that the words are, with their input
-abbrev pub lines_by : Bool → List (List ℕ) → List ℕ → List ScriptLine
-lines_by true words input = script_lines input
-lines_by false words input = single_line words input
+-- ---- the lines of a call, in the order of its log
+
+-- lanes 0 to 15
+abbrev pub lanes : List ℕ
+lanes = range_with_len 0 16
+
+-- the lines of a lane in a phase, in their order
+abbrev pub lines_of_lane : List ScriptLine → ℕ → List ScriptLine
+lines_of_lane lines lane = filter (λ line. line.lane == lane) lines
+
+-- the lines of a phase, one lane after the other
+abbrev pub lines_by_lane : Phase → List ScriptLine
+lines_by_lane phase = flat_map (lines_of_lane phase.lines) lanes
+
+-- a line, with the number of its phase
+abbrev pub PlacedLine : Type 0
+PlacedLine = ℕ × ScriptLine
+
+abbrev pub placed_in : ℕ → ScriptLine → PlacedLine
+placed_in phase line = (phase, line)
+
+-- the lines of phases that are numbered from this one on
+abbrev pub placed_from : ℕ → List Phase → List PlacedLine
+placed_from number [] = []
+placed_from number (phase ∷ more) = map (placed_in number) (lines_by_lane phase) ++ placed_from (number + 1) more
+
+-- a single command is a line of lane 0, alone in its phase, with the input that it reads
+abbrev pub single_phase : List (List ℕ) → List ℕ → Phase
+single_phase words input = record { lines = in_lane 1 0 words input ∷ [] }
+
+-- the phases of a script, or the one that a single command is
+abbrev pub phases_by : Bool → List (List ℕ) → List ℕ → List Phase
+phases_by true words input = (script_of input).phases
+phases_by false words input = single_phase words input ∷ []
+
+-- the phases that a call runs
+abbrev pub call_phases : List (List ℕ) → List ℕ → List Phase
+call_phases words input = phases_by (is_session words) words input
 
 -- the lines that a call runs: those of its input, or its words as the only one
-abbrev pub call_lines : List (List ℕ) → List ℕ → List ScriptLine
-call_lines words input = lines_by (is_session words) words input
+abbrev pub call_lines : List (List ℕ) → List ℕ → List PlacedLine
+call_lines words input = placed_from 0 (call_phases words input)
+
+-- how many phases have ended, where all lines were run, and where none was
+abbrev pub phases_ended : Ending → List (List ℕ) → List ℕ → ℕ
+phases_ended (Refused refusal) words input = 0
+phases_ended (Unasked outcome) words input = 0
+phases_ended Ran words input = length (call_phases words input)

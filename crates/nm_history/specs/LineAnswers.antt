@@ -1,6 +1,7 @@
 -- The outcome and the text of each line: those of the plain index at the revision before it and at its own.
 -- Cited by `going_on`, `nm_session` and `nm_top`.
-use Rattle.std.specs.Prelude.{◌≡◌, ◌⊎◌, ℕ, ℤ, Bool, true, false, List, [], None, Some}
+use Rattle.std.specs.Prelude.{◌≡◌, ◌⊎◌, ℕ, ℤ, Bool, true, false, List, [], Option, None, Some}
+use Rattle.std.specs.List.{AllByRecursion}
 use Rattle.nm_answer.specs.Answer.{answer}
 use Rattle.nm_faults.specs.Faults.{Counts, HasRisen}
 use Rattle.nm_index.specs.declared.base.Base.{Base}
@@ -13,7 +14,7 @@ use Rattle.nm_log.specs.declared.outcome.Outcome.TheVariants as outcomes
 use Rattle.nm_machine.specs.declared.step.Step.{Step}
 use Rattle.nm_maildir.specs.declared.given.Given.{Given}
 use Rattle.nm_history.specs.Lines.{Along, Before, IsIndexAt, RunLine}
-use Rattle.nm_history.specs.Requests.{asks_the_folder, asks_to_tag, asks_to_write, refused_reading, refused_unasked}
+use Rattle.nm_history.specs.Requests.{asks_the_folder, asks_to_tag, asks_to_write, refused_reading, refused_text_of, refused_unasked}
 
 -- the text of a line that went well
 abbrev pub reply_text : ParsedLine → List ℕ → Base → Base → ℤ → List Given → List ℕ
@@ -94,6 +95,35 @@ pub record HasAnswer (opening : Base) (moment : ℤ) (steps : List Step) (before
   pub status : ran.1.status ≡ status_of ran.1.outcome
   pub text : ran.1.text ≡ line_text ran.1.outcome (parse_line ran.0) ran.0.input index_before index moment ran.1.given
 
--- Each line is answered so.
+-- Each line of lane 0 is answered so.
 abbrev pub LineAnswers : Base → ℤ → Before → List Step → List RunLine → Type 0
 LineAnswers opening moment first steps lines = Along (HasAnswer opening moment steps) first lines
+
+-- ---- the other lanes, which ask no device
+
+-- what a line of another lane is refused for: its words, a line of its input, or its query
+abbrev pub refused_look : ParsedLine → List ℕ → Option Outcome
+refused_look (asked.Usage word kind) input = Some (outcomes.Usage word kind)
+refused_look (asked.Request request) input = refused_text_of request input
+
+-- how a line ends that may be refused so
+abbrev pub ends_by : Option Outcome → Outcome
+ends_by None = outcomes.Ok
+ends_by (Some outcome) = outcome
+
+-- A line of another lane ends as its texts say, or finds no memory; its status is that of the outcome, its text is said on the index at its
+-- revision, and no device is asked.
+pub record HasLook (opening : Base) (moment : ℤ) (steps : List Step) (ran : RunLine) : Type 0 where
+  pub index : Base
+  pub at : IsIndexAt opening steps ran.1.revision index
+  pub cause : (ran.1.outcome ≡ ends_by (refused_look (parse_line ran.0) ran.0.input)) ⊎ (ran.1.outcome ≡ outcomes.NoMemory)
+  pub status : ran.1.status ≡ status_of ran.1.outcome
+  pub text : ran.1.text ≡ line_text ran.1.outcome (parse_line ran.0) ran.0.input index index moment []
+  pub given : ran.1.given ≡ []
+  pub mail : ran.1.mail_faults ≡ 0
+  pub disk : ran.1.disk_faults ≡ 0
+  pub well : ran.1.disk_failed ≡ false
+
+-- So is each of them.
+abbrev pub LaneAnswers : Base → ℤ → List Step → List RunLine → Type 0
+LaneAnswers opening moment steps lines = AllByRecursion (HasLook opening moment steps) lines

@@ -1,6 +1,6 @@
 -- What one line does with the writer and the mail folder, and what its log says. The statements of a session go on by it.
 -- Cited by `going_on` and `nm_session`.
-use Rattle.std.specs.Prelude.{◌≡◌, ℕ, ℤ, ◌+◌, ◌≤◌, List, [], ◌∷◌, ◌++◌, length, map, None, IsSome}
+use Rattle.std.specs.Prelude.{◌≡◌, ◌⊎◌, ℕ, ℤ, ◌+◌, ◌<◌, ◌≤◌, List, [], ◌∷◌, ◌++◌, length, map, false, None, IsSome}
 use Rattle.std.specs.List.{flat_map}
 use Rattle.nm_commit.specs.declared.change.Commit.{Commit}
 use Rattle.nm_faults.specs.Faults.{Counts}
@@ -9,18 +9,20 @@ use Rattle.nm_index.specs.Index.{folded}
 use Rattle.nm_index.specs.declared.base.Base.{Base}
 use Rattle.nm_log.specs.ParsedLine.{parse_line}
 use Rattle.nm_log.specs.Replies.{status_of}
+use Rattle.nm_log.specs.declared.outcome.Outcome.TheVariants as outcomes
 use Rattle.nm_machine.specs.declared.step.Step.{Step}
-use Rattle.nm_machine.specs.declared.step.Step.TheVariants.{Begin, Append, Show, Reply}
+use Rattle.nm_machine.specs.declared.step.Step.TheVariants.{Begin, Append, Show, See, Reply}
 use Rattle.nm_maildir.specs.Observed.{ObservedMail}
 use Rattle.nm_scan.specs.Bodies.{left_after}
 use Rattle.nm_writer.specs.Writer.{WriterState}
 use Rattle.nm_writer.specs.Writing.{AreWithin}
 use Rattle.nm_history.specs.Call.{Devices}
+use Rattle.nm_history.specs.CrashPrefix.{appends}
 use Rattle.nm_history.specs.Given.{AsksMail, AsksNothing}
-use Rattle.nm_history.specs.LineAnswers.{HasCause, line_text}
+use Rattle.nm_history.specs.LineAnswers.{HasCause, ends_by, line_text, refused_look}
 use Rattle.nm_history.specs.LineCommits.{IsOnItsWay, Makes}
 use Rattle.nm_history.specs.Lines.{Before, RunLine, after_lines, at_first, begun, closed_after, tree_after, tree_after_all}
-use Rattle.nm_history.specs.MachineRun.{Replied, reply_to}
+use Rattle.nm_history.specs.MachineRun.{Replied, lane_count, reply_to}
 use Rattle.nm_history.specs.PrintedOut.{IsNumbered}
 use Rattle.nm_history.specs.Requests.{refused_unasked}
 
@@ -68,8 +70,9 @@ pub record HasMade (old : WriterState) (made in_flight : List Commit) (new : Wri
   pub acked : new.acked ≡ old.acked ++ clocks
   pub one_each : length clocks ≡ length made
 
--- A line was run: what it made, asked and said, and the steps that it took.
-pub record IsLineResult (moment : ℤ) (old : Place) (ran : RunLine) (taken : List Step) (new : Place) : Type 0 where
+-- A line of lane 0 was run in this phase: what it made, asked and said, and the steps that it took.
+pub record IsLineResult (moment : ℤ) (phase : ℕ) (old : Place) (ran : RunLine) (taken : List Step) (new : Place) : Type 0 where
+  pub first : ran.0.lane ≡ 0
   pub made : List Commit
   pub in_flight : List Commit
   pub has_made : HasMade old.writer made in_flight new.writer
@@ -82,7 +85,7 @@ pub record IsLineResult (moment : ℤ) (old : Place) (ran : RunLine) (taken : Li
   pub left : new.left ≡ left_after old.left ran.1.given
   pub mail_never_falls : old.mail.faults ≤ new.mail.faults
   pub disk_never_falls : old.disk_faults ≤ new.disk_faults
-  pub numbers : IsNumbered ran.0 ran.1
+  pub numbers : IsNumbered (phase, ran.0) ran.1
   pub revision : ran.1.revision ≡ new.writer.shown.revision
   pub mail_faults : ran.1.mail_faults ≡ new.mail.faults
   pub disk_faults : ran.1.disk_faults ≡ new.disk_faults
@@ -92,7 +95,30 @@ pub record IsLineResult (moment : ℤ) (old : Place) (ran : RunLine) (taken : Li
   pub text : ran.1.text ≡ line_text ran.1.outcome (parse_line ran.0) ran.0.input old.writer.shown new.writer.shown moment ran.1.given
   pub steps : taken ≡ line_steps made in_flight (reply_to ran)
 
--- Where a session stands behind some lines, as the log tells it: these commits were acknowledged, and one may be on its way
+-- A line of another lane looks, and is replied to where it went well.
+abbrev pub look_steps : ℕ → List Replied → List Step
+look_steps lane replies = See lane ∷ map reply_step replies
+
+-- A line of another lane was run in this phase over what is shown: what it saw and said, and the steps that it took.
+pub record IsLookResult (moment : ℤ) (phase : ℕ) (place : Place) (ran : RunLine) (taken : List Step) : Type 0 where
+  pub another : 1 ≤ ran.0.lane
+  pub exists : ran.0.lane < lane_count
+  pub numbers : IsNumbered (phase, ran.0) ran.1
+  pub revision : ran.1.revision ≡ place.writer.shown.revision
+  pub cause : (ran.1.outcome ≡ ends_by (refused_look (parse_line ran.0) ran.0.input)) ⊎ (ran.1.outcome ≡ outcomes.NoMemory)
+  pub status : ran.1.status ≡ status_of ran.1.outcome
+  pub text : ran.1.text ≡ line_text ran.1.outcome (parse_line ran.0) ran.0.input place.writer.shown place.writer.shown moment []
+  pub given : ran.1.given ≡ []
+  pub mail : ran.1.mail_faults ≡ 0
+  pub disk : ran.1.disk_faults ≡ 0
+  pub well : ran.1.disk_failed ≡ false
+  pub steps : taken ≡ look_steps ran.0.lane (reply_to ran)
+
+-- the steps begin, acknowledge and show nothing
+abbrev pub CommitNothing : List Step → Type 0
+CommitNothing steps = (begun steps ≡ []) × (appends steps ≡ 0)
+
+-- Where a session stands behind some lines of lane 0, as the log tells it: these commits were acknowledged, and one may be on its way
 -- behind a fault of the disk.
 pub record StandsAt (opening : Base) (entry : Devices) (steps : List Step) (lines : List RunLine) (acknowledged : List Commit) (place : Place) : Type 0 where
   pub in_flight : List Commit

@@ -1,6 +1,6 @@
 -- The lines that were run, each with its log, and what stands before a line, all of it read off the log.
 -- Cited by `going_on`, `nm_session` and `nm_top`.
-use Rattle.std.specs.Prelude.{◌≡◌, ℕ, ◌+◌, Bool, List, [], ◌∷◌, ◌++◌, length, fold, Option, None, Some, Ok, if◌then◌else◌}
+use Rattle.std.specs.Prelude.{◌≡◌, ℕ, ◌+◌, ◌==◌, Bool, not, List, [], ◌∷◌, ◌++◌, length, filter, map, fold, Option, None, Some, Ok, if◌then◌else◌}
 use Rattle.std.specs.List.{flat_map, zip}
 use Rattle.std.specs.Option.{option_map}
 use Rattle.nm_answer.specs.declared.request.Request.TheVariants.{New, Count, Search, Dump, Show, Tag, Restore}
@@ -8,11 +8,11 @@ use Rattle.nm_base.specs.Limits.{max_mail_bytes}
 use Rattle.nm_commit.specs.declared.change.Commit.{Commit}
 use Rattle.nm_index.specs.Index.{folded}
 use Rattle.nm_index.specs.declared.base.Base.{Base}
+use Rattle.nm_lanes.specs.declared.script.ScriptLine.{ScriptLine}
 use Rattle.nm_log.specs.declared.log.LineLog.{LineLog}
 use Rattle.nm_log.specs.ParsedLine.{parse_line}
 use Rattle.nm_log.specs.declared.line_parser.ParsedLine.{ParsedLine}
 use Rattle.nm_log.specs.declared.line_parser.ParsedLine.TheVariants as asked
-use Rattle.nm_log.specs.declared.script.ScriptLine.{ScriptLine}
 use Rattle.nm_machine.specs.declared.step.Step.{Step}
 use Rattle.nm_machine.specs.declared.step.Step.TheVariants.{Begin, Append, Show, See, Meet, Reply, Crash, Reopen}
 use Rattle.nm_maildir.specs.Observed.{tree_with}
@@ -21,15 +21,31 @@ use Rattle.nm_maildir.specs.declared.answers.MailError.{MailError}
 use Rattle.nm_maildir.specs.declared.given.Given.{Given}
 use Rattle.nm_maildir.specs.declared.given.Given.TheVariants as givens
 use Rattle.nm_scan.specs.Bodies.{left_after}
-use Rattle.nm_history.specs.Call.{Call, Devices, call_lines}
+use Rattle.nm_history.specs.Call.{Call, Devices, PlacedLine, call_lines}
 
 -- a line, and what was done with it
 abbrev pub RunLine : Type 0
 RunLine = ScriptLine × LineLog
 
--- the first lines of the call, as many as the log has
+-- the first of these lines, as many as there are logs
+abbrev pub run_lines : List PlacedLine → List LineLog → List RunLine
+run_lines placed logs = zip (map (λ line. line.1) placed) logs
+
+-- those of the call, as many as the log has
 abbrev pub lines_run : List ℕ → Call → List RunLine
-lines_run input call = zip (call_lines call.words input) call.done.log.lines
+lines_run input call = run_lines (call_lines call.words input) call.done.log.lines
+
+-- lane 0 commits
+abbrev pub is_in_lane_zero : RunLine → Bool
+is_in_lane_zero ran = ran.0.lane == 0
+
+-- the lines of lane 0
+abbrev pub lane_zero_lines : List RunLine → List RunLine
+lane_zero_lines lines = filter is_in_lane_zero lines
+
+-- those of the other lanes
+abbrev pub other_lane_lines : List RunLine → List RunLine
+other_lane_lines lines = filter (λ ran. not (is_in_lane_zero ran)) lines
 
 -- the commit that a step begins
 abbrev pub begun_by : Step → List Commit
@@ -54,7 +70,7 @@ pub record IsIndexAt (opening : Base) (steps : List Step) (revision : ℕ) (inde
   pub revision_is : revision ≡ opening.revision + length front
   pub index_is : index ≡ folded opening front
 
--- what stands before a line of lane 0: the revision, how often the devices have failed, the faults of the disk when it failed in a line,
+-- What stands before a line of lane 0: the revision, how often the devices have failed, the faults of the disk when it failed in a line,
 -- and how many bytes may still be shown
 pub record Before : Type 0 where
   pub revision : ℕ

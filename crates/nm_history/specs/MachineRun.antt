@@ -1,6 +1,7 @@
--- The log is a run of the machine of commits and replies, and each reply stands in it at the revision of its line.
+-- The log is a run of the machine of commits and replies: each look and each reply stands in it in the phase and at the revision of its line,
+-- those of one lane in the order of its lines, and each commit in the phase of its line.
 -- Cited by `going_on`, `nm_session` and `nm_top`.
-use Rattle.std.specs.Prelude.{◌≡◌, ℕ, ℤ, ◌+◌, Bool, true, false, List, [], ◌∷◌, ◌++◌, None, Some, length, slice_index, slice_set, replicate}
+use Rattle.std.specs.Prelude.{◌≡◌, ℕ, ℤ, ◌+◌, ◌-◌, ◌*◌, ◌==◌, Bool, true, false, List, [], ◌∷◌, ◌++◌, Option, None, Some, filter, fold, length, map, slice_index, slice_set, replicate, if◌then◌else◌}
 use Rattle.std.specs.List.{AllByRecursion, flat_map}
 use Rattle.nm_answer.specs.declared.request.Request.{Request}
 use Rattle.nm_commit.specs.declared.change.Commit.{Commit}
@@ -14,7 +15,7 @@ use Rattle.nm_machine.specs.Machine as machine
 use Rattle.nm_machine.specs.Machine.{Machine, commits_in_flight}
 use Rattle.nm_machine.specs.declared.step.Step.{Step}
 use Rattle.nm_machine.specs.declared.step.Step.TheVariants.{Begin, Append, Show, See, Meet, Reply, Crash, Reopen}
-use Rattle.nm_history.specs.Lines.{Before, RunLine, after_lines, begun}
+use Rattle.nm_history.specs.Lines.{Before, RunLine, after_line, after_lines, begun, lane_zero_lines, is_in_lane_zero}
 
 -- lanes 0 to 15
 abbrev pub lane_count : ℕ
@@ -38,22 +39,58 @@ next m (Reply lane request text) = m
 next m (Crash kept) = record m { up = false }
 next m Reopen = record m { up = true }
 
--- the reply that a step is
-abbrev pub reply_by : Machine → Step → List Replied
-reply_by m (Begin commit) = []
-reply_by m Append = []
-reply_by m Show = []
-reply_by m (See lane) = []
-reply_by m Meet = []
-reply_by m (Reply lane request text) =
-    record { lane = lane; revision = m.opening.revision + slice_index m.lanes lane; request = request; text = text } ∷ []
-reply_by m (Crash kept) = []
-reply_by m Reopen = []
+-- ---- phases
 
--- the replies along steps from this state on
-abbrev pub replies_from : Machine → List Step → List Replied
-replies_from m [] = []
-replies_from m (step ∷ steps) = reply_by m step ++ replies_from (next m step) steps
+-- a phase ends where all lanes meet
+abbrev pub phase_after : ℕ → Step → ℕ
+phase_after phase (Begin commit) = phase
+phase_after phase Append = phase
+phase_after phase Show = phase
+phase_after phase (See lane) = phase
+phase_after phase Meet = phase + 1
+phase_after phase (Reply lane request text) = phase
+phase_after phase (Crash kept) = phase
+phase_after phase Reopen = phase
+
+-- how many phases have ended with these steps
+abbrev pub phases_met : List Step → ℕ
+phases_met steps = fold phase_after 0 steps
+
+-- ---- what lanes do
+
+-- In a phase a lane looks, and sees this revision; or it replies at it.
+pub record LaneStep : Type 0 where
+  pub phase : ℕ
+  pub lane : ℕ
+  pub revision : ℕ
+  pub said : Option (Request × List ℕ)
+
+-- it looks
+abbrev pub look_in : ℕ → ℕ → ℕ → LaneStep
+look_in number who seen = record { phase = number; lane = who; revision = seen; said = None }
+
+-- or it replies
+abbrev pub reply_in : ℕ → Replied → LaneStep
+reply_in number replied = record { phase = number; lane = replied.lane; revision = replied.revision; said = Some (replied.request, replied.text) }
+
+-- what a step is of it, taken in this phase
+abbrev pub lane_steps_by : ℕ → Machine → Step → List LaneStep
+lane_steps_by phase m (Begin commit) = []
+lane_steps_by phase m Append = []
+lane_steps_by phase m Show = []
+lane_steps_by phase m (See lane) = look_in phase lane (m.opening.revision + m.shown) ∷ []
+lane_steps_by phase m Meet = []
+lane_steps_by phase m (Reply lane request text) =
+    reply_in phase (record { lane = lane; revision = m.opening.revision + slice_index m.lanes lane; request = request; text = text }) ∷ []
+lane_steps_by phase m (Crash kept) = []
+lane_steps_by phase m Reopen = []
+
+-- along steps from this phase and state on
+abbrev pub lane_steps_from : ℕ → Machine → List Step → List LaneStep
+lane_steps_from phase m [] = []
+lane_steps_from phase m (step ∷ steps) = lane_steps_by phase m step ++ lane_steps_from (phase_after phase step) (next m step) steps
+
+-- ---- what lines ask for
 
 -- what is replied to a request
 abbrev pub replied_to : ParsedLine → ℕ → ℕ → List ℕ → List Replied
@@ -79,6 +116,48 @@ replied_where outcomes.NoMemory line lane revision text = []
 abbrev pub reply_to : RunLine → List Replied
 reply_to ran = replied_where ran.1.outcome (parse_line ran.0) ran.1.lane ran.1.revision ran.1.text
 
+-- every line of another lane than 0 has a look
+abbrev pub look_of : RunLine → List LaneStep
+look_of ran = if is_in_lane_zero ran then [] else look_in ran.1.phase ran.1.lane ran.1.revision ∷ []
+
+-- what its lane does for a line
+abbrev pub lane_steps_of : RunLine → List LaneStep
+lane_steps_of ran = look_of ran ++ map (reply_in ran.1.phase) (reply_to ran)
+
+-- those of one lane
+abbrev pub is_of_lane : ℕ → LaneStep → Bool
+is_of_lane lane step = step.lane == lane
+
+abbrev pub is_in_lane : ℕ → RunLine → Bool
+is_in_lane lane ran = ran.1.lane == lane
+
+-- ---- in which phase a commit is made
+
+-- the phase of a step that begins, acknowledges or shows a commit
+abbrev pub commit_phase_by : ℕ → Step → List ℕ
+commit_phase_by phase (Begin commit) = phase ∷ []
+commit_phase_by phase Append = phase ∷ []
+commit_phase_by phase Show = phase ∷ []
+commit_phase_by phase (See lane) = []
+commit_phase_by phase Meet = []
+commit_phase_by phase (Reply lane request text) = []
+commit_phase_by phase (Crash kept) = []
+commit_phase_by phase Reopen = []
+
+-- along steps from this phase on
+abbrev pub commit_phases_from : ℕ → List Step → List ℕ
+commit_phases_from phase [] = []
+commit_phases_from phase (step ∷ steps) = commit_phase_by phase step ++ commit_phases_from (phase_after phase step) steps
+
+-- a line of lane 0 has three such steps for each commit that it made, and one for a commit in which the disk failed
+abbrev pub commit_steps_in : Before → RunLine → ℕ
+commit_steps_in before ran = 3 * (ran.1.revision - before.revision) + (if ran.1.disk_failed then 1 else 0)
+
+-- all of them in the phase of the line
+abbrev pub commit_phases_of : Before → List RunLine → List ℕ
+commit_phases_of before [] = []
+commit_phases_of before (ran ∷ more) = replicate (commit_steps_in before ran) ran.1.phase ++ commit_phases_of (after_line before ran) more
+
 -- the program stops, or is there again
 abbrev pub is_stop : Step → Bool
 is_stop (Begin commit) = false
@@ -103,13 +182,16 @@ pub record IsAtRest (opening : Base) (acknowledged : List Commit) (m : Machine) 
   pub sees : slice_index m.lanes 0 ≡ length m.commits
   pub up : m.up ≡ true
 
--- The steps are a run of the machine from the opening index, without a stop. The lines that went well are replied to in their
--- order, each at its revision. In the end all that was acknowledged is shown, and the revision of the last line counts it.
-pub record MachineRun (opening : Base) (moment : ℤ) (first : Before) (steps : List Step) (lines : List RunLine) (acknowledged : List Commit) : Type 0 where
+-- The steps are a run of the machine from the opening index, without a stop, and so many phases have ended. Each lane looks and replies for
+-- its lines in their order, in the phase of each and at its revision; each commit stands in the phase of its line. In the end all that was
+-- acknowledged is shown, and the revision of the last line of lane 0 counts it.
+pub record MachineRun (opening : Base) (moment : ℤ) (first : Before) (steps : List Step) (lines : List RunLine) (acknowledged : List Commit) (ended : ℕ) : Type 0 where
   pub last : Machine
   pub run : machine.Runs moment (machine.start opening lane_count) steps last
   pub never_stops : NeverStops steps
-  pub replies : replies_from (machine.start opening lane_count) steps ≡ flat_map reply_to lines
+  pub phases : phases_met steps ≡ ended
+  pub lane_steps : (lane : ℕ) → filter (is_of_lane lane) (lane_steps_from 0 (machine.start opening lane_count) steps) ≡ flat_map lane_steps_of (filter (is_in_lane lane) lines)
+  pub commit_phases : commit_phases_from 0 steps ≡ commit_phases_of first (lane_zero_lines lines)
   pub begun_are : begun steps ≡ acknowledged ++ commits_in_flight last.in_flight
   pub rest : IsAtRest opening acknowledged last
-  pub revision : (after_lines first lines).revision ≡ opening.revision + length acknowledged
+  pub revision : (after_lines first (lane_zero_lines lines)).revision ≡ opening.revision + length acknowledged

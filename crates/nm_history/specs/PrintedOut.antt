@@ -1,4 +1,4 @@
--- What is printed: the replies of all lines of a script behind their headers, or that of a single command alone, and at most one line to
+-- What is printed: the replies of all lines of a script behind their headers, by phase, lane and line, or that of a single command alone, and at most one line to
 -- the user besides.
 -- Cited by `going_on`, `nm_top` and `nm_session`.
 use Rattle.std.specs.Prelude.{◌≡◌, ℕ, Bool, true, false, List, [], ◌∷◌, map, take, codes, Option, None, Some, if◌then◌else◌}
@@ -9,8 +9,7 @@ use Rattle.nm_log.specs.Refusals.{refused_line}
 use Rattle.nm_log.specs.Replies.{is_well, printed, refusal_line, replies_alone}
 use Rattle.nm_log.specs.declared.log.LineLog.{LineLog}
 use Rattle.nm_log.specs.declared.outcome.Outcome.{Outcome}
-use Rattle.nm_log.specs.declared.script.ScriptLine.{ScriptLine}
-use Rattle.nm_history.specs.Call.{Call, Ending, Ran, Refused, Unasked, call_lines, is_session}
+use Rattle.nm_history.specs.Call.{Call, Ending, PlacedLine, Ran, Refused, Unasked, call_lines, is_session}
 use Rattle.nm_history.specs.Refusals.{IsLineRefused, IsRefusedFor, ReadsScript}
 
 -- an output gained the bytes, or where it failed the first of them
@@ -47,14 +46,14 @@ abbrev pub printed_by : Bool → List LineLog → List ℕ
 printed_by true logs = printed logs
 printed_by false logs = replies_alone logs
 
--- the log's numbers of a line: all are of the first phase and of lane 0 for now
-pub record IsNumbered (line : ScriptLine) (log : LineLog) : Type 0 where
-  pub phase : log.phase ≡ 0
-  pub lane : log.lane ≡ 0
-  pub number : log.line ≡ line.number
+-- the log's numbers of a line
+pub record IsNumbered (line : PlacedLine) (log : LineLog) : Type 0 where
+  pub phase : log.phase ≡ line.0
+  pub lane : log.lane ≡ line.1.lane
+  pub number : log.line ≡ line.1.number
 
 -- Each line has its log, in their order, and there are no others.
-abbrev pub AreLogsOf : List ScriptLine → List LineLog → Type 0
+abbrev pub AreLogsOf : List PlacedLine → List LineLog → Type 0
 AreLogsOf [] [] = Unit {0}
 AreLogsOf [] (log ∷ logs) = ⊥
 AreLogsOf (line ∷ script) [] = ⊥

@@ -1,4 +1,4 @@
-//! The statements of a session hold before its first line, and a line more keeps them. These functions run no code:
+//! The statements of a session hold before its first line, and a line more of lane 0 keeps them. These functions run no code:
 //! their clauses are the laws, which the loop of `nm_session` calls.
 
 ghost use Rattle.std.specs.Prelude.{◌≡◌, ◌||◌, ℕ, ℤ, true, false, List, [], ◌∷◌, ◌++◌, None, length};
@@ -12,7 +12,7 @@ ghost use Rattle.nm_history.specs.Given.{GivenAlong};
 ghost use Rattle.nm_history.specs.LineAnswers.{LineAnswers};
 ghost use Rattle.nm_history.specs.LineCommits.{LineCommits};
 ghost use Rattle.nm_history.specs.LineResult.{IsLineResult, Place, StandsAt};
-ghost use Rattle.nm_history.specs.Lines.{RunLine, at_first};
+ghost use Rattle.nm_history.specs.Lines.{RunLine, at_first, lane_zero_lines};
 ghost use Rattle.nm_history.specs.MachineRun.{MachineRun};
 ghost use Rattle.nm_history.specs.PrintedOut.{printed_by};
 ghost use Rattle.nm_history.specs.Status.{any_is_out_of_memory, fault_of, fault_or, first_fault, is_out_of_memory};
@@ -29,7 +29,7 @@ pub fn no_line_stands_at_the_opening()
 
 /// No step is a run of the machine.
 pub fn no_step_is_a_run_of_the_machine()
-    ensures { (opening : Base) (moment : ℤ) (entry : Devices) → MachineRun opening moment (at_first opening entry) [] [] [] }
+    ensures { (opening : Base) (moment : ℤ) (entry : Devices) → MachineRun opening moment (at_first opening entry) [] [] [] 0 }
 {}
 
 /// Where no line was run there is no commit.
@@ -49,42 +49,42 @@ pub fn nothing_is_given_to_no_line()
 
 /// Behind a line more the session stands where the line left it; the commits that it made are acknowledged.
 pub fn a_line_more_keeps_where_it_stands()
-    ensures { (opening : Base) (moment : ℤ) (entry : Devices) (steps taken : List Step) (lines : List RunLine) (acknowledged : List Commit)
+    ensures { (opening : Base) (moment : ℤ) (phase : ℕ) (entry : Devices) (steps taken : List Step) (lines : List RunLine) (acknowledged : List Commit)
         (old new : Place) (ran : RunLine) → StandsAt opening entry steps lines acknowledged old
-        → (result : IsLineResult moment old ran taken new)
+        → (result : IsLineResult moment phase old ran taken new)
         → StandsAt opening entry (steps ++ taken) (lines ++ ran ∷ []) (acknowledged ++ result.made) new }
 {}
 
-/// The steps of a line more go on with the run of the machine.
+/// The steps of a line more of lane 0 go on with the run of the machine.
 pub fn a_line_more_keeps_the_machine_run()
-    ensures { (opening : Base) (moment : ℤ) (entry : Devices) (steps taken : List Step) (lines : List RunLine) (acknowledged : List Commit)
-        (old new : Place) (ran : RunLine) → StandsAt opening entry steps lines acknowledged old
-        → (result : IsLineResult moment old ran taken new)
-        → MachineRun opening moment (at_first opening entry) steps lines acknowledged
-        → MachineRun opening moment (at_first opening entry) (steps ++ taken) (lines ++ ran ∷ []) (acknowledged ++ result.made) }
+    ensures { (opening : Base) (moment : ℤ) (phase : ℕ) (entry : Devices) (steps taken : List Step) (lines : List RunLine) (acknowledged : List Commit)
+        (old new : Place) (ran : RunLine) → StandsAt opening entry steps (lane_zero_lines lines) acknowledged old
+        → (result : IsLineResult moment phase old ran taken new)
+        → MachineRun opening moment (at_first opening entry) steps lines acknowledged phase
+        → MachineRun opening moment (at_first opening entry) (steps ++ taken) (lines ++ ran ∷ []) (acknowledged ++ result.made) phase }
 {}
 
 /// The commits of a line more are those that its outcome says.
 pub fn a_line_more_keeps_the_commits()
-    ensures { (opening : Base) (moment : ℤ) (entry : Devices) (steps taken : List Step) (lines : List RunLine) (acknowledged : List Commit)
+    ensures { (opening : Base) (moment : ℤ) (phase : ℕ) (entry : Devices) (steps taken : List Step) (lines : List RunLine) (acknowledged : List Commit)
         (old new : Place) (ran : RunLine) → StandsAt opening entry steps lines acknowledged old
-        → (result : IsLineResult moment old ran taken new)
+        → (result : IsLineResult moment phase old ran taken new)
         → LineCommits opening moment entry.mail.tree steps lines acknowledged
         → LineCommits opening moment entry.mail.tree (steps ++ taken) (lines ++ ran ∷ []) (acknowledged ++ result.made) }
 {}
 
 /// A line more is answered on the index before it and on its own.
 pub fn a_line_more_keeps_the_answers()
-    ensures { (opening : Base) (moment : ℤ) (entry : Devices) (steps taken : List Step) (lines : List RunLine) (acknowledged : List Commit)
-        (old new : Place) (ran : RunLine) → StandsAt opening entry steps lines acknowledged old → IsLineResult moment old ran taken new
+    ensures { (opening : Base) (moment : ℤ) (phase : ℕ) (entry : Devices) (steps taken : List Step) (lines : List RunLine) (acknowledged : List Commit)
+        (old new : Place) (ran : RunLine) → StandsAt opening entry steps lines acknowledged old → IsLineResult moment phase old ran taken new
         → LineAnswers opening moment (at_first opening entry) steps lines
         → LineAnswers opening moment (at_first opening entry) (steps ++ taken) (lines ++ ran ∷ []) }
 {}
 
 /// A line more asks the mail folder for what it needs.
 pub fn a_line_more_keeps_the_given()
-    ensures { (opening : Base) (moment : ℤ) (entry : Devices) (steps taken : List Step) (lines : List RunLine) (acknowledged : List Commit)
-        (old new : Place) (ran : RunLine) → StandsAt opening entry steps lines acknowledged old → IsLineResult moment old ran taken new
+    ensures { (opening : Base) (moment : ℤ) (phase : ℕ) (entry : Devices) (steps taken : List Step) (lines : List RunLine) (acknowledged : List Commit)
+        (old new : Place) (ran : RunLine) → StandsAt opening entry steps lines acknowledged old → IsLineResult moment phase old ran taken new
         → GivenAlong opening moment steps (at_first opening entry) lines entry.mail old.mail
         → GivenAlong opening moment (steps ++ taken) (at_first opening entry) (lines ++ ran ∷ []) entry.mail new.mail }
 {}
@@ -104,7 +104,7 @@ pub fn a_line_more_keeps_the_first_fault()
 
 /// Each commit that a line more acknowledges has its clock.
 pub fn a_line_more_keeps_the_clocks()
-    ensures { (opening : Base) (moment : ℤ) (entry : Devices) (steps taken : List Step) (lines : List RunLine) (acknowledged : List Commit)
-        (old new : Place) (ran : RunLine) → StandsAt opening entry steps lines acknowledged old → IsLineResult moment old ran taken new
+    ensures { (opening : Base) (moment : ℤ) (phase : ℕ) (entry : Devices) (steps taken : List Step) (lines : List RunLine) (acknowledged : List Commit)
+        (old new : Place) (ran : RunLine) → StandsAt opening entry steps lines acknowledged old → IsLineResult moment phase old ran taken new
         → length old.writer.acked ≡ appends steps → length new.writer.acked ≡ appends (steps ++ taken) }
 {}

@@ -4,6 +4,7 @@
 
 mod going_on;
 mod laws;
+mod looking;
 
 pub use going_on::{
     a_line_more_is_printed_last, a_line_more_keeps_the_answers, a_line_more_keeps_the_clocks,
@@ -18,4 +19,9 @@ pub use laws::{
     a_refused_opening_keeps_the_index, a_session_keeps_its_commits, an_index_at_a_revision_is_one,
     no_line_is_closed_without_a_fault, the_tree_follows_renames,
     what_writes_after_a_disk_fault_is_closed,
+};
+pub use looking::{
+    a_look_commits_nothing, a_look_more_keeps_the_answers, a_look_more_keeps_the_machine_run,
+    a_meeting_keeps_the_machine_run, later_steps_keep_the_answers,
+    what_commits_nothing_keeps_the_commits,
 };

@@ -1,6 +1,4 @@
-pub mod Cuts
 pub mod GrammarLemmas
 pub mod LineLemmas
 pub mod Puts
 pub mod Printed
-pub mod ScriptLemmas

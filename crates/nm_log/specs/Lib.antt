@@ -2,5 +2,3 @@ pub mod LineGrammar
 pub mod ParsedLine
 pub mod Refusals
 pub mod Replies
-pub mod Script
-pub mod Words

@@ -1,19 +1,15 @@
--- The grammar of a line of a script, a case for each of its rules: which lines ask for what, and which word of a line is at fault.
---   line := "0" command        of a command that a session answers; a line that begins with a bar is none
+-- The grammar of a line of a script, a case for each of its rules: which lines ask for what, and which word of a line is at fault. What is
+-- wrong with a line whatever its command, its flaw, is told by the script.
 -- Cited by `laws`.
-use Rattle.std.specs.Prelude.{◌≡◌, ℕ, true, false, List, [], ◌∷◌, None, Some, codes}
-use Rattle.std.specs.Str.{is_utf8}
-use Rattle.nm_base.specs.Order.{same_text}
+use Rattle.std.specs.Prelude.{◌≡◌, ℕ, List, [], ◌∷◌, None, Some}
 use Rattle.nm_base.specs.declared.refusals.UsageKind.{UsageKind}
-use Rattle.nm_base.specs.declared.refusals.UsageKind.TheVariants as kinds
 use Rattle.nm_answer.specs.declared.request.Request.{Request}
 use Rattle.nm_answer.specs.declared.request.Request.TheVariants as requests
 use Rattle.nm_command.specs.Grammar.{IsRefused, IsRequest}
 use Rattle.nm_command.specs.declared.request.Request as asks
 use Rattle.nm_command.specs.declared.request.Request.TheVariants as asked
-use Rattle.nm_log.specs.ParsedLine.{name_fault}
-use Rattle.nm_log.specs.Script.{adds_input}
-use Rattle.nm_log.specs.Words.{words_of}
+use Rattle.nm_lanes.specs.declared.script.ScriptLine.{ScriptLine}
+use Rattle.nm_log.specs.ParsedLine.{first_word, name_fault}
 
 -- a request as the words of a command ask for it
 abbrev pub command_of : Request → asks.Request
@@ -25,27 +21,21 @@ command_of (requests.Show ask) = asked.Show ask
 command_of (requests.Tag ask) = asked.Tag ask
 command_of (requests.Restore ask) = asked.Restore ask
 
--- the line asks for this: behind its lane, which is 0, the words of a command do
-pub record AsksFor (line : List ℕ) (request : Request) : Type 0 where
-  pub words : List (List ℕ)
-  pub command : adds_input line ≡ false
-  pub text : is_utf8 line ≡ true
-  pub are : words_of line ≡ codes "0" ∷ words
-  pub asks : IsRequest words (command_of request)
+-- the words name no command that this lane may not run
+abbrev pub MayRun : ℕ → List (List ℕ) → Type 0
+MayRun lane [] = Unit {0}
+MayRun lane (name ∷ words) = name_fault lane name ≡ None
 
--- the words name no command that a line may not have
-abbrev pub MayFollow : List (List ℕ) → Type 0
-MayFollow [] = Unit {0}
-MayFollow (name ∷ words) = name_fault name ≡ None
+-- the line asks for this: it has no flaw, and its words ask for it in a lane that may run it
+pub record AsksFor (line : ScriptLine) (request : Request) : Type 0 where
+  pub flawless : line.flaw ≡ None
+  pub may : MayRun line.lane line.words
+  pub asks : IsRequest line.words (command_of request)
 
 -- this word of the line is at fault, for this reason: no word before it is
-pub data IsFaulty : List ℕ → List ℕ → UsageKind → Type 0 where
-  no_command : (line : List ℕ) → adds_input line ≡ true → IsFaulty line (codes "|") kinds.Input
-  no_text : (line : List ℕ) → adds_input line ≡ false → is_utf8 line ≡ false → IsFaulty line [] kinds.Utf8
-  no_words : (line : List ℕ) → adds_input line ≡ false → is_utf8 line ≡ true → words_of line ≡ [] → IsFaulty line [] kinds.Command
-  another_lane : (line lane : List ℕ) (words : List (List ℕ)) → adds_input line ≡ false → is_utf8 line ≡ true → words_of line ≡ lane ∷ words →
-      same_text lane (codes "0") ≡ false → IsFaulty line lane kinds.Lane
-  not_in_a_line : (line name : List ℕ) (words : List (List ℕ)) (kind : UsageKind) → adds_input line ≡ false → is_utf8 line ≡ true → words_of line ≡ codes "0" ∷ name ∷ words →
-      name_fault name ≡ Some kind → IsFaulty line name kind
-  a_fault : (line word : List ℕ) (words : List (List ℕ)) (kind : UsageKind) → adds_input line ≡ false → is_utf8 line ≡ true → words_of line ≡ codes "0" ∷ words →
-      MayFollow words → IsRefused words word kind → IsFaulty line word kind
+pub data IsFaulty : ScriptLine → List ℕ → UsageKind → Type 0 where
+  a_flaw : (line : ScriptLine) (kind : UsageKind) → line.flaw ≡ Some kind → IsFaulty line (first_word line.words) kind
+  another_lanes : (line : ScriptLine) (name : List ℕ) (words : List (List ℕ)) (kind : UsageKind) → line.flaw ≡ None → line.words ≡ name ∷ words →
+      name_fault line.lane name ≡ Some kind → IsFaulty line name kind
+  a_fault : (line : ScriptLine) (word : List ℕ) (kind : UsageKind) → line.flaw ≡ None →
+      MayRun line.lane line.words → IsRefused line.words word kind → IsFaulty line word kind

@@ -1,9 +1,7 @@
--- What a line of a script or a single command asks for, or the first fault of its words: the lane comes first, then the command, then the
--- words of the command.
+-- What a line of a script or a single command asks for, or the first fault of its words: a flaw that needs no command comes first, then the
+-- command, which not every lane may run, then the words of the command.
 -- Cited by `line_parser`, `nm_session`, `nm_top` and others.
 use Rattle.std.specs.Prelude.{ℕ, Bool, true, false, ◌==◌, ◌||◌, List, [], ◌∷◌, length, Option, None, Some, Result, Ok, Err, codes, if◌then◌else◌}
-use Rattle.std.specs.Str.{is_utf8}
-use Rattle.nm_base.specs.Order.{same_text}
 use Rattle.nm_base.specs.declared.refusals.UsageKind.{UsageKind}
 use Rattle.nm_base.specs.declared.refusals.UsageKind.TheVariants as kinds
 use Rattle.nm_answer.specs.declared.request.Request as requests
@@ -16,36 +14,48 @@ use Rattle.nm_command.specs.declared.request.Request as asks
 use Rattle.nm_command.specs.declared.request.Request.TheVariants as asked
 use Rattle.nm_command.specs.declared.table.CommandName.{CommandName}
 use Rattle.nm_command.specs.declared.table.CommandName.TheVariants as names
+use Rattle.nm_lanes.specs.declared.script.ScriptLine.{ScriptLine}
 use Rattle.nm_log.specs.declared.line_parser.ParsedLine.{ParsedLine}
 use Rattle.nm_log.specs.declared.line_parser.ParsedLine.TheVariants.{Request, Usage}
-use Rattle.nm_log.specs.declared.script.CommandText.{CommandText}
-use Rattle.nm_log.specs.declared.script.CommandText.TheVariants.{Line, Words}
-use Rattle.nm_log.specs.declared.script.ScriptLine.{ScriptLine}
-use Rattle.nm_log.specs.Script.{adds_input}
-use Rattle.nm_log.specs.Words.{words_of}
 
 abbrev pub refused : UsageKind → List ℕ → ParsedLine
 refused kind word = Usage word kind
 
--- what is wrong with a command in a line, whatever follows it: a session begins no other
-abbrev pub command_fault : CommandName → Option UsageKind
-command_fault names.New = None
-command_fault names.Search = None
-command_fault names.Count = None
-command_fault names.Show = None
-command_fault names.Dump = None
-command_fault names.Tag = None
-command_fault names.Restore = None
-command_fault names.Session = Some kinds.Lane
+-- what is wrong with a command in lane 0, whatever follows it: a session begins no other
+abbrev pub fault_in_first : CommandName → Option UsageKind
+fault_in_first names.New = None
+fault_in_first names.Search = None
+fault_in_first names.Count = None
+fault_in_first names.Show = None
+fault_in_first names.Dump = None
+fault_in_first names.Tag = None
+fault_in_first names.Restore = None
+fault_in_first names.Session = Some kinds.Lane
+
+-- the other lanes search, count and dump
+abbrev pub fault_in_others : CommandName → Option UsageKind
+fault_in_others names.New = Some kinds.Lane
+fault_in_others names.Search = None
+fault_in_others names.Count = None
+fault_in_others names.Show = Some kinds.Lane
+fault_in_others names.Dump = None
+fault_in_others names.Tag = Some kinds.Lane
+fault_in_others names.Restore = Some kinds.Lane
+fault_in_others names.Session = Some kinds.Lane
+
+-- in lane 0, or in another
+abbrev pub command_fault : Bool → CommandName → Option UsageKind
+command_fault true command = fault_in_first command
+command_fault false command = fault_in_others command
 
 -- a word that names no command is at fault as the command of any words is
-abbrev pub fault_of_named : Option CommandName → Option UsageKind
-fault_of_named None = None
-fault_of_named (Some command) = command_fault command
+abbrev pub fault_of_named : Bool → Option CommandName → Option UsageKind
+fault_of_named first None = None
+fault_of_named first (Some command) = command_fault first command
 
--- what is wrong with the first word of a command in a line, beside what is wrong with it anywhere
-abbrev pub name_fault : List ℕ → Option UsageKind
-name_fault name = fault_of_named (meaning_of name commands)
+-- what is wrong with the first word of a command in a lane, beside what is wrong with it anywhere
+abbrev pub name_fault : ℕ → List ℕ → Option UsageKind
+name_fault lane name = fault_of_named (lane == 0) (meaning_of name commands)
 
 -- what words ask for that begin with this name, where a session answers it
 abbrev pub line_request : List ℕ → asks.Request → ParsedLine
@@ -64,34 +74,29 @@ parse_answer name (Ok request) = line_request name request
 parse_answer name (Err (errors.Usage word kind)) = refused kind word
 parse_answer name (Err errors.NoMemory) = refused kinds.Command name
 
--- what stands behind the lane
-abbrev pub parse_command : List (List ℕ) → ParsedLine
-parse_command [] = refused kinds.Command []
-parse_command (name ∷ words) =
-    elim (name_fault name) [ Some kind ↦ refused kind name | None ↦ parse_answer name (request_of (name ∷ words)) ]
+-- the words of a command, in this lane
+abbrev pub parse_command : ℕ → List (List ℕ) → ParsedLine
+parse_command lane [] = refused kinds.Command []
+parse_command lane (name ∷ words) =
+    elim (name_fault lane name) [ Some kind ↦ refused kind name | None ↦ parse_answer name (request_of (name ∷ words)) ]
 
--- the lane comes first, and it is 0
-abbrev pub parse_words : List (List ℕ) → ParsedLine
-parse_words [] = refused kinds.Command []
-parse_words (lane ∷ words) =
-    if same_text lane (codes "0") then parse_command words else refused kinds.Lane lane
-
--- a line that is not UTF-8 has no words
-abbrev pub parse_text : List ℕ → ParsedLine
-parse_text line = if is_utf8 line then parse_words (words_of line) else refused kinds.Utf8 []
-
--- a line that begins with a bar is no command
-abbrev pub parse_script : List ℕ → ParsedLine
-parse_script line = if adds_input line then refused kinds.Input (codes "|") else parse_text line
-
--- the words of a single command are those that stand behind the lane of a line
+-- the words of a single command are those of a line of lane 0
 abbrev pub parse_single : List (List ℕ) → ParsedLine
-parse_single words = parse_command words
+parse_single words = parse_command 0 words
 
--- what the text of a line asks for
-abbrev pub parse_command_text : CommandText → ParsedLine
-parse_command_text (Line line) = parse_script line
-parse_command_text (Words words) = parse_single words
+-- the word at fault in a line with a flaw, where it has one
+abbrev pub first_word : List (List ℕ) → List ℕ
+first_word [] = []
+first_word (word ∷ more) = word
+
+-- a flaw is told, and where there is none the words are read
+abbrev pub asked_unless : Option UsageKind → ℕ → List (List ℕ) → ParsedLine
+asked_unless (Some kind) lane words = refused kind (first_word words)
+asked_unless None lane words = parse_command lane words
+
+-- what the words of a line ask for
+abbrev pub asked_by : ScriptLine → ParsedLine
+asked_by line = asked_unless line.flaw line.lane line.words
 
 -- the request reads lines from its input
 abbrev pub reads_input : requests.Request → Bool
@@ -103,11 +108,21 @@ reads_input (asks_for.Show ask) = false
 reads_input (asks_for.Tag ask) = ask.batch
 reads_input (asks_for.Restore ask) = true
 
+-- the request is one of every lane
+abbrev pub is_of_every_lane : requests.Request → Bool
+is_of_every_lane asks_for.New = false
+is_of_every_lane (asks_for.Count ask) = true
+is_of_every_lane (asks_for.Search ask) = true
+is_of_every_lane (asks_for.Dump ask) = true
+is_of_every_lane (asks_for.Show ask) = false
+is_of_every_lane (asks_for.Tag ask) = false
+is_of_every_lane (asks_for.Restore ask) = false
+
 -- a command that reads no input has none
 abbrev pub fed : List ℕ → ParsedLine → ParsedLine
 fed input (Request request) = if reads_input request || length input == 0 then Request request else refused kinds.Input (codes "|")
 fed input (Usage word kind) = Usage word kind
 
--- what a command asks for
+-- what a line asks for
 abbrev pub parse_line : ScriptLine → ParsedLine
-parse_line line = fed line.input (parse_command_text line.text)
+parse_line line = fed line.input (asked_by line)

@@ -2,15 +2,12 @@
 
 ghost use Rattle.std.specs.Prelude.{◌≡◌, IfOk};
 ghost use Rattle.nm_command.specs.Requests.{request_of};
-ghost use Rattle.nm_log.specs.ParsedLine.{command_fault, fed, line_request, name_fault, parse_answer, parse_command, parse_command_text, parse_line, parse_script, parse_single, parse_text, parse_words, reads_input};
-ghost use Rattle.nm_log.specs.Words.{words_of};
+ghost use Rattle.nm_log.specs.ParsedLine.{asked_by, command_fault, fault_in_first, fault_in_others, fed, first_word, line_request, name_fault, parse_answer, parse_command, parse_line, parse_single, reads_input};
 
-use crate::script::adds_input;
-use crate::words::words;
-use crate::{CommandText, ScriptLine};
 use nm_answer::Request;
 use nm_base::{NoMemory, Text, UsageKind};
 use nm_command::{CommandError, CommandName, command, command_named};
+use nm_lanes::ScriptLine;
 use std::alloc::Global;
 
 /// What a line asks for, or what is wrong with it.
@@ -20,20 +17,32 @@ pub enum ParsedLine {
     Usage { word: Text, kind: UsageKind },
 }
 
-/// Reads what a command asks for, a line of a script or the words of a single command: one that reads no input has none.
+/// Reads what a line asks for: one that reads no input has none.
 pub fn parse_line(alloc: Global, line: &ScriptLine) -> Result<ParsedLine, NoMemory>
     ensures { IfOk result (λ asked. asked ≡ parse_line line.now) }
 {
-    let asked = parse_command_text(alloc, &line.text)?;
+    let asked = asked_by(alloc, line)?;
     fed(alloc, line.input.as_slice(), asked)
 }
 
-fn parse_command_text(alloc: Global, text: &CommandText) -> Result<ParsedLine, NoMemory>
-    ensures { IfOk result (λ asked. asked ≡ parse_command_text text.now) }
+/// Tells its flaw, or else reads its words.
+fn asked_by(alloc: Global, line: &ScriptLine) -> Result<ParsedLine, NoMemory>
+    ensures { IfOk result (λ asked. asked ≡ asked_by line.now) }
 {
-    match text {
-        CommandText::Line(line) => parse_script(alloc, line.as_slice()),
-        CommandText::Words(words) => parse_single(alloc, words.as_slice()),
+    let words = line.words.as_slice();
+    match line.flaw {
+        Some(kind) => refuse(alloc, kind, first_word(words)),
+        None => parse_command(alloc, line.lane, words),
+    }
+}
+
+/// The word at fault in a line with a flaw.
+fn first_word(words: &[Text]) -> &str
+    ensures { result.now ≡ first_word words.now }
+{
+    match words {
+        [] => "",
+        [word, ..] => word.as_str(),
     }
 }
 
@@ -41,7 +50,7 @@ fn parse_command_text(alloc: Global, text: &CommandText) -> Result<ParsedLine, N
 pub fn parse_single(alloc: Global, words: &[Text]) -> Result<ParsedLine, NoMemory>
     ensures { IfOk result (λ asked. asked ≡ parse_single words.now) }
 {
-    read_command(alloc, words)
+    parse_command(alloc, 0, words)
 }
 
 fn fed(alloc: Global, input: &[u8], asked: ParsedLine) -> Result<ParsedLine, NoMemory>
@@ -70,25 +79,6 @@ pub fn reads_input(request: &Request) -> bool
     }
 }
 
-/// Reads what a line of a script asks for: its lane, which is 0, and a command. A line that begins with a bar is none.
-fn parse_script(alloc: Global, line: &[u8]) -> Result<ParsedLine, NoMemory>
-    ensures { IfOk result (λ asked. asked ≡ parse_script line.now) }
-{
-    if adds_input(line) {
-        return refuse(alloc, UsageKind::Input, "|");
-    }
-    parse_text(alloc, line)
-}
-
-fn parse_text(alloc: Global, line: &[u8]) -> Result<ParsedLine, NoMemory>
-    ensures { IfOk result (λ asked. asked ≡ parse_text line.now) }
-{
-    match str::from_utf8(line) {
-        Ok(text) => read_text(alloc, text),
-        Err(_) => refuse(alloc, UsageKind::Utf8, ""),
-    }
-}
-
 fn refuse(alloc: Global, kind: UsageKind, word: &str) -> Result<ParsedLine, NoMemory>
     ensures { IfOk result (λ asked. asked ≡ ParsedLine.Usage word.now kind) }
 {
@@ -96,51 +86,40 @@ fn refuse(alloc: Global, kind: UsageKind, word: &str) -> Result<ParsedLine, NoMe
     Ok(ParsedLine::Usage { word, kind })
 }
 
-fn read_text(alloc: Global, text: &str) -> Result<ParsedLine, NoMemory>
-    ensures { IfOk result (λ asked. asked ≡ parse_words (words_of text.now)) }
-{
-    let words = words(alloc, text)?;
-    read_lane(alloc, words.as_slice())
-}
-
-fn read_lane(alloc: Global, words: &[Text]) -> Result<ParsedLine, NoMemory>
-    ensures { IfOk result (λ asked. asked ≡ parse_words words.now) }
+/// Reads the words of a command in this lane.
+fn parse_command(alloc: Global, lane: u32, words: &[Text]) -> Result<ParsedLine, NoMemory>
+    ensures { IfOk result (λ asked. asked ≡ parse_command lane words.now) }
 {
     match words {
         [] => refuse(alloc, UsageKind::Command, ""),
-        [lane, words @ ..] => {
-            if lane.as_str() != "0" {
-                return refuse(alloc, UsageKind::Lane, lane.as_str());
-            }
-            read_command(alloc, words)
-        }
-    }
-}
-
-fn read_command(alloc: Global, words: &[Text]) -> Result<ParsedLine, NoMemory>
-    ensures { IfOk result (λ asked. asked ≡ parse_command words.now) }
-{
-    match words {
-        [] => refuse(alloc, UsageKind::Command, ""),
-        [name, ..] => match name_fault(name.as_str()) {
+        [name, ..] => match name_fault(lane, name.as_str()) {
             Some(kind) => refuse(alloc, kind, name.as_str()),
             None => read_request(alloc, name.as_str(), words),
         },
     }
 }
 
-/// What keeps a command from a line, whatever follows its name.
-fn name_fault(name: &str) -> Option<UsageKind>
-    ensures { result ≡ name_fault name.now }
+/// What keeps a command from a line of this lane, whatever follows its name.
+fn name_fault(lane: u32, name: &str) -> Option<UsageKind>
+    ensures { result ≡ name_fault lane name.now }
 {
     match command_named(name) {
-        Some(command) => command_fault(command),
+        Some(command) => command_fault(lane == 0, command),
         None => None,
     }
 }
 
-fn command_fault(command: CommandName) -> Option<UsageKind>
-    ensures { result ≡ command_fault command }
+fn command_fault(first: bool, command: CommandName) -> Option<UsageKind>
+    ensures { result ≡ command_fault first command }
+{
+    if first {
+        return fault_in_first(command);
+    }
+    fault_in_others(command)
+}
+
+fn fault_in_first(command: CommandName) -> Option<UsageKind>
+    ensures { result ≡ fault_in_first command }
 {
     match command {
         CommandName::New
@@ -151,6 +130,20 @@ fn command_fault(command: CommandName) -> Option<UsageKind>
         | CommandName::Tag
         | CommandName::Restore => None,
         CommandName::Session => Some(UsageKind::Lane),
+    }
+}
+
+/// Lanes other than 0 read, and each reply is of one index.
+fn fault_in_others(command: CommandName) -> Option<UsageKind>
+    ensures { result ≡ fault_in_others command }
+{
+    match command {
+        CommandName::Count | CommandName::Search | CommandName::Dump => None,
+        CommandName::New
+        | CommandName::Show
+        | CommandName::Tag
+        | CommandName::Restore
+        | CommandName::Session => Some(UsageKind::Lane),
     }
 }
 

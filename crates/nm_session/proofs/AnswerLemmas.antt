@@ -16,13 +16,13 @@ use Rattle.nm_history.specs.Lines.{tree_after_line}
 use Rattle.nm_history.specs.MachineRun.{replied_where}
 use Rattle.nm_history.specs.Requests.{first_bad_line, first_refusal, is_asking, is_writing, own_query, query_outcome, refused_closed, refused_line, refused_query, refused_reading, refused_text, refused_text_of, refused_unasked}
 use Rattle.nm_index.specs.declared.base.Base.{Base}
+use Rattle.nm_lanes.specs.declared.script.ScriptLine.{ScriptLine}
 use Rattle.nm_log.specs.ParsedLine.{parse_line}
 use Rattle.nm_log.specs.Replies.{is_well, refusal_line}
 use Rattle.nm_log.specs.declared.line_parser.ParsedLine.{ParsedLine}
 use Rattle.nm_log.specs.declared.line_parser.ParsedLine.TheVariants as asked
 use Rattle.nm_log.specs.declared.outcome.Outcome.{Outcome}
 use Rattle.nm_log.specs.declared.outcome.Outcome.TheVariants as outcomes
-use Rattle.nm_log.specs.declared.script.ScriptLine.{ScriptLine}
 use Rattle.nm_maildir.specs.Observed.{ObservedMail}
 use Rattle.nm_maildir.specs.Tree.{Tree}
 use Rattle.nm_maildir.specs.declared.given.Given.{Given}
@@ -33,9 +33,9 @@ use Rattle.nm_query.specs.declared.query_error.QueryError.{QueryError}
 use Rattle.nm_query.specs.declared.query_error.QueryError.TheVariants as query_errors
 use Rattle.nm_scan.specs.Bodies.{left_after}
 use Rattle.nm_session.specs.Line.{Ends, IsLineAnswer, IsReadOff, IsSaid, newly_closed, refused_or, refused_with, replied_with}
-use Rattle.nm_session.specs.Marks.{reply_mark}
+use Rattle.nm_session.specs.Marks.{said_of}
 use Rattle.nm_session.specs.declared.answering.LineAnswer.{LineAnswer}
-use Rattle.nm_session.specs.declared.marks.Mark.TheVariants as marks
+use Rattle.nm_session.specs.declared.marks.Said.{Said}
 use Rattle.nm_tags.specs.declared.line_error.LineKind.{LineKind}
 use Rattle.nm_writer.specs.Renamed.{TreesAlong}
 use Rattle.nm_writer.specs.Writer.{WriterState}
@@ -173,7 +173,7 @@ refusal-said (outcomes.Closed fault) line input before index moment noted ill = 
 refusal-said (outcomes.Limit limit) line input before index moment noted ill = refl
 refusal-said outcomes.NoMemory line input before index moment noted ill = refl
 
-pub refusal-unreplied : (outcome : Outcome) (line : ParsedLine) (lane revision : ℕ) (text : List ℕ) → is_well outcome ≡ false → [] ≡ map reply_mark (replied_where outcome line lane revision text)
+pub refusal-unreplied : (outcome : Outcome) (line : ParsedLine) (lane revision : ℕ) (text : List ℕ) → is_well outcome ≡ false → [] ≡ map said_of (replied_where outcome line lane revision text)
 refusal-unreplied outcomes.Ok line lane revision text ill = absurd (cc)
 refusal-unreplied (outcomes.Usage word kind) line lane revision text ill = refl
 refusal-unreplied (outcomes.BadQuery at kind) line lane revision text ill = refl
@@ -198,7 +198,7 @@ pub replied-said : (moment : ℤ) (old new : Place) (line : ScriptLine) (noted :
     → text ≡ answer request line.input old.writer.shown new.writer.shown moment noted → IsSaid moment old line noted (replied_with request text) new
 replied-said moment old new line noted request text is said = record {
   text = subst (λ (p : ParsedLine). text ≡ line_text outcomes.Ok p line.input old.writer.shown new.writer.shown moment noted) (sym is) said;
-  reply = λ lane revision. subst (λ (p : ParsedLine). option_to_list (Some (marks.Reply request text)) ≡ map reply_mark (replied_where outcomes.Ok p lane revision text)) (sym is) refl;
+  reply = λ lane revision. subst (λ (p : ParsedLine). option_to_list {X = Said} (Some (record { request = request; text = text })) ≡ map said_of (replied_where outcomes.Ok p lane revision text)) (sym is) refl;
 }
 
 -- words outside the grammar

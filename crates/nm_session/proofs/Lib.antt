@@ -1,6 +1,8 @@
 pub mod AnswerLemmas
 pub mod ChangeLemmas
+pub mod EndLemmas
 pub mod LineLemmas
+pub mod LookLemmas
 pub mod LoopLemmas
 pub mod MarkLemmas
 pub mod NewLemmas
@@ -8,3 +10,4 @@ pub mod RoomLemmas
 pub mod SessionLemmas
 pub mod ShowLemmas
 pub mod TagLemmas
+pub mod TurnLemmas

@@ -10,20 +10,21 @@ use Rattle.nm_history.specs.LineResult.{Place}
 use Rattle.nm_history.specs.Lines.{RunLine, closed_after}
 use Rattle.nm_history.specs.MachineRun.{Replied, replied_where, reply_to}
 use Rattle.nm_index.specs.declared.base.Base.{Base}
+use Rattle.nm_lanes.specs.declared.script.ScriptLine.{ScriptLine}
 use Rattle.nm_log.specs.ParsedLine.{parse_line}
 use Rattle.nm_log.specs.Replies.{status_of}
 use Rattle.nm_log.specs.declared.line_parser.ParsedLine.{ParsedLine}
 use Rattle.nm_log.specs.declared.line_parser.ParsedLine.TheVariants as asked
 use Rattle.nm_log.specs.declared.outcome.Outcome.{Outcome}
 use Rattle.nm_log.specs.declared.outcome.Outcome.TheVariants as outcomes
-use Rattle.nm_log.specs.declared.script.ScriptLine.{ScriptLine}
 use Rattle.nm_maildir.specs.declared.given.Given.{Given}
 use Rattle.nm_session.specs.Line.{Ends, IsEven, IsLineAnswer, IsRun, IsSaid, newly_closed}
-use Rattle.nm_session.specs.Marks.{begun_mark, line_marks, made_mark, marks_for, reply_mark}
+use Rattle.nm_session.specs.Marks.{begun_mark, line_marks, made_mark, marks_for, reply_mark, said_marks}
 use Rattle.nm_session.specs.declared.answering.LineAnswer.{LineAnswer}
 use Rattle.nm_session.specs.declared.marks.Mark.{Mark}
 use Rattle.nm_session.specs.declared.marks.Mark.TheVariants as marks
-use Rattle.nm_session.proofs.MarkLemmas.{mapped}
+use Rattle.nm_session.specs.declared.marks.Said.{Said}
+use Rattle.nm_session.proofs.MarkLemmas.{mapped, said-marks}
 
 -- the answer, also where there was no memory for it
 
@@ -39,17 +40,17 @@ done-by moment old new line noted (Err error) done spare text is h =
     subst (λ (d : LineAnswer). IsLineAnswer moment old line noted d.outcome (newly_closed old.writer new.writer) new × IsSaid moment old line noted d new) (sym (is ∙ ap without_memory text))
     (h, record { text = refl; reply = λ lane revision. refl })
 
-pub is-run : (moment : ℤ) (old new : Place) (line : ScriptLine) (noted : List Given) (answered : Result LineAnswer NoMemory) (done : LineAnswer) (spare : List ℕ) (shown : Base) (revision status mail disk : ℕ) (failed : Bool)
+pub is-run : (moment : ℤ) (phase : ℕ) (old new : Place) (line : ScriptLine) (noted : List Given) (answered : Result LineAnswer NoMemory) (done : LineAnswer) (spare : List ℕ) (shown : Base) (revision status mail disk : ℕ) (failed : Bool)
     → spare ≡ codes "notmuch: no memory\n" → MatchResult answered (λ got. done ≡ got) (λ error. done ≡ record { outcome = outcomes.NoMemory; text = spare; reply = None })
     → Ends moment old line noted answered new → revision ≡ shown.revision → shown ≡ new.writer.shown → status ≡ status_of done.outcome → mail ≡ new.mail.faults → disk ≡ new.disk_faults
     → failed ≡ newly_closed old.writer new.writer
-    → IsRun moment old (line, record { phase = 0; lane = 0; line = line.number; revision = revision; status = status; outcome = done.outcome; text = done.text; given = noted; mail_faults = mail; disk_faults = disk; disk_failed = failed }) done.reply new
-is-run moment old new line noted answered done spare shown revision status mail disk failed text is ends at shown_is status_is mail_is disk_is failed_is =
+    → IsRun moment phase old (line, record { phase = phase; lane = line.lane; line = line.number; revision = revision; status = status; outcome = done.outcome; text = done.text; given = noted; mail_faults = mail; disk_faults = disk; disk_failed = failed }) done.reply new
+is-run moment phase old new line noted answered done spare shown revision status mail disk failed text is ends at shown_is status_is mail_is disk_is failed_is =
     let h : IsLineAnswer moment old line noted done.outcome (newly_closed old.writer new.writer) new × IsSaid moment old line noted done new = done-by moment old new line noted answered done spare text is ends in
     record {
       answered = subst (λ (b : Bool). IsLineAnswer moment old line noted done.outcome b new) (sym failed_is) h.0;
       text = h.1.text;
-      reply_is = h.1.reply 0 revision;
+      reply_is = h.1.reply line.lane revision;
       numbers = record { phase = refl; lane = refl; number = refl };
       revision = at ∙ ap (λ (b : Base). b.revision) shown_is;
       mail_faults = mail_is;
@@ -76,17 +77,17 @@ count-made acked seen new clocks commits made is same added each =
     let before : length seen ≡ length acked = ap length same in
     omega (arith, is, more, before, each)
 
-pub marks-are : (moment : ℤ) (old new : Place) (ran : RunLine) (reply : Option Mark) (seen : List ℕ) (made : ℕ) (run : IsRun moment old ran reply new) → seen ≡ old.writer.acked → made ≡ length new.writer.acked - length seen
-    → marks_for made ran.1.disk_failed (option_to_list reply) ≡ line_marks run.answered.made run.answered.in_flight (reply_to ran)
-marks-are moment old new ran reply seen made run same is =
+pub marks-are : (moment : ℤ) (phase : ℕ) (old new : Place) (ran : RunLine) (reply : Option Said) (seen : List ℕ) (made : ℕ) (run : IsRun moment phase old ran reply new) → seen ≡ old.writer.acked → made ≡ length new.writer.acked - length seen
+    → marks_for made ran.1.disk_failed ran.1.lane (option_to_list reply) ≡ line_marks run.answered.made run.answered.in_flight (reply_to ran)
+marks-are moment phase old new ran reply seen made run same is =
     let h : IsLineAnswer moment old ran.0 ran.1.given ran.1.outcome ran.1.disk_failed new = run.answered in
     let count : made ≡ length h.made = count-made old.writer.acked seen new.writer.acked h.has_made.clocks h.made made is same h.has_made.acked h.has_made.one_each in
     let in_flight : (if ran.1.disk_failed then marks.Begun ∷ [] else []) ≡ map begun_mark h.in_flight =
     flight-marks ran.1.disk_failed h.in_flight h.on_its_way in
-    ap (λ n. marks_for n ran.1.disk_failed (option_to_list reply)) count
-    ∙ (ap (λ (l : List Mark). l ++ ((if ran.1.disk_failed then marks.Begun ∷ [] else []) ++ option_to_list reply)) (made-marks h.made)
-    ∙ (ap (λ (l : List Mark). map made_mark h.made ++ (l ++ option_to_list reply)) in_flight
-    ∙ ap (λ (l : List Mark). map made_mark h.made ++ (map begun_mark h.in_flight ++ l)) run.reply_is))
+    ap (λ n. marks_for n ran.1.disk_failed ran.1.lane (option_to_list reply)) count
+    ∙ (ap (λ (l : List Mark). l ++ ((if ran.1.disk_failed then marks.Begun ∷ [] else []) ++ said_marks ran.1.lane (option_to_list reply))) (made-marks h.made)
+    ∙ (ap (λ (l : List Mark). map made_mark h.made ++ (l ++ said_marks ran.1.lane (option_to_list reply))) in_flight
+    ∙ ap (λ (l : List Mark). map made_mark h.made ++ (map begun_mark h.in_flight ++ l)) (said-marks ran (option_to_list reply) run.reply_is)))
 
 -- a line has one reply at most
 
@@ -116,14 +117,14 @@ line-marks-length made in_flight replies =
     ∙ (ap (λ n. n + length (map reply_mark replies)) (mapped begun_mark in_flight) ∙ ap (λ n. length in_flight + n) (mapped reply_mark replies))))
 
 -- the marks of a line are those of the commits that it began, and at most one more
-pub marks-few : (moment : ℤ) (old new : Place) (ran : RunLine) (reply : Option Mark) (seen : List ℕ) (made : ℕ) → IsRun moment old ran reply new → seen ≡ old.writer.acked → made ≡ length new.writer.acked - length seen
-    → length (marks_for made ran.1.disk_failed (option_to_list reply)) + length old.writer.begun ≤ length new.writer.begun + 1
-marks-few moment old new ran reply seen made run same is =
+pub marks-few : (moment : ℤ) (phase : ℕ) (old new : Place) (ran : RunLine) (reply : Option Said) (seen : List ℕ) (made : ℕ) → IsRun moment phase old ran reply new → seen ≡ old.writer.acked → made ≡ length new.writer.acked - length seen
+    → length (marks_for made ran.1.disk_failed ran.1.lane (option_to_list reply)) + length old.writer.begun ≤ length new.writer.begun + 1
+marks-few moment phase old new ran reply seen made run same is =
     let h : IsLineAnswer moment old ran.0 ran.1.given ran.1.outcome ran.1.disk_failed new = run.answered in
     let begun : length new.writer.begun ≡ length old.writer.begun + length (h.made ++ h.in_flight) = ap length h.has_made.begun_are ∙ length-append old.writer.begun (h.made ++ h.in_flight) in
     omega (
       arith,
-      ap length (marks-are moment old new ran reply seen made run same is),
+      ap length (marks-are moment phase old new ran reply seen made run same is),
       line-marks-length h.made h.in_flight (reply_to ran),
       reply-few ran.1.outcome (parse_line ran.0) ran.1.lane ran.1.revision ran.1.text,
       begun,
@@ -131,15 +132,15 @@ marks-few moment old new ran reply seen made run same is =
     )
 
 -- there is a place for each
-pub marks-fit : (moment : ℤ) (old new : Place) (ran : RunLine) (reply : Option Mark) (seen : List ℕ) (made room : ℕ) → IsRun moment old ran reply new → seen ≡ old.writer.acked → made ≡ length new.writer.acked - length seen
+pub marks-fit : (moment : ℤ) (phase : ℕ) (old new : Place) (ran : RunLine) (reply : Option Said) (seen : List ℕ) (made room : ℕ) → IsRun moment phase old ran reply new → seen ≡ old.writer.acked → made ≡ length new.writer.acked - length seen
     → 1 + max_commits ≤ room + length old.writer.begun → length new.writer.begun ≤ max_commits
-    → length (marks_for made ran.1.disk_failed (option_to_list reply)) ≤ room
-marks-fit moment old new ran reply seen made room run same is spare within = omega (arith, marks-few moment old new ran reply seen made run same is, spare, within)
+    → length (marks_for made ran.1.disk_failed ran.1.lane (option_to_list reply)) ≤ room
+marks-fit moment phase old new ran reply seen made room run same is spare within = omega (arith, marks-few moment phase old new ran reply seen made run same is, spare, within)
 
 -- and no more places are taken
-pub marks-left : (moment : ℤ) (old new : Place) (ran : RunLine) (reply : Option Mark) (seen : List ℕ) (made room left : ℕ) → IsRun moment old ran reply new → seen ≡ old.writer.acked → made ≡ length new.writer.acked - length seen
-    → left + length (marks_for made ran.1.disk_failed (option_to_list reply)) ≡ room → room + length old.writer.begun ≤ left + length new.writer.begun + 1
-marks-left moment old new ran reply seen made room left run same is taken = omega (arith, marks-few moment old new ran reply seen made run same is, taken)
+pub marks-left : (moment : ℤ) (phase : ℕ) (old new : Place) (ran : RunLine) (reply : Option Said) (seen : List ℕ) (made room left : ℕ) → IsRun moment phase old ran reply new → seen ≡ old.writer.acked → made ≡ length new.writer.acked - length seen
+    → left + length (marks_for made ran.1.disk_failed ran.1.lane (option_to_list reply)) ≡ room → room + length old.writer.begun ≤ left + length new.writer.begun + 1
+marks-left moment phase old new ran reply seen made room left run same is taken = omega (arith, marks-few moment phase old new ran reply seen made run same is, taken)
 
 -- an open writer has acknowledged all that it began, still
 

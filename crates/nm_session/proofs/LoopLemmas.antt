@@ -1,56 +1,133 @@
--- A line more keeps what is so of the lines before it; and what all lines leave.
--- For the proofs of `run_each` and `run_lines`.
-use Rattle.std.proofs.Common.{◌≡◌, ℕ, ℤ, ◌+◌, ◌*◌, ◌<◌, ◌≤◌, List, [], ◌∷◌, ◌++◌, None, length, take, get_or, refl, sym, ap, ◌∙◌, subst, arith}
-use Rattle.std.proofs.lemmas.List.{length-append, take_more}
-use Rattle.std.specs.List.{zip}
-use Rattle.nm_base.specs.Limits.{max_mail_bytes}
+-- A turn more keeps what is so of the turns before it. For the proofs of `take_turns` and `run_turns`.
+use Rattle.std.proofs.Common.{◌≡◌, inl, inr, ℕ, ℤ, ◌+◌, ◌*◌, ◌==◌, ◌<◌, ◌≤◌, Bool, true, false, not, cond, List, [], ◌∷◌, ◌++◌, Option, length, refl, sym, ap, ◌∙◌, subst, arith, append-nil}
+use Rattle.std.proofs.lemmas.Bool.Decides.{nat_tests}
+use Rattle.std.proofs.lemmas.Grind.{flat_map-append}
+use Rattle.std.proofs.lemmas.List.{length-append}
+use Rattle.std.proofs.lemmas.List.Elements.{filter-append}
 use Rattle.nm_commit.specs.declared.change.Commit.{Commit}
-use Rattle.nm_disk.specs.Calls.{GoesOn}
-use Rattle.nm_disk.specs.Observed.{ObservedDisk}
-use Rattle.nm_history.specs.Call.{Devices}
+use Rattle.nm_history.specs.Call.{Devices, PlacedLine}
 use Rattle.nm_history.specs.CrashPrefix.{appends}
 use Rattle.nm_history.specs.Given.{GivenAlong}
-use Rattle.nm_history.specs.LineAnswers.{LineAnswers}
+use Rattle.nm_history.specs.LineAnswers.{LaneAnswers, LineAnswers}
 use Rattle.nm_history.specs.LineCommits.{LineCommits}
-use Rattle.nm_history.specs.LineResult.{IsLineResult, Place, StandsAt, line_steps}
-use Rattle.nm_history.specs.Lines.{Before, RunLine, at_first}
-use Rattle.nm_history.specs.MachineRun.{MachineRun, reply_to}
+use Rattle.nm_history.specs.LineResult.{CommitNothing, IsLineResult, IsLookResult, Place, StandsAt, line_steps, look_steps, reply_step}
+use Rattle.nm_history.specs.Lines.{Before, RunLine, at_first, is_in_lane_zero, lane_zero_lines, other_lane_lines, run_lines}
+use Rattle.nm_history.specs.MachineRun.{MachineRun, Replied, lane_count, reply_to}
 use Rattle.nm_history.specs.PrintedOut.{AreLogsOf, IsNumbered}
 use Rattle.nm_index.specs.declared.base.Base.{Base}
+use Rattle.nm_lanes.specs.declared.script.ScriptLine.{ScriptLine}
 use Rattle.nm_log.specs.ParsedLine.{parse_line}
 use Rattle.nm_log.specs.declared.log.LineLog.{LineLog}
-use Rattle.nm_log.specs.declared.log.SessionLog.{SessionLog}
-use Rattle.nm_log.specs.declared.script.ScriptLine.{ScriptLine}
 use Rattle.nm_machine.specs.declared.step.Step.{Step}
+use Rattle.nm_machine.specs.declared.step.Step.TheVariants.{Meet}
 use Rattle.nm_maildir.specs.Observed.{ObservedMail}
+use Rattle.nm_maildir.specs.Tree.{Tree}
 use Rattle.nm_session.specs.Line.{IsNoted}
-use Rattle.nm_session.specs.Loop.{HasNoted, HasRunSome, SpareFrom, StandFor, lines_at, steps_at}
-use Rattle.nm_session.specs.Marks.{line_marks, steps_of}
-use Rattle.nm_session.specs.Rooms.{HasRooms, HasSpare}
-use Rattle.nm_session.specs.Run.{HasRun, IsKept}
+use Rattle.nm_session.specs.Look.{IsLookNoted}
+use Rattle.nm_session.specs.Loop.{HasNoted, HasRunSome, IsMeetingNoted, IsTurn, SpareFrom, StandFor, lines_at, steps_at}
+use Rattle.nm_session.specs.Marks.{line_marks, look_marks, steps_of}
+use Rattle.nm_session.specs.Rooms.{AreSpares, HasSpare}
+use Rattle.nm_session.specs.Turns.{Meets, Planned, Runs, ends_in, line_in, lines_in}
 use Rattle.nm_session.specs.declared.marks.Mark.{Mark}
+use Rattle.nm_session.specs.declared.marks.Mark.TheVariants as marks
 use Rattle.nm_session.specs.declared.rooms.Rooms.{Rooms}
 use Rattle.nm_session.proofs.LineLemmas.{reply-few, still-even}
-use Rattle.nm_session.proofs.MarkLemmas.{begun-are, line-length, line-stands, line-steps, reply-lane, stand-append, steps-append}
-use Rattle.nm_writer.specs.Durable.{IsDurable, KeptSince}
+use Rattle.nm_session.proofs.MarkLemmas.{line-length, line-stands, line-steps, look-stands, look-steps-are, mapped, stand-append, steps-append}
+use Rattle.nm_session.proofs.TurnLemmas.{IsNext}
 
--- logs, one for each line
+-- ---- lines and logs
 
-logs-more : (lines : List ScriptLine) (logs : List LineLog) (line : ScriptLine) (log : LineLog) → AreLogsOf lines logs → IsNumbered line log → AreLogsOf (lines ++ line ∷ []) (logs ++ log ∷ [])
+logs-more : (lines : List PlacedLine) (logs : List LineLog) (line : PlacedLine) (log : LineLog) → AreLogsOf lines logs → IsNumbered line log → AreLogsOf (lines ++ line ∷ []) (logs ++ log ∷ [])
 logs-more [] [] line log h numbers = (numbers, tt)
 logs-more [] (other ∷ logs) line log h numbers = absurd h
 logs-more (first ∷ lines) [] line log h numbers = absurd h
 logs-more (first ∷ lines) (other ∷ logs) line log h numbers = (h.0, logs-more lines logs line log h.1 numbers)
 
-zip-more : (lines : List ScriptLine) (logs : List LineLog) (line : ScriptLine) (log : LineLog) → AreLogsOf lines logs → zip (lines ++ line ∷ []) (logs ++ log ∷ []) ≡ zip lines logs ++ (line, log) ∷ []
+zip-more : (lines : List PlacedLine) (logs : List LineLog) (line : PlacedLine) (log : LineLog) → AreLogsOf lines logs → run_lines (lines ++ line ∷ []) (logs ++ log ∷ []) ≡ run_lines lines logs ++ (line.1, log) ∷ []
 zip-more [] [] line log h = refl
 zip-more [] (other ∷ logs) line log h = absurd h
 zip-more (first ∷ lines) [] line log h = absurd h
-zip-more (first ∷ lines) (other ∷ logs) line log h = ap (λ (l : List RunLine). (first, other) ∷ l) (zip-more lines logs line log h.1)
+zip-more (first ∷ lines) (other ∷ logs) line log h = ap (λ (l : List RunLine). (first.1, other) ∷ l) (zip-more lines logs line log h.1)
 
-module _ (moment : ℤ) (lines : List ScriptLine) (line : ScriptLine) (before after : Rooms) (old new : Place) (noted : HasNoted lines before old) (h : IsNoted moment old line before after new) where
-  pub is-result : IsLineResult moment old (line, h.log) (line_steps h.run.answered.made h.run.answered.in_flight (reply_to (line, h.log))) new
+lines-more : (planned : List Planned) (phase : ℕ) (line : ScriptLine) → lines_in (planned ++ Runs phase line ∷ []) ≡ lines_in planned ++ (phase, line) ∷ []
+lines-more planned phase line = flat_map-append line_in planned (Runs phase line ∷ [])
+
+lines-same : (planned : List Planned) → lines_in (planned ++ Meets ∷ []) ≡ lines_in planned
+lines-same planned = flat_map-append line_in planned (Meets ∷ []) ∙ append-nil (lines_in planned)
+
+ends-line : (planned : List Planned) (phase : ℕ) (line : ScriptLine) → ends_in (planned ++ Runs phase line ∷ []) ≡ ends_in planned
+ends-line [] phase line = refl
+ends-line (Runs other first ∷ planned) phase line = ends-line planned phase line
+ends-line (Meets ∷ planned) phase line = ap (λ n. n + 1) (ends-line planned phase line)
+
+ends-meet : (planned : List Planned) → ends_in (planned ++ Meets ∷ []) ≡ ends_in planned + 1
+ends-meet [] = refl
+ends-meet (Runs other first ∷ planned) = ends-meet planned
+ends-meet (Meets ∷ planned) = ap (λ n. n + 1) (ends-meet planned)
+
+-- lines of lane 0 and of the others
+
+zero-more : (lines : List RunLine) (ran : RunLine) → is_in_lane_zero ran ≡ true → lane_zero_lines (lines ++ ran ∷ []) ≡ lane_zero_lines lines ++ ran ∷ []
+zero-more lines ran is = filter-append is_in_lane_zero lines (ran ∷ []) ∙ ap (λ (b : Bool). lane_zero_lines lines ++ cond b (ran ∷ []) []) is
+
+zero-same : (lines : List RunLine) (ran : RunLine) → is_in_lane_zero ran ≡ false → lane_zero_lines (lines ++ ran ∷ []) ≡ lane_zero_lines lines
+zero-same lines ran is = filter-append is_in_lane_zero lines (ran ∷ []) ∙ (ap (λ (b : Bool). lane_zero_lines lines ++ cond b (ran ∷ []) []) is ∙ append-nil (lane_zero_lines lines))
+
+others-same : (lines : List RunLine) (ran : RunLine) → is_in_lane_zero ran ≡ true → other_lane_lines (lines ++ ran ∷ []) ≡ other_lane_lines lines
+others-same lines ran is =
+    filter-append (λ (r : RunLine). not (is_in_lane_zero r)) lines (ran ∷ []) ∙ (ap (λ (b : Bool). other_lane_lines lines ++ cond (not b) (ran ∷ []) []) is ∙ append-nil (other_lane_lines lines))
+
+others-more : (lines : List RunLine) (ran : RunLine) → is_in_lane_zero ran ≡ false → other_lane_lines (lines ++ ran ∷ []) ≡ other_lane_lines lines ++ ran ∷ []
+others-more lines ran is = filter-append (λ (r : RunLine). not (is_in_lane_zero r)) lines (ran ∷ []) ∙ ap (λ (b : Bool). other_lane_lines lines ++ cond (not b) (ran ∷ []) []) is
+
+not-zero : (lane : ℕ) → 1 ≤ lane → (lane == 0) ≡ false
+not-zero lane h = grind (arith, nat_tests)
+
+-- the laws of a line more, of a look more, and of the end of a phase
+pub record Laws : Type 0 where
+  pub stands : (opening : Base) (moment : ℤ) (phase : ℕ) (entry : Devices) (steps taken : List Step) (lines : List RunLine) (acknowledged : List Commit) (old new : Place) (ran : RunLine) → StandsAt opening entry steps lines acknowledged old
+      → (result : IsLineResult moment phase old ran taken new) → StandsAt opening entry (steps ++ taken) (lines ++ ran ∷ []) (acknowledged ++ result.made) new
+  pub machine_run : (opening : Base) (moment : ℤ) (phase : ℕ) (entry : Devices) (steps taken : List Step) (lines : List RunLine) (acknowledged : List Commit) (old new : Place) (ran : RunLine)
+      → StandsAt opening entry steps (lane_zero_lines lines) acknowledged old
+      → (result : IsLineResult moment phase old ran taken new) → MachineRun opening moment (at_first opening entry) steps lines acknowledged phase
+      → MachineRun opening moment (at_first opening entry) (steps ++ taken) (lines ++ ran ∷ []) (acknowledged ++ result.made) phase
+  pub commits : (opening : Base) (moment : ℤ) (phase : ℕ) (entry : Devices) (steps taken : List Step) (lines : List RunLine) (acknowledged : List Commit) (old new : Place) (ran : RunLine) → StandsAt opening entry steps lines acknowledged old
+      → (result : IsLineResult moment phase old ran taken new) → LineCommits opening moment entry.mail.tree steps lines acknowledged
+      → LineCommits opening moment entry.mail.tree (steps ++ taken) (lines ++ ran ∷ []) (acknowledged ++ result.made)
+  pub answers : (opening : Base) (moment : ℤ) (phase : ℕ) (entry : Devices) (steps taken : List Step) (lines : List RunLine) (acknowledged : List Commit) (old new : Place) (ran : RunLine) → StandsAt opening entry steps lines acknowledged old
+      → IsLineResult moment phase old ran taken new → LineAnswers opening moment (at_first opening entry) steps lines → LineAnswers opening moment (at_first opening entry) (steps ++ taken) (lines ++ ran ∷ [])
+  pub given : (opening : Base) (moment : ℤ) (phase : ℕ) (entry : Devices) (steps taken : List Step) (lines : List RunLine) (acknowledged : List Commit) (old new : Place) (ran : RunLine) → StandsAt opening entry steps lines acknowledged old
+      → IsLineResult moment phase old ran taken new → GivenAlong opening moment steps (at_first opening entry) lines entry.mail old.mail
+      → GivenAlong opening moment (steps ++ taken) (at_first opening entry) (lines ++ ran ∷ []) entry.mail new.mail
+  pub clocks : (opening : Base) (moment : ℤ) (phase : ℕ) (entry : Devices) (steps taken : List Step) (lines : List RunLine) (acknowledged : List Commit) (old new : Place) (ran : RunLine) → StandsAt opening entry steps lines acknowledged old
+      → IsLineResult moment phase old ran taken new → length old.writer.acked ≡ appends steps → length new.writer.acked ≡ appends (steps ++ taken)
+  pub look_run : (opening : Base) (moment : ℤ) (phase : ℕ) (entry : Devices) (steps taken : List Step) (lines : List RunLine) (acknowledged : List Commit) (place : Place) (ran : RunLine)
+      → StandsAt opening entry steps (lane_zero_lines lines) acknowledged place → IsLookResult moment phase place ran taken
+      → MachineRun opening moment (at_first opening entry) steps lines acknowledged phase → MachineRun opening moment (at_first opening entry) (steps ++ taken) (lines ++ ran ∷ []) acknowledged phase
+  pub look_answers : (opening : Base) (moment : ℤ) (phase : ℕ) (entry : Devices) (steps taken : List Step) (lines others : List RunLine) (acknowledged : List Commit) (place : Place) (ran : RunLine)
+      → StandsAt opening entry steps lines acknowledged place → IsLookResult moment phase place ran taken → LaneAnswers opening moment steps others → LaneAnswers opening moment (steps ++ taken) (others ++ ran ∷ [])
+  pub look_nothing : (lane : ℕ) (replies : List Replied) → CommitNothing (look_steps lane replies)
+  pub meeting : (opening : Base) (moment : ℤ) (phase : ℕ) (first : Before) (steps : List Step) (lines : List RunLine) (acknowledged : List Commit)
+      → MachineRun opening moment first steps lines acknowledged phase → MachineRun opening moment first (steps ++ Meet ∷ []) lines acknowledged (phase + 1)
+  pub still_stands : (opening : Base) (entry : Devices) (steps taken : List Step) (lines : List RunLine) (acknowledged : List Commit) (place : Place)
+      → CommitNothing taken → StandsAt opening entry steps lines acknowledged place → StandsAt opening entry (steps ++ taken) lines acknowledged place
+  pub still_commits : (opening : Base) (moment : ℤ) (tree : Option Tree) (steps taken : List Step) (lines : List RunLine) (acknowledged : List Commit)
+      → CommitNothing taken → LineCommits opening moment tree steps lines acknowledged → LineCommits opening moment tree (steps ++ taken) lines acknowledged
+  pub still_acknowledged : (steps taken : List Step) → CommitNothing taken → appends (steps ++ taken) ≡ appends steps
+  pub still_answers : (opening : Base) (moment : ℤ) (steps taken : List Step) (before : Before) (lines : List RunLine) → LineAnswers opening moment before steps lines → LineAnswers opening moment before (steps ++ taken) lines
+  pub still_looks : (opening : Base) (moment : ℤ) (steps taken : List Step) (lines : List RunLine) → LaneAnswers opening moment steps lines → LaneAnswers opening moment (steps ++ taken) lines
+  pub still_given : (opening : Base) (moment : ℤ) (steps taken : List Step) (before : Before) (lines : List RunLine) (old new : ObservedMail) → GivenAlong opening moment steps before lines old new
+      → GivenAlong opening moment (steps ++ taken) before lines old new
+
+-- ---- a line of lane 0
+
+module _ (moment : ℤ) (planned : List Planned) (phase : ℕ) (line : ScriptLine) (before after : Rooms) (old new : Place) (noted : HasNoted planned before old) (first : line.lane ≡ 0) (h : IsNoted moment phase old line before after new) where
+  abbrev taken : List Step
+  taken = line_steps h.run.answered.made h.run.answered.in_flight (reply_to (line, h.log))
+
+  is-result : IsLineResult moment phase old (line, h.log) taken new
   is-result = record {
+    first = first;
     made = h.run.answered.made;
     in_flight = h.run.answered.in_flight;
     has_made = h.run.answered.has_made;
@@ -74,18 +151,19 @@ module _ (moment : ℤ) (lines : List ScriptLine) (line : ScriptLine) (before af
     steps = refl;
   }
 
-  steps-are : steps_at after new ≡ steps_at before old ++ line_steps h.run.answered.made h.run.answered.in_flight (reply_to (line, h.log))
+  steps-are : steps_at after new ≡ steps_at before old ++ taken
   steps-are =
       ap (λ (l : List Mark). steps_of l new.writer.begun) h.marks
       ∙ (ap (λ (l : List Commit). steps_of (before.marks.0 ++ line_marks h.run.answered.made h.run.answered.in_flight (reply_to (line, h.log))) l) h.run.answered.has_made.begun_are
       ∙ (steps-append before.marks.0 (line_marks h.run.answered.made h.run.answered.in_flight (reply_to (line, h.log))) old.writer.begun (h.run.answered.made ++ h.run.answered.in_flight) noted.stand
-      ∙ ap (λ (l : List Step). steps_at before old ++ l) (line-steps h.run.answered.made h.run.answered.in_flight (reply_to (line, h.log))
-      (reply-lane h.log.outcome (parse_line line) h.log.lane h.log.revision h.log.text h.run.numbers.lane))))
+      ∙ ap (λ (l : List Step). steps_at before old ++ l) (line-steps h.run.answered.made h.run.answered.in_flight (reply_to (line, h.log)))))
 
-  lines-are : lines_at (lines ++ line ∷ []) after ≡ lines_at lines before ++ (line, h.log) ∷ []
-  lines-are = ap (λ (l : List LineLog). zip (lines ++ line ∷ []) l) h.logs ∙ zip-more lines before.logs.0 line h.log noted.logs
+  lines-are : lines_at (planned ++ Runs phase line ∷ []) after ≡ lines_at planned before ++ (line, h.log) ∷ []
+  lines-are =
+      ap (λ (l : List PlacedLine). run_lines l after.logs.0) (lines-more planned phase line)
+      ∙ (ap (λ (l : List LineLog). run_lines (lines_in planned ++ (phase, line) ∷ []) l) h.logs ∙ zip-more (lines_in planned) before.logs.0 (phase, line) h.log noted.logs)
 
-  few-taken : length (line_steps h.run.answered.made h.run.answered.in_flight (reply_to (line, h.log))) ≤ 3 * length (h.run.answered.made ++ h.run.answered.in_flight) + 1
+  few-taken : length taken ≤ 3 * length (h.run.answered.made ++ h.run.answered.in_flight) + 1
   few-taken = omega (
     arith,
     line-length h.run.answered.made h.run.answered.in_flight (reply_to (line, h.log)),
@@ -93,18 +171,18 @@ module _ (moment : ℤ) (lines : List ScriptLine) (line : ScriptLine) (before af
     reply-few h.log.outcome (parse_line line) h.log.lane h.log.revision h.log.text,
   )
 
-  few-steps : length (steps_at after new) ≤ length (lines ++ line ∷ []) + 3 * length new.writer.begun
+  few-steps : length (steps_at after new) ≤ 2 * length (planned ++ Runs phase line ∷ []) + 3 * length new.writer.begun
   few-steps =
-      let all : length (steps_at after new) ≡ length (steps_at before old) + length (line_steps h.run.answered.made h.run.answered.in_flight (reply_to (line, h.log))) =
-      ap length steps-are ∙ length-append (steps_at before old) (line_steps h.run.answered.made h.run.answered.in_flight (reply_to (line, h.log))) in
-      let longer : length (lines ++ line ∷ []) ≡ length lines + 1 = length-append lines (line ∷ []) in
+      let all : length (steps_at after new) ≡ length (steps_at before old) + length taken = ap length steps-are ∙ length-append (steps_at before old) taken in
+      let longer : length (planned ++ Runs phase line ∷ []) ≡ length planned + 1 = length-append planned (Runs phase line ∷ []) in
       let more : length new.writer.begun ≡ length old.writer.begun + length (h.run.answered.made ++ h.run.answered.in_flight) =
       ap length h.run.answered.has_made.begun_are ∙ length-append old.writer.begun (h.run.answered.made ++ h.run.answered.in_flight) in
       omega (arith, all, longer, more, noted.few, few-taken)
 
-  pub noted-more : HasNoted (lines ++ line ∷ []) after new
-  noted-more = record {
-    logs = subst (λ (l : List LineLog). AreLogsOf (lines ++ line ∷ []) l) (sym h.logs) (logs-more lines before.logs.0 line h.log noted.logs h.run.numbers);
+  line-noted : HasNoted (planned ++ Runs phase line ∷ []) after new
+  line-noted = record {
+    logs = subst (λ (l : List PlacedLine). AreLogsOf l after.logs.0) (sym (lines-more planned phase line))
+        (subst (λ (l : List LineLog). AreLogsOf (lines_in planned ++ (phase, line) ∷ []) l) (sym h.logs) (logs-more (lines_in planned) before.logs.0 (phase, line) h.log noted.logs h.run.numbers));
     stand = subst (λ (l : List Mark). StandFor l new.writer.begun) (sym h.marks)
         (subst (λ (l : List Commit). StandFor (before.marks.0 ++ line_marks h.run.answered.made h.run.answered.in_flight (reply_to (line, h.log))) l) (sym h.run.answered.has_made.begun_are)
         (stand-append before.marks.0 (line_marks h.run.answered.made h.run.answered.in_flight (reply_to (line, h.log))) old.writer.begun (h.run.answered.made ++ h.run.answered.in_flight) noted.stand
@@ -114,142 +192,245 @@ module _ (moment : ℤ) (lines : List ScriptLine) (line : ScriptLine) (before af
     even = still-even moment old new line h.log.given h.log.outcome h.log.disk_failed h.run.answered noted.even;
   }
 
-  -- what is so of the steps and of the lines of both
-  both : (P : List Step → List RunLine → Type 0) → P (steps_at before old ++ line_steps h.run.answered.made h.run.answered.in_flight (reply_to (line, h.log))) (lines_at lines before ++ (line, h.log) ∷ []) → P (steps_at after new) (lines_at (lines ++ line ∷ []) after)
-  both P p = subst (λ (l : List Step). P l (lines_at (lines ++ line ∷ []) after)) (sym steps-are)
-      (subst (λ (l : List RunLine). P (steps_at before old ++ line_steps h.run.answered.made h.run.answered.in_flight (reply_to (line, h.log))) l) (sym lines-are) p)
+  both : (P : List Step → List RunLine → Type 0) → P (steps_at before old ++ taken) (lines_at planned before ++ (line, h.log) ∷ []) → P (steps_at after new) (lines_at (planned ++ Runs phase line ∷ []) after)
+  both P p = subst (λ (l : List Step). P l (lines_at (planned ++ Runs phase line ∷ []) after)) (sym steps-are) (subst (λ (l : List RunLine). P (steps_at before old ++ taken) l) (sym lines-are) p)
 
--- the laws of a line more
-pub record Laws : Type 0 where
-  pub stands : (opening : Base) (moment : ℤ) (entry : Devices) (steps taken : List Step) (lines : List RunLine) (acknowledged : List Commit) (old new : Place) (ran : RunLine) → StandsAt opening entry steps lines acknowledged old
-      → (result : IsLineResult moment old ran taken new) → StandsAt opening entry (steps ++ taken) (lines ++ ran ∷ []) (acknowledged ++ result.made) new
-  pub machine_run : (opening : Base) (moment : ℤ) (entry : Devices) (steps taken : List Step) (lines : List RunLine) (acknowledged : List Commit) (old new : Place) (ran : RunLine) → StandsAt opening entry steps lines acknowledged old
-      → (result : IsLineResult moment old ran taken new) → MachineRun opening moment (at_first opening entry) steps lines acknowledged
-      → MachineRun opening moment (at_first opening entry) (steps ++ taken) (lines ++ ran ∷ []) (acknowledged ++ result.made)
-  pub commits : (opening : Base) (moment : ℤ) (entry : Devices) (steps taken : List Step) (lines : List RunLine) (acknowledged : List Commit) (old new : Place) (ran : RunLine) → StandsAt opening entry steps lines acknowledged old
-      → (result : IsLineResult moment old ran taken new) → LineCommits opening moment entry.mail.tree steps lines acknowledged
-      → LineCommits opening moment entry.mail.tree (steps ++ taken) (lines ++ ran ∷ []) (acknowledged ++ result.made)
-  pub answers : (opening : Base) (moment : ℤ) (entry : Devices) (steps taken : List Step) (lines : List RunLine) (acknowledged : List Commit) (old new : Place) (ran : RunLine) → StandsAt opening entry steps lines acknowledged old
-      → IsLineResult moment old ran taken new → LineAnswers opening moment (at_first opening entry) steps lines → LineAnswers opening moment (at_first opening entry) (steps ++ taken) (lines ++ ran ∷ [])
-  pub given : (opening : Base) (moment : ℤ) (entry : Devices) (steps taken : List Step) (lines : List RunLine) (acknowledged : List Commit) (old new : Place) (ran : RunLine) → StandsAt opening entry steps lines acknowledged old
-      → IsLineResult moment old ran taken new → GivenAlong opening moment steps (at_first opening entry) lines entry.mail old.mail
-      → GivenAlong opening moment (steps ++ taken) (at_first opening entry) (lines ++ ran ∷ []) entry.mail new.mail
-  pub clocks : (opening : Base) (moment : ℤ) (entry : Devices) (steps taken : List Step) (lines : List RunLine) (acknowledged : List Commit) (old new : Place) (ran : RunLine) → StandsAt opening entry steps lines acknowledged old
-      → IsLineResult moment old ran taken new → length old.writer.acked ≡ appends steps → length new.writer.acked ≡ appends (steps ++ taken)
+  module _ (laws : Laws) (opening : Base) (entry : Devices) (some : HasRunSome moment opening entry planned before old) (place_is : phase ≡ ends_in planned) where
+    abbrev lines : List RunLine
+    lines = lines_at planned before
 
-module _ (laws : Laws) (moment : ℤ) (opening : Base) (entry : Devices) (lines : List ScriptLine) (line : ScriptLine) (before after : Rooms) (old new : Place)
-    (noted : HasNoted lines before old) (h : IsNoted moment old line before after new) (some : HasRunSome moment opening entry lines before old) where
-  abbrev taken : List Step
-  taken = line_steps h.run.answered.made h.run.answered.in_flight (reply_to (line, h.log))
+    abbrev zeros : List RunLine
+    zeros = lane_zero_lines lines
 
-  pub some-more : HasRunSome moment opening entry (lines ++ line ∷ []) after new
-  unfolding is-result
-  some-more = record {
-    acknowledged = some.acknowledged ++ h.run.answered.made;
-    at = both moment lines line before after old new noted h (λ steps ran. StandsAt opening entry steps ran (some.acknowledged ++ h.run.answered.made) new)
-        (laws.stands opening moment entry (steps_at before old) taken (lines_at lines before) some.acknowledged old new (line, h.log) some.at (is-result moment lines line before after old new noted h));
-    machine_run = both moment lines line before after old new noted h (λ steps ran. MachineRun opening moment (at_first opening entry) steps ran (some.acknowledged ++ h.run.answered.made))
-        (laws.machine_run opening moment entry (steps_at before old) taken (lines_at lines before) some.acknowledged old new (line, h.log) some.at (is-result moment lines line before after old new noted h) some.machine_run);
-    line_commits = both moment lines line before after old new noted h (λ steps ran. LineCommits opening moment entry.mail.tree steps ran (some.acknowledged ++ h.run.answered.made))
-        (laws.commits opening moment entry (steps_at before old) taken (lines_at lines before) some.acknowledged old new (line, h.log) some.at (is-result moment lines line before after old new noted h) some.line_commits);
-    line_answers = both moment lines line before after old new noted h (λ steps ran. LineAnswers opening moment (at_first opening entry) steps ran)
-        (laws.answers opening moment entry (steps_at before old) taken (lines_at lines before) some.acknowledged old new (line, h.log) some.at (is-result moment lines line before after old new noted h) some.line_answers);
-    given = both moment lines line before after old new noted h (λ steps ran. GivenAlong opening moment steps (at_first opening entry) ran entry.mail new.mail)
-        (laws.given opening moment entry (steps_at before old) taken (lines_at lines before) some.acknowledged old new (line, h.log) some.at (is-result moment lines line before after old new noted h) some.given);
-    clocks = both moment lines line before after old new noted h (λ steps ran. length new.writer.acked ≡ appends steps)
-        (laws.clocks opening moment entry (steps_at before old) taken (lines_at lines before) some.acknowledged old new (line, h.log) some.at (is-result moment lines line before after old new noted h) some.clocks);
+    zero-is : is_in_lane_zero (line, h.log) ≡ true
+    zero-is = ap (λ (n : ℕ). n == 0) first
+
+    zeros-are : lane_zero_lines (lines ++ (line, h.log) ∷ []) ≡ zeros ++ (line, h.log) ∷ []
+    zeros-are = zero-more lines (line, h.log) zero-is
+
+    line-some : HasRunSome moment opening entry (planned ++ Runs phase line ∷ []) after new
+    unfolding is-result
+    line-some = record {
+      acknowledged = some.acknowledged ++ h.run.answered.made;
+      at = both (λ steps ran. StandsAt opening entry steps (lane_zero_lines ran) (some.acknowledged ++ h.run.answered.made) new)
+          (subst (λ (l : List RunLine). StandsAt opening entry (steps_at before old ++ taken) l (some.acknowledged ++ h.run.answered.made) new) (sym zeros-are)
+          (laws.stands opening moment phase entry (steps_at before old) taken zeros some.acknowledged old new (line, h.log) some.at is-result));
+      machine_run = both (λ steps ran. MachineRun opening moment (at_first opening entry) steps ran (some.acknowledged ++ h.run.answered.made) (ends_in (planned ++ Runs phase line ∷ [])))
+          (subst (λ (n : ℕ). MachineRun opening moment (at_first opening entry) (steps_at before old ++ taken) (lines ++ (line, h.log) ∷ []) (some.acknowledged ++ h.run.answered.made) n) (place_is ∙ sym (ends-line planned phase line))
+          (laws.machine_run opening moment phase entry (steps_at before old) taken lines some.acknowledged old new (line, h.log) some.at is-result
+          (subst (λ (n : ℕ). MachineRun opening moment (at_first opening entry) (steps_at before old) lines some.acknowledged n) (sym place_is) some.machine_run)));
+      line_commits = both (λ steps ran. LineCommits opening moment entry.mail.tree steps (lane_zero_lines ran) (some.acknowledged ++ h.run.answered.made))
+          (subst (λ (l : List RunLine). LineCommits opening moment entry.mail.tree (steps_at before old ++ taken) l (some.acknowledged ++ h.run.answered.made)) (sym zeros-are)
+          (laws.commits opening moment phase entry (steps_at before old) taken zeros some.acknowledged old new (line, h.log) some.at is-result some.line_commits));
+      line_answers = both (λ steps ran. LineAnswers opening moment (at_first opening entry) steps (lane_zero_lines ran))
+          (subst (λ (l : List RunLine). LineAnswers opening moment (at_first opening entry) (steps_at before old ++ taken) l) (sym zeros-are)
+          (laws.answers opening moment phase entry (steps_at before old) taken zeros some.acknowledged old new (line, h.log) some.at is-result some.line_answers));
+      lane_answers = both (λ steps ran. LaneAnswers opening moment steps (other_lane_lines ran))
+          (subst (λ (l : List RunLine). LaneAnswers opening moment (steps_at before old ++ taken) l) (sym (others-same lines (line, h.log) zero-is))
+          (laws.still_looks opening moment (steps_at before old) taken (other_lane_lines lines) some.lane_answers));
+      given = both (λ steps ran. GivenAlong opening moment steps (at_first opening entry) (lane_zero_lines ran) entry.mail new.mail)
+          (subst (λ (l : List RunLine). GivenAlong opening moment (steps_at before old ++ taken) (at_first opening entry) l entry.mail new.mail) (sym zeros-are)
+          (laws.given opening moment phase entry (steps_at before old) taken zeros some.acknowledged old new (line, h.log) some.at is-result some.given));
+      clocks = both (λ steps ran. length new.writer.acked ≡ appends steps)
+          (laws.clocks opening moment phase entry (steps_at before old) taken zeros some.acknowledged old new (line, h.log) some.at is-result some.clocks);
+    }
+
+-- ---- a line of another lane
+
+module _ (moment : ℤ) (planned : List Planned) (phase : ℕ) (line : ScriptLine) (before after : Rooms) (place : Place) (noted : HasNoted planned before place) (another : 1 ≤ line.lane)
+    (h : IsLookNoted moment phase place.writer.shown line before after) where
+  abbrev replies : List Replied
+  replies = reply_to (line, h.log)
+
+  abbrev looking : List Step
+  looking = look_steps line.lane replies
+
+  steps-looked : steps_at after place ≡ steps_at before place ++ looking
+  steps-looked =
+      ap (λ (l : List Mark). steps_of l place.writer.begun) h.marks
+      ∙ (ap (λ (l : List Commit). steps_of (before.marks.0 ++ look_marks line.lane replies) l) (sym (append-nil place.writer.begun))
+      ∙ (steps-append before.marks.0 (look_marks line.lane replies) place.writer.begun [] noted.stand ∙ ap (λ (l : List Step). steps_at before place ++ l) (look-steps-are line.lane replies)))
+
+  lines-looked : lines_at (planned ++ Runs phase line ∷ []) after ≡ lines_at planned before ++ (line, h.log) ∷ []
+  lines-looked =
+      ap (λ (l : List PlacedLine). run_lines l after.logs.0) (lines-more planned phase line)
+      ∙ (ap (λ (l : List LineLog). run_lines (lines_in planned ++ (phase, line) ∷ []) l) h.logs ∙ zip-more (lines_in planned) before.logs.0 (phase, line) h.log noted.logs)
+
+  few-looked : length (steps_at after place) ≤ 2 * length (planned ++ Runs phase line ∷ []) + 3 * length place.writer.begun
+  few-looked = omega (
+    arith,
+    ap length steps-looked ∙ length-append (steps_at before place) looking,
+    length-append planned (Runs phase line ∷ []),
+    mapped reply_step replies,
+    reply-few h.log.outcome (parse_line line) h.log.lane h.log.revision h.log.text,
+    noted.few,
+  )
+
+  look-noted : HasNoted (planned ++ Runs phase line ∷ []) after place
+  look-noted = record {
+    logs = subst (λ (l : List PlacedLine). AreLogsOf l after.logs.0) (sym (lines-more planned phase line))
+        (subst (λ (l : List LineLog). AreLogsOf (lines_in planned ++ (phase, line) ∷ []) l) (sym h.logs) (logs-more (lines_in planned) before.logs.0 (phase, line) h.log noted.logs h.look.numbers));
+    stand = subst (λ (l : List Mark). StandFor l place.writer.begun) (sym h.marks)
+        (subst (λ (l : List Commit). StandFor (before.marks.0 ++ look_marks line.lane replies) l) (append-nil place.writer.begun)
+        (stand-append before.marks.0 (look_marks line.lane replies) place.writer.begun [] noted.stand (look-stands line.lane replies)));
+    few = few-looked;
+    within = noted.within;
+    even = noted.even;
   }
 
--- the next line of a script
-pub front-more : (lines : List ScriptLine) (i : ℕ) (line : ScriptLine) → i < length lines → line ≡ get_or lines i line → take i lines ++ line ∷ [] ≡ take (i + 1) lines
-front-more lines i line within is = ap (λ (l : ScriptLine). take i lines ++ l ∷ []) is ∙ sym (take_more lines i line within)
+  both-looked : (P : List Step → List RunLine → Type 0) → P (steps_at before place ++ looking) (lines_at planned before ++ (line, h.log) ∷ []) → P (steps_at after place) (lines_at (planned ++ Runs phase line ∷ []) after)
+  both-looked P p = subst (λ (l : List Step). P l (lines_at (planned ++ Runs phase line ∷ []) after)) (sym steps-looked) (subst (λ (l : List RunLine). P (steps_at before place ++ looking) l) (sym lines-looked) p)
 
--- places
+  module _ (laws : Laws) (opening : Base) (entry : Devices) (some : HasRunSome moment opening entry planned before place) (place_is : phase ≡ ends_in planned) (exists : line.lane < lane_count) where
+    abbrev lines-before : List RunLine
+    lines-before = lines_at planned before
 
-pub spare-first : (lines : ℕ) (rooms : Rooms) (begun : List Commit) → begun ≡ [] → HasSpare lines 0 rooms → SpareFrom 0 lines (length begun) rooms
-spare-first lines rooms begun none h =
-    record { logs = omega (arith, h.logs); marks = omega (arith, h.marks); spares = omega (arith, h.spares); texts = h.texts }
+    look-result : IsLookResult moment phase place (line, h.log) looking
+    look-result = record {
+      another = another;
+      exists = exists;
+      numbers = h.look.numbers;
+      revision = h.look.revision;
+      cause = h.look.cause;
+      status = h.look.status;
+      text = h.look.text;
+      given = h.look.given;
+      mail = h.look.mail;
+      disk = h.look.disk;
+      well = h.look.well;
+      steps = refl;
+    }
+
+    other-is : is_in_lane_zero (line, h.log) ≡ false
+    other-is = not-zero line.lane another
+
+    nothing : CommitNothing looking
+    nothing = laws.look_nothing line.lane replies
+
+    zeros-same : lane_zero_lines (lines-before ++ (line, h.log) ∷ []) ≡ lane_zero_lines lines-before
+    zeros-same = zero-same lines-before (line, h.log) other-is
+
+    look-some : HasRunSome moment opening entry (planned ++ Runs phase line ∷ []) after place
+    look-some = record {
+      acknowledged = some.acknowledged;
+      at = both-looked (λ steps ran. StandsAt opening entry steps (lane_zero_lines ran) some.acknowledged place)
+          (subst (λ (l : List RunLine). StandsAt opening entry (steps_at before place ++ looking) l some.acknowledged place) (sym zeros-same)
+          (laws.still_stands opening entry (steps_at before place) looking (lane_zero_lines lines-before) some.acknowledged place nothing some.at));
+      machine_run = both-looked (λ steps ran. MachineRun opening moment (at_first opening entry) steps ran some.acknowledged (ends_in (planned ++ Runs phase line ∷ [])))
+          (subst (λ (n : ℕ). MachineRun opening moment (at_first opening entry) (steps_at before place ++ looking) (lines-before ++ (line, h.log) ∷ []) some.acknowledged n) (place_is ∙ sym (ends-line planned phase line))
+          (laws.look_run opening moment phase entry (steps_at before place) looking lines-before some.acknowledged place (line, h.log) some.at look-result
+          (subst (λ (n : ℕ). MachineRun opening moment (at_first opening entry) (steps_at before place) lines-before some.acknowledged n) (sym place_is) some.machine_run)));
+      line_commits = both-looked (λ steps ran. LineCommits opening moment entry.mail.tree steps (lane_zero_lines ran) some.acknowledged)
+          (subst (λ (l : List RunLine). LineCommits opening moment entry.mail.tree (steps_at before place ++ looking) l some.acknowledged) (sym zeros-same)
+          (laws.still_commits opening moment entry.mail.tree (steps_at before place) looking (lane_zero_lines lines-before) some.acknowledged nothing some.line_commits));
+      line_answers = both-looked (λ steps ran. LineAnswers opening moment (at_first opening entry) steps (lane_zero_lines ran))
+          (subst (λ (l : List RunLine). LineAnswers opening moment (at_first opening entry) (steps_at before place ++ looking) l) (sym zeros-same)
+          (laws.still_answers opening moment (steps_at before place) looking (at_first opening entry) (lane_zero_lines lines-before) some.line_answers));
+      lane_answers = both-looked (λ steps ran. LaneAnswers opening moment steps (other_lane_lines ran))
+          (subst (λ (l : List RunLine). LaneAnswers opening moment (steps_at before place ++ looking) l) (sym (others-more lines-before (line, h.log) other-is))
+          (laws.look_answers opening moment phase entry (steps_at before place) looking (lane_zero_lines lines-before) (other_lane_lines lines-before) some.acknowledged place (line, h.log) some.at look-result some.lane_answers));
+      given = both-looked (λ steps ran. GivenAlong opening moment steps (at_first opening entry) (lane_zero_lines ran) entry.mail place.mail)
+          (subst (λ (l : List RunLine). GivenAlong opening moment (steps_at before place ++ looking) (at_first opening entry) l entry.mail place.mail) (sym zeros-same)
+          (laws.still_given opening moment (steps_at before place) looking (at_first opening entry) (lane_zero_lines lines-before) entry.mail place.mail some.given));
+      clocks = both-looked (λ steps ran. length place.writer.acked ≡ appends steps) (some.clocks ∙ sym (laws.still_acknowledged (steps_at before place) looking nothing));
+    }
+
+-- ---- the end of a phase
+
+module _ (moment : ℤ) (planned : List Planned) (before after : Rooms) (place : Place) (noted : HasNoted planned before place) (h : IsMeetingNoted before after) where
+  logs-are : after.logs.0 ≡ before.logs.0
+  logs-are = ap (λ (l : List LineLog × ℕ). l.0) h.logs
+
+  steps-met : steps_at after place ≡ steps_at before place ++ Meet ∷ []
+  steps-met =
+      ap (λ (l : List Mark). steps_of l place.writer.begun) h.marks
+      ∙ (ap (λ (l : List Commit). steps_of (before.marks.0 ++ marks.Met ∷ []) l) (sym (append-nil place.writer.begun)) ∙ steps-append before.marks.0 (marks.Met ∷ []) place.writer.begun [] noted.stand)
+
+  lines-met : lines_at (planned ++ Meets ∷ []) after ≡ lines_at planned before
+  lines-met = ap (λ (l : List PlacedLine). run_lines l after.logs.0) (lines-same planned) ∙ ap (λ (l : List LineLog). run_lines (lines_in planned) l) logs-are
+
+  meet-noted : HasNoted (planned ++ Meets ∷ []) after place
+  meet-noted = record {
+    logs = subst (λ (l : List PlacedLine). AreLogsOf l after.logs.0) (sym (lines-same planned)) (subst (λ (l : List LineLog). AreLogsOf (lines_in planned) l) (sym logs-are) noted.logs);
+    stand = subst (λ (l : List Mark). StandFor l place.writer.begun) (sym h.marks)
+        (subst (λ (l : List Commit). StandFor (before.marks.0 ++ marks.Met ∷ []) l) (append-nil place.writer.begun) (stand-append before.marks.0 (marks.Met ∷ []) place.writer.begun [] noted.stand tt));
+    few = omega (arith, ap length steps-met ∙ length-append (steps_at before place) (Meet ∷ []), length-append planned (Meets ∷ []), noted.few);
+    within = noted.within;
+    even = noted.even;
+  }
+
+  both-met : (P : List Step → List RunLine → Type 0) → P (steps_at before place ++ Meet ∷ []) (lines_at planned before) → P (steps_at after place) (lines_at (planned ++ Meets ∷ []) after)
+  both-met P p = subst (λ (l : List Step). P l (lines_at (planned ++ Meets ∷ []) after)) (sym steps-met) (subst (λ (l : List RunLine). P (steps_at before place ++ Meet ∷ []) l) (sym lines-met) p)
+
+  module _ (laws : Laws) (opening : Base) (entry : Devices) (some : HasRunSome moment opening entry planned before place) where
+    meet-some : HasRunSome moment opening entry (planned ++ Meets ∷ []) after place
+    meet-some = record {
+      acknowledged = some.acknowledged;
+      at = both-met (λ steps ran. StandsAt opening entry steps (lane_zero_lines ran) some.acknowledged place)
+          (laws.still_stands opening entry (steps_at before place) (Meet ∷ []) (lane_zero_lines (lines_at planned before)) some.acknowledged place (refl, refl) some.at);
+      machine_run = both-met (λ steps ran. MachineRun opening moment (at_first opening entry) steps ran some.acknowledged (ends_in (planned ++ Meets ∷ [])))
+          (subst (λ (n : ℕ). MachineRun opening moment (at_first opening entry) (steps_at before place ++ Meet ∷ []) (lines_at planned before) some.acknowledged n) (sym (ends-meet planned))
+          (laws.meeting opening moment (ends_in planned) (at_first opening entry) (steps_at before place) (lines_at planned before) some.acknowledged some.machine_run));
+      line_commits = both-met (λ steps ran. LineCommits opening moment entry.mail.tree steps (lane_zero_lines ran) some.acknowledged)
+          (laws.still_commits opening moment entry.mail.tree (steps_at before place) (Meet ∷ []) (lane_zero_lines (lines_at planned before)) some.acknowledged (refl, refl) some.line_commits);
+      line_answers = both-met (λ steps ran. LineAnswers opening moment (at_first opening entry) steps (lane_zero_lines ran))
+          (laws.still_answers opening moment (steps_at before place) (Meet ∷ []) (at_first opening entry) (lane_zero_lines (lines_at planned before)) some.line_answers);
+      lane_answers = both-met (λ steps ran. LaneAnswers opening moment steps (other_lane_lines ran))
+          (laws.still_looks opening moment (steps_at before place) (Meet ∷ []) (other_lane_lines (lines_at planned before)) some.lane_answers);
+      given = both-met (λ steps ran. GivenAlong opening moment steps (at_first opening entry) (lane_zero_lines ran) entry.mail place.mail)
+          (laws.still_given opening moment (steps_at before place) (Meet ∷ []) (at_first opening entry) (lane_zero_lines (lines_at planned before)) entry.mail place.mail some.given);
+      clocks = both-met (λ steps ran. length place.writer.acked ≡ appends steps) (some.clocks ∙ sym (laws.still_acknowledged (steps_at before place) (Meet ∷ []) (refl, refl)));
+    }
+
+-- ---- any turn
+
+pub noted-more : (moment : ℤ) (planned : List Planned) (turn : Planned) (before after : Rooms) (old new : Place) → HasNoted planned before old → IsTurn moment turn old before after new → HasNoted (planned ++ turn ∷ []) after new
+noted-more moment planned (Runs phase line) before after old new noted (inl h) = line-noted moment planned phase line before after old new noted h.0 h.1
+noted-more moment planned (Runs phase line) before after old new noted (inr h) =
+    subst (λ (place : Place). HasNoted (planned ++ Runs phase line ∷ []) after place) (sym h.2) (look-noted moment planned phase line before after old noted h.0 h.1)
+noted-more moment planned Meets before after old new noted h = subst (λ (place : Place). HasNoted (planned ++ Meets ∷ []) after place) (sym h.1) (meet-noted moment planned before after old noted h.0)
+
+pub some-more : (laws : Laws) (moment : ℤ) (opening : Base) (entry : Devices) (planned : List Planned) (turn : Planned) (before after : Rooms) (old new : Place) → HasNoted planned before old → IsTurn moment turn old before after new
+    → IsNext 0 planned turn → HasRunSome moment opening entry planned before old → HasRunSome moment opening entry (planned ++ turn ∷ []) after new
+some-more laws moment opening entry planned (Runs phase line) before after old new noted (inl h) next some =
+    let here : phase ≡ ends_in planned = omega (arith, next.0) in
+    line-some moment planned phase line before after old new noted h.0 h.1 laws opening entry some here
+some-more laws moment opening entry planned (Runs phase line) before after old new noted (inr h) next some =
+    let here : phase ≡ ends_in planned = omega (arith, next.0) in
+    subst (λ (place : Place). HasRunSome moment opening entry (planned ++ Runs phase line ∷ []) after place) (sym h.2)
+    (look-some moment planned phase line before after old noted h.0 h.1 laws opening entry some here next.1)
+some-more laws moment opening entry planned Meets before after old new noted h next some =
+    subst (λ (place : Place). HasRunSome moment opening entry (planned ++ Meets ∷ []) after place) (sym h.1) (meet-some moment planned before after old noted h.0 laws opening entry some)
+
+-- ---- places
 
 pub spare-next : (done all begun : ℕ) (rooms : Rooms) → done < all → SpareFrom done all begun rooms → HasSpare 1 begun rooms
 spare-next done all begun rooms within h =
     record { logs = omega (arith, h.logs, within); marks = omega (arith, h.marks, within); spares = omega (arith, h.spares, within); texts = h.texts }
 
-pub spare-more : (moment : ℤ) (done all : ℕ) (line : ScriptLine) (before after : Rooms) (old new : Place) → SpareFrom done all (length old.writer.begun) before → IsNoted moment old line before after new
+pub spare-more : (moment : ℤ) (done all : ℕ) (turn : Planned) (before after : Rooms) (old new : Place) → SpareFrom done all (length old.writer.begun) before → IsTurn moment turn old before after new
     → SpareFrom (done + 1) all (length new.writer.begun) after
-spare-more moment done all line before after old new h noted = record {
-  logs = omega (arith, h.logs, noted.logs_spare);
-  marks = omega (arith, h.marks, noted.marks_spare);
-  spares = omega (arith, h.spares, noted.spares);
-  texts = noted.texts;
+spare-more moment done all (Runs phase line) before after old new h (inl turn) = record {
+  logs = omega (arith, h.logs, turn.1.logs_spare);
+  marks = omega (arith, h.marks, turn.1.marks_spare);
+  spares = omega (arith, h.spares, turn.1.spares);
+  texts = turn.1.texts;
+}
+spare-more moment done all (Runs phase line) before after old new h (inr turn) = record {
+  logs = omega (arith, h.logs, turn.1.logs_spare);
+  marks = omega (arith, h.marks, turn.1.marks_spare, ap (λ (place : Place). length place.writer.begun) turn.2);
+  spares = omega (arith, h.spares, turn.1.spares);
+  texts = turn.1.texts;
+}
+spare-more moment done all Meets before after old new h turn = record {
+  logs = omega (arith, h.logs, ap (λ (l : List LineLog × ℕ). l.1) turn.0.logs);
+  marks = omega (arith, h.marks, turn.0.marks_spare, ap (λ (place : Place). length place.writer.begun) turn.1);
+  spares = omega (arith, h.spares, ap (λ (l : List (List ℕ)). length l) turn.0.spares);
+  texts = subst AreSpares (sym turn.0.spares) h.texts;
 }
 
--- no line was run yet
-
-nothing-of : (commits : List Commit) (ms : List Mark) → ms ≡ [] → steps_of ms commits ≡ []
-nothing-of commits ms none = ap (λ (l : List Mark). steps_of l commits) none
-
-pub noted-none : (rooms : Rooms) (place : Place) (lines : ℕ) → HasRooms lines rooms → place.writer.begun ≡ [] → place.writer.acked ≡ [] → HasNoted [] rooms place
-noted-none rooms place lines h begun_none acked_none = record {
-  logs = subst (λ (l : List LineLog). AreLogsOf [] l) (sym h.logs) tt;
-  stand = subst (λ (l : List Mark). StandFor l place.writer.begun) (sym h.marks) (subst (λ (l : List Commit). StandFor [] l) (sym begun_none) tt);
-  few = omega (arith, ap length (nothing-of place.writer.begun rooms.marks.0 h.marks));
-  within = omega (arith, ap length begun_none);
-  even = λ alive. ap length begun_none ∙ sym (ap length acked_none);
-}
-
--- the laws before the first line
-pub record FirstLaws : Type 0 where
-  pub stands : (opening : Base) (entry : Devices) (place : Place) → place.writer.shown ≡ opening → place.writer.begun ≡ [] → place.writer.acked ≡ [] → place.writer.closed ≡ None → place.mail ≡ entry.mail
-      → place.disk_faults ≡ entry.disk.faults → place.left ≡ max_mail_bytes → StandsAt opening entry [] [] [] place
-  pub machine_run : (opening : Base) (moment : ℤ) (entry : Devices) → MachineRun opening moment (at_first opening entry) [] [] []
-  pub commits : (opening : Base) (moment : ℤ) (entry : Devices) → LineCommits opening moment entry.mail.tree [] [] []
-  pub answers : (opening : Base) (moment : ℤ) (entry : Devices) → LineAnswers opening moment (at_first opening entry) [] []
-  pub given : (opening : Base) (moment : ℤ) (entry : Devices) → GivenAlong opening moment [] (at_first opening entry) [] entry.mail entry.mail
-
-pub some-none : FirstLaws → (moment : ℤ) (entry : Devices) (rooms : Rooms) (place : Place) (lines : ℕ) → HasRooms lines rooms → place.writer.begun ≡ [] → place.writer.acked ≡ [] → place.writer.closed ≡ None
-    → entry.mail ≡ place.mail → entry.disk.faults ≡ place.disk_faults → place.left ≡ max_mail_bytes → HasRunSome moment place.writer.shown entry [] rooms place
-some-none laws moment entry rooms place lines h begun_none acked_none alive mail disk left =
-    let opening : Base = place.writer.shown in
-    let none : [] ≡ steps_at rooms place = sym (nothing-of place.writer.begun rooms.marks.0 h.marks) in
-    record {
-      acknowledged = [];
-      at = subst (λ (l : List Step). StandsAt opening entry l [] [] place) none (laws.stands opening entry place refl begun_none acked_none alive (sym mail) (sym disk) left);
-      machine_run = subst (λ (l : List Step). MachineRun opening moment (at_first opening entry) l [] []) none (laws.machine_run opening moment entry);
-      line_commits = subst (λ (l : List Step). LineCommits opening moment entry.mail.tree l [] []) none (laws.commits opening moment entry);
-      line_answers = subst (λ (l : List Step). LineAnswers opening moment (at_first opening entry) l []) none (laws.answers opening moment entry);
-      given = subst (λ (l : List Step). GivenAlong opening moment l (at_first opening entry) [] entry.mail place.mail) none
-          (subst (λ (m : ObservedMail). GivenAlong opening moment [] (at_first opening entry) [] entry.mail m) mail (laws.given opening moment entry));
-      clocks = ap length acked_none ∙ ap appends none;
-    }
-
--- what all lines leave
-
-pub has-run : (moment : ℤ) (opening : Base) (entry : Devices) (lines : List ScriptLine) (rooms : Rooms) (place : Place) (log : SessionLog) → HasNoted lines rooms place → HasRunSome moment opening entry lines rooms place
-    → log ≡ record { steps = steps_at rooms place; lines = rooms.logs.0; acked = place.writer.acked } → HasRun moment opening entry lines place.mail place.disk_faults log
-has-run moment opening entry lines rooms place log noted some is =
-    subst (λ (l : SessionLog). HasRun moment opening entry lines place.mail place.disk_faults l) (sym is) (record {
-      acknowledged = some.acknowledged;
-      logs = noted.logs;
-      machine_run = some.machine_run;
-      line_commits = some.line_commits;
-      line_answers = some.line_answers;
-      given = some.given;
-      faults = ap (λ (b : Before). b.disk_faults) some.at.before;
-      clocks = some.clocks;
-    })
-
-pub is-kept : (entry now : ObservedDisk) (opening : Base) (lines : List ScriptLine) (rooms : Rooms) (place : Place) (log : SessionLog) → HasNoted lines rooms place → IsDurable entry opening now place.writer
-    → log ≡ record { steps = steps_at rooms place; lines = rooms.logs.0; acked = place.writer.acked } → IsKept entry opening now log
-is-kept entry now opening lines rooms place log noted durable is =
-    subst (λ (l : SessionLog). IsKept entry opening now l) (sym is) (record {
-      kept = subst (λ (l : List Commit). GoesOn (KeptSince opening l place.writer.acked) entry.told now.told) (sym (begun-are rooms.marks.0 place.writer.begun noted.stand)) durable.kept;
-      clocks = durable.clocks;
-    })
-
--- all steps have a place
-pub steps-fit : (lines : List ScriptLine) (before after : Rooms) (place : Place) → HasRooms (length lines) before → HasNoted lines after place → after.steps ≡ before.steps
-    → (after.steps.0 ≡ []) × (length (steps_of after.marks.0 place.writer.begun) ≤ after.steps.1)
-steps-fit lines before after place h noted same =
-    let list : after.steps.0 ≡ before.steps.0 = ap (λ (r : List Step × ℕ). r.0) same in
-    let spare : after.steps.1 ≡ before.steps.1 = ap (λ (r : List Step × ℕ). r.1) same in
-    (list ∙ h.steps, omega (arith, noted.few, noted.within, h.steps_spare, spare))
+-- the steps that were made so far
+pub steps-same : (moment : ℤ) (turn : Planned) (before after : Rooms) (old new : Place) → IsTurn moment turn old before after new → after.steps ≡ before.steps
+steps-same moment (Runs phase line) before after old new (inl turn) = turn.1.steps
+steps-same moment (Runs phase line) before after old new (inr turn) = turn.1.steps
+steps-same moment Meets before after old new turn = turn.0.steps

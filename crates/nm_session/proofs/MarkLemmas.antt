@@ -1,11 +1,12 @@
 -- The steps of marks behind marks, and those of a line. For `LineLemmas` and `LoopLemmas`.
-use Rattle.std.proofs.Common.{◌≡◌, ℕ, ◌+◌, ◌*◌, suc, List, [], ◌∷◌, ◌++◌, length, map, refl, sym, ap, ◌∙◌, subst, arith}
+use Rattle.std.proofs.Common.{◌≡◌, ℕ, ◌+◌, ◌*◌, suc, List, [], ◌∷◌, ◌++◌, length, map, refl, sym, ap, ◌∙◌, arith}
 use Rattle.std.proofs.lemmas.List.{length-append}
 use Rattle.std.specs.List.{AllByRecursion, flat_map}
 use Rattle.nm_commit.specs.declared.change.Commit.{Commit}
-use Rattle.nm_history.specs.LineResult.{begin_step, commit_steps, line_steps, reply_step}
-use Rattle.nm_history.specs.Lines.{begun}
-use Rattle.nm_history.specs.MachineRun.{Replied, replied_where}
+use Rattle.nm_history.specs.LineResult.{begin_step, commit_steps, line_steps, look_steps, reply_step}
+use Rattle.nm_history.specs.Lines.{RunLine, begun}
+use Rattle.nm_history.specs.MachineRun.{Replied, replied_where, reply_to}
+use Rattle.nm_log.specs.ParsedLine.{parse_line}
 use Rattle.nm_log.specs.declared.line_parser.ParsedLine.{ParsedLine}
 use Rattle.nm_log.specs.declared.line_parser.ParsedLine.TheVariants as asked
 use Rattle.nm_log.specs.declared.outcome.Outcome.{Outcome}
@@ -13,9 +14,10 @@ use Rattle.nm_log.specs.declared.outcome.Outcome.TheVariants as outcomes
 use Rattle.nm_machine.specs.declared.step.Step.{Step}
 use Rattle.nm_machine.specs.declared.step.Step.TheVariants as steps
 use Rattle.nm_session.specs.Loop.{StandFor}
-use Rattle.nm_session.specs.Marks.{begun_mark, line_marks, reply_mark, steps_of}
+use Rattle.nm_session.specs.Marks.{begun_mark, line_marks, look_marks, reply_mark, said_mark, said_marks, said_of, steps_of}
 use Rattle.nm_session.specs.declared.marks.Mark.{Mark}
 use Rattle.nm_session.specs.declared.marks.Mark.TheVariants as marks
+use Rattle.nm_session.specs.declared.marks.Said.{Said}
 
 pub stand-append : (ms ns : List Mark) (xs ys : List Commit) → StandFor ms xs → StandFor ns ys → StandFor (ms ++ ns) (xs ++ ys)
 stand-append [] ns [] ys h more = more
@@ -24,7 +26,9 @@ stand-append (marks.Made ∷ ms) ns [] ys h more = absurd h
 stand-append (marks.Made ∷ ms) ns (x ∷ xs) ys h more = stand-append ms ns xs ys h more
 stand-append (marks.Begun ∷ ms) ns [] ys h more = absurd h
 stand-append (marks.Begun ∷ ms) ns (x ∷ xs) ys h more = stand-append ms ns xs ys h more
-stand-append (marks.Reply request text ∷ ms) ns xs ys h more = stand-append ms ns xs ys h more
+stand-append (marks.Look lane ∷ ms) ns xs ys h more = stand-append ms ns xs ys h more
+stand-append (marks.Reply lane said ∷ ms) ns xs ys h more = stand-append ms ns xs ys h more
+stand-append (marks.Met ∷ ms) ns xs ys h more = stand-append ms ns xs ys h more
 
 pub steps-append : (ms ns : List Mark) (xs ys : List Commit) → StandFor ms xs → steps_of (ms ++ ns) (xs ++ ys) ≡ steps_of ms xs ++ steps_of ns ys
 steps-append [] ns [] ys h = refl
@@ -33,7 +37,9 @@ steps-append (marks.Made ∷ ms) ns [] ys h = absurd h
 steps-append (marks.Made ∷ ms) ns (x ∷ xs) ys h = ap (λ (l : List Step). steps.Begin x ∷ steps.Append ∷ steps.Show ∷ l) (steps-append ms ns xs ys h)
 steps-append (marks.Begun ∷ ms) ns [] ys h = absurd h
 steps-append (marks.Begun ∷ ms) ns (x ∷ xs) ys h = ap (λ (l : List Step). steps.Begin x ∷ l) (steps-append ms ns xs ys h)
-steps-append (marks.Reply request text ∷ ms) ns xs ys h = ap (λ (l : List Step). steps.Reply 0 request text ∷ l) (steps-append ms ns xs ys h)
+steps-append (marks.Look lane ∷ ms) ns xs ys h = ap (λ (l : List Step). steps.See lane ∷ l) (steps-append ms ns xs ys h)
+steps-append (marks.Reply lane said ∷ ms) ns xs ys h = ap (λ (l : List Step). steps.Reply lane said.request said.text ∷ l) (steps-append ms ns xs ys h)
+steps-append (marks.Met ∷ ms) ns xs ys h = ap (λ (l : List Step). steps.Meet ∷ l) (steps-append ms ns xs ys h)
 
 -- the marks of a line
 
@@ -49,45 +55,57 @@ pub line-stands : (made in_flight : List Commit) (replies : List Replied) → St
 line-stands [] in_flight replies = flight-stands in_flight replies
 line-stands (commit ∷ made) in_flight replies = line-stands made in_flight replies
 
--- their steps, where lane 0 replied
+pub look-stands : (lane : ℕ) (replies : List Replied) → StandFor (look_marks lane replies) []
+look-stands lane replies = replies-stand replies
 
-abbrev pub OfLaneZero : List Replied → Type 0
-OfLaneZero replies = AllByRecursion (λ (replied : Replied). replied.lane ≡ 0) replies
+-- their steps
 
-replies-steps : (replies : List Replied) → OfLaneZero replies → steps_of (map reply_mark replies) [] ≡ map reply_step replies
-replies-steps [] zero = refl
-replies-steps (replied ∷ replies) zero =
-    ap (λ (l : List Step). steps.Reply 0 replied.request replied.text ∷ l) (replies-steps replies zero.1)
-    ∙ ap (λ n. steps.Reply n replied.request replied.text ∷ map reply_step replies) (sym zero.0)
+replies-steps : (replies : List Replied) → steps_of (map reply_mark replies) [] ≡ map reply_step replies
+replies-steps [] = refl
+replies-steps (replied ∷ replies) = ap (λ (l : List Step). steps.Reply replied.lane replied.request replied.text ∷ l) (replies-steps replies)
 
-flight-steps : (in_flight : List Commit) (replies : List Replied) → OfLaneZero replies → steps_of (map begun_mark in_flight ++ map reply_mark replies) in_flight ≡ map begin_step in_flight ++ map reply_step replies
-flight-steps [] replies zero = replies-steps replies zero
-flight-steps (commit ∷ in_flight) replies zero = ap (λ (l : List Step). steps.Begin commit ∷ l) (flight-steps in_flight replies zero)
+flight-steps : (in_flight : List Commit) (replies : List Replied) → steps_of (map begun_mark in_flight ++ map reply_mark replies) in_flight ≡ map begin_step in_flight ++ map reply_step replies
+flight-steps [] replies = replies-steps replies
+flight-steps (commit ∷ in_flight) replies = ap (λ (l : List Step). steps.Begin commit ∷ l) (flight-steps in_flight replies)
 
-pub line-steps : (made in_flight : List Commit) (replies : List Replied) → OfLaneZero replies → steps_of (line_marks made in_flight replies) (made ++ in_flight) ≡ line_steps made in_flight replies
-line-steps [] in_flight replies zero = flight-steps in_flight replies zero
-line-steps (commit ∷ made) in_flight replies zero = ap (λ (l : List Step). steps.Begin commit ∷ steps.Append ∷ steps.Show ∷ l) (line-steps made in_flight replies zero)
+pub line-steps : (made in_flight : List Commit) (replies : List Replied) → steps_of (line_marks made in_flight replies) (made ++ in_flight) ≡ line_steps made in_flight replies
+line-steps [] in_flight replies = flight-steps in_flight replies
+line-steps (commit ∷ made) in_flight replies = ap (λ (l : List Step). steps.Begin commit ∷ steps.Append ∷ steps.Show ∷ l) (line-steps made in_flight replies)
 
-asked-lane : (line : ParsedLine) (revision : ℕ) (text : List ℕ) → OfLaneZero (replied_where outcomes.Ok line 0 revision text)
-asked-lane (asked.Request request) revision text = (refl, tt)
-asked-lane (asked.Usage word kind) revision text = tt
+pub look-steps-are : (lane : ℕ) (replies : List Replied) → steps_of (look_marks lane replies) [] ≡ look_steps lane replies
+look-steps-are lane replies = ap (λ (l : List Step). steps.See lane ∷ l) (replies-steps replies)
 
-zero-lane : (outcome : Outcome) (line : ParsedLine) (revision : ℕ) (text : List ℕ) → OfLaneZero (replied_where outcome line 0 revision text)
-zero-lane outcomes.Ok line revision text = asked-lane line revision text
-zero-lane (outcomes.Usage word kind) line revision text = tt
-zero-lane (outcomes.BadQuery at kind) line revision text = tt
-zero-lane (outcomes.BadDate at) line revision text = tt
-zero-lane (outcomes.BadLine bad kind) line revision text = tt
-zero-lane (outcomes.NotOne found) line revision text = tt
-zero-lane (outcomes.Gone path) line revision text = tt
-zero-lane outcomes.MailFault line revision text = tt
-zero-lane outcomes.DiskFault line revision text = tt
-zero-lane (outcomes.Closed fault) line revision text = tt
-zero-lane (outcomes.Limit limit) line revision text = tt
-zero-lane outcomes.NoMemory line revision text = tt
+-- a line replies in its lane
 
-pub reply-lane : (outcome : Outcome) (line : ParsedLine) (lane revision : ℕ) (text : List ℕ) → lane ≡ 0 → OfLaneZero (replied_where outcome line lane revision text)
-reply-lane outcome line lane revision text is = subst (λ n. OfLaneZero (replied_where outcome line n revision text)) (sym is) (zero-lane outcome line revision text)
+abbrev OfLane : ℕ → List Replied → Type 0
+OfLane lane replies = AllByRecursion (λ (replied : Replied). replied.lane ≡ lane) replies
+
+asked-lane : (line : ParsedLine) (lane revision : ℕ) (text : List ℕ) → OfLane lane (replied_where outcomes.Ok line lane revision text)
+asked-lane (asked.Request request) lane revision text = (refl, tt)
+asked-lane (asked.Usage word kind) lane revision text = tt
+
+in-lane : (outcome : Outcome) (line : ParsedLine) (lane revision : ℕ) (text : List ℕ) → OfLane lane (replied_where outcome line lane revision text)
+in-lane outcomes.Ok line lane revision text = asked-lane line lane revision text
+in-lane (outcomes.Usage word kind) line lane revision text = tt
+in-lane (outcomes.BadQuery at kind) line lane revision text = tt
+in-lane (outcomes.BadDate at) line lane revision text = tt
+in-lane (outcomes.BadLine bad kind) line lane revision text = tt
+in-lane (outcomes.NotOne found) line lane revision text = tt
+in-lane (outcomes.Gone path) line lane revision text = tt
+in-lane outcomes.MailFault line lane revision text = tt
+in-lane outcomes.DiskFault line lane revision text = tt
+in-lane (outcomes.Closed fault) line lane revision text = tt
+in-lane (outcomes.Limit limit) line lane revision text = tt
+in-lane outcomes.NoMemory line lane revision text = tt
+
+marks-in : (lane : ℕ) (replies : List Replied) → OfLane lane replies → said_marks lane (map said_of replies) ≡ map reply_mark replies
+marks-in lane [] h = refl
+marks-in lane (replied ∷ replies) h =
+    ap (λ (l : List Mark). said_mark lane (said_of replied) ∷ l) (marks-in lane replies h.1) ∙ ap (λ (n : ℕ). said_mark n (said_of replied) ∷ map reply_mark replies) (sym h.0)
+
+-- so what was said has the marks of its replies
+pub said-marks : (ran : RunLine) (said : List Said) → said ≡ map said_of (reply_to ran) → said_marks ran.1.lane said ≡ map reply_mark (reply_to ran)
+said-marks ran said is = ap (said_marks ran.1.lane) is ∙ marks-in ran.1.lane (reply_to ran) (in-lane ran.1.outcome (parse_line ran.0) ran.1.lane ran.1.revision ran.1.text)
 
 -- how many they are
 
@@ -118,4 +136,6 @@ begun-are (marks.Made ∷ ms) [] h = absurd h
 begun-are (marks.Made ∷ ms) (x ∷ xs) h = ap (λ (l : List Commit). x ∷ l) (begun-are ms xs h)
 begun-are (marks.Begun ∷ ms) [] h = absurd h
 begun-are (marks.Begun ∷ ms) (x ∷ xs) h = ap (λ (l : List Commit). x ∷ l) (begun-are ms xs h)
-begun-are (marks.Reply request text ∷ ms) xs h = begun-are ms xs h
+begun-are (marks.Look lane ∷ ms) xs h = begun-are ms xs h
+begun-are (marks.Reply lane said ∷ ms) xs h = begun-are ms xs h
+begun-are (marks.Met ∷ ms) xs h = begun-are ms xs h

@@ -14,13 +14,13 @@ use Rattle.nm_history.specs.LineCommits.{Makes}
 use Rattle.nm_history.specs.LineResult.{Place, before_at}
 use Rattle.nm_history.specs.Lines.{tree_after_line}
 use Rattle.nm_history.specs.Requests.{asks_to_tag, asks_to_write, first_refusal, found_to_show, passes_bytes, paths_to_show, refused_bytes, refused_closed, refused_gone, refused_number, refused_reading, refused_text, refused_unasked}
+use Rattle.nm_lanes.specs.declared.script.ScriptLine.{ScriptLine}
 use Rattle.nm_log.specs.ParsedLine.{parse_line}
 use Rattle.nm_log.specs.Replies.{is_well}
 use Rattle.nm_log.specs.declared.line_parser.ParsedLine.{ParsedLine}
 use Rattle.nm_log.specs.declared.line_parser.ParsedLine.TheVariants as asked
 use Rattle.nm_log.specs.declared.outcome.Outcome.{Outcome}
 use Rattle.nm_log.specs.declared.outcome.Outcome.TheVariants as outcomes
-use Rattle.nm_log.specs.declared.script.ScriptLine.{ScriptLine}
 use Rattle.nm_maildir.specs.Observed.{ObservedMail}
 use Rattle.nm_maildir.specs.Tree.{Tree}
 use Rattle.nm_maildir.specs.declared.given.Given.{Given}

@@ -1,5 +1,6 @@
 pub mod Changing
 pub mod Line
+pub mod Look
 pub mod Loop
 pub mod Marks
 pub mod Outcomes
@@ -7,3 +8,4 @@ pub mod Rooms
 pub mod Run
 pub mod Session
 pub mod Showing
+pub mod Turns

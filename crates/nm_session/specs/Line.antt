@@ -1,4 +1,4 @@
--- How one line ends: what it made, why, and what it says. Cited by `answering`, `changing`, `line` and others.
+-- How one line of lane 0 ends: what it made, why, and what it says. Cited by `answering`, `changing`, `line` and others.
 use Rattle.std.specs.Prelude.{◌≡◌, ◌&&◌, ℕ, ℤ, Bool, ◌+◌, ◌≤◌, List, [], ◌∷◌, ◌++◌, IsSome, is_some, length, map, not, Option, None, Some, Result, Ok, Err}
 use Rattle.std.specs.Option.{option_to_list}
 use Rattle.nm_answer.specs.Answer.{answer}
@@ -17,20 +17,19 @@ use Rattle.nm_history.specs.MachineRun.{replied_where, reply_to}
 use Rattle.nm_history.specs.PrintedOut.{IsNumbered}
 use Rattle.nm_history.specs.Requests.{refused_text_of, refused_unasked}
 use Rattle.nm_index.specs.declared.base.Base.{Base}
+use Rattle.nm_lanes.specs.declared.script.ScriptLine.{ScriptLine}
 use Rattle.nm_log.specs.ParsedLine.{parse_line}
 use Rattle.nm_log.specs.Replies.{refusal_line, status_of}
 use Rattle.nm_log.specs.declared.log.LineLog.{LineLog}
 use Rattle.nm_log.specs.declared.outcome.Outcome.{Outcome}
 use Rattle.nm_log.specs.declared.outcome.Outcome.TheVariants as outcomes
-use Rattle.nm_log.specs.declared.script.ScriptLine.{ScriptLine}
 use Rattle.nm_maildir.specs.Observed.{ObservedMail}
 use Rattle.nm_maildir.specs.declared.given.Given.{Given}
 use Rattle.nm_scan.specs.Bodies.{left_after}
-use Rattle.nm_session.specs.Marks.{line_marks, reply_mark}
+use Rattle.nm_session.specs.Marks.{line_marks, said_of}
 use Rattle.nm_session.specs.Rooms.{AreSpares}
 use Rattle.nm_session.specs.declared.answering.LineAnswer.{LineAnswer}
-use Rattle.nm_session.specs.declared.marks.Mark.{Mark}
-use Rattle.nm_session.specs.declared.marks.Mark.TheVariants as marks
+use Rattle.nm_session.specs.declared.marks.Said.{Said}
 use Rattle.nm_session.specs.declared.rooms.Rooms.{Rooms}
 use Rattle.nm_writer.specs.Writer.{WriterState}
 
@@ -63,10 +62,10 @@ pub record IsLineAnswer (moment : ℤ) (old : Place) (line : ScriptLine) (given 
   pub cause : HasCause outcome (parse_line line) line.input (before_at old) old.writer.shown moment given new.mail.faults failed
   pub disk : Counts failed old.disk_faults new.disk_faults
 
--- What it says, and the mark of its reply where it went well.
+-- What it says, and what was replied where it went well.
 pub record IsSaid (moment : ℤ) (old : Place) (line : ScriptLine) (given : List Given) (done : LineAnswer) (new : Place) : Type 0 where
   pub text : done.text ≡ line_text done.outcome (parse_line line) line.input old.writer.shown new.writer.shown moment given
-  pub reply : (lane revision : ℕ) → option_to_list done.reply ≡ map reply_mark (replied_where done.outcome (parse_line line) lane revision done.text)
+  pub reply : (lane revision : ℕ) → option_to_list done.reply ≡ map said_of (replied_where done.outcome (parse_line line) lane revision done.text)
 
 -- It was answered, or found no memory for it.
 abbrev pub Ends : ℤ → Place → ScriptLine → List Given → Result LineAnswer NoMemory → Place → Type 0
@@ -74,22 +73,22 @@ Ends moment old line given (Ok done) new =
     IsLineAnswer moment old line given done.outcome (newly_closed old.writer new.writer) new × IsSaid moment old line given done new
 Ends moment old line given (Err error) new = IsLineAnswer moment old line given outcomes.NoMemory (newly_closed old.writer new.writer) new
 
--- A line was run, and its log says so.
-pub record IsRun (moment : ℤ) (old : Place) (ran : RunLine) (reply : Option Mark) (new : Place) : Type 0 where
+-- A line was run in this phase, and its log says so.
+pub record IsRun (moment : ℤ) (phase : ℕ) (old : Place) (ran : RunLine) (reply : Option Said) (new : Place) : Type 0 where
   pub answered : IsLineAnswer moment old ran.0 ran.1.given ran.1.outcome ran.1.disk_failed new
   pub text : ran.1.text ≡ line_text ran.1.outcome (parse_line ran.0) ran.0.input old.writer.shown new.writer.shown moment ran.1.given
-  pub reply_is : option_to_list reply ≡ map reply_mark (reply_to ran)
-  pub numbers : IsNumbered ran.0 ran.1
+  pub reply_is : option_to_list reply ≡ map said_of (reply_to ran)
+  pub numbers : IsNumbered (phase, ran.0) ran.1
   pub revision : ran.1.revision ≡ new.writer.shown.revision
   pub mail_faults : ran.1.mail_faults ≡ new.mail.faults
   pub disk_faults : ran.1.disk_faults ≡ new.disk_faults
   pub status : ran.1.status ≡ status_of ran.1.outcome
 
 -- And its log and its marks are in the rooms, where the places for one line are taken.
-pub record IsNoted (moment : ℤ) (old : Place) (line : ScriptLine) (before after : Rooms) (new : Place) : Type 0 where
+pub record IsNoted (moment : ℤ) (phase : ℕ) (old : Place) (line : ScriptLine) (before after : Rooms) (new : Place) : Type 0 where
   pub log : LineLog
-  pub reply : Option Mark
-  pub run : IsRun moment old (line, log) reply new
+  pub reply : Option Said
+  pub run : IsRun moment phase old (line, log) reply new
   pub logs : after.logs.0 ≡ before.logs.0 ++ log ∷ []
   pub marks : after.marks.0 ≡ before.marks.0 ++ line_marks run.answered.made run.answered.in_flight (reply_to (line, log))
   pub steps : after.steps ≡ before.steps
@@ -101,7 +100,7 @@ pub record IsNoted (moment : ℤ) (old : Place) (line : ScriptLine) (before afte
 
 -- it went well, with this text
 abbrev pub replied_with : Request → List ℕ → LineAnswer
-replied_with request text = record { outcome = outcomes.Ok; text = text; reply = Some (marks.Reply request text) }
+replied_with request text = record { outcome = outcomes.Ok; text = text; reply = Some (record { request = request; text = text }) }
 
 -- it is refused
 abbrev pub refused_with : Outcome → LineAnswer

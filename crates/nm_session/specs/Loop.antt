@@ -1,23 +1,23 @@
--- Where a session stands behind its first lines. Cited by `running`.
-use Rattle.std.specs.Prelude.{◌≡◌, ℕ, ℤ, ◌+◌, ◌*◌, ◌≤◌, List, [], ◌∷◌, length}
-use Rattle.std.specs.List.{zip}
+-- Where a session stands behind its first turns. Cited by `running`.
+use Rattle.std.specs.Prelude.{◌≡◌, ◌⊎◌, ℕ, ℤ, ◌+◌, ◌*◌, ◌≤◌, List, [], ◌∷◌, ◌++◌, length}
 use Rattle.nm_base.specs.Limits.{max_commits}
 use Rattle.nm_commit.specs.declared.change.Commit.{Commit}
 use Rattle.nm_history.specs.Call.{Devices}
 use Rattle.nm_history.specs.CrashPrefix.{appends}
 use Rattle.nm_history.specs.Given.{GivenAlong}
-use Rattle.nm_history.specs.LineAnswers.{LineAnswers}
+use Rattle.nm_history.specs.LineAnswers.{LaneAnswers, LineAnswers}
 use Rattle.nm_history.specs.LineCommits.{LineCommits}
 use Rattle.nm_history.specs.LineResult.{Place, StandsAt}
-use Rattle.nm_history.specs.Lines.{RunLine, at_first}
+use Rattle.nm_history.specs.Lines.{RunLine, at_first, lane_zero_lines, other_lane_lines, run_lines}
 use Rattle.nm_history.specs.MachineRun.{MachineRun}
 use Rattle.nm_history.specs.PrintedOut.{AreLogsOf}
 use Rattle.nm_index.specs.declared.base.Base.{Base}
-use Rattle.nm_log.specs.declared.script.ScriptLine.{ScriptLine}
 use Rattle.nm_machine.specs.declared.step.Step.{Step}
-use Rattle.nm_session.specs.Line.{IsEven}
+use Rattle.nm_session.specs.Line.{IsEven, IsNoted}
+use Rattle.nm_session.specs.Look.{IsLookNoted}
 use Rattle.nm_session.specs.Marks.{steps_of}
 use Rattle.nm_session.specs.Rooms.{AreSpares}
+use Rattle.nm_session.specs.Turns.{Meets, Planned, Runs, ends_in, lines_in}
 use Rattle.nm_session.specs.declared.marks.Mark.{Mark}
 use Rattle.nm_session.specs.declared.marks.Mark.TheVariants as marks
 use Rattle.nm_session.specs.declared.rooms.Rooms.{Rooms}
@@ -30,37 +30,55 @@ StandFor (marks.Made ∷ more) [] = ⊥
 StandFor (marks.Made ∷ more) (commit ∷ commits) = StandFor more commits
 StandFor (marks.Begun ∷ more) [] = ⊥
 StandFor (marks.Begun ∷ more) (commit ∷ commits) = StandFor more commits
-StandFor (marks.Reply request text ∷ more) commits = StandFor more commits
+StandFor (marks.Look lane ∷ more) commits = StandFor more commits
+StandFor (marks.Reply lane said ∷ more) commits = StandFor more commits
+StandFor (marks.Met ∷ more) commits = StandFor more commits
 
 -- the steps so far
 abbrev pub steps_at : Rooms → Place → List Step
 steps_at rooms place = steps_of rooms.marks.0 place.writer.begun
 
 -- the lines so far with their logs
-abbrev pub lines_at : List ScriptLine → Rooms → List RunLine
-lines_at lines rooms = zip lines rooms.logs.0
+abbrev pub lines_at : List Planned → Rooms → List RunLine
+lines_at planned rooms = run_lines (lines_in planned) rooms.logs.0
 
--- These lines were run and noted.
-pub record HasNoted (lines : List ScriptLine) (rooms : Rooms) (place : Place) : Type 0 where
-  pub logs : AreLogsOf lines rooms.logs.0
+-- These turns were taken and noted.
+pub record HasNoted (planned : List Planned) (rooms : Rooms) (place : Place) : Type 0 where
+  pub logs : AreLogsOf (lines_in planned) rooms.logs.0
   pub stand : StandFor rooms.marks.0 place.writer.begun
-  pub few : length (steps_at rooms place) ≤ length lines + 3 * length place.writer.begun
+  pub few : length (steps_at rooms place) ≤ 2 * length planned + 3 * length place.writer.begun
   pub within : length place.writer.begun ≤ max_commits
   pub even : IsEven place.writer
 
--- Of so many lines so many were run, so many commits were begun, and for the others places are spare.
+-- Of so many turns so many were taken, so many commits were begun, and for the others places are spare.
 pub record SpareFrom (done all begun : ℕ) (rooms : Rooms) : Type 0 where
   pub logs : all ≤ rooms.logs.1 + done
-  pub marks : all + max_commits ≤ rooms.marks.1 + (done + begun)
+  pub marks : 2 * all + max_commits ≤ rooms.marks.1 + (2 * done + begun)
   pub spares : all ≤ length rooms.spares + done
   pub texts : AreSpares rooms.spares
 
--- What the statement of a session says is so of these lines.
-pub record HasRunSome (moment : ℤ) (opening : Base) (entry : Devices) (lines : List ScriptLine) (rooms : Rooms) (place : Place) : Type 0 where
+-- What the statement of a session says is so of the lines of these turns.
+pub record HasRunSome (moment : ℤ) (opening : Base) (entry : Devices) (planned : List Planned) (rooms : Rooms) (place : Place) : Type 0 where
   pub acknowledged : List Commit
-  pub at : StandsAt opening entry (steps_at rooms place) (lines_at lines rooms) acknowledged place
-  pub machine_run : MachineRun opening moment (at_first opening entry) (steps_at rooms place) (lines_at lines rooms) acknowledged
-  pub line_commits : LineCommits opening moment entry.mail.tree (steps_at rooms place) (lines_at lines rooms) acknowledged
-  pub line_answers : LineAnswers opening moment (at_first opening entry) (steps_at rooms place) (lines_at lines rooms)
-  pub given : GivenAlong opening moment (steps_at rooms place) (at_first opening entry) (lines_at lines rooms) entry.mail place.mail
+  pub at : StandsAt opening entry (steps_at rooms place) (lane_zero_lines (lines_at planned rooms)) acknowledged place
+  pub machine_run : MachineRun opening moment (at_first opening entry) (steps_at rooms place) (lines_at planned rooms) acknowledged (ends_in planned)
+  pub line_commits : LineCommits opening moment entry.mail.tree (steps_at rooms place) (lane_zero_lines (lines_at planned rooms)) acknowledged
+  pub line_answers : LineAnswers opening moment (at_first opening entry) (steps_at rooms place) (lane_zero_lines (lines_at planned rooms))
+  pub lane_answers : LaneAnswers opening moment (steps_at rooms place) (other_lane_lines (lines_at planned rooms))
+  pub given : GivenAlong opening moment (steps_at rooms place) (at_first opening entry) (lane_zero_lines (lines_at planned rooms)) entry.mail place.mail
   pub clocks : length place.writer.acked ≡ appends (steps_at rooms place)
+
+-- A phase ended, and nothing else did.
+pub record IsMeetingNoted (before after : Rooms) : Type 0 where
+  pub marks : after.marks.0 ≡ before.marks.0 ++ marks.Met ∷ []
+  pub marks_spare : after.marks.1 + 1 ≡ before.marks.1
+  pub logs : after.logs ≡ before.logs
+  pub steps : after.steps ≡ before.steps
+  pub spares : after.spares ≡ before.spares
+
+-- A turn was taken: a line of lane 0 was run, or one of another lane over what is shown, or a phase ended.
+abbrev pub IsTurn : ℤ → Planned → Place → Rooms → Rooms → Place → Type 0
+IsTurn moment (Runs phase line) old before after new =
+    ((line.lane ≡ 0) × IsNoted moment phase old line before after new)
+    ⊎ ((1 ≤ line.lane) × IsLookNoted moment phase old.writer.shown line before after × (new ≡ old))
+IsTurn moment Meets old before after new = IsMeetingNoted before after × (new ≡ old)

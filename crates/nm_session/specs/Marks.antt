@@ -1,5 +1,5 @@
--- How the steps of a session are told: a mark for each commit that a line made, or left on its way, and for each reply, in their
--- order; the commits themselves are the writer's.
+-- How the steps of a session are told: a mark for each commit that a line made, or left on its way, for each look and reply of a lane, and for the
+-- end of each phase, in their order; the commits themselves are the writer's.
 -- Cited by `machine_steps`, `rooms` and `running`.
 use Rattle.std.specs.Prelude.{ℕ, Bool, List, [], ◌∷◌, ◌++◌, map, replicate, if◌then◌else◌}
 use Rattle.nm_commit.specs.declared.change.Commit.{Commit}
@@ -9,6 +9,7 @@ use Rattle.nm_machine.specs.declared.step.Step.{Step}
 use Rattle.nm_machine.specs.declared.step.Step.TheVariants as steps
 use Rattle.nm_session.specs.declared.marks.Mark.{Mark}
 use Rattle.nm_session.specs.declared.marks.Mark.TheVariants as marks
+use Rattle.nm_session.specs.declared.marks.Said.{Said}
 
 -- the steps of the first commit
 abbrev pub steps_of_first : List Commit → List Step
@@ -29,13 +30,17 @@ after_first_commit (commit ∷ commits) = commits
 abbrev pub steps_by : Mark → List Commit → List Step
 steps_by marks.Made commits = steps_of_first commits
 steps_by marks.Begun commits = begin_of_first commits
-steps_by (marks.Reply request text) commits = steps.Reply 0 request text ∷ []
+steps_by (marks.Look lane) commits = steps.See lane ∷ []
+steps_by (marks.Reply lane said) commits = steps.Reply lane said.request said.text ∷ []
+steps_by marks.Met commits = steps.Meet ∷ []
 
 -- the commits that come next behind it
 abbrev pub left_by : Mark → List Commit → List Commit
 left_by marks.Made commits = after_first_commit commits
 left_by marks.Begun commits = after_first_commit commits
-left_by (marks.Reply request text) commits = commits
+left_by (marks.Look lane) commits = commits
+left_by (marks.Reply lane said) commits = commits
+left_by marks.Met commits = commits
 
 -- the steps that the marks stand for, with these commits
 abbrev pub steps_of : List Mark → List Commit → List Step
@@ -53,13 +58,28 @@ made_mark commit = marks.Made
 abbrev pub begun_mark : Commit → Mark
 begun_mark commit = marks.Begun
 
-abbrev pub reply_mark : Replied → Mark
-reply_mark replied = marks.Reply replied.request replied.text
+-- what was replied
+abbrev pub said_of : Replied → Said
+said_of replied = record { request = replied.request; text = replied.text }
 
--- the marks of a line that made these commits, left this one on its way, and was replied to
+abbrev pub said_mark : ℕ → Said → Mark
+said_mark lane said = marks.Reply lane said
+
+abbrev pub reply_mark : Replied → Mark
+reply_mark replied = said_mark replied.lane (said_of replied)
+
+-- the marks of a line of lane 0 that made these commits, left this one on its way, and was replied to
 abbrev pub line_marks : List Commit → List Commit → List Replied → List Mark
 line_marks made in_flight replies = map made_mark made ++ (map begun_mark in_flight ++ map reply_mark replies)
 
--- the marks where so many were made, one is on its way or none, and these are of replies
-abbrev pub marks_for : ℕ → Bool → List Mark → List Mark
-marks_for made in_flight replies = replicate made marks.Made ++ ((if in_flight then marks.Begun ∷ [] else []) ++ replies)
+-- the marks of a line of another lane
+abbrev pub look_marks : ℕ → List Replied → List Mark
+look_marks lane replies = marks.Look lane ∷ map reply_mark replies
+
+-- the marks of replies in a lane
+abbrev pub said_marks : ℕ → List Said → List Mark
+said_marks lane said = map (said_mark lane) said
+
+-- the marks where so many were made, one is on its way or none, and this lane said so
+abbrev pub marks_for : ℕ → Bool → ℕ → List Said → List Mark
+marks_for made in_flight lane said = replicate made marks.Made ++ ((if in_flight then marks.Begun ∷ [] else []) ++ said_marks lane said)

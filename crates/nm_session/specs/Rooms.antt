@@ -8,18 +8,18 @@ use Rattle.nm_session.specs.declared.rooms.Rooms.{Rooms}
 abbrev pub AreSpares : List (List ℕ) → Type 0
 AreSpares spares = AllByRecursion (λ (text : List ℕ). text ≡ codes "notmuch: no memory\n") spares
 
--- Places are spare for so many lines, where so many commits were begun: a log for each line, a mark for its reply and for each commit
--- that may still be begun, and a text.
-pub record HasSpare (lines begun : ℕ) (rooms : Rooms) : Type 0 where
-  pub logs : lines ≤ rooms.logs.1
-  pub marks : lines + max_commits ≤ rooms.marks.1 + begun
-  pub spares : lines ≤ length rooms.spares
+-- Places are spare for so many turns, where so many commits were begun: for each turn a log, two marks and a text, and a mark for each
+-- commit that may still be begun.
+pub record HasSpare (turns begun : ℕ) (rooms : Rooms) : Type 0 where
+  pub logs : turns ≤ rooms.logs.1
+  pub marks : 2 * turns + max_commits ≤ rooms.marks.1 + begun
+  pub spares : turns ≤ length rooms.spares
   pub texts : AreSpares rooms.spares
 
--- Room for so many lines, and nothing in it yet.
-pub record HasRooms (lines : ℕ) (rooms : Rooms) : Type 0 where
+-- Room for so many turns, and nothing in it yet.
+pub record HasRooms (turns : ℕ) (rooms : Rooms) : Type 0 where
   pub logs : rooms.logs.0 ≡ []
   pub marks : rooms.marks.0 ≡ []
   pub steps : rooms.steps.0 ≡ []
-  pub spare : HasSpare lines 0 rooms
-  pub steps_spare : lines + 3 * max_commits ≤ rooms.steps.1
+  pub spare : HasSpare turns 0 rooms
+  pub steps_spare : 2 * turns + 3 * max_commits ≤ rooms.steps.1

@@ -8,8 +8,8 @@ use Rattle.nm_history.specs.Call.{Devices, Ran}
 use Rattle.nm_history.specs.CrashPrefix.{CrashPrefix}
 use Rattle.nm_history.specs.OpeningIndex.{OpeningIndex}
 use Rattle.nm_index.specs.declared.base.Base.{Base}
+use Rattle.nm_lanes.specs.declared.script.Phase.{Phase}
 use Rattle.nm_log.specs.declared.log.SessionLog.{SessionLog}
-use Rattle.nm_log.specs.declared.script.ScriptLine.{ScriptLine}
 use Rattle.nm_maildir.specs.Observed.{ObservedMail}
 use Rattle.nm_session.specs.Run.{HasRun}
 use Rattle.nm_writer.specs.StoredIndex.{HoldsNoIndex, PassesLimit}
@@ -17,10 +17,10 @@ use Rattle.nm_writer.specs.declared.open_error.OpenError.{OpenError}
 use Rattle.nm_writer.specs.declared.open_error.OpenError.TheVariants as errors
 
 -- The lines were run from the index that the disk held, and every moment since leaves the commits that were acknowledged.
-pub record IsSession (moment : ℤ) (entry : Devices) (lines : List ScriptLine) (mail : ObservedMail) (disk : ObservedDisk) (log : SessionLog) : Type 0 where
+pub record IsSession (moment : ℤ) (entry : Devices) (phases : List Phase) (mail : ObservedMail) (disk : ObservedDisk) (log : SessionLog) : Type 0 where
   pub opening : Base
   pub opening_index : OpeningIndex Ran entry.disk opening
-  pub run : HasRun moment opening entry lines mail disk.faults log
+  pub run : HasRun moment opening entry phases mail disk.faults log
   pub crash_prefix : CrashPrefix entry.disk disk log.steps log.acked
 
 -- why no index is opened

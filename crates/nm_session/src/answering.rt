@@ -6,8 +6,8 @@ ghost use Rattle.nm_disk.specs.Observed.{ObservedDisk};
 ghost use Rattle.nm_history.specs.Requests.{query_outcome};
 ghost use Rattle.nm_index.specs.declared.base.Base.{Base};
 ghost use Rattle.nm_log.specs.declared.line_parser.ParsedLine.TheVariants as asked;
+ghost use Rattle.nm_lanes.specs.declared.script.ScriptLine.{ScriptLine};
 ghost use Rattle.nm_log.specs.ParsedLine.{parse_line};
-ghost use Rattle.nm_log.specs.declared.script.ScriptLine.{ScriptLine};
 ghost use Rattle.nm_scan.specs.Bodies.{left_after};
 ghost use Rattle.nm_session.specs.Line.{Ends, IsEven, IsReadOff, place_at, refused_with, replied_with};
 ghost use Rattle.nm_session.specs.Showing.{show_outcome};
@@ -15,14 +15,15 @@ ghost use Rattle.nm_writer.specs.Durable.{IsDurable};
 ghost use Rattle.nm_writer.specs.Writer.{StandsOnIndex, WriterState};
 
 use crate::changing::{run_new, run_restore, run_tag};
-use crate::marks::Mark;
+use crate::marks::Said;
 use crate::showing::{ShowFault, show_messages};
 use nm_answer::Request;
 use nm_base::{Copies, CountAsk, DumpAsk, Limit, Many, NoMemory, SearchAsk, ShowAsk};
 use nm_batch::read_queries;
 use nm_disk::Disk;
 use nm_dump::dump_reply;
-use nm_log::{Outcome, ParsedLine, ScriptLine, Setting, parse_line, refusal_line};
+use nm_lanes::ScriptLine;
+use nm_log::{Outcome, ParsedLine, Setting, parse_line, refusal_line};
 use nm_maildir::{Given, Maildir};
 use nm_query::{QueryError, parse};
 use nm_render::{count_reply, counts_reply, search_reply};
@@ -38,11 +39,11 @@ use std::thread::Threads;
 pub(crate) struct LineAnswer {
     pub(crate) outcome: Outcome,
     pub(crate) text: Many<u8>,
-    /// The mark of its reply, where it went well.
-    pub(crate) reply: Option<Mark>,
+    /// What was replied, where it went well.
+    pub(crate) reply: Option<Said>,
 }
 
-/// Reads what the line asks for, and does it. `left` is how many bytes may still be shown.
+/// Reads what the line of lane 0 asks for, and does it. `left` is how many bytes may still be shown.
 pub(crate) fn answer<R: Threads + Wait + Sync, M: Maildir, D: Disk>(
     rt: &R,
     alloc: Global,
@@ -100,8 +101,8 @@ pub(crate) fn answer<R: Threads + Wait + Sync, M: Maildir, D: Disk>(
     }
 }
 
-/// Counts over the index that is shown, where the query has a tree, or each query of the input.
-fn run_count(
+/// Counts over the index, where the query has a tree, or each query of the input.
+pub(crate) fn run_count(
     alloc: Global,
     setting: &Setting,
     snapshot: &Snapshot,
@@ -145,8 +146,8 @@ fn count_each(
     }
 }
 
-/// Searches the index that is shown, where the query has a tree.
-fn run_search(
+/// Searches the index, where the query has a tree.
+pub(crate) fn run_search(
     alloc: Global,
     setting: &Setting,
     snapshot: &Snapshot,
@@ -164,8 +165,8 @@ fn run_search(
     }
 }
 
-/// Dumps the tags of the index that is shown, where the query has a tree.
-fn run_dump(
+/// Dumps the tags of the index, where the query has a tree.
+pub(crate) fn run_dump(
     alloc: Global,
     setting: &Setting,
     snapshot: &Snapshot,
@@ -251,7 +252,7 @@ pub(crate) fn replied(request: Request, text: Many<u8>) -> Result<LineAnswer, No
     Ok(LineAnswer {
         outcome: Outcome::Ok,
         text,
-        reply: Some(Mark::Reply {
+        reply: Some(Said {
             request,
             text: copied,
         }),

@@ -1,15 +1,17 @@
-//! Commands and replies: a session: opens the index that a disk holds, runs the lines of a script over it and a mail folder, and
-//! tells what each did.
+//! Commands and replies: a session: opens the index that a disk holds, runs the phases of a script over it and a mail folder, and
+//! tells what each line did.
 #![tactic(auto)]
 
 mod answering;
 mod changing;
 mod line;
+mod looking;
 mod machine_steps;
 mod marks;
 mod rooms;
 mod running;
 mod session;
 mod showing;
+mod turns;
 
 pub use session::run_session;

@@ -1,4 +1,4 @@
-//! One line of a script: it is run, and its log is put into the rooms. `running` calls it for each.
+//! One line of lane 0: it is run, and its log is put into the rooms. `running` calls it for each.
 
 ghost use Rattle.std.specs.Prelude.{◌≡◌, ◌&&◌, ◌-◌, ◌≤◌, ◌∷◌, [], None, IfSome, MatchResult, codes, length, not};
 ghost use Rattle.nm_base.specs.Limits.{max_commits};
@@ -12,11 +12,12 @@ ghost use Rattle.nm_writer.specs.Durable.{IsDurable};
 ghost use Rattle.nm_writer.specs.Writer.{StandsOnIndex};
 
 use crate::answering::{LineAnswer, answer};
-use crate::marks::Mark;
+use crate::marks::Said;
 use crate::rooms::{Rooms, note, take_spare};
 use nm_base::{Many, NoMemory};
 use nm_disk::Disk;
-use nm_log::{LineLog, Outcome, ScriptLine, Setting, line_status};
+use nm_lanes::ScriptLine;
+use nm_log::{LineLog, Outcome, Setting, line_status};
 use nm_maildir::Maildir;
 use nm_scan::left_after;
 use nm_writer::Writer;
@@ -29,6 +30,7 @@ pub(crate) fn run_line<R: Threads + Wait + Sync, M: Maildir, D: Disk>(
     rt: &R,
     alloc: Global,
     setting: &Setting,
+    phase: u32,
     line: &ScriptLine,
     rooms: &mut Rooms,
     writer: &mut Writer,
@@ -40,14 +42,16 @@ pub(crate) fn run_line<R: Threads + Wait + Sync, M: Maildir, D: Disk>(
     requires spare { HasSpare 1 (length writer.old.begun) rooms.old }
     requires even { IsEven writer.old }
     requires stands { writer.old.closed ≡ None → IfSome (D.observed disk.old).told (λ moments. StandsOnIndex moments.present writer.old) }
-    ensures noted { IsNoted setting.now.moment (place_at writer.old (M.observed mail.old) (D.observed disk.old) left) line.now rooms.old rooms.new (place_at writer.new (M.observed mail.new) (D.observed disk.new) result) }
+    ensures noted { IsNoted setting.now.moment phase (place_at writer.old (M.observed mail.old) (D.observed disk.old) left) line.now rooms.old rooms.new (place_at writer.new (M.observed mail.new) (D.observed disk.new) result) }
     ensures stands { writer.new.closed ≡ None → IfSome (D.observed disk.new).told (λ moments. StandsOnIndex moments.present writer.new) }
     ensures durable { (entry : ObservedDisk) (opening : Base) → IsDurable entry opening (D.observed disk.old) writer.old
         → IsDurable entry opening (D.observed disk.new) writer.new }
 {
     let spare = take_spare(&mut rooms.spares);
     let before = writer.acked().len();
-    let (log, reply) = line_log(rt, alloc, setting, line, writer, mail, disk, left, spare);
+    let (log, reply) = line_log(
+        rt, alloc, setting, phase, line, writer, mail, disk, left, spare,
+    );
     let made = made_since(before, writer);
     let left = left_after(left, log.given.as_slice());
     note(rooms, log, made, reply);
@@ -67,18 +71,19 @@ fn line_log<R: Threads + Wait + Sync, M: Maildir, D: Disk>(
     rt: &R,
     alloc: Global,
     setting: &Setting,
+    phase: u32,
     line: &ScriptLine,
     writer: &mut Writer,
     mail: &mut M,
     disk: &mut D,
     left: u64,
     spare: Many<u8>,
-) -> (LineLog, Option<Mark>)
+) -> (LineLog, Option<Said>)
     requires moment { IsMoment setting.now.moment }
     requires spare { spare ≡ codes "notmuch: no memory\n" }
     requires even { IsEven writer.old }
     requires stands { writer.old.closed ≡ None → IfSome (D.observed disk.old).told (λ moments. StandsOnIndex moments.present writer.old) }
-    ensures run { IsRun setting.now.moment (place_at writer.old (M.observed mail.old) (D.observed disk.old) left) (line.now, result.0) result.1 (place_at writer.new (M.observed mail.new) (D.observed disk.new) (left_after left result.0.given)) }
+    ensures run { IsRun setting.now.moment phase (place_at writer.old (M.observed mail.old) (D.observed disk.old) left) (line.now, result.0) result.1 (place_at writer.new (M.observed mail.new) (D.observed disk.new) (left_after left result.0.given)) }
     ensures stands { writer.new.closed ≡ None → IfSome (D.observed disk.new).told (λ moments. StandsOnIndex moments.present writer.new) }
     ensures durable { (entry : ObservedDisk) (opening : Base) → IsDurable entry opening (D.observed disk.old) writer.old
         → IsDurable entry opening (D.observed disk.new) writer.new }
@@ -94,8 +99,8 @@ fn line_log<R: Threads + Wait + Sync, M: Maildir, D: Disk>(
         reply,
     } = answered_or(answered, spare);
     let log = LineLog {
-        phase: 0,
-        lane: 0,
+        phase,
+        lane: line.lane,
         line: line.number,
         revision: writer.snapshot().revision(),
         status: line_status(&outcome),
@@ -117,7 +122,7 @@ fn newly_closed(before: bool, now: bool) -> bool
 }
 
 /// The answer, or that of a line that finds no memory.
-fn answered_or(answered: Result<LineAnswer, NoMemory>, spare: Many<u8>) -> LineAnswer
+pub(crate) fn answered_or(answered: Result<LineAnswer, NoMemory>, spare: Many<u8>) -> LineAnswer
     ensures { MatchResult answered (λ done. result ≡ done) (λ _. result ≡ record { outcome = Outcome.NoMemory; text = spare; reply = None }) }
 {
     match answered {

@@ -4,7 +4,7 @@ ghost use Rattle.std.specs.Prelude.{◌≡◌, ◌+◌, ◌≤◌, ◌++◌, len
 ghost use Rattle.std.specs.Vec.Iter.{into_iter_items, into_iter_len};
 ghost use Rattle.nm_session.specs.Marks.{after_first_commit, begin_of_first, left_by, steps_by, steps_of, steps_of_first};
 
-use crate::marks::Mark;
+use crate::marks::{Mark, Said};
 use nm_base::{Many, Room};
 use nm_commit::Commit;
 use nm_machine::Step;
@@ -35,11 +35,19 @@ fn push_mark(mark: Mark, commits: &mut IntoIter<Commit, Global>, steps: &mut Roo
     match mark {
         Mark::Made => push_made(commits, steps),
         Mark::Begun => push_begun(commits, steps),
-        Mark::Reply { request, text } => steps.push_spare(Step::Reply {
-            lane: 0,
-            request,
-            text,
-        }),
+        Mark::Look { lane } => steps.push_spare(Step::See { lane }),
+        Mark::Reply { lane, said } => steps.push_spare(reply_step(lane, said)),
+        Mark::Met => steps.push_spare(Step::Meet),
+    }
+}
+
+fn reply_step(lane: u32, said: Said) -> Step
+    ensures { result ≡ Step.Reply lane said.request said.text }
+{
+    Step::Reply {
+        lane,
+        request: said.request,
+        text: said.text,
     }
 }
 

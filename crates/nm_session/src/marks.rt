@@ -11,6 +11,17 @@ pub(crate) enum Mark {
     Made,
     /// A commit was begun, and the disk failed.
     Begun,
-    /// Lane 0 replied.
-    Reply { request: Request, text: Many<u8> },
+    /// A lane other than 0 saw what was shown.
+    Look { lane: u32 },
+    /// A lane replied.
+    Reply { lane: u32, said: Said },
+    /// A phase ended.
+    Met,
+}
+
+/// What was replied, and to what.
+#[derive(Drop)]
+pub(crate) struct Said {
+    pub(crate) request: Request,
+    pub(crate) text: Many<u8>,
 }

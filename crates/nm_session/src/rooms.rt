@@ -1,12 +1,12 @@
 //! Room for the log of a session, made before the index is opened, for `session` and each `line`: behind a commit
 //! that was acknowledged no step of the log may run out of memory.
 
-ghost use Rattle.std.specs.Prelude.{◌≡◌, ◌+◌, ◌<◌, ◌≤◌, ◌++◌, ◌∷◌, [], codes, length, replicate, IfOk, if◌then◌else◌};
+ghost use Rattle.std.specs.Prelude.{◌≡◌, ◌+◌, ◌*◌, ◌<◌, ◌≤◌, ◌++◌, ◌∷◌, [], codes, length, replicate, IfOk, if◌then◌else◌};
 ghost use Rattle.std.specs.Option.{option_to_list};
-ghost use Rattle.nm_session.specs.Marks.{marks_for};
+ghost use Rattle.nm_session.specs.Marks.{marks_for, said_marks};
 ghost use Rattle.nm_session.specs.Rooms.{AreSpares, HasRooms};
 
-use crate::marks::Mark;
+use crate::marks::{Mark, Said};
 use nm_base::{Many, NoMemory, Room};
 use nm_log::LineLog;
 use nm_machine::Step;
@@ -28,17 +28,17 @@ const MAX_COMMITS: usize = 65_536;
 /// The most steps of its commits: each is begun, is there, and is shown.
 const MAX_COMMIT_STEPS: usize = 196_608;
 
-/// Room for the log of so many lines: each has one reply at most, and all of them share the commits of a session.
-pub(crate) fn rooms_for(alloc: Global, lines: usize) -> Result<Rooms, NoMemory>
-    ensures { IfOk result (λ rooms. HasRooms lines rooms) }
+/// Room for the log of so many turns of a session: each has one look and one reply at most, and all of them share the commits of a session.
+pub(crate) fn rooms_for(alloc: Global, turns: usize) -> Result<Rooms, NoMemory>
+    ensures { IfOk result (λ rooms. HasRooms turns rooms) }
 {
     let mut logs = Room::new(alloc);
-    logs.reserve(lines)?;
+    logs.reserve(turns)?;
     let mut marks = Room::new(alloc);
-    marks.reserve(plus(lines, MAX_COMMITS)?)?;
+    marks.reserve(twice_plus(turns, MAX_COMMITS)?)?;
     let mut steps = Room::new(alloc);
-    steps.reserve(plus(lines, MAX_COMMIT_STEPS)?)?;
-    let spares = spares_for(alloc, lines)?;
+    steps.reserve(twice_plus(turns, MAX_COMMIT_STEPS)?)?;
+    let spares = spares_for(alloc, turns)?;
     Ok(Rooms {
         logs,
         marks,
@@ -47,12 +47,21 @@ pub(crate) fn rooms_for(alloc: Global, lines: usize) -> Result<Rooms, NoMemory>
     })
 }
 
-/// Both together; what no number holds finds no memory either.
-fn plus(lines: usize, more: usize) -> Result<usize, NoMemory>
-    ensures { IfOk result (λ places. places ≡ lines + more) }
+/// Two for each, and these; what no number holds finds no memory either.
+fn twice_plus(turns: usize, more: usize) -> Result<usize, NoMemory>
+    ensures { IfOk result (λ places. places ≡ 2 * turns + more) }
 {
-    match lines.checked_add(more) {
-        Some(places) => Ok(places),
+    match turns.checked_mul(2) {
+        Some(twice) => plus(twice, more),
+        None => Err(NoMemory),
+    }
+}
+
+fn plus(places: usize, more: usize) -> Result<usize, NoMemory>
+    ensures { IfOk result (λ sum. sum ≡ places + more) }
+{
+    match places.checked_add(more) {
+        Some(sum) => Ok(sum),
         None => Err(NoMemory),
     }
 }
@@ -83,28 +92,57 @@ pub(crate) fn take_spare(spares: &mut Many<Many<u8>>) -> Many<u8>
     }
 }
 
-/// Notes a line: its log, and its marks, where it made so many commits.
-pub(crate) fn note(rooms: &mut Rooms, log: LineLog, made: usize, reply: Option<Mark>)
+/// Notes a line of lane 0: its log, and its marks, where it made so many commits.
+pub(crate) fn note(rooms: &mut Rooms, log: LineLog, made: usize, reply: Option<Said>)
     requires logs { 0 < rooms.old.logs.1 }
-    requires marks { length (marks_for made log.disk_failed (option_to_list reply)) ≤ rooms.old.marks.1 }
+    requires marks { length (marks_for made log.disk_failed log.lane (option_to_list reply)) ≤ rooms.old.marks.1 }
     ensures logs { rooms.new.logs.0 ≡ rooms.old.logs.0 ++ log ∷ [] }
     ensures logs_spare { rooms.new.logs.1 + 1 ≡ rooms.old.logs.1 }
-    ensures marks { rooms.new.marks.0 ≡ rooms.old.marks.0 ++ marks_for made log.disk_failed (option_to_list reply) }
-    ensures marks_spare { rooms.new.marks.1 + length (marks_for made log.disk_failed (option_to_list reply)) ≡ rooms.old.marks.1 }
+    ensures marks { rooms.new.marks.0 ≡ rooms.old.marks.0 ++ marks_for made log.disk_failed log.lane (option_to_list reply) }
+    ensures marks_spare { rooms.new.marks.1 + length (marks_for made log.disk_failed log.lane (option_to_list reply)) ≡ rooms.old.marks.1 }
     ensures steps { rooms.new.steps ≡ rooms.old.steps }
     ensures spares { rooms.new.spares ≡ rooms.old.spares }
 {
-    push_marks(&mut rooms.marks, made, log.disk_failed, reply);
+    push_marks(&mut rooms.marks, made, log.disk_failed, log.lane, reply);
     rooms.logs.push_spare(log);
 }
 
-fn push_marks(marks: &mut Room<Mark>, made: usize, in_flight: bool, reply: Option<Mark>)
-    requires { length (marks_for made in_flight (option_to_list reply)) ≤ marks.old.1 }
-    ensures list { marks.new.0 ≡ marks.old.0 ++ marks_for made in_flight (option_to_list reply) }
-    ensures spare { marks.new.1 + length (marks_for made in_flight (option_to_list reply)) ≡ marks.old.1 }
+/// Notes a line of another lane: its log, a look and its reply.
+pub(crate) fn note_look(rooms: &mut Rooms, log: LineLog, reply: Option<Said>)
+    requires logs { 0 < rooms.old.logs.1 }
+    requires marks { length (Mark.Look log.lane ∷ said_marks log.lane (option_to_list reply)) ≤ rooms.old.marks.1 }
+    ensures logs { rooms.new.logs.0 ≡ rooms.old.logs.0 ++ log ∷ [] }
+    ensures logs_spare { rooms.new.logs.1 + 1 ≡ rooms.old.logs.1 }
+    ensures marks { rooms.new.marks.0 ≡ rooms.old.marks.0 ++ Mark.Look log.lane ∷ said_marks log.lane (option_to_list reply) }
+    ensures marks_spare { rooms.new.marks.1 + length (Mark.Look log.lane ∷ said_marks log.lane (option_to_list reply)) ≡ rooms.old.marks.1 }
+    ensures steps { rooms.new.steps ≡ rooms.old.steps }
+    ensures spares { rooms.new.spares ≡ rooms.old.spares }
+{
+    let lane = log.lane;
+    rooms.marks.push_spare(Mark::Look { lane });
+    push_said(&mut rooms.marks, lane, reply);
+    rooms.logs.push_spare(log);
+}
+
+/// Notes that a phase ended.
+pub(crate) fn note_meeting(rooms: &mut Rooms)
+    requires { 0 < rooms.old.marks.1 }
+    ensures marks { rooms.new.marks.0 ≡ rooms.old.marks.0 ++ Mark.Met ∷ [] }
+    ensures marks_spare { rooms.new.marks.1 + 1 ≡ rooms.old.marks.1 }
+    ensures logs { rooms.new.logs ≡ rooms.old.logs }
+    ensures steps { rooms.new.steps ≡ rooms.old.steps }
+    ensures spares { rooms.new.spares ≡ rooms.old.spares }
+{
+    rooms.marks.push_spare(Mark::Met);
+}
+
+fn push_marks(marks: &mut Room<Mark>, made: usize, in_flight: bool, lane: u32, reply: Option<Said>)
+    requires { length (marks_for made in_flight lane (option_to_list reply)) ≤ marks.old.1 }
+    ensures list { marks.new.0 ≡ marks.old.0 ++ marks_for made in_flight lane (option_to_list reply) }
+    ensures spare { marks.new.1 + length (marks_for made in_flight lane (option_to_list reply)) ≡ marks.old.1 }
 {
     push_made(marks, made);
-    push_last(marks, in_flight, reply);
+    push_last(marks, in_flight, lane, reply);
 }
 
 fn push_made(marks: &mut Room<Mark>, made: usize)
@@ -117,15 +155,23 @@ fn push_made(marks: &mut Room<Mark>, made: usize)
     }
 }
 
-fn push_last(marks: &mut Room<Mark>, in_flight: bool, reply: Option<Mark>)
-    requires { length ((if in_flight then Mark.Begun ∷ [] else []) ++ option_to_list reply) ≤ marks.old.1 }
-    ensures list { marks.new.0 ≡ marks.old.0 ++ ((if in_flight then Mark.Begun ∷ [] else []) ++ option_to_list reply) }
-    ensures spare { marks.new.1 + length ((if in_flight then Mark.Begun ∷ [] else []) ++ option_to_list reply) ≡ marks.old.1 }
+fn push_last(marks: &mut Room<Mark>, in_flight: bool, lane: u32, reply: Option<Said>)
+    requires { length ((if in_flight then Mark.Begun ∷ [] else []) ++ said_marks lane (option_to_list reply)) ≤ marks.old.1 }
+    ensures list { marks.new.0 ≡ marks.old.0 ++ ((if in_flight then Mark.Begun ∷ [] else []) ++ said_marks lane (option_to_list reply)) }
+    ensures spare { marks.new.1 + length ((if in_flight then Mark.Begun ∷ [] else []) ++ said_marks lane (option_to_list reply)) ≡ marks.old.1 }
 {
     if in_flight {
         marks.push_spare(Mark::Begun);
     }
-    if let Some(mark) = reply {
-        marks.push_spare(mark);
+    push_said(marks, lane, reply);
+}
+
+fn push_said(marks: &mut Room<Mark>, lane: u32, reply: Option<Said>)
+    requires { length (said_marks lane (option_to_list reply)) ≤ marks.old.1 }
+    ensures list { marks.new.0 ≡ marks.old.0 ++ said_marks lane (option_to_list reply) }
+    ensures spare { marks.new.1 + length (said_marks lane (option_to_list reply)) ≡ marks.old.1 }
+{
+    if let Some(said) = reply {
+        marks.push_spare(Mark::Reply { lane, said });
     }
 }

@@ -1,29 +1,37 @@
-//! The lines of a script, one after the other, over the index that `session` has opened.
+//! The turns of a session, one after the other, over the index that `session` has opened.
 
-ghost use Rattle.std.specs.Prelude.{◌≡◌, ◌≤◌, [], None, IfSome, length};
+ghost use Rattle.std.specs.Prelude.{◌≡◌, ◌≤◌, ℕ, List, [], None, IfSome, length, map};
+ghost use Rattle.nm_base.specs.Limits.{max_commits};
 ghost use Rattle.nm_dates.specs.Seconds.{IsMoment};
 ghost use Rattle.nm_disk.specs.Observed.{ObservedDisk};
 ghost use Rattle.nm_history.specs.Call.{Devices};
 ghost use Rattle.nm_index.specs.declared.base.Base.{Base};
-ghost use Rattle.nm_session.specs.Line.{place_at};
-ghost use Rattle.nm_session.specs.Loop.{HasNoted, HasRunSome};
+ghost use Rattle.nm_lanes.specs.declared.script.Phase.{Phase};
+ghost use Rattle.nm_session.specs.Line.{IsEven, place_at};
+ghost use Rattle.nm_session.specs.Loop.{HasNoted, HasRunSome, IsTurn};
 ghost use Rattle.nm_session.specs.Marks.{steps_of};
-ghost use Rattle.nm_session.specs.Rooms.{HasRooms};
+ghost use Rattle.nm_session.specs.Rooms.{HasRooms, HasSpare};
 ghost use Rattle.nm_session.specs.Run.{HasRun, IsKept};
+ghost use Rattle.nm_session.specs.Turns.{AreInPlace, planned_from, planned_of};
 ghost use Rattle.nm_writer.specs.Durable.{IsDurable};
 ghost use Rattle.nm_writer.specs.Writer.{StandsOnIndex};
 
 use crate::line::run_line;
+use crate::looking::run_look;
 use crate::machine_steps::push_steps;
-use crate::rooms::Rooms;
+use crate::rooms::{Rooms, note_meeting};
+use crate::turns::Turn;
 use nm_disk::Disk;
 use nm_history::{
     a_line_more_keeps_the_answers, a_line_more_keeps_the_clocks, a_line_more_keeps_the_commits,
     a_line_more_keeps_the_given, a_line_more_keeps_the_machine_run,
-    a_line_more_keeps_where_it_stands, no_line_is_answered, no_line_makes_no_commit,
+    a_line_more_keeps_where_it_stands, a_look_commits_nothing, a_look_more_keeps_the_answers,
+    a_look_more_keeps_the_machine_run, a_meeting_keeps_the_machine_run,
+    later_steps_keep_the_answers, no_line_is_answered, no_line_makes_no_commit,
     no_line_stands_at_the_opening, no_step_is_a_run_of_the_machine, nothing_is_given_to_no_line,
+    what_commits_nothing_keeps_the_commits,
 };
-use nm_log::{ScriptLine, SessionLog, Setting};
+use nm_log::{SessionLog, Setting};
 use nm_maildir::Maildir;
 use nm_writer::Writer;
 use std::alloc::Global;
@@ -33,36 +41,38 @@ use std::thread::Threads;
 /// The most bytes that all lines may show.
 const MAX_SHOWN: u64 = 67_108_864;
 
-/// Runs the lines in their order over the index that was opened, and tells what each did.
-pub(crate) fn run_lines<R: Threads + Wait + Sync, M: Maildir, D: Disk>(
+/// Takes the turns of these phases in their order over the index that was opened, and tells what each line did.
+pub(crate) fn run_turns<R: Threads + Wait + Sync, M: Maildir, D: Disk>(
     rt: &R,
     alloc: Global,
     setting: &Setting,
-    lines: &[ScriptLine],
+    turns: &[Turn<'_>],
     rooms: Rooms,
     writer: Writer,
     mail: &mut M,
     disk: &mut D,
 ) -> SessionLog
     requires moment { IsMoment setting.now.moment }
-    requires rooms { HasRooms (length lines.now) rooms }
+    requires rooms { HasRooms (length turns.now) rooms }
+    requires in_place { AreInPlace 0 (map planned_of turns.now) }
     requires fresh { (writer.begun ≡ []) × (writer.acked ≡ []) × (writer.closed ≡ None) }
     requires stands { IfSome (D.observed disk.old).told (λ moments. StandsOnIndex moments.present writer) }
 
     // Each line was run, and the log says what the statement of a session says.
-    ensures ran { (entry : Devices) → entry.mail ≡ M.observed mail.old → entry.disk.faults ≡ (D.observed disk.old).faults
-        → HasRun setting.now.moment writer.shown entry lines.now (M.observed mail.new) (D.observed disk.new).faults result }
+    ensures ran { (entry : Devices) (phases : List Phase) → entry.mail ≡ M.observed mail.old → entry.disk.faults ≡ (D.observed disk.old).faults
+        → map planned_of turns.now ≡ planned_from 0 phases
+        → HasRun setting.now.moment writer.shown entry phases (M.observed mail.new) (D.observed disk.new).faults result }
 
     // No commit that was acknowledged is lost.
     ensures durable { (entry : ObservedDisk) → IsDurable entry writer.shown (D.observed disk.old) writer → IsKept entry writer.shown (D.observed disk.new) result }
 {
     let mut rooms = rooms;
     let mut writer = writer;
-    let _ = run_each(
+    let _ = take_turns(
         rt,
         alloc,
         setting,
-        lines,
+        turns,
         &mut rooms,
         &mut writer,
         mail,
@@ -71,25 +81,26 @@ pub(crate) fn run_lines<R: Threads + Wait + Sync, M: Maildir, D: Disk>(
     finish(rt, rooms, writer)
 }
 
-/// Runs the lines, and notes each in the rooms. It says how many bytes may still be shown.
-fn run_each<R: Threads + Wait + Sync, M: Maildir, D: Disk>(
+/// Takes the turns, and notes each in the rooms. It says how many bytes may still be shown.
+fn take_turns<R: Threads + Wait + Sync, M: Maildir, D: Disk>(
     rt: &R,
     alloc: Global,
     setting: &Setting,
-    lines: &[ScriptLine],
+    turns: &[Turn<'_>],
     rooms: &mut Rooms,
     writer: &mut Writer,
     mail: &mut M,
     disk: &mut D,
 ) -> u64
     requires moment { IsMoment setting.now.moment }
-    requires rooms { HasRooms (length lines.now) rooms.old }
+    requires rooms { HasRooms (length turns.now) rooms.old }
+    requires in_place { AreInPlace 0 (map planned_of turns.now) }
     requires fresh { (writer.old.begun ≡ []) × (writer.old.acked ≡ []) × (writer.old.closed ≡ None) }
     requires stands { IfSome (D.observed disk.old).told (λ moments. StandsOnIndex moments.present writer.old) }
-    ensures noted { HasNoted lines.now rooms.new (place_at writer.new (M.observed mail.new) (D.observed disk.new) result) }
+    ensures noted { HasNoted (map planned_of turns.now) rooms.new (place_at writer.new (M.observed mail.new) (D.observed disk.new) result) }
     ensures steps { rooms.new.steps ≡ rooms.old.steps }
     ensures ran { (entry : Devices) → entry.mail ≡ M.observed mail.old → entry.disk.faults ≡ (D.observed disk.old).faults
-        → HasRunSome setting.now.moment writer.old.shown entry lines.now rooms.new (place_at writer.new (M.observed mail.new) (D.observed disk.new) result) }
+        → HasRunSome setting.now.moment writer.old.shown entry (map planned_of turns.now) rooms.new (place_at writer.new (M.observed mail.new) (D.observed disk.new) result) }
     ensures durable { (entry : ObservedDisk) (opening : Base) → IsDurable entry opening (D.observed disk.old) writer.old
         → IsDurable entry opening (D.observed disk.new) writer.new }
 {
@@ -104,11 +115,57 @@ fn run_each<R: Threads + Wait + Sync, M: Maildir, D: Disk>(
     a_line_more_keeps_the_answers();
     a_line_more_keeps_the_given();
     a_line_more_keeps_the_clocks();
+    a_look_more_keeps_the_machine_run();
+    a_look_more_keeps_the_answers();
+    a_look_commits_nothing();
+    a_meeting_keeps_the_machine_run();
+    what_commits_nothing_keeps_the_commits();
+    later_steps_keep_the_answers();
     let mut left = MAX_SHOWN;
-    'lines: for line in lines {
-        left = run_line(rt, alloc, setting, line, rooms, writer, mail, disk, left);
+    'turns: for turn in turns {
+        left = take_turn(rt, alloc, setting, turn, rooms, writer, mail, disk, left);
     }
     left
+}
+
+/// Takes one turn, and notes it in places that are spare. `left` is how many bytes may still be shown; it says how many may afterwards.
+fn take_turn<R: Threads + Wait + Sync, M: Maildir, D: Disk>(
+    rt: &R,
+    alloc: Global,
+    setting: &Setting,
+    turn: &Turn<'_>,
+    rooms: &mut Rooms,
+    writer: &mut Writer,
+    mail: &mut M,
+    disk: &mut D,
+    left: u64,
+) -> u64
+    requires moment { IsMoment setting.now.moment }
+    requires spare { HasSpare 1 (length writer.old.begun) rooms.old }
+    requires even { IsEven writer.old }
+    requires begun { length writer.old.begun ≤ max_commits }
+    requires stands { writer.old.closed ≡ None → IfSome (D.observed disk.old).told (λ moments. StandsOnIndex moments.present writer.old) }
+    ensures turn { IsTurn setting.now.moment (planned_of turn.now) (place_at writer.old (M.observed mail.old) (D.observed disk.old) left) rooms.old rooms.new
+        (place_at writer.new (M.observed mail.new) (D.observed disk.new) result) }
+    ensures stands { writer.new.closed ≡ None → IfSome (D.observed disk.new).told (λ moments. StandsOnIndex moments.present writer.new) }
+    ensures durable { (entry : ObservedDisk) (opening : Base) → IsDurable entry opening (D.observed disk.old) writer.old
+        → IsDurable entry opening (D.observed disk.new) writer.new }
+{
+    match turn {
+        Turn::Meet => {
+            note_meeting(rooms);
+            left
+        }
+        Turn::Line { phase, line } => {
+            if line.lane == 0 {
+                return run_line(
+                    rt, alloc, setting, *phase, line, rooms, writer, mail, disk, left,
+                );
+            }
+            run_look(alloc, setting, *phase, line, rooms, writer.snapshot());
+            left
+        }
+    }
 }
 
 /// The log of the lines that were noted; it takes no memory.

@@ -1,61 +1,89 @@
-//! A session, for `nm_top`: the index is opened, and the lines of the script are run over it.
+//! A session, for `nm_top`: the index is opened, and the phases of the script are run over it.
 
-ghost use Rattle.std.specs.Prelude.{IfErr, IfOk, length};
+ghost use Rattle.std.specs.Prelude.{◌≡◌, IfErr, IfOk, length, map};
 ghost use Rattle.nm_dates.specs.Seconds.{IsMoment};
 ghost use Rattle.nm_history.specs.Call.{devices};
 ghost use Rattle.nm_io.specs.Observed.{ObservedStream};
 ghost use Rattle.nm_session.specs.Rooms.{HasRooms};
 ghost use Rattle.nm_session.specs.Session.{IsSession, IsUnopened};
+ghost use Rattle.nm_session.specs.Turns.{planned_from, planned_of};
 
 use crate::rooms::{Rooms, rooms_for};
-use crate::running::run_lines;
+use crate::running::run_turns;
+use crate::turns::{Turn, turns};
 use nm_base::NoMemory;
 use nm_disk::Disk;
 use nm_history::{a_refused_opening_keeps_the_index, a_session_keeps_its_commits};
-use nm_log::{ScriptLine, SessionLog, Setting};
+use nm_lanes::Phase;
+use nm_log::{SessionLog, Setting};
 use nm_maildir::Maildir;
 use nm_writer::{OpenError, Opened, Writer};
 use std::alloc::Global;
 use std::sync::Wait;
 use std::thread::Threads;
 
-/// Opens the index that the disk holds, and runs the lines over it and the mail folder, one after the other. All memory of the log
-/// is taken before the index is opened; a line that runs out of memory says so, and the next one runs. It may wait, but no reader is
-/// there yet to wait for.
+/// Opens the index that the disk holds, and runs the phases over it and the mail folder: of each the lines of lane 0, then those of each
+/// other lane over what is shown. All memory of the log is taken before the index is opened; a line that runs out of memory says so, and the
+/// next one runs. It may wait, but no reader is there yet to wait for.
 pub fn run_session<R: Threads + Wait + Sync, M: Maildir, D: Disk>(
     rt: &R,
     alloc: Global,
     setting: &Setting,
-    lines: &[ScriptLine],
+    phases: &[Phase],
     mail: &mut M,
     disk: &mut D,
 ) -> Result<SessionLog, OpenError>
     requires moment { IsMoment setting.now.moment }
     ensures ran { IfOk result (λ log. (input out err : ObservedStream) → IsSession setting.now.moment (devices (M.observed mail.old) (D.observed disk.old) input out err)
-        lines.now (M.observed mail.new) (D.observed disk.new) log) }
+        phases.now (M.observed mail.new) (D.observed disk.new) log) }
     ensures refused { IfErr result (IsUnopened (M.observed mail.old) (M.observed mail.new) (D.observed disk.old) (D.observed disk.new)) }
 {
     a_refused_opening_keeps_the_index();
-    match rooms_for(alloc, lines.len()) {
-        Ok(rooms) => open_and_run(rt, alloc, setting, lines, rooms, mail, disk),
+    match turns(alloc, phases) {
+        Ok(turns) => make_room_and_run(rt, alloc, setting, phases, turns.as_slice(), mail, disk),
         Err(NoMemory) => Err(OpenError::NoMemory),
     }
 }
 
-/// Opens the index, and runs the lines.
+/// Makes room for the log of the turns, opens the index, and takes them.
+fn make_room_and_run<R: Threads + Wait + Sync, M: Maildir, D: Disk>(
+    rt: &R,
+    alloc: Global,
+    setting: &Setting,
+    phases: &[Phase],
+    turns: &[Turn<'_>],
+    mail: &mut M,
+    disk: &mut D,
+) -> Result<SessionLog, OpenError>
+    requires moment { IsMoment setting.now.moment }
+    requires turns { map planned_of turns.now ≡ planned_from 0 phases.now }
+    ensures ran { IfOk result (λ log. (input out err : ObservedStream) → IsSession setting.now.moment (devices (M.observed mail.old) (D.observed disk.old) input out err)
+        phases.now (M.observed mail.new) (D.observed disk.new) log) }
+    ensures refused { IfErr result (IsUnopened (M.observed mail.old) (M.observed mail.new) (D.observed disk.old) (D.observed disk.new)) }
+{
+    a_refused_opening_keeps_the_index();
+    match rooms_for(alloc, turns.len()) {
+        Ok(rooms) => open_and_run(rt, alloc, setting, phases, turns, rooms, mail, disk),
+        Err(_) => Err(OpenError::NoMemory),
+    }
+}
+
+/// Opens the index, and takes the turns.
 fn open_and_run<R: Threads + Wait + Sync, M: Maildir, D: Disk>(
     rt: &R,
     alloc: Global,
     setting: &Setting,
-    lines: &[ScriptLine],
+    phases: &[Phase],
+    turns: &[Turn<'_>],
     rooms: Rooms,
     mail: &mut M,
     disk: &mut D,
 ) -> Result<SessionLog, OpenError>
     requires moment { IsMoment setting.now.moment }
-    requires rooms { HasRooms (length lines.now) rooms }
+    requires rooms { HasRooms (length turns.now) rooms }
+    requires turns { map planned_of turns.now ≡ planned_from 0 phases.now }
     ensures ran { IfOk result (λ log. (input out err : ObservedStream) → IsSession setting.now.moment (devices (M.observed mail.old) (D.observed disk.old) input out err)
-        lines.now (M.observed mail.new) (D.observed disk.new) log) }
+        phases.now (M.observed mail.new) (D.observed disk.new) log) }
     ensures refused { IfErr result (IsUnopened (M.observed mail.old) (M.observed mail.new) (D.observed disk.old) (D.observed disk.new)) }
 {
     a_session_keeps_its_commits();
@@ -63,7 +91,7 @@ fn open_and_run<R: Threads + Wait + Sync, M: Maildir, D: Disk>(
     match Writer::open(rt, alloc, disk, 0) {
         Ok(opened) => {
             let Opened { writer, readers: _ } = opened;
-            let log = run_lines(rt, alloc, setting, lines, rooms, writer, mail, disk);
+            let log = run_turns(rt, alloc, setting, turns, rooms, writer, mail, disk);
             Ok(log)
         }
         Err(error) => Err(error),

@@ -1,20 +1,19 @@
 -- The whole statement of a session, from its parts.
 -- For the proofs of `answer_command`, `answer_session`, `read_and_run` and others.
 use Rattle.std.proofs.Common.{◌≡◌, ◌⊎◌, ◌<◌, ◌≤◌, inl, inr, ℕ, Bool, true, false, List, [], ◌∷◌, Option, None, Some, IfSome, length, Ok, Err, refl, sym, ap, ◌∙◌, arith, subst}
-use Rattle.std.specs.List.{zip}
 use Rattle.nm_command.specs.Requests.{request_of}
 use Rattle.nm_command.specs.declared.command_error.CommandError.{CommandError}
 use Rattle.nm_command.specs.declared.command_error.CommandError.TheVariants as command_errors
 use Rattle.nm_command.specs.declared.request.Request as asks
 use Rattle.nm_disk.specs.Images.{IsImage}
 use Rattle.nm_disk.specs.Observed.{Moments, ObservedDisk}
-use Rattle.nm_history.specs.Call.{Devices, Ran, Refused, call_fault, call_lines, call_of, call_reads, devices, fault_by, fault_of_session, input_fault, input_fault_by, is_session, lines_by, reads_by}
+use Rattle.nm_history.specs.Call.{Devices, PlacedLine, Ran, Refused, call_fault, call_lines, call_of, call_phases, call_reads, devices, fault_by, fault_of_session, input_fault, input_fault_by, is_session, phases_by, reads_by}
 use Rattle.nm_history.specs.CrashPrefix.{CrashPrefix, KeepsCommits}
 use Rattle.nm_history.specs.Given.{GivenAlong}
 use Rattle.nm_history.specs.History.{History}
-use Rattle.nm_history.specs.LineAnswers.{LineAnswers}
+use Rattle.nm_history.specs.LineAnswers.{LaneAnswers, LineAnswers}
 use Rattle.nm_history.specs.LineCommits.{LineCommits}
-use Rattle.nm_history.specs.Lines.{RunLine, at_first}
+use Rattle.nm_history.specs.Lines.{RunLine, at_first, lane_zero_lines, other_lane_lines, run_lines}
 use Rattle.nm_history.specs.MachineRun.{MachineRun}
 use Rattle.nm_history.specs.PrintedOut.{Prints, StreamAppends, final_message, printed_by}
 use Rattle.nm_history.specs.Refusals.{IsRead, IsRefusedFor, RefusesLine, TakesInput}
@@ -27,6 +26,7 @@ use Rattle.nm_io.specs.Taking.{HasTakeCause}
 use Rattle.nm_io.specs.declared.taking.TakeError.{TakeError}
 use Rattle.nm_io.specs.declared.taking.TakeError.TheVariants as takes
 use Rattle.nm_journal.specs.Journal.{IfTold}
+use Rattle.nm_lanes.specs.declared.script.Phase.{Phase}
 use Rattle.nm_log.specs.Refusals.{refused_line, refused_status}
 use Rattle.nm_log.specs.declared.log.Done.{Done}
 use Rattle.nm_log.specs.declared.log.LineLog.{LineLog}
@@ -36,7 +36,6 @@ use Rattle.nm_log.specs.declared.outcome.Outcome.{Outcome}
 use Rattle.nm_log.specs.declared.outcome.Outcome.TheVariants as outcomes
 use Rattle.nm_log.specs.declared.refusal.Refusal.{Refusal}
 use Rattle.nm_log.specs.declared.refusal.Refusal.TheVariants as refusals
-use Rattle.nm_log.specs.declared.script.ScriptLine.{ScriptLine}
 use Rattle.nm_io.specs.Observed.{ObservedStream}
 use Rattle.nm_maildir.specs.Observed.{ObservedMail}
 use Rattle.nm_session.specs.Run.{HasRun}
@@ -49,9 +48,9 @@ use Rattle.nm_writer.specs.declared.open_error.OpenError.TheVariants as errors
 abbrev no_logs : List LineLog
 no_logs = []
 
-none-run : (script : List ScriptLine) → zip script no_logs ≡ []
+none-run : (placed : List PlacedLine) → run_lines placed no_logs ≡ []
 none-run [] = refl
-none-run (line ∷ script) = refl
+none-run (line ∷ placed) = refl
 
 unasked-told : RefusalLaws → (told : Option Moments) → IfSome told (λ moments. IsImage moments.present moments.present.now) → IfTold told told (KeepsCommits [] [])
 unasked-told laws None image = tt
@@ -64,9 +63,9 @@ unasked laws disk image = record { every_moment = unasked-told laws disk.told im
 module _ (laws : RefusalLaws) (refusal : Refusal) (input : List ℕ) (words : List (List ℕ)) (setting : Setting) (entry after : Devices)
     (cause : (done : Done) → IsRefusedFor refusal input (call_of words setting entry after done)) (kept : CrashPrefix entry.disk after.disk [] [])
     (same_mail : after.mail ≡ entry.mail) (same_out : after.out ≡ entry.out) where
-  given-none : GivenAlong empty_index setting.moment [] (at_first empty_index entry) (zip (call_lines words input) no_logs) entry.mail after.mail
-  given-none = subst (λ (m : ObservedMail). GivenAlong empty_index setting.moment [] (at_first empty_index entry) (zip (call_lines words input) no_logs) entry.mail m) (sym same_mail)
-      (subst (λ (l : List RunLine). GivenAlong empty_index setting.moment [] (at_first empty_index entry) l entry.mail entry.mail) (sym (none-run (call_lines words input))) (laws.given empty_index setting.moment entry))
+  given-none : GivenAlong empty_index setting.moment [] (at_first empty_index entry) (lane_zero_lines (run_lines (call_lines words input) no_logs)) entry.mail after.mail
+  given-none = subst (λ (m : ObservedMail). GivenAlong empty_index setting.moment [] (at_first empty_index entry) (lane_zero_lines (run_lines (call_lines words input) no_logs)) entry.mail m) (sym same_mail)
+      (subst (λ (l : List RunLine). GivenAlong empty_index setting.moment [] (at_first empty_index entry) (lane_zero_lines l) entry.mail entry.mail) (sym (none-run (call_lines words input))) (laws.given empty_index setting.moment entry))
 
   ended-history : Prints (Some (refused_line refusal)) entry.err after.err → History (call_of words setting entry after (ended_with (refused_status refusal)))
   ended-history says = (
@@ -77,9 +76,10 @@ module _ (laws : RefusalLaws) (refusal : Refusal) (input : List ℕ) (words : Li
       out_failed = false;
       acknowledged = [];
       opening_index = tt;
-      machine_run = subst (λ (l : List RunLine). MachineRun empty_index setting.moment (at_first empty_index entry) [] l []) (sym (none-run (call_lines words input))) (laws.run empty_index setting.moment entry);
-      line_commits = subst (λ (l : List RunLine). LineCommits empty_index setting.moment entry.mail.tree [] l []) (sym (none-run (call_lines words input))) (laws.commits empty_index setting.moment entry);
-      line_answers = subst (λ (l : List RunLine). LineAnswers empty_index setting.moment (at_first empty_index entry) [] l) (sym (none-run (call_lines words input))) (laws.answers empty_index setting.moment entry);
+      machine_run = subst (λ (l : List RunLine). MachineRun empty_index setting.moment (at_first empty_index entry) [] l [] 0) (sym (none-run (call_lines words input))) (laws.run empty_index setting.moment entry);
+      line_commits = subst (λ (l : List RunLine). LineCommits empty_index setting.moment entry.mail.tree [] (lane_zero_lines l) []) (sym (none-run (call_lines words input))) (laws.commits empty_index setting.moment entry);
+      line_answers = subst (λ (l : List RunLine). LineAnswers empty_index setting.moment (at_first empty_index entry) [] (lane_zero_lines l)) (sym (none-run (call_lines words input))) (laws.answers empty_index setting.moment entry);
+      lane_answers = subst (λ (l : List RunLine). LaneAnswers empty_index setting.moment [] (other_lane_lines l)) (sym (none-run (call_lines words input))) tt;
       given = record { along = given-none; disk = tt };
       printed_out = (cause (ended_with (refused_status refusal)), record { lines = refl; steps = refl; acked = refl; mail = same_mail; out = same_out; says = says });
       crash_prefix = kept;
@@ -162,13 +162,13 @@ unopened-history laws error refusal input words setting mail new_mail disk new_d
     unopened.crash_prefix unopened.mail refl done (subst (λ (r : Refusal). Refuses r err said done) is ends)
 
 -- a call that runs its lines
-pub ran-history : (input : List ℕ) (words : List (List ℕ)) (setting : Setting) (entry after : Devices) (script : List ScriptLine) (status : ℕ) (log : SessionLog) (out_failed : Bool)
-    → call_fault words ≡ None → TakesInput (call_reads words) (is_session words) input entry.input after.input → input_fault words input ≡ None → script ≡ call_lines words input
-    → IsSession setting.moment entry script after.mail after.disk log → StreamAppends out_failed entry.out after.out (printed_by (is_session words) log.lines) → Prints (final_message (is_session words) log.lines out_failed) entry.err after.err
+pub ran-history : (input : List ℕ) (words : List (List ℕ)) (setting : Setting) (entry after : Devices) (phases : List Phase) (status : ℕ) (log : SessionLog) (out_failed : Bool)
+    → call_fault words ≡ None → TakesInput (call_reads words) (is_session words) input entry.input after.input → input_fault words input ≡ None → phases ≡ call_phases words input
+    → IsSession setting.moment entry phases after.mail after.disk log → StreamAppends out_failed entry.out after.out (printed_by (is_session words) log.lines) → Prints (final_message (is_session words) log.lines out_failed) entry.err after.err
     → status ≡ status_by (is_session words) log.lines out_failed → History (call_of words setting entry after (record { status = status; log = log }))
-ran-history input words setting entry after script status log out_failed sound takes right same session out says is =
-    let run : HasRun setting.moment session.opening entry (call_lines words input) after.mail after.disk.faults log =
-    subst (λ (ls : List ScriptLine). HasRun setting.moment session.opening entry ls after.mail after.disk.faults log) same session.run in (
+ran-history input words setting entry after phases status log out_failed sound takes right same session out says is =
+    let run : HasRun setting.moment session.opening entry (call_phases words input) after.mail after.disk.faults log =
+    subst (λ (ls : List Phase). HasRun setting.moment session.opening entry ls after.mail after.disk.faults log) same session.run in (
       session.opening,
       input,
       record {
@@ -179,6 +179,7 @@ ran-history input words setting entry after script status log out_failed sound t
         machine_run = run.machine_run;
         line_commits = run.line_commits;
         line_answers = run.line_answers;
+        lane_answers = run.lane_answers;
         given = record { along = run.given; disk = run.faults };
         printed_out = (record { words = sound; takes = takes; lines = right }, record { lines = run.logs; out = out; says = says });
         crash_prefix = session.crash_prefix;
@@ -187,15 +188,15 @@ ran-history input words setting entry after script status log out_failed sound t
     )
 
 -- and so in terms of whether it is a session
-pub ran-by : (session : Bool) (input : List ℕ) (words : List (List ℕ)) (setting : Setting) (entry after : Devices) (script : List ScriptLine) (status : ℕ) (log : SessionLog) (out_failed : Bool)
-    → is_session words ≡ session → call_fault words ≡ None → TakesInput (call_reads words) session input entry.input after.input → input_fault_by session words input ≡ None → script ≡ lines_by session words input
-    → IsSession setting.moment entry script after.mail after.disk log → StreamAppends out_failed entry.out after.out (printed_by session log.lines)
+pub ran-by : (session : Bool) (input : List ℕ) (words : List (List ℕ)) (setting : Setting) (entry after : Devices) (phases : List Phase) (status : ℕ) (log : SessionLog) (out_failed : Bool)
+    → is_session words ≡ session → call_fault words ≡ None → TakesInput (call_reads words) session input entry.input after.input → input_fault_by session words input ≡ None → phases ≡ phases_by session words input
+    → IsSession setting.moment entry phases after.mail after.disk log → StreamAppends out_failed entry.out after.out (printed_by session log.lines)
     → Prints (final_message session log.lines out_failed) entry.err after.err → status ≡ status_by session log.lines out_failed → History (call_of words setting entry after (record { status = status; log = log }))
-ran-by session input words setting entry after script status log out_failed is sound =
-    subst (λ (b : Bool). TakesInput (call_reads words) b input entry.input after.input → input_fault_by b words input ≡ None → script ≡ lines_by b words input → IsSession setting.moment entry script after.mail after.disk log
+ran-by session input words setting entry after phases status log out_failed is sound =
+    subst (λ (b : Bool). TakesInput (call_reads words) b input entry.input after.input → input_fault_by b words input ≡ None → phases ≡ phases_by b words input → IsSession setting.moment entry phases after.mail after.disk log
     → StreamAppends out_failed entry.out after.out (printed_by b log.lines) → Prints (final_message b log.lines out_failed) entry.err after.err → status ≡ status_by b log.lines out_failed
     → History (call_of words setting entry after (record { status = status; log = log }))) is
-    (λ takes right same session_is out says status_is. ran-history input words setting entry after script status log out_failed sound takes right same session_is out says status_is)
+    (λ takes right same session_is out says status_is. ran-history input words setting entry after phases status log out_failed sound takes right same session_is out says status_is)
 
 -- the call reads its input where its command does, and where it is a session
 pub reads-as : (session reads : Bool) (words : List (List ℕ)) → is_session words ≡ session → reads_by session words ≡ reads → call_reads words ≡ reads

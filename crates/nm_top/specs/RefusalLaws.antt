@@ -23,7 +23,7 @@ use Rattle.nm_log.specs.declared.outcome.Outcome.{Outcome}
 use Rattle.nm_maildir.specs.Observed.{ObservedMail}
 
 pub record RefusalLaws : Type 0 where
-  pub run : (opening : Base) (moment : ℤ) (entry : Devices) → MachineRun opening moment (at_first opening entry) [] [] []
+  pub run : (opening : Base) (moment : ℤ) (entry : Devices) → MachineRun opening moment (at_first opening entry) [] [] [] 0
   pub commits : (opening : Base) (moment : ℤ) (entry : Devices) → LineCommits opening moment entry.mail.tree [] [] []
   pub answers : (opening : Base) (moment : ℤ) (entry : Devices) → LineAnswers opening moment (at_first opening entry) [] []
   pub given : (opening : Base) (moment : ℤ) (entry : Devices) → GivenAlong opening moment [] (at_first opening entry) [] entry.mail entry.mail

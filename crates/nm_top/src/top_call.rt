@@ -3,7 +3,7 @@
 ghost use Rattle.std.specs.Prelude.{◌≡◌, ℕ, Bool, true, false, List, ◌≤◌, None, pos, ◌≤ℤ◌};
 ghost use Rattle.nm_base.specs.Limits.{max_date};
 ghost use Rattle.nm_dates.specs.Seconds.{IsMoment};
-ghost use Rattle.nm_history.specs.Call.{call_fault, call_of, call_reads, command_reads, devices, input_fault_by, is_session, lines_by};
+ghost use Rattle.nm_history.specs.Call.{call_fault, call_of, call_reads, command_reads, devices, input_fault_by, is_session, phases_by};
 ghost use Rattle.nm_history.specs.Complete.{IsComplete};
 ghost use Rattle.nm_history.specs.History.{History};
 ghost use Rattle.nm_history.specs.Refusals.{IsRead, TakesInput};
@@ -13,13 +13,14 @@ ghost use Rattle.nm_top.specs.Ending.{RefusesAlone, refusal_of, take_refusal};
 
 use crate::ending::{print_all, refuse, refuse_line, say_last, status_of_run};
 use crate::laws::refusal_laws;
-use crate::words::{is_session, lines_fault, reads_lines, single_fault, single_script};
+use crate::words::{is_session, lines_fault, reads_lines, single_fault, single_phases};
 use nm_base::{Limit, Many, NoMemory, Text};
 use nm_command::{CommandError, command};
 use nm_disk::Disk;
 use nm_history::a_history_is_complete;
 use nm_io::{Sink, Source, TakeError, take_all};
-use nm_log::{Done, Outcome, Refusal, ScriptError, ScriptLine, Setting, read_script};
+use nm_lanes::{Phase, ScriptError, read_script};
+use nm_log::{Done, Outcome, Refusal, Setting};
 use nm_maildir::Maildir;
 use nm_session::run_session;
 use nm_writer::OpenError;
@@ -31,7 +32,7 @@ use std::thread::Threads;
 const MAX_INPUT: u64 = 67_108_864;
 
 /// Runs the command that the words name over the index that the disk holds and the mail folder. `session` reads a script from `input`,
-/// runs its lines and prints their replies, each behind a header, to `out`; any other is run as the one line, over the lines of `input`
+/// runs its phases and prints the replies of their lines, each behind a header, to `out`; any other is run as the one line, over the lines of `input`
 /// where it reads some, and its reply stands alone. `err` gains at most one line. It takes what memory it needs. It
 /// may wait as readers leave a snapshot, of which there are none yet.
 pub fn notmuch<R: Threads + Wait + Sync, M: Maildir, D: Disk, I: Source, O: Sink, E: Sink>(
@@ -191,13 +192,13 @@ fn run_alone<R: Threads + Wait + Sync, M: Maildir, D: Disk, O: Sink, E: Sink>(
 {
     refusal_laws();
     let input = Many::new(alloc);
-    match single_script(alloc, words, input) {
-        Ok(script) => run_lines(
+    match single_phases(alloc, words, input) {
+        Ok(phases) => run_phases(
             rt,
             alloc,
             setting,
             false,
-            script.as_slice(),
+            phases.as_slice(),
             mail,
             disk,
             out,
@@ -256,13 +257,13 @@ fn run_over<R: Threads + Wait + Sync, M: Maildir, D: Disk, O: Sink, E: Sink>(
 {
     refusal_laws();
     match lines_fault(alloc, words, bytes.as_slice()) {
-        Ok(None) => match single_script(alloc, words, bytes) {
-            Ok(script) => run_lines(
+        Ok(None) => match single_phases(alloc, words, bytes) {
+            Ok(phases) => run_phases(
                 rt,
                 alloc,
                 setting,
                 false,
-                script.as_slice(),
+                phases.as_slice(),
                 mail,
                 disk,
                 out,
@@ -307,12 +308,12 @@ fn read_and_run<R: Threads + Wait + Sync, M: Maildir, D: Disk, I: Source, O: Sin
     refusal_laws();
     match take_all(alloc, input, MAX_INPUT) {
         Ok(bytes) => match read_script(alloc, bytes.as_slice()) {
-            Ok(script) => run_lines(
+            Ok(script) => run_phases(
                 rt,
                 alloc,
                 setting,
                 true,
-                script.as_slice(),
+                script.phases.as_slice(),
                 mail,
                 disk,
                 out,
@@ -325,13 +326,13 @@ fn read_and_run<R: Threads + Wait + Sync, M: Maildir, D: Disk, I: Source, O: Sin
     }
 }
 
-/// Runs the lines over the index that the disk holds, prints their replies, and says how it ended.
-fn run_lines<R: Threads + Wait + Sync, M: Maildir, D: Disk, O: Sink, E: Sink>(
+/// Runs the phases over the index that the disk holds, prints the replies of their lines, and says how it ended.
+fn run_phases<R: Threads + Wait + Sync, M: Maildir, D: Disk, O: Sink, E: Sink>(
     rt: &R,
     alloc: Global,
     setting: &Setting,
     session: bool,
-    script: &[ScriptLine],
+    phases: &[Phase],
     mail: &mut M,
     disk: &mut D,
     out: &mut O,
@@ -339,12 +340,12 @@ fn run_lines<R: Threads + Wait + Sync, M: Maildir, D: Disk, O: Sink, E: Sink>(
 ) -> Done
     requires moment { IsMoment setting.now.moment }
     ensures { (words : List (List ℕ)) (input : List ℕ) (old new : ObservedStream) → is_session words ≡ session → call_fault words ≡ None
-        → TakesInput (call_reads words) session input old new → input_fault_by session words input ≡ None → script.now ≡ lines_by session words input → History (call_of words setting.now
+        → TakesInput (call_reads words) session input old new → input_fault_by session words input ≡ None → phases.now ≡ phases_by session words input → History (call_of words setting.now
         (devices (M.observed mail.old) (D.observed disk.old) old (O.observed out.old) (E.observed err.old))
         (devices (M.observed mail.new) (D.observed disk.new) new (O.observed out.new) (E.observed err.new)) result) }
 {
     refusal_laws();
-    match run_session(rt, alloc, setting, script, mail, disk) {
+    match run_session(rt, alloc, setting, phases, mail, disk) {
         Ok(log) => {
             let lines = log.lines.as_slice();
             let out_failed = print_all(out, session, lines);

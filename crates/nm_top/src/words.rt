@@ -2,20 +2,19 @@
 //! device is asked.
 
 ghost use Rattle.std.specs.Prelude.{◌≡◌, ◌≢◌, [], ◌∷◌, Some, IfOk, false};
-ghost use Rattle.nm_history.specs.Call.{call_fault, command_reads, fault_of_command, fault_of_input, is_session};
+ghost use Rattle.nm_history.specs.Call.{call_fault, command_reads, fault_of_command, fault_of_input, is_session, single_phase};
 ghost use Rattle.nm_answer.specs.BatchLines.{queries_in, taggings_in};
 ghost use Rattle.nm_answer.specs.DumpReading.{read_dump};
 ghost use Rattle.nm_history.specs.Requests.{bad_line_in, first_bad_line, own_query, query_outcome, refused_line, refused_query, refused_text};
 ghost use Rattle.nm_log.specs.ParsedLine.{parse_single};
-ghost use Rattle.nm_log.specs.Script.{single_line};
-ghost use Rattle.nm_log.specs.declared.script.CommandText.TheVariants as texts;
 ghost use Rattle.nm_query.specs.Answers.{answer_of};
 
 use nm_answer::Request;
 use nm_base::{Copies, Many, NoMemory, ReadForm, Text};
 use nm_batch::{read_queries, read_taggings};
 use nm_dump::read_dump;
-use nm_log::{CommandText, Outcome, ParsedLine, ScriptLine, parse_single, reads_input};
+use nm_lanes::{Phase, ScriptLine};
+use nm_log::{Outcome, ParsedLine, parse_single, reads_input};
 use nm_query::{QueryError, parse};
 use nm_tags::LineError;
 use std::alloc::Global;
@@ -122,15 +121,14 @@ fn dump_fault(alloc: Global, input: &[u8], form: ReadForm) -> Result<Option<Outc
     }
 }
 
-/// The words as the text of a command.
-fn words_text(alloc: Global, words: &[Text]) -> Result<CommandText, NoMemory>
-    ensures { IfOk result (λ text. text ≡ texts.Words words.now) }
+fn copied(alloc: Global, words: &[Text]) -> Result<Many<Text>, NoMemory>
+    ensures { IfOk result (λ copied. copied ≡ words.now) }
 {
     let mut copied = Many::new(alloc);
     'words: for word in words {
         copied.push(word.copy()?)?;
     }
-    Ok(CommandText::Words(copied))
+    Ok(copied)
 }
 
 fn request_fault(alloc: Global, request: &Request) -> Result<Option<Outcome>, NoMemory>
@@ -177,20 +175,24 @@ fn refused_query(error: QueryError) -> Result<Option<Outcome>, NoMemory>
     }
 }
 
-/// The words of a single command as the one line that is run, with the input that it reads.
-pub(crate) fn single_script(
+/// The words of a single command as the one line of the one phase that is run, with the input that it reads.
+pub(crate) fn single_phases(
     alloc: Global,
     words: &[Text],
     input: Many<u8>,
-) -> Result<Many<ScriptLine>, NoMemory>
-    ensures { IfOk result (λ script. script ≡ single_line words.now input) }
+) -> Result<Many<Phase>, NoMemory>
+    ensures { IfOk result (λ phases. phases ≡ single_phase words.now input ∷ []) }
 {
-    let text = words_text(alloc, words)?;
-    let mut script = Many::new(alloc);
-    script.push(ScriptLine {
+    let words = copied(alloc, words)?;
+    let mut lines = Many::new(alloc);
+    lines.push(ScriptLine {
         number: 1,
-        text,
+        lane: 0,
+        words,
         input,
+        flaw: None,
     })?;
-    Ok(script)
+    let mut phases = Many::new(alloc);
+    phases.push(Phase { lines })?;
+    Ok(phases)
 }

@@ -16,7 +16,7 @@ returns g c =
     let done = c.answer-answered in
     let new = place_at done.new.writer (g.M.Maildir.observed done.new.mail) (g.D.Disk.observed done.new.disk) (left_after c.args.left done.new.given) in
     record {
-      run = is-run c.args.setting.now.moment old new c.args.line.now done.new.given done.result c.answered_or-outcome.result c.args.spare c.snapshot.result.now c.revision.result c.line_status.result c.faults.result c.faults-2.result c.newly_closed.result
+      run = is-run c.args.setting.now.moment c.args.phase old new c.args.line.now done.new.given done.result c.answered_or-outcome.result c.args.spare c.snapshot.result.now c.revision.result c.line_status.result c.faults.result c.faults-2.result c.newly_closed.result
           c.requires.spare c.answered_or-outcome.ensures done.ensures.ends c.revision.ensures c.snapshot.ensures c.line_status.ensures c.faults.ensures c.faults-2.ensures (closed-is done.new.writer c.args.writer.now c.newly_closed.result c.is_closed-was_closed.result c.is_closed.result c.newly_closed.ensures c.is_closed-was_closed.ensures c.is_closed.ensures);
       stands = done.ensures.stands;
       durable = done.ensures.durable;

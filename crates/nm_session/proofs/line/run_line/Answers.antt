@@ -11,12 +11,12 @@ note-requires g c =
     let old = place_at c.args.writer.now (g.M.Maildir.observed c.args.mail.now) (g.D.Disk.observed c.args.disk.now) c.args.left in
     let done = c.line_log-log in
     let new = place_at done.new.writer (g.M.Maildir.observed done.new.mail) (g.D.Disk.observed done.new.disk) c.left_after-left.result in
-    let run : IsRun c.args.setting.now.moment old (c.args.line.now, done.result.0) done.result.1 new =
-    subst (λ (n : ℕ). IsRun c.args.setting.now.moment old (c.args.line.now, done.result.0) done.result.1 (place_at done.new.writer (g.M.Maildir.observed done.new.mail) (g.D.Disk.observed done.new.disk) n))
+    let run : IsRun c.args.setting.now.moment c.args.phase old (c.args.line.now, done.result.0) done.result.1 new =
+    subst (λ (n : ℕ). IsRun c.args.setting.now.moment c.args.phase old (c.args.line.now, done.result.0) done.result.1 (place_at done.new.writer (g.M.Maildir.observed done.new.mail) (g.D.Disk.observed done.new.disk) n))
     (sym (c.left_after-left.ensures ∙ ap (left_after c.args.left) c.as_slice.ensures)) done.ensures.run in
     record {
       logs = omega (arith, c.requires.spare.logs);
-      marks = marks-fit c.args.setting.now.moment old new (c.args.line.now, done.result.0) done.result.1 c.acked-before.result.now c.made_since-made.result c.args.rooms.now.marks.1 run c.acked-before.ensures.acked c.made_since-made.ensures.count
+      marks = marks-fit c.args.setting.now.moment c.args.phase old new (c.args.line.now, done.result.0) done.result.1 c.acked-before.result.now c.made_since-made.result c.args.rooms.now.marks.1 run c.acked-before.ensures.acked c.made_since-made.ensures.count
           (omega (arith, c.requires.spare.marks)) c.made_since-made.ensures.few;
     }
 
@@ -25,10 +25,10 @@ returns g c =
     let old = place_at c.args.writer.now (g.M.Maildir.observed c.args.mail.now) (g.D.Disk.observed c.args.disk.now) c.args.left in
     let done = c.line_log-log in
     let new = place_at done.new.writer (g.M.Maildir.observed done.new.mail) (g.D.Disk.observed done.new.disk) c.left_after-left.result in
-    let run : IsRun c.args.setting.now.moment old (c.args.line.now, done.result.0) done.result.1 new =
-    subst (λ (n : ℕ). IsRun c.args.setting.now.moment old (c.args.line.now, done.result.0) done.result.1 (place_at done.new.writer (g.M.Maildir.observed done.new.mail) (g.D.Disk.observed done.new.disk) n))
+    let run : IsRun c.args.setting.now.moment c.args.phase old (c.args.line.now, done.result.0) done.result.1 new =
+    subst (λ (n : ℕ). IsRun c.args.setting.now.moment c.args.phase old (c.args.line.now, done.result.0) done.result.1 (place_at done.new.writer (g.M.Maildir.observed done.new.mail) (g.D.Disk.observed done.new.disk) n))
     (sym (c.left_after-left.ensures ∙ ap (left_after c.args.left) c.as_slice.ensures)) done.ensures.run in
-    let are = marks-are c.args.setting.now.moment old new (c.args.line.now, done.result.0) done.result.1 c.acked-before.result.now c.made_since-made.result run c.acked-before.ensures.acked c.made_since-made.ensures.count in
+    let are = marks-are c.args.setting.now.moment c.args.phase old new (c.args.line.now, done.result.0) done.result.1 c.acked-before.result.now c.made_since-made.result run c.acked-before.ensures.acked c.made_since-made.ensures.count in
     record {
       noted = record {
         log = done.result.0;
@@ -38,7 +38,7 @@ returns g c =
         marks = c.note.ensures.marks ∙ ap (λ (l : List Mark). c.args.rooms.now.marks.0 ++ l) are;
         steps = c.note.ensures.steps;
         logs_spare = c.note.ensures.logs_spare;
-        marks_spare = marks-left c.args.setting.now.moment old new (c.args.line.now, done.result.0) done.result.1 c.acked-before.result.now c.made_since-made.result c.args.rooms.now.marks.1 c.note.new.rooms.marks.1 run c.acked-before.ensures.acked c.made_since-made.ensures.count
+        marks_spare = marks-left c.args.setting.now.moment c.args.phase old new (c.args.line.now, done.result.0) done.result.1 c.acked-before.result.now c.made_since-made.result c.args.rooms.now.marks.1 c.note.new.rooms.marks.1 run c.acked-before.ensures.acked c.made_since-made.ensures.count
             c.note.ensures.marks_spare;
         spares = ap (λ (l : List (List ℕ)). length l + 1) c.note.ensures.spares ∙ c.take_spare-spare.ensures.length;
         texts = subst AreSpares (sym c.note.ensures.spares) c.take_spare-spare.ensures.texts;

@@ -1,16 +1,15 @@
-use Rattle.std.proofs.Common.{[], refl, sym, ap, ◌∙◌, subst, false}
-use Rattle.nm_history.specs.Call.{input_fault_by}
+use Rattle.std.proofs.Common.{ℕ, List, [], ◌∷◌, refl, sym, ap, ◌∙◌, subst, false}
+use Rattle.nm_history.specs.Call.{input_fault_by, single_phase}
 use Rattle.nm_history.specs.Refusals.{TakesInput}
-use Rattle.nm_log.specs.Script.{single_line}
 use Rattle.nm_log.specs.declared.refusal.Refusal.TheVariants as refusals
 use Rattle.nm_top.proofs.HistoryLemmas.{reads-as, unasked-history}
 use Rattle.nm_top.proofs.top_call.run_alone.Goals as goal
 
 pub returns-in-Ok : goal.returns-in-Ok
 returns-in-Ok g c = λ input.
-    c.run_lines.ensures c.args.words.now [] input input c.requires.single c.requires.sound
+    c.run_phases.ensures c.args.words.now [] input input c.requires.single c.requires.sound
     (subst (λ b. TakesInput b false [] input input) (sym (reads-as false false c.args.words.now c.requires.single c.requires.unread)) (refl, refl))
-    (sym (ap (λ b. input_fault_by b c.args.words.now []) c.requires.single) ∙ c.refusal_laws.ensures.unread c.args.words.now [] (reads-as false false c.args.words.now c.requires.single c.requires.unread)) (c.as_slice.ensures ∙ (c.in-Ok.ensures ∙ ap (single_line c.args.words.now) c.new-input.ensures))
+    (sym (ap (λ b. input_fault_by b c.args.words.now []) c.requires.single) ∙ c.refusal_laws.ensures.unread c.args.words.now [] (reads-as false false c.args.words.now c.requires.single c.requires.unread)) (c.as_slice.ensures ∙ (c.in-Ok.ensures ∙ ap (λ (input : List ℕ). single_phase c.args.words.now input ∷ []) c.new-input.ensures))
 
 pub returns-in-Err : goal.returns-in-Err
 returns-in-Err g c = λ input.

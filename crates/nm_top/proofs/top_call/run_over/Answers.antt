@@ -8,12 +8,12 @@ use Rattle.nm_top.proofs.top_call.run_over.Goals as goal
 
 pub returns-in-Ok : goal.returns-in-Ok
 returns-in-Ok g c = λ old new read.
-    c.run_lines.ensures c.args.words.now c.args.bytes old new c.requires.single c.requires.sound
+    c.run_phases.ensures c.args.words.now c.args.bytes old new c.requires.single c.requires.sound
     (subst (λ b. TakesInput b false c.args.bytes old new) (sym (reads-as _ _ c.args.words.now c.requires.single c.requires.read)) (single-takes c.args.bytes old new read))
     (sym (ap (fault_of_input (parse_single c.args.words.now)) c.as_slice.ensures) ∙ (sym c.in-Ok-None.ensures ∙ c.in-Ok-None.field-0-is)) (c.as_slice-in-Ok.ensures ∙ c.in-Ok.ensures)
 
-pub returns-in-Err-single_script : goal.returns-in-Err-single_script
-returns-in-Err-single_script g c = λ old new read.
+pub returns-in-Err-single_phases : goal.returns-in-Err-single_phases
+returns-in-Err-single_phases g c = λ old new read.
     unasked-history c.refusal_laws.ensures refusals.NoMemory [] c.args.words.now c.args.setting.now (g.M.Maildir.observed c.args.mail.now) (g.D.Disk.observed c.args.disk.now) old new
     (g.O.Sink.observed c.args.out.now) (g.E.Sink.observed c.args.err.now) (g.E.Sink.observed c.refuse.new.err) (g.D.Disk.reads_an_image c.args.disk.now) (λ done. tt) c.refuse.result c.refuse.ensures
 

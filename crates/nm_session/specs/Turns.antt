@@ -1,0 +1,52 @@
+-- The turns of a session: each phase has its lines, one lane after the other, and then all lanes meet. Cited by `turns`, `session` and `running`.
+use Rattle.std.specs.Prelude.{◌≡◌, ℕ, ◌+◌, ◌<◌, List, [], ◌∷◌, ◌++◌, map}
+use Rattle.std.specs.List.{flat_map}
+use Rattle.nm_history.specs.Call.{PlacedLine, lines_by_lane}
+use Rattle.nm_history.specs.MachineRun.{lane_count}
+use Rattle.nm_lanes.specs.declared.script.Phase.{Phase}
+use Rattle.nm_lanes.specs.declared.script.ScriptLine.{ScriptLine}
+use Rattle.nm_session.specs.declared.turns.Turn.{Turn}
+use Rattle.nm_session.specs.declared.turns.Turn.TheVariants as turns
+
+-- what comes next: a line of a phase, or the end of one
+pub data Planned : Type 0 where
+  Runs : ℕ → ScriptLine → Planned
+  Meets : Planned
+
+-- as a turn says
+abbrev pub planned_of : Turn → Planned
+planned_of (turns.Line phase line) = Runs phase line.now
+planned_of turns.Meet = Meets
+
+abbrev pub planned_line : ℕ → ScriptLine → Planned
+planned_line phase line = Runs phase line
+
+-- a phase of this number
+abbrev pub planned_phase : ℕ → Phase → List Planned
+planned_phase number phase = map (planned_line number) (lines_by_lane phase) ++ Meets ∷ []
+
+-- phases that are numbered from this one on
+abbrev pub planned_from : ℕ → List Phase → List Planned
+planned_from number [] = []
+planned_from number (phase ∷ more) = planned_phase number phase ++ planned_from (number + 1) more
+
+-- the line of a turn
+abbrev pub line_in : Planned → List PlacedLine
+line_in (Runs phase line) = (phase, line) ∷ []
+line_in Meets = []
+
+-- the lines of the turns
+abbrev pub lines_in : List Planned → List PlacedLine
+lines_in planned = flat_map line_in planned
+
+-- how many phases end with them
+abbrev pub ends_in : List Planned → ℕ
+ends_in [] = 0
+ends_in (Runs phase line ∷ more) = ends_in more
+ends_in (Meets ∷ more) = ends_in more + 1
+
+-- each line stands in its phase, from this one on, and its lane is there
+abbrev pub AreInPlace : ℕ → List Planned → Type 0
+AreInPlace number [] = Unit {0}
+AreInPlace number (Runs phase line ∷ more) = (phase ≡ number) × (line.lane < lane_count) × AreInPlace number more
+AreInPlace number (Meets ∷ more) = AreInPlace (number + 1) more

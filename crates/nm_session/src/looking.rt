@@ -1,0 +1,125 @@
+//! One line of a lane other than 0: it is answered on an index, and its log is put into the rooms. It asks no device.
+//! `running` calls it for each.
+
+ghost use Rattle.std.specs.Prelude.{◌≡◌, ◌≤◌, IfOk, codes, length, true};
+ghost use Rattle.nm_dates.specs.Seconds.{IsMoment};
+ghost use Rattle.nm_log.specs.ParsedLine.{is_of_every_lane, parse_line};
+ghost use Rattle.nm_session.specs.Line.{IsReadOff};
+ghost use Rattle.nm_session.specs.Look.{IsLookNoted, IsLooked, looked};
+ghost use Rattle.nm_session.specs.Rooms.{AreSpares};
+
+use crate::answering::{LineAnswer, refuse, run_count, run_dump, run_search};
+use crate::line::answered_or;
+use crate::marks::Said;
+use crate::rooms::{Rooms, note_look, take_spare};
+use nm_answer::Request;
+use nm_base::{Many, NoMemory};
+use nm_lanes::ScriptLine;
+use nm_log::{
+    LineLog, Outcome, ParsedLine, Setting, line_status, other_lanes_search_count_and_dump,
+    parse_line,
+};
+use nm_state::Snapshot;
+use std::alloc::Global;
+
+/// Runs one line over the index, and notes it in places that are spare.
+pub(crate) fn run_look(
+    alloc: Global,
+    setting: &Setting,
+    phase: u32,
+    line: &ScriptLine,
+    rooms: &mut Rooms,
+    snapshot: &Snapshot,
+)
+    requires moment { IsMoment setting.now.moment }
+    requires another { 1 ≤ line.now.lane }
+    requires logs { 1 ≤ rooms.old.logs.1 }
+    requires marks { 2 ≤ rooms.old.marks.1 }
+    requires spares { 1 ≤ length rooms.old.spares }
+    requires texts { AreSpares rooms.old.spares }
+    ensures { IsLookNoted setting.now.moment phase snapshot.now line.now rooms.old rooms.new }
+{
+    let spare = take_spare(&mut rooms.spares);
+    let (log, reply) = look_log(alloc, setting, phase, line, snapshot, spare);
+    note_look(rooms, log, reply);
+}
+
+/// Runs the line. `spare` is its text where it finds no memory.
+fn look_log(
+    alloc: Global,
+    setting: &Setting,
+    phase: u32,
+    line: &ScriptLine,
+    snapshot: &Snapshot,
+    spare: Many<u8>,
+) -> (LineLog, Option<Said>)
+    requires moment { IsMoment setting.now.moment }
+    requires another { 1 ≤ line.now.lane }
+    requires spare { spare ≡ codes "notmuch: no memory\n" }
+    ensures { IsLooked setting.now.moment phase snapshot.now (line.now, result.0) result.1 }
+{
+    let answered = look(alloc, setting, line, snapshot);
+    let LineAnswer {
+        outcome,
+        text,
+        reply,
+    } = answered_or(answered, spare);
+    let log = LineLog {
+        phase,
+        lane: line.lane,
+        line: line.number,
+        revision: snapshot.revision(),
+        status: line_status(&outcome),
+        outcome,
+        text,
+        given: Many::new(alloc),
+        mail_faults: 0,
+        disk_faults: 0,
+        disk_failed: false,
+    };
+    (log, reply)
+}
+
+/// Reads what the line asks for, and answers it on the index.
+fn look(
+    alloc: Global,
+    setting: &Setting,
+    line: &ScriptLine,
+    snapshot: &Snapshot,
+) -> Result<LineAnswer, NoMemory>
+    requires moment { IsMoment setting.now.moment }
+    requires another { 1 ≤ line.now.lane }
+    ensures { IfOk result (λ done. done ≡ looked setting.now.moment snapshot.now (parse_line line.now) line.now.input) }
+{
+    other_lanes_search_count_and_dump();
+    match parse_line(alloc, line)? {
+        ParsedLine::Usage { word, kind } => refuse(alloc, Outcome::Usage { word, kind }),
+        ParsedLine::Request(request) => run_request(
+            alloc,
+            setting,
+            snapshot,
+            request,
+            line.input.as_slice(),
+        ),
+    }
+}
+
+/// Answers what every lane may ask for.
+fn run_request(
+    alloc: Global,
+    setting: &Setting,
+    snapshot: &Snapshot,
+    request: Request,
+    input: &[u8],
+) -> Result<LineAnswer, NoMemory>
+    requires moment { IsMoment setting.now.moment }
+    requires every { is_of_every_lane request ≡ true }
+    ensures { IfOk result (IsReadOff setting.now.moment snapshot.now request input.now) }
+{
+    match request {
+        Request::Count(ask) => run_count(alloc, setting, snapshot, ask, input),
+        Request::Search(ask) => run_search(alloc, setting, snapshot, ask),
+        Request::Dump(ask) => run_dump(alloc, setting, snapshot, ask),
+        Request::New | Request::Show(_) | Request::Tag(_) | Request::Restore(_) => unreachable!(),
+    }
+}
