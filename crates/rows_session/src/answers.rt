@@ -28,9 +28,6 @@ impl<R: Threads + Wait + Sync> Program for Sessions<'_, R> {
         if row.kind == b"lines".as_slice() {
             return line_rows::requests(alloc, row);
         }
-        if row.kind == b"script".as_slice() {
-            return line_rows::script(alloc, row);
-        }
         if row.kind == b"reply".as_slice() {
             return reply_rows::answer(alloc, row);
         }

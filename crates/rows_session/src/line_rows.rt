@@ -1,5 +1,4 @@
-//! Rows on the lines of scripts, for `answers`: what a line asks for, or how it is refused; and the lines of a script
-//! with their numbers.
+//! Rows on the lines of scripts, for `answers`: what a line asks for, or how it is refused.
 
 use nm_answer::Request;
 use nm_base::{
@@ -7,10 +6,8 @@ use nm_base::{
     TagAsk, Text, UsageKind,
 };
 use nm_io::MemSink;
-use nm_log::{
-    CommandText, ParsedLine, ScriptError, ScriptLine, parse_line, print_usage, read_script,
-    usage_line,
-};
+use nm_lanes::{Phase, ScriptError, ScriptLine, read_script};
+use nm_log::{ParsedLine, parse_line, print_usage, usage_line};
 use rows::{Lines, Row, RowError, cut};
 use std::alloc::{AllocError, Global};
 
@@ -26,14 +23,27 @@ pub fn requests(alloc: Global, row: &Row<'_>) -> Result<Vec<u8>, RowError> {
     Ok(answers.into_bytes())
 }
 
+/// What the one line of this script asks for, or `nothing` where it has none.
 fn add_request(alloc: Global, answers: &mut Lines, line: &[u8]) -> Result<(), RowError> {
-    let line = ScriptLine {
-        number: 1,
-        text: CommandText::Line(Many::from_slice(alloc, line)?),
-        input: Many::new(alloc),
-    };
-    let parsed = parse_line(alloc, &line)?;
-    add_parsed(alloc, answers, &parsed)
+    match read_script(alloc, line) {
+        Ok(script) => add_phase(alloc, answers, script.phases.as_slice()),
+        Err(ScriptError::Limit(_)) => Ok(answers.line(b"it passes a limit")?),
+        Err(ScriptError::NoMemory) => Err(RowError::NoMemory),
+    }
+}
+
+fn add_phase(alloc: Global, answers: &mut Lines, phases: &[Phase]) -> Result<(), RowError> {
+    match phases {
+        [phase] => add_line(alloc, answers, phase.lines.as_slice()),
+        _ => Ok(answers.line(b"more than a phase")?),
+    }
+}
+
+fn add_line(alloc: Global, answers: &mut Lines, lines: &[ScriptLine]) -> Result<(), RowError> {
+    match lines {
+        [] => Ok(answers.line(b"nothing")?),
+        [line, ..] => add_parsed(alloc, answers, &parse_line(alloc, line)?),
+    }
 }
 
 fn add_parsed(alloc: Global, answers: &mut Lines, parsed: &ParsedLine) -> Result<(), RowError> {
@@ -171,44 +181,4 @@ fn add_text(answers: &mut Lines, text: &[u8], is_printed: bool) -> Result<(), No
         answers.line(b"it is printed otherwise")?;
     }
     Ok(answers.line(cut(text, b'\n').0)?)
-}
-
-/// The lines of a script with their numbers, or the limit that it passes.
-pub fn script(alloc: Global, row: &Row<'_>) -> Result<Vec<u8>, RowError> {
-    row.has_only(&[b"|", b"="])?;
-    let input = row.text(alloc, b"|")?;
-    let mut answers = Lines::new(alloc);
-    add_script(alloc, &mut answers, input.as_slice())?;
-    Ok(answers.into_bytes())
-}
-
-fn add_script(alloc: Global, answers: &mut Lines, input: &[u8]) -> Result<(), RowError> {
-    match read_script(alloc, input) {
-        Ok(script) => Ok(add_lines(alloc, answers, script.as_slice())?),
-        Err(ScriptError::Limit(_)) => Ok(answers.line(b"it passes a limit")?),
-        Err(ScriptError::NoMemory) => Err(RowError::NoMemory),
-    }
-}
-
-fn add_lines(alloc: Global, answers: &mut Lines, script: &[ScriptLine]) -> Result<(), AllocError> {
-    'lines: for line in script {
-        let number = line.number.to_string(alloc)?;
-        answers.line_of(number.as_bytes(), b" ")?;
-        if let CommandText::Line(text) = &line.text {
-            answers.push(text.as_slice())?;
-        }
-        add_input(answers, line.input.as_slice())?;
-    }
-    Ok(())
-}
-
-/// The lines that a command reads, each behind a bar.
-fn add_input(answers: &mut Lines, input: &[u8]) -> Result<(), AllocError> {
-    let Some((_, lines)) = input.split_last() else {
-        return Ok(());
-    };
-    'lines: for line in lines.split(|b| *b == b'\n') {
-        answers.line_of(b"|", line)?;
-    }
-    Ok(())
 }
