@@ -1,4 +1,4 @@
--- The two tags that exclude, one by one. For the proofs of `all_matches`, `is_live_match` and `is_match`.
+-- The two tags that exclude, one by one. For the proofs of `all_matches`, `is_live_match`, `is_match` and `passes_within`.
 use Rattle.std.proofs.Common.{◌≡◌, refl, sym, ap, ap₂, ◌∙◌, ℤ, Bool, true, false, not, cond, ◌&&◌, ◌||◌, [], ◌∷◌, codes, true≢false}
 use Rattle.std.proofs.Math.Bool.{or-false}
 use Rattle.std.specs.List.{list_any}
@@ -29,6 +29,12 @@ pub match_by : (query asked : Query) (moment : ℤ) (exclude : Bool) (exclusion 
     → passes asked message moment ≡ passes query message moment → (passes asked message moment && not (leaves_out exclusion message)) ≡ is_match query moment exclude message
 match_by query asked moment exclude exclusion message is same =
     ap₂ (λ passed out. passed && not out) same (ap (λ e. leaves_out e message) is ∙ left_out query exclude message)
+
+-- the same where it is known whether it is left out
+pub match_within : (query asked : Query) (moment : ℤ) (exclude : Bool) (message : View) (out : Bool) → out ≡ leaves_out (exclusion_of query exclude) message
+    → passes asked message moment ≡ passes query message moment → (passes asked message moment && not out) ≡ is_match query moment exclude message
+match_within query asked moment exclude message out is same =
+    ap (λ o. passes asked message moment && not o) is ∙ match_by query asked moment exclude (exclusion_of query exclude) message refl same
 
 -- what has none of these tags is in where it passes
 pub not_out : (passed out : Bool) → out ≡ false → passed ≡ (passed && not out)

@@ -2,6 +2,7 @@ mod AmongLemmas
 mod ExclusionLemmas
 mod FileLemmas
 mod FoundLemmas
+mod LeftOutLemmas
 mod NamingLemmas
 mod NumberLemmas
 mod PlaceLemmas

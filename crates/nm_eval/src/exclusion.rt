@@ -1,13 +1,19 @@
-//! The tags that keep a message out, unless the query names them: `matches` finds them once a query.
+//! The tags that keep a message out, unless the query names them: `matches` finds them, and the messages that have them, once
+//! a query.
 
-ghost use Rattle.std.specs.Prelude.{◌≡◌, ◌&&◌, codes, not};
+ghost use Rattle.std.specs.Prelude.{◌≡◌, ◌&&◌, ℕ, List, codes, not, IfOk};
 ghost use Rattle.std.specs.List.{list_any};
+ghost use Rattle.nm_base.specs.Order.{has_text};
 ghost use Rattle.nm_answer.specs.Matches.{names_tag};
-ghost use Rattle.nm_eval.specs.Excluding.{exclusion_of, leaves_out};
+ghost use Rattle.nm_answer.specs.View.{view_of};
+ghost use Rattle.nm_eval.specs.Excluding.{exclusion_of, is_among, leaves_out};
 
-use crate::message::Message;
+use crate::message::{Message, has_text};
 use nm_answer::a_tree_names_the_tags_of_its_queries;
+use nm_base::{Copies, MessageId, NoMemory, Tags, TextSet};
 use nm_query::Query;
+use nm_state::{Snapshot, a_snapshot_is_a_valid_index};
+use std::alloc::Global;
 
 const DELETED: &str = "deleted";
 
@@ -38,6 +44,35 @@ pub(crate) fn leaves_out(exclusion: Exclusion, message: &Message<'_>) -> bool
         return true;
     }
     exclusion.spam && message.has_tag(SPAM)
+}
+
+/// The ids of the messages that have such a tag. One pass over the tags of all costs less than a look-up for each message.
+pub(crate) fn left_out(
+    alloc: Global,
+    snapshot: &Snapshot,
+    exclusion: Exclusion,
+) -> Result<TextSet<MessageId>, NoMemory>
+    ensures { IfOk result (λ ids. (id : List ℕ) → has_text ids id ≡ leaves_out exclusion (view_of snapshot.now id)) }
+{
+    a_snapshot_is_a_valid_index(snapshot);
+    let mut ids = TextSet::new(alloc);
+    let mut rest = snapshot.tagged();
+    'messages: while let Some((id, tags)) = rest.next() {
+        if is_among(exclusion, tags) {
+            ids.insert(id.copy()?)?;
+        }
+    }
+    Ok(ids)
+}
+
+/// Says whether such a tag is among these.
+fn is_among(exclusion: Exclusion, tags: &Tags) -> bool
+    ensures { result ≡ is_among exclusion tags.now }
+{
+    if exclusion.deleted && has_text(tags, DELETED) {
+        return true;
+    }
+    exclusion.spam && has_text(tags, SPAM)
 }
 
 /// Says whether the tag is a term of the query, wherever in it.

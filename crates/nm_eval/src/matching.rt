@@ -2,6 +2,7 @@
 
 ghost use Rattle.std.specs.Prelude.{◌≡◌, ◌+◌, ◌∷◌, ◌++◌, ◌&&◌, [], not, length, IfOk, OnOk};
 ghost use Rattle.std.specs.List.{filter};
+ghost use Rattle.nm_base.specs.Order.{has_text};
 ghost use Rattle.nm_dates.specs.Seconds.{IsMoment};
 ghost use Rattle.nm_answer.specs.Matches.{is_match, matches_of};
 ghost use Rattle.nm_answer.specs.Test.{passes};
@@ -10,14 +11,14 @@ ghost use Rattle.nm_index.specs.Index.{live_ids};
 ghost use Rattle.nm_eval.specs.Excluding.{leaves_out};
 ghost use Rattle.nm_eval.specs.Naming.{tests};
 
-use crate::exclusion::{Exclusion, find_exclusion, leaves_out};
+use crate::exclusion::{Exclusion, find_exclusion, leaves_out, left_out};
 use crate::laws::what_passes_is_named;
 use crate::message::Message;
 use crate::naming::named_ids;
 use crate::numbers::by_numbers;
 use crate::preparing::prepared;
 use crate::testing::passes;
-use nm_base::{Copies, Many, MessageId, NoMemory, Steps};
+use nm_base::{Copies, Many, MessageId, NoMemory, Steps, TextSet};
 use nm_query::Query;
 use nm_state::Snapshot;
 use std::alloc::Global;
@@ -102,17 +103,33 @@ fn all_matches<L: Ledger>(
     ensures steps { OnOk result (steps.new ≡ steps.old + length (live_ids snapshot.now.files snapshot.now.entries)) }
 {
     let mut found = Many::new(alloc);
-    let excluding = find_exclusion(query, exclude);
+    let out = left_out(alloc, snapshot, find_exclusion(query, exclude))?;
     let asked = prepared(alloc, query, moment)?;
     let mut rest = snapshot.ids();
     'ids: while let Some(id) = rest.next() {
         steps.tick();
-        let message = Message::of(snapshot, id);
-        if is_match(&asked, moment, excluding, &message) {
+        if passes_within(snapshot, id, &asked, moment, &out) {
             add(&mut found, id)?;
         }
     }
     Ok(found)
+}
+
+/// Says whether the message of the id passes the query, and is none of those that are left out.
+fn passes_within(
+    snapshot: &Snapshot,
+    id: &MessageId,
+    query: &Query,
+    moment: i64,
+    left_out: &TextSet<MessageId>,
+) -> bool
+    requires { IsMoment moment }
+    ensures { result ≡ (passes query.now (view_of snapshot.now id.now) moment && not (has_text left_out.now id.now)) }
+{
+    if left_out.contains(id) {
+        return false;
+    }
+    passes(query, &Message::of(snapshot, id), moment)
 }
 
 fn add(found: &mut Many<MessageId>, id: &MessageId) -> Result<(), NoMemory>

@@ -67,7 +67,7 @@ impl<'a> Message<'a> {
     }
 }
 
-fn has_text(tags: &Tags, tag: &str) -> bool
+pub(crate) fn has_text(tags: &Tags, tag: &str) -> bool
     ensures { result ≡ has_text tags.now tag.now }
 {
     'tags: for other in tags.iter() {
