@@ -1,6 +1,6 @@
 //! The answer to one line, for `line`: what it asks for is done, and its text is made.
 
-ghost use Rattle.std.specs.Prelude.{◌≡◌, ◌≢◌, ℕ, List, [], true, IfOk, IfSome, None};
+ghost use Rattle.std.specs.Prelude.{◌≡◌, ◌≢◌, ◌<◌, ◌≤◌, ℕ, List, [], true, IfOk, IfSome, None};
 ghost use Rattle.nm_dates.specs.Seconds.{IsMoment};
 ghost use Rattle.nm_disk.specs.Observed.{ObservedDisk};
 ghost use Rattle.nm_history.specs.Requests.{query_outcome};
@@ -56,6 +56,7 @@ pub(crate) fn answer<R: Threads + Wait + Sync, M: Maildir, D: Disk>(
     given: &mut Many<Given>,
 ) -> Result<LineAnswer, NoMemory>
     requires moment { IsMoment setting.now.moment }
+    requires workers { (0 < setting.now.workers) × (setting.now.workers ≤ 16) }
     requires fresh { given.old ≡ [] }
     requires even { IsEven writer.old }
     requires stands { writer.old.closed ≡ None → IfSome (D.observed disk.old).told (λ moments. StandsOnIndex moments.present writer.old) }
@@ -68,7 +69,7 @@ pub(crate) fn answer<R: Threads + Wait + Sync, M: Maildir, D: Disk>(
     let input = line.input.as_slice();
     match parse_line(alloc, line)? {
         ParsedLine::Usage { word, kind } => refuse(alloc, Outcome::Usage { word, kind }),
-        ParsedLine::Request(Request::New) => run_new(rt, alloc, writer, mail, disk, given),
+        ParsedLine::Request(Request::New) => run_new(rt, alloc, setting, writer, mail, disk, given),
         ParsedLine::Request(Request::Count(ask)) => run_count(
             alloc,
             setting,

@@ -1,7 +1,7 @@
 //! Lines that change the index, for `answering`: a `new`, a `tag` and a `restore`. The texts of faults are made
 //! first, since a commit may be on its way when one comes.
 
-ghost use Rattle.std.specs.Prelude.{◌≡◌, ◌++◌, ℕ, ℤ, List, [], false, true, IfOk, IfSome, MatchResult, None, Some};
+ghost use Rattle.std.specs.Prelude.{◌≡◌, ◌++◌, ◌<◌, ◌≤◌, ℕ, ℤ, List, [], false, true, IfOk, IfSome, MatchResult, None, Some};
 ghost use Rattle.nm_answer.specs.NewText.{new_text};
 ghost use Rattle.nm_answer.specs.Renaming.{sync_text};
 ghost use Rattle.nm_answer.specs.Restore.{strangers_text};
@@ -52,15 +52,17 @@ fn fault_texts(alloc: Global) -> Result<FaultTexts, NoMemory>
     Ok(FaultTexts { mail, disk })
 }
 
-/// Takes in what has come and lets go what is gone.
+/// Takes in what has come, which several workers parse, and lets go what is gone.
 pub(crate) fn run_new<R: Threads + Wait + Sync, M: Maildir, D: Disk>(
     rt: &R,
     alloc: Global,
+    setting: &Setting,
     writer: &mut Writer,
     mail: &mut M,
     disk: &mut D,
     given: &mut Many<Given>,
 ) -> Result<LineAnswer, NoMemory>
+    requires workers { (0 < setting.now.workers) × (setting.now.workers ≤ 16) }
     requires fresh { given.old ≡ [] }
     requires even { IsEven writer.old }
     requires stands { writer.old.closed ≡ None → IfSome (D.observed disk.old).told (λ moments. StandsOnIndex moments.present writer.old) }
@@ -72,7 +74,7 @@ pub(crate) fn run_new<R: Threads + Wait + Sync, M: Maildir, D: Disk>(
         → IsDurable entry opening (D.observed disk.new) writer.new }
 {
     let texts = fault_texts(alloc)?;
-    match writer.new_mail(rt, mail, disk, 1, &OpenGate, given) {
+    match writer.new_mail(rt, mail, disk, setting.workers, &OpenGate, given) {
         Ok(report) => reply_new(alloc, &report),
         Err(error) => refuse_write(alloc, error, texts),
     }

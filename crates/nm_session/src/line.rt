@@ -1,6 +1,6 @@
 //! One line of lane 0: it is run, and its log is put into the rooms. `running` calls it for each.
 
-ghost use Rattle.std.specs.Prelude.{◌≡◌, ◌&&◌, ◌-◌, ◌≤◌, ◌∷◌, [], None, IfSome, MatchResult, codes, length, not};
+ghost use Rattle.std.specs.Prelude.{◌≡◌, ◌&&◌, ◌-◌, ◌<◌, ◌≤◌, ◌∷◌, [], None, IfSome, MatchResult, codes, length, not};
 ghost use Rattle.nm_base.specs.Limits.{max_commits};
 ghost use Rattle.nm_dates.specs.Seconds.{IsMoment};
 ghost use Rattle.nm_disk.specs.Observed.{ObservedDisk};
@@ -39,6 +39,7 @@ pub(crate) fn run_line<R: Threads + Wait + Sync, M: Maildir, D: Disk>(
     left: u64,
 ) -> u64
     requires moment { IsMoment setting.now.moment }
+    requires workers { (0 < setting.now.workers) × (setting.now.workers ≤ 16) }
     requires spare { HasSpare 1 (length writer.old.begun) rooms.old }
     requires even { IsEven writer.old }
     requires stands { writer.old.closed ≡ None → IfSome (D.observed disk.old).told (λ moments. StandsOnIndex moments.present writer.old) }
@@ -80,6 +81,7 @@ fn line_log<R: Threads + Wait + Sync, M: Maildir, D: Disk>(
     spare: Many<u8>,
 ) -> (LineLog, Option<Said>)
     requires moment { IsMoment setting.now.moment }
+    requires workers { (0 < setting.now.workers) × (setting.now.workers ≤ 16) }
     requires spare { spare ≡ codes "notmuch: no memory\n" }
     requires even { IsEven writer.old }
     requires stands { writer.old.closed ≡ None → IfSome (D.observed disk.old).told (λ moments. StandsOnIndex moments.present writer.old) }

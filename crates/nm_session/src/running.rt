@@ -1,6 +1,6 @@
 //! The turns of a session, one after the other, over the index that `session` has opened.
 
-ghost use Rattle.std.specs.Prelude.{◌≡◌, ◌≤◌, ℕ, List, [], None, IfSome, length, map};
+ghost use Rattle.std.specs.Prelude.{◌≡◌, ◌<◌, ◌≤◌, ℕ, List, [], None, IfSome, length, map};
 ghost use Rattle.nm_base.specs.Limits.{max_commits};
 ghost use Rattle.nm_dates.specs.Seconds.{IsMoment};
 ghost use Rattle.nm_disk.specs.Observed.{ObservedDisk};
@@ -53,6 +53,7 @@ pub(crate) fn run_turns<R: Threads + Wait + Sync, M: Maildir, D: Disk>(
     disk: &mut D,
 ) -> SessionLog
     requires moment { IsMoment setting.now.moment }
+    requires workers { (0 < setting.now.workers) × (setting.now.workers ≤ 16) }
     requires rooms { HasRooms (length turns.now) rooms }
     requires in_place { AreInPlace 0 (map planned_of turns.now) }
     requires fresh { (writer.begun ≡ []) × (writer.acked ≡ []) × (writer.closed ≡ None) }
@@ -93,6 +94,7 @@ fn take_turns<R: Threads + Wait + Sync, M: Maildir, D: Disk>(
     disk: &mut D,
 ) -> u64
     requires moment { IsMoment setting.now.moment }
+    requires workers { (0 < setting.now.workers) × (setting.now.workers ≤ 16) }
     requires rooms { HasRooms (length turns.now) rooms.old }
     requires in_place { AreInPlace 0 (map planned_of turns.now) }
     requires fresh { (writer.old.begun ≡ []) × (writer.old.acked ≡ []) × (writer.old.closed ≡ None) }
@@ -141,6 +143,7 @@ fn take_turn<R: Threads + Wait + Sync, M: Maildir, D: Disk>(
     left: u64,
 ) -> u64
     requires moment { IsMoment setting.now.moment }
+    requires workers { (0 < setting.now.workers) × (setting.now.workers ≤ 16) }
     requires spare { HasSpare 1 (length writer.old.begun) rooms.old }
     requires even { IsEven writer.old }
     requires begun { length writer.old.begun ≤ max_commits }

@@ -1,6 +1,6 @@
 //! A session, for `nm_top`: the index is opened, and the phases of the script are run over it.
 
-ghost use Rattle.std.specs.Prelude.{◌≡◌, IfErr, IfOk, length, map};
+ghost use Rattle.std.specs.Prelude.{◌≡◌, ◌<◌, ◌≤◌, IfErr, IfOk, length, map};
 ghost use Rattle.nm_dates.specs.Seconds.{IsMoment};
 ghost use Rattle.nm_history.specs.Call.{devices};
 ghost use Rattle.nm_io.specs.Observed.{ObservedStream};
@@ -34,6 +34,7 @@ pub fn run_session<R: Threads + Wait + Sync, M: Maildir, D: Disk>(
     disk: &mut D,
 ) -> Result<SessionLog, OpenError>
     requires moment { IsMoment setting.now.moment }
+    requires workers { (0 < setting.now.workers) × (setting.now.workers ≤ 16) }
     ensures ran { IfOk result (λ log. (input out err : ObservedStream) → IsSession setting.now.moment (devices (M.observed mail.old) (D.observed disk.old) input out err)
         phases.now (M.observed mail.new) (D.observed disk.new) log) }
     ensures refused { IfErr result (IsUnopened (M.observed mail.old) (M.observed mail.new) (D.observed disk.old) (D.observed disk.new)) }
@@ -56,6 +57,7 @@ fn make_room_and_run<R: Threads + Wait + Sync, M: Maildir, D: Disk>(
     disk: &mut D,
 ) -> Result<SessionLog, OpenError>
     requires moment { IsMoment setting.now.moment }
+    requires workers { (0 < setting.now.workers) × (setting.now.workers ≤ 16) }
     requires turns { map planned_of turns.now ≡ planned_from 0 phases.now }
     ensures ran { IfOk result (λ log. (input out err : ObservedStream) → IsSession setting.now.moment (devices (M.observed mail.old) (D.observed disk.old) input out err)
         phases.now (M.observed mail.new) (D.observed disk.new) log) }
@@ -80,6 +82,7 @@ fn open_and_run<R: Threads + Wait + Sync, M: Maildir, D: Disk>(
     disk: &mut D,
 ) -> Result<SessionLog, OpenError>
     requires moment { IsMoment setting.now.moment }
+    requires workers { (0 < setting.now.workers) × (setting.now.workers ≤ 16) }
     requires rooms { HasRooms (length turns.now) rooms }
     requires turns { map planned_of turns.now ≡ planned_from 0 phases.now }
     ensures ran { IfOk result (λ log. (input out err : ObservedStream) → IsSession setting.now.moment (devices (M.observed mail.old) (D.observed disk.old) input out err)

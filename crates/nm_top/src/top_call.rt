@@ -1,6 +1,6 @@
 //! The top call: the words, the lines, the run, each ending; `program` makes it.
 
-ghost use Rattle.std.specs.Prelude.{◌≡◌, ℕ, Bool, true, false, List, ◌≤◌, None, pos, ◌≤ℤ◌};
+ghost use Rattle.std.specs.Prelude.{◌≡◌, ℕ, Bool, true, false, List, ◌<◌, ◌≤◌, None, pos, ◌≤ℤ◌};
 ghost use Rattle.nm_base.specs.Limits.{max_date};
 ghost use Rattle.nm_dates.specs.Seconds.{IsMoment};
 ghost use Rattle.nm_history.specs.Call.{call_fault, call_of, call_reads, command_reads, devices, input_fault_by, is_session, phases_by};
@@ -78,6 +78,7 @@ fn answered<R: Threads + Wait + Sync, M: Maildir, D: Disk, I: Source, O: Sink, E
     err: &mut E,
 ) -> Done
     requires moment { IsMoment setting.now.moment }
+    requires workers { (0 < setting.now.workers) × (setting.now.workers ≤ 16) }
     ensures { History (call_of words.now setting.now
         (devices (M.observed mail.old) (D.observed disk.old) (I.observed input.old) (O.observed out.old) (E.observed err.old))
         (devices (M.observed mail.new) (D.observed disk.new) (I.observed input.new) (O.observed out.new) (E.observed err.new)) result) }
@@ -101,6 +102,7 @@ fn answer_session<R: Threads + Wait + Sync, M: Maildir, D: Disk, I: Source, O: S
     err: &mut E,
 ) -> Done
     requires moment { IsMoment setting.now.moment }
+    requires workers { (0 < setting.now.workers) × (setting.now.workers ≤ 16) }
     requires session { is_session words.now ≡ true }
     ensures { History (call_of words.now setting.now
         (devices (M.observed mail.old) (D.observed disk.old) (I.observed input.old) (O.observed out.old) (E.observed err.old))
@@ -131,6 +133,7 @@ fn answer_command<R: Threads + Wait + Sync, M: Maildir, D: Disk, I: Source, O: S
     err: &mut E,
 ) -> Done
     requires moment { IsMoment setting.now.moment }
+    requires workers { (0 < setting.now.workers) × (setting.now.workers ≤ 16) }
     requires single { is_session words.now ≡ false }
     ensures { History (call_of words.now setting.now
         (devices (M.observed mail.old) (D.observed disk.old) (I.observed input.old) (O.observed out.old) (E.observed err.old))
@@ -157,6 +160,7 @@ fn run_command<R: Threads + Wait + Sync, M: Maildir, D: Disk, I: Source, O: Sink
     err: &mut E,
 ) -> Done
     requires moment { IsMoment setting.now.moment }
+    requires workers { (0 < setting.now.workers) × (setting.now.workers ≤ 16) }
     requires sound { call_fault words.now ≡ None }
     requires single { is_session words.now ≡ false }
     ensures { History (call_of words.now setting.now
@@ -183,6 +187,7 @@ fn run_alone<R: Threads + Wait + Sync, M: Maildir, D: Disk, O: Sink, E: Sink>(
     err: &mut E,
 ) -> Done
     requires moment { IsMoment setting.now.moment }
+    requires workers { (0 < setting.now.workers) × (setting.now.workers ≤ 16) }
     requires sound { call_fault words.now ≡ None }
     requires single { is_session words.now ≡ false }
     requires unread { command_reads (parse_single words.now) ≡ false }
@@ -221,6 +226,7 @@ fn read_lines_and_run<R: Threads + Wait + Sync, M: Maildir, D: Disk, I: Source, 
     err: &mut E,
 ) -> Done
     requires moment { IsMoment setting.now.moment }
+    requires workers { (0 < setting.now.workers) × (setting.now.workers ≤ 16) }
     requires sound { call_fault words.now ≡ None }
     requires single { is_session words.now ≡ false }
     requires read { command_reads (parse_single words.now) ≡ true }
@@ -248,6 +254,7 @@ fn run_over<R: Threads + Wait + Sync, M: Maildir, D: Disk, O: Sink, E: Sink>(
     err: &mut E,
 ) -> Done
     requires moment { IsMoment setting.now.moment }
+    requires workers { (0 < setting.now.workers) × (setting.now.workers ≤ 16) }
     requires sound { call_fault words.now ≡ None }
     requires single { is_session words.now ≡ false }
     requires read { command_reads (parse_single words.now) ≡ true }
@@ -301,6 +308,7 @@ fn read_and_run<R: Threads + Wait + Sync, M: Maildir, D: Disk, I: Source, O: Sin
     err: &mut E,
 ) -> Done
     requires moment { IsMoment setting.now.moment }
+    requires workers { (0 < setting.now.workers) × (setting.now.workers ≤ 16) }
     ensures { (words : List (List ℕ)) → is_session words ≡ true → call_fault words ≡ None → History (call_of words setting.now
         (devices (M.observed mail.old) (D.observed disk.old) (I.observed input.old) (O.observed out.old) (E.observed err.old))
         (devices (M.observed mail.new) (D.observed disk.new) (I.observed input.new) (O.observed out.new) (E.observed err.new)) result) }
@@ -339,6 +347,7 @@ fn run_phases<R: Threads + Wait + Sync, M: Maildir, D: Disk, O: Sink, E: Sink>(
     err: &mut E,
 ) -> Done
     requires moment { IsMoment setting.now.moment }
+    requires workers { (0 < setting.now.workers) × (setting.now.workers ≤ 16) }
     ensures { (words : List (List ℕ)) (input : List ℕ) (old new : ObservedStream) → is_session words ≡ session → call_fault words ≡ None
         → TakesInput (call_reads words) session input old new → input_fault_by session words input ≡ None → phases.now ≡ phases_by session words input → History (call_of words setting.now
         (devices (M.observed mail.old) (D.observed disk.old) old (O.observed out.old) (E.observed err.old))

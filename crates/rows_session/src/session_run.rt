@@ -19,7 +19,7 @@ const MOMENT: i64 = 1_704_110_400;
 const SETTING: Setting = Setting {
     moment: MOMENT,
     seed: 0,
-    workers: 1,
+    workers: 4,
 };
 
 /// What the program has beside its words.

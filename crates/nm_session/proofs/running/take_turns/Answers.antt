@@ -86,6 +86,9 @@ turns-preserved g c =
 pub take_turn-left-requires-clause-moment : goal.take_turn-left-requires-clause-moment
 take_turn-left-requires-clause-moment g c = search (rules, c.requires.moment)
 
+pub take_turn-left-requires-clause-workers : goal.take_turn-left-requires-clause-workers
+take_turn-left-requires-clause-workers g c = search (rules, c.requires.workers)
+
 pub take_turn-left-requires-clause-spare : goal.take_turn-left-requires-clause-spare
 take_turn-left-requires-clause-spare g c =
     let spare = spare-next c.turns.turn-index (length c.args.turns.now) (length c.turns.writer.begun) c.turns.rooms c.turns-test.true c.turns.invariant.spare in
