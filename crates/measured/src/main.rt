@@ -3,6 +3,7 @@
 #![tactic(auto)]
 
 mod journals;
+mod mails;
 mod maps;
 mod snapshots;
 mod threads;

@@ -1,15 +1,15 @@
 //! Snapshots of a store of mail, made by commits one of the other as a writer makes them, each with the one before it kept;
 //! `work` calls it.
 
-use crate::threads::id_of;
-use nm_base::{
-    Copies, Facts, Field, FieldWords, MailPath, Mailbox, Many, Marks, MessageId, NoMemory, Tag,
-    Tags, Text, WordList, is_word,
-};
+ghost use Rattle.nm_index.specs.Valid.{IsValid};
+
+use crate::mails::{addition, naming, tagging};
+use nm_base::{Many, NoMemory};
 use nm_commit::{Change, Commit};
-use nm_shared::Shared;
-use nm_state::Snapshot;
+use nm_index::Base;
+use nm_state::{RoomError, Snapshot};
 use std::alloc::Global;
+use std::mem;
 
 /// A commit brings so many mails.
 const TOGETHER: u64 = 256;
@@ -17,107 +17,170 @@ const TOGETHER: u64 = 256;
 /// So many commits of one change are made.
 const COMMITS: u64 = 1_000;
 
-/// A thread has so many mails.
-const THREAD: u64 = 8;
-
-/// The words of a mail.
-const WORDS: &str =
-    "about after all and at but by can for from has have in is it mail may more new no not of on one or our";
-
 /// The most that a next number comes to.
 const MOST: u64 = 1 << 63;
 
-/// What is done once the store is there.
+/// What is done.
 #[derive(Clone, Copy, Debug, PartialEq, Eq)]
-pub enum Then {
-    Nothing,
-    /// Mails come, one a commit.
+pub enum Job {
+    /// A store is made.
+    Built,
+    /// A store is made, and each message gets other tags in the commit that brings it, as in a `new`.
+    Named,
+    /// Then mails come, one a commit.
     Added,
-    /// A message gets other tags, in a commit of its own each time.
+    /// Then a message gets other tags, in a commit of its own each time.
     Tagged,
-    /// The index is told as data.
+    /// Then the index is told as data.
     Exported,
-    /// The same, and a snapshot is made of it.
+    /// Then that is done, and a snapshot is made of it.
     Opened,
 }
 
-/// How many messages there are after this work on a store of so many.
-pub fn messages(alloc: Global, then: Then, count: u64) -> Result<u64, NoMemory> {
-    let built = built(alloc, count)?;
-    match then {
-        Then::Nothing => Ok(len(&built)),
-        Then::Added => Ok(len(&added(alloc, built, count)?)),
-        Then::Tagged => Ok(len(&tagged(alloc, built)?)),
-        Then::Exported => Ok(built.to_base()?.files.len() as u64),
-        Then::Opened => Ok(len(&opened(alloc, &built)?)),
+/// The snapshot of a store, and the one before its last commit.
+#[derive(Drop)]
+struct Store {
+    alloc: Global,
+    now: Snapshot,
+    before: Snapshot,
+}
+
+impl Store {
+    fn new(alloc: Global) -> Store {
+        Store {
+            alloc,
+            now: Snapshot::empty(alloc),
+            before: Snapshot::empty(alloc),
+        }
+    }
+
+    /// Makes a commit that fits.
+    fn commit(&mut self, changes: Many<Change>) -> Result<(), NoMemory> {
+        let next = after(&self.now, &Commit { changes })?;
+        self.before = mem::replace(&mut self.now, next);
+        Ok(())
+    }
+
+    fn commit_one(&mut self, change: Change) -> Result<(), NoMemory> {
+        let mut changes = Many::new(self.alloc);
+        changes.push(change)?;
+        self.commit(changes)
     }
 }
 
-/// The snapshot after a commit that fits.
-fn made(snapshot: &Snapshot, commit: &Commit) -> Result<Snapshot, NoMemory> {
+/// The snapshot after a commit that fits, made as from a record of the disk.
+fn after(snapshot: &Snapshot, commit: &Commit) -> Result<Snapshot, NoMemory> {
     let fits = snapshot.fits(commit)?;
     if !fits {
         return Err(NoMemory);
     }
-    if !snapshot.has_numbers(commit) {
-        return Err(NoMemory);
+    match snapshot.apply_within_limits(commit) {
+        Ok(next) => Ok(next),
+        Err(RoomError::Limit(_) | RoomError::NoMemory) => Err(NoMemory),
     }
-    snapshot.apply(commit)
 }
 
-/// A store of so many mails, by commits of 256.
-fn built(alloc: Global, count: u64) -> Result<Snapshot, NoMemory> {
-    let mut snapshot = Snapshot::empty(alloc);
-    let mut _kept = snapshot.copy()?;
-    let mut changes = Many::new(alloc);
-    for at in 0..count {
-        changes.push(addition(alloc, at)?)?;
-        if changes.len() as u64 == TOGETHER || at == count - 1 {
-            let next = made(&snapshot, &Commit { changes })?;
-            changes = Many::new(alloc);
-            _kept = snapshot;
-            snapshot = next;
-        }
+/// How many messages there are after this work on a store of so many.
+pub fn messages(alloc: Global, job: Job, count: u64) -> Result<u64, NoMemory> {
+    let mut store = Store::new(alloc);
+    done(&mut store, job, count)
+}
+
+fn done(store: &mut Store, job: Job, count: u64) -> Result<u64, NoMemory> {
+    fill(store, job == Job::Named, count)?;
+    match job {
+        Job::Built | Job::Named => Ok(len(&store.now)),
+        Job::Added => added(store, count),
+        Job::Tagged => tagged(store),
+        Job::Exported => exported(&store.now),
+        Job::Opened => opened(store.alloc, &store.now),
     }
-    Ok(snapshot)
+}
+
+/// So many mails come, by commits of 256.
+fn fill(store: &mut Store, is_named: bool, count: u64) -> Result<(), NoMemory> {
+    'commits: for batch in 0..count.div_ceil(TOGETHER) {
+        let start = batch.saturating_mul(TOGETHER);
+        let end = start.saturating_add(TOGETHER).min(count);
+        let changes = batch_of(store.alloc, is_named, start, end)?;
+        store.commit(changes)?;
+    }
+    Ok(())
+}
+
+/// The mails with these numbers come, and then their messages get tags.
+fn batch_of(alloc: Global, is_named: bool, start: u64, end: u64) -> Result<Many<Change>, NoMemory> {
+    let mut changes = Many::new(alloc);
+    add_mails(alloc, &mut changes, start, end)?;
+    if is_named {
+        add_tags(alloc, &mut changes, start, end)?;
+    }
+    Ok(changes)
+}
+
+fn add_mails(
+    alloc: Global,
+    changes: &mut Many<Change>,
+    start: u64,
+    end: u64,
+) -> Result<(), NoMemory> {
+    'mails: for at in start..end {
+        changes.push(addition(alloc, at)?)?;
+    }
+    Ok(())
+}
+
+fn add_tags(
+    alloc: Global,
+    changes: &mut Many<Change>,
+    start: u64,
+    end: u64,
+) -> Result<(), NoMemory> {
+    'mails: for at in start..end {
+        changes.push(naming(alloc, at)?)?;
+    }
+    Ok(())
 }
 
 /// Mails more, one a commit.
-fn added(alloc: Global, snapshot: Snapshot, count: u64) -> Result<Snapshot, NoMemory> {
-    let mut snapshot = snapshot;
-    let mut _kept = snapshot.copy()?;
-    for at in 0..COMMITS {
-        let change = addition(alloc, count.saturating_add(at))?;
-        let next = made(&snapshot, &one(alloc, change)?)?;
-        _kept = snapshot;
-        snapshot = next;
+fn added(store: &mut Store, count: u64) -> Result<u64, NoMemory> {
+    'commits: for at in 0..COMMITS {
+        let change = addition(store.alloc, count.saturating_add(at))?;
+        store.commit_one(change)?;
     }
-    Ok(snapshot)
+    Ok(len(&store.now))
 }
 
 /// The first message gets other tags again and again.
-fn tagged(alloc: Global, snapshot: Snapshot) -> Result<Snapshot, NoMemory> {
-    let mut snapshot = snapshot;
-    let mut _kept = snapshot.copy()?;
-    for at in 0..COMMITS {
-        let change = Change::SetTags {
-            id: id_of(alloc, 0)?,
-            tags: tags(alloc, at)?,
-        };
-        let next = made(&snapshot, &one(alloc, change)?)?;
-        _kept = snapshot;
-        snapshot = next;
+fn tagged(store: &mut Store) -> Result<u64, NoMemory> {
+    'commits: for at in 0..COMMITS {
+        let tag = if at % 2 == 0 { "even" } else { "odd" };
+        let change = tagging(store.alloc, 0, tag)?;
+        store.commit_one(change)?;
     }
-    Ok(snapshot)
+    Ok(len(&store.now))
 }
 
-/// A snapshot made of the index as data.
-fn opened(alloc: Global, snapshot: &Snapshot) -> Result<Snapshot, NoMemory> {
+/// How many files the index as data has.
+fn exported(snapshot: &Snapshot) -> Result<u64, NoMemory> {
     let base = snapshot.to_base()?;
+    Ok(base.files.len() as u64)
+}
+
+/// How many messages a snapshot has that is made of the index as data.
+fn opened(alloc: Global, snapshot: &Snapshot) -> Result<u64, NoMemory> {
+    let base = snapshot.to_base()?;
+    opened_of(alloc, &base)
+}
+
+fn opened_of(alloc: Global, base: &Base) -> Result<u64, NoMemory>
+    requires { IsValid base.now }
+{
     if base.next > MOST {
         return Err(NoMemory);
     }
-    Snapshot::of(alloc, &base)
+    let snapshot = Snapshot::of(alloc, base)?;
+    Ok(len(&snapshot))
 }
 
 fn len(snapshot: &Snapshot) -> u64 {
@@ -126,83 +189,4 @@ fn len(snapshot: &Snapshot) -> u64 {
         count = count.saturating_add(1);
     }
     count
-}
-
-fn one(alloc: Global, change: Change) -> Result<Commit, NoMemory> {
-    let mut changes = Many::new(alloc);
-    changes.push(change)?;
-    Ok(Commit { changes })
-}
-
-/// The mail with this number comes.
-fn addition(alloc: Global, at: u64) -> Result<Change, NoMemory> {
-    let path = format!(in alloc; "cur/{at}:2,S")?;
-    match MailPath::new(Text::of(alloc, path.as_str())?) {
-        Ok(path) => Ok(Change::Add {
-            path,
-            facts: Shared::new(alloc, facts(alloc, at)?)?,
-        }),
-        Err(_) => Err(NoMemory),
-    }
-}
-
-/// A mail that links to the first mail of its thread and to the one before it.
-fn facts(alloc: Global, at: u64) -> Result<Facts, NoMemory> {
-    let mut from = Many::new(alloc);
-    from.push(Mailbox {
-        name: Text::of(alloc, "Ann Example")?,
-        address: Text::of(alloc, "ann@bench.example")?,
-    })?;
-    let mut lists = Many::new(alloc);
-    lists.push(FieldWords {
-        field: Field::Body,
-        words: words(alloc)?,
-    })?;
-    Ok(Facts {
-        id: id_of(alloc, at)?,
-        links: links(alloc, at)?,
-        date: 0,
-        from,
-        to: Many::new(alloc),
-        subject: Text::of(alloc, "What is new about the mail of today")?,
-        lists,
-        types: Many::new(alloc),
-        marks: Marks {
-            attachment: false,
-            signed: false,
-            encrypted: false,
-        },
-    })
-}
-
-fn links(alloc: Global, at: u64) -> Result<Many<MessageId>, NoMemory> {
-    let mut links = Many::new(alloc);
-    let behind = at % THREAD;
-    if behind > 0 {
-        links.push(id_of(alloc, at - behind)?)?;
-    }
-    if behind > 1 {
-        links.push(id_of(alloc, at - 1)?)?;
-    }
-    Ok(links)
-}
-
-fn words(alloc: Global) -> Result<WordList, NoMemory> {
-    let mut words = WordList::new(alloc);
-    for text in WORDS.split(' ') {
-        if is_word(text) {
-            words.push(text)?;
-        }
-    }
-    Ok(words)
-}
-
-/// Other tags than those of the commit before.
-fn tags(alloc: Global, at: u64) -> Result<Tags, NoMemory> {
-    let mut tags = Tags::new(alloc);
-    let text = if at % 2 == 0 { "even" } else { "odd" };
-    if let Ok(tag) = Tag::new(Text::of(alloc, text)?) {
-        tags.add(tag)?;
-    }
-    Ok(tags)
 }

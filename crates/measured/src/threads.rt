@@ -4,7 +4,8 @@ ghost use Rattle.std.specs.Prelude.{◌≡◌, ◌+◌, ◌<◌, ◌≤◌, ◌^
 ghost use Rattle.std.specs.List.{flat_map};
 ghost use Rattle.nm_threads.specs.Same.{ids_of};
 
-use nm_base::{Copies, LinkRow, Many, MessageId, NoMemory, Steps, Text};
+use crate::mails::id_of;
+use nm_base::{Copies, LinkRow, Many, NoMemory, Steps};
 use nm_threads::{Labels, numbers_rise_by_at_most_one_an_id};
 use std::alloc::Global;
 use std::marker::Brand;
@@ -15,9 +16,6 @@ const TOGETHER: usize = 256;
 
 /// The threads have 1 to so many mails.
 const MAX_LEN: u64 = 200;
-
-/// An odd number, so that its multiples of different numbers are different.
-const SCATTER: u64 = 0x9e37_79b9_7f4a_7c15;
 
 /// The number that no next number passes.
 const MOST: u64 = 1 << 63;
@@ -50,6 +48,35 @@ struct Thread {
     rest: u64,
 }
 
+/// Labels to which mails come: those that are kept, the rows that are to come together, the thread of the last mail, and
+/// the numbers of the first mails of all threads.
+#[derive(Drop)]
+struct Growing {
+    alloc: Global,
+    labels: Labels,
+    kept: Labels,
+    rows: Many<LinkRow>,
+    thread: Thread,
+    firsts: Many<u64>,
+}
+
+impl Growing {
+    fn new(alloc: Global) -> Growing {
+        Growing {
+            alloc,
+            labels: Labels::new(alloc),
+            kept: Labels::new(alloc),
+            rows: Many::new(alloc),
+            thread: Thread {
+                first: 0,
+                last: 0,
+                rest: 0,
+            },
+            firsts: Many::new(alloc),
+        }
+    }
+}
+
 /// How many ids have numbers after this work on so many mails.
 pub fn labelled(alloc: Global, work: Work, coming: Coming, count: u64) -> Result<u64, NoMemory> {
     counted::<Brand>(alloc, work, coming, count, Blank::new(1))
@@ -67,49 +94,65 @@ fn counted<L: Ledger>(
     requires whole { 0 < L.parts }
 {
     let mut steps = Steps::<L>::begin(blank);
-    let mut labels = Labels::new(alloc);
-    let firsts = grow(alloc, &mut labels, work, coming, count, &mut steps)?;
-    if work != Work::Tenth {
-        return Ok(labels.next() - 1);
-    }
-    drop_tenth(alloc, &mut labels, firsts.as_slice())?;
-    still_there(alloc, &labels, count)
+    let mut growing = Growing::new(alloc);
+    grow(&mut growing, work, coming, count, &mut steps)?;
+    told(&mut growing, work, count)
 }
 
-/// Adds the rows of so many mails, and answers the numbers of the first mails of their threads.
+/// Adds the rows of so many mails.
 fn grow<L: Ledger>(
-    alloc: Global,
-    labels: &mut Labels,
+    growing: &mut Growing,
     work: Work,
     coming: Coming,
     count: u64,
     steps: &mut Steps<L>,
-) -> Result<Many<u64>, NoMemory> {
-    let mut firsts = Many::new(alloc);
-    let mut thread = Thread {
-        first: 0,
-        last: 0,
-        rest: 0,
-    };
-    let mut rows = Many::new(alloc);
-    let mut _kept = labels.copy()?;
-    for at in 0..count {
-        let is_first = thread.rest == 0;
-        if is_first {
-            thread = begun(work, at, firsts.len() as u64, count);
-            firsts.push(at)?;
-        }
-        rows.push(mail(alloc, at, thread, is_first)?)?;
-        thread.last = at;
-        thread.rest = thread.rest.saturating_sub(1);
-        if rows.len() == TOGETHER {
-            add(labels, rows.as_slice(), coming, steps)?;
-            rows = Many::new(alloc);
-            _kept = labels.copy()?;
+) -> Result<(), NoMemory> {
+    'mails: for at in 0..count {
+        push_mail(growing, work, at, count)?;
+        if growing.rows.len() == TOGETHER {
+            add_rows(growing, coming, steps)?;
         }
     }
-    add(labels, rows.as_slice(), coming, steps)?;
-    Ok(firsts)
+    add_rows(growing, coming, steps)
+}
+
+/// A mail has a row.
+fn push_mail(growing: &mut Growing, work: Work, at: u64, count: u64) -> Result<(), NoMemory> {
+    let is_first = growing.thread.rest == 0;
+    if is_first {
+        growing.thread = begun(work, at, growing.firsts.len() as u64, count);
+        growing.firsts.push(at)?;
+    }
+    let row = mail(growing.alloc, at, growing.thread, is_first)?;
+    growing.rows.push(row)?;
+    growing.thread.last = at;
+    growing.thread.rest = growing.thread.rest.saturating_sub(1);
+    Ok(())
+}
+
+/// Adds the rows that are to come together, and keeps a copy.
+fn add_rows<L: Ledger>(
+    growing: &mut Growing,
+    coming: Coming,
+    steps: &mut Steps<L>,
+) -> Result<(), NoMemory> {
+    add(&mut growing.labels, growing.rows.as_slice(), coming, steps)?;
+    growing.rows = Many::new(growing.alloc);
+    growing.kept = growing.labels.copy()?;
+    Ok(())
+}
+
+/// How many ids have numbers once the threads are gone that are to go.
+fn told(growing: &mut Growing, work: Work, count: u64) -> Result<u64, NoMemory> {
+    if work != Work::Tenth {
+        return Ok(growing.labels.next() - 1);
+    }
+    drop_tenth(
+        growing.alloc,
+        &mut growing.labels,
+        growing.firsts.as_slice(),
+    )?;
+    still_there(growing.alloc, &growing.labels, count)
 }
 
 /// The thread that begins with this mail.
@@ -137,15 +180,6 @@ fn mail(alloc: Global, at: u64, thread: Thread, is_first: bool) -> Result<LinkRo
         id: id_of(alloc, at)?,
         links,
     })
-}
-
-/// The id of the mail with this number; the order of the ids is not that of the numbers.
-pub fn id_of(alloc: Global, at: u64) -> Result<MessageId, NoMemory> {
-    let text = at.wrapping_mul(SCATTER).to_string(alloc)?;
-    match MessageId::new(Text::of(alloc, text.as_str())?) {
-        Ok(id) => Ok(id),
-        Err(_) => Err(NoMemory),
-    }
 }
 
 /// Adds rows, where there is room for their numbers.

@@ -2,7 +2,7 @@
 
 use crate::journals;
 use crate::maps::{self, Order};
-use crate::snapshots::{self, Then};
+use crate::snapshots::{self, Job};
 use crate::threads::{self, Coming, Work};
 use nm_base::NoMemory;
 use std::alloc::Global;
@@ -48,13 +48,14 @@ fn labels(alloc: Global, work: &str, coming: Coming, count: u64) -> Result<u64, 
     }
 }
 
-fn messages(alloc: Global, then: &str, count: u64) -> Result<u64, NoMemory> {
-    match then {
-        "built" => snapshots::messages(alloc, Then::Nothing, count),
-        "added" => snapshots::messages(alloc, Then::Added, count),
-        "tagged" => snapshots::messages(alloc, Then::Tagged, count),
-        "exported" => snapshots::messages(alloc, Then::Exported, count),
-        "opened" => snapshots::messages(alloc, Then::Opened, count),
+fn messages(alloc: Global, job: &str, count: u64) -> Result<u64, NoMemory> {
+    match job {
+        "built" => snapshots::messages(alloc, Job::Built, count),
+        "named" => snapshots::messages(alloc, Job::Named, count),
+        "added" => snapshots::messages(alloc, Job::Added, count),
+        "tagged" => snapshots::messages(alloc, Job::Tagged, count),
+        "exported" => snapshots::messages(alloc, Job::Exported, count),
+        "opened" => snapshots::messages(alloc, Job::Opened, count),
         _ => Ok(0),
     }
 }
