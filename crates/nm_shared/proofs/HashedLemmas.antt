@@ -6,12 +6,13 @@ use Rattle.std.specs.declared.cmp.Ordering.{Ordering}
 use Rattle.std.specs.declared.cmp.Ordering.TheVariants.{Less, Equal, Greater}
 use Rattle.std.specs.BTreeMap.{is_at}
 use Rattle.std.specs.Cmp.{nat_cmp_is}
-use Rattle.std.specs.List.{AllByRecursion}
+use Rattle.std.specs.List.{AllByRecursion, IsDistinct}
 use Rattle.std.specs.List.Sorted.{IsStrictlySortedBy}
 use Rattle.std.specs.Map.{keys_of, lookup, values_of}
 use Rattle.std.specs.Option.{option_and_then}
-use Rattle.std.specs.Ordering.{is_eq, nat_cmp}
+use Rattle.std.specs.Ordering.{eq_by_cmp, is_eq, nat_cmp}
 use Rattle.std.proofs.lemmas.Bool.{cases_eq, cases_order}
+use Rattle.std.proofs.lemmas.Map.Keys.{IsDistinct-cons, IsDistinct-from_sorted}
 use Rattle.std.proofs.lemmas.Option.{same_Some, none-some}
 use Rattle.nm_shared.specs.Hashed.{at, value_of, slot_value, IsHashed}
 
@@ -40,6 +41,14 @@ pub rest_sorted : {X : Type 0} (e : ℕ × X) (es : List (ℕ × X)) → IsStric
 unfolding IsStrictlySortedBy
 rest_sorted e es sorted = sorted.1
 
+-- what the others have at a number, all have
+rest_at : {X : Type 0} (e : ℕ × X) (es : List (ℕ × X)) → IsStrictlySortedBy nat_cmp (keys_of (e ∷ es)) → (n : ℕ) (x : X) → at n es ≡ Some x → at n (e ∷ es) ≡ Some x
+rest_at e es sorted n x is =
+    elim (cases_eq n e.0) [
+      | inl here ↦ absurd (none-some x (sym (first_gone e es sorted) ∙ ap (λ m. at m es) (sym here) ∙ is))
+      | inr apart ↦ ap (λ test. cond test (Some e.1) (at n es)) (other_number n e.0 apart) ∙ is
+    ]
+
 -- what a test answers, as two cases
 decided : (test : Bool) → (test ≡ true) ⊎ (test ≡ false)
 decided true = inl refl
@@ -66,11 +75,7 @@ module _ {K V : Type 0} (cmp : K → K → Ordering) (hash : K → ℕ) (same : 
   Placed places slots = (slot : ℕ) (pair : K × V) → at slot slots ≡ Some pair → at (hash pair.0) places ≡ Some slot
 
   rest_placed : (places : List (ℕ × ℕ)) (e : ℕ × (K × V)) (es : List (ℕ × (K × V))) → IsStrictlySortedBy nat_cmp (keys_of (e ∷ es)) → Placed places (e ∷ es) → Placed places es
-  rest_placed places e es sorted placed = λ slot pair is.
-      elim (cases_eq slot e.0) [
-        | inl here ↦ absurd (none-some pair (sym (first_gone e es sorted) ∙ ap (λ n. at n es) (sym here) ∙ is))
-        | inr apart ↦ placed slot pair (ap (λ test. cond test (Some e.1) (at slot es)) (other_number slot e.0 apart) ∙ is)
-      ]
+  rest_placed places e es sorted placed = λ slot pair is. placed slot pair (rest_at e es sorted slot pair is)
 
   nowhere : (key : K) (place : Option ℕ) → ◌≡◌ {A = Option V} None (option_and_then (λ slot. value_of cmp hash key None) place)
   nowhere key None = refl
@@ -101,7 +106,46 @@ module _ {K V : Type 0} (cmp : K → K → Ordering) (hash : K → ℕ) (same : 
   slots_are places (e ∷ es) key sorted placed =
       slots_by places key e es sorted placed (is_eq (cmp key e.1.0)) refl (slots_are places es key (rest_sorted e es sorted) (rest_placed places e es sorted placed))
 
+  -- ---- each key once
+
+  abbrev Apart : List (K × V) → List (ℕ × (K × V)) → Type 0
+  Apart crowded slots = (slot : ℕ) (pair : K × V) → at slot slots ≡ Some pair → lookup (is_at (cmp pair.0)) crowded ≡ None
+
+  rest_apart : (crowded : List (K × V)) (e : ℕ × (K × V)) (es : List (ℕ × (K × V))) → IsStrictlySortedBy nat_cmp (keys_of (e ∷ es)) → Apart crowded (e ∷ es) → Apart crowded es
+  rest_apart crowded e es sorted apart = λ slot pair is. apart slot pair (rest_at e es sorted slot pair is)
+
+  not_among_by : (key : K) (e : K × V) (rest : Option V) (others : Type 0) (test : Bool) → is_eq (cmp key e.0) ≡ test → cond test (Some e.1) rest ≡ None → (rest ≡ None → others) → (is_eq (cmp key e.0) ≡ false) × others
+  not_among_by key e rest others true is_test none more = absurd (none-some e.1 (sym none))
+  not_among_by key e rest others false is_test none more = (is_test, more none)
+
+  -- a key that is not found is none of the keys
+  not_among : (key : K) (es : List (K × V)) → lookup (is_at (cmp key)) es ≡ None → AllByRecursion (λ other. eq_by_cmp cmp key other ≡ false) (keys_of es)
+  not_among key [] none = tt
+  not_among key (e ∷ es) none = not_among_by key e (lookup (is_at (cmp key)) es) (AllByRecursion (λ other. eq_by_cmp cmp key other ≡ false) (keys_of es)) (is_eq (cmp key e.0)) refl none (not_among key es)
+
+  -- the key in the first slot is in no other, nor crowded
+  first_alone : (places : List (ℕ × ℕ)) (crowded : List (K × V)) (e : ℕ × (K × V)) (es : List (ℕ × (K × V))) → IsStrictlySortedBy nat_cmp (keys_of (e ∷ es)) → Placed places (e ∷ es) → Apart crowded (e ∷ es)
+      → lookup (is_at (cmp e.1.0)) (values_of es ++ crowded) ≡ None
+  first_alone places crowded e es sorted placed apart =
+      let head : at e.0 (e ∷ es) ≡ Some e.1 = ap (λ test. cond test (Some e.1) (at e.0 es)) (same_number e.0 e.0 refl) in
+      let gone : slot_value cmp hash places es e.1.0 ≡ None = ap (option_and_then (λ slot. value_of cmp hash e.1.0 (at slot es))) (placed e.0 e.1 head) ∙ ap (value_of cmp hash e.1.0) (first_gone e es sorted) in
+      lookup_both (is_at (cmp e.1.0)) (values_of es) crowded
+      ∙ ap (λ o. or_else o (lookup (is_at (cmp e.1.0)) crowded)) (slots_are places es e.1.0 (rest_sorted e es sorted) (rest_placed places e es sorted placed) ∙ gone)
+      ∙ apart e.0 e.1 head
+
+  distinct_by : (places : List (ℕ × ℕ)) (crowded : List (K × V)) → IsDistinct (eq_by_cmp cmp) (keys_of crowded) → (slots : List (ℕ × (K × V))) → IsStrictlySortedBy nat_cmp (keys_of slots) → Placed places slots → Apart crowded slots
+      → IsDistinct (eq_by_cmp cmp) (keys_of (values_of slots ++ crowded))
+  distinct_by places crowded once [] sorted placed apart = once
+  distinct_by places crowded once (e ∷ es) sorted placed apart =
+      IsDistinct-cons (eq_by_cmp cmp) e.1.0 (keys_of (values_of es ++ crowded)) (not_among e.1.0 (values_of es ++ crowded) (first_alone places crowded e es sorted placed apart))
+      (distinct_by places crowded once es (rest_sorted e es sorted) (rest_placed places e es sorted placed) (rest_apart crowded e es sorted apart))
+
   module _ (places : List (ℕ × ℕ)) (slots : List (ℕ × (K × V))) (crowded : List (K × V)) (next : ℕ) (is : IsHashed cmp hash places slots crowded next) where
+    -- each key stands once among all pairs
+    pub keys_once : IsStrictlySortedBy cmp (keys_of crowded) → (all : List (K × V)) → values_of slots ++ crowded ≡ all → IsDistinct (eq_by_cmp cmp) (keys_of all)
+    keys_once sorted all are =
+        subst (λ (pairs : List (K × V)). IsDistinct (eq_by_cmp cmp) (keys_of pairs)) are (distinct_by places crowded (IsDistinct-from_sorted cmp (keys_of crowded) sorted) slots is.sorted is.placed is.apart)
+
     -- what a look-up finds among all pairs
     all_are : (key : K) → lookup (is_at (cmp key)) (values_of slots ++ crowded) ≡ or_else (slot_value cmp hash places slots key) (lookup (is_at (cmp key)) crowded)
     all_are key = lookup_both (is_at (cmp key)) (values_of slots) crowded ∙ ap (λ o. or_else o (lookup (is_at (cmp key)) crowded)) (slots_are places slots key is.sorted is.placed)

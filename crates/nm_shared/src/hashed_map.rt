@@ -2,12 +2,14 @@
 
 ghost use Rattle.std.specs.Prelude.{◌≡◌, [], ℕ, true, false, IfOk, MatchOption, OnOk, OnErr, Some, None, if◌then◌else◌};
 ghost use Rattle.std.specs.BTreeMap.{is_at};
-ghost use Rattle.std.specs.Map.{lookup};
+ghost use Rattle.std.specs.List.{IsDistinct};
+ghost use Rattle.std.specs.Map.{keys_of, lookup};
 ghost use Rattle.std.specs.Option.{option_and_then, option_copied};
-ghost use Rattle.std.specs.Ordering.{is_eq};
+ghost use Rattle.std.specs.Ordering.{eq_by_cmp, is_eq};
 ghost use Rattle.nm_shared.specs.Hashed.{at, slot_value};
 
 use crate::SharedMap;
+use crate::pairs::Pairs;
 use crate::places::Places;
 use nm_base::{Copies, NoMemory};
 use std::alloc::Global;
@@ -114,6 +116,16 @@ impl<K: Hashed, V> HashedMap<K, V> {
             return self.crowded.get(key);
         };
         Some(&pair.1)
+    }
+
+    /// All pairs, in no order that is told.
+    pub fn iter(&self) -> Pairs<'_, K, V>
+        ensures pairs { result ≡ self.now }
+        ensures once { IsDistinct (eq_by_cmp K.cmp) (keys_of self.now) }
+    {
+        // No code needs the number; that the crowded ones are in order comes with it.
+        let _ = self.crowded.len();
+        Pairs::of(&self.slots, &self.crowded)
     }
 }
 

@@ -1,5 +1,5 @@
 -- Tags stand beside the messages that have a file, whatever comes and goes.
--- For the proofs of `tag_message`, `untag` and `tag_first`.
+-- For the proofs of `tag_message`, `untag`, `tag_first` and others.
 use Rattle.std.proofs.Common.{◌≡◌, ◌≢◌, refl, sym, ap, subst, ◌∙◌, ℕ, Bool, true, false, ◌||◌, not, cond, List, [], ◌∷◌, ◌++◌, inl, inr, true≢false, if◌then◌else◌}
 use Rattle.std.proofs.Math.Bool.{or-false}
 use Rattle.std.specs.Cmp.{both_ways}
@@ -20,6 +20,7 @@ use Rattle.nm_commit.specs.Files.{has_id, with_moved, without_path}
 use Rattle.nm_index.specs.declared.base.Base.{Base}
 use Rattle.nm_state.specs.Filing.{at_text, lying_in}
 use Rattle.nm_state.specs.Parts.{AreTagged}
+use Rattle.nm_state.specs.Sorted.{TakesFrom}
 use Rattle.nm_state.proofs.KeyLemmas.{Contains_first, Contains_there, Contains_cases, Contains_none, Contains_map, all_at, text_same, text_other, same_id, other_id, cases_id}
 use Rattle.nm_state.proofs.PruneLemmas.{in_filter}
 
@@ -203,3 +204,13 @@ opened_tagged files tags live sets = record {
   live = λ id. found_is tags id ∙ both_ways (has_text (keys_of tags) id) (has_id files id) (live id).0 (live id).1;
   sets = λ id set at. let one = set_among tags id set at in subst IsSorted one.2 (all_at (λ (tagged : List ℕ × List (List ℕ)). IsSorted tagged.1) tags sets one.0 one.1);
 }
+
+-- ---- tags that are taken from file to file
+
+-- what no file after this one is of
+pub taken_more : (tags old new : Tagging) (file : List ℕ × Facts) (rest : Arrivals) → ((id : List ℕ) → has_id (file ∷ rest) id ≡ false → at_text id old ≡ at_text id tags) → TakesFrom tags file.1.id old new
+    → (id : List ℕ) → has_id rest id ≡ false → at_text id new ≡ at_text id tags
+taken_more tags old new file rest before takes id none = takes id ∙ elim (cases_id id file.1.id) [
+  | inl same ↦ cond-true (is_eq (slice_cmp nat_cmp id file.1.id)) (at_text file.1.id tags) (at_text id old) (same_id id file.1.id same) ∙ ap (λ key. at_text key tags) (sym same)
+  | inr not ↦ cond-false (is_eq (slice_cmp nat_cmp id file.1.id)) (at_text file.1.id tags) (at_text id old) (other_id id file.1.id not) ∙ before id (ap (λ test. test || has_id rest id) (text_other id file.1.id not) ∙ none)
+]

@@ -6,4 +6,5 @@ pub mod Measures
 pub mod Parts
 pub mod Renumbered
 pub mod Snapshot
+pub mod Sorted
 pub mod ThreadLaws

@@ -1,5 +1,5 @@
 -- What the parts of a snapshot take in the bytes of its index.
--- Cited by `measured_labels`, `measured_map` and `measures`.
+-- Cited by `measured_labels`, `measured_map`, `message_tags` and others.
 use Rattle.std.specs.Prelude.{◌≡◌, ℕ, ◌+◌, ◌||◌, true, List, length}
 use Rattle.std.proofs.Common.{ap, sym, ◌∙◌}
 use Rattle.std.specs.List.{sum_by}
@@ -11,10 +11,15 @@ use Rattle.nm_base.specs.Order.{has_text}
 use Rattle.nm_threads.specs.Labels.{Labelling, entries_of, has_entry, numbered}
 use Rattle.nm_codec.specs.Spelling.{text_bytes}
 use Rattle.nm_record.specs.BaseBytes.{entry_bytes}
+use Rattle.nm_record.specs.Tags.{tags_grammar}
 
 -- the pairs of a map, each its key and its value
 abbrev pub pairs_len : {K V : Type 0} → (K → ℕ) → (V → ℕ) → List (K × V) → ℕ
 pairs_len key value pairs = sum_by (λ pair. key pair.0 + value pair.1) pairs
+
+-- messages with their tags
+abbrev pub all_tags_len : List (List ℕ × List (List ℕ)) → ℕ
+all_tags_len tags = pairs_len (λ id. length (text_bytes id)) (λ set. length (tags_grammar.bytes set)) tags
 
 -- ids with their numbers
 abbrev pub entries_len : List (List ℕ × ℕ) → ℕ
@@ -33,9 +38,6 @@ pub record AreSeen (labels : Labelling) (ids seen : List (List ℕ)) (bytes : �
 pub text_from : (a b : List ℕ) → is_eq (slice_cmp nat_cmp a b) ≡ true → a ≡ b
 text_from a b e = (bytes_eq-Decides a b).0 (sym (is_eq-slice_cmp a b) ∙ e)
 
--- and take the same as bytes, and as a text
+-- and take the same as bytes
 pub bytes_alike : (a b : List ℕ) → is_eq (slice_cmp nat_cmp a b) ≡ true → length a ≡ length b
 bytes_alike a b e = ap (λ (t : List ℕ). length t) (text_from a b e)
-
-pub texts_alike : (a b : List ℕ) → is_eq (slice_cmp nat_cmp a b) ≡ true → length (text_bytes a) ≡ length (text_bytes b)
-texts_alike a b e = ap (λ (t : List ℕ). length (text_bytes t)) (text_from a b e)

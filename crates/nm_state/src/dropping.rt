@@ -12,9 +12,9 @@ ghost use Rattle.nm_state.specs.Parts.{AreLoose, AreParts, AreTagged, base_of, t
 use crate::filing::{Filing, is_live, remove_file};
 use crate::kept::{forget_rows, keep_row};
 use crate::labelling::{row_of, thread_laws};
-use crate::measured_map::MeasuredMap;
+use crate::message_tags::MessageTags;
 use crate::parts::Parts;
-use nm_base::{Facts, MailPath, MessageId, NoMemory, Tags};
+use nm_base::{Facts, MailPath, MessageId, NoMemory};
 use nm_shared::Shared;
 use std::alloc::Global;
 
@@ -32,11 +32,7 @@ fn any_live(filing: &Filing, ids: &[MessageId]) -> bool
 }
 
 /// Lets go the tags of a message that has no file.
-fn untag(
-    filing: &Filing,
-    tags: &mut MeasuredMap<MessageId, Shared<Tags>>,
-    message: &MessageId,
-) -> Result<(), NoMemory>
+fn untag(filing: &Filing, tags: &mut MessageTags, message: &MessageId) -> Result<(), NoMemory>
     requires { AreFiled filing.now }
     ensures tags { OnOk result (tags.new ≡ tags_after (files_in filing.now) tags.old message.now) }
     ensures tagged { OnOk result ((files : List (List ℕ × Facts)) → AreTagged files tags.old → has_id files message.now ≡ true

@@ -1,21 +1,23 @@
 //! A snapshot as data, for `snapshot` and `renumbering`. The clauses of all that changes a snapshot speak of it.
 
-ghost use Rattle.std.specs.Prelude.{◌≡◌, IfOk};
+ghost use Rattle.std.specs.Prelude.{◌≡◌, IfOk, OnOk};
 ghost use Rattle.std.specs.Map.{values_of};
 ghost use Rattle.nm_threads.specs.Labels.{entries_of};
 ghost use Rattle.nm_state.specs.Filing.{files_in};
 ghost use Rattle.nm_index.specs.Valid.{IsValid};
-ghost use Rattle.nm_state.specs.Parts.{AreParts, base_of};
+ghost use Rattle.nm_state.specs.Parts.{AreParts, AreTagged, base_of};
+ghost use Rattle.nm_state.specs.Sorted.{TakesFrom};
 
 use crate::filing::Filing;
 use crate::measured_labels::MeasuredLabels;
 use crate::measured_map::MeasuredMap;
+use crate::message_tags::MessageTags;
 use crate::parts::Parts;
 use crate::reading::Files;
 use crate::row_bytes::RowBytes;
 use nm_base::{Copies, Facts, LinkRow, MailPath, Many, MessageId, NoMemory, Tags};
 use nm_index::Base;
-use nm_shared::Shared;
+use nm_shared::{Shared, SharedMap};
 use std::alloc::Global;
 
 fn files_of(alloc: Global, filing: &Filing) -> Result<Many<(MailPath, Facts)>, NoMemory>
@@ -54,9 +56,46 @@ fn entries_of(alloc: Global, labels: &MeasuredLabels) -> Result<Many<(MessageId,
     Ok(entries)
 }
 
+/// Says in a map by ids what the tags say of a message.
+fn take_tags(
+    all: &mut SharedMap<MessageId, Shared<Tags>>,
+    tags: &MessageTags,
+    id: &MessageId,
+) -> Result<(), NoMemory>
+    ensures { OnOk result (TakesFrom tags.now id.now all.old all.new) }
+{
+    match tags.get(id) {
+        Some(set) => {
+            all.insert(id.copy()?, set.copy()?)?;
+            Ok(())
+        }
+        None => all.remove(id),
+    }
+}
+
+/// The tags of the messages of these files in a map by ids.
+fn tags_by_id(
+    alloc: Global,
+    filing: &Filing,
+    tags: &MessageTags,
+) -> Result<SharedMap<MessageId, Shared<Tags>>, NoMemory>
+    requires { AreTagged (files_in filing.now) tags.now }
+    ensures { IfOk result (λ all. all ≡ tags.now) }
+{
+    let mut all = SharedMap::new(alloc);
+    let mut rest = Files::of(filing.files.pairs());
+    'files: while let Some((_, facts)) = rest.next() {
+        take_tags(&mut all, tags, &facts.id)?;
+    }
+    // No code needs the number; that both are in order comes with it.
+    let _ = all.len();
+    tags.order();
+    Ok(all)
+}
+
 fn tags_of(
     alloc: Global,
-    all: &MeasuredMap<MessageId, Shared<Tags>>,
+    all: &SharedMap<MessageId, Shared<Tags>>,
 ) -> Result<Many<(MessageId, Tags)>, NoMemory>
     ensures { IfOk result (λ tags. tags ≡ all.now) }
 {
@@ -75,14 +114,15 @@ pub fn base_of(alloc: Global, parts: &Parts) -> Result<Base, NoMemory>
     ensures valid { IfOk result (λ base. IsValid base) }
 {
     let next = parts.labels.next();
-    // No code needs the number; that the ids are in order comes with it.
-    let _ = parts.tags.pairs().len();
+    // No code needs it; that the ids are in order comes with it.
+    parts.tags.order();
+    let tags = tags_by_id(alloc, &parts.filing, &parts.tags)?;
     Ok(Base {
         revision: parts.revision,
         next,
         files: files_of(alloc, &parts.filing)?,
         kept: rows_of(alloc, &parts.kept)?,
         entries: entries_of(alloc, &parts.labels)?,
-        tags: tags_of(alloc, &parts.tags)?,
+        tags: tags_of(alloc, &tags)?,
     })
 }

@@ -14,9 +14,9 @@ ghost use Rattle.nm_state.specs.ThreadLaws.{ThreadLaws};
 
 use crate::filing::{Filing, is_live};
 use crate::measured_labels::MeasuredLabels;
-use crate::measured_map::MeasuredMap;
+use crate::message_tags::MessageTags;
 use crate::tagging::{first_tags, set_tags};
-use nm_base::{Copies, Facts, LinkRow, MessageId, NoMemory, Tags};
+use nm_base::{Copies, Facts, LinkRow, NoMemory};
 use nm_shared::Shared;
 use nm_threads::{
     labels_know_no_order_of_rows, same_is_an_equivalence, same_is_what_is_computed,
@@ -69,7 +69,7 @@ fn shared_row(facts: &Shared<Facts>) -> Result<LinkRow, NoMemory>
 pub fn tag_mail(
     alloc: Global,
     filing: &Filing,
-    tags: &mut MeasuredMap<MessageId, Shared<Tags>>,
+    tags: &mut MessageTags,
     facts: &Shared<Facts>,
 ) -> Result<(), NoMemory>
     requires { AreFiled filing.now }
@@ -82,7 +82,7 @@ pub fn tag_mail(
 fn tag_first(
     alloc: Global,
     filing: &Filing,
-    tags: &mut MeasuredMap<MessageId, Shared<Tags>>,
+    tags: &mut MessageTags,
     facts: &Facts,
 ) -> Result<(), NoMemory>
     requires { AreFiled filing.now }

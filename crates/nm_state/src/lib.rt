@@ -15,6 +15,7 @@ mod live_ids;
 mod measured_labels;
 mod measured_map;
 mod measures;
+mod message_tags;
 mod messages;
 mod numbers;
 mod opening;

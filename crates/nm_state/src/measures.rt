@@ -1,15 +1,13 @@
 //! What the keys and values of each `MeasuredMap` of a snapshot take in an index as data.
 
 ghost use Rattle.std.specs.Prelude.{length, refl};
-ghost use Rattle.nm_codec.specs.Spelling.{text_bytes};
 ghost use Rattle.nm_record.specs.Commits.{arrival_grammar};
-ghost use Rattle.nm_record.specs.Tags.{tags_grammar};
-ghost use Rattle.nm_state.specs.Measures.{bytes_alike, texts_alike};
+ghost use Rattle.nm_state.specs.Measures.{bytes_alike};
 
 use crate::measured_map::{Measured, MeasuredKey};
 use crate::row_bytes::RowBytes;
-use nm_base::{Facts, LinkRow, MailPath, MessageId, Tags};
-use nm_record::{file_len, id_len, tags_len};
+use nm_base::{Facts, LinkRow, MailPath};
+use nm_record::file_len;
 use nm_shared::Shared;
 
 /// A place is no part of the data.
@@ -21,16 +19,6 @@ impl MeasuredKey for u64 {
     }
 
     ghost alike = { λ a b same. refl };
-}
-
-impl MeasuredKey for MessageId {
-    ghost key_measure = { λ id. length (text_bytes id) };
-
-    fn key_len(&self) -> u64 {
-        id_len(self)
-    }
-
-    ghost alike = { texts_alike };
 }
 
 impl MeasuredKey for RowBytes {
@@ -57,13 +45,5 @@ impl Measured for Shared<LinkRow> {
 
     fn value_len(&self) -> u64 {
         0
-    }
-}
-
-impl Measured for Shared<Tags> {
-    ghost measure = { λ tags. length (tags_grammar.bytes tags) };
-
-    fn value_len(&self) -> u64 {
-        tags_len(self.get())
     }
 }

@@ -18,6 +18,7 @@ use crate::kept::keep_row;
 use crate::labelling::row_of;
 use crate::measured_labels::MeasuredLabels;
 use crate::measured_map::MeasuredMap;
+use crate::message_tags::MessageTags;
 use crate::parts::Parts;
 use crate::row_bytes::RowBytes;
 use crate::tagging::set_tags;
@@ -58,14 +59,11 @@ fn keep_all(
 }
 
 /// The tags of messages in their map.
-fn tag_all(
-    alloc: Global,
-    tags: &[(MessageId, Tags)],
-) -> Result<MeasuredMap<MessageId, Shared<Tags>>, NoMemory>
+fn tag_all(alloc: Global, tags: &[(MessageId, Tags)]) -> Result<MessageTags, NoMemory>
     requires { IsSorted (keys_of tags.now) }
     ensures { IfOk result (λ all. all ≡ tags.now) }
 {
-    let mut all = MeasuredMap::new(alloc);
+    let mut all = MessageTags::new(alloc);
     'tags: for tagged in tags {
         set_tags(alloc, &mut all, &tagged.0, tagged.1.copy()?)?;
     }

@@ -7,8 +7,9 @@ ghost use Rattle.nm_state.specs.Parts.{AreParts, base_of};
 use crate::filing::Filing;
 use crate::measured_labels::MeasuredLabels;
 use crate::measured_map::MeasuredMap;
+use crate::message_tags::MessageTags;
 use crate::row_bytes::RowBytes;
-use nm_base::{Copies, LinkRow, MessageId, NoMemory, Tags};
+use nm_base::{Copies, LinkRow, NoMemory};
 use nm_shared::Shared;
 use std::alloc::Global;
 
@@ -18,7 +19,7 @@ pub struct Parts {
     pub filing: Filing,
     pub kept: MeasuredMap<RowBytes, Shared<LinkRow>>,
     pub labels: MeasuredLabels,
-    pub tags: MeasuredMap<MessageId, Shared<Tags>>,
+    pub tags: MessageTags,
 }
 
 impl Drop for Parts {
@@ -44,7 +45,7 @@ impl Parts {
             filing: Filing::new(alloc),
             kept: MeasuredMap::new(alloc),
             labels: MeasuredLabels::new(alloc),
-            tags: MeasuredMap::new(alloc),
+            tags: MessageTags::new(alloc),
         }
     }
 

@@ -1,13 +1,16 @@
 //! Reading paths and files in their orders, without a list of them being made: `nm_eval` and `nm_render` go through them so.
 
 ghost use Rattle.std.specs.Prelude.{◌≡◌, length};
+ghost use Rattle.std.specs.Cmp.Lexicographic.{slice_cmp};
 ghost use Rattle.std.specs.Iterator.{at_most};
+ghost use Rattle.std.specs.List.{IsDistinct};
 ghost use Rattle.std.specs.Map.{keys_of, values_of};
 ghost use Rattle.std.specs.Map.Iter.{TakesFirst, deref, deref_pair};
+ghost use Rattle.std.specs.Ordering.{eq_by_cmp, nat_cmp};
 ghost use Rattle.nm_state.specs.Filing.{files_at_places};
 
 use nm_base::{Facts, MailPath, MessageId, Tags};
-use nm_shared::{Items, Shared, SharedMap};
+use nm_shared::{HashedMap, Items, Pairs, Shared, SharedMap};
 use std::marker::Model;
 
 /// Paths in the order of their bytes. A contract sees those that are left.
@@ -132,10 +135,10 @@ impl<'a> Iterator for MessageFiles<'a> {
     }
 }
 
-/// Messages by the bytes of their ids, each with its tags. A contract sees those that are left.
+/// Messages in no order that is told, each with its tags. A contract sees those that are left.
 #[derive(Drop)]
 pub struct Tagged<'a> {
-    rest: Items<'a, (MessageId, Shared<Tags>)>,
+    rest: Pairs<'a, MessageId, Shared<Tags>>,
 }
 
 impl<'a> Model for Tagged<'a> {
@@ -147,8 +150,9 @@ impl<'a> Model for Tagged<'a> {
 }
 
 impl<'a> Tagged<'a> {
-    pub(crate) fn of(tags: &'a SharedMap<MessageId, Shared<Tags>>) -> Tagged<'a>
-        ensures { result ≡ tags.now }
+    pub(crate) fn of(tags: &'a HashedMap<MessageId, Shared<Tags>>) -> Tagged<'a>
+        ensures tags { result ≡ tags.now }
+        ensures once { IsDistinct (eq_by_cmp (slice_cmp nat_cmp)) (keys_of tags.now) }
     {
         Tagged { rest: tags.iter() }
     }

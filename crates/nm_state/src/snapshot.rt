@@ -4,6 +4,7 @@ ghost use Rattle.std.specs.Prelude.{◌≡◌, ◌+◌, ◌<◌, ◌≤◌, ◌^
 ghost use Rattle.std.specs.BTreeMap.{is_at};
 ghost use Rattle.std.specs.Cmp.Lexicographic.{slice_cmp};
 ghost use Rattle.std.specs.List.{AllByRecursion, filter};
+ghost use Rattle.std.specs.List.Sorted.{IsPermutation};
 ghost use Rattle.std.specs.Map.{lookup};
 ghost use Rattle.std.specs.Option.{option_copied};
 ghost use Rattle.std.specs.Ordering.{nat_cmp};
@@ -173,11 +174,11 @@ impl Snapshot {
         Some(tags.get())
     }
 
-    /// The messages that have a file, by the bytes of their ids, each with its tags.
+    /// The messages that have a file, in no order that is told, each with its tags.
     pub fn tagged(&self) -> Tagged<'_>
-        ensures { result ≡ self.now.tags }
+        ensures { IsPermutation self.now.tags result }
     {
-        Tagged::of(self.parts.tags.pairs())
+        self.parts.tags.iter()
     }
 
     /// The number of an id that has been named.
@@ -262,7 +263,7 @@ pub fn a_snapshot_is_a_valid_index(snapshot: &Snapshot)
 {
     // No code needs the numbers; that labels are numbered, and tags in order, comes with them.
     let _ = snapshot.parts.labels.next();
-    let _ = snapshot.parts.tags.pairs().len();
+    snapshot.parts.tags.order();
 }
 
 /// The copy is a second handle.

@@ -10,9 +10,8 @@ ghost use Rattle.nm_base.specs.Tags.{with_tag};
 ghost use Rattle.nm_index.specs.Index.{first_tags};
 ghost use Rattle.nm_state.specs.Filing.{at_text};
 
-use crate::measured_map::MeasuredMap;
-use nm_base::{Copies, Marks, MessageId, NoMemory, Tag, Tags, Text};
-use nm_shared::Shared;
+use crate::message_tags::MessageTags;
+use nm_base::{Marks, MessageId, NoMemory, Tag, Tags, Text};
 use std::alloc::Global;
 
 /// Adds the tag of a word.
@@ -51,27 +50,10 @@ pub fn first_tags(alloc: Global, marks: Marks) -> Result<Tags, NoMemory>
     Ok(tags)
 }
 
-/// These tags: the handle of the first message's where that has the same, so that most messages share one set.
-fn shared_tags(
-    alloc: Global,
-    all: &MeasuredMap<MessageId, Shared<Tags>>,
-    tags: Tags,
-) -> Result<Shared<Tags>, NoMemory>
-    ensures { IfOk result (λ shared. shared ≡ tags) }
-{
-    let Some(first) = all.pairs().first() else {
-        return Shared::new(alloc, tags);
-    };
-    if *first.1.get() == tags {
-        return first.1.copy();
-    }
-    Shared::new(alloc, tags)
-}
-
 /// Gives a message these tags and no others.
 pub fn set_tags(
     alloc: Global,
-    all: &mut MeasuredMap<MessageId, Shared<Tags>>,
+    all: &mut MessageTags,
     id: &MessageId,
     tags: Tags,
 ) -> Result<(), NoMemory>
@@ -81,7 +63,5 @@ pub fn set_tags(
 {
     // No code needs them one by one; that they are in order comes with it.
     let _ = tags.iter();
-    let shared = shared_tags(alloc, all, tags)?;
-    all.insert(id.copy()?, shared)?;
-    Ok(())
+    all.insert(alloc, id, tags)
 }

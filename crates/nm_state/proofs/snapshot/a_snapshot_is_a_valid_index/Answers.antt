@@ -1,4 +1,4 @@
-use Rattle.std.proofs.Common.{◌≤◌, List, ℕ, subst}
+use Rattle.std.proofs.Common.{◌≤◌, subst}
 use Rattle.std.specs.Map.{keys_of}
 use Rattle.nm_base.specs.Order.{IsSorted}
 use Rattle.nm_index.specs.Valid.{IsValid}
@@ -9,5 +9,5 @@ pub returns : goal.returns
 returns c =
     let parts = c.snapshot.inside.parts in
     let least : 1 ≤ parts.labels.next = subst (λ n. 1 ≤ n) c.next.ensures.next c.next.ensures.least in
-    let sorted : IsSorted (keys_of parts.tags) = subst (λ (tags : List (List ℕ × List (List ℕ))). IsSorted (keys_of tags)) c.pairs.ensures c.len.ensures.sorted in
+    let sorted : IsSorted (keys_of parts.tags) = c.order.ensures in
     subst IsValid c.snapshot.view_is (parts_valid parts c.snapshot.invariant c.next.ensures.labelling least sorted)
