@@ -1,10 +1,17 @@
 use Rattle.std.proofs.Common.{rules, ◌≡◌, ◌∷◌, [], ◌||◌, sym, ap, ◌∙◌}
 use Rattle.std.specs.List.{list_any}
 use Rattle.std.proofs.Math.Bool.{or-false}
+use Rattle.std.proofs.lemmas.List.Sorted.{list_any-IsPermutation}
 use Rattle.nm_base.specs.Order.{has_text, same_text}
 use Rattle.nm_eval.specs.Excluding.{is_among}
 use Rattle.nm_eval.proofs.LeftOutLemmas.{is_out, none_out, one_out, out_by_tags}
 use Rattle.nm_eval.proofs.exclusion.left_out.Goals as goal
+
+-- the walk has what the tags have, in another order
+pub messages-init : goal.messages-init
+messages-init c id =
+    ap (λ ids. has_text ids id || list_any (is_out c.args.exclusion id) c.tagged-rest.result) c.new-ids.ensures
+    ∙ sym (list_any-IsPermutation (is_out c.args.exclusion id) c.args.snapshot.now.tags c.tagged-rest.result c.tagged-rest.ensures)
 
 pub messages-preserved-in_ok-insert : goal.messages-preserved-in_ok-insert
 messages-preserved-in_ok-insert c id =
