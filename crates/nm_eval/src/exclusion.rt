@@ -46,7 +46,8 @@ pub(crate) fn leaves_out(exclusion: Exclusion, message: &Message<'_>) -> bool
     exclusion.spam && message.has_tag(SPAM)
 }
 
-/// The ids of the messages that have such a tag. One pass over the tags of all costs less than a look-up for each message.
+/// The ids of the messages that have such a tag. One pass over the tags of all costs less than a look-up for each message, and
+/// where no tag keeps messages out there is none.
 pub(crate) fn left_out(
     alloc: Global,
     snapshot: &Snapshot,
@@ -54,6 +55,9 @@ pub(crate) fn left_out(
 ) -> Result<TextSet<MessageId>, NoMemory>
     ensures { IfOk result (λ ids. (id : List ℕ) → has_text ids id ≡ leaves_out exclusion (view_of snapshot.now id)) }
 {
+    if !exclusion.deleted && !exclusion.spam {
+        return Ok(TextSet::new(alloc));
+    }
     a_snapshot_is_a_valid_index(snapshot);
     let mut ids = TextSet::new(alloc);
     let mut rest = snapshot.tagged();

@@ -26,8 +26,8 @@ use std::sync::ledger::Ledger;
 
 /// The ids of the live messages that pass the query at a moment, by their numbers. Where `exclude` is set, a message that
 /// has one of the tags `deleted` and `spam` is left out, unless the query names that tag. A step is the test of a message:
-/// of a query that names ids only the messages of these are tested. The ids, those that the query names, and the query as
-/// it is prepared once for all messages take memory, and nothing else does.
+/// of a query that names ids only the messages of these are tested. What takes memory is the ids; those that the query
+/// names, with their numbers; or else those that are left out, and the query as it is prepared once for all messages.
 pub fn matches<L: Ledger>(
     alloc: Global,
     snapshot: &Snapshot,
