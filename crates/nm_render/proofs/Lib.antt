@@ -4,7 +4,9 @@ pub mod JsonLemmas
 pub mod ObjectLemmas
 pub mod OnceLemmas
 pub mod OrderLemmas
+pub mod RankLemmas
 pub mod ShowLemmas
 pub mod SubjectLemmas
+pub mod TagLemmas
 pub mod TellingLemmas
 pub mod Utf8Lemmas

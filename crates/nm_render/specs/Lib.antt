@@ -1,6 +1,5 @@
 pub mod Groups
 pub mod Joined
-pub mod Order
 pub mod ReadBack
 pub mod Show
 pub mod SummaryData

@@ -59,9 +59,20 @@ fn with_others(alloc: Global, authors: &[Text], others: &[Text]) -> Result<Strin
 fn authors_of(alloc: Global, snapshot: &Snapshot, ids: &[MessageId]) -> Result<Many<Text>, NoMemory>
     ensures { IfOk result (λ authors. authors ≡ authors_of snapshot.now ids.now) }
 {
-    let ids = ordered(alloc, snapshot, true, ids)?;
-    let named = named_authors(alloc, snapshot, ids.as_slice())?;
+    let ids = copies_of(alloc, ids)?;
+    let sorted = ordered(snapshot, true, ids)?;
+    let named = named_authors(alloc, snapshot, sorted.as_slice())?;
     each_once(alloc, named.as_slice())
+}
+
+fn copies_of(alloc: Global, ids: &[MessageId]) -> Result<Many<MessageId>, NoMemory>
+    ensures { IfOk result (λ copies. copies ≡ ids.now) }
+{
+    let mut copies = Many::new(alloc);
+    'ids: for id in ids {
+        copies.push(id.copy()?)?;
+    }
+    Ok(copies)
 }
 
 fn named_authors(

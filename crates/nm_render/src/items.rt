@@ -5,7 +5,7 @@ ghost use Rattle.serde_json.specs.Data.{string};
 ghost use Rattle.nm_answer.specs.Search.{part_asked, paths_of_all, tags_of_all, texts_printed, thread_digits, threads_of};
 ghost use Rattle.nm_render.specs.ReadBack.{ReadsBack};
 
-use crate::lists::{part_of, paths_of_all, tags_of_all, threads_of};
+use crate::lists::{part_of, paths_of_all, tags_of_all, threads_asked};
 use crate::printing::texts_printed;
 use nm_base::{Copies, Many, MessageId, NoMemory, SearchAsk, Tag, Text};
 use nm_state::Snapshot;
@@ -21,9 +21,8 @@ pub(crate) fn threads_text(
     ensures text { IfOk result (λ text. text ≡ texts_printed ask.now.json (codes "thread:") (map thread_digits (part_asked ask.now (threads_of snapshot.now ids.now)))) }
     ensures reads_back { ask.now.json ≡ true → IfOk result (λ text. ReadsBack (map string (map thread_digits (part_asked ask.now (threads_of snapshot.now ids.now)))) text) }
 {
-    let names = threads_of(alloc, snapshot, ids)?;
-    let asked = part_of(names.as_slice(), ask.offset, ask.limit);
-    let digits = digits_of(alloc, asked)?;
+    let asked = threads_asked(alloc, snapshot, ask, ids)?;
+    let digits = digits_of(alloc, asked.as_slice())?;
     texts_printed(alloc, ask.json, b"thread:", digits.as_slice())
 }
 

@@ -1,15 +1,14 @@
 //! The threads, files and tags of messages, and the part of a list that is asked for, for `items` and `summary`.
 
-ghost use Rattle.std.specs.Prelude.{◌≡◌, ◌++◌, map, nat_eq, not, fold, IfOk, OnOk, [], ◌∷◌};
-ghost use Rattle.std.specs.List.{filter, filter_map, list_any};
+ghost use Rattle.std.specs.Prelude.{◌≡◌, ◌≤◌, ◌++◌, ℕ, List, map, nat_eq, not, fold, length, take, IfOk, OnOk};
+ghost use Rattle.std.specs.List.{filter, list_any};
 ghost use Rattle.nm_base.specs.Order.{insert};
+ghost use Rattle.nm_base.specs.Tags.{with_tag};
 ghost use Rattle.nm_answer.specs.Listing.{each_once, part_of};
-ghost use Rattle.nm_answer.specs.Search.{paths_of_all, tags_of_all, threads_of};
+ghost use Rattle.nm_answer.specs.Search.{part_asked, paths_of_all, tags_of_all, threads_of};
 ghost use Rattle.nm_answer.specs.View.{files_of, tags_of};
-ghost use Rattle.nm_index.specs.Index.{rows_of};
-ghost use Rattle.nm_threads.specs.Name.{thread_name};
 
-use nm_base::{Copies, Many, MessageId, NoMemory, Tags, Text, TextSet};
+use nm_base::{Copies, Many, MessageId, NoMemory, SearchAsk, Tag, Tags, Text, TextSet};
 use nm_state::Snapshot;
 use std::alloc::Global;
 
@@ -24,35 +23,54 @@ pub(crate) fn part_of<T>(items: &[T], offset: u32, limit: Option<u32>) -> &[T]
     }
 }
 
-/// The threads of the messages, each once, where the first of its messages stands.
-pub(crate) fn threads_of(
+/// The threads of the messages that are asked for, each once, where the first of its messages stands. Behind the first message
+/// of the last of them none is looked at.
+pub(crate) fn threads_asked(
+    alloc: Global,
+    snapshot: &Snapshot,
+    ask: &SearchAsk,
+    ids: &[MessageId],
+) -> Result<Many<u64>, NoMemory>
+    ensures { IfOk result (λ names. names ≡ part_asked ask.now (threads_of snapshot.now ids.now)) }
+{
+    let most = most_threads(ask.offset, ask.limit, ids);
+    let names = first_threads(alloc, snapshot, ids, most)?;
+    Many::from_slice(alloc, part_of(names.as_slice(), ask.offset, ask.limit))
+}
+
+/// How many of the threads the part stands among that is asked for.
+fn most_threads(offset: u32, limit: Option<u32>, ids: &[MessageId]) -> usize
+    ensures { (names : List ℕ) → length names ≤ length ids.now → part_of offset limit (take result names) ≡ part_of offset limit names }
+{
+    match limit {
+        Some(limit) => offset as usize + limit as usize,
+        None => ids.len(),
+    }
+}
+
+/// The first threads of the messages, as many as this at most, each once, where the first of its messages stands.
+fn first_threads(
     alloc: Global,
     snapshot: &Snapshot,
     ids: &[MessageId],
+    most: usize,
 ) -> Result<Many<u64>, NoMemory>
-    ensures { IfOk result (λ names. names ≡ threads_of snapshot.now ids.now) }
-{
-    let names = names_of(alloc, snapshot, ids)?;
-    each_once(alloc, names.as_slice())
-}
-
-fn names_of(alloc: Global, snapshot: &Snapshot, ids: &[MessageId]) -> Result<Many<u64>, NoMemory>
-    ensures { IfOk result (λ names. names ≡ filter_map (thread_name (rows_of snapshot.now) snapshot.now.entries) ids.now) }
+    ensures { IfOk result (λ names. names ≡ take most (threads_of snapshot.now ids.now)) }
 {
     let mut names = Many::new(alloc);
+    let mut seen = TextSet::new(alloc);
     'ids: for id in ids {
-        push_name(&mut names, snapshot, id)?;
+        if most <= names.len() {
+            return Ok(names);
+        }
+        let Some(name) = snapshot.thread(id) else {
+            continue;
+        };
+        if seen.insert(name)? {
+            names.push(name)?;
+        }
     }
     Ok(names)
-}
-
-fn push_name(names: &mut Many<u64>, snapshot: &Snapshot, id: &MessageId) -> Result<(), NoMemory>
-    ensures { OnOk result (names.new ≡ names.old ++ filter_map (thread_name (rows_of snapshot.now) snapshot.now.entries) (id.now ∷ [])) }
-{
-    if let Some(name) = snapshot.thread(id) {
-        names.push(name)?;
-    }
-    Ok(())
 }
 
 /// Each item once, where it first stands.
@@ -147,7 +165,19 @@ fn add_tags(tags: &mut Tags, snapshot: &Snapshot, id: &MessageId) -> Result<(), 
     };
     let mut rest = more.iter();
     'tags: while let Some(tag) = rest.next() {
-        tags.add(tag.copy()?)?;
+        add_tag(tags, tag)?;
     }
     Ok(())
+}
+
+/// Adds a copy of the tag, where it is not there yet.
+fn add_tag(tags: &mut Tags, tag: &Tag) -> Result<(), NoMemory>
+    ensures { OnOk result (tags.new ≡ with_tag tags.old tag.now) }
+{
+    // No code needs them one by one; that they are in order comes with it.
+    let _ = tags.iter();
+    if tags.has(tag) {
+        return Ok(());
+    }
+    tags.add(tag.copy()?)
 }

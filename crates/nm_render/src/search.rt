@@ -30,24 +30,13 @@ pub fn search_reply(
     ensures text { IfOk result (λ text. text ≡ search_found ask.now snapshot.now moment query.now) }
     ensures reads_back { ask.now.json ≡ true → IfOk result (λ text. ReadsBack (found_data ask.now.output ask.now snapshot.now (found_in_order ask.now snapshot.now moment query.now)) text) }
 {
-    let ids = found_in_order(alloc, snapshot, ask, query, moment)?;
-    let text = found_text(alloc, snapshot, ask, ids.as_slice())?;
-    Ok(text)
-}
-
-/// The messages that a search finds, in its order.
-fn found_in_order(
-    alloc: Global,
-    snapshot: &Snapshot,
-    ask: &SearchAsk,
-    query: &Query,
-    moment: i64,
-) -> Result<Many<MessageId>, NoMemory>
-    requires moment { IsMoment moment }
-    ensures { IfOk result (λ ids. ids ≡ found_in_order ask.now snapshot.now moment query.now) }
-{
     let ids = found(alloc, snapshot, query, moment, ask.exclude)?;
-    ordered(alloc, snapshot, ask.oldest, ids.as_slice())
+    // The tags are the same in any order.
+    if let Output::Tags = ask.output {
+        return tags_text(alloc, snapshot, ask, ids.as_slice());
+    }
+    let sorted = ordered(snapshot, ask.oldest, ids)?;
+    found_text(alloc, snapshot, ask, sorted.as_slice())
 }
 
 /// What is asked of messages that stand in order.

@@ -14,7 +14,7 @@ use crate::authors::authors_text;
 use crate::count::count_files;
 use crate::groups::{Groups, groups_of};
 use crate::items::{texts_of_tags, thread_digits};
-use crate::lists::{others_of, part_of, tags_of_all, threads_of};
+use crate::lists::{others_of, tags_of_all, threads_asked};
 use crate::order::message_date;
 use crate::shown::{bare_subject, joined, shown, shown_day};
 use itoa::Buffer;
@@ -32,10 +32,10 @@ pub(crate) fn summary_lines(
 ) -> Result<Many<u8>, NoMemory>
     ensures { IfOk result (λ text. text ≡ summary_lines ask.now snapshot.now ids.now) }
 {
-    let names = threads_of(alloc, snapshot, ids)?;
-    let asked = part_of(names.as_slice(), ask.offset, ask.limit);
-    let matched = groups_of(alloc, snapshot, asked, ids)?;
-    let lines = lines_of(alloc, snapshot, asked, &matched)?;
+    let asked = threads_asked(alloc, snapshot, ask, ids)?;
+    let names = asked.as_slice();
+    let matched = groups_of(alloc, snapshot, names, ids)?;
+    let lines = lines_of(alloc, snapshot, names, &matched)?;
     Ok(lines)
 }
 

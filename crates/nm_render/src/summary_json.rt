@@ -12,7 +12,7 @@ ghost use Rattle.nm_render.specs.SummaryData.{summary_data, with_mail, with_numb
 
 use crate::groups::{Groups, groups_of};
 use crate::items::{texts_of_tags, thread_digits};
-use crate::lists::{part_of, threads_of};
+use crate::lists::threads_asked;
 use crate::printing::{array_text, strings};
 use crate::summary::thread_summary;
 use nm_answer::ThreadSummary;
@@ -32,10 +32,10 @@ pub(crate) fn summaries_json(
     ensures text { IfOk result (λ text. text ≡ summaries_json ask.now snapshot.now ids.now) }
     ensures reads_back { IfOk result (λ text. ReadsBack (map summary_data (map (summary_of snapshot.now ids.now) (part_asked ask.now (threads_of snapshot.now ids.now)))) text) }
 {
-    let names = threads_of(alloc, snapshot, ids)?;
-    let asked = part_of(names.as_slice(), ask.offset, ask.limit);
-    let matched = groups_of(alloc, snapshot, asked, ids)?;
-    let objects = objects_of(alloc, snapshot, asked, &matched)?;
+    let asked = threads_asked(alloc, snapshot, ask, ids)?;
+    let names = asked.as_slice();
+    let matched = groups_of(alloc, snapshot, names, ids)?;
+    let objects = objects_of(alloc, snapshot, names, &matched)?;
     let mut json = array_text(alloc, objects)?;
     json.push(b'\n')?;
     Ok(json)

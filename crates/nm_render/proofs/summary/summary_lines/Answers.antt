@@ -11,7 +11,7 @@ returns c =
     let index = c.args.snapshot.now in
     let ids = c.args.ids.now in
     let matched = c.in_ok-matched.matched in
-    let asked = c.part_of-asked.result.now in
+    let asked = c.as_slice-names.result.now in
     let names : asked ≡ part_asked c.args.ask.now (threads_of index ids) = search rules in
     c.in_ok-lines.ensures
     ∙ told_within (λ name. summary_line (summary_by index name (listed matched name) (members_of index name))) (summary_of index ids) summary_line asked

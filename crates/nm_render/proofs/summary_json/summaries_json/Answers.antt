@@ -15,16 +15,16 @@ use Rattle.nm_render.proofs.ObjectLemmas.{mapped_twice, no_float_within, shallow
 use Rattle.nm_render.proofs.summary_json.summaries_json.Goals as goal
 
 -- the summaries that are asked for
-abbrev summaries : goal.After-drop-names-inside-2 → List ThreadSummary
+abbrev summaries : goal.After-drop-asked-inside-2 → List ThreadSummary
 summaries c = map (summary_of c.args.snapshot.now c.args.ids.now) (part_asked c.args.ask.now (threads_of c.args.snapshot.now c.args.ids.now))
 
 -- the objects that were made are theirs
-objects : (c : goal.After-drop-names-inside-2) → map view c.in_ok-objects.objects.items ≡ map summary_data (summaries c)
+objects : (c : goal.After-drop-asked-inside-2) → map view c.in_ok-objects.objects.items ≡ map summary_data (summaries c)
 objects c =
     let index = c.args.snapshot.now in
     let ids = c.args.ids.now in
     let matched = c.in_ok-matched.matched in
-    let asked = c.part_of-asked.result.now in
+    let asked = c.as_slice-names.result.now in
     let names : asked ≡ part_asked c.args.ask.now (threads_of index ids) = search rules in
     c.in_ok-objects.ensures
     ∙ mapped_within (λ name. summary_data (summary_by index name (listed matched name) (members_of index name))) (λ name. summary_data (summary_of index ids name)) asked
@@ -33,7 +33,7 @@ objects c =
     ∙ sym (mapped_twice (summary_of index ids) summary_data (part_asked c.args.ask.now (threads_of index ids)))
 
 -- their text
-text : (c : goal.After-drop-names-inside-2) → c.in_ok-json.json ≡ json_array (map summary_json (summaries c))
+text : (c : goal.After-drop-asked-inside-2) → c.in_ok-json.json ≡ json_array (map summary_json (summaries c))
 text c =
     let whole : List Data → Data = λ values. array (items_of values) in
     c.in_ok-json.ensures.text (ap (λ values. has_float (whole values)) (objects c) ∙ no_float_within (summaries c))
@@ -41,7 +41,7 @@ text c =
     ∙ summaries_same (summaries c)
 
 -- and the whole reply
-whole : (c : goal.After-drop-names-inside-2) → c.push.new.self ≡ json_array (map summary_json (summaries c)) ++ 10 ∷ []
+whole : (c : goal.After-drop-asked-inside-2) → c.push.new.self ≡ json_array (map summary_json (summaries c)) ++ 10 ∷ []
 whole c = c.in_ok-push.ensures.ok ∙ ap (λ json. json ++ 10 ∷ []) (text c)
 
 pub returns-clause-text : goal.returns-clause-text
