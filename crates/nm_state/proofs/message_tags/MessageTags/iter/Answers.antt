@@ -1,4 +1,4 @@
-use Rattle.std.proofs.Common.{◌≡◌, ℕ, List, subst, sym}
+use Rattle.std.proofs.Common.{ℕ, List, subst, sym}
 use Rattle.std.specs.List.Sorted.{IsPermutation}
 use Rattle.nm_state.specs.Sorted.{sorted_pairs}
 use Rattle.nm_state.proofs.SortedLemmas.{sorted_permuted}
