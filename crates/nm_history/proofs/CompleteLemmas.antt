@@ -3,7 +3,7 @@
 use Rattle.std.proofs.Common.{◌≡◌, ◌≢◌, ℕ, ℤ, ◌<◌, ◌≤◌, ◌⊎◌, inl, inr, Bool, true, false, not, cond, List, [], ◌∷◌, ◌++◌, Option, None, Some, Result, Ok, Err, IfSome, if◌then◌else◌, length, map, refl, sym, ap, ◌∙◌, subst, append-nil, arith, suc}
 use Rattle.std.specs.Io.KnownBytes.{Consumes, IsAtEnd}
 use Rattle.std.specs.Str.Lines.{lines}
-use Rattle.std.proofs.lemmas.List.{length-map}
+use Rattle.std.proofs.lemmas.List.{length-map, take_all}
 use Rattle.std.proofs.lemmas.Slice.Zip.{seconds-zip}
 use Rattle.nm_base.specs.Limits.{max_count, max_input_bytes, max_lines}
 use Rattle.nm_base.specs.declared.limit.Limit.{Limit}
@@ -12,6 +12,7 @@ use Rattle.nm_disk.specs.Observed.{Moments, bytes_now}
 use Rattle.nm_disk.specs.declared.disk.FileNo.TheVariants.{Head}
 use Rattle.nm_index.specs.declared.base.Base.{Base}
 use Rattle.nm_io.specs.Observed.{ObservedStream}
+use Rattle.nm_lanes.specs.declared.script.Phase.{Phase}
 use Rattle.nm_log.specs.ParsedLine.{parse_line, parse_single, reads_input}
 use Rattle.nm_log.specs.declared.line_parser.ParsedLine.{ParsedLine}
 use Rattle.nm_log.specs.declared.line_parser.ParsedLine.TheVariants as asked
@@ -32,13 +33,13 @@ use Rattle.nm_query.specs.declared.query_error.QueryError.{QueryError}
 use Rattle.nm_query.specs.declared.query_error.QueryError.TheVariants as query_errors
 use Rattle.nm_tags.specs.declared.line_error.LineKind.{LineKind}
 use Rattle.nm_writer.specs.StoredIndex.{HoldsIndex, HoldsNoIndex, HoldsWithin, PassesLimit}
-use Rattle.nm_history.specs.Call.{Call, Ending, PlacedLine, Ran, Refused, Unasked, call_fault, call_lines, call_reads, command_reads, fault_of_input, input_fault, input_fault_by, is_session, reads_by}
+use Rattle.nm_history.specs.Call.{Call, Ending, PlacedLine, Ran, Refused, Unasked, call_fault, call_lines, call_phases, call_reads, command_reads, fault_of_input, input_fault, input_fault_by, is_session, lines_of_first, placed_from, reads_by}
 use Rattle.nm_history.specs.Complete.{EndsWell, IsComplete, IsFinished, IsWithin, MayRead, NoFault, Opens}
 use Rattle.nm_history.specs.Given.{GivenAlong, IsGiven}
 use Rattle.nm_history.specs.History.{History}
 use Rattle.nm_history.specs.LineAnswers.{HasAnswer, HasCause, LaneAnswers, LineAnswers, ends_by, refused_look}
 use Rattle.nm_history.specs.Lines.{Along, Before, RunLine, after_line, after_lines, at_first, is_in_lane_zero, lane_zero_lines, lines_run, other_lane_lines}
-use Rattle.nm_history.specs.PrintedOut.{AreLogsOf, PrintedOut, StreamAppends}
+use Rattle.nm_history.specs.PrintedOut.{AreLogsOf, GainsReplies, PrintedOut}
 use Rattle.nm_history.specs.Refusals.{IsInputPassed, IsRead, IsRefusedFor, PassesBefore, RefusesLine, TakesInput}
 use Rattle.nm_history.specs.Requests.{bad_line_in, first_bad_line, first_refusal, own_query, refused_line, refused_query, refused_text}
 use Rattle.nm_history.specs.Status.{Status, any_is_out_of_memory, fault_of, fault_or, first_fault, session_status, single_status, status_by, status_of_fault, write_fault}
@@ -154,10 +155,15 @@ read-is (Some bytes) (Some rest) input read told h end =
     let same : bytes ≡ input = cc in
     sym (append-nil read) ∙ (ap (λ l. read ++ l) (sym end) ∙ (sym h ∙ same))
 
--- an output that did not fail
-quiet-out : (failed : Bool) (old new : ObservedStream) (bytes : List ℕ) → new.faults ≡ old.faults → old.faults < max_count → StreamAppends failed old new bytes → failed ≡ false
-quiet-out false old new bytes stands room h = refl
-quiet-out true old new bytes stands room h = let rose = h.1.1 room in absurd (omega arith)
+-- an output that did not fail, so that all phases were run
+quiet-out : (failed session : Bool) (phases : List Phase) (ran : ℕ) (logs : List LineLog) (old new : ObservedStream) → new.faults ≡ old.faults → old.faults < max_count
+    → GainsReplies failed session phases ran logs old new → (failed ≡ false) × (ran ≡ length phases)
+quiet-out false session phases ran logs old new stands room h = (refl, h.0)
+quiet-out true session phases ran logs old new stands room h = let rose = h.fault.1 room in absurd (omega arith)
+
+-- the lines of all phases
+all-lines : (phases : List Phase) (ran : ℕ) → ran ≡ length phases → lines_of_first ran phases ≡ placed_from 0 phases
+all-lines phases ran is = ap (placed_from 0) (take_all ran phases (omega (arith, is)))
 
 -- an input within its limits passed none
 within-limits : (limit : Limit) (read input : List ℕ) (call : Call) → IsInputPassed limit read call → IsWithin input call → ⊥
@@ -260,34 +266,36 @@ module _ (not_bad : (bytes : List ℕ) (index : Base) (at : ℕ) → HoldsIndex 
   no-limit limit read input call right within opens (inr passed) =
       clash-told call.entry.disk.told _ _ opens.told opens.holds passed.1 (λ moments holds passes. not_passed (bytes_now moments Head) opens.index limit holds passes)
 
-  by-ending : (ending : Ending) (opening : Base) (read : List ℕ) (out_failed : Bool) (call : Call) (input : List ℕ)
+  by-ending : (ending : Ending) (opening : Base) (read : List ℕ) (ran : ℕ) (out_failed : Bool) (call : Call) (input : List ℕ)
       → call_fault call.words ≡ None → NoFault call → MayRead (call_reads call.words) input call → Opens call
-      → PrintedOut ending read out_failed call → Status ending out_failed call
+      → PrintedOut ending read ran out_failed call → Status ending out_failed call
       → LineAnswers opening call.setting.moment (at_first opening call.entry) call.done.log.steps (lane_zero_lines (lines_run read call))
       → LaneAnswers opening call.setting.moment call.done.log.steps (other_lane_lines (lines_run read call))
       → IsGiven opening call.setting.moment call.done.log.steps (at_first opening call.entry) (lane_zero_lines (lines_run read call)) ending call.entry call.after
       → IsFinished input call ⊎ (call.done.status ≡ 7)
-  by-ending (Refused (refusals.Usage word kind)) opening read out_failed call input right quiet within opens said status answers looks given =
+  by-ending (Refused (refusals.Usage word kind)) opening read ran out_failed call input right quiet within opens said status answers looks given =
       let wrong = sym right ∙ said.0.1 in absurd (cc)
-  by-ending (Refused (refusals.BadQuery at kind)) opening read out_failed call input right quiet within opens said status answers looks given = absurd said.0
-  by-ending (Refused (refusals.BadDate at)) opening read out_failed call input right quiet within opens said status answers looks given = absurd said.0
-  by-ending (Refused (refusals.BadLine line kind)) opening read out_failed call input right quiet within opens said status answers looks given = absurd said.0
-  by-ending (Refused refusals.ReadFault) opening read out_failed call input right quiet within opens said status answers looks given =
+  by-ending (Refused (refusals.BadQuery at kind)) opening read ran out_failed call input right quiet within opens said status answers looks given = absurd said.0
+  by-ending (Refused (refusals.BadDate at)) opening read ran out_failed call input right quiet within opens said status answers looks given = absurd said.0
+  by-ending (Refused (refusals.BadLine line kind)) opening read ran out_failed call input right quiet within opens said status answers looks given = absurd said.0
+  by-ending (Refused refusals.ReadFault) opening read ran out_failed call input right quiet within opens said status answers looks given =
       let rose = said.0.2.1 quiet.input.room in let same = quiet.input.same in absurd (omega arith)
-  by-ending (Refused (refusals.Limit limit)) opening read out_failed call input right quiet within opens said status answers looks given =
+  by-ending (Refused (refusals.Limit limit)) opening read ran out_failed call input right quiet within opens said status answers looks given =
       absurd (no-limit limit read input call right within opens said.0)
-  by-ending (Refused refusals.DiskFault) opening read out_failed call input right quiet within opens said status answers looks given =
+  by-ending (Refused refusals.DiskFault) opening read ran out_failed call input right quiet within opens said status answers looks given =
       let rose = said.0.1.1 quiet.disk.room in let same = quiet.disk.same in absurd (omega arith)
-  by-ending (Refused (refusals.BadIndex file at)) opening read out_failed call input right quiet within opens said status answers looks given =
+  by-ending (Refused (refusals.BadIndex file at)) opening read ran out_failed call input right quiet within opens said status answers looks given =
       absurd (clash-told call.entry.disk.told _ _ opens.told opens.holds said.0.2 (λ moments holds bad. not_bad (bytes_now moments Head) opens.index at holds.held bad))
-  by-ending (Refused refusals.NoMemory) opening read out_failed call input right quiet within opens said status answers looks given = inr status
-  by-ending (Unasked why) opening read out_failed call input right quiet within opens said status answers looks given =
+  by-ending (Refused refusals.NoMemory) opening read ran out_failed call input right quiet within opens said status answers looks given = inr status
+  by-ending (Unasked why) opening read ran out_failed call input right quiet within opens said status answers looks given =
       absurd (not-unasked why read input call right within said.0.cause)
-  by-ending Ran opening read out_failed call input right quiet within opens said status answers looks given =
+  by-ending Ran opening read ran out_failed call input right quiet within opens said status answers looks given =
       let logs : List LineLog = call.done.log.lines in
       let script : List PlacedLine = call_lines call.words read in
-      let no_out : out_failed ≡ false = quiet-out out_failed call.entry.out call.after.out _ quiet.out.same quiet.out.room said.1.out in
-      let each : length logs ≡ length script = logs-length script logs said.1.lines in
+      let phases : List Phase = call_phases call.words read in
+      let gained = quiet-out out_failed (is_session call.words) phases ran logs call.entry.out call.after.out quiet.out.same quiet.out.room said.1.out in
+      let no_out : out_failed ≡ false = gained.0 in
+      let each : length logs ≡ length script = logs-length script logs (subst (λ (l : List PlacedLine). AreLogsOf l logs) (all-lines phases ran gained.1) said.1.lines) in
       let zero : first_fault (logs-of (lane_zero_lines (lines_run read call))) ≡ None =
       quiet-lines opening call.setting.moment call.done.log.steps (at_first opening call.entry) (lane_zero_lines (lines_run read call)) call.entry.mail call.after.mail given.along answers refl
       (omega (arith, quiet.mail.same)) quiet.mail.room (omega (arith, quiet.disk.same, given.disk)) quiet.disk.room in
@@ -303,4 +311,4 @@ module _ (not_bad : (bytes : List ℕ) (index : Base) (at : ℕ) → HoldsIndex 
 
   pub complete : (call : Call) → History call → IsComplete call
   complete call h input right quiet within opens =
-      by-ending h.2.ending h.0 h.1 h.2.out_failed call input right quiet within opens h.2.printed_out h.2.status h.2.line_answers h.2.lane_answers h.2.given
+      by-ending h.2.ending h.0 h.1 h.2.phases_run h.2.out_failed call input right quiet within opens h.2.printed_out h.2.status h.2.line_answers h.2.lane_answers h.2.given

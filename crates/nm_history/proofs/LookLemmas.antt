@@ -1,11 +1,10 @@
 -- A line of another lane and the end of a phase go on with the run of the machine; what commits nothing leaves the rest as it is.
 -- For the proofs of `a_look_more_keeps_the_machine_run`, `a_meeting_keeps_the_machine_run` and the others of `looking`.
-use Rattle.std.proofs.Common.{◌≡◌, ◌≢◌, ◌⊎◌, ℕ, ℤ, ◌+◌, ◌<◌, ◌≤◌, ◌==◌, Bool, true, false, List, [], ◌∷◌, ◌++◌, Option, None, Some, Result, Ok, Err, if◌then◌else◌, filter, length, map, fold, replicate, slice_index, slice_set, refl, sym, ap, ◌∙◌, subst, arith, inl, inr, append-nil}
-use Rattle.std.specs.List.{AllByRecursion, flat_map}
-use Rattle.std.proofs.lemmas.List.{length-append, length-replicate, take_all, get_or-set_other, get_or-set_same, length-set}
+use Rattle.std.proofs.Common.{◌≡◌, ◌≢◌, ◌⊎◌, ℕ, ℤ, ◌+◌, ◌<◌, ◌≤◌, ◌==◌, true, false, List, [], ◌∷◌, ◌++◌, Option, None, Some, Result, Ok, Err, filter, length, map, fold, replicate, slice_index, slice_set, refl, sym, ap, ◌∙◌, subst, arith, inl, inr, append-nil}
+use Rattle.std.proofs.lemmas.List.{length-replicate, take_all, get_or-set_other, get_or-set_same, length-set}
 use Rattle.std.proofs.lemmas.Bool.Decides.{nat_tests}
 use Rattle.nm_answer.specs.declared.request.Request.{Request}
-use Rattle.nm_answer.specs.Answer.{answer, is_reply}
+use Rattle.nm_answer.specs.Answer.{is_reply}
 use Rattle.nm_commit.specs.declared.change.Commit.{Commit}
 use Rattle.nm_index.specs.Index.{folded}
 use Rattle.nm_index.specs.declared.base.Base.{Base}
@@ -28,11 +27,11 @@ use Rattle.nm_tags.specs.declared.line_error.LineKind.{LineKind}
 use Rattle.nm_history.specs.Call.{Devices}
 use Rattle.nm_history.specs.CrashPrefix.{appends}
 use Rattle.nm_history.specs.Given.{GivenAlong}
-use Rattle.nm_history.specs.LineAnswers.{HasAnswer, HasLook, LaneAnswers, LineAnswers, ends_by, line_text, refused_look}
+use Rattle.nm_history.specs.LineAnswers.{HasLook, LaneAnswers, LineAnswers, ends_by, line_text, refused_look}
 use Rattle.nm_history.specs.LineCommits.{EachMakes, LineCommits}
-use Rattle.nm_history.specs.LineResult.{CommitNothing, IsLookResult, Place, StandsAt, look_steps, reply_step}
-use Rattle.nm_history.specs.Lines.{Along, Before, IsIndexAt, RunLine, after_line, after_lines, at_first, begun, is_in_lane_zero, lane_zero_lines}
-use Rattle.nm_history.specs.MachineRun.{IsAtRest, LaneStep, MachineRun, NeverStops, Replied, commit_phases_from, commit_phases_of, is_of_lane, lane_count, lane_steps_from, look_in, next, phase_after, replied_where, reply_in, reply_to}
+use Rattle.nm_history.specs.LineResult.{CommitNothing, IsLookResult, Place, StandsAt, look_steps}
+use Rattle.nm_history.specs.Lines.{Before, RunLine, after_line, after_lines, at_first, begun, is_in_lane_zero, lane_zero_lines}
+use Rattle.nm_history.specs.MachineRun.{IsAtRest, LaneStep, MachineRun, Replied, commit_phases_from, commit_phases_of, is_of_lane, lane_count, lane_steps_from, look_in, next, phase_after, replied_where, reply_in, reply_to}
 use Rattle.nm_history.specs.Requests.{first_bad_line, first_refusal, own_query, refused_line, refused_query, refused_text, refused_text_of}
 use Rattle.nm_history.proofs.ClockLemmas.{appends-append, appends-replies}
 use Rattle.nm_history.proofs.LineLemmas.{answer-later, asks-later, begun-append, begun-replies, fold-append, index-later, revision-folded}

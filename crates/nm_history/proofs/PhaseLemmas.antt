@@ -1,23 +1,21 @@
 -- In which phase steps stand, and in which lane: steps and lines cut in two, and those of one line.
 -- For `MachineLemmas` and `LookLemmas`.
-use Rattle.std.proofs.Common.{◌≡◌, ℕ, ◌+◌, ◌-◌, ◌*◌, ◌==◌, Bool, true, false, not, cond, List, [], ◌∷◌, ◌++◌, Option, Some, None, if◌then◌else◌, filter, length, map, fold, replicate, refl, sym, ap, ◌∙◌, subst, arith, append-nil, append_assoc}
+use Rattle.std.proofs.Common.{◌≡◌, ℕ, ◌+◌, ◌-◌, ◌*◌, ◌==◌, Bool, true, false, cond, List, [], ◌∷◌, ◌++◌, if◌then◌else◌, filter, length, map, fold, replicate, refl, sym, ap, ◌∙◌, arith, append-nil, append_assoc}
 use Rattle.std.specs.List.{AllByRecursion, flat_map}
 use Rattle.std.proofs.lemmas.Grind.{flat_map-append}
-use Rattle.std.proofs.lemmas.List.{length-append, replicate-append-replicate}
+use Rattle.std.proofs.lemmas.List.{replicate-append-replicate}
 use Rattle.std.proofs.lemmas.List.Elements.{filter-append}
 use Rattle.nm_commit.specs.declared.change.Commit.{Commit}
 use Rattle.nm_machine.specs.Machine.{Machine}
 use Rattle.nm_machine.specs.declared.step.Step.{Step}
-use Rattle.nm_machine.specs.declared.step.Step.TheVariants as steps
 use Rattle.nm_log.specs.ParsedLine.{parse_line}
 use Rattle.nm_log.specs.declared.line_parser.ParsedLine.{ParsedLine}
 use Rattle.nm_log.specs.declared.line_parser.ParsedLine.TheVariants as asked
 use Rattle.nm_log.specs.declared.outcome.Outcome.{Outcome}
 use Rattle.nm_log.specs.declared.outcome.Outcome.TheVariants as outcomes
 use Rattle.nm_history.specs.LineResult.{begin_step, commit_steps, line_steps, reply_step}
-use Rattle.nm_history.specs.Lines.{Before, RunLine, after_line, after_lines, is_in_lane_zero, lane_zero_lines, other_lane_lines}
-use Rattle.nm_history.specs.MachineRun.{LaneStep, Replied, commit_phase_by, commit_phases_from, commit_phases_of, commit_steps_in, is_in_lane, is_of_lane, lane_steps_by, lane_steps_from, lane_steps_of, look_in, look_of, next, phase_after, replied_where, reply_in, reply_to}
-use Rattle.nm_history.proofs.LineLemmas.{fold-append}
+use Rattle.nm_history.specs.Lines.{Before, RunLine, after_line, after_lines, is_in_lane_zero, lane_zero_lines}
+use Rattle.nm_history.specs.MachineRun.{LaneStep, Replied, commit_phase_by, commit_phases_from, commit_phases_of, commit_steps_in, is_in_lane, is_of_lane, lane_steps_by, lane_steps_from, lane_steps_of, look_in, next, phase_after, replied_where, reply_in, reply_to}
 
 -- ---- cut in two
 

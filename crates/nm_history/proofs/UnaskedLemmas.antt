@@ -354,6 +354,7 @@ module _ (why : Outcome) (input : List ℕ) (words : List (List ℕ)) (setting :
     input,
     record {
       ending = Unasked why;
+      phases_run = 0;
       out_failed = false;
       acknowledged = [];
       opening_index = refl;

@@ -1,15 +1,16 @@
--- What is printed: the replies of all lines of a script behind their headers, by phase, lane and line, or that of a single command alone, and at most one line to
--- the user besides.
+-- What is printed: the replies of the lines of a script behind their headers, by phase, lane and line, those of a phase at its end, or that of a single
+-- command alone; and at most one line to the user besides.
 -- Cited by `going_on`, `nm_top` and `nm_session`.
-use Rattle.std.specs.Prelude.{◌≡◌, ℕ, Bool, true, false, List, [], ◌∷◌, map, take, codes, Option, None, Some, if◌then◌else◌}
+use Rattle.std.specs.Prelude.{◌≡◌, ℕ, ◌+◌, Bool, true, false, List, [], ◌∷◌, ◌++◌, length, map, take, codes, Option, None, Some, if◌then◌else◌}
 use Rattle.std.specs.Io.KnownBytes.{Appends}
 use Rattle.nm_faults.specs.Faults.{HasRisen}
 use Rattle.nm_io.specs.Observed.{ObservedStream}
+use Rattle.nm_lanes.specs.declared.script.Phase.{Phase}
 use Rattle.nm_log.specs.Refusals.{refused_line}
 use Rattle.nm_log.specs.Replies.{is_well, printed, refusal_line, replies_alone}
 use Rattle.nm_log.specs.declared.log.LineLog.{LineLog}
 use Rattle.nm_log.specs.declared.outcome.Outcome.{Outcome}
-use Rattle.nm_history.specs.Call.{Call, Ending, PlacedLine, Ran, Refused, Unasked, call_lines, is_session}
+use Rattle.nm_history.specs.Call.{Call, Ending, PlacedLine, Ran, Refused, Unasked, call_lines, call_phases, is_session, lines_of_first}
 use Rattle.nm_history.specs.Refusals.{IsLineRefused, IsRefusedFor, ReadsScript}
 
 -- an output gained the bytes, or where it failed the first of them
@@ -79,14 +80,31 @@ pub record PrintsLine (outcome : Outcome) (input : List ℕ) (call : Call) : Typ
   pub out : call.after.out ≡ call.entry.out
   pub says : Prints (Some (refusal_line outcome)) call.entry.err call.after.err
 
--- Every line was run, the replies were printed, and what else was said.
-pub record PrintsReplies (input : List ℕ) (out_failed : Bool) (call : Call) : Type 0 where
-  pub lines : AreLogsOf (call_lines call.words input) call.done.log.lines
-  pub out : StreamAppends out_failed call.entry.out call.after.out (printed_by (is_session call.words) call.done.log.lines)
+-- The output failed in the replies of the last phase that was run: it gained those of all phases before it, and the first bytes of those of
+-- that one.
+pub record FailsInLast (session : Bool) (phases : List Phase) (ran : ℕ) (logs : List LineLog) (old new : ObservedStream) : Type 0 where
+  pub before : ℕ
+  pub last : ran ≡ before + 1
+  pub earlier : List LineLog
+  pub later : List LineLog
+  pub both : logs ≡ earlier ++ later
+  pub lines : AreLogsOf (lines_of_first before phases) earlier
+  pub bytes : (n : ℕ) × Appends old.bytes new.bytes (printed_by session earlier ++ take n (printed_by session later))
+  pub fault : HasRisen old.faults new.faults
+
+-- All phases were run and the output gained all replies; or it failed at the end of a phase, and no further one was run.
+abbrev pub GainsReplies : Bool → Bool → List Phase → ℕ → List LineLog → ObservedStream → ObservedStream → Type 0
+GainsReplies false session phases ran logs old new = (ran ≡ length phases) × Appends old.bytes new.bytes (printed_by session logs) × (new.faults ≡ old.faults)
+GainsReplies true session phases ran logs old new = FailsInLast session phases ran logs old new
+
+-- The lines of so many phases were run, their replies were printed, and what else was said.
+pub record PrintsReplies (input : List ℕ) (ran : ℕ) (out_failed : Bool) (call : Call) : Type 0 where
+  pub lines : AreLogsOf (lines_of_first ran (call_phases call.words input)) call.done.log.lines
+  pub out : GainsReplies out_failed (is_session call.words) (call_phases call.words input) ran call.done.log.lines call.entry.out call.after.out
   pub says : Prints (final_message (is_session call.words) call.done.log.lines out_failed) call.entry.err call.after.err
 
 -- What the outputs gained, and why.
-abbrev pub PrintedOut : Ending → List ℕ → Bool → Call → Type 0
-PrintedOut (Refused refusal) input out_failed call = IsRefusedFor refusal input call × PrintsRefusal (refused_line refusal) call
-PrintedOut (Unasked outcome) input out_failed call = IsLineRefused outcome input call × PrintsLine outcome input call
-PrintedOut Ran input out_failed call = ReadsScript input call × PrintsReplies input out_failed call
+abbrev pub PrintedOut : Ending → List ℕ → ℕ → Bool → Call → Type 0
+PrintedOut (Refused refusal) input ran out_failed call = IsRefusedFor refusal input call × PrintsRefusal (refused_line refusal) call
+PrintedOut (Unasked outcome) input ran out_failed call = IsLineRefused outcome input call × PrintsLine outcome input call
+PrintedOut Ran input ran out_failed call = ReadsScript input call × PrintsReplies input ran out_failed call

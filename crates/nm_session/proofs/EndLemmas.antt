@@ -1,10 +1,12 @@
 -- Before the first turn of a session, and after the last. For the proofs of `take_turns` and `run_turns`.
-use Rattle.std.proofs.Common.{◌≡◌, ℕ, ℤ, ◌≤◌, List, [], None, length, refl, sym, ap, ◌∙◌, subst, arith}
+use Rattle.std.proofs.Common.{◌≡◌, ℕ, ℤ, ◌≤◌, Bool, List, [], ◌∷◌, ◌++◌, None, length, take, refl, sym, ap, ◌∙◌, subst, arith}
+use Rattle.std.proofs.lemmas.Grind.{flat_map-append}
 use Rattle.nm_base.specs.Limits.{max_mail_bytes}
 use Rattle.nm_commit.specs.declared.change.Commit.{Commit}
 use Rattle.nm_disk.specs.Calls.{GoesOn}
 use Rattle.nm_disk.specs.Observed.{ObservedDisk}
-use Rattle.nm_history.specs.Call.{Devices, PlacedLine, placed_from}
+use Rattle.nm_history.specs.Call.{Devices, PlacedLine, lines_of_first, placed_from}
+use Rattle.nm_io.specs.Observed.{ObservedStream}
 use Rattle.nm_history.specs.CrashPrefix.{appends}
 use Rattle.nm_history.specs.Given.{GivenAlong}
 use Rattle.nm_history.specs.LineAnswers.{LaneAnswers, LineAnswers}
@@ -12,22 +14,24 @@ use Rattle.nm_history.specs.LineCommits.{LineCommits}
 use Rattle.nm_history.specs.LineResult.{Place, StandsAt}
 use Rattle.nm_history.specs.Lines.{Before, RunLine, after_lines, at_first, lane_zero_lines, other_lane_lines, run_lines}
 use Rattle.nm_history.specs.MachineRun.{MachineRun}
-use Rattle.nm_history.specs.PrintedOut.{AreLogsOf}
+use Rattle.nm_history.specs.PrintedOut.{AreLogsOf, GainsReplies}
 use Rattle.nm_index.specs.declared.base.Base.{Base}
 use Rattle.nm_lanes.specs.declared.script.Phase.{Phase}
 use Rattle.nm_log.specs.declared.log.LineLog.{LineLog}
 use Rattle.nm_log.specs.declared.log.SessionLog.{SessionLog}
 use Rattle.nm_machine.specs.declared.step.Step.{Step}
 use Rattle.nm_maildir.specs.Observed.{ObservedMail}
-use Rattle.nm_session.specs.Loop.{HasNoted, HasRunSome, SpareFrom, StandFor, lines_at, steps_at}
+use Rattle.nm_session.specs.Loop.{HasNoted, HasRunSome, HasTaken, SpareFrom, StandFor, lines_at, steps_at}
 use Rattle.nm_session.specs.Marks.{steps_of}
 use Rattle.nm_session.specs.Rooms.{HasRooms, HasSpare}
 use Rattle.nm_session.specs.Run.{HasRun, IsKept}
-use Rattle.nm_session.specs.Turns.{Planned, ends_in, lines_in, planned_from}
+use Rattle.nm_session.specs.TurnLaws.{FirstLaws}
+use Rattle.nm_session.specs.Turns.{Planned, ends_in, line_in, lines_in, planned_from}
 use Rattle.nm_session.specs.declared.marks.Mark.{Mark}
 use Rattle.nm_session.specs.declared.rooms.Rooms.{Rooms}
 use Rattle.nm_session.proofs.MarkLemmas.{begun-are}
-use Rattle.nm_session.proofs.TurnLemmas.{ends-planned, lines-planned}
+use Rattle.nm_session.proofs.TurnLemmas.{cut-phases, lines-planned}
+use Rattle.nm_session.proofs.PrintLemmas.{out-gained}
 use Rattle.nm_writer.specs.Durable.{IsDurable, KeptSince}
 
 pub spare-first : (turns : ℕ) (rooms : Rooms) (begun : List Commit) → begun ≡ [] → HasSpare turns 0 rooms → SpareFrom 0 turns (length begun) rooms
@@ -48,15 +52,6 @@ noted-none rooms place turns h begun_none acked_none = record {
   even = λ alive. ap length begun_none ∙ sym (ap length acked_none);
 }
 
--- the laws before the first line
-pub record FirstLaws : Type 0 where
-  pub stands : (opening : Base) (entry : Devices) (place : Place) → place.writer.shown ≡ opening → place.writer.begun ≡ [] → place.writer.acked ≡ [] → place.writer.closed ≡ None → place.mail ≡ entry.mail
-      → place.disk_faults ≡ entry.disk.faults → place.left ≡ max_mail_bytes → StandsAt opening entry [] [] [] place
-  pub machine_run : (opening : Base) (moment : ℤ) (entry : Devices) → MachineRun opening moment (at_first opening entry) [] [] [] 0
-  pub commits : (opening : Base) (moment : ℤ) (entry : Devices) → LineCommits opening moment entry.mail.tree [] [] []
-  pub answers : (opening : Base) (moment : ℤ) (entry : Devices) → LineAnswers opening moment (at_first opening entry) [] []
-  pub given : (opening : Base) (moment : ℤ) (entry : Devices) → GivenAlong opening moment [] (at_first opening entry) [] entry.mail entry.mail
-
 pub some-none : FirstLaws → (moment : ℤ) (entry : Devices) (rooms : Rooms) (place : Place) (turns : ℕ) → HasRooms turns rooms → place.writer.begun ≡ [] → place.writer.acked ≡ [] → place.writer.closed ≡ None
     → entry.mail ≡ place.mail → entry.disk.faults ≡ place.disk_faults → place.left ≡ max_mail_bytes → HasRunSome moment place.writer.shown entry [] rooms place
 some-none laws moment entry rooms place turns h begun_none acked_none alive mail disk left =
@@ -74,31 +69,48 @@ some-none laws moment entry rooms place turns h begun_none acked_none alive mail
       clocks = ap length acked_none ∙ ap appends none;
     }
 
--- ---- what all turns leave
+-- ---- what the turns leave that were taken
 
-module _ (moment : ℤ) (opening : Base) (entry : Devices) (phases : List Phase) (planned : List Planned) (rooms : Rooms) (place : Place) (log : SessionLog) (are : planned ≡ planned_from 0 phases)
+run-front : (front back : List PlacedLine) (logs : List LineLog) → AreLogsOf front logs → run_lines (front ++ back) logs ≡ run_lines front logs
+run-front [] [] [] h = refl
+run-front [] (line ∷ back) [] h = refl
+run-front [] back (log ∷ logs) h = absurd h
+run-front (line ∷ front) back [] h = absurd h
+run-front (line ∷ front) back (log ∷ logs) h = ap (λ (l : List RunLine). (line.1, log) ∷ l) (run-front front back logs h.1)
+
+module _ (moment : ℤ) (session failed : Bool) (opening : Base) (entry : Devices) (phases : List Phase) (planned : List Planned) (rooms : Rooms) (place : Place) (mail : ObservedMail) (disk_faults : ℕ) (old out : ObservedStream) (log : SessionLog)
+    (h : HasTaken moment session opening mail disk_faults planned failed rooms place old out) (mail_is : entry.mail ≡ mail) (disk_is : entry.disk.faults ≡ disk_faults) (out_is : entry.out ≡ old) (are : planned ≡ planned_from 0 phases)
     (is : log ≡ record { steps = steps_at rooms place; lines = rooms.logs.0; acked = place.writer.acked }) where
-  placed-are : lines_in planned ≡ placed_from 0 phases
-  placed-are = ap lines_in are ∙ lines-planned 0 phases
+  abbrev ended : ℕ
+  ended = ends_in h.taken
 
-  abbrev with-lines : List PlacedLine → List RunLine
-  with-lines placed = run_lines placed rooms.logs.0
+  lines-are : lines_in h.taken ≡ lines_of_first ended phases
+  lines-are = ap lines_in (cut-phases 0 phases h.taken h.back h.met (sym h.all ∙ are)) ∙ lines-planned 0 (take ended phases)
 
-  pub has-run : HasNoted planned rooms place → HasRunSome moment opening entry planned rooms place → HasRun moment opening entry phases place.mail place.disk_faults log
-  has-run noted some =
-      let ended : ends_in planned ≡ length phases = ap ends_in are ∙ ends-planned 0 phases in
-      subst (λ (l : SessionLog). HasRun moment opening entry phases place.mail place.disk_faults l) (sym is) (record {
+  all-are : placed_from 0 phases ≡ lines_in h.taken ++ lines_in h.back
+  all-are = sym (lines-planned 0 phases) ∙ (ap lines_in (sym are ∙ h.all) ∙ flat_map-append line_in h.taken h.back)
+
+  runs-are : lines_at h.taken rooms ≡ run_lines (placed_from 0 phases) rooms.logs.0
+  runs-are = sym (ap (λ (l : List PlacedLine). run_lines l rooms.logs.0) all-are ∙ run-front (lines_in h.taken) (lines_in h.back) rooms.logs.0 h.noted.logs)
+
+  some : HasRunSome moment opening entry h.taken rooms place
+  some = h.ran entry mail_is disk_is
+
+  pub has-run : HasRun moment opening entry phases session place.mail place.disk_faults out failed log
+  has-run =
+      subst (λ (l : SessionLog). HasRun moment opening entry phases session place.mail place.disk_faults out failed l) (sym is) (record {
         acknowledged = some.acknowledged;
-        logs = subst (λ (l : List PlacedLine). AreLogsOf l rooms.logs.0) placed-are noted.logs;
-        machine_run = subst (λ (l : List PlacedLine). MachineRun opening moment (at_first opening entry) (steps_at rooms place) (with-lines l) some.acknowledged (length phases)) placed-are
-            (subst (λ (n : ℕ). MachineRun opening moment (at_first opening entry) (steps_at rooms place) (lines_at planned rooms) some.acknowledged n) ended some.machine_run);
-        line_commits = subst (λ (l : List PlacedLine). LineCommits opening moment entry.mail.tree (steps_at rooms place) (lane_zero_lines (with-lines l)) some.acknowledged) placed-are some.line_commits;
-        line_answers = subst (λ (l : List PlacedLine). LineAnswers opening moment (at_first opening entry) (steps_at rooms place) (lane_zero_lines (with-lines l))) placed-are some.line_answers;
-        lane_answers = subst (λ (l : List PlacedLine). LaneAnswers opening moment (steps_at rooms place) (other_lane_lines (with-lines l))) placed-are some.lane_answers;
-        given = subst (λ (l : List PlacedLine). GivenAlong opening moment (steps_at rooms place) (at_first opening entry) (lane_zero_lines (with-lines l)) entry.mail place.mail) placed-are some.given;
-        faults = subst (λ (l : List PlacedLine). (after_lines (at_first opening entry) (lane_zero_lines (with-lines l))).disk_faults ≡ place.disk_faults) placed-are
-            (ap (λ (b : Before). b.disk_faults) some.at.before);
+        phases_run = ended;
+        logs = subst (λ (l : List PlacedLine). AreLogsOf l rooms.logs.0) lines-are h.noted.logs;
+        machine_run = subst (λ (l : List RunLine). MachineRun opening moment (at_first opening entry) (steps_at rooms place) l some.acknowledged ended) runs-are some.machine_run;
+        line_commits = subst (λ (l : List RunLine). LineCommits opening moment entry.mail.tree (steps_at rooms place) (lane_zero_lines l) some.acknowledged) runs-are some.line_commits;
+        line_answers = subst (λ (l : List RunLine). LineAnswers opening moment (at_first opening entry) (steps_at rooms place) (lane_zero_lines l)) runs-are some.line_answers;
+        lane_answers = subst (λ (l : List RunLine). LaneAnswers opening moment (steps_at rooms place) (other_lane_lines l)) runs-are some.lane_answers;
+        given = subst (λ (l : List RunLine). GivenAlong opening moment (steps_at rooms place) (at_first opening entry) (lane_zero_lines l) entry.mail place.mail) runs-are some.given;
+        faults = subst (λ (l : List RunLine). (after_lines (at_first opening entry) (lane_zero_lines l)).disk_faults ≡ place.disk_faults) runs-are (ap (λ (b : Before). b.disk_faults) some.at.before);
         clocks = some.clocks;
+        printed = subst (λ (o : ObservedStream). GainsReplies failed session phases ended rooms.logs.0 o out) (sym out_is)
+            (out-gained failed session phases planned h.taken h.back rooms.logs.0 old out are h.all h.whole h.noted.logs h.out);
       })
 
 pub is-kept : (entry now : ObservedDisk) (opening : Base) (planned : List Planned) (rooms : Rooms) (place : Place) (log : SessionLog) → HasNoted planned rooms place → IsDurable entry opening now place.writer
@@ -110,7 +122,7 @@ is-kept entry now opening planned rooms place log noted durable is =
     })
 
 -- all steps have a place
-pub steps-fit : (turns : ℕ) (planned : List Planned) (before after : Rooms) (place : Place) → turns ≡ length planned → HasRooms turns before → HasNoted planned after place → after.steps ≡ before.steps
+pub steps-fit : (turns : ℕ) (planned : List Planned) (before after : Rooms) (place : Place) → length planned ≤ turns → HasRooms turns before → HasNoted planned after place → after.steps ≡ before.steps
     → (after.steps.0 ≡ []) × (length (steps_of after.marks.0 place.writer.begun) ≤ after.steps.1)
 steps-fit turns planned before after place many h noted same =
     let list : after.steps.0 ≡ before.steps.0 = ap (λ (r : List Step × ℕ). r.0) same in

@@ -6,6 +6,7 @@ pub mod LookLemmas
 pub mod LoopLemmas
 pub mod MarkLemmas
 pub mod NewLemmas
+pub mod PrintLemmas
 pub mod RoomLemmas
 pub mod SessionLemmas
 pub mod ShowLemmas

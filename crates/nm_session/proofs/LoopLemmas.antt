@@ -1,5 +1,5 @@
 -- A turn more keeps what is so of the turns before it. For the proofs of `take_turns` and `run_turns`.
-use Rattle.std.proofs.Common.{◌≡◌, inl, inr, ℕ, ℤ, ◌+◌, ◌*◌, ◌==◌, ◌<◌, ◌≤◌, Bool, true, false, not, cond, List, [], ◌∷◌, ◌++◌, Option, length, refl, sym, ap, ◌∙◌, subst, arith, append-nil}
+use Rattle.std.proofs.Common.{◌≡◌, inl, inr, ℕ, ℤ, ◌+◌, ◌*◌, ◌==◌, ◌<◌, ◌≤◌, Bool, true, false, not, cond, List, [], ◌∷◌, ◌++◌, length, refl, sym, ap, ◌∙◌, subst, arith, append-nil}
 use Rattle.std.proofs.lemmas.Bool.Decides.{nat_tests}
 use Rattle.std.proofs.lemmas.Grind.{flat_map-append}
 use Rattle.std.proofs.lemmas.List.{length-append}
@@ -11,7 +11,7 @@ use Rattle.nm_history.specs.Given.{GivenAlong}
 use Rattle.nm_history.specs.LineAnswers.{LaneAnswers, LineAnswers}
 use Rattle.nm_history.specs.LineCommits.{LineCommits}
 use Rattle.nm_history.specs.LineResult.{CommitNothing, IsLineResult, IsLookResult, Place, StandsAt, line_steps, look_steps, reply_step}
-use Rattle.nm_history.specs.Lines.{Before, RunLine, at_first, is_in_lane_zero, lane_zero_lines, other_lane_lines, run_lines}
+use Rattle.nm_history.specs.Lines.{RunLine, at_first, is_in_lane_zero, lane_zero_lines, other_lane_lines, run_lines}
 use Rattle.nm_history.specs.MachineRun.{MachineRun, Replied, lane_count, reply_to}
 use Rattle.nm_history.specs.PrintedOut.{AreLogsOf, IsNumbered}
 use Rattle.nm_index.specs.declared.base.Base.{Base}
@@ -20,13 +20,12 @@ use Rattle.nm_log.specs.ParsedLine.{parse_line}
 use Rattle.nm_log.specs.declared.log.LineLog.{LineLog}
 use Rattle.nm_machine.specs.declared.step.Step.{Step}
 use Rattle.nm_machine.specs.declared.step.Step.TheVariants.{Meet}
-use Rattle.nm_maildir.specs.Observed.{ObservedMail}
-use Rattle.nm_maildir.specs.Tree.{Tree}
 use Rattle.nm_session.specs.Line.{IsNoted}
 use Rattle.nm_session.specs.Look.{IsLookNoted}
 use Rattle.nm_session.specs.Loop.{HasNoted, HasRunSome, IsMeetingNoted, IsTurn, SpareFrom, StandFor, lines_at, steps_at}
 use Rattle.nm_session.specs.Marks.{line_marks, look_marks, steps_of}
 use Rattle.nm_session.specs.Rooms.{AreSpares, HasSpare}
+use Rattle.nm_session.specs.TurnLaws.{TurnLaws}
 use Rattle.nm_session.specs.Turns.{Meets, Planned, Runs, ends_in, line_in, lines_in}
 use Rattle.nm_session.specs.declared.marks.Mark.{Mark}
 use Rattle.nm_session.specs.declared.marks.Mark.TheVariants as marks
@@ -52,7 +51,7 @@ zip-more (first ∷ lines) (other ∷ logs) line log h = ap (λ (l : List RunLin
 lines-more : (planned : List Planned) (phase : ℕ) (line : ScriptLine) → lines_in (planned ++ Runs phase line ∷ []) ≡ lines_in planned ++ (phase, line) ∷ []
 lines-more planned phase line = flat_map-append line_in planned (Runs phase line ∷ [])
 
-lines-same : (planned : List Planned) → lines_in (planned ++ Meets ∷ []) ≡ lines_in planned
+pub lines-same : (planned : List Planned) → lines_in (planned ++ Meets ∷ []) ≡ lines_in planned
 lines-same planned = flat_map-append line_in planned (Meets ∷ []) ∙ append-nil (lines_in planned)
 
 ends-line : (planned : List Planned) (phase : ℕ) (line : ScriptLine) → ends_in (planned ++ Runs phase line ∷ []) ≡ ends_in planned
@@ -82,42 +81,6 @@ others-more lines ran is = filter-append (λ (r : RunLine). not (is_in_lane_zero
 
 not-zero : (lane : ℕ) → 1 ≤ lane → (lane == 0) ≡ false
 not-zero lane h = grind (arith, nat_tests)
-
--- the laws of a line more, of a look more, and of the end of a phase
-pub record Laws : Type 0 where
-  pub stands : (opening : Base) (moment : ℤ) (phase : ℕ) (entry : Devices) (steps taken : List Step) (lines : List RunLine) (acknowledged : List Commit) (old new : Place) (ran : RunLine) → StandsAt opening entry steps lines acknowledged old
-      → (result : IsLineResult moment phase old ran taken new) → StandsAt opening entry (steps ++ taken) (lines ++ ran ∷ []) (acknowledged ++ result.made) new
-  pub machine_run : (opening : Base) (moment : ℤ) (phase : ℕ) (entry : Devices) (steps taken : List Step) (lines : List RunLine) (acknowledged : List Commit) (old new : Place) (ran : RunLine)
-      → StandsAt opening entry steps (lane_zero_lines lines) acknowledged old
-      → (result : IsLineResult moment phase old ran taken new) → MachineRun opening moment (at_first opening entry) steps lines acknowledged phase
-      → MachineRun opening moment (at_first opening entry) (steps ++ taken) (lines ++ ran ∷ []) (acknowledged ++ result.made) phase
-  pub commits : (opening : Base) (moment : ℤ) (phase : ℕ) (entry : Devices) (steps taken : List Step) (lines : List RunLine) (acknowledged : List Commit) (old new : Place) (ran : RunLine) → StandsAt opening entry steps lines acknowledged old
-      → (result : IsLineResult moment phase old ran taken new) → LineCommits opening moment entry.mail.tree steps lines acknowledged
-      → LineCommits opening moment entry.mail.tree (steps ++ taken) (lines ++ ran ∷ []) (acknowledged ++ result.made)
-  pub answers : (opening : Base) (moment : ℤ) (phase : ℕ) (entry : Devices) (steps taken : List Step) (lines : List RunLine) (acknowledged : List Commit) (old new : Place) (ran : RunLine) → StandsAt opening entry steps lines acknowledged old
-      → IsLineResult moment phase old ran taken new → LineAnswers opening moment (at_first opening entry) steps lines → LineAnswers opening moment (at_first opening entry) (steps ++ taken) (lines ++ ran ∷ [])
-  pub given : (opening : Base) (moment : ℤ) (phase : ℕ) (entry : Devices) (steps taken : List Step) (lines : List RunLine) (acknowledged : List Commit) (old new : Place) (ran : RunLine) → StandsAt opening entry steps lines acknowledged old
-      → IsLineResult moment phase old ran taken new → GivenAlong opening moment steps (at_first opening entry) lines entry.mail old.mail
-      → GivenAlong opening moment (steps ++ taken) (at_first opening entry) (lines ++ ran ∷ []) entry.mail new.mail
-  pub clocks : (opening : Base) (moment : ℤ) (phase : ℕ) (entry : Devices) (steps taken : List Step) (lines : List RunLine) (acknowledged : List Commit) (old new : Place) (ran : RunLine) → StandsAt opening entry steps lines acknowledged old
-      → IsLineResult moment phase old ran taken new → length old.writer.acked ≡ appends steps → length new.writer.acked ≡ appends (steps ++ taken)
-  pub look_run : (opening : Base) (moment : ℤ) (phase : ℕ) (entry : Devices) (steps taken : List Step) (lines : List RunLine) (acknowledged : List Commit) (place : Place) (ran : RunLine)
-      → StandsAt opening entry steps (lane_zero_lines lines) acknowledged place → IsLookResult moment phase place ran taken
-      → MachineRun opening moment (at_first opening entry) steps lines acknowledged phase → MachineRun opening moment (at_first opening entry) (steps ++ taken) (lines ++ ran ∷ []) acknowledged phase
-  pub look_answers : (opening : Base) (moment : ℤ) (phase : ℕ) (entry : Devices) (steps taken : List Step) (lines others : List RunLine) (acknowledged : List Commit) (place : Place) (ran : RunLine)
-      → StandsAt opening entry steps lines acknowledged place → IsLookResult moment phase place ran taken → LaneAnswers opening moment steps others → LaneAnswers opening moment (steps ++ taken) (others ++ ran ∷ [])
-  pub look_nothing : (lane : ℕ) (replies : List Replied) → CommitNothing (look_steps lane replies)
-  pub meeting : (opening : Base) (moment : ℤ) (phase : ℕ) (first : Before) (steps : List Step) (lines : List RunLine) (acknowledged : List Commit)
-      → MachineRun opening moment first steps lines acknowledged phase → MachineRun opening moment first (steps ++ Meet ∷ []) lines acknowledged (phase + 1)
-  pub still_stands : (opening : Base) (entry : Devices) (steps taken : List Step) (lines : List RunLine) (acknowledged : List Commit) (place : Place)
-      → CommitNothing taken → StandsAt opening entry steps lines acknowledged place → StandsAt opening entry (steps ++ taken) lines acknowledged place
-  pub still_commits : (opening : Base) (moment : ℤ) (tree : Option Tree) (steps taken : List Step) (lines : List RunLine) (acknowledged : List Commit)
-      → CommitNothing taken → LineCommits opening moment tree steps lines acknowledged → LineCommits opening moment tree (steps ++ taken) lines acknowledged
-  pub still_acknowledged : (steps taken : List Step) → CommitNothing taken → appends (steps ++ taken) ≡ appends steps
-  pub still_answers : (opening : Base) (moment : ℤ) (steps taken : List Step) (before : Before) (lines : List RunLine) → LineAnswers opening moment before steps lines → LineAnswers opening moment before (steps ++ taken) lines
-  pub still_looks : (opening : Base) (moment : ℤ) (steps taken : List Step) (lines : List RunLine) → LaneAnswers opening moment steps lines → LaneAnswers opening moment (steps ++ taken) lines
-  pub still_given : (opening : Base) (moment : ℤ) (steps taken : List Step) (before : Before) (lines : List RunLine) (old new : ObservedMail) → GivenAlong opening moment steps before lines old new
-      → GivenAlong opening moment (steps ++ taken) before lines old new
 
 -- ---- a line of lane 0
 
@@ -195,7 +158,7 @@ module _ (moment : ℤ) (planned : List Planned) (phase : ℕ) (line : ScriptLin
   both : (P : List Step → List RunLine → Type 0) → P (steps_at before old ++ taken) (lines_at planned before ++ (line, h.log) ∷ []) → P (steps_at after new) (lines_at (planned ++ Runs phase line ∷ []) after)
   both P p = subst (λ (l : List Step). P l (lines_at (planned ++ Runs phase line ∷ []) after)) (sym steps-are) (subst (λ (l : List RunLine). P (steps_at before old ++ taken) l) (sym lines-are) p)
 
-  module _ (laws : Laws) (opening : Base) (entry : Devices) (some : HasRunSome moment opening entry planned before old) (place_is : phase ≡ ends_in planned) where
+  module _ (laws : TurnLaws) (opening : Base) (entry : Devices) (some : HasRunSome moment opening entry planned before old) (place_is : phase ≡ ends_in planned) where
     abbrev lines : List RunLine
     lines = lines_at planned before
 
@@ -281,7 +244,7 @@ module _ (moment : ℤ) (planned : List Planned) (phase : ℕ) (line : ScriptLin
   both-looked : (P : List Step → List RunLine → Type 0) → P (steps_at before place ++ looking) (lines_at planned before ++ (line, h.log) ∷ []) → P (steps_at after place) (lines_at (planned ++ Runs phase line ∷ []) after)
   both-looked P p = subst (λ (l : List Step). P l (lines_at (planned ++ Runs phase line ∷ []) after)) (sym steps-looked) (subst (λ (l : List RunLine). P (steps_at before place ++ looking) l) (sym lines-looked) p)
 
-  module _ (laws : Laws) (opening : Base) (entry : Devices) (some : HasRunSome moment opening entry planned before place) (place_is : phase ≡ ends_in planned) (exists : line.lane < lane_count) where
+  module _ (laws : TurnLaws) (opening : Base) (entry : Devices) (some : HasRunSome moment opening entry planned before place) (place_is : phase ≡ ends_in planned) (exists : line.lane < lane_count) where
     abbrev lines-before : List RunLine
     lines-before = lines_at planned before
 
@@ -362,7 +325,7 @@ module _ (moment : ℤ) (planned : List Planned) (before after : Rooms) (place :
   both-met : (P : List Step → List RunLine → Type 0) → P (steps_at before place ++ Meet ∷ []) (lines_at planned before) → P (steps_at after place) (lines_at (planned ++ Meets ∷ []) after)
   both-met P p = subst (λ (l : List Step). P l (lines_at (planned ++ Meets ∷ []) after)) (sym steps-met) (subst (λ (l : List RunLine). P (steps_at before place ++ Meet ∷ []) l) (sym lines-met) p)
 
-  module _ (laws : Laws) (opening : Base) (entry : Devices) (some : HasRunSome moment opening entry planned before place) where
+  module _ (laws : TurnLaws) (opening : Base) (entry : Devices) (some : HasRunSome moment opening entry planned before place) where
     meet-some : HasRunSome moment opening entry (planned ++ Meets ∷ []) after place
     meet-some = record {
       acknowledged = some.acknowledged;
@@ -390,7 +353,7 @@ noted-more moment planned (Runs phase line) before after old new noted (inr h) =
     subst (λ (place : Place). HasNoted (planned ++ Runs phase line ∷ []) after place) (sym h.2) (look-noted moment planned phase line before after old noted h.0 h.1)
 noted-more moment planned Meets before after old new noted h = subst (λ (place : Place). HasNoted (planned ++ Meets ∷ []) after place) (sym h.1) (meet-noted moment planned before after old noted h.0)
 
-pub some-more : (laws : Laws) (moment : ℤ) (opening : Base) (entry : Devices) (planned : List Planned) (turn : Planned) (before after : Rooms) (old new : Place) → HasNoted planned before old → IsTurn moment turn old before after new
+pub some-more : (laws : TurnLaws) (moment : ℤ) (opening : Base) (entry : Devices) (planned : List Planned) (turn : Planned) (before after : Rooms) (old new : Place) → HasNoted planned before old → IsTurn moment turn old before after new
     → IsNext 0 planned turn → HasRunSome moment opening entry planned before old → HasRunSome moment opening entry (planned ++ turn ∷ []) after new
 some-more laws moment opening entry planned (Runs phase line) before after old new noted (inl h) next some =
     let here : phase ≡ ends_in planned = omega (arith, next.0) in

@@ -1,16 +1,16 @@
 -- The turns of phases: their lines, how many phases end with them, and where each line stands.
--- For the proofs of `turns`, `take_turns` and `open_and_run`.
-use Rattle.std.proofs.Common.{◌≡◌, ℕ, ◌+◌, ◌<◌, ◌==◌, Bool, true, false, cond, List, [], ◌∷◌, ◌++◌, Result, Ok, Err, OnOk, length, map, take, get_or, zero, suc, refl, sym, ap, ◌∙◌, subst, arith, append-nil, append_assoc}
+-- For the proofs of `turns`, `take_turns`, `run_turns` and `open_and_run`.
+use Rattle.std.proofs.Common.{◌≡◌, ℕ, ◌+◌, ◌<◌, ◌==◌, Bool, true, false, cond, List, [], ◌∷◌, ◌++◌, Result, Ok, Err, OnOk, length, map, take, drop, get_or, zero, suc, refl, sym, ap, ◌∙◌, subst, arith, append-nil, append_assoc}
 use Rattle.std.proofs.lemmas.Bool.{eqb-true}
 use Rattle.std.proofs.lemmas.Grind.{flat_map-append}
-use Rattle.std.proofs.lemmas.List.{map-append, take_more}
+use Rattle.std.proofs.lemmas.List.{map-append, take-append-drop, take_more}
 use Rattle.std.proofs.lemmas.List.Elements.{filter-append}
 use Rattle.std.specs.List.{AllByRecursion, flat_map, range_with_len}
 use Rattle.nm_history.specs.Call.{PlacedLine, lines_by_lane, lines_of_lane, placed_from, placed_in}
 use Rattle.nm_history.specs.MachineRun.{lane_count}
 use Rattle.nm_lanes.specs.declared.script.Phase.{Phase}
 use Rattle.nm_lanes.specs.declared.script.ScriptLine.{ScriptLine}
-use Rattle.nm_session.specs.Turns.{AreInPlace, Meets, Planned, Runs, ends_in, line_in, lines_in, planned_from, planned_line, planned_of, planned_phase}
+use Rattle.nm_session.specs.Turns.{AreInPlace, EndsMet, Meets, Planned, Runs, ends_in, line_in, lines_in, planned_from, planned_line, planned_of, planned_phase}
 use Rattle.nm_session.specs.declared.turns.Turn.{Turn}
 use Rattle.nm_session.specs.declared.turns.Turn.TheVariants as turns
 
@@ -108,6 +108,12 @@ front-more xs i turn within is =
     ap (λ (t : Turn). map planned_of (take i xs) ++ planned_of t ∷ []) is
     ∙ (sym (map-append planned_of (take i xs) (get_or xs i turn ∷ [])) ∙ ap (map planned_of) (sym (take_more xs i turn within)))
 
+-- all turns: those so far, the next one, and the others
+pub cut-at : (xs : List Turn) (i : ℕ) (turn : Turn) → i < length xs → turn ≡ get_or xs i turn → map planned_of xs ≡ (map planned_of (take i xs) ++ planned_of turn ∷ []) ++ map planned_of (drop (i + 1) xs)
+cut-at xs i turn within is =
+    ap (map planned_of) (sym (take-append-drop (i + 1) xs))
+    ∙ (map-append planned_of (take (i + 1) xs) (drop (i + 1) xs) ∙ ap (λ (l : List Planned). l ++ map planned_of (drop (i + 1) xs)) (sym (front-more xs i turn within is)))
+
 -- ---- how the turns are made
 
 pub planned-more : (number : ℕ) (phases : List Phase) (phase : Phase) → planned_from number (phases ++ phase ∷ []) ≡ planned_from number phases ++ planned_phase (number + length phases) phase
@@ -181,3 +187,69 @@ pub meets-last : {T E : Type 0} (number : ℕ) (phase : Phase) (old lines new : 
 meets-last number phase old lines new (Ok done) so_far added =
     phase-is number phase (map planned_of old) (map planned_of lines) (map planned_of new) so_far (ap (map planned_of) added ∙ map-append planned_of lines (turns.Meet ∷ []))
 meets-last number phase old lines new (Err error) so_far added = tt
+
+-- ---- the ends of phases
+
+pub ends-append : (a b : List Planned) → ends_in (a ++ b) ≡ ends_in a + ends_in b
+ends-append [] b = omega arith
+ends-append (Runs phase line ∷ a) b = ends-append a b
+ends-append (Meets ∷ a) b = omega (arith, ends-append a b)
+
+pub end-met : (a : List Planned) → EndsMet (a ++ Meets ∷ [])
+end-met [] = tt
+end-met (Meets ∷ a) = end-met a
+end-met (Runs phase line ∷ []) = tt
+end-met (Runs phase line ∷ (next ∷ a)) = end-met (next ∷ a)
+
+met-both : (a b : List Planned) → EndsMet a → EndsMet b → EndsMet (a ++ b)
+met-both [] b h k = k
+met-both (Meets ∷ a) b h k = met-both a b h k
+met-both (Runs phase line ∷ []) b h k = absurd h
+met-both (Runs phase line ∷ (next ∷ a)) b h k = met-both (next ∷ a) b h k
+
+pub planned-met : (number : ℕ) (phases : List Phase) → EndsMet (planned_from number phases)
+planned-met number [] = tt
+planned-met number (phase ∷ more) =
+    met-both (planned_phase number phase) (planned_from (number + 1) more) (end-met (map (planned_line number) (lines_by_lane phase))) (planned-met (number + 1) more)
+
+-- where some first turns end with a phase, they begin with the lines of the first one and its end
+record Cut (number : ℕ) (lines : List ScriptLine) (rest front back : List Planned) : Type 0 where
+  after : List Planned
+  is : front ≡ map (planned_line number) lines ++ Meets ∷ after
+  met : EndsMet after
+  follows : after ++ back ≡ rest
+
+some-turn : (first : Planned) (front : List Planned) → first ∷ front ≡ [] → ⊥
+some-turn first front e = absurd (cc)
+
+cut-lines : (number : ℕ) (lines : List ScriptLine) (rest front back : List Planned) → EndsMet front → (front ≡ [] → ⊥) → front ++ back ≡ map (planned_line number) lines ++ Meets ∷ rest → Cut number lines rest front back
+cut-lines number lines rest [] back met some e = absurd (some refl)
+cut-lines number [] rest (Meets ∷ front) back met some e = let same : front ++ back ≡ rest = cc in record { after = front; is = refl; met = met; follows = same }
+cut-lines number [] rest (Runs phase line ∷ front) back met some e = absurd (cc)
+cut-lines number (first ∷ lines) rest (Meets ∷ front) back met some e = absurd (cc)
+cut-lines number (first ∷ lines) rest (Runs phase line ∷ []) back met some e = absurd met
+cut-lines number (first ∷ lines) rest (Runs phase line ∷ (next ∷ front)) back met some e =
+    let head : Runs phase line ≡ Runs number first = cc in
+    let tail : next ∷ (front ++ back) ≡ map (planned_line number) lines ++ Meets ∷ rest = cc in
+    let cut = cut-lines number lines rest (next ∷ front) back met (some-turn next front) tail in
+    record {
+      after = cut.after;
+      is = ap (λ (turn : Planned). turn ∷ (next ∷ front)) head ∙ ap (λ (l : List Planned). Runs number first ∷ l) cut.is;
+      met = cut.met;
+      follows = cut.follows;
+    }
+
+-- first turns that end with a phase are those of the first phases
+pub cut-phases : (number : ℕ) (phases : List Phase) (front back : List Planned) → EndsMet front → front ++ back ≡ planned_from number phases → front ≡ planned_from number (take (ends_in front) phases)
+cut-phases number [] [] back met is = refl
+cut-phases number [] (first ∷ front) back met is = absurd (cc)
+cut-phases number (phase ∷ more) [] back met is = refl
+cut-phases number (phase ∷ more) (first ∷ front) back met is =
+    let lines : List Planned = map (planned_line number) (lines_by_lane phase) in
+    let cut : Cut number (lines_by_lane phase) (planned_from (number + 1) more) (first ∷ front) back =
+    cut-lines number (lines_by_lane phase) (planned_from (number + 1) more) (first ∷ front) back met (some-turn first front) (is ∙ append_assoc lines (Meets ∷ []) (planned_from (number + 1) more)) in
+    let rest : cut.after ≡ planned_from (number + 1) (take (ends_in cut.after) more) = cut-phases (number + 1) more cut.after back cut.met cut.follows in
+    let count : ends_in (first ∷ front) ≡ suc (ends_in cut.after) = omega (arith, ap ends_in cut.is, ends-before number (lines_by_lane phase) (Meets ∷ cut.after)) in
+    cut.is
+    ∙ (ap (λ (l : List Planned). lines ++ Meets ∷ l) rest
+    ∙ (sym (append_assoc lines (Meets ∷ []) (planned_from (number + 1) (take (ends_in cut.after) more))) ∙ ap (λ (n : ℕ). planned_from number (take n (phase ∷ more))) (sym count)))

@@ -4,8 +4,10 @@ pub mod Look
 pub mod Loop
 pub mod Marks
 pub mod Outcomes
+pub mod Printing
 pub mod Rooms
 pub mod Run
 pub mod Session
 pub mod Showing
+pub mod TurnLaws
 pub mod Turns

@@ -1,5 +1,5 @@
 -- Where a session stands behind its first turns. Cited by `running`.
-use Rattle.std.specs.Prelude.{◌≡◌, ◌⊎◌, ℕ, ℤ, ◌+◌, ◌*◌, ◌≤◌, List, [], ◌∷◌, ◌++◌, length}
+use Rattle.std.specs.Prelude.{◌≡◌, ◌⊎◌, ℕ, ℤ, Bool, false, ◌+◌, ◌*◌, ◌≤◌, List, [], ◌∷◌, ◌++◌, length}
 use Rattle.nm_base.specs.Limits.{max_commits}
 use Rattle.nm_commit.specs.declared.change.Commit.{Commit}
 use Rattle.nm_history.specs.Call.{Devices}
@@ -14,10 +14,13 @@ use Rattle.nm_history.specs.PrintedOut.{AreLogsOf}
 use Rattle.nm_index.specs.declared.base.Base.{Base}
 use Rattle.nm_machine.specs.declared.step.Step.{Step}
 use Rattle.nm_session.specs.Line.{IsEven, IsNoted}
+use Rattle.nm_io.specs.Observed.{ObservedStream}
+use Rattle.nm_maildir.specs.Observed.{ObservedMail}
 use Rattle.nm_session.specs.Look.{IsLookNoted}
 use Rattle.nm_session.specs.Marks.{steps_of}
+use Rattle.nm_session.specs.Printing.{GainsTurns}
 use Rattle.nm_session.specs.Rooms.{AreSpares}
-use Rattle.nm_session.specs.Turns.{Meets, Planned, Runs, ends_in, lines_in}
+use Rattle.nm_session.specs.Turns.{EndsMet, Meets, Planned, Runs, ends_in, lines_in}
 use Rattle.nm_session.specs.declared.marks.Mark.{Mark}
 use Rattle.nm_session.specs.declared.marks.Mark.TheVariants as marks
 use Rattle.nm_session.specs.declared.rooms.Rooms.{Rooms}
@@ -82,3 +85,15 @@ IsTurn moment (Runs phase line) old before after new =
     ((line.lane ≡ 0) × IsNoted moment phase old line before after new)
     ⊎ ((1 ≤ line.lane) × IsLookNoted moment phase old.writer.shown line before after × (new ≡ old))
 IsTurn moment Meets old before after new = IsMeetingNoted before after × (new ≡ old)
+
+-- These turns were taken and noted, all of them or, where the output failed, those up to the end of a phase; and the replies were printed.
+pub record HasTaken (moment : ℤ) (session : Bool) (opening : Base) (mail : ObservedMail) (disk_faults : ℕ) (planned : List Planned) (failed : Bool) (rooms : Rooms) (place : Place)
+    (old new : ObservedStream) : Type 0 where
+  pub taken : List Planned
+  pub back : List Planned
+  pub all : planned ≡ taken ++ back
+  pub met : EndsMet taken
+  pub whole : failed ≡ false → back ≡ []
+  pub noted : HasNoted taken rooms place
+  pub ran : (entry : Devices) → entry.mail ≡ mail → entry.disk.faults ≡ disk_faults → HasRunSome moment opening entry taken rooms place
+  pub out : GainsTurns failed session taken rooms.logs.0 old new

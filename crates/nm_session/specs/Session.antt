@@ -1,6 +1,6 @@
 -- What a session leaves, from the opening of the index to the last line; and what stands where no index is opened.
 -- Cited by `session`.
-use Rattle.std.specs.Prelude.{◌≡◌, ℤ, List, [], IfSome}
+use Rattle.std.specs.Prelude.{◌≡◌, ℤ, Bool, List, [], IfSome}
 use Rattle.nm_disk.specs.Observed.{ObservedDisk, bytes_now}
 use Rattle.nm_disk.specs.declared.disk.FileNo.TheVariants.{Head}
 use Rattle.nm_faults.specs.Faults.{HasRisen}
@@ -8,6 +8,7 @@ use Rattle.nm_history.specs.Call.{Devices, Ran}
 use Rattle.nm_history.specs.CrashPrefix.{CrashPrefix}
 use Rattle.nm_history.specs.OpeningIndex.{OpeningIndex}
 use Rattle.nm_index.specs.declared.base.Base.{Base}
+use Rattle.nm_io.specs.Observed.{ObservedStream}
 use Rattle.nm_lanes.specs.declared.script.Phase.{Phase}
 use Rattle.nm_log.specs.declared.log.SessionLog.{SessionLog}
 use Rattle.nm_maildir.specs.Observed.{ObservedMail}
@@ -16,11 +17,12 @@ use Rattle.nm_writer.specs.StoredIndex.{HoldsNoIndex, PassesLimit}
 use Rattle.nm_writer.specs.declared.open_error.OpenError.{OpenError}
 use Rattle.nm_writer.specs.declared.open_error.OpenError.TheVariants as errors
 
--- The lines were run from the index that the disk held, and every moment since leaves the commits that were acknowledged.
-pub record IsSession (moment : ℤ) (entry : Devices) (phases : List Phase) (mail : ObservedMail) (disk : ObservedDisk) (log : SessionLog) : Type 0 where
+-- The phases were run from the index that the disk held, all of them unless the output failed, and every moment since leaves the commits that were
+-- acknowledged.
+pub record IsSession (moment : ℤ) (entry : Devices) (phases : List Phase) (session : Bool) (mail : ObservedMail) (disk : ObservedDisk) (out : ObservedStream) (failed : Bool) (log : SessionLog) : Type 0 where
   pub opening : Base
   pub opening_index : OpeningIndex Ran entry.disk opening
-  pub run : HasRun moment opening entry phases mail disk.faults log
+  pub run : HasRun moment opening entry phases session mail disk.faults out failed log
   pub crash_prefix : CrashPrefix entry.disk disk log.steps log.acked
 
 -- why no index is opened

@@ -50,3 +50,10 @@ abbrev pub AreInPlace : ℕ → List Planned → Type 0
 AreInPlace number [] = Unit {0}
 AreInPlace number (Runs phase line ∷ more) = (phase ≡ number) × (line.lane < lane_count) × AreInPlace number more
 AreInPlace number (Meets ∷ more) = AreInPlace (number + 1) more
+
+-- a phase ends with the last of them, where there is one
+abbrev pub EndsMet : List Planned → Type 0
+EndsMet [] = Unit {0}
+EndsMet (Meets ∷ more) = EndsMet more
+EndsMet (Runs phase line ∷ []) = ⊥
+EndsMet (Runs phase line ∷ (next ∷ more)) = EndsMet (next ∷ more)

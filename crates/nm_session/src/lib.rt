@@ -4,10 +4,12 @@
 
 mod answering;
 mod changing;
+mod laws;
 mod line;
 mod looking;
 mod machine_steps;
 mod marks;
+mod printing;
 mod rooms;
 mod running;
 mod session;

@@ -1,4 +1,4 @@
-//! The turns of a session, one after the other, over the index that `session` has opened.
+//! The turns of a session, one after the other, over the index that `session` has opened, and the replies of each phase, printed at its end.
 
 ghost use Rattle.std.specs.Prelude.{◌≡◌, ◌<◌, ◌≤◌, ℕ, List, [], None, IfSome, length, map};
 ghost use Rattle.nm_base.specs.Limits.{max_commits};
@@ -8,29 +8,23 @@ ghost use Rattle.nm_history.specs.Call.{Devices};
 ghost use Rattle.nm_index.specs.declared.base.Base.{Base};
 ghost use Rattle.nm_lanes.specs.declared.script.Phase.{Phase};
 ghost use Rattle.nm_session.specs.Line.{IsEven, place_at};
-ghost use Rattle.nm_session.specs.Loop.{HasNoted, HasRunSome, IsTurn};
+ghost use Rattle.nm_session.specs.Loop.{HasTaken, IsTurn};
 ghost use Rattle.nm_session.specs.Marks.{steps_of};
 ghost use Rattle.nm_session.specs.Rooms.{HasRooms, HasSpare};
 ghost use Rattle.nm_session.specs.Run.{HasRun, IsKept};
-ghost use Rattle.nm_session.specs.Turns.{AreInPlace, planned_from, planned_of};
+ghost use Rattle.nm_session.specs.Turns.{AreInPlace, EndsMet, planned_from, planned_of};
 ghost use Rattle.nm_writer.specs.Durable.{IsDurable};
 ghost use Rattle.nm_writer.specs.Writer.{StandsOnIndex};
 
+use crate::laws::{first_laws, turn_laws};
 use crate::line::run_line;
 use crate::looking::run_look;
 use crate::machine_steps::push_steps;
+use crate::printing::print_ended;
 use crate::rooms::{Rooms, note_meeting};
 use crate::turns::Turn;
 use nm_disk::Disk;
-use nm_history::{
-    a_line_more_keeps_the_answers, a_line_more_keeps_the_clocks, a_line_more_keeps_the_commits,
-    a_line_more_keeps_the_given, a_line_more_keeps_the_machine_run,
-    a_line_more_keeps_where_it_stands, a_look_commits_nothing, a_look_more_keeps_the_answers,
-    a_look_more_keeps_the_machine_run, a_meeting_keeps_the_machine_run,
-    later_steps_keep_the_answers, no_line_is_answered, no_line_makes_no_commit,
-    no_line_stands_at_the_opening, no_step_is_a_run_of_the_machine, nothing_is_given_to_no_line,
-    what_commits_nothing_keeps_the_commits,
-};
+use nm_io::Sink;
 use nm_log::{SessionLog, Setting};
 use nm_maildir::Maildir;
 use nm_writer::Writer;
@@ -41,93 +35,91 @@ use std::thread::Threads;
 /// The most bytes that all lines may show.
 const MAX_SHOWN: u64 = 67_108_864;
 
-/// Takes the turns of these phases in their order over the index that was opened, and tells what each line did.
-pub(crate) fn run_turns<R: Threads + Wait + Sync, M: Maildir, D: Disk>(
+/// Takes the turns of these phases in their order over the index that was opened, and tells what each line did, and whether the output failed.
+pub(crate) fn run_turns<R: Threads + Wait + Sync, M: Maildir, D: Disk, O: Sink>(
     rt: &R,
     alloc: Global,
     setting: &Setting,
+    session: bool,
     turns: &[Turn<'_>],
     rooms: Rooms,
     writer: Writer,
     mail: &mut M,
     disk: &mut D,
-) -> SessionLog
+    out: &mut O,
+) -> (SessionLog, bool)
     requires moment { IsMoment setting.now.moment }
     requires workers { (0 < setting.now.workers) × (setting.now.workers ≤ 16) }
     requires rooms { HasRooms (length turns.now) rooms }
     requires in_place { AreInPlace 0 (map planned_of turns.now) }
+    requires met { EndsMet (map planned_of turns.now) }
     requires fresh { (writer.begun ≡ []) × (writer.acked ≡ []) × (writer.closed ≡ None) }
     requires stands { IfSome (D.observed disk.old).told (λ moments. StandsOnIndex moments.present writer) }
 
-    // Each line was run, and the log says what the statement of a session says.
-    ensures ran { (entry : Devices) (phases : List Phase) → entry.mail ≡ M.observed mail.old → entry.disk.faults ≡ (D.observed disk.old).faults
+    // The log says of the lines that were run what the statement of a session says, and their replies were printed.
+    ensures ran { (entry : Devices) (phases : List Phase) → entry.mail ≡ M.observed mail.old → entry.disk.faults ≡ (D.observed disk.old).faults → entry.out ≡ O.observed out.old
         → map planned_of turns.now ≡ planned_from 0 phases
-        → HasRun setting.now.moment writer.shown entry phases (M.observed mail.new) (D.observed disk.new).faults result }
+        → HasRun setting.now.moment writer.shown entry phases session (M.observed mail.new) (D.observed disk.new).faults (O.observed out.new) result.1 result.0 }
 
     // No commit that was acknowledged is lost.
-    ensures durable { (entry : ObservedDisk) → IsDurable entry writer.shown (D.observed disk.old) writer → IsKept entry writer.shown (D.observed disk.new) result }
+    ensures durable { (entry : ObservedDisk) → IsDurable entry writer.shown (D.observed disk.old) writer → IsKept entry writer.shown (D.observed disk.new) result.0 }
 {
     let mut rooms = rooms;
     let mut writer = writer;
-    let _ = take_turns(
+    let (_, failed) = take_turns(
         rt,
         alloc,
         setting,
+        session,
         turns,
         &mut rooms,
         &mut writer,
         mail,
         disk,
+        out,
     );
-    finish(rt, rooms, writer)
+    (finish(rt, rooms, writer), failed)
 }
 
-/// Takes the turns, and notes each in the rooms. It says how many bytes may still be shown.
-fn take_turns<R: Threads + Wait + Sync, M: Maildir, D: Disk>(
+/// Takes the turns, notes each in the rooms, and prints the replies of each phase at its end. It says how many bytes may still be shown, and
+/// whether the output failed; then no further turn is taken.
+fn take_turns<R: Threads + Wait + Sync, M: Maildir, D: Disk, O: Sink>(
     rt: &R,
     alloc: Global,
     setting: &Setting,
+    session: bool,
     turns: &[Turn<'_>],
     rooms: &mut Rooms,
     writer: &mut Writer,
     mail: &mut M,
     disk: &mut D,
-) -> u64
+    out: &mut O,
+) -> (u64, bool)
     requires moment { IsMoment setting.now.moment }
     requires workers { (0 < setting.now.workers) × (setting.now.workers ≤ 16) }
     requires rooms { HasRooms (length turns.now) rooms.old }
     requires in_place { AreInPlace 0 (map planned_of turns.now) }
+    requires met { EndsMet (map planned_of turns.now) }
     requires fresh { (writer.old.begun ≡ []) × (writer.old.acked ≡ []) × (writer.old.closed ≡ None) }
     requires stands { IfSome (D.observed disk.old).told (λ moments. StandsOnIndex moments.present writer.old) }
-    ensures noted { HasNoted (map planned_of turns.now) rooms.new (place_at writer.new (M.observed mail.new) (D.observed disk.new) result) }
+    ensures taken { HasTaken setting.now.moment session writer.old.shown (M.observed mail.old) (D.observed disk.old).faults (map planned_of turns.now) result.1 rooms.new
+        (place_at writer.new (M.observed mail.new) (D.observed disk.new) result.0) (O.observed out.old) (O.observed out.new) }
     ensures steps { rooms.new.steps ≡ rooms.old.steps }
-    ensures ran { (entry : Devices) → entry.mail ≡ M.observed mail.old → entry.disk.faults ≡ (D.observed disk.old).faults
-        → HasRunSome setting.now.moment writer.old.shown entry (map planned_of turns.now) rooms.new (place_at writer.new (M.observed mail.new) (D.observed disk.new) result) }
     ensures durable { (entry : ObservedDisk) (opening : Base) → IsDurable entry opening (D.observed disk.old) writer.old
         → IsDurable entry opening (D.observed disk.new) writer.new }
 {
-    no_line_stands_at_the_opening();
-    no_step_is_a_run_of_the_machine();
-    no_line_makes_no_commit();
-    no_line_is_answered();
-    nothing_is_given_to_no_line();
-    a_line_more_keeps_where_it_stands();
-    a_line_more_keeps_the_machine_run();
-    a_line_more_keeps_the_commits();
-    a_line_more_keeps_the_answers();
-    a_line_more_keeps_the_given();
-    a_line_more_keeps_the_clocks();
-    a_look_more_keeps_the_machine_run();
-    a_look_more_keeps_the_answers();
-    a_look_commits_nothing();
-    a_meeting_keeps_the_machine_run();
-    what_commits_nothing_keeps_the_commits();
-    later_steps_keep_the_answers();
+    first_laws();
+    turn_laws();
     let mut left = MAX_SHOWN;
+    let mut printed = 0;
     'turns: for turn in turns {
         left = take_turn(rt, alloc, setting, turn, rooms, writer, mail, disk, left);
+        match print_ended(turn, session, rooms.logs.as_slice(), printed, out) {
+            Some(now) => printed = now,
+            None => return (left, true),
+        }
     }
-    left
+    (left, false)
 }
 
 /// Takes one turn, and notes it in places that are spare. `left` is how many bytes may still be shown; it says how many may afterwards.

@@ -15,7 +15,7 @@ use Rattle.nm_history.specs.LineAnswers.{LaneAnswers, LineAnswers}
 use Rattle.nm_history.specs.LineCommits.{LineCommits}
 use Rattle.nm_history.specs.Lines.{RunLine, at_first, lane_zero_lines, other_lane_lines, run_lines}
 use Rattle.nm_history.specs.MachineRun.{MachineRun}
-use Rattle.nm_history.specs.PrintedOut.{Prints, StreamAppends, final_message, printed_by}
+use Rattle.nm_history.specs.PrintedOut.{Prints, final_message}
 use Rattle.nm_history.specs.Refusals.{IsRead, IsRefusedFor, RefusesLine, TakesInput}
 use Rattle.nm_history.specs.Status.{status_by}
 use Rattle.nm_index.specs.Index.{empty_index}
@@ -73,6 +73,7 @@ module _ (laws : RefusalLaws) (refusal : Refusal) (input : List ℕ) (words : Li
     input,
     record {
       ending = Refused refusal;
+      phases_run = 0;
       out_failed = false;
       acknowledged = [];
       opening_index = tt;
@@ -153,26 +154,27 @@ open-cause (errors.Limit limit) input words setting entry after done sound takes
 open-cause errors.NoMemory input words setting entry after done sound takes right cause = tt
 
 -- a call for which no index is opened
-pub unopened-history : RefusalLaws → (error : OpenError) (refusal : Refusal) (input : List ℕ) (words : List (List ℕ)) (setting : Setting) (mail new_mail : ObservedMail) (disk new_disk : ObservedDisk) (old new out err said : ObservedStream)
-    → refusal ≡ refusal_of error → call_fault words ≡ None → TakesInput (call_reads words) (is_session words) input old new → input_fault words input ≡ None → IsUnopened mail new_mail disk new_disk error
-    → (done : Done) → Refuses refusal err said done → History (call_of words setting (devices mail disk old out err) (devices new_mail new_disk new out said) done)
-unopened-history laws error refusal input words setting mail new_mail disk new_disk old new out err said is sound takes right unopened done ends =
-    refused-history laws (refusal_of error) input words setting (devices mail disk old out err) (devices new_mail new_disk new out said)
-    (λ d. open-cause error input words setting (devices mail disk old out err) (devices new_mail new_disk new out said) d sound takes right unopened.cause)
-    unopened.crash_prefix unopened.mail refl done (subst (λ (r : Refusal). Refuses r err said done) is ends)
+pub unopened-history : RefusalLaws → (error : OpenError) (refusal : Refusal) (input : List ℕ) (words : List (List ℕ)) (setting : Setting) (mail new_mail : ObservedMail) (disk new_disk : ObservedDisk) (old new out new_out err said : ObservedStream)
+    → refusal ≡ refusal_of error → call_fault words ≡ None → TakesInput (call_reads words) (is_session words) input old new → input_fault words input ≡ None → IsUnopened mail new_mail disk new_disk error → new_out ≡ out
+    → (done : Done) → Refuses refusal err said done → History (call_of words setting (devices mail disk old out err) (devices new_mail new_disk new new_out said) done)
+unopened-history laws error refusal input words setting mail new_mail disk new_disk old new out new_out err said is sound takes right unopened still done ends =
+    refused-history laws (refusal_of error) input words setting (devices mail disk old out err) (devices new_mail new_disk new new_out said)
+    (λ d. open-cause error input words setting (devices mail disk old out err) (devices new_mail new_disk new new_out said) d sound takes right unopened.cause)
+    unopened.crash_prefix unopened.mail still done (subst (λ (r : Refusal). Refuses r err said done) is ends)
 
--- a call that runs its lines
+-- a call that runs its phases
 pub ran-history : (input : List ℕ) (words : List (List ℕ)) (setting : Setting) (entry after : Devices) (phases : List Phase) (status : ℕ) (log : SessionLog) (out_failed : Bool)
     → call_fault words ≡ None → TakesInput (call_reads words) (is_session words) input entry.input after.input → input_fault words input ≡ None → phases ≡ call_phases words input
-    → IsSession setting.moment entry phases after.mail after.disk log → StreamAppends out_failed entry.out after.out (printed_by (is_session words) log.lines) → Prints (final_message (is_session words) log.lines out_failed) entry.err after.err
+    → IsSession setting.moment entry phases (is_session words) after.mail after.disk after.out out_failed log → Prints (final_message (is_session words) log.lines out_failed) entry.err after.err
     → status ≡ status_by (is_session words) log.lines out_failed → History (call_of words setting entry after (record { status = status; log = log }))
-ran-history input words setting entry after phases status log out_failed sound takes right same session out says is =
-    let run : HasRun setting.moment session.opening entry (call_phases words input) after.mail after.disk.faults log =
-    subst (λ (ls : List Phase). HasRun setting.moment session.opening entry ls after.mail after.disk.faults log) same session.run in (
+ran-history input words setting entry after phases status log out_failed sound takes right same session says is =
+    let run : HasRun setting.moment session.opening entry (call_phases words input) (is_session words) after.mail after.disk.faults after.out out_failed log =
+    subst (λ (ls : List Phase). HasRun setting.moment session.opening entry ls (is_session words) after.mail after.disk.faults after.out out_failed log) same session.run in (
       session.opening,
       input,
       record {
         ending = Ran;
+        phases_run = run.phases_run;
         out_failed = out_failed;
         acknowledged = run.acknowledged;
         opening_index = session.opening_index;
@@ -181,7 +183,7 @@ ran-history input words setting entry after phases status log out_failed sound t
         line_answers = run.line_answers;
         lane_answers = run.lane_answers;
         given = record { along = run.given; disk = run.faults };
-        printed_out = (record { words = sound; takes = takes; lines = right }, record { lines = run.logs; out = out; says = says });
+        printed_out = (record { words = sound; takes = takes; lines = right }, record { lines = run.logs; out = run.printed; says = says });
         crash_prefix = session.crash_prefix;
         status = is;
       },
@@ -190,13 +192,13 @@ ran-history input words setting entry after phases status log out_failed sound t
 -- and so in terms of whether it is a session
 pub ran-by : (session : Bool) (input : List ℕ) (words : List (List ℕ)) (setting : Setting) (entry after : Devices) (phases : List Phase) (status : ℕ) (log : SessionLog) (out_failed : Bool)
     → is_session words ≡ session → call_fault words ≡ None → TakesInput (call_reads words) session input entry.input after.input → input_fault_by session words input ≡ None → phases ≡ phases_by session words input
-    → IsSession setting.moment entry phases after.mail after.disk log → StreamAppends out_failed entry.out after.out (printed_by session log.lines)
+    → IsSession setting.moment entry phases session after.mail after.disk after.out out_failed log
     → Prints (final_message session log.lines out_failed) entry.err after.err → status ≡ status_by session log.lines out_failed → History (call_of words setting entry after (record { status = status; log = log }))
 ran-by session input words setting entry after phases status log out_failed is sound =
-    subst (λ (b : Bool). TakesInput (call_reads words) b input entry.input after.input → input_fault_by b words input ≡ None → phases ≡ phases_by b words input → IsSession setting.moment entry phases after.mail after.disk log
-    → StreamAppends out_failed entry.out after.out (printed_by b log.lines) → Prints (final_message b log.lines out_failed) entry.err after.err → status ≡ status_by b log.lines out_failed
+    subst (λ (b : Bool). TakesInput (call_reads words) b input entry.input after.input → input_fault_by b words input ≡ None → phases ≡ phases_by b words input
+    → IsSession setting.moment entry phases b after.mail after.disk after.out out_failed log → Prints (final_message b log.lines out_failed) entry.err after.err → status ≡ status_by b log.lines out_failed
     → History (call_of words setting entry after (record { status = status; log = log }))) is
-    (λ takes right same session_is out says status_is. ran-history input words setting entry after phases status log out_failed sound takes right same session_is out says status_is)
+    (λ takes right same session_is says status_is. ran-history input words setting entry after phases status log out_failed sound takes right same session_is says status_is)
 
 -- the call reads its input where its command does, and where it is a session
 pub reads-as : (session reads : Bool) (words : List (List ℕ)) → is_session words ≡ session → reads_by session words ≡ reads → call_reads words ≡ reads

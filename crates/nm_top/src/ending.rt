@@ -1,7 +1,7 @@
 //! How the call ends, for `top_call` and `starting`: what is printed and said, and the status.
 
 ghost use Rattle.std.specs.Prelude.{◌≡◌, ◌<◌, ℕ, Bool, List, [], ◌∷◌, true, false, None, Some, IfOk, MatchOption, if◌then◌else◌};
-ghost use Rattle.nm_history.specs.PrintedOut.{Prints, StreamAppends, final_message, printed_by, refused_text, write_message};
+ghost use Rattle.nm_history.specs.PrintedOut.{Prints, final_message, refused_text, write_message};
 ghost use Rattle.nm_history.specs.Status.{any_is_out_of_memory, fault_of, first_fault, fault_or, session_status, single_status, status_by, status_of_fault, is_out_of_memory, write_fault};
 ghost use Rattle.nm_history.specs.UnaskedLine.{refused_log};
 ghost use Rattle.nm_log.specs.Replies.{refusal_line};
@@ -10,20 +10,10 @@ ghost use Rattle.nm_top.specs.Ending.{Refuses, RefusesAlone, ended_on, ended_wit
 use nm_base::{Many, NoMemory, Room};
 use nm_io::Sink;
 use nm_log::{
-    Done, LineLog, Outcome, Refusal, SessionLog, is_well, line_status, print_lines, print_refusal,
-    print_replies, print_text, refusal_line, refused_status,
+    Done, LineLog, Outcome, Refusal, SessionLog, is_well, line_status, print_refusal, print_text,
+    refusal_line, refused_status,
 };
 use std::alloc::Global;
-
-/// Prints the replies, those of a session behind their headers, and says whether that failed.
-pub(crate) fn print_all<O: Sink>(out: &mut O, session: bool, logs: &[LineLog]) -> bool
-    ensures { StreamAppends result (O.observed out.old) (O.observed out.new) (printed_by session logs.now) }
-{
-    if session {
-        return print_lines(out, logs).is_err();
-    }
-    print_replies(out, logs).is_err()
-}
 
 /// What a call whose lines were run says in the end besides its replies.
 pub(crate) fn say_last<E: Sink>(err: &mut E, session: bool, logs: &[LineLog], out_failed: bool)

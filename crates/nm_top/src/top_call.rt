@@ -11,7 +11,7 @@ ghost use Rattle.nm_io.specs.Observed.{ObservedStream};
 ghost use Rattle.nm_log.specs.ParsedLine.{parse_single};
 ghost use Rattle.nm_top.specs.Ending.{RefusesAlone, refusal_of, take_refusal};
 
-use crate::ending::{print_all, refuse, refuse_line, say_last, status_of_run};
+use crate::ending::{refuse, refuse_line, say_last, status_of_run};
 use crate::laws::refusal_laws;
 use crate::words::{is_session, lines_fault, reads_lines, single_fault, single_phases};
 use nm_base::{Limit, Many, NoMemory, Text};
@@ -32,9 +32,9 @@ use std::thread::Threads;
 const MAX_INPUT: u64 = 67_108_864;
 
 /// Runs the command that the words name over the index that the disk holds and the mail folder. `session` reads a script from `input`,
-/// runs its phases and prints the replies of their lines, each behind a header, to `out`; any other is run as the one line, over the lines of `input`
-/// where it reads some, and its reply stands alone. `err` gains at most one line. It takes what memory it needs. It
-/// may wait as readers leave a snapshot, of which there are none yet.
+/// runs its phases, and at the end of each prints the replies of its lines, each behind a header, to `out`; where that fails it runs no further one.
+/// Any other is run as the one line, over the lines of `input` where it reads some, and its reply stands alone. `err` gains at most one line. It takes
+/// what memory it needs. It may wait: as readers leave a snapshot, of which there are none yet, and as a `new` joins its workers.
 pub fn notmuch<R: Threads + Wait + Sync, M: Maildir, D: Disk, I: Source, O: Sink, E: Sink>(
     rt: &R,
     alloc: Global,
@@ -334,7 +334,7 @@ fn read_and_run<R: Threads + Wait + Sync, M: Maildir, D: Disk, I: Source, O: Sin
     }
 }
 
-/// Runs the phases over the index that the disk holds, prints the replies of their lines, and says how it ended.
+/// Runs the phases over the index that the disk holds, with the replies of each printed at its end, and says how it ended.
 fn run_phases<R: Threads + Wait + Sync, M: Maildir, D: Disk, O: Sink, E: Sink>(
     rt: &R,
     alloc: Global,
@@ -354,10 +354,9 @@ fn run_phases<R: Threads + Wait + Sync, M: Maildir, D: Disk, O: Sink, E: Sink>(
         (devices (M.observed mail.new) (D.observed disk.new) new (O.observed out.new) (E.observed err.new)) result) }
 {
     refusal_laws();
-    match run_session(rt, alloc, setting, phases, mail, disk) {
-        Ok(log) => {
+    match run_session(rt, alloc, setting, session, phases, mail, disk, out) {
+        Ok((log, out_failed)) => {
             let lines = log.lines.as_slice();
-            let out_failed = print_all(out, session, lines);
             say_last(err, session, lines, out_failed);
             let status = status_of_run(session, lines, out_failed);
             Done { status, log }

@@ -1,6 +1,6 @@
 use Rattle.std.proofs.Common.{List, ap, sym, ◌∙◌, subst}
 use Rattle.nm_history.specs.Call.{call_reads, devices, input_fault_by}
-use Rattle.nm_history.specs.PrintedOut.{Prints, StreamAppends, final_message, printed_by}
+use Rattle.nm_history.specs.PrintedOut.{Prints, final_message}
 use Rattle.nm_history.specs.Refusals.{TakesInput}
 use Rattle.nm_history.specs.Status.{status_by}
 use Rattle.nm_log.specs.declared.log.LineLog.{LineLog}
@@ -9,21 +9,18 @@ use Rattle.nm_top.proofs.top_call.run_phases.Goals as goal
 
 pub returns-in-Ok : goal.returns-in-Ok
 returns-in-Ok g c = λ words input old new is sound takes right same.
-    let out = g.O.Sink.observed c.args.out.now in
-    let printed_out = g.O.Sink.observed c.print_all-out_failed.new.out in
     let err = g.E.Sink.observed c.args.err.now in
     let said = g.E.Sink.observed c.say_last.new.err in
-    let failed = c.print_all-out_failed.result in
+    let failed = c.in-Ok.out_failed in
     let session = c.args.session in
-    ran-by session input words c.args.setting.now (devices (g.M.Maildir.observed c.args.mail.now) (g.D.Disk.observed c.args.disk.now) old out err)
-    (devices (g.M.Maildir.observed c.run_session.new.mail) (g.D.Disk.observed c.run_session.new.disk) new printed_out said) c.args.phases.now c.status_of_run-status.result c.in-Ok.log failed
-    is sound takes right same (c.in-Ok.ensures.ran old out err)
-    (subst (λ (logs : List LineLog). StreamAppends failed out printed_out (printed_by session logs)) c.as_slice-lines.ensures c.print_all-out_failed.ensures)
-    (subst (λ (logs : List LineLog). Prints (final_message session logs failed) err said) c.as_slice-lines.ensures c.say_last.ensures)
+    ran-by session input words c.args.setting.now (devices (g.M.Maildir.observed c.args.mail.now) (g.D.Disk.observed c.args.disk.now) old (g.O.Sink.observed c.args.out.now) err)
+    (devices (g.M.Maildir.observed c.run_session.new.mail) (g.D.Disk.observed c.run_session.new.disk) new (g.O.Sink.observed c.run_session.new.out) said) c.args.phases.now c.status_of_run-status.result c.in-Ok.log failed
+    is sound takes right same (c.in-Ok.ensures.ran old err) (subst (λ (logs : List LineLog). Prints (final_message session logs failed) err said) c.as_slice-lines.ensures c.say_last.ensures)
     (c.status_of_run-status.ensures ∙ ap (λ (logs : List LineLog). status_by session logs failed) c.as_slice-lines.ensures)
 
 pub returns-in-Err : goal.returns-in-Err
 returns-in-Err g c = λ words input old new is sound takes right same.
     unopened-history c.refusal_laws.ensures c.in-Err.error c.refusal_of.result input words c.args.setting.now (g.M.Maildir.observed c.args.mail.now) (g.M.Maildir.observed c.run_session.new.mail)
-    (g.D.Disk.observed c.args.disk.now) (g.D.Disk.observed c.run_session.new.disk) old new (g.O.Sink.observed c.args.out.now) (g.E.Sink.observed c.args.err.now) (g.E.Sink.observed c.refuse.new.err)
-    c.refusal_of.ensures sound (subst (λ b. TakesInput (call_reads words) b input old new) (sym is) takes) (ap (λ b. input_fault_by b words input) is ∙ right) c.in-Err.ensures.refused c.refuse.result c.refuse.ensures
+    (g.D.Disk.observed c.args.disk.now) (g.D.Disk.observed c.run_session.new.disk) old new (g.O.Sink.observed c.args.out.now) (g.O.Sink.observed c.run_session.new.out) (g.E.Sink.observed c.args.err.now) (g.E.Sink.observed c.refuse.new.err)
+    c.refusal_of.ensures sound (subst (λ b. TakesInput (call_reads words) b input old new) (sym is) takes) (ap (λ b. input_fault_by b words input) is ∙ right) c.in-Err.ensures.refused c.in-Err.ensures.unprinted c.refuse.result
+    c.refuse.ensures

@@ -1,0 +1,21 @@
+use Rattle.nm_session.proofs.laws.turn_laws.Goals as goal
+
+pub returns : goal.returns
+returns c = record {
+  stands = c.a_line_more_keeps_where_it_stands.ensures;
+  machine_run = c.a_line_more_keeps_the_machine_run.ensures;
+  commits = c.a_line_more_keeps_the_commits.ensures;
+  answers = c.a_line_more_keeps_the_answers.ensures;
+  given = c.a_line_more_keeps_the_given.ensures;
+  clocks = c.a_line_more_keeps_the_clocks.ensures;
+  look_run = c.a_look_more_keeps_the_machine_run.ensures;
+  look_answers = c.a_look_more_keeps_the_answers.ensures;
+  look_nothing = c.a_look_commits_nothing.ensures;
+  meeting = c.a_meeting_keeps_the_machine_run.ensures;
+  still_stands = c.what_commits_nothing_keeps_the_commits.ensures.stands;
+  still_commits = c.what_commits_nothing_keeps_the_commits.ensures.commits;
+  still_acknowledged = c.what_commits_nothing_keeps_the_commits.ensures.acknowledged;
+  still_answers = c.later_steps_keep_the_answers.ensures.first;
+  still_looks = c.later_steps_keep_the_answers.ensures.others;
+  still_given = c.later_steps_keep_the_answers.ensures.given;
+}

@@ -1,0 +1,62 @@
+-- The laws on which the turns of a session rest. Cited by `laws`.
+use Rattle.std.specs.Prelude.{◌≡◌, ℕ, ℤ, ◌+◌, List, [], ◌∷◌, ◌++◌, Option, None, length}
+use Rattle.nm_base.specs.Limits.{max_mail_bytes}
+use Rattle.nm_commit.specs.declared.change.Commit.{Commit}
+use Rattle.nm_history.specs.Call.{Devices}
+use Rattle.nm_history.specs.CrashPrefix.{appends}
+use Rattle.nm_history.specs.Given.{GivenAlong}
+use Rattle.nm_history.specs.LineAnswers.{LaneAnswers, LineAnswers}
+use Rattle.nm_history.specs.LineCommits.{LineCommits}
+use Rattle.nm_history.specs.LineResult.{CommitNothing, IsLineResult, IsLookResult, Place, StandsAt, look_steps}
+use Rattle.nm_history.specs.Lines.{Before, RunLine, at_first, lane_zero_lines}
+use Rattle.nm_history.specs.MachineRun.{MachineRun, Replied}
+use Rattle.nm_index.specs.declared.base.Base.{Base}
+use Rattle.nm_machine.specs.declared.step.Step.{Step}
+use Rattle.nm_machine.specs.declared.step.Step.TheVariants.{Meet}
+use Rattle.nm_maildir.specs.Observed.{ObservedMail}
+use Rattle.nm_maildir.specs.Tree.{Tree}
+
+-- Before the first line.
+pub record FirstLaws : Type 0 where
+  pub stands : (opening : Base) (entry : Devices) (place : Place) → place.writer.shown ≡ opening → place.writer.begun ≡ [] → place.writer.acked ≡ [] → place.writer.closed ≡ None → place.mail ≡ entry.mail
+      → place.disk_faults ≡ entry.disk.faults → place.left ≡ max_mail_bytes → StandsAt opening entry [] [] [] place
+  pub machine_run : (opening : Base) (moment : ℤ) (entry : Devices) → MachineRun opening moment (at_first opening entry) [] [] [] 0
+  pub commits : (opening : Base) (moment : ℤ) (entry : Devices) → LineCommits opening moment entry.mail.tree [] [] []
+  pub answers : (opening : Base) (moment : ℤ) (entry : Devices) → LineAnswers opening moment (at_first opening entry) [] []
+  pub given : (opening : Base) (moment : ℤ) (entry : Devices) → GivenAlong opening moment [] (at_first opening entry) [] entry.mail entry.mail
+
+-- Of a line more, of a look more, and of the end of a phase.
+pub record TurnLaws : Type 0 where
+  pub stands : (opening : Base) (moment : ℤ) (phase : ℕ) (entry : Devices) (steps taken : List Step) (lines : List RunLine) (acknowledged : List Commit) (old new : Place) (ran : RunLine) → StandsAt opening entry steps lines acknowledged old
+      → (result : IsLineResult moment phase old ran taken new) → StandsAt opening entry (steps ++ taken) (lines ++ ran ∷ []) (acknowledged ++ result.made) new
+  pub machine_run : (opening : Base) (moment : ℤ) (phase : ℕ) (entry : Devices) (steps taken : List Step) (lines : List RunLine) (acknowledged : List Commit) (old new : Place) (ran : RunLine)
+      → StandsAt opening entry steps (lane_zero_lines lines) acknowledged old
+      → (result : IsLineResult moment phase old ran taken new) → MachineRun opening moment (at_first opening entry) steps lines acknowledged phase
+      → MachineRun opening moment (at_first opening entry) (steps ++ taken) (lines ++ ran ∷ []) (acknowledged ++ result.made) phase
+  pub commits : (opening : Base) (moment : ℤ) (phase : ℕ) (entry : Devices) (steps taken : List Step) (lines : List RunLine) (acknowledged : List Commit) (old new : Place) (ran : RunLine) → StandsAt opening entry steps lines acknowledged old
+      → (result : IsLineResult moment phase old ran taken new) → LineCommits opening moment entry.mail.tree steps lines acknowledged
+      → LineCommits opening moment entry.mail.tree (steps ++ taken) (lines ++ ran ∷ []) (acknowledged ++ result.made)
+  pub answers : (opening : Base) (moment : ℤ) (phase : ℕ) (entry : Devices) (steps taken : List Step) (lines : List RunLine) (acknowledged : List Commit) (old new : Place) (ran : RunLine) → StandsAt opening entry steps lines acknowledged old
+      → IsLineResult moment phase old ran taken new → LineAnswers opening moment (at_first opening entry) steps lines → LineAnswers opening moment (at_first opening entry) (steps ++ taken) (lines ++ ran ∷ [])
+  pub given : (opening : Base) (moment : ℤ) (phase : ℕ) (entry : Devices) (steps taken : List Step) (lines : List RunLine) (acknowledged : List Commit) (old new : Place) (ran : RunLine) → StandsAt opening entry steps lines acknowledged old
+      → IsLineResult moment phase old ran taken new → GivenAlong opening moment steps (at_first opening entry) lines entry.mail old.mail
+      → GivenAlong opening moment (steps ++ taken) (at_first opening entry) (lines ++ ran ∷ []) entry.mail new.mail
+  pub clocks : (opening : Base) (moment : ℤ) (phase : ℕ) (entry : Devices) (steps taken : List Step) (lines : List RunLine) (acknowledged : List Commit) (old new : Place) (ran : RunLine) → StandsAt opening entry steps lines acknowledged old
+      → IsLineResult moment phase old ran taken new → length old.writer.acked ≡ appends steps → length new.writer.acked ≡ appends (steps ++ taken)
+  pub look_run : (opening : Base) (moment : ℤ) (phase : ℕ) (entry : Devices) (steps taken : List Step) (lines : List RunLine) (acknowledged : List Commit) (place : Place) (ran : RunLine)
+      → StandsAt opening entry steps (lane_zero_lines lines) acknowledged place → IsLookResult moment phase place ran taken
+      → MachineRun opening moment (at_first opening entry) steps lines acknowledged phase → MachineRun opening moment (at_first opening entry) (steps ++ taken) (lines ++ ran ∷ []) acknowledged phase
+  pub look_answers : (opening : Base) (moment : ℤ) (phase : ℕ) (entry : Devices) (steps taken : List Step) (lines others : List RunLine) (acknowledged : List Commit) (place : Place) (ran : RunLine)
+      → StandsAt opening entry steps lines acknowledged place → IsLookResult moment phase place ran taken → LaneAnswers opening moment steps others → LaneAnswers opening moment (steps ++ taken) (others ++ ran ∷ [])
+  pub look_nothing : (lane : ℕ) (replies : List Replied) → CommitNothing (look_steps lane replies)
+  pub meeting : (opening : Base) (moment : ℤ) (phase : ℕ) (first : Before) (steps : List Step) (lines : List RunLine) (acknowledged : List Commit)
+      → MachineRun opening moment first steps lines acknowledged phase → MachineRun opening moment first (steps ++ Meet ∷ []) lines acknowledged (phase + 1)
+  pub still_stands : (opening : Base) (entry : Devices) (steps taken : List Step) (lines : List RunLine) (acknowledged : List Commit) (place : Place)
+      → CommitNothing taken → StandsAt opening entry steps lines acknowledged place → StandsAt opening entry (steps ++ taken) lines acknowledged place
+  pub still_commits : (opening : Base) (moment : ℤ) (tree : Option Tree) (steps taken : List Step) (lines : List RunLine) (acknowledged : List Commit)
+      → CommitNothing taken → LineCommits opening moment tree steps lines acknowledged → LineCommits opening moment tree (steps ++ taken) lines acknowledged
+  pub still_acknowledged : (steps taken : List Step) → CommitNothing taken → appends (steps ++ taken) ≡ appends steps
+  pub still_answers : (opening : Base) (moment : ℤ) (steps taken : List Step) (before : Before) (lines : List RunLine) → LineAnswers opening moment before steps lines → LineAnswers opening moment before (steps ++ taken) lines
+  pub still_looks : (opening : Base) (moment : ℤ) (steps taken : List Step) (lines : List RunLine) → LaneAnswers opening moment steps lines → LaneAnswers opening moment (steps ++ taken) lines
+  pub still_given : (opening : Base) (moment : ℤ) (steps taken : List Step) (before : Before) (lines : List RunLine) (old new : ObservedMail) → GivenAlong opening moment steps before lines old new
+      → GivenAlong opening moment (steps ++ taken) before lines old new
