@@ -1,6 +1,8 @@
+mod AloneLemmas
 mod ClockLemmas
 mod CompleteLemmas
 mod CrashLemmas
+mod EarlierLemmas
 mod LawLemmas
 mod LineLemmas
 mod LookLemmas

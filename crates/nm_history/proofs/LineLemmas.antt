@@ -12,6 +12,7 @@ use Rattle.nm_log.specs.ParsedLine.{parse_line}
 use Rattle.nm_machine.specs.declared.step.Step.{Step}
 use Rattle.nm_maildir.specs.Observed.{ObservedMail}
 use Rattle.nm_maildir.specs.Tree.{Tree}
+use Rattle.nm_publish.specs.Published.{Published}
 use Rattle.nm_history.specs.Call.{Devices}
 use Rattle.nm_history.specs.Given.{Asks, GivenAlong}
 use Rattle.nm_history.specs.LineAnswers.{HasAnswer, HasCause, LineAnswers}
@@ -109,24 +110,24 @@ before-is r m d c l s n e k o p q u v w =
     ap (λ x. before-with x m d c l) p ∙ ap (λ x. before-with s x d c l) q ∙ ap (λ x. before-with s n x c l) u ∙ ap (λ (x : Option ℕ). before-with s n e x l) v
     ∙ ap (λ x. before-with s n e k x) w
 
--- an index stays where it is
-pub index-later : (opening : Base) (steps taken : List Step) (revision : ℕ) (index : Base) → IsIndexAt opening steps revision index → IsIndexAt opening (steps ++ taken) revision index
-index-later opening steps taken revision index h = record {
+-- where these steps begin the same commits, and perhaps more, an index stays where it is
+pub index-kept : (opening : Base) (steps others : List Step) (more : List Commit) → begun others ≡ begun steps ++ more → (revision : ℕ) (index : Base) → IsIndexAt opening steps revision index → IsIndexAt opening others revision index
+index-kept opening steps others more grown revision index h = record {
   front = h.front;
-  more = h.more ++ begun taken;
-  begun_are =
-      begun-append steps taken ∙ ap (λ (l : List Commit). l ++ begun taken) h.begun_are ∙ append_assoc h.front h.more (begun taken);
+  more = h.more ++ more;
+  begun_are = grown ∙ ap (λ (l : List Commit). l ++ more) h.begun_are ∙ append_assoc h.front h.more more;
   revision_is = h.revision_is;
   index_is = h.index_is;
 }
 
 -- and so does the answer to a line
-pub answer-later : (opening : Base) (moment : ℤ) (steps taken : List Step) (before : Before) (ran : RunLine) → HasAnswer opening moment steps before ran → HasAnswer opening moment (steps ++ taken) before ran
-answer-later opening moment steps taken before ran h = record {
+pub answer-kept : (opening : Base) (moment : ℤ) (steps others : List Step) (more : List Commit) → begun others ≡ begun steps ++ more → (before : Before) (ran : RunLine)
+    → HasAnswer opening moment steps before ran → HasAnswer opening moment others before ran
+answer-kept opening moment steps others more grown before ran h = record {
   index_before = h.index_before;
   index = h.index;
-  at_before = index-later opening steps taken _ _ h.at_before;
-  at_after = index-later opening steps taken _ _ h.at_after;
+  at_before = index-kept opening steps others more grown _ _ h.at_before;
+  at_after = index-kept opening steps others more grown _ _ h.at_after;
   cause = h.cause;
   disk = h.disk;
   status = h.status;
@@ -134,11 +135,11 @@ answer-later opening moment steps taken before ran h = record {
 }
 
 -- and what it asked the folder
-pub asks-later : (opening : Base) (moment : ℤ) (steps taken : List Step) (before : Before) (ran : RunLine) (old new : ObservedMail) → Asks opening moment steps before ran old new
-    → Asks opening moment (steps ++ taken) before ran old new
-asks-later opening moment steps taken before ran old new h = record {
+pub asks-kept : (opening : Base) (moment : ℤ) (steps others : List Step) (more : List Commit) → begun others ≡ begun steps ++ more → (before : Before) (ran : RunLine) (old new : ObservedMail)
+    → Asks opening moment steps before ran old new → Asks opening moment others before ran old new
+asks-kept opening moment steps others more grown before ran old new h = record {
   index = h.index;
-  at = index-later opening steps taken _ _ h.at;
+  at = index-kept opening steps others more grown _ _ h.at;
   asks = h.asks;
   unasked = h.unasked;
   tree = h.tree;
@@ -193,6 +194,8 @@ module _ (opening : Base) (moment : ℤ) (phase : ℕ) (entry : Devices) (steps 
         ap length result.has_made.acked ∙ length-append old.writer.acked result.has_made.clocks
         ∙ ap (λ n. n + length result.has_made.clocks) at.acked ∙ ap (λ n. length acknowledged + n) result.has_made.one_each
         ∙ sym (length-append acknowledged result.made);
+    opens = ap (λ (p : Published). p.opening) result.has_made.published ∙ at.opens;
+    published = ap (λ (p : Published). p.commits) result.has_made.published ∙ ap (λ (l : List Commit). l ++ result.made) at.published;
     shown = shown-all;
     before = before-next;
     tree = result.tree ∙ (ap (λ (t : Option Tree). tree_after t ran) at.tree ∙ sym (fold-append tree_after entry.mail.tree lines (ran ∷ [])));
@@ -245,7 +248,7 @@ module _ (opening : Base) (moment : ℤ) (phase : ℕ) (entry : Devices) (steps 
       (makes-more entry.mail.tree [] (begun steps) lines refl h)
 
   index-old : IsIndexAt opening (steps ++ taken) (before_at old).revision old.writer.shown
-  index-old = index-later opening steps taken _ _ (record {
+  index-old = index-kept opening steps (steps ++ taken) (begun taken) (begun-append steps taken) _ _ (record {
     front = acknowledged;
     more = at.in_flight;
     begun_are = at.begun_are;
@@ -279,7 +282,7 @@ module _ (opening : Base) (moment : ℤ) (phase : ℕ) (entry : Devices) (steps 
       → Along (HasAnswer opening moment (steps ++ taken)) before (done ++ ran ∷ [])
   answers-more before [] e h = (subst (λ (b : Before). HasAnswer opening moment (steps ++ taken) b ran) (sym e) has-answer, tt)
   answers-more before (first ∷ done) e h = (
-    answer-later opening moment steps taken before first h.0,
+    answer-kept opening moment steps (steps ++ taken) (begun taken) (begun-append steps taken) before first h.0,
     answers-more (after_line before first) done e h.1,
   )
 
@@ -309,7 +312,7 @@ module _ (opening : Base) (moment : ℤ) (phase : ℕ) (entry : Devices) (steps 
   )
   given-along before (first ∷ done) first_mail e h = (
     h.0,
-    asks-later opening moment steps taken before first first_mail h.0 h.1,
+    asks-kept opening moment steps (steps ++ taken) (begun taken) (begun-append steps taken) before first first_mail h.0 h.1,
     given-along (after_line before first) done h.0 e h.2,
   )
 

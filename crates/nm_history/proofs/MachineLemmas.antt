@@ -65,7 +65,7 @@ module _ (moment : ℤ) where
   landed m arrived = record m { commits = m.commits ++ arrived; in_flight = None }
 
   -- a step that is no stop leaves the next state
-  next-is : (m : Machine) (step : Step) (new : Machine) → is_stop step ≡ false → machine.Takes moment m step new → new ≡ next m step
+  pub next-is : (m : Machine) (step : Step) (new : Machine) → is_stop step ≡ false → machine.Takes moment m step new → new ≡ next m step
   next-is m (steps.Begin commit) new e t = t.after
   next-is m steps.Append new e t =
       t.after.2 ∙ ap (λ (f : Option Commit). landed m (commits_in_flight f)) (sym t.after.1)

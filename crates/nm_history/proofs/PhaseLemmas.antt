@@ -1,5 +1,5 @@
 -- In which phase steps stand, and in which lane: steps and lines cut in two, and those of one line.
--- For `MachineLemmas` and `LookLemmas`.
+-- For `MachineLemmas`, `LookLemmas`, `AloneLemmas` and `EarlierLemmas`.
 use Rattle.std.proofs.Common.{◌≡◌, ℕ, ◌+◌, ◌-◌, ◌*◌, ◌==◌, Bool, true, false, cond, List, [], ◌∷◌, ◌++◌, if◌then◌else◌, filter, length, map, fold, replicate, refl, sym, ap, ◌∙◌, arith, append-nil, append_assoc}
 use Rattle.std.specs.List.{AllByRecursion, flat_map}
 use Rattle.std.proofs.lemmas.Grind.{flat_map-append}
@@ -122,7 +122,7 @@ of-looked : (zero : Bool) (phase lane revision : ℕ) (more : List LaneStep) →
 of-looked true phase lane revision more h = h
 of-looked false phase lane revision more h = (refl, h)
 
-of-line : (ran : RunLine) → AllByRecursion (λ (step : LaneStep). step.lane ≡ ran.1.lane) (lane_steps_of ran)
+pub of-line : (ran : RunLine) → AllByRecursion (λ (step : LaneStep). step.lane ≡ ran.1.lane) (lane_steps_of ran)
 of-line ran =
     of-looked (is_in_lane_zero ran) ran.1.phase ran.1.lane ran.1.revision (map (reply_in ran.1.phase) (reply_to ran))
     (of-outcome ran.1.outcome (parse_line ran.0) ran.1.phase ran.1.lane ran.1.revision ran.1.text)
@@ -138,7 +138,7 @@ none-either : (b : Bool) → no-steps ≡ (if b then no-steps else no-steps)
 none-either true = refl
 none-either false = refl
 
-filter-lane : (lane who : ℕ) (done : List LaneStep) → AllByRecursion (λ (step : LaneStep). step.lane ≡ who) done → filter (is_of_lane lane) done ≡ (if who == lane then done else [])
+pub filter-lane : (lane who : ℕ) (done : List LaneStep) → AllByRecursion (λ (step : LaneStep). step.lane ≡ who) done → filter (is_of_lane lane) done ≡ (if who == lane then done else [])
 filter-lane lane who [] h = none-either (who == lane)
 filter-lane lane who (step ∷ more) h =
     ap (λ (n : ℕ). cond (n == lane) (step ∷ filter (is_of_lane lane) more) (filter (is_of_lane lane) more)) h.0

@@ -292,6 +292,8 @@ module _ (why : Outcome) (input : List ℕ) (words : List (List ℕ)) (setting :
     begun_by_writer = refl;
     none_open = λ is_open. refl;
     acked = refl;
+    opens = refl;
+    published = refl;
     shown = refl;
     before = refl;
     tree = refl;
@@ -305,7 +307,7 @@ module _ (why : Outcome) (input : List ℕ) (words : List (List ℕ)) (setting :
     first = refl;
     made = [];
     in_flight = [];
-    has_made = record { fit = tt; within = tt; idle = λ closed. refl; shown = refl; begun_are = refl; clocks = []; acked = refl; one_each = refl };
+    has_made = record { fit = tt; within = tt; idle = λ closed. refl; published = refl; shown = refl; begun_are = refl; clocks = []; acked = refl; one_each = refl };
     makes = makes-nothing line empty_index setting.moment 0 mail.tree why unasked refuses;
     on_its_way = refl;
     closed = refl;

@@ -1,7 +1,7 @@
 -- What one line does with the writer and the mail folder, and what its log says. The statements of a session go on by it.
 -- Cited by `going_on` and `nm_session`.
-use Rattle.std.specs.Prelude.{◌≡◌, ◌⊎◌, ℕ, ℤ, ◌+◌, ◌<◌, ◌≤◌, List, [], ◌∷◌, ◌++◌, length, map, false, None, IsSome}
-use Rattle.std.specs.List.{flat_map}
+use Rattle.std.specs.Prelude.{◌≡◌, ◌⊎◌, ℕ, ℤ, ◌+◌, ◌==◌, ◌<◌, ◌≤◌, Bool, true, false, not, List, [], ◌∷◌, ◌++◌, filter, length, map, None, IsSome}
+use Rattle.std.specs.List.{AllByRecursion, flat_map}
 use Rattle.nm_commit.specs.declared.change.Commit.{Commit}
 use Rattle.nm_faults.specs.Faults.{Counts}
 use Rattle.nm_index.specs.Fits.{FitInTurn}
@@ -11,11 +11,11 @@ use Rattle.nm_log.specs.ParsedLine.{parse_line}
 use Rattle.nm_log.specs.Replies.{status_of}
 use Rattle.nm_log.specs.declared.outcome.Outcome.TheVariants as outcomes
 use Rattle.nm_machine.specs.declared.step.Step.{Step}
-use Rattle.nm_machine.specs.declared.step.Step.TheVariants.{Begin, Append, Show, See, Reply}
+use Rattle.nm_machine.specs.declared.step.Step.TheVariants.{Begin, Append, Show, See, Meet, Reply, Crash, Reopen}
 use Rattle.nm_maildir.specs.Observed.{ObservedMail}
 use Rattle.nm_scan.specs.Bodies.{left_after}
 use Rattle.nm_writer.specs.Writer.{WriterState}
-use Rattle.nm_writer.specs.Writing.{AreWithin}
+use Rattle.nm_writer.specs.Writing.{AreWithin, with_commits}
 use Rattle.nm_history.specs.Call.{Devices}
 use Rattle.nm_history.specs.CrashPrefix.{appends}
 use Rattle.nm_history.specs.Given.{AsksMail, AsksNothing}
@@ -58,12 +58,13 @@ reply_step replied = Reply replied.lane replied.request replied.text
 abbrev pub line_steps : List Commit → List Commit → List Replied → List Step
 line_steps made in_flight replies = flat_map commit_steps made ++ (map begin_step in_flight ++ map reply_step replies)
 
--- What the writer has made of a line: these commits are shown and acknowledged, and this one is on its way. None of them passes a limit.
+-- What the writer has made of a line: these commits are published, shown and acknowledged, and this one is on its way. None of them passes a limit.
 pub record HasMade (old : WriterState) (made in_flight : List Commit) (new : WriterState) : Type 0 where
   pub fit : FitInTurn old.shown (made ++ in_flight)
   pub within : AreWithin (length old.acked) old.shown (made ++ in_flight)
   -- a closed writer makes nothing
   pub idle : IsSome old.closed → made ++ in_flight ≡ []
+  pub published : new.published ≡ with_commits old.published made
   pub shown : new.shown ≡ folded old.shown made
   pub begun_are : new.begun ≡ old.begun ++ (made ++ in_flight)
   pub clocks : List ℕ
@@ -99,15 +100,52 @@ pub record IsLineResult (moment : ℤ) (phase : ℕ) (old : Place) (ran : RunLin
 abbrev pub look_steps : ℕ → List Replied → List Step
 look_steps lane replies = See lane ∷ map reply_step replies
 
--- A line of another lane was run in this phase over what is shown: what it saw and said, and the steps that it took.
-pub record IsLookResult (moment : ℤ) (phase : ℕ) (place : Place) (ran : RunLine) (taken : List Step) : Type 0 where
+-- a commit is shown
+abbrev pub is_show : Step → Bool
+is_show (Begin commit) = false
+is_show Append = false
+is_show Show = true
+is_show (See lane) = false
+is_show Meet = false
+is_show (Reply lane request text) = false
+is_show (Crash kept) = false
+is_show Reopen = false
+
+-- how many commits the steps show
+abbrev pub shows : List Step → ℕ
+shows steps = length (filter is_show steps)
+
+-- a step that this lane has no part in, and that ends no phase
+abbrev pub leaves_alone : ℕ → Step → Bool
+leaves_alone lane (Begin commit) = true
+leaves_alone lane Append = true
+leaves_alone lane Show = true
+leaves_alone lane (See other) = not (other == lane)
+leaves_alone lane Meet = false
+leaves_alone lane (Reply other request text) = not (other == lane)
+leaves_alone lane (Crash kept) = false
+leaves_alone lane Reopen = false
+
+-- the lane has no part in the steps, and no phase ends in them
+abbrev pub LeaveAlone : ℕ → List Step → Type 0
+LeaveAlone lane steps = AllByRecursion (λ step. leaves_alone lane step ≡ true) steps
+
+-- A line of another lane was run in this phase over an index that the writer has shown: what it saw and said, and the steps that it took. Since
+-- then the steps `back` may have been taken, which show the later ones of the commits acknowledged: its own steps stand before them.
+pub record IsLookResult (moment : ℤ) (phase : ℕ) (opening : Base) (acknowledged : List Commit) (index : Base) (ran : RunLine) (taken back : List Step) : Type 0 where
   pub another : 1 ≤ ran.0.lane
   pub exists : ran.0.lane < lane_count
   pub numbers : IsNumbered (phase, ran.0) ran.1
-  pub revision : ran.1.revision ≡ place.writer.shown.revision
+  pub alone : LeaveAlone ran.0.lane back
+  pub seen : List Commit
+  pub later : List Commit
+  pub both : acknowledged ≡ seen ++ later
+  pub shown : length later ≡ shows back
+  pub index_is : index ≡ folded opening seen
+  pub revision : ran.1.revision ≡ index.revision
   pub cause : (ran.1.outcome ≡ ends_by (refused_look (parse_line ran.0) ran.0.input)) ⊎ (ran.1.outcome ≡ outcomes.NoMemory)
   pub status : ran.1.status ≡ status_of ran.1.outcome
-  pub text : ran.1.text ≡ line_text ran.1.outcome (parse_line ran.0) ran.0.input place.writer.shown place.writer.shown moment []
+  pub text : ran.1.text ≡ line_text ran.1.outcome (parse_line ran.0) ran.0.input index index moment []
   pub given : ran.1.given ≡ []
   pub mail : ran.1.mail_faults ≡ 0
   pub disk : ran.1.disk_faults ≡ 0
@@ -118,14 +156,16 @@ pub record IsLookResult (moment : ℤ) (phase : ℕ) (place : Place) (ran : RunL
 abbrev pub CommitNothing : List Step → Type 0
 CommitNothing steps = (begun steps ≡ []) × (appends steps ≡ 0)
 
--- Where a session stands behind some lines of lane 0, as the log tells it: these commits were acknowledged, and one may be on its way
--- behind a fault of the disk.
+-- Where a session stands behind some lines of lane 0, as the log tells it: these commits were acknowledged and published, and one may be on
+-- its way behind a fault of the disk.
 pub record StandsAt (opening : Base) (entry : Devices) (steps : List Step) (lines : List RunLine) (acknowledged : List Commit) (place : Place) : Type 0 where
   pub in_flight : List Commit
   pub begun_are : begun steps ≡ acknowledged ++ in_flight
   pub begun_by_writer : place.writer.begun ≡ acknowledged ++ in_flight
   pub none_open : place.writer.closed ≡ None → in_flight ≡ []
   pub acked : length place.writer.acked ≡ length acknowledged
+  pub opens : place.writer.published.opening ≡ opening
+  pub published : place.writer.published.commits ≡ acknowledged
   pub shown : place.writer.shown ≡ folded opening acknowledged
   pub before : after_lines (at_first opening entry) lines ≡ before_at place
   pub tree : place.mail.tree ≡ tree_after_all entry.mail.tree lines

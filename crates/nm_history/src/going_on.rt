@@ -19,9 +19,10 @@ ghost use Rattle.nm_history.specs.Status.{any_is_out_of_memory, fault_of, fault_
 ghost use Rattle.nm_log.specs.Replies.{printed_line, reply_of};
 ghost use Rattle.nm_log.specs.declared.log.LineLog.{LineLog};
 
-/// Before the first line nothing is begun or acknowledged, and the opening index is shown.
+/// Before the first line nothing is begun or acknowledged, and the opening index is published and shown.
 pub fn no_line_stands_at_the_opening()
-    ensures { (opening : Base) (entry : Devices) (place : Place) → place.writer.shown ≡ opening → place.writer.begun ≡ []
+    ensures { (opening : Base) (entry : Devices) (place : Place) → place.writer.published.opening ≡ opening
+        → place.writer.published.commits ≡ [] → place.writer.shown ≡ opening → place.writer.begun ≡ []
         → place.writer.acked ≡ [] → place.writer.closed ≡ None → place.mail ≡ entry.mail → place.disk_faults ≡ entry.disk.faults
         → place.left ≡ max_mail_bytes
         → StandsAt opening entry [] [] [] place }

@@ -21,7 +21,8 @@ pub use laws::{
     what_writes_after_a_disk_fault_is_closed,
 };
 pub use looking::{
-    a_look_commits_nothing, a_look_more_keeps_the_answers, a_look_more_keeps_the_machine_run,
+    a_look_commits_nothing, a_look_keeps_the_answers, a_look_keeps_the_machine_run,
     a_meeting_keeps_the_machine_run, later_steps_keep_the_answers,
-    what_commits_nothing_keeps_the_commits,
+    what_commits_nothing_keeps_the_commits, what_stands_between_keeps_the_answers,
+    what_stands_between_keeps_the_commits,
 };

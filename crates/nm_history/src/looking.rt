@@ -13,16 +13,15 @@ ghost use Rattle.nm_history.specs.Given.{GivenAlong};
 ghost use Rattle.nm_history.specs.LineAnswers.{LaneAnswers, LineAnswers};
 ghost use Rattle.nm_history.specs.LineCommits.{LineCommits};
 ghost use Rattle.nm_history.specs.LineResult.{CommitNothing, IsLookResult, Place, StandsAt, look_steps};
-ghost use Rattle.nm_history.specs.Lines.{Before, RunLine, at_first, lane_zero_lines};
+ghost use Rattle.nm_history.specs.Lines.{Before, RunLine};
 ghost use Rattle.nm_history.specs.MachineRun.{MachineRun, Replied};
 
-/// A look and the reply behind it go on with the run of the machine.
-pub fn a_look_more_keeps_the_machine_run()
-    ensures { (opening : Base) (moment : ℤ) (phase : ℕ) (entry : Devices) (steps taken : List Step) (lines : List RunLine) (acknowledged : List Commit)
-        (place : Place) (ran : RunLine) → StandsAt opening entry steps (lane_zero_lines lines) acknowledged place
-        → IsLookResult moment phase place ran taken
-        → MachineRun opening moment (at_first opening entry) steps lines acknowledged phase
-        → MachineRun opening moment (at_first opening entry) (steps ++ taken) (lines ++ ran ∷ []) acknowledged phase }
+/// A look and the reply behind it go on with the run of the machine, where they stand before the steps that were taken since.
+pub fn a_look_keeps_the_machine_run()
+    ensures { (opening : Base) (moment : ℤ) (phase : ℕ) (first : Before) (front back taken : List Step) (lines : List RunLine) (acknowledged : List Commit)
+        (index : Base) (ran : RunLine) → IsLookResult moment phase opening acknowledged index ran taken back
+        → MachineRun opening moment first (front ++ back) lines acknowledged phase
+        → MachineRun opening moment first (front ++ (taken ++ back)) (lines ++ ran ∷ []) acknowledged phase }
 {}
 
 /// Where all lanes meet the run of the machine goes on, and a phase has ended.
@@ -32,17 +31,36 @@ pub fn a_meeting_keeps_the_machine_run()
         → MachineRun opening moment first (steps ++ Step.Meet ∷ []) lines acknowledged (phase + 1) }
 {}
 
-/// A line more of another lane is answered on the index that it sees.
-pub fn a_look_more_keeps_the_answers()
-    ensures { (opening : Base) (moment : ℤ) (phase : ℕ) (entry : Devices) (steps taken : List Step) (lines others : List RunLine) (acknowledged : List Commit)
-        (place : Place) (ran : RunLine) → StandsAt opening entry steps lines acknowledged place
-        → IsLookResult moment phase place ran taken
-        → LaneAnswers opening moment steps others → LaneAnswers opening moment (steps ++ taken) (others ++ ran ∷ []) }
+/// A line more of another lane is answered on the index that it saw.
+pub fn a_look_keeps_the_answers()
+    ensures { (opening : Base) (moment : ℤ) (phase : ℕ) (entry : Devices) (front back taken : List Step) (lines others : List RunLine)
+        (acknowledged : List Commit) (place : Place) (index : Base) (ran : RunLine) → StandsAt opening entry (front ++ back) lines acknowledged place
+        → IsLookResult moment phase opening acknowledged index ran taken back
+        → LaneAnswers opening moment (front ++ back) others → LaneAnswers opening moment (front ++ (taken ++ back)) (others ++ ran ∷ []) }
 {}
 
 /// A look commits nothing.
 pub fn a_look_commits_nothing()
     ensures { (lane : ℕ) (replies : List Replied) → CommitNothing (look_steps lane replies) }
+{}
+
+/// Steps that commit nothing, wherever they stand, leave where the session stands, the commits of lines, and how many were acknowledged.
+pub fn what_stands_between_keeps_the_commits()
+    ensures stands { (opening : Base) (entry : Devices) (front back taken : List Step) (lines : List RunLine) (acknowledged : List Commit) (place : Place)
+        → CommitNothing taken → StandsAt opening entry (front ++ back) lines acknowledged place → StandsAt opening entry (front ++ (taken ++ back)) lines acknowledged place }
+    ensures commits { (opening : Base) (moment : ℤ) (tree : Option Tree) (front back taken : List Step) (lines : List RunLine) (acknowledged : List Commit)
+        → CommitNothing taken → LineCommits opening moment tree (front ++ back) lines acknowledged
+        → LineCommits opening moment tree (front ++ (taken ++ back)) lines acknowledged }
+    ensures acknowledged { (front back taken : List Step) → CommitNothing taken → appends (front ++ (taken ++ back)) ≡ appends (front ++ back) }
+{}
+
+/// And what was answered, and what was asked of the folder.
+pub fn what_stands_between_keeps_the_answers()
+    ensures first { (opening : Base) (moment : ℤ) (front back taken : List Step) (before : Before) (lines : List RunLine)
+        → CommitNothing taken → LineAnswers opening moment before (front ++ back) lines → LineAnswers opening moment before (front ++ (taken ++ back)) lines }
+    ensures given { (opening : Base) (moment : ℤ) (front back taken : List Step) (before : Before) (lines : List RunLine) (old new : ObservedMail)
+        → CommitNothing taken → GivenAlong opening moment (front ++ back) before lines old new
+        → GivenAlong opening moment (front ++ (taken ++ back)) before lines old new }
 {}
 
 /// Steps that commit nothing leave where the session stands, the commits of lines, and how many were acknowledged.
