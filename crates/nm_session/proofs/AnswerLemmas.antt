@@ -10,6 +10,7 @@ use Rattle.nm_base.specs.declared.memory.NoMemory.{NoMemory}
 use Rattle.nm_base.specs.declared.refusals.UsageKind.{UsageKind}
 use Rattle.nm_history.specs.Given.{AsksMail}
 use Rattle.nm_history.specs.LineAnswers.{HasCause, NoneFailed, line_text}
+use Rattle.nm_commit.specs.declared.change.Commit.{Commit}
 use Rattle.nm_history.specs.LineCommits.{FindsFor, Makes}
 use Rattle.nm_history.specs.LineResult.{HasMade, Place, before_at}
 use Rattle.nm_history.specs.Lines.{tree_after_line}
@@ -109,6 +110,7 @@ made-nothing writer = record {
   fit = tt;
   within = tt;
   idle = λ _. refl;
+  published = ap (λ (l : List Commit). record writer.published { commits = l }) (sym (append-nil writer.published.commits));
   shown = refl;
   begun_are = sym (append-nil writer.begun);
   clocks = [];

@@ -1,6 +1,5 @@
--- Before the first turn of a session, and after the last. For the proofs of `take_turns` and `run_turns`.
+-- Before the first phase of a session, and after the last. For the proofs of `run_phases` and `run_all`.
 use Rattle.std.proofs.Common.{◌≡◌, ℕ, ℤ, ◌≤◌, Bool, List, [], ◌∷◌, ◌++◌, None, length, take, refl, sym, ap, ◌∙◌, subst, arith}
-use Rattle.std.proofs.lemmas.Grind.{flat_map-append}
 use Rattle.nm_base.specs.Limits.{max_mail_bytes}
 use Rattle.nm_commit.specs.declared.change.Commit.{Commit}
 use Rattle.nm_disk.specs.Calls.{GoesOn}
@@ -21,22 +20,18 @@ use Rattle.nm_log.specs.declared.log.LineLog.{LineLog}
 use Rattle.nm_log.specs.declared.log.SessionLog.{SessionLog}
 use Rattle.nm_machine.specs.declared.step.Step.{Step}
 use Rattle.nm_maildir.specs.Observed.{ObservedMail}
-use Rattle.nm_session.specs.Loop.{HasNoted, HasRunSome, HasTaken, SpareFrom, StandFor, lines_at, steps_at}
+use Rattle.nm_session.specs.Loop.{HasNoted, HasRunSome, StandFor, lines_at, steps_at}
 use Rattle.nm_session.specs.Marks.{steps_of}
-use Rattle.nm_session.specs.Rooms.{HasRooms, HasSpare}
+use Rattle.nm_session.specs.Phases.{HasRunPhases}
+use Rattle.nm_session.specs.Rooms.{HasRooms}
 use Rattle.nm_session.specs.Run.{HasRun, IsKept}
 use Rattle.nm_session.specs.TurnLaws.{FirstLaws}
-use Rattle.nm_session.specs.Turns.{Planned, ends_in, line_in, lines_in, planned_from}
+use Rattle.nm_session.specs.Turns.{Planned, ends_in, lines_in, planned_from}
 use Rattle.nm_session.specs.declared.marks.Mark.{Mark}
 use Rattle.nm_session.specs.declared.rooms.Rooms.{Rooms}
 use Rattle.nm_session.proofs.MarkLemmas.{begun-are}
-use Rattle.nm_session.proofs.TurnLemmas.{cut-phases, lines-planned}
-use Rattle.nm_session.proofs.PrintLemmas.{out-gained}
+use Rattle.nm_session.proofs.TurnLemmas.{ends-planned, lines-planned, placed-cut, take-within}
 use Rattle.nm_writer.specs.Durable.{IsDurable, KeptSince}
-
-pub spare-first : (turns : ℕ) (rooms : Rooms) (begun : List Commit) → begun ≡ [] → HasSpare turns 0 rooms → SpareFrom 0 turns (length begun) rooms
-spare-first turns rooms begun none h =
-    record { logs = omega (arith, h.logs); marks = omega (arith, h.marks); spares = omega (arith, h.spares); texts = h.texts }
 
 -- ---- no turn was taken yet
 
@@ -52,14 +47,15 @@ noted-none rooms place turns h begun_none acked_none = record {
   even = λ alive. ap length begun_none ∙ sym (ap length acked_none);
 }
 
-pub some-none : FirstLaws → (moment : ℤ) (entry : Devices) (rooms : Rooms) (place : Place) (turns : ℕ) → HasRooms turns rooms → place.writer.begun ≡ [] → place.writer.acked ≡ [] → place.writer.closed ≡ None
+pub some-none : FirstLaws → (moment : ℤ) (entry : Devices) (rooms : Rooms) (place : Place) (turns : ℕ) → HasRooms turns rooms
+    → place.writer.published.opening ≡ place.writer.shown → place.writer.published.commits ≡ [] → place.writer.begun ≡ [] → place.writer.acked ≡ [] → place.writer.closed ≡ None
     → entry.mail ≡ place.mail → entry.disk.faults ≡ place.disk_faults → place.left ≡ max_mail_bytes → HasRunSome moment place.writer.shown entry [] rooms place
-some-none laws moment entry rooms place turns h begun_none acked_none alive mail disk left =
+some-none laws moment entry rooms place turns h opens unpublished begun_none acked_none alive mail disk left =
     let opening : Base = place.writer.shown in
     let none : [] ≡ steps_at rooms place = sym (nothing-of place.writer.begun rooms.marks.0 h.marks) in
     record {
       acknowledged = [];
-      at = subst (λ (l : List Step). StandsAt opening entry l [] [] place) none (laws.stands opening entry place refl begun_none acked_none alive (sym mail) (sym disk) left);
+      at = subst (λ (l : List Step). StandsAt opening entry l [] [] place) none (laws.stands opening entry place opens unpublished refl begun_none acked_none alive (sym mail) (sym disk) left);
       machine_run = subst (λ (l : List Step). MachineRun opening moment (at_first opening entry) l [] [] 0) none (laws.machine_run opening moment entry);
       line_commits = subst (λ (l : List Step). LineCommits opening moment entry.mail.tree l [] []) none (laws.commits opening moment entry);
       line_answers = subst (λ (l : List Step). LineAnswers opening moment (at_first opening entry) l []) none (laws.answers opening moment entry);
@@ -78,39 +74,42 @@ run-front [] back (log ∷ logs) h = absurd h
 run-front (line ∷ front) back [] h = absurd h
 run-front (line ∷ front) back (log ∷ logs) h = ap (λ (l : List RunLine). (line.1, log) ∷ l) (run-front front back logs h.1)
 
-module _ (moment : ℤ) (session failed : Bool) (opening : Base) (entry : Devices) (phases : List Phase) (planned : List Planned) (rooms : Rooms) (place : Place) (mail : ObservedMail) (disk_faults : ℕ) (old out : ObservedStream) (log : SessionLog)
-    (h : HasTaken moment session opening mail disk_faults planned failed rooms place old out) (mail_is : entry.mail ≡ mail) (disk_is : entry.disk.faults ≡ disk_faults) (out_is : entry.out ≡ old) (are : planned ≡ planned_from 0 phases)
+module _ (moment : ℤ) (session failed : Bool) (opening : Base) (entry : Devices) (phases : List Phase) (rooms : Rooms) (place : Place) (mail : ObservedMail) (disk_faults : ℕ) (old out : ObservedStream) (log : SessionLog)
+    (h : HasRunPhases moment session failed opening mail disk_faults phases rooms place old out) (mail_is : entry.mail ≡ mail) (disk_is : entry.disk.faults ≡ disk_faults) (out_is : entry.out ≡ old)
     (is : log ≡ record { steps = steps_at rooms place; lines = rooms.logs.0; acked = place.writer.acked }) where
-  abbrev ended : ℕ
-  ended = ends_in h.taken
+  abbrev taken : List Planned
+  taken = planned_from 0 (take h.count phases)
 
-  lines-are : lines_in h.taken ≡ lines_of_first ended phases
-  lines-are = ap lines_in (cut-phases 0 phases h.taken h.back h.met (sym h.all ∙ are)) ∙ lines-planned 0 (take ended phases)
+  lines-are : lines_in taken ≡ lines_of_first h.count phases
+  lines-are = lines-planned 0 (take h.count phases)
 
-  all-are : placed_from 0 phases ≡ lines_in h.taken ++ lines_in h.back
-  all-are = sym (lines-planned 0 phases) ∙ (ap lines_in (sym are ∙ h.all) ∙ flat_map-append line_in h.taken h.back)
+  runs-are : lines_at taken rooms ≡ run_lines (placed_from 0 phases) rooms.logs.0
+  runs-are =
+      let cut = placed-cut 0 h.count phases in
+      ap (λ (l : List PlacedLine). run_lines l rooms.logs.0) lines-are
+      ∙ sym (ap (λ (l : List PlacedLine). run_lines l rooms.logs.0) cut.1 ∙ run-front (lines_of_first h.count phases) cut.0 rooms.logs.0 (subst (λ (l : List PlacedLine). AreLogsOf l rooms.logs.0) lines-are h.noted.logs))
 
-  runs-are : lines_at h.taken rooms ≡ run_lines (placed_from 0 phases) rooms.logs.0
-  runs-are = sym (ap (λ (l : List PlacedLine). run_lines l rooms.logs.0) all-are ∙ run-front (lines_in h.taken) (lines_in h.back) rooms.logs.0 h.noted.logs)
-
-  some : HasRunSome moment opening entry h.taken rooms place
+  some : HasRunSome moment opening entry taken rooms place
   some = h.ran entry mail_is disk_is
+
+  ended-are : ends_in taken ≡ h.count
+  ended-are = ends-planned 0 (take h.count phases) ∙ take-within h.count phases h.within
 
   pub has-run : HasRun moment opening entry phases session place.mail place.disk_faults out failed log
   has-run =
       subst (λ (l : SessionLog). HasRun moment opening entry phases session place.mail place.disk_faults out failed l) (sym is) (record {
         acknowledged = some.acknowledged;
-        phases_run = ended;
+        phases_run = h.count;
         logs = subst (λ (l : List PlacedLine). AreLogsOf l rooms.logs.0) lines-are h.noted.logs;
-        machine_run = subst (λ (l : List RunLine). MachineRun opening moment (at_first opening entry) (steps_at rooms place) l some.acknowledged ended) runs-are some.machine_run;
+        machine_run = subst (λ (n : ℕ). MachineRun opening moment (at_first opening entry) (steps_at rooms place) (run_lines (placed_from 0 phases) rooms.logs.0) some.acknowledged n) ended-are
+            (subst (λ (l : List RunLine). MachineRun opening moment (at_first opening entry) (steps_at rooms place) l some.acknowledged (ends_in taken)) runs-are some.machine_run);
         line_commits = subst (λ (l : List RunLine). LineCommits opening moment entry.mail.tree (steps_at rooms place) (lane_zero_lines l) some.acknowledged) runs-are some.line_commits;
         line_answers = subst (λ (l : List RunLine). LineAnswers opening moment (at_first opening entry) (steps_at rooms place) (lane_zero_lines l)) runs-are some.line_answers;
         lane_answers = subst (λ (l : List RunLine). LaneAnswers opening moment (steps_at rooms place) (other_lane_lines l)) runs-are some.lane_answers;
         given = subst (λ (l : List RunLine). GivenAlong opening moment (steps_at rooms place) (at_first opening entry) (lane_zero_lines l) entry.mail place.mail) runs-are some.given;
         faults = subst (λ (l : List RunLine). (after_lines (at_first opening entry) (lane_zero_lines l)).disk_faults ≡ place.disk_faults) runs-are (ap (λ (b : Before). b.disk_faults) some.at.before);
         clocks = some.clocks;
-        printed = subst (λ (o : ObservedStream). GainsReplies failed session phases ended rooms.logs.0 o out) (sym out_is)
-            (out-gained failed session phases planned h.taken h.back rooms.logs.0 old out are h.all h.whole h.noted.logs h.out);
+        printed = subst (λ (o : ObservedStream). GainsReplies failed session phases h.count rooms.logs.0 o out) (sym out_is) h.out;
       })
 
 pub is-kept : (entry now : ObservedDisk) (opening : Base) (planned : List Planned) (rooms : Rooms) (place : Place) (log : SessionLog) → HasNoted planned rooms place → IsDurable entry opening now place.writer

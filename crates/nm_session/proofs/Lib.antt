@@ -6,9 +6,14 @@ pub mod LookLemmas
 pub mod LoopLemmas
 pub mod MarkLemmas
 pub mod NewLemmas
+pub mod PhaseLemmas
+pub mod PlaceLemmas
 pub mod PrintLemmas
 pub mod RoomLemmas
+pub mod RunLemmas
 pub mod SessionLemmas
+pub mod SettleLemmas
 pub mod ShowLemmas
+pub mod SightLemmas
 pub mod TagLemmas
 pub mod TurnLemmas

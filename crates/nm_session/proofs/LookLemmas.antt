@@ -1,5 +1,5 @@
--- What a line of another lane leaves: its log and its marks. For the proofs of `run_look`, `look_log` and `look`.
-use Rattle.std.proofs.Common.{◌≡◌, ◌⊎◌, inl, inr, ℕ, ℤ, ◌≤◌, List, [], ◌∷◌, Option, None, Some, MatchResult, Result, Ok, Err, IfOk, length, map, codes, false, refl, sym, ap, ◌∙◌, subst, arith}
+-- What a line of another lane leaves: its log and its marks. For the proofs of `note_answer`, `look_log` and `look`.
+use Rattle.std.proofs.Common.{◌≡◌, ◌⊎◌, inl, inr, ℕ, ℤ, List, [], ◌∷◌, Option, None, Some, MatchResult, Result, Ok, Err, IfOk, map, codes, false, refl, sym, ap, ◌∙◌, subst}
 use Rattle.std.specs.Option.{option_to_list}
 use Rattle.nm_answer.specs.Answer.{answer}
 use Rattle.nm_answer.specs.declared.request.Request.{Request}
@@ -23,15 +23,14 @@ use Rattle.nm_query.specs.declared.query.Query.{Query}
 use Rattle.nm_query.specs.declared.query_error.QueryError.{QueryError}
 use Rattle.nm_query.specs.declared.query_error.QueryError.TheVariants as query_errors
 use Rattle.nm_session.specs.Line.{IsReadOff, refused_or, refused_with}
-use Rattle.nm_session.specs.Look.{IsLooked, looked}
+use Rattle.nm_session.specs.Look.{IsAnswerOn, IsLooked, looked}
 use Rattle.nm_session.specs.Marks.{look_marks, reply_mark, said_marks, said_of}
 use Rattle.nm_session.specs.declared.answering.LineAnswer.{LineAnswer}
 use Rattle.nm_session.specs.declared.marks.Mark.{Mark}
 use Rattle.nm_session.specs.declared.marks.Mark.TheVariants as marks
 use Rattle.nm_session.specs.declared.marks.Said.{Said}
 use Rattle.nm_session.proofs.AnswerLemmas.{refusal-said, refusal-unreplied}
-use Rattle.nm_session.proofs.LineLemmas.{reply-few}
-use Rattle.nm_session.proofs.MarkLemmas.{mapped, said-marks}
+use Rattle.nm_session.proofs.MarkLemmas.{said-marks}
 use Rattle.nm_tags.specs.declared.line_error.LineKind.{LineKind}
 
 -- what texts are refused for does not go well
@@ -80,14 +79,14 @@ said-without moment index line input = record { cause = inr refl; text = refl; r
 
 said-by : (moment : ℤ) (index : Base) (line : ScriptLine) (answered : Result LineAnswer NoMemory) (done : LineAnswer) (spare : List ℕ) → spare ≡ codes "notmuch: no memory\n"
     → MatchResult answered (λ got. done ≡ got) (λ error. done ≡ record { outcome = outcomes.NoMemory; text = spare; reply = None })
-    → IfOk answered (λ got. got ≡ looked moment index (parse_line line) line.input) → IsSaidOf moment index (parse_line line) line.input done
+    → IsAnswerOn moment index line answered → IsSaidOf moment index (parse_line line) line.input done
 said-by moment index line (Ok got) done spare text is looks = subst (λ (d : LineAnswer). IsSaidOf moment index (parse_line line) line.input d) (sym (is ∙ looks)) (said-looked moment index (parse_line line) line.input)
 said-by moment index line (Err error) done spare text is looks =
     subst (λ (d : LineAnswer). IsSaidOf moment index (parse_line line) line.input d) (sym (is ∙ ap no-memory text)) (said-without moment index (parse_line line) line.input)
 
 pub is-looked : (moment : ℤ) (phase : ℕ) (index : Base) (line : ScriptLine) (answered : Result LineAnswer NoMemory) (done : LineAnswer) (spare : List ℕ) (revision status : ℕ) (noted : List Given) → spare ≡ codes "notmuch: no memory\n"
     → MatchResult answered (λ got. done ≡ got) (λ error. done ≡ record { outcome = outcomes.NoMemory; text = spare; reply = None })
-    → IfOk answered (λ got. got ≡ looked moment index (parse_line line) line.input) → revision ≡ index.revision → status ≡ status_of done.outcome → noted ≡ []
+    → IsAnswerOn moment index line answered → revision ≡ index.revision → status ≡ status_of done.outcome → noted ≡ []
     → IsLooked moment phase index (line, record { phase = phase; lane = line.lane; line = line.number; revision = revision; status = status; outcome = done.outcome; text = done.text; given = noted; mail_faults = 0; disk_faults = 0; disk_failed = false }) done.reply
 is-looked moment phase index line answered done spare revision status noted text is looks at status_is none =
     let h = said-by moment index line answered done spare text is looks in
@@ -111,10 +110,6 @@ pub look-marks : (moment : ℤ) (phase : ℕ) (index : Base) (ran : RunLine) (re
 look-marks moment phase index ran reply h =
     ap (λ (l : List Mark). marks.Look ran.1.lane ∷ l) (said-marks ran (option_to_list reply) h.reply_is) ∙ ap (λ (n : ℕ). marks.Look n ∷ map reply_mark (reply_to ran)) h.numbers.lane
 
-pub look-few : (moment : ℤ) (phase : ℕ) (index : Base) (ran : RunLine) (reply : Option Said) → IsLooked moment phase index ran reply → length (marks.Look ran.1.lane ∷ said_marks ran.1.lane (option_to_list reply)) ≤ 2
-look-few moment phase index ran reply h =
-    omega (arith, ap length (look-marks moment phase index ran reply h), mapped reply_mark (reply_to ran), reply-few ran.1.outcome (parse_line ran.0) ran.1.lane ran.1.revision ran.1.text)
-
 -- how its words, or what it asks for, answer it
 
 by-words : (moment : ℤ) (index : Base) (parsed : ParsedLine) (input word : List ℕ) (kind : UsageKind) (done : LineAnswer) → parsed ≡ asked.Usage word kind → done ≡ refused_with (outcomes.Usage word kind)
@@ -126,12 +121,12 @@ by-request : (moment : ℤ) (index : Base) (parsed : ParsedLine) (input : List �
 by-request moment index parsed input request done is read = subst (λ (p : ParsedLine). done ≡ looked moment index p input) (sym is) read
 
 pub usage-looked : (moment : ℤ) (index : Base) (line : ScriptLine) (word : List ℕ) (kind : UsageKind) (result : Result LineAnswer NoMemory) → parse_line line ≡ asked.Usage word kind
-    → IfOk result (λ done. done ≡ refused_with (outcomes.Usage word kind)) → IfOk result (λ done. done ≡ looked moment index (parse_line line) line.input)
+    → IfOk result (λ done. done ≡ refused_with (outcomes.Usage word kind)) → IsAnswerOn moment index line result
 usage-looked moment index line word kind (Ok done) is refuses = by-words moment index (parse_line line) line.input word kind done is refuses
 usage-looked moment index line word kind (Err error) is refuses = tt
 
 pub request-looked : (moment : ℤ) (index : Base) (line : ScriptLine) (request : Request) (result : Result LineAnswer NoMemory) → parse_line line ≡ asked.Request request
-    → IfOk result (IsReadOff moment index request line.input) → IfOk result (λ done. done ≡ looked moment index (parse_line line) line.input)
+    → IfOk result (IsReadOff moment index request line.input) → IsAnswerOn moment index line result
 request-looked moment index line request (Ok done) is read = by-request moment index (parse_line line) line.input request done is read
 request-looked moment index line request (Err error) is read = tt
 

@@ -1,8 +1,8 @@
 -- A turn more keeps what is so of the turns before it. For the proofs of `take_turns` and `run_turns`.
-use Rattle.std.proofs.Common.{◌≡◌, inl, inr, ℕ, ℤ, ◌+◌, ◌*◌, ◌==◌, ◌<◌, ◌≤◌, Bool, true, false, not, cond, List, [], ◌∷◌, ◌++◌, length, refl, sym, ap, ◌∙◌, subst, arith, append-nil}
+use Rattle.std.proofs.Common.{◌≡◌, inl, inr, ℕ, ℤ, ◌+◌, ◌*◌, ◌==◌, ◌<◌, ◌≤◌, Bool, true, false, not, cond, List, [], ◌∷◌, ◌++◌, drop, length, take, refl, sym, ap, ◌∙◌, subst, arith, append-nil}
 use Rattle.std.proofs.lemmas.Bool.Decides.{nat_tests}
 use Rattle.std.proofs.lemmas.Grind.{flat_map-append}
-use Rattle.std.proofs.lemmas.List.{length-append}
+use Rattle.std.proofs.lemmas.List.{length-append, take-append-drop}
 use Rattle.std.proofs.lemmas.List.Elements.{filter-append}
 use Rattle.nm_commit.specs.declared.change.Commit.{Commit}
 use Rattle.nm_history.specs.Call.{Devices, PlacedLine}
@@ -14,6 +14,7 @@ use Rattle.nm_history.specs.LineResult.{CommitNothing, IsLineResult, IsLookResul
 use Rattle.nm_history.specs.Lines.{RunLine, at_first, is_in_lane_zero, lane_zero_lines, other_lane_lines, run_lines}
 use Rattle.nm_history.specs.MachineRun.{MachineRun, Replied, lane_count, reply_to}
 use Rattle.nm_history.specs.PrintedOut.{AreLogsOf, IsNumbered}
+use Rattle.nm_index.specs.Index.{folded}
 use Rattle.nm_index.specs.declared.base.Base.{Base}
 use Rattle.nm_lanes.specs.declared.script.ScriptLine.{ScriptLine}
 use Rattle.nm_log.specs.ParsedLine.{parse_line}
@@ -22,7 +23,7 @@ use Rattle.nm_machine.specs.declared.step.Step.{Step}
 use Rattle.nm_machine.specs.declared.step.Step.TheVariants.{Meet}
 use Rattle.nm_session.specs.Line.{IsNoted}
 use Rattle.nm_session.specs.Look.{IsLookNoted}
-use Rattle.nm_session.specs.Loop.{HasNoted, HasRunSome, IsMeetingNoted, IsTurn, SpareFrom, StandFor, lines_at, steps_at}
+use Rattle.nm_session.specs.Loop.{HasNoted, HasRunSome, IsMeetingNoted, IsTurn, StandFor, lines_at, steps_at}
 use Rattle.nm_session.specs.Marks.{line_marks, look_marks, steps_of}
 use Rattle.nm_session.specs.Rooms.{AreSpares, HasSpare}
 use Rattle.nm_session.specs.TurnLaws.{TurnLaws}
@@ -32,6 +33,7 @@ use Rattle.nm_session.specs.declared.marks.Mark.TheVariants as marks
 use Rattle.nm_session.specs.declared.rooms.Rooms.{Rooms}
 use Rattle.nm_session.proofs.LineLemmas.{reply-few, still-even}
 use Rattle.nm_session.proofs.MarkLemmas.{line-length, line-stands, line-steps, look-stands, look-steps-are, mapped, stand-append, steps-append}
+use Rattle.nm_session.proofs.PlaceLemmas.{IsCut, others-alone, shows-made, stand-between, stand-cut, steps-between, steps-cut}
 use Rattle.nm_session.proofs.TurnLemmas.{IsNext}
 
 -- ---- lines and logs
@@ -201,101 +203,136 @@ module _ (moment : ℤ) (planned : List Planned) (phase : ℕ) (line : ScriptLin
 -- ---- a line of another lane
 
 module _ (moment : ℤ) (planned : List Planned) (phase : ℕ) (line : ScriptLine) (before after : Rooms) (place : Place) (noted : HasNoted planned before place) (another : 1 ≤ line.lane)
-    (h : IsLookNoted moment phase place.writer.shown line before after) where
+    (h : IsLookNoted moment phase place.writer line before after) where
+  abbrev log : LineLog
+  log = h.noted.log
+
   abbrev replies : List Replied
-  replies = reply_to (line, h.log)
+  replies = reply_to (line, log)
 
   abbrev looking : List Step
   looking = look_steps line.lane replies
 
-  steps-looked : steps_at after place ≡ steps_at before place ++ looking
-  steps-looked =
-      ap (λ (l : List Mark). steps_of l place.writer.begun) h.marks
-      ∙ (ap (λ (l : List Commit). steps_of (before.marks.0 ++ look_marks line.lane replies) l) (sym (append-nil place.writer.begun))
-      ∙ (steps-append before.marks.0 (look_marks line.lane replies) place.writer.begun [] noted.stand ∙ ap (λ (l : List Step). steps_at before place ++ l) (look-steps-are line.lane replies)))
+  abbrev ms : List Mark
+  ms = take h.at before.marks.0
 
-  lines-looked : lines_at (planned ++ Runs phase line ∷ []) after ≡ lines_at planned before ++ (line, h.log) ∷ []
+  abbrev ns : List Mark
+  ns = drop h.at before.marks.0
+
+  cut : IsCut ms ns place.writer.begun
+  cut = stand-cut ms ns place.writer.begun (subst (λ (l : List Mark). StandFor l place.writer.begun) (sym (take-append-drop h.at before.marks.0)) noted.stand)
+
+  abbrev front : List Step
+  front = steps_of ms cut.first
+
+  abbrev back : List Step
+  back = steps_of ns cut.second
+
+  steps-before : steps_at before place ≡ front ++ back
+  steps-before =
+      ap (λ (l : List Mark). steps_of l place.writer.begun) (sym (take-append-drop h.at before.marks.0)) ∙ steps-cut ms (look_marks line.lane replies) ns place.writer.begun cut (look-stands line.lane replies)
+
+  steps-looked : steps_at after place ≡ front ++ (looking ++ back)
+  steps-looked =
+      ap (λ (l : List Mark). steps_of l place.writer.begun) h.noted.marks
+      ∙ (steps-between ms (look_marks line.lane replies) ns place.writer.begun cut (look-stands line.lane replies) ∙ ap (λ (l : List Step). front ++ (l ++ back)) (look-steps-are line.lane replies))
+
+  lines-looked : lines_at (planned ++ Runs phase line ∷ []) after ≡ lines_at planned before ++ (line, log) ∷ []
   lines-looked =
       ap (λ (l : List PlacedLine). run_lines l after.logs.0) (lines-more planned phase line)
-      ∙ (ap (λ (l : List LineLog). run_lines (lines_in planned ++ (phase, line) ∷ []) l) h.logs ∙ zip-more (lines_in planned) before.logs.0 (phase, line) h.log noted.logs)
+      ∙ (ap (λ (l : List LineLog). run_lines (lines_in planned ++ (phase, line) ∷ []) l) h.noted.logs ∙ zip-more (lines_in planned) before.logs.0 (phase, line) log noted.logs)
 
   few-looked : length (steps_at after place) ≤ 2 * length (planned ++ Runs phase line ∷ []) + 3 * length place.writer.begun
   few-looked = omega (
     arith,
-    ap length steps-looked ∙ length-append (steps_at before place) looking,
+    ap length steps-looked ∙ length-append front (looking ++ back),
+    length-append looking back,
+    ap length steps-before ∙ length-append front back,
     length-append planned (Runs phase line ∷ []),
     mapped reply_step replies,
-    reply-few h.log.outcome (parse_line line) h.log.lane h.log.revision h.log.text,
+    reply-few log.outcome (parse_line line) log.lane log.revision log.text,
     noted.few,
   )
 
   look-noted : HasNoted (planned ++ Runs phase line ∷ []) after place
   look-noted = record {
     logs = subst (λ (l : List PlacedLine). AreLogsOf l after.logs.0) (sym (lines-more planned phase line))
-        (subst (λ (l : List LineLog). AreLogsOf (lines_in planned ++ (phase, line) ∷ []) l) (sym h.logs) (logs-more (lines_in planned) before.logs.0 (phase, line) h.log noted.logs h.look.numbers));
-    stand = subst (λ (l : List Mark). StandFor l place.writer.begun) (sym h.marks)
-        (subst (λ (l : List Commit). StandFor (before.marks.0 ++ look_marks line.lane replies) l) (append-nil place.writer.begun)
-        (stand-append before.marks.0 (look_marks line.lane replies) place.writer.begun [] noted.stand (look-stands line.lane replies)));
+        (subst (λ (l : List LineLog). AreLogsOf (lines_in planned ++ (phase, line) ∷ []) l) (sym h.noted.logs) (logs-more (lines_in planned) before.logs.0 (phase, line) log noted.logs h.noted.look.numbers));
+    stand = subst (λ (l : List Mark). StandFor l place.writer.begun) (sym h.noted.marks) (stand-between ms (look_marks line.lane replies) ns place.writer.begun cut (look-stands line.lane replies));
     few = few-looked;
     within = noted.within;
     even = noted.even;
   }
 
-  both-looked : (P : List Step → List RunLine → Type 0) → P (steps_at before place ++ looking) (lines_at planned before ++ (line, h.log) ∷ []) → P (steps_at after place) (lines_at (planned ++ Runs phase line ∷ []) after)
-  both-looked P p = subst (λ (l : List Step). P l (lines_at (planned ++ Runs phase line ∷ []) after)) (sym steps-looked) (subst (λ (l : List RunLine). P (steps_at before place ++ looking) l) (sym lines-looked) p)
+  both-looked : (P : List Step → List RunLine → Type 0) → P (front ++ (looking ++ back)) (lines_at planned before ++ (line, log) ∷ []) → P (steps_at after place) (lines_at (planned ++ Runs phase line ∷ []) after)
+  both-looked P p = subst (λ (l : List Step). P l (lines_at (planned ++ Runs phase line ∷ []) after)) (sym steps-looked) (subst (λ (l : List RunLine). P (front ++ (looking ++ back)) l) (sym lines-looked) p)
 
   module _ (laws : TurnLaws) (opening : Base) (entry : Devices) (some : HasRunSome moment opening entry planned before place) (place_is : phase ≡ ends_in planned) (exists : line.lane < lane_count) where
     abbrev lines-before : List RunLine
     lines-before = lines_at planned before
 
-    look-result : IsLookResult moment phase place (line, h.log) looking
+    look-result : IsLookResult moment phase opening some.acknowledged h.index (line, log) looking back
     look-result = record {
       another = another;
       exists = exists;
-      numbers = h.look.numbers;
-      revision = h.look.revision;
-      cause = h.look.cause;
-      status = h.look.status;
-      text = h.look.text;
-      given = h.look.given;
-      mail = h.look.mail;
-      disk = h.look.disk;
-      well = h.look.well;
+      numbers = h.noted.look.numbers;
+      alone = others-alone line.lane ns cut.second cut.back h.place.others;
+      seen = h.seen;
+      later = h.later;
+      both = sym some.at.published ∙ h.both;
+      shown = sym h.place.made ∙ sym (shows-made ns cut.second cut.back);
+      index_is = h.index_is ∙ ap (λ (b : Base). folded b h.seen) some.at.opens;
+      revision = h.noted.look.revision;
+      cause = h.noted.look.cause;
+      status = h.noted.look.status;
+      text = h.noted.look.text;
+      given = h.noted.look.given;
+      mail = h.noted.look.mail;
+      disk = h.noted.look.disk;
+      well = h.noted.look.well;
       steps = refl;
     }
 
-    other-is : is_in_lane_zero (line, h.log) ≡ false
+    other-is : is_in_lane_zero (line, log) ≡ false
     other-is = not-zero line.lane another
 
     nothing : CommitNothing looking
     nothing = laws.look_nothing line.lane replies
 
-    zeros-same : lane_zero_lines (lines-before ++ (line, h.log) ∷ []) ≡ lane_zero_lines lines-before
-    zeros-same = zero-same lines-before (line, h.log) other-is
+    zeros-same : lane_zero_lines (lines-before ++ (line, log) ∷ []) ≡ lane_zero_lines lines-before
+    zeros-same = zero-same lines-before (line, log) other-is
+
+    stood : StandsAt opening entry (front ++ back) (lane_zero_lines lines-before) some.acknowledged place
+    stood = subst (λ (l : List Step). StandsAt opening entry l (lane_zero_lines lines-before) some.acknowledged place) steps-before some.at
 
     look-some : HasRunSome moment opening entry (planned ++ Runs phase line ∷ []) after place
     look-some = record {
       acknowledged = some.acknowledged;
       at = both-looked (λ steps ran. StandsAt opening entry steps (lane_zero_lines ran) some.acknowledged place)
-          (subst (λ (l : List RunLine). StandsAt opening entry (steps_at before place ++ looking) l some.acknowledged place) (sym zeros-same)
-          (laws.still_stands opening entry (steps_at before place) looking (lane_zero_lines lines-before) some.acknowledged place nothing some.at));
+          (subst (λ (l : List RunLine). StandsAt opening entry (front ++ (looking ++ back)) l some.acknowledged place) (sym zeros-same)
+          (laws.between_stands opening entry front back looking (lane_zero_lines lines-before) some.acknowledged place nothing stood));
       machine_run = both-looked (λ steps ran. MachineRun opening moment (at_first opening entry) steps ran some.acknowledged (ends_in (planned ++ Runs phase line ∷ [])))
-          (subst (λ (n : ℕ). MachineRun opening moment (at_first opening entry) (steps_at before place ++ looking) (lines-before ++ (line, h.log) ∷ []) some.acknowledged n) (place_is ∙ sym (ends-line planned phase line))
-          (laws.look_run opening moment phase entry (steps_at before place) looking lines-before some.acknowledged place (line, h.log) some.at look-result
-          (subst (λ (n : ℕ). MachineRun opening moment (at_first opening entry) (steps_at before place) lines-before some.acknowledged n) (sym place_is) some.machine_run)));
+          (subst (λ (n : ℕ). MachineRun opening moment (at_first opening entry) (front ++ (looking ++ back)) (lines-before ++ (line, log) ∷ []) some.acknowledged n) (place_is ∙ sym (ends-line planned phase line))
+          (laws.look_run opening moment phase (at_first opening entry) front back looking lines-before some.acknowledged h.index (line, log) look-result
+          (subst (λ (n : ℕ). MachineRun opening moment (at_first opening entry) (front ++ back) lines-before some.acknowledged n) (sym place_is)
+          (subst (λ (l : List Step). MachineRun opening moment (at_first opening entry) l lines-before some.acknowledged (ends_in planned)) steps-before some.machine_run))));
       line_commits = both-looked (λ steps ran. LineCommits opening moment entry.mail.tree steps (lane_zero_lines ran) some.acknowledged)
-          (subst (λ (l : List RunLine). LineCommits opening moment entry.mail.tree (steps_at before place ++ looking) l some.acknowledged) (sym zeros-same)
-          (laws.still_commits opening moment entry.mail.tree (steps_at before place) looking (lane_zero_lines lines-before) some.acknowledged nothing some.line_commits));
+          (subst (λ (l : List RunLine). LineCommits opening moment entry.mail.tree (front ++ (looking ++ back)) l some.acknowledged) (sym zeros-same)
+          (laws.between_commits opening moment entry.mail.tree front back looking (lane_zero_lines lines-before) some.acknowledged nothing
+          (subst (λ (l : List Step). LineCommits opening moment entry.mail.tree l (lane_zero_lines lines-before) some.acknowledged) steps-before some.line_commits)));
       line_answers = both-looked (λ steps ran. LineAnswers opening moment (at_first opening entry) steps (lane_zero_lines ran))
-          (subst (λ (l : List RunLine). LineAnswers opening moment (at_first opening entry) (steps_at before place ++ looking) l) (sym zeros-same)
-          (laws.still_answers opening moment (steps_at before place) looking (at_first opening entry) (lane_zero_lines lines-before) some.line_answers));
+          (subst (λ (l : List RunLine). LineAnswers opening moment (at_first opening entry) (front ++ (looking ++ back)) l) (sym zeros-same)
+          (laws.between_answers opening moment front back looking (at_first opening entry) (lane_zero_lines lines-before) nothing
+          (subst (λ (l : List Step). LineAnswers opening moment (at_first opening entry) l (lane_zero_lines lines-before)) steps-before some.line_answers)));
       lane_answers = both-looked (λ steps ran. LaneAnswers opening moment steps (other_lane_lines ran))
-          (subst (λ (l : List RunLine). LaneAnswers opening moment (steps_at before place ++ looking) l) (sym (others-more lines-before (line, h.log) other-is))
-          (laws.look_answers opening moment phase entry (steps_at before place) looking (lane_zero_lines lines-before) (other_lane_lines lines-before) some.acknowledged place (line, h.log) some.at look-result some.lane_answers));
+          (subst (λ (l : List RunLine). LaneAnswers opening moment (front ++ (looking ++ back)) l) (sym (others-more lines-before (line, log) other-is))
+          (laws.look_answers opening moment phase entry front back looking (lane_zero_lines lines-before) (other_lane_lines lines-before) some.acknowledged place h.index (line, log) stood look-result
+          (subst (λ (l : List Step). LaneAnswers opening moment l (other_lane_lines lines-before)) steps-before some.lane_answers)));
       given = both-looked (λ steps ran. GivenAlong opening moment steps (at_first opening entry) (lane_zero_lines ran) entry.mail place.mail)
-          (subst (λ (l : List RunLine). GivenAlong opening moment (steps_at before place ++ looking) (at_first opening entry) l entry.mail place.mail) (sym zeros-same)
-          (laws.still_given opening moment (steps_at before place) looking (at_first opening entry) (lane_zero_lines lines-before) entry.mail place.mail some.given));
-      clocks = both-looked (λ steps ran. length place.writer.acked ≡ appends steps) (some.clocks ∙ sym (laws.still_acknowledged (steps_at before place) looking nothing));
+          (subst (λ (l : List RunLine). GivenAlong opening moment (front ++ (looking ++ back)) (at_first opening entry) l entry.mail place.mail) (sym zeros-same)
+          (laws.between_given opening moment front back looking (at_first opening entry) (lane_zero_lines lines-before) entry.mail place.mail nothing
+          (subst (λ (l : List Step). GivenAlong opening moment l (at_first opening entry) (lane_zero_lines lines-before) entry.mail place.mail) steps-before some.given)));
+      clocks = both-looked (λ steps ran. length place.writer.acked ≡ appends steps) (some.clocks ∙ (ap appends steps-before ∙ sym (laws.between_acknowledged front back looking nothing)));
     }
 
 -- ---- the end of a phase
@@ -367,25 +404,25 @@ some-more laws moment opening entry planned Meets before after old new noted h n
 
 -- ---- places
 
-pub spare-next : (done all begun : ℕ) (rooms : Rooms) → done < all → SpareFrom done all begun rooms → HasSpare 1 begun rooms
-spare-next done all begun rooms within h =
-    record { logs = omega (arith, h.logs, within); marks = omega (arith, h.marks, within); spares = omega (arith, h.spares, within); texts = h.texts }
+pub spare-fewer : (turns fewer begun : ℕ) (rooms : Rooms) → fewer ≤ turns → HasSpare turns begun rooms → HasSpare fewer begun rooms
+spare-fewer turns fewer begun rooms few h =
+    record { logs = omega (arith, h.logs, few); marks = omega (arith, h.marks, few); spares = omega (arith, h.spares, few); texts = h.texts }
 
-pub spare-more : (moment : ℤ) (done all : ℕ) (turn : Planned) (before after : Rooms) (old new : Place) → SpareFrom done all (length old.writer.begun) before → IsTurn moment turn old before after new
-    → SpareFrom (done + 1) all (length new.writer.begun) after
-spare-more moment done all (Runs phase line) before after old new h (inl turn) = record {
+pub spare-turn : (moment : ℤ) (turns : ℕ) (turn : Planned) (before after : Rooms) (old new : Place) → HasSpare (turns + 1) (length old.writer.begun) before → IsTurn moment turn old before after new
+    → HasSpare turns (length new.writer.begun) after
+spare-turn moment turns (Runs phase line) before after old new h (inl turn) = record {
   logs = omega (arith, h.logs, turn.1.logs_spare);
   marks = omega (arith, h.marks, turn.1.marks_spare);
   spares = omega (arith, h.spares, turn.1.spares);
   texts = turn.1.texts;
 }
-spare-more moment done all (Runs phase line) before after old new h (inr turn) = record {
-  logs = omega (arith, h.logs, turn.1.logs_spare);
-  marks = omega (arith, h.marks, turn.1.marks_spare, ap (λ (place : Place). length place.writer.begun) turn.2);
-  spares = omega (arith, h.spares, turn.1.spares);
-  texts = turn.1.texts;
+spare-turn moment turns (Runs phase line) before after old new h (inr turn) = record {
+  logs = omega (arith, h.logs, turn.1.noted.logs_spare);
+  marks = omega (arith, h.marks, turn.1.noted.marks_spare, ap (λ (place : Place). length place.writer.begun) turn.2);
+  spares = omega (arith, h.spares, turn.1.noted.spares);
+  texts = turn.1.noted.texts;
 }
-spare-more moment done all Meets before after old new h turn = record {
+spare-turn moment turns Meets before after old new h turn = record {
   logs = omega (arith, h.logs, ap (λ (l : List LineLog × ℕ). l.1) turn.0.logs);
   marks = omega (arith, h.marks, turn.0.marks_spare, ap (λ (place : Place). length place.writer.begun) turn.1);
   spares = omega (arith, h.spares, ap (λ (l : List (List ℕ)). length l) turn.0.spares);
@@ -395,5 +432,5 @@ spare-more moment done all Meets before after old new h turn = record {
 -- the steps that were made so far
 pub steps-same : (moment : ℤ) (turn : Planned) (before after : Rooms) (old new : Place) → IsTurn moment turn old before after new → after.steps ≡ before.steps
 steps-same moment (Runs phase line) before after old new (inl turn) = turn.1.steps
-steps-same moment (Runs phase line) before after old new (inr turn) = turn.1.steps
+steps-same moment (Runs phase line) before after old new (inr turn) = turn.1.noted.steps
 steps-same moment Meets before after old new turn = turn.0.steps

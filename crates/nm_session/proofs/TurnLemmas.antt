@@ -1,18 +1,17 @@
 -- The turns of phases: their lines, how many phases end with them, and where each line stands.
--- For the proofs of `turns`, `take_turns`, `run_turns` and `open_and_run`.
-use Rattle.std.proofs.Common.{◌≡◌, ℕ, ◌+◌, ◌<◌, ◌==◌, Bool, true, false, cond, List, [], ◌∷◌, ◌++◌, Result, Ok, Err, OnOk, length, map, take, drop, get_or, zero, suc, refl, sym, ap, ◌∙◌, subst, arith, append-nil, append_assoc}
+-- For the proofs of `first_lane`, `settling` and `running`.
+use Rattle.std.proofs.Common.{◌≡◌, ℕ, ◌+◌, ◌<◌, ◌==◌, Bool, true, false, cond, not, List, [], ◌∷◌, ◌++◌, ◌≤◌, Some, drop, filter, length, map, slice_get, take, get_or, zero, suc, refl, sym, ap, ◌∙◌, subst, arith, append-nil, append_assoc}
 use Rattle.std.proofs.lemmas.Bool.{eqb-true}
+use Rattle.std.proofs.lemmas.Bool.Decides.{nat_tests}
 use Rattle.std.proofs.lemmas.Grind.{flat_map-append}
-use Rattle.std.proofs.lemmas.List.{map-append, take-append-drop, take_more}
+use Rattle.std.proofs.lemmas.List.{drop_more, length-append, map-append, take_more}
 use Rattle.std.proofs.lemmas.List.Elements.{filter-append}
 use Rattle.std.specs.List.{AllByRecursion, flat_map, range_with_len}
 use Rattle.nm_history.specs.Call.{PlacedLine, lines_by_lane, lines_of_lane, placed_from, placed_in}
 use Rattle.nm_history.specs.MachineRun.{lane_count}
 use Rattle.nm_lanes.specs.declared.script.Phase.{Phase}
 use Rattle.nm_lanes.specs.declared.script.ScriptLine.{ScriptLine}
-use Rattle.nm_session.specs.Turns.{AreInPlace, EndsMet, Meets, Planned, Runs, ends_in, line_in, lines_in, planned_from, planned_line, planned_of, planned_phase}
-use Rattle.nm_session.specs.declared.turns.Turn.{Turn}
-use Rattle.nm_session.specs.declared.turns.Turn.TheVariants as turns
+use Rattle.nm_session.specs.Turns.{AreInPlace, Meets, Planned, Runs, ends_in, line_in, lines_in, other_lanes, places_in, planned_from, planned_line, planned_phase}
 
 -- the lines of a phase, and of phases
 
@@ -95,24 +94,10 @@ next-meet : (number : ℕ) (front : List Planned) (turn : Planned) → IsNext (n
 next-meet number front (Runs phase line) h = (omega (arith, h.0), h.1)
 next-meet number front Meets h = tt
 
-pub next-at : (number : ℕ) (xs : List Turn) (i : ℕ) (turn : Turn) → i < length xs → turn ≡ get_or xs i turn → AreInPlace number (map planned_of xs) → IsNext number (map planned_of (take i xs)) (planned_of turn)
-next-at number [] i turn within is h = absurd (omega (arith, within))
-next-at number (x ∷ xs) zero turn within is h = subst (λ (t : Turn). IsNext number [] (planned_of t)) (sym is) (next-first number (planned_of x) (map planned_of xs) h)
-next-at number (turns.Line phase line ∷ xs) (suc i) turn within is h =
-    next-line number phase line.now (map planned_of (take i xs)) (planned_of turn) (next-at number xs i turn (omega (arith, within)) is h.2)
-next-at number (turns.Meet ∷ xs) (suc i) turn within is h = next-meet number (map planned_of (take i xs)) (planned_of turn) (next-at (number + 1) xs i turn (omega (arith, within)) is h)
-
--- the turns so far, and the next one
-pub front-more : (xs : List Turn) (i : ℕ) (turn : Turn) → i < length xs → turn ≡ get_or xs i turn → map planned_of (take i xs) ++ planned_of turn ∷ [] ≡ map planned_of (take (i + 1) xs)
-front-more xs i turn within is =
-    ap (λ (t : Turn). map planned_of (take i xs) ++ planned_of t ∷ []) is
-    ∙ (sym (map-append planned_of (take i xs) (get_or xs i turn ∷ [])) ∙ ap (map planned_of) (sym (take_more xs i turn within)))
-
--- all turns: those so far, the next one, and the others
-pub cut-at : (xs : List Turn) (i : ℕ) (turn : Turn) → i < length xs → turn ≡ get_or xs i turn → map planned_of xs ≡ (map planned_of (take i xs) ++ planned_of turn ∷ []) ++ map planned_of (drop (i + 1) xs)
-cut-at xs i turn within is =
-    ap (map planned_of) (sym (take-append-drop (i + 1) xs))
-    ∙ (map-append planned_of (take (i + 1) xs) (drop (i + 1) xs) ∙ ap (λ (l : List Planned). l ++ map planned_of (drop (i + 1) xs)) (sym (front-more xs i turn within is)))
+pub next-of : (number : ℕ) (front : List Planned) (turn : Planned) (back : List Planned) → AreInPlace number (front ++ turn ∷ back) → IsNext number front turn
+next-of number [] turn back h = next-first number turn back h
+next-of number (Runs phase line ∷ front) turn back h = next-line number phase line front turn (next-of number front turn back h.2)
+next-of number (Meets ∷ front) turn back h = next-meet number front turn (next-of (number + 1) front turn back h)
 
 -- ---- how the turns are made
 
@@ -133,33 +118,49 @@ range-more first (suc n) =
     ap (range_with_len first) longer
     ∙ ap (λ (l : List ℕ). first ∷ l) (range-more (first + 1) n ∙ ap (λ (k : ℕ). range_with_len (first + 1) n ++ k ∷ []) same)
 
-pub line-more : (number lane : ℕ) (first before after : List Planned) (lines : List ScriptLine) (i : ℕ) (line : ScriptLine) → i < length lines → line ≡ get_or lines i line
-    → before ≡ first ++ map (planned_line number) (lines_of_lane (take i lines) lane) → after ≡ before ++ map (planned_line number) (lines_of_lane (line ∷ []) lane)
-    → after ≡ first ++ map (planned_line number) (lines_of_lane (take (i + 1) lines) lane)
-line-more number lane first before after lines i line within is so_far added =
-    let here : List ScriptLine → List ScriptLine = λ l. lines_of_lane l lane in
-    let longer : here (take i lines) ++ here (line ∷ []) ≡ here (take (i + 1) lines) =
-    sym (filter-append (λ (l : ScriptLine). l.lane == lane) (take i lines) (line ∷ []))
-    ∙ ap here (ap (λ (l : ScriptLine). take i lines ++ l ∷ []) is ∙ sym (take_more lines i line within)) in
-    added
-    ∙ (ap (λ (l : List Planned). l ++ map (planned_line number) (here (line ∷ []))) so_far
-    ∙ (append_assoc first (map (planned_line number) (here (take i lines))) (map (planned_line number) (here (line ∷ [])))
-    ∙ ap (λ (l : List Planned). first ++ l) (sym (map-append (planned_line number) (here (take i lines)) (here (line ∷ []))) ∙ ap (map (planned_line number)) longer)))
+-- the lines of a lane, one by one
 
-pub lane-more : (number lane : ℕ) (first before after : List Planned) (lines : List ScriptLine)
-    → before ≡ first ++ map (planned_line number) (flat_map (lines_of_lane lines) (range_with_len 0 lane)) → after ≡ before ++ map (planned_line number) (lines_of_lane lines lane)
-    → after ≡ first ++ map (planned_line number) (flat_map (lines_of_lane lines) (range_with_len 0 (lane + 1)))
-lane-more number lane first before after lines so_far added =
-    let done : List ScriptLine = flat_map (lines_of_lane lines) (range_with_len 0 lane) in
-    let zero : 0 + lane ≡ lane = omega arith in
-    let next : range_with_len 0 (lane + 1) ≡ range_with_len 0 lane ++ lane ∷ [] = range-more 0 lane ∙ ap (λ (k : ℕ). range_with_len 0 lane ++ k ∷ []) zero in
-    let longer : done ++ lines_of_lane lines lane ≡ flat_map (lines_of_lane lines) (range_with_len 0 (lane + 1)) =
-    ap (λ (l : List ScriptLine). done ++ l) (sym (append-nil (lines_of_lane lines lane)))
-    ∙ (sym (flat_map-append (lines_of_lane lines) (range_with_len 0 lane) (lane ∷ [])) ∙ ap (flat_map (lines_of_lane lines)) (sym next)) in
-    added
-    ∙ (ap (λ (l : List Planned). l ++ map (planned_line number) (lines_of_lane lines lane)) so_far
-    ∙ (append_assoc first (map (planned_line number) done) (map (planned_line number) (lines_of_lane lines lane))
-    ∙ ap (λ (l : List Planned). first ++ l) (sym (map-append (planned_line number) done (lines_of_lane lines lane)) ∙ ap (map (planned_line number)) longer)))
+pub own-more : (number lane : ℕ) (lines : List ScriptLine) (i : ℕ) (line : ScriptLine) → i < length lines → line ≡ get_or lines i line → (line.lane == lane) ≡ true
+    → map (planned_line number) (lines_of_lane (take i lines) lane) ++ planned_line number line ∷ [] ≡ map (planned_line number) (lines_of_lane (take (i + 1) lines) lane)
+own-more number lane lines i line within is own =
+    let here : List ScriptLine → List ScriptLine = λ l. lines_of_lane l lane in
+    let longer : here (take i lines) ++ line ∷ [] ≡ here (take (i + 1) lines) =
+    ap (λ (b : Bool). here (take i lines) ++ cond b (line ∷ []) []) (sym own)
+    ∙ (sym (filter-append (λ (l : ScriptLine). l.lane == lane) (take i lines) (line ∷ []))
+    ∙ ap here (ap (λ (l : ScriptLine). take i lines ++ l ∷ []) is ∙ sym (take_more lines i line within))) in
+    sym (map-append (planned_line number) (here (take i lines)) (line ∷ [])) ∙ ap (map (planned_line number)) longer
+
+pub other-same : (lane : ℕ) (lines : List ScriptLine) (i : ℕ) (line : ScriptLine) → i < length lines → line ≡ get_or lines i line → (line.lane == lane) ≡ false
+    → lines_of_lane (take i lines) lane ≡ lines_of_lane (take (i + 1) lines) lane
+other-same lane lines i line within is other =
+    let here : List ScriptLine → List ScriptLine = λ l. lines_of_lane l lane in
+    sym (append-nil (here (take i lines)))
+    ∙ (ap (λ (b : Bool). here (take i lines) ++ cond b (line ∷ []) []) (sym other)
+    ∙ (sym (filter-append (λ (l : ScriptLine). l.lane == lane) (take i lines) (line ∷ []))
+    ∙ ap here (ap (λ (l : ScriptLine). take i lines ++ l ∷ []) is ∙ sym (take_more lines i line within))))
+
+-- how many are left
+
+pub own-left : (lane : ℕ) (lines : List ScriptLine) (i : ℕ) (line : ScriptLine) → i < length lines → line ≡ get_or lines i line → (line.lane == lane) ≡ true
+    → length (lines_of_lane (drop i lines) lane) ≡ length (lines_of_lane (drop (i + 1) lines) lane) + 1
+own-left lane lines i line within is own =
+    let rest : List ScriptLine = drop (i + 1) lines in
+    ap (λ (l : List ScriptLine). length (lines_of_lane l lane)) (drop_more lines i line within ∙ ap (λ (l : ScriptLine). l ∷ rest) (sym is))
+    ∙ (ap (λ (b : Bool). length (cond b (line ∷ lines_of_lane rest lane) (lines_of_lane rest lane))) own ∙ omega arith)
+
+pub other-left : (lane : ℕ) (lines : List ScriptLine) (i : ℕ) (line : ScriptLine) → i < length lines → line ≡ get_or lines i line → (line.lane == lane) ≡ false
+    → length (lines_of_lane (drop i lines) lane) ≡ length (lines_of_lane (drop (i + 1) lines) lane)
+other-left lane lines i line within is other =
+    let rest : List ScriptLine = drop (i + 1) lines in
+    ap (λ (l : List ScriptLine). length (lines_of_lane l lane)) (drop_more lines i line within ∙ ap (λ (l : ScriptLine). l ∷ rest) (sym is))
+    ∙ ap (λ (b : Bool). length (cond b (line ∷ lines_of_lane rest lane) (lines_of_lane rest lane))) other
+
+-- phases, one by one
+
+pub take-within : {X : Type 0} (i : ℕ) (xs : List X) → i ≤ length xs → length (take i xs) ≡ i
+take-within zero xs within = refl
+take-within (suc i) [] within = absurd (omega (arith, within))
+take-within (suc i) (x ∷ xs) within = ap suc (take-within i xs (omega (arith, within)))
 
 take-len : {X : Type 0} (xs : List X) (i : ℕ) → i < length xs → length (take i xs) ≡ i
 take-len [] i within = absurd (omega (arith, within))
@@ -176,80 +177,100 @@ phase-more before after phases i phase within is so_far added =
     ∙ (sym (planned-more 0 (take i phases) phase)
     ∙ ap (planned_from 0) (ap (λ (p : Phase). take i phases ++ p ∷ []) is ∙ sym (take_more phases i phase within)))))
 
--- a phase ends with a meeting
-phase-is : (number : ℕ) (phase : Phase) (first lines after : List Planned) → lines ≡ first ++ map (planned_line number) (lines_by_lane phase) → after ≡ lines ++ Meets ∷ [] → after ≡ first ++ planned_phase number phase
-phase-is number phase first lines after so_far added =
-    added
-    ∙ (ap (λ (l : List Planned). l ++ Meets ∷ []) so_far ∙ append_assoc first (map (planned_line number) (lines_by_lane phase)) (Meets ∷ []))
+-- ---- how many turns there are
 
-pub meets-last : {T E : Type 0} (number : ℕ) (phase : Phase) (old lines new : List Turn) (result : Result T E) → map planned_of lines ≡ map planned_of old ++ map (planned_line number) (lines_by_lane phase)
-    → OnOk result (new ≡ lines ++ turns.Meet ∷ []) → OnOk result (map planned_of new ≡ map planned_of old ++ planned_phase number phase)
-meets-last number phase old lines new (Ok done) so_far added =
-    phase-is number phase (map planned_of old) (map planned_of lines) (map planned_of new) so_far (ap (map planned_of) added ∙ map-append planned_of lines (turns.Meet ∷ []))
-meets-last number phase old lines new (Err error) so_far added = tt
+-- the lines of other lanes than this one
+abbrev apart : ℕ → List ScriptLine → List ScriptLine
+apart lane lines = filter (λ (line : ScriptLine). not (line.lane == lane)) lines
 
--- ---- the ends of phases
+split-cond : (b : Bool) (line : ScriptLine) (own other : List ScriptLine) → length (cond b (line ∷ own) own) + length (cond (not b) (line ∷ other) other) ≡ length own + length other + 1
+split-cond true line own other = omega arith
+split-cond false line own other = omega arith
 
-pub ends-append : (a b : List Planned) → ends_in (a ++ b) ≡ ends_in a + ends_in b
-ends-append [] b = omega arith
-ends-append (Runs phase line ∷ a) b = ends-append a b
-ends-append (Meets ∷ a) b = omega (arith, ends-append a b)
+split-lines : (lane : ℕ) (lines : List ScriptLine) → length (lines_of_lane lines lane) + length (apart lane lines) ≡ length lines
+split-lines lane [] = omega arith
+split-lines lane (line ∷ lines) = omega (arith, split-cond (line.lane == lane) line (lines_of_lane lines lane) (apart lane lines), split-lines lane lines)
 
-pub end-met : (a : List Planned) → EndsMet (a ++ Meets ∷ [])
-end-met [] = tt
-end-met (Meets ∷ a) = end-met a
-end-met (Runs phase line ∷ []) = tt
-end-met (Runs phase line ∷ (next ∷ a)) = end-met (next ∷ a)
+apart-keeps : (b c : Bool) (line : ScriptLine) (lane : ℕ) (rest kept : List ScriptLine) → (line.lane == lane) ≡ c → (b ≡ true → c ≡ false) → lines_of_lane rest lane ≡ lines_of_lane kept lane
+    → cond c (line ∷ lines_of_lane rest lane) (lines_of_lane rest lane) ≡ lines_of_lane (cond (not b) (line ∷ kept) kept) lane
+apart-keeps true c line lane rest kept is clash same = ap (λ (d : Bool). cond d (line ∷ lines_of_lane rest lane) (lines_of_lane rest lane)) (clash refl) ∙ same
+apart-keeps false c line lane rest kept is clash same =
+    ap (λ (l : List ScriptLine). cond c (line ∷ l) l) same ∙ ap (λ (d : Bool). cond d (line ∷ lines_of_lane kept lane) (lines_of_lane kept lane)) (sym is)
 
-met-both : (a b : List Planned) → EndsMet a → EndsMet b → EndsMet (a ++ b)
-met-both [] b h k = k
-met-both (Meets ∷ a) b h k = met-both a b h k
-met-both (Runs phase line ∷ []) b h k = absurd h
-met-both (Runs phase line ∷ (next ∷ a)) b h k = met-both (next ∷ a) b h k
+clashes : (own lane first : ℕ) → first < lane → (own == first) ≡ true → (own == lane) ≡ false
+clashes own lane first later is = let same : own ≡ first = eqb-true own first is in grind (arith, nat_tests, same, later)
 
-pub planned-met : (number : ℕ) (phases : List Phase) → EndsMet (planned_from number phases)
-planned-met number [] = tt
-planned-met number (phase ∷ more) =
-    met-both (planned_phase number phase) (planned_from (number + 1) more) (end-met (map (planned_line number) (lines_by_lane phase))) (planned-met (number + 1) more)
+of-apart : (first lane : ℕ) (lines : List ScriptLine) → first < lane → lines_of_lane lines lane ≡ lines_of_lane (apart first lines) lane
+of-apart first lane [] later = refl
+of-apart first lane (line ∷ lines) later =
+    apart-keeps (line.lane == first) (line.lane == lane) line lane lines (apart first lines) refl (clashes line.lane lane first later) (of-apart first lane lines later)
 
--- where some first turns end with a phase, they begin with the lines of the first one and its end
-record Cut (number : ℕ) (lines : List ScriptLine) (rest front back : List Planned) : Type 0 where
-  after : List Planned
-  is : front ≡ map (planned_line number) lines ++ Meets ∷ after
-  met : EndsMet after
-  follows : after ++ back ≡ rest
+all-apart : (first from n : ℕ) (lines : List ScriptLine) → first < from → flat_map (lines_of_lane lines) (range_with_len from n) ≡ flat_map (lines_of_lane (apart first lines)) (range_with_len from n)
+all-apart first from zero lines later = refl
+all-apart first from (suc n) lines later =
+    ap (λ (l : List ScriptLine). l ++ flat_map (lines_of_lane lines) (range_with_len (from + 1) n)) (of-apart first from lines later)
+    ∙ ap (λ (l : List ScriptLine). lines_of_lane (apart first lines) from ++ l) (all-apart first (from + 1) n lines (omega (arith, later)))
 
-some-turn : (first : Planned) (front : List Planned) → first ∷ front ≡ [] → ⊥
-some-turn first front e = absurd (cc)
+lanes-within : (from n : ℕ) (lines : List ScriptLine) → length (flat_map (lines_of_lane lines) (range_with_len from n)) ≤ length lines
+lanes-within from zero lines = omega arith
+lanes-within from (suc n) lines =
+    let later : from < from + 1 = omega arith in
+    omega (
+      arith,
+      length-append (lines_of_lane lines from) (flat_map (lines_of_lane lines) (range_with_len (from + 1) n)),
+      ap length (all-apart from (from + 1) n lines later),
+      lanes-within (from + 1) n (apart from lines),
+      split-lines from lines,
+    )
 
-cut-lines : (number : ℕ) (lines : List ScriptLine) (rest front back : List Planned) → EndsMet front → (front ≡ [] → ⊥) → front ++ back ≡ map (planned_line number) lines ++ Meets ∷ rest → Cut number lines rest front back
-cut-lines number lines rest [] back met some e = absurd (some refl)
-cut-lines number [] rest (Meets ∷ front) back met some e = let same : front ++ back ≡ rest = cc in record { after = front; is = refl; met = met; follows = same }
-cut-lines number [] rest (Runs phase line ∷ front) back met some e = absurd (cc)
-cut-lines number (first ∷ lines) rest (Meets ∷ front) back met some e = absurd (cc)
-cut-lines number (first ∷ lines) rest (Runs phase line ∷ []) back met some e = absurd met
-cut-lines number (first ∷ lines) rest (Runs phase line ∷ (next ∷ front)) back met some e =
-    let head : Runs phase line ≡ Runs number first = cc in
-    let tail : next ∷ (front ++ back) ≡ map (planned_line number) lines ++ Meets ∷ rest = cc in
-    let cut = cut-lines number lines rest (next ∷ front) back met (some-turn next front) tail in
-    record {
-      after = cut.after;
-      is = ap (λ (turn : Planned). turn ∷ (next ∷ front)) head ∙ ap (λ (l : List Planned). Runs number first ∷ l) cut.is;
-      met = cut.met;
-      follows = cut.follows;
-    }
+pub mapped-length : {A B : Type 0} (f : A → B) (xs : List A) → length (map f xs) ≡ length xs
+mapped-length f [] = refl
+mapped-length f (x ∷ xs) = ap suc (mapped-length f xs)
 
--- first turns that end with a phase are those of the first phases
-pub cut-phases : (number : ℕ) (phases : List Phase) (front back : List Planned) → EndsMet front → front ++ back ≡ planned_from number phases → front ≡ planned_from number (take (ends_in front) phases)
-cut-phases number [] [] back met is = refl
-cut-phases number [] (first ∷ front) back met is = absurd (cc)
-cut-phases number (phase ∷ more) [] back met is = refl
-cut-phases number (phase ∷ more) (first ∷ front) back met is =
-    let lines : List Planned = map (planned_line number) (lines_by_lane phase) in
-    let cut : Cut number (lines_by_lane phase) (planned_from (number + 1) more) (first ∷ front) back =
-    cut-lines number (lines_by_lane phase) (planned_from (number + 1) more) (first ∷ front) back met (some-turn first front) (is ∙ append_assoc lines (Meets ∷ []) (planned_from (number + 1) more)) in
-    let rest : cut.after ≡ planned_from (number + 1) (take (ends_in cut.after) more) = cut-phases (number + 1) more cut.after back cut.met cut.follows in
-    let count : ends_in (first ∷ front) ≡ suc (ends_in cut.after) = omega (arith, ap ends_in cut.is, ends-before number (lines_by_lane phase) (Meets ∷ cut.after)) in
-    cut.is
-    ∙ (ap (λ (l : List Planned). lines ++ Meets ∷ l) rest
-    ∙ (sym (append_assoc lines (Meets ∷ []) (planned_from (number + 1) (take (ends_in cut.after) more))) ∙ ap (λ (n : ℕ). planned_from number (take n (phase ∷ more))) (sym count)))
+pub phase-within : (number : ℕ) (phase : Phase) → length (planned_phase number phase) ≤ length phase.lines + 1
+phase-within number phase =
+    omega (arith, length-append (map (planned_line number) (lines_by_lane phase)) (Meets ∷ []), mapped-length (planned_line number) (lines_by_lane phase), lanes-within 0 16 phase.lines)
+
+pub planned-within : (number : ℕ) (phases : List Phase) → length (planned_from number phases) ≤ places_in phases
+planned-within number [] = omega arith
+planned-within number (phase ∷ more) =
+    omega (arith, length-append (planned_phase number phase) (planned_from (number + 1) more), phase-within number phase, planned-within (number + 1) more)
+
+pub places-cut : (count : ℕ) (phases : List Phase) → places_in (take count phases) ≤ places_in phases
+places-cut zero phases = omega arith
+places-cut (suc count) [] = omega arith
+places-cut (suc count) (phase ∷ more) = omega (arith, places-cut count more)
+
+pub places-more : (phases : List Phase) (i : ℕ) (phase : Phase) → i < length phases → phase ≡ get_or phases i phase → places_in (take (i + 1) phases) ≡ places_in (take i phases) + length phase.lines + 1
+places-more [] i phase within is = absurd (omega (arith, within))
+places-more (first ∷ phases) zero phase within is = omega (arith, ap (λ (p : Phase). length p.lines) is)
+places-more (first ∷ phases) (suc i) phase within is =
+    let longer : suc i + 1 ≡ suc (i + 1) = omega arith in
+    ap (λ (n : ℕ). places_in (take n (first ∷ phases))) longer ∙ omega (arith, places-more phases i phase (omega (arith, within)) is)
+
+pub places-left : (phases : List Phase) (i : ℕ) (phase : Phase) → i < length phases → phase ≡ get_or phases i phase → places_in (drop i phases) ≡ length phase.lines + 1 + places_in (drop (i + 1) phases)
+places-left phases i phase within is = ap places_in (drop_more phases i phase within) ∙ ap (λ (p : Phase). length p.lines + 1 + places_in (drop (i + 1) phases)) (sym is)
+
+pub get-some : {X : Type 0} (xs : List X) (i : ℕ) → i < length xs → (x : X) × (slice_get xs i ≡ Some x) × (x ≡ get_or xs i x)
+get-some [] i within = absurd (omega (arith, within))
+get-some (x ∷ xs) zero within = (x, refl, refl)
+get-some (x ∷ xs) (suc i) within = get-some xs i (omega (arith, within))
+
+-- the lines of the first phases are the first of all
+pub placed-cut : (number count : ℕ) (phases : List Phase) → (more : List PlacedLine) × (placed_from number phases ≡ placed_from number (take count phases) ++ more)
+placed-cut number zero phases = (placed_from number phases, refl)
+placed-cut number (suc count) [] = ([], refl)
+placed-cut number (suc count) (phase ∷ more) =
+    let rest = placed-cut (number + 1) count more in (
+      rest.0,
+      ap (λ (l : List PlacedLine). map (placed_in number) (lines_by_lane phase) ++ l) rest.1
+          ∙ sym (append_assoc (map (placed_in number) (lines_by_lane phase)) (placed_from (number + 1) (take count more)) rest.0),
+    )
+
+-- a phase is the lines of lane 0, those of the other lanes, and its end
+pub phase-cut : (number : ℕ) (phase : Phase)
+    → planned_phase number phase ≡ map (planned_line number) (lines_of_lane phase.lines 0) ++ (map (planned_line number) (flat_map (lines_of_lane phase.lines) other_lanes) ++ Meets ∷ [])
+phase-cut number phase =
+    let first : List ScriptLine = lines_of_lane phase.lines 0 in
+    let others : List ScriptLine = flat_map (lines_of_lane phase.lines) other_lanes in
+    ap (λ (l : List Planned). l ++ Meets ∷ []) (map-append (planned_line number) first others) ∙ append_assoc (map (planned_line number) first) (map (planned_line number) others) (Meets ∷ [])

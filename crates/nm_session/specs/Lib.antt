@@ -4,10 +4,12 @@ pub mod Look
 pub mod Loop
 pub mod Marks
 pub mod Outcomes
+pub mod Phases
 pub mod Printing
 pub mod Rooms
 pub mod Run
 pub mod Session
 pub mod Showing
+pub mod Sights
 pub mod TurnLaws
 pub mod Turns

@@ -1,5 +1,5 @@
--- Where a session stands behind its first turns. Cited by `running`.
-use Rattle.std.specs.Prelude.{◌≡◌, ◌⊎◌, ℕ, ℤ, Bool, false, ◌+◌, ◌*◌, ◌≤◌, List, [], ◌∷◌, ◌++◌, length}
+-- Where a session stands behind its first turns. Cited by `settling`, `first_lane` and `running`.
+use Rattle.std.specs.Prelude.{◌≡◌, ◌⊎◌, ℤ, ◌+◌, ◌*◌, ◌≤◌, List, [], ◌∷◌, ◌++◌, length}
 use Rattle.nm_base.specs.Limits.{max_commits}
 use Rattle.nm_commit.specs.declared.change.Commit.{Commit}
 use Rattle.nm_history.specs.Call.{Devices}
@@ -14,13 +14,9 @@ use Rattle.nm_history.specs.PrintedOut.{AreLogsOf}
 use Rattle.nm_index.specs.declared.base.Base.{Base}
 use Rattle.nm_machine.specs.declared.step.Step.{Step}
 use Rattle.nm_session.specs.Line.{IsEven, IsNoted}
-use Rattle.nm_io.specs.Observed.{ObservedStream}
-use Rattle.nm_maildir.specs.Observed.{ObservedMail}
 use Rattle.nm_session.specs.Look.{IsLookNoted}
 use Rattle.nm_session.specs.Marks.{steps_of}
-use Rattle.nm_session.specs.Printing.{GainsTurns}
-use Rattle.nm_session.specs.Rooms.{AreSpares}
-use Rattle.nm_session.specs.Turns.{EndsMet, Meets, Planned, Runs, ends_in, lines_in}
+use Rattle.nm_session.specs.Turns.{Meets, Planned, Runs, ends_in, lines_in}
 use Rattle.nm_session.specs.declared.marks.Mark.{Mark}
 use Rattle.nm_session.specs.declared.marks.Mark.TheVariants as marks
 use Rattle.nm_session.specs.declared.rooms.Rooms.{Rooms}
@@ -53,13 +49,6 @@ pub record HasNoted (planned : List Planned) (rooms : Rooms) (place : Place) : T
   pub within : length place.writer.begun ≤ max_commits
   pub even : IsEven place.writer
 
--- Of so many turns so many were taken, so many commits were begun, and for the others places are spare.
-pub record SpareFrom (done all begun : ℕ) (rooms : Rooms) : Type 0 where
-  pub logs : all ≤ rooms.logs.1 + done
-  pub marks : 2 * all + max_commits ≤ rooms.marks.1 + (2 * done + begun)
-  pub spares : all ≤ length rooms.spares + done
-  pub texts : AreSpares rooms.spares
-
 -- What the statement of a session says is so of the lines of these turns.
 pub record HasRunSome (moment : ℤ) (opening : Base) (entry : Devices) (planned : List Planned) (rooms : Rooms) (place : Place) : Type 0 where
   pub acknowledged : List Commit
@@ -79,21 +68,15 @@ pub record IsMeetingNoted (before after : Rooms) : Type 0 where
   pub steps : after.steps ≡ before.steps
   pub spares : after.spares ≡ before.spares
 
--- A turn was taken: a line of lane 0 was run, or one of another lane over what is shown, or a phase ended.
+-- A turn was taken: a line of lane 0 was run, or one of another lane over what the writer has shown, or a phase ended.
 abbrev pub IsTurn : ℤ → Planned → Place → Rooms → Rooms → Place → Type 0
 IsTurn moment (Runs phase line) old before after new =
     ((line.lane ≡ 0) × IsNoted moment phase old line before after new)
-    ⊎ ((1 ≤ line.lane) × IsLookNoted moment phase old.writer.shown line before after × (new ≡ old))
+    ⊎ ((1 ≤ line.lane) × IsLookNoted moment phase old.writer line before after × (new ≡ old))
 IsTurn moment Meets old before after new = IsMeetingNoted before after × (new ≡ old)
 
--- These turns were taken and noted, all of them or, where the output failed, those up to the end of a phase; and the replies were printed.
-pub record HasTaken (moment : ℤ) (session : Bool) (opening : Base) (mail : ObservedMail) (disk_faults : ℕ) (planned : List Planned) (failed : Bool) (rooms : Rooms) (place : Place)
-    (old new : ObservedStream) : Type 0 where
-  pub taken : List Planned
-  pub back : List Planned
-  pub all : planned ≡ taken ++ back
-  pub met : EndsMet taken
-  pub whole : failed ≡ false → back ≡ []
-  pub noted : HasNoted taken rooms place
-  pub ran : (entry : Devices) → entry.mail ≡ mail → entry.disk.faults ≡ disk_faults → HasRunSome moment opening entry taken rooms place
-  pub out : GainsTurns failed session taken rooms.logs.0 old new
+-- these turns were taken, one after the other
+abbrev pub AreTaken : ℤ → List Planned → Place → Rooms → Rooms → Place → Type 0
+AreTaken moment [] old before after new = (after ≡ before) × (new ≡ old)
+AreTaken moment (turn ∷ more) old before after new =
+    (mid : Place) × (between : Rooms) × IsTurn moment turn old before between mid × AreTaken moment more mid between after new

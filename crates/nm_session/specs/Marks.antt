@@ -1,7 +1,8 @@
 -- How the steps of a session are told: a mark for each commit that a line made, or left on its way, for each look and reply of a lane, and for the
 -- end of each phase, in their order; the commits themselves are the writer's.
--- Cited by `machine_steps`, `rooms` and `running`.
-use Rattle.std.specs.Prelude.{ℕ, Bool, List, [], ◌∷◌, ◌++◌, map, replicate, if◌then◌else◌}
+-- Cited by `machine_steps`, `rooms`, `settling` and others.
+use Rattle.std.specs.Prelude.{◌≡◌, ℕ, ◌+◌, ◌==◌, Bool, true, false, not, List, [], ◌∷◌, ◌++◌, map, replicate, if◌then◌else◌}
+use Rattle.std.specs.List.{AllByRecursion}
 use Rattle.nm_commit.specs.declared.change.Commit.{Commit}
 use Rattle.nm_history.specs.LineResult.{commit_steps}
 use Rattle.nm_history.specs.MachineRun.{Replied}
@@ -83,3 +84,28 @@ said_marks lane said = map (said_mark lane) said
 -- the marks where so many were made, one is on its way or none, and this lane said so
 abbrev pub marks_for : ℕ → Bool → ℕ → List Said → List Mark
 marks_for made in_flight lane said = replicate made marks.Made ++ ((if in_flight then marks.Begun ∷ [] else []) ++ said_marks lane said)
+
+-- ---- where a look of a lane has its place
+
+-- no phase ends with the mark, and it is none of this lane
+abbrev pub is_of_others : ℕ → Mark → Bool
+is_of_others lane marks.Made = true
+is_of_others lane marks.Begun = true
+is_of_others lane (marks.Look other) = not (other == lane)
+is_of_others lane (marks.Reply other said) = not (other == lane)
+is_of_others lane marks.Met = false
+
+abbrev pub AreOfOthers : ℕ → List Mark → Type 0
+AreOfOthers lane marks = AllByRecursion (λ mark. is_of_others lane mark ≡ true) marks
+
+-- how many commits were made and shown
+abbrev pub made_by : Mark → ℕ
+made_by marks.Made = 1
+made_by marks.Begun = 0
+made_by (marks.Look other) = 0
+made_by (marks.Reply other said) = 0
+made_by marks.Met = 0
+
+abbrev pub made_in : List Mark → ℕ
+made_in [] = 0
+made_in (mark ∷ more) = made_by mark + made_in more

@@ -1,6 +1,6 @@
 -- What a session leaves, from the opening of the index to the last line; and what stands where no index is opened.
--- Cited by `session`.
-use Rattle.std.specs.Prelude.{◌≡◌, ℤ, Bool, List, [], IfSome}
+-- Cited by `planning` and `session`.
+use Rattle.std.specs.Prelude.{◌≡◌, ℤ, ◌≤◌, Bool, List, [], IfSome, length}
 use Rattle.nm_disk.specs.Observed.{ObservedDisk, bytes_now}
 use Rattle.nm_disk.specs.declared.disk.FileNo.TheVariants.{Head}
 use Rattle.nm_faults.specs.Faults.{HasRisen}
@@ -12,7 +12,10 @@ use Rattle.nm_io.specs.Observed.{ObservedStream}
 use Rattle.nm_lanes.specs.declared.script.Phase.{Phase}
 use Rattle.nm_log.specs.declared.log.SessionLog.{SessionLog}
 use Rattle.nm_maildir.specs.Observed.{ObservedMail}
+use Rattle.nm_session.specs.Rooms.{HasRooms}
 use Rattle.nm_session.specs.Run.{HasRun}
+use Rattle.nm_session.specs.Turns.{places_in}
+use Rattle.nm_session.specs.declared.planning.Plan.{Plan}
 use Rattle.nm_writer.specs.StoredIndex.{HoldsNoIndex, PassesLimit}
 use Rattle.nm_writer.specs.declared.open_error.OpenError.{OpenError}
 use Rattle.nm_writer.specs.declared.open_error.OpenError.TheVariants as errors
@@ -37,3 +40,12 @@ pub record IsUnopened (old_mail new_mail : ObservedMail) (old new : ObservedDisk
   pub mail : new_mail ≡ old_mail
   pub cause : HasOpenCause old new error
   pub crash_prefix : CrashPrefix old new [] []
+
+-- ---- before the opening
+
+-- places are there for all turns of the phases, and for all lanes
+pub record IsPlanned (phases : List Phase) (plan : Plan) : Type 0 where
+  pub count : plan.count ≡ length phases
+  pub none : plan.lanes.0 ≡ []
+  pub spare : 15 ≤ plan.lanes.1
+  pub rooms : HasRooms (places_in phases) plan.rooms

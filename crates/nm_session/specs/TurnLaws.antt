@@ -18,7 +18,7 @@ use Rattle.nm_maildir.specs.Tree.{Tree}
 
 -- Before the first line.
 pub record FirstLaws : Type 0 where
-  pub stands : (opening : Base) (entry : Devices) (place : Place) → place.writer.shown ≡ opening → place.writer.begun ≡ [] → place.writer.acked ≡ [] → place.writer.closed ≡ None → place.mail ≡ entry.mail
+  pub stands : (opening : Base) (entry : Devices) (place : Place) → place.writer.published.opening ≡ opening → place.writer.published.commits ≡ [] → place.writer.shown ≡ opening → place.writer.begun ≡ [] → place.writer.acked ≡ [] → place.writer.closed ≡ None → place.mail ≡ entry.mail
       → place.disk_faults ≡ entry.disk.faults → place.left ≡ max_mail_bytes → StandsAt opening entry [] [] [] place
   pub machine_run : (opening : Base) (moment : ℤ) (entry : Devices) → MachineRun opening moment (at_first opening entry) [] [] [] 0
   pub commits : (opening : Base) (moment : ℤ) (entry : Devices) → LineCommits opening moment entry.mail.tree [] [] []
@@ -43,12 +43,22 @@ pub record TurnLaws : Type 0 where
       → GivenAlong opening moment (steps ++ taken) (at_first opening entry) (lines ++ ran ∷ []) entry.mail new.mail
   pub clocks : (opening : Base) (moment : ℤ) (phase : ℕ) (entry : Devices) (steps taken : List Step) (lines : List RunLine) (acknowledged : List Commit) (old new : Place) (ran : RunLine) → StandsAt opening entry steps lines acknowledged old
       → IsLineResult moment phase old ran taken new → length old.writer.acked ≡ appends steps → length new.writer.acked ≡ appends (steps ++ taken)
-  pub look_run : (opening : Base) (moment : ℤ) (phase : ℕ) (entry : Devices) (steps taken : List Step) (lines : List RunLine) (acknowledged : List Commit) (place : Place) (ran : RunLine)
-      → StandsAt opening entry steps (lane_zero_lines lines) acknowledged place → IsLookResult moment phase place ran taken
-      → MachineRun opening moment (at_first opening entry) steps lines acknowledged phase → MachineRun opening moment (at_first opening entry) (steps ++ taken) (lines ++ ran ∷ []) acknowledged phase
-  pub look_answers : (opening : Base) (moment : ℤ) (phase : ℕ) (entry : Devices) (steps taken : List Step) (lines others : List RunLine) (acknowledged : List Commit) (place : Place) (ran : RunLine)
-      → StandsAt opening entry steps lines acknowledged place → IsLookResult moment phase place ran taken → LaneAnswers opening moment steps others → LaneAnswers opening moment (steps ++ taken) (others ++ ran ∷ [])
+  pub look_run : (opening : Base) (moment : ℤ) (phase : ℕ) (first : Before) (front back taken : List Step) (lines : List RunLine) (acknowledged : List Commit) (index : Base) (ran : RunLine)
+      → IsLookResult moment phase opening acknowledged index ran taken back → MachineRun opening moment first (front ++ back) lines acknowledged phase
+      → MachineRun opening moment first (front ++ (taken ++ back)) (lines ++ ran ∷ []) acknowledged phase
+  pub look_answers : (opening : Base) (moment : ℤ) (phase : ℕ) (entry : Devices) (front back taken : List Step) (lines others : List RunLine) (acknowledged : List Commit) (place : Place) (index : Base) (ran : RunLine)
+      → StandsAt opening entry (front ++ back) lines acknowledged place → IsLookResult moment phase opening acknowledged index ran taken back
+      → LaneAnswers opening moment (front ++ back) others → LaneAnswers opening moment (front ++ (taken ++ back)) (others ++ ran ∷ [])
   pub look_nothing : (lane : ℕ) (replies : List Replied) → CommitNothing (look_steps lane replies)
+  pub between_stands : (opening : Base) (entry : Devices) (front back taken : List Step) (lines : List RunLine) (acknowledged : List Commit) (place : Place)
+      → CommitNothing taken → StandsAt opening entry (front ++ back) lines acknowledged place → StandsAt opening entry (front ++ (taken ++ back)) lines acknowledged place
+  pub between_commits : (opening : Base) (moment : ℤ) (tree : Option Tree) (front back taken : List Step) (lines : List RunLine) (acknowledged : List Commit)
+      → CommitNothing taken → LineCommits opening moment tree (front ++ back) lines acknowledged → LineCommits opening moment tree (front ++ (taken ++ back)) lines acknowledged
+  pub between_acknowledged : (front back taken : List Step) → CommitNothing taken → appends (front ++ (taken ++ back)) ≡ appends (front ++ back)
+  pub between_answers : (opening : Base) (moment : ℤ) (front back taken : List Step) (before : Before) (lines : List RunLine)
+      → CommitNothing taken → LineAnswers opening moment before (front ++ back) lines → LineAnswers opening moment before (front ++ (taken ++ back)) lines
+  pub between_given : (opening : Base) (moment : ℤ) (front back taken : List Step) (before : Before) (lines : List RunLine) (old new : ObservedMail)
+      → CommitNothing taken → GivenAlong opening moment (front ++ back) before lines old new → GivenAlong opening moment (front ++ (taken ++ back)) before lines old new
   pub meeting : (opening : Base) (moment : ℤ) (phase : ℕ) (first : Before) (steps : List Step) (lines : List RunLine) (acknowledged : List Commit)
       → MachineRun opening moment first steps lines acknowledged phase → MachineRun opening moment first (steps ++ Meet ∷ []) lines acknowledged (phase + 1)
   pub still_stands : (opening : Base) (entry : Devices) (steps taken : List Step) (lines : List RunLine) (acknowledged : List Commit) (place : Place)

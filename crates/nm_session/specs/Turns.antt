@@ -1,22 +1,15 @@
--- The turns of a session: each phase has its lines, one lane after the other, and then all lanes meet. Cited by `turns`, `session` and `running`.
-use Rattle.std.specs.Prelude.{◌≡◌, ℕ, ◌+◌, ◌<◌, List, [], ◌∷◌, ◌++◌, map}
-use Rattle.std.specs.List.{flat_map}
+-- The turns of a session: each phase has its lines, one lane after the other, and then all lanes meet. Cited by `planning`, `settling` and `running`.
+use Rattle.std.specs.Prelude.{◌≡◌, ℕ, ◌+◌, ◌<◌, List, [], ◌∷◌, ◌++◌, length, map}
+use Rattle.std.specs.List.{flat_map, range_with_len}
 use Rattle.nm_history.specs.Call.{PlacedLine, lines_by_lane}
 use Rattle.nm_history.specs.MachineRun.{lane_count}
 use Rattle.nm_lanes.specs.declared.script.Phase.{Phase}
 use Rattle.nm_lanes.specs.declared.script.ScriptLine.{ScriptLine}
-use Rattle.nm_session.specs.declared.turns.Turn.{Turn}
-use Rattle.nm_session.specs.declared.turns.Turn.TheVariants as turns
 
 -- what comes next: a line of a phase, or the end of one
 pub data Planned : Type 0 where
   Runs : ℕ → ScriptLine → Planned
   Meets : Planned
-
--- as a turn says
-abbrev pub planned_of : Turn → Planned
-planned_of (turns.Line phase line) = Runs phase line.now
-planned_of turns.Meet = Meets
 
 abbrev pub planned_line : ℕ → ScriptLine → Planned
 planned_line phase line = Runs phase line
@@ -51,9 +44,11 @@ AreInPlace number [] = Unit {0}
 AreInPlace number (Runs phase line ∷ more) = (phase ≡ number) × (line.lane < lane_count) × AreInPlace number more
 AreInPlace number (Meets ∷ more) = AreInPlace (number + 1) more
 
--- a phase ends with the last of them, where there is one
-abbrev pub EndsMet : List Planned → Type 0
-EndsMet [] = Unit {0}
-EndsMet (Meets ∷ more) = EndsMet more
-EndsMet (Runs phase line ∷ []) = ⊥
-EndsMet (Runs phase line ∷ (next ∷ more)) = EndsMet (next ∷ more)
+-- lanes 1 to 15
+abbrev pub other_lanes : List ℕ
+other_lanes = range_with_len 1 15
+
+-- places for the turns of these phases: their lines, and the end of each
+abbrev pub places_in : List Phase → ℕ
+places_in [] = 0
+places_in (phase ∷ more) = length phase.lines + 1 + places_in more

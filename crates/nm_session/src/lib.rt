@@ -4,16 +4,20 @@
 
 mod answering;
 mod changing;
+mod first_lane;
 mod laws;
 mod line;
 mod looking;
 mod machine_steps;
 mod marks;
+mod planning;
 mod printing;
+mod reader_lane;
 mod rooms;
 mod running;
 mod session;
+mod settling;
 mod showing;
-mod turns;
+mod sights;
 
 pub use session::run_session;

@@ -1,11 +1,12 @@
 //! One line of a lane other than 0: it is answered on an index, and its log is put into the rooms. It asks no device.
-//! `running` calls it for each.
+//! `sights` answers each, and `settling` notes it.
 
-ghost use Rattle.std.specs.Prelude.{◌≡◌, ◌≤◌, IfOk, codes, length, true};
+ghost use Rattle.std.specs.Prelude.{◌≡◌, ◌≤◌, ℤ, IfOk, codes, length, true};
 ghost use Rattle.nm_dates.specs.Seconds.{IsMoment};
+ghost use Rattle.nm_index.specs.declared.base.Base.{Base};
 ghost use Rattle.nm_log.specs.ParsedLine.{is_of_every_lane, parse_line};
 ghost use Rattle.nm_session.specs.Line.{IsReadOff};
-ghost use Rattle.nm_session.specs.Look.{IsLookNoted, IsLooked, looked};
+ghost use Rattle.nm_session.specs.Look.{IsAnswerNoted, IsAnswerOn, IsLooked};
 ghost use Rattle.nm_session.specs.Rooms.{AreSpares};
 
 use crate::answering::{LineAnswer, refuse, run_count, run_dump, run_search};
@@ -22,43 +23,42 @@ use nm_log::{
 use nm_state::Snapshot;
 use std::alloc::Global;
 
-/// Runs one line over the index, and notes it in places that are spare.
-pub(crate) fn run_look(
+/// Notes what a line was answered on an index of this revision, its look at this place of the marks.
+pub(crate) fn note_answer(
     alloc: Global,
-    setting: &Setting,
     phase: u32,
     line: &ScriptLine,
+    revision: u64,
+    answered: Result<LineAnswer, NoMemory>,
     rooms: &mut Rooms,
-    snapshot: &Snapshot,
+    at: usize,
 )
-    requires moment { IsMoment setting.now.moment }
-    requires another { 1 ≤ line.now.lane }
     requires logs { 1 ≤ rooms.old.logs.1 }
     requires marks { 2 ≤ rooms.old.marks.1 }
     requires spares { 1 ≤ length rooms.old.spares }
     requires texts { AreSpares rooms.old.spares }
-    ensures { IsLookNoted setting.now.moment phase snapshot.now line.now rooms.old rooms.new }
+    requires at { at ≤ length rooms.old.marks.0 }
+    ensures { (moment : ℤ) (index : Base) → revision ≡ index.revision → IsAnswerOn moment index line.now answered
+        → IsAnswerNoted moment phase index line.now at rooms.old rooms.new }
 {
     let spare = take_spare(&mut rooms.spares);
-    let (log, reply) = look_log(alloc, setting, phase, line, snapshot, spare);
-    note_look(rooms, log, reply);
+    let (log, reply) = look_log(alloc, phase, line, revision, answered, spare);
+    note_look(rooms, log, reply, at);
 }
 
-/// Runs the line. `spare` is its text where it finds no memory.
+/// The log of a line that was answered so. `spare` is its text where it found no memory.
 fn look_log(
     alloc: Global,
-    setting: &Setting,
     phase: u32,
     line: &ScriptLine,
-    snapshot: &Snapshot,
+    revision: u64,
+    answered: Result<LineAnswer, NoMemory>,
     spare: Many<u8>,
 ) -> (LineLog, Option<Said>)
-    requires moment { IsMoment setting.now.moment }
-    requires another { 1 ≤ line.now.lane }
     requires spare { spare ≡ codes "notmuch: no memory\n" }
-    ensures { IsLooked setting.now.moment phase snapshot.now (line.now, result.0) result.1 }
+    ensures { (moment : ℤ) (index : Base) → revision ≡ index.revision → IsAnswerOn moment index line.now answered
+        → IsLooked moment phase index (line.now, result.0) result.1 }
 {
-    let answered = look(alloc, setting, line, snapshot);
     let LineAnswer {
         outcome,
         text,
@@ -68,7 +68,7 @@ fn look_log(
         phase,
         lane: line.lane,
         line: line.number,
-        revision: snapshot.revision(),
+        revision,
         status: line_status(&outcome),
         outcome,
         text,
@@ -81,7 +81,7 @@ fn look_log(
 }
 
 /// Reads what the line asks for, and answers it on the index.
-fn look(
+pub(crate) fn look(
     alloc: Global,
     setting: &Setting,
     line: &ScriptLine,
@@ -89,7 +89,7 @@ fn look(
 ) -> Result<LineAnswer, NoMemory>
     requires moment { IsMoment setting.now.moment }
     requires another { 1 ≤ line.now.lane }
-    ensures { IfOk result (λ done. done ≡ looked setting.now.moment snapshot.now (parse_line line.now) line.now.input) }
+    ensures { IsAnswerOn setting.now.moment snapshot.now line.now result }
 {
     other_lanes_search_count_and_dump();
     match parse_line(alloc, line)? {

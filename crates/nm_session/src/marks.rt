@@ -1,8 +1,13 @@
 //! What a `line` leaves for the log of steps. The commits are the writer's until the session ends, so that no step
 //! takes memory then.
 
+ghost use Rattle.std.specs.Prelude.{◌≡◌, ◌+◌, ◌<◌, ◌≤◌, ◌++◌, ◌∷◌, [], length, IfOk};
+ghost use Rattle.std.specs.List.{insert};
+
 use nm_answer::Request;
-use nm_base::Many;
+use nm_base::{Many, NoMemory};
+use std::alloc::Global;
+use std::marker::Model;
 
 /// One step, or those of one commit.
 #[derive(Drop)]
@@ -24,4 +29,72 @@ pub(crate) enum Mark {
 pub(crate) struct Said {
     pub(crate) request: Request,
     pub(crate) text: Many<u8>,
+}
+
+/// Marks in their order, with places that are kept free: where one is spare, a mark goes in anywhere and takes no memory.
+#[derive(Drop)]
+pub(crate) struct Marks {
+    vec: Vec<Mark>,
+    spare: usize,
+}
+
+impl Model for Marks {
+    ghost use Rattle.std.specs.Prelude.{List, ℕ, ◌+◌, ◌≤◌, vec_len, vec_capacity};
+    ghost use Rattle.nm_session.specs.declared.marks.Mark.{Mark};
+
+    ghost Value = { List Mark × ℕ };
+
+    ghost view = { λ marks. (marks.vec.items, marks.spare) };
+
+    ghost invariant = { λ marks. vec_len marks.vec + marks.spare ≤ vec_capacity marks.vec };
+}
+
+impl Marks {
+    /// None yet, with so many spare places.
+    pub(crate) fn with_room(alloc: Global, spare: usize) -> Result<Marks, NoMemory>
+        ensures { IfOk result (λ marks. marks ≡ ([], spare)) }
+    {
+        let mut vec = Vec::new(alloc);
+        vec.reserve(spare)?;
+        Ok(Marks { vec, spare })
+    }
+
+    pub(crate) fn push_spare(&mut self, mark: Mark)
+        requires { 0 < self.old.1 }
+        ensures list { self.new.0 ≡ self.old.0 ++ mark ∷ [] }
+        ensures spare { self.new.1 + 1 ≡ self.old.1 }
+    {
+        match self.vec.push(mark) {
+            Ok(()) => {}
+            Err(_) => unreachable!(),
+        }
+        self.spare -= 1;
+    }
+
+    /// Puts a mark before the one that stands at this place.
+    pub(crate) fn insert_spare(&mut self, at: usize, mark: Mark)
+        requires spare { 0 < self.old.1 }
+        requires at { at ≤ length self.old.0 }
+        ensures list { self.new.0 ≡ insert self.old.0 at mark }
+        ensures spare { self.new.1 + 1 ≡ self.old.1 }
+    {
+        match self.vec.insert(at, mark) {
+            Ok(()) => {}
+            Err(_) => unreachable!(),
+        }
+        self.spare -= 1;
+    }
+
+    pub(crate) fn as_slice(&self) -> &[Mark]
+        ensures { result.now ≡ self.now.0 }
+    {
+        self.vec.as_slice()
+    }
+
+    pub(crate) fn into_many(self) -> Many<Mark>
+        ensures { result ≡ self.0 }
+    {
+        let Marks { vec, spare: _ } = self;
+        Many::from_vec(vec)
+    }
 }

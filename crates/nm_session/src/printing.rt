@@ -1,34 +1,15 @@
 //! What is printed at the end of a phase: the replies of its lines. `running` calls it.
 
-ghost use Rattle.std.specs.Prelude.{◌≤◌, ℕ, length};
+ghost use Rattle.std.specs.Prelude.{◌≤◌, length};
 ghost use Rattle.nm_history.specs.PrintedOut.{StreamAppends, printed_by};
-ghost use Rattle.nm_session.specs.Printing.{PrintsEnd, PrintsRest};
-ghost use Rattle.nm_session.specs.Turns.{planned_of};
+ghost use Rattle.nm_session.specs.Printing.{PrintsRest};
 
-use crate::turns::Turn;
 use nm_io::Sink;
 use nm_log::{LineLog, print_lines, print_replies};
 
-/// At the end of a phase prints the replies of the lines that were not printed yet; so many were. It says how many are then, or nothing
-/// where the output failed.
-pub(crate) fn print_ended<O: Sink>(
-    turn: &Turn<'_>,
-    session: bool,
-    logs: &[LineLog],
-    printed: usize,
-    out: &mut O,
-) -> Option<usize>
-    requires { printed ≤ length logs.now }
-    ensures { PrintsEnd session (planned_of turn.now) logs.now printed (O.observed out.old) (O.observed out.new) result }
-{
-    match turn {
-        Turn::Line { .. } => Some(printed),
-        Turn::Meet => print_from(session, logs, printed, out),
-    }
-}
-
-/// Prints the replies behind the first ones, so many.
-fn print_from<O: Sink>(
+/// Prints the replies behind the first ones, of which so many were printed. It says how many are then, or nothing where the output
+/// failed.
+pub(crate) fn print_rest<O: Sink>(
     session: bool,
     logs: &[LineLog],
     printed: usize,

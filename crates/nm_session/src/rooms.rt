@@ -1,12 +1,12 @@
 //! Room for the log of a session, made before the index is opened, for `session` and each `line`: behind a commit
 //! that was acknowledged no step of the log may run out of memory.
 
-ghost use Rattle.std.specs.Prelude.{◌≡◌, ◌+◌, ◌*◌, ◌<◌, ◌≤◌, ◌++◌, ◌∷◌, [], codes, length, replicate, IfOk, if◌then◌else◌};
+ghost use Rattle.std.specs.Prelude.{◌≡◌, ◌+◌, ◌*◌, ◌<◌, ◌≤◌, ◌++◌, ◌∷◌, [], codes, drop, length, replicate, take, IfOk, if◌then◌else◌};
 ghost use Rattle.std.specs.Option.{option_to_list};
 ghost use Rattle.nm_session.specs.Marks.{marks_for, said_marks};
 ghost use Rattle.nm_session.specs.Rooms.{AreSpares, HasRooms};
 
-use crate::marks::{Mark, Said};
+use crate::marks::{Mark, Marks, Said};
 use nm_base::{Many, NoMemory, Room};
 use nm_log::LineLog;
 use nm_machine::Step;
@@ -16,7 +16,7 @@ use std::alloc::Global;
 #[derive(Drop)]
 pub(crate) struct Rooms {
     pub(crate) logs: Room<LineLog>,
-    pub(crate) marks: Room<Mark>,
+    pub(crate) marks: Marks,
     pub(crate) steps: Room<Step>,
     /// The texts of lines that find no memory.
     pub(crate) spares: Many<Many<u8>>,
@@ -34,8 +34,7 @@ pub(crate) fn rooms_for(alloc: Global, turns: usize) -> Result<Rooms, NoMemory>
 {
     let mut logs = Room::new(alloc);
     logs.reserve(turns)?;
-    let mut marks = Room::new(alloc);
-    marks.reserve(twice_plus(turns, MAX_COMMITS)?)?;
+    let marks = Marks::with_room(alloc, twice_plus(turns, MAX_COMMITS)?)?;
     let mut steps = Room::new(alloc);
     steps.reserve(twice_plus(turns, MAX_COMMIT_STEPS)?)?;
     let spares = spares_for(alloc, turns)?;
@@ -107,21 +106,35 @@ pub(crate) fn note(rooms: &mut Rooms, log: LineLog, made: usize, reply: Option<S
     rooms.logs.push_spare(log);
 }
 
-/// Notes a line of another lane: its log, a look and its reply.
-pub(crate) fn note_look(rooms: &mut Rooms, log: LineLog, reply: Option<Said>)
+/// Notes a line of another lane: its log, and at this place of the marks a look and its reply.
+pub(crate) fn note_look(rooms: &mut Rooms, log: LineLog, reply: Option<Said>, at: usize)
     requires logs { 0 < rooms.old.logs.1 }
-    requires marks { length (Mark.Look log.lane ∷ said_marks log.lane (option_to_list reply)) ≤ rooms.old.marks.1 }
+    requires marks { 2 ≤ rooms.old.marks.1 }
+    requires at { at ≤ length rooms.old.marks.0 }
     ensures logs { rooms.new.logs.0 ≡ rooms.old.logs.0 ++ log ∷ [] }
     ensures logs_spare { rooms.new.logs.1 + 1 ≡ rooms.old.logs.1 }
-    ensures marks { rooms.new.marks.0 ≡ rooms.old.marks.0 ++ Mark.Look log.lane ∷ said_marks log.lane (option_to_list reply) }
-    ensures marks_spare { rooms.new.marks.1 + length (Mark.Look log.lane ∷ said_marks log.lane (option_to_list reply)) ≡ rooms.old.marks.1 }
+    ensures marks { rooms.new.marks.0 ≡ take at rooms.old.marks.0 ++ ((Mark.Look log.lane ∷ said_marks log.lane (option_to_list reply)) ++ drop at rooms.old.marks.0) }
+    ensures marks_spare { rooms.old.marks.1 ≤ rooms.new.marks.1 + 2 }
     ensures steps { rooms.new.steps ≡ rooms.old.steps }
     ensures spares { rooms.new.spares ≡ rooms.old.spares }
 {
-    let lane = log.lane;
-    rooms.marks.push_spare(Mark::Look { lane });
-    push_said(&mut rooms.marks, lane, reply);
+    put_look(&mut rooms.marks, log.lane, reply, at);
     rooms.logs.push_spare(log);
+}
+
+fn put_look(marks: &mut Marks, lane: u32, reply: Option<Said>, at: usize)
+    requires spare { 2 ≤ marks.old.1 }
+    requires at { at ≤ length marks.old.0 }
+    ensures list { marks.new.0 ≡ take at marks.old.0 ++ ((Mark.Look lane ∷ said_marks lane (option_to_list reply)) ++ drop at marks.old.0) }
+    ensures spare { marks.old.1 ≤ marks.new.1 + 2 }
+{
+    match reply {
+        Some(said) => {
+            marks.insert_spare(at, Mark::Reply { lane, said });
+            marks.insert_spare(at, Mark::Look { lane });
+        }
+        None => marks.insert_spare(at, Mark::Look { lane }),
+    }
 }
 
 /// Notes that a phase ended.
@@ -136,7 +149,7 @@ pub(crate) fn note_meeting(rooms: &mut Rooms)
     rooms.marks.push_spare(Mark::Met);
 }
 
-fn push_marks(marks: &mut Room<Mark>, made: usize, in_flight: bool, lane: u32, reply: Option<Said>)
+fn push_marks(marks: &mut Marks, made: usize, in_flight: bool, lane: u32, reply: Option<Said>)
     requires { length (marks_for made in_flight lane (option_to_list reply)) ≤ marks.old.1 }
     ensures list { marks.new.0 ≡ marks.old.0 ++ marks_for made in_flight lane (option_to_list reply) }
     ensures spare { marks.new.1 + length (marks_for made in_flight lane (option_to_list reply)) ≡ marks.old.1 }
@@ -145,7 +158,7 @@ fn push_marks(marks: &mut Room<Mark>, made: usize, in_flight: bool, lane: u32, r
     push_last(marks, in_flight, lane, reply);
 }
 
-fn push_made(marks: &mut Room<Mark>, made: usize)
+fn push_made(marks: &mut Marks, made: usize)
     requires { made ≤ marks.old.1 }
     ensures list { marks.new.0 ≡ marks.old.0 ++ replicate made Mark.Made }
     ensures spare { marks.new.1 + made ≡ marks.old.1 }
@@ -155,7 +168,7 @@ fn push_made(marks: &mut Room<Mark>, made: usize)
     }
 }
 
-fn push_last(marks: &mut Room<Mark>, in_flight: bool, lane: u32, reply: Option<Said>)
+fn push_last(marks: &mut Marks, in_flight: bool, lane: u32, reply: Option<Said>)
     requires { length ((if in_flight then Mark.Begun ∷ [] else []) ++ said_marks lane (option_to_list reply)) ≤ marks.old.1 }
     ensures list { marks.new.0 ≡ marks.old.0 ++ ((if in_flight then Mark.Begun ∷ [] else []) ++ said_marks lane (option_to_list reply)) }
     ensures spare { marks.new.1 + length ((if in_flight then Mark.Begun ∷ [] else []) ++ said_marks lane (option_to_list reply)) ≡ marks.old.1 }
@@ -166,7 +179,7 @@ fn push_last(marks: &mut Room<Mark>, in_flight: bool, lane: u32, reply: Option<S
     push_said(marks, lane, reply);
 }
 
-fn push_said(marks: &mut Room<Mark>, lane: u32, reply: Option<Said>)
+fn push_said(marks: &mut Marks, lane: u32, reply: Option<Said>)
     requires { length (said_marks lane (option_to_list reply)) ≤ marks.old.1 }
     ensures list { marks.new.0 ≡ marks.old.0 ++ said_marks lane (option_to_list reply) }
     ensures spare { marks.new.1 + length (said_marks lane (option_to_list reply)) ≡ marks.old.1 }

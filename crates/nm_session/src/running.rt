@@ -1,6 +1,8 @@
-//! The turns of a session, one after the other, over the index that `session` has opened, and the replies of each phase, printed at its end.
+//! The phases of a session, one after the other, over the index that `session` has opened: of each all lanes at once, and then its
+//! replies are printed.
 
-ghost use Rattle.std.specs.Prelude.{◌≡◌, ◌<◌, ◌≤◌, ℕ, List, [], None, IfSome, length, map};
+ghost use Rattle.std.specs.Prelude.{◌≡◌, ◌+◌, ◌<◌, ◌≤◌, [], None, Some, IfSome, length, slice_get};
+ghost use Rattle.std.specs.List.{All, AllZip};
 ghost use Rattle.nm_base.specs.Limits.{max_commits};
 ghost use Rattle.nm_dates.specs.Seconds.{IsMoment};
 ghost use Rattle.nm_disk.specs.Observed.{ObservedDisk};
@@ -8,25 +10,29 @@ ghost use Rattle.nm_history.specs.Call.{Devices};
 ghost use Rattle.nm_index.specs.declared.base.Base.{Base};
 ghost use Rattle.nm_lanes.specs.declared.script.Phase.{Phase};
 ghost use Rattle.nm_session.specs.Line.{IsEven, place_at};
-ghost use Rattle.nm_session.specs.Loop.{HasTaken, IsTurn};
+ghost use Rattle.nm_session.specs.Loop.{AreTaken};
 ghost use Rattle.nm_session.specs.Marks.{steps_of};
+ghost use Rattle.nm_session.specs.Phases.{HasRunPhases, HasWorked, IsReady, Stands};
 ghost use Rattle.nm_session.specs.Rooms.{HasRooms, HasSpare};
 ghost use Rattle.nm_session.specs.Run.{HasRun, IsKept};
-ghost use Rattle.nm_session.specs.Turns.{AreInPlace, EndsMet, planned_from, planned_of};
+ghost use Rattle.nm_session.specs.Sights.{HasSeen, IsLaneAt};
+ghost use Rattle.nm_session.specs.Turns.{places_in, planned_phase};
 ghost use Rattle.nm_writer.specs.Durable.{IsDurable};
 ghost use Rattle.nm_writer.specs.Writer.{StandsOnIndex};
 
+use crate::first_lane::FirstLane;
 use crate::laws::{first_laws, turn_laws};
-use crate::line::run_line;
-use crate::looking::run_look;
 use crate::machine_steps::push_steps;
-use crate::printing::print_ended;
+use crate::printing::print_rest;
+use crate::reader_lane::ReaderLane;
 use crate::rooms::{Rooms, note_meeting};
-use crate::turns::Turn;
+use crate::settling::settle;
 use nm_disk::Disk;
 use nm_io::Sink;
+use nm_lanes::{Phase, ScriptLine, run_phase};
 use nm_log::{SessionLog, Setting};
 use nm_maildir::Maildir;
+use nm_workers::OpenGate;
 use nm_writer::Writer;
 use std::alloc::Global;
 use std::sync::Wait;
@@ -35,13 +41,15 @@ use std::thread::Threads;
 /// The most bytes that all lines may show.
 const MAX_SHOWN: u64 = 67_108_864;
 
-/// Takes the turns of these phases in their order over the index that was opened, and tells what each line did, and whether the output failed.
-pub(crate) fn run_turns<R: Threads + Wait + Sync, M: Maildir, D: Disk, O: Sink>(
+/// Runs these phases in their order over the index that was opened, and tells what each line did, and whether the output failed.
+pub(crate) fn run_all<R: Threads + Wait + Sync, M: Maildir, D: Disk, O: Sink>(
     rt: &R,
     alloc: Global,
     setting: &Setting,
     session: bool,
-    turns: &[Turn<'_>],
+    phases: &[Phase],
+    count: u32,
+    lanes: &mut [ReaderLane<'_>],
     rooms: Rooms,
     writer: Writer,
     mail: &mut M,
@@ -50,28 +58,30 @@ pub(crate) fn run_turns<R: Threads + Wait + Sync, M: Maildir, D: Disk, O: Sink>(
 ) -> (SessionLog, bool)
     requires moment { IsMoment setting.now.moment }
     requires workers { (0 < setting.now.workers) × (setting.now.workers ≤ 16) }
-    requires rooms { HasRooms (length turns.now) rooms }
-    requires in_place { AreInPlace 0 (map planned_of turns.now) }
-    requires met { EndsMet (map planned_of turns.now) }
+    requires count { count ≡ length phases.now }
+    requires rooms { HasRooms (places_in phases.now) rooms }
     requires fresh { (writer.begun ≡ []) × (writer.acked ≡ []) × (writer.closed ≡ None) }
+    requires published { (writer.published.opening ≡ writer.shown) × (writer.published.commits ≡ []) }
+    requires lanes { All (IsLaneAt setting.now.moment phases.now 0 writer.published.book) lanes.old }
     requires stands { IfSome (D.observed disk.old).told (λ moments. StandsOnIndex moments.present writer) }
 
     // The log says of the lines that were run what the statement of a session says, and their replies were printed.
-    ensures ran { (entry : Devices) (phases : List Phase) → entry.mail ≡ M.observed mail.old → entry.disk.faults ≡ (D.observed disk.old).faults → entry.out ≡ O.observed out.old
-        → map planned_of turns.now ≡ planned_from 0 phases
-        → HasRun setting.now.moment writer.shown entry phases session (M.observed mail.new) (D.observed disk.new).faults (O.observed out.new) result.1 result.0 }
+    ensures ran { (entry : Devices) → entry.mail ≡ M.observed mail.old → entry.disk.faults ≡ (D.observed disk.old).faults → entry.out ≡ O.observed out.old
+        → HasRun setting.now.moment writer.shown entry phases.now session (M.observed mail.new) (D.observed disk.new).faults (O.observed out.new) result.1 result.0 }
 
     // No commit that was acknowledged is lost.
     ensures durable { (entry : ObservedDisk) → IsDurable entry writer.shown (D.observed disk.old) writer → IsKept entry writer.shown (D.observed disk.new) result.0 }
 {
     let mut rooms = rooms;
     let mut writer = writer;
-    let (_, failed) = take_turns(
+    let (_, failed) = run_phases(
         rt,
         alloc,
         setting,
         session,
-        turns,
+        phases,
+        count,
+        lanes,
         &mut rooms,
         &mut writer,
         mail,
@@ -81,14 +91,16 @@ pub(crate) fn run_turns<R: Threads + Wait + Sync, M: Maildir, D: Disk, O: Sink>(
     (finish(rt, rooms, writer), failed)
 }
 
-/// Takes the turns, notes each in the rooms, and prints the replies of each phase at its end. It says how many bytes may still be shown, and
-/// whether the output failed; then no further turn is taken.
-fn take_turns<R: Threads + Wait + Sync, M: Maildir, D: Disk, O: Sink>(
+/// Runs the phases, notes each in the rooms, and prints its replies. It says how many bytes may still be shown, and whether the
+/// output failed; then no further phase is run.
+fn run_phases<R: Threads + Wait + Sync, M: Maildir, D: Disk, O: Sink>(
     rt: &R,
     alloc: Global,
     setting: &Setting,
     session: bool,
-    turns: &[Turn<'_>],
+    phases: &[Phase],
+    count: u32,
+    lanes: &mut [ReaderLane<'_>],
     rooms: &mut Rooms,
     writer: &mut Writer,
     mail: &mut M,
@@ -97,12 +109,13 @@ fn take_turns<R: Threads + Wait + Sync, M: Maildir, D: Disk, O: Sink>(
 ) -> (u64, bool)
     requires moment { IsMoment setting.now.moment }
     requires workers { (0 < setting.now.workers) × (setting.now.workers ≤ 16) }
-    requires rooms { HasRooms (length turns.now) rooms.old }
-    requires in_place { AreInPlace 0 (map planned_of turns.now) }
-    requires met { EndsMet (map planned_of turns.now) }
+    requires count { count ≡ length phases.now }
+    requires rooms { HasRooms (places_in phases.now) rooms.old }
     requires fresh { (writer.old.begun ≡ []) × (writer.old.acked ≡ []) × (writer.old.closed ≡ None) }
+    requires published { (writer.old.published.opening ≡ writer.old.shown) × (writer.old.published.commits ≡ []) }
+    requires lanes { All (IsLaneAt setting.now.moment phases.now 0 writer.old.published.book) lanes.old }
     requires stands { IfSome (D.observed disk.old).told (λ moments. StandsOnIndex moments.present writer.old) }
-    ensures taken { HasTaken setting.now.moment session writer.old.shown (M.observed mail.old) (D.observed disk.old).faults (map planned_of turns.now) result.1 rooms.new
+    ensures run { HasRunPhases setting.now.moment session result.1 writer.old.shown (M.observed mail.old) (D.observed disk.old).faults phases.now rooms.new
         (place_at writer.new (M.observed mail.new) (D.observed disk.new) result.0) (O.observed out.old) (O.observed out.new) }
     ensures steps { rooms.new.steps ≡ rooms.old.steps }
     ensures durable { (entry : ObservedDisk) (opening : Base) → IsDurable entry opening (D.observed disk.old) writer.old
@@ -112,9 +125,11 @@ fn take_turns<R: Threads + Wait + Sync, M: Maildir, D: Disk, O: Sink>(
     turn_laws();
     let mut left = MAX_SHOWN;
     let mut printed = 0;
-    'turns: for turn in turns {
-        left = take_turn(rt, alloc, setting, turn, rooms, writer, mail, disk, left);
-        match print_ended(turn, session, rooms.logs.as_slice(), printed, out) {
+    'phases: for number in 0..count {
+        left = run_one(
+            rt, alloc, setting, phases, number, lanes, rooms, writer, mail, disk, left,
+        );
+        match print_rest(session, rooms.logs.as_slice(), printed, out) {
             Some(now) => printed = now,
             None => return (left, true),
         }
@@ -122,12 +137,15 @@ fn take_turns<R: Threads + Wait + Sync, M: Maildir, D: Disk, O: Sink>(
     (left, false)
 }
 
-/// Takes one turn, and notes it in places that are spare. `left` is how many bytes may still be shown; it says how many may afterwards.
-fn take_turn<R: Threads + Wait + Sync, M: Maildir, D: Disk>(
+/// Runs one phase: all lanes at once; then the looks of the other lanes are noted, and the phase ends. It says how many bytes may
+/// still be shown.
+fn run_one<R: Threads + Wait + Sync, M: Maildir, D: Disk>(
     rt: &R,
     alloc: Global,
     setting: &Setting,
-    turn: &Turn<'_>,
+    phases: &[Phase],
+    number: u32,
+    lanes: &mut [ReaderLane<'_>],
     rooms: &mut Rooms,
     writer: &mut Writer,
     mail: &mut M,
@@ -136,31 +154,63 @@ fn take_turn<R: Threads + Wait + Sync, M: Maildir, D: Disk>(
 ) -> u64
     requires moment { IsMoment setting.now.moment }
     requires workers { (0 < setting.now.workers) × (setting.now.workers ≤ 16) }
-    requires spare { HasSpare 1 (length writer.old.begun) rooms.old }
+    requires number { number < length phases.now }
+    requires spare { (phase : Phase) → slice_get phases.now number ≡ Some phase → HasSpare (length (planned_phase number phase)) (length writer.old.begun) rooms.old }
     requires even { IsEven writer.old }
-    requires begun { length writer.old.begun ≤ max_commits }
-    requires stands { writer.old.closed ≡ None → IfSome (D.observed disk.old).told (λ moments. StandsOnIndex moments.present writer.old) }
-    ensures turn { IsTurn setting.now.moment (planned_of turn.now) (place_at writer.old (M.observed mail.old) (D.observed disk.old) left) rooms.old rooms.new
+    requires few { length writer.old.begun ≤ max_commits }
+    requires lanes { All (IsLaneAt setting.now.moment phases.now number writer.old.published.book) lanes.old }
+    requires stands { Stands writer.old (D.observed disk.old) }
+    ensures taken { (phase : Phase) → slice_get phases.now number ≡ Some phase
+        → AreTaken setting.now.moment (planned_phase number phase) (place_at writer.old (M.observed mail.old) (D.observed disk.old) left) rooms.old rooms.new
         (place_at writer.new (M.observed mail.new) (D.observed disk.new) result) }
-    ensures stands { writer.new.closed ≡ None → IfSome (D.observed disk.new).told (λ moments. StandsOnIndex moments.present writer.new) }
+    ensures lanes { All (IsLaneAt setting.now.moment phases.now (number + 1) writer.new.published.book) lanes.new }
+    ensures stands { Stands writer.new (D.observed disk.new) }
     ensures durable { (entry : ObservedDisk) (opening : Base) → IsDurable entry opening (D.observed disk.old) writer.old
         → IsDurable entry opening (D.observed disk.new) writer.new }
 {
-    match turn {
-        Turn::Meet => {
-            note_meeting(rooms);
-            left
-        }
-        Turn::Line { phase, line } => {
-            if line.lane == 0 {
-                return run_line(
-                    rt, alloc, setting, *phase, line, rooms, writer, mail, disk, left,
-                );
-            }
-            run_look(alloc, setting, *phase, line, rooms, writer.snapshot());
-            left
-        }
-    }
+    let lines = phases[number as usize].lines.as_slice();
+    let left = work(
+        rt, alloc, setting, number, lines, lanes, rooms, writer, mail, disk, left,
+    );
+    settle(alloc, setting, number, lines, lanes, rooms, writer);
+    note_meeting(rooms);
+    left
+}
+
+/// Works all lanes at once. It says how many bytes may still be shown.
+fn work<R: Threads + Wait + Sync, M: Maildir, D: Disk>(
+    rt: &R,
+    alloc: Global,
+    setting: &Setting,
+    phase: u32,
+    lines: &[ScriptLine],
+    lanes: &mut [ReaderLane<'_>],
+    rooms: &mut Rooms,
+    writer: &mut Writer,
+    mail: &mut M,
+    disk: &mut D,
+    left: u64,
+) -> u64
+    requires ready { IsReady setting.now lines.now rooms.old writer.old (D.observed disk.old) }
+    requires lanes { All (λ lane. IsMoment lane.setting.now.moment) lanes.old }
+    ensures worked { HasWorked setting.now.moment phase lines.now rooms.old (place_at writer.old (M.observed mail.old) (D.observed disk.old) left) (D.observed disk.old)
+        rooms.new (place_at writer.new (M.observed mail.new) (D.observed disk.new) result) (D.observed disk.new) }
+    ensures seen { AllZip HasSeen lanes.old lanes.new }
+{
+    let mut first = FirstLane {
+        rt,
+        alloc,
+        setting,
+        phase,
+        lines,
+        rooms,
+        writer,
+        mail,
+        disk,
+        left,
+    };
+    run_phase(rt, &mut first, lanes, &OpenGate);
+    first.left
 }
 
 /// The log of the lines that were noted; it takes no memory.

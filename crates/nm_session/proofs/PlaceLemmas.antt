@@ -1,0 +1,90 @@
+-- The place of a look in the marks, and which steps stand before it and behind it. For `LoopLemmas` and the proofs of `settling`.
+use Rattle.std.proofs.Common.{◌≡◌, ℕ, ◌≤◌, true, false, List, [], ◌∷◌, ◌++◌, drop, length, take, zero, suc, refl, sym, ap, ◌∙◌, subst, arith}
+use Rattle.nm_commit.specs.declared.change.Commit.{Commit}
+use Rattle.nm_history.specs.LineResult.{LeaveAlone, shows}
+use Rattle.nm_machine.specs.declared.step.Step.{Step}
+use Rattle.nm_session.specs.Loop.{StandFor}
+use Rattle.nm_session.specs.Marks.{AreOfOthers, made_in, steps_of}
+use Rattle.nm_session.specs.declared.marks.Mark.{Mark}
+use Rattle.nm_session.specs.declared.marks.Mark.TheVariants as marks
+use Rattle.nm_session.proofs.MarkLemmas.{stand-append, steps-append}
+
+-- the commits for which the marks in front stand, and those behind
+pub record IsCut (ms ns : List Mark) (commits : List Commit) : Type 0 where
+  pub first : List Commit
+  pub second : List Commit
+  pub are : commits ≡ first ++ second
+  pub front : StandFor ms first
+  pub back : StandFor ns second
+
+more-cut : (ms ns : List Mark) (commit : Commit) (commits : List Commit) (rest : IsCut ms ns commits) → commit ∷ commits ≡ (commit ∷ rest.first) ++ rest.second
+more-cut ms ns commit commits rest = ap (λ (l : List Commit). commit ∷ l) rest.are
+
+pub stand-cut : (ms ns : List Mark) (commits : List Commit) → StandFor (ms ++ ns) commits → IsCut ms ns commits
+stand-cut [] ns commits h = record { first = []; second = commits; are = refl; front = tt; back = h }
+stand-cut (marks.Made ∷ ms) ns [] h = absurd h
+stand-cut (marks.Made ∷ ms) ns (commit ∷ commits) h =
+    let rest = stand-cut ms ns commits h in
+    record { first = commit ∷ rest.first; second = rest.second; are = more-cut ms ns commit commits rest; front = rest.front; back = rest.back }
+stand-cut (marks.Begun ∷ ms) ns [] h = absurd h
+stand-cut (marks.Begun ∷ ms) ns (commit ∷ commits) h =
+    let rest = stand-cut ms ns commits h in
+    record { first = commit ∷ rest.first; second = rest.second; are = more-cut ms ns commit commits rest; front = rest.front; back = rest.back }
+stand-cut (marks.Look lane ∷ ms) ns commits h = let rest = stand-cut ms ns commits h in record { first = rest.first; second = rest.second; are = rest.are; front = rest.front; back = rest.back }
+stand-cut (marks.Reply lane said ∷ ms) ns commits h = let rest = stand-cut ms ns commits h in record { first = rest.first; second = rest.second; are = rest.are; front = rest.front; back = rest.back }
+stand-cut (marks.Met ∷ ms) ns commits h = let rest = stand-cut ms ns commits h in record { first = rest.first; second = rest.second; are = rest.are; front = rest.front; back = rest.back }
+
+-- marks between them that stand for no commit
+
+module _ (ms look ns : List Mark) (commits : List Commit) (cut : IsCut ms ns commits) (stand : StandFor look []) where
+  pub steps-cut : steps_of (ms ++ ns) commits ≡ steps_of ms cut.first ++ steps_of ns cut.second
+  steps-cut = ap (steps_of (ms ++ ns)) cut.are ∙ steps-append ms ns cut.first cut.second cut.front
+
+  pub steps-between : steps_of (ms ++ (look ++ ns)) commits ≡ steps_of ms cut.first ++ (steps_of look [] ++ steps_of ns cut.second)
+  steps-between =
+      ap (steps_of (ms ++ (look ++ ns))) cut.are
+      ∙ (steps-append ms (look ++ ns) cut.first cut.second cut.front ∙ ap (λ (l : List Step). steps_of ms cut.first ++ l) (steps-append look ns [] cut.second stand))
+
+  pub stand-between : StandFor (ms ++ (look ++ ns)) commits
+  stand-between = subst (StandFor (ms ++ (look ++ ns))) (sym cut.are) (stand-append ms (look ++ ns) cut.first cut.second cut.front (stand-append look ns [] cut.second stand cut.back))
+
+-- the steps behind
+
+pub others-alone : (lane : ℕ) (ns : List Mark) (commits : List Commit) → StandFor ns commits → AreOfOthers lane ns → LeaveAlone lane (steps_of ns commits)
+others-alone lane [] commits h others = tt
+others-alone lane (marks.Made ∷ ns) [] h others = absurd h
+others-alone lane (marks.Made ∷ ns) (commit ∷ commits) h others = (refl, (refl, (refl, others-alone lane ns commits h others.1)))
+others-alone lane (marks.Begun ∷ ns) [] h others = absurd h
+others-alone lane (marks.Begun ∷ ns) (commit ∷ commits) h others = (refl, others-alone lane ns commits h others.1)
+others-alone lane (marks.Look other ∷ ns) commits h others = (others.0, others-alone lane ns commits h others.1)
+others-alone lane (marks.Reply other said ∷ ns) commits h others = (others.0, others-alone lane ns commits h others.1)
+others-alone lane (marks.Met ∷ ns) commits h others = let no : false ≡ true = others.0 in absurd (cc)
+
+pub shows-made : (ns : List Mark) (commits : List Commit) → StandFor ns commits → shows (steps_of ns commits) ≡ made_in ns
+shows-made [] commits h = refl
+shows-made (marks.Made ∷ ns) [] h = absurd h
+shows-made (marks.Made ∷ ns) (commit ∷ commits) h = omega (arith, shows-made ns commits h)
+shows-made (marks.Begun ∷ ns) [] h = absurd h
+shows-made (marks.Begun ∷ ns) (commit ∷ commits) h = omega (arith, shows-made ns commits h)
+shows-made (marks.Look other ∷ ns) commits h = omega (arith, shows-made ns commits h)
+shows-made (marks.Reply other said ∷ ns) commits h = omega (arith, shows-made ns commits h)
+shows-made (marks.Met ∷ ns) commits h = omega (arith, shows-made ns commits h)
+
+-- ---- a mark is put in
+
+take-front : (n : ℕ) (ms ys : List Mark) → n ≤ length ms → take n (take n ms ++ ys) ≡ take n ms
+take-front zero ms ys within = refl
+take-front (suc n) [] ys within = absurd (omega (arith, within))
+take-front (suc n) (m ∷ ms) ys within = ap (λ (l : List Mark). m ∷ l) (take-front n ms ys (omega (arith, within)))
+
+drop-front : (n : ℕ) (ms ys : List Mark) → n ≤ length ms → drop n (take n ms ++ ys) ≡ ys
+drop-front zero ms ys within = refl
+drop-front (suc n) [] ys within = absurd (omega (arith, within))
+drop-front (suc n) (m ∷ ms) ys within = drop-front n ms ys (omega (arith, within))
+
+pub put-both : (ms between after : List Mark) (at : ℕ) (look reply : Mark) → at ≤ length ms → between ≡ take at ms ++ reply ∷ drop at ms → after ≡ take at between ++ look ∷ drop at between
+    → after ≡ take at ms ++ (look ∷ reply ∷ drop at ms)
+put-both ms between after at look reply within first second =
+    let front : take at between ≡ take at ms = ap (take at) first ∙ take-front at ms (reply ∷ drop at ms) within in
+    let back : drop at between ≡ reply ∷ drop at ms = ap (drop at) first ∙ drop-front at ms (reply ∷ drop at ms) within in
+    second ∙ (ap (λ (l : List Mark). l ++ look ∷ drop at between) front ∙ ap (λ (l : List Mark). take at ms ++ look ∷ l) back)
