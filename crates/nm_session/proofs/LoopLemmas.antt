@@ -1,4 +1,4 @@
--- A turn more keeps what is so of the turns before it. For the proofs of `take_turns` and `run_turns`.
+-- A turn more keeps what is so of the turns before it. For `PhaseLemmas`, `SettleLemmas` and `RunLemmas`.
 use Rattle.std.proofs.Common.{◌≡◌, inl, inr, ℕ, ℤ, ◌+◌, ◌*◌, ◌==◌, ◌<◌, ◌≤◌, Bool, true, false, not, cond, List, [], ◌∷◌, ◌++◌, drop, length, take, refl, sym, ap, ◌∙◌, subst, arith, append-nil}
 use Rattle.std.proofs.lemmas.Bool.Decides.{nat_tests}
 use Rattle.std.proofs.lemmas.Grind.{flat_map-append}

@@ -1,4 +1,4 @@
-//! One line of lane 0: it is run, and its log is put into the rooms. `running` calls it for each.
+//! One line of lane 0: it is run, and its log is put into the rooms. `first_lane` calls it for each.
 
 ghost use Rattle.std.specs.Prelude.{◌≡◌, ◌&&◌, ◌-◌, ◌<◌, ◌≤◌, ◌∷◌, [], None, IfSome, MatchResult, codes, length, not};
 ghost use Rattle.nm_base.specs.Limits.{max_commits};
