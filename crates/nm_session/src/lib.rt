@@ -1,5 +1,5 @@
-//! Commands and replies: a session: opens the index that a disk holds, runs the phases of a script over it and a mail folder, and
-//! tells what each line did.
+//! Commands and replies: a session: opens the index that a disk holds, runs the phases of a script over it and a mail folder, all
+//! lanes of a phase at once, prints the replies of each, and tells what each line did.
 #![tactic(auto)]
 
 mod answering;

@@ -34,7 +34,7 @@ const MAX_INPUT: u64 = 67_108_864;
 /// Runs the command that the words name over the index that the disk holds and the mail folder. `session` reads a script from `input`,
 /// runs its phases, and at the end of each prints the replies of its lines, each behind a header, to `out`; where that fails it runs no further one.
 /// Any other is run as the one line, over the lines of `input` where it reads some, and its reply stands alone. `err` gains at most one line. It takes
-/// what memory it needs. It may wait: as readers leave a snapshot, of which there are none yet, and as a `new` joins its workers.
+/// what memory it needs. It may wait: as readers leave a snapshot, as the lanes of a phase are joined, and as a `new` joins its workers.
 pub fn notmuch<R: Threads + Wait + Sync, M: Maildir, D: Disk, I: Source, O: Sink, E: Sink>(
     rt: &R,
     alloc: Global,
