@@ -30,7 +30,7 @@ pub trait LaneWork {
 }
 
 /// Works the writer's lane in this thread and each other lane in one of its own, all at once, and joins them.
-/// Where no thread can be started, the caller does that work. It takes no memory of its own.
+/// Where no thread can be started, the caller does that work; where there is no other lane, none is. It takes no memory of its own.
 pub fn run_phase<R: Threads + Wait + Sync, W: LaneWork, L: LaneWork + Send, G: Gate + Sync>(
     rt: &R,
     writer: &mut W,
@@ -42,6 +42,10 @@ pub fn run_phase<R: Threads + Wait + Sync, W: LaneWork, L: LaneWork + Send, G: G
     ensures writer { W.does writer.old writer.new }
     ensures lanes { AllZip L.does lanes.old lanes.new }
 {
+    if lanes.is_empty() {
+        work_at_gate(rt, gate, writer);
+        return;
+    }
     join_mut(
         rt,
         &mut ||

@@ -32,7 +32,7 @@ use nm_io::Sink;
 use nm_lanes::{Phase, ScriptLine, run_phase};
 use nm_log::{SessionLog, Setting};
 use nm_maildir::Maildir;
-use nm_workers::OpenGate;
+use nm_workers::Gate;
 use nm_writer::Writer;
 use std::alloc::Global;
 use std::sync::Wait;
@@ -42,7 +42,7 @@ use std::thread::Threads;
 const MAX_SHOWN: u64 = 67_108_864;
 
 /// Runs these phases in their order over the index that was opened, and tells what each line did, and whether the output failed.
-pub(crate) fn run_all<R: Threads + Wait + Sync, M: Maildir, D: Disk, O: Sink>(
+pub(crate) fn run_all<R: Threads + Wait + Sync, M: Maildir, D: Disk, O: Sink, G: Gate + Sync>(
     rt: &R,
     alloc: Global,
     setting: &Setting,
@@ -55,6 +55,7 @@ pub(crate) fn run_all<R: Threads + Wait + Sync, M: Maildir, D: Disk, O: Sink>(
     mail: &mut M,
     disk: &mut D,
     out: &mut O,
+    gate: &G,
 ) -> (SessionLog, bool)
     requires moment { IsMoment setting.now.moment }
     requires workers { (0 < setting.now.workers) × (setting.now.workers ≤ 16) }
@@ -87,13 +88,14 @@ pub(crate) fn run_all<R: Threads + Wait + Sync, M: Maildir, D: Disk, O: Sink>(
         mail,
         disk,
         out,
+        gate,
     );
     (finish(rt, rooms, writer), failed)
 }
 
 /// Runs the phases, notes each in the rooms, and prints its replies. It says how many bytes may still be shown, and whether the
 /// output failed; then no further phase is run.
-fn run_phases<R: Threads + Wait + Sync, M: Maildir, D: Disk, O: Sink>(
+fn run_phases<R: Threads + Wait + Sync, M: Maildir, D: Disk, O: Sink, G: Gate + Sync>(
     rt: &R,
     alloc: Global,
     setting: &Setting,
@@ -106,6 +108,7 @@ fn run_phases<R: Threads + Wait + Sync, M: Maildir, D: Disk, O: Sink>(
     mail: &mut M,
     disk: &mut D,
     out: &mut O,
+    gate: &G,
 ) -> (u64, bool)
     requires moment { IsMoment setting.now.moment }
     requires workers { (0 < setting.now.workers) × (setting.now.workers ≤ 16) }
@@ -127,7 +130,7 @@ fn run_phases<R: Threads + Wait + Sync, M: Maildir, D: Disk, O: Sink>(
     let mut printed = 0;
     'phases: for number in 0..count {
         left = run_one(
-            rt, alloc, setting, phases, number, lanes, rooms, writer, mail, disk, left,
+            rt, alloc, setting, phases, number, lanes, rooms, writer, mail, disk, left, gate,
         );
         match print_rest(session, rooms.logs.as_slice(), printed, out) {
             Some(now) => printed = now,
@@ -139,7 +142,7 @@ fn run_phases<R: Threads + Wait + Sync, M: Maildir, D: Disk, O: Sink>(
 
 /// Runs one phase: all lanes at once; then the looks of the other lanes are noted, and the phase ends. It says how many bytes may
 /// still be shown.
-fn run_one<R: Threads + Wait + Sync, M: Maildir, D: Disk>(
+fn run_one<R: Threads + Wait + Sync, M: Maildir, D: Disk, G: Gate + Sync>(
     rt: &R,
     alloc: Global,
     setting: &Setting,
@@ -151,6 +154,7 @@ fn run_one<R: Threads + Wait + Sync, M: Maildir, D: Disk>(
     mail: &mut M,
     disk: &mut D,
     left: u64,
+    gate: &G,
 ) -> u64
     requires moment { IsMoment setting.now.moment }
     requires workers { (0 < setting.now.workers) × (setting.now.workers ≤ 16) }
@@ -170,7 +174,7 @@ fn run_one<R: Threads + Wait + Sync, M: Maildir, D: Disk>(
 {
     let lines = phases[number as usize].lines.as_slice();
     let left = work(
-        rt, alloc, setting, number, lines, lanes, rooms, writer, mail, disk, left,
+        rt, alloc, setting, number, lines, lanes, rooms, writer, mail, disk, left, gate,
     );
     settle(alloc, setting, number, lines, lanes, rooms, writer);
     note_meeting(rooms);
@@ -178,7 +182,7 @@ fn run_one<R: Threads + Wait + Sync, M: Maildir, D: Disk>(
 }
 
 /// Works all lanes at once. It says how many bytes may still be shown.
-fn work<R: Threads + Wait + Sync, M: Maildir, D: Disk>(
+fn work<R: Threads + Wait + Sync, M: Maildir, D: Disk, G: Gate + Sync>(
     rt: &R,
     alloc: Global,
     setting: &Setting,
@@ -190,6 +194,7 @@ fn work<R: Threads + Wait + Sync, M: Maildir, D: Disk>(
     mail: &mut M,
     disk: &mut D,
     left: u64,
+    gate: &G,
 ) -> u64
     requires ready { IsReady setting.now lines.now rooms.old writer.old (D.observed disk.old) }
     requires lanes { All (λ lane. IsMoment lane.setting.now.moment) lanes.old }
@@ -209,7 +214,7 @@ fn work<R: Threads + Wait + Sync, M: Maildir, D: Disk>(
         disk,
         left,
     };
-    run_phase(rt, &mut first, lanes, &OpenGate);
+    run_phase(rt, &mut first, lanes, gate);
     first.left
 }
 

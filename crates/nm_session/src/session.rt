@@ -15,6 +15,7 @@ use nm_io::Sink;
 use nm_lanes::Phase;
 use nm_log::{SessionLog, Setting};
 use nm_maildir::Maildir;
+use nm_workers::Gate;
 use nm_writer::{OpenError, Opened, Writer};
 use std::alloc::Global;
 use std::sync::Wait;
@@ -25,7 +26,7 @@ use std::thread::Threads;
 /// session behind headers. Where the output fails no further phase is run. It tells the log and whether the output failed. All
 /// memory of the log is taken before the index is opened; a line that runs out of memory says so, and the next one runs. No reader
 /// ever waits; a commit may wait until readers have left the snapshot from before.
-pub fn run_session<R: Threads + Wait + Sync, M: Maildir, D: Disk, O: Sink>(
+pub fn run_session<R: Threads + Wait + Sync, M: Maildir, D: Disk, O: Sink, G: Gate + Sync>(
     rt: &R,
     alloc: Global,
     setting: &Setting,
@@ -34,6 +35,7 @@ pub fn run_session<R: Threads + Wait + Sync, M: Maildir, D: Disk, O: Sink>(
     mail: &mut M,
     disk: &mut D,
     out: &mut O,
+    gate: &G,
 ) -> Result<(SessionLog, bool), OpenError>
     requires moment { IsMoment setting.now.moment }
     requires workers { (0 < setting.now.workers) × (setting.now.workers ≤ 16) }
@@ -44,13 +46,15 @@ pub fn run_session<R: Threads + Wait + Sync, M: Maildir, D: Disk, O: Sink>(
 {
     a_refused_opening_keeps_the_index();
     match prepare(alloc, phases) {
-        Ok(plan) => open_and_run(rt, alloc, setting, session, phases, plan, mail, disk, out),
+        Ok(plan) => open_and_run(
+            rt, alloc, setting, session, phases, plan, mail, disk, out, gate,
+        ),
         Err(NoMemory) => Err(OpenError::NoMemory),
     }
 }
 
 /// Opens the index, and runs the phases.
-fn open_and_run<R: Threads + Wait + Sync, M: Maildir, D: Disk, O: Sink>(
+fn open_and_run<R: Threads + Wait + Sync, M: Maildir, D: Disk, O: Sink, G: Gate + Sync>(
     rt: &R,
     alloc: Global,
     setting: &Setting,
@@ -60,6 +64,7 @@ fn open_and_run<R: Threads + Wait + Sync, M: Maildir, D: Disk, O: Sink>(
     mail: &mut M,
     disk: &mut D,
     out: &mut O,
+    gate: &G,
 ) -> Result<(SessionLog, bool), OpenError>
     requires moment { IsMoment setting.now.moment }
     requires workers { (0 < setting.now.workers) × (setting.now.workers ≤ 16) }
@@ -94,6 +99,7 @@ fn open_and_run<R: Threads + Wait + Sync, M: Maildir, D: Disk, O: Sink>(
                 mail,
                 disk,
                 out,
+                gate,
             );
             Ok(ran)
         }

@@ -16,6 +16,7 @@ use nm_disk::DiskFolder;
 use nm_io::{Sink, Source};
 use nm_log::{Done, Setting};
 use nm_maildir::MailFolder;
+use nm_workers::OpenGate;
 use std::alloc::Global;
 use std::sync::Wait;
 use std::thread::Threads;
@@ -131,7 +132,9 @@ fn open_index_and_call<
         Ok(()) => {
             let setting = setting_by(start, leading);
             let command = command_words(words, leading);
-            notmuch(rt, alloc, command, &setting, mail, disk, input, out, err)
+            notmuch(
+                rt, alloc, command, &setting, mail, disk, input, out, err, &OpenGate,
+            )
         }
         Err(_) => ended_early(alloc, err, 4, b"notmuch: cannot open\n"),
     }

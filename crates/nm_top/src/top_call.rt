@@ -23,6 +23,7 @@ use nm_lanes::{Phase, ScriptError, read_script};
 use nm_log::{Done, Outcome, Refusal, Setting};
 use nm_maildir::Maildir;
 use nm_session::run_session;
+use nm_workers::Gate;
 use nm_writer::OpenError;
 use std::alloc::Global;
 use std::sync::Wait;
@@ -35,7 +36,16 @@ const MAX_INPUT: u64 = 67_108_864;
 /// runs its phases, and at the end of each prints the replies of its lines, each behind a header, to `out`; where that fails it runs no further one.
 /// Any other is run as the one line, over the lines of `input` where it reads some, and its reply stands alone. `err` gains at most one line. It takes
 /// what memory it needs. It may wait: as readers leave a snapshot, as the lanes of a phase are joined, and as a `new` joins its workers.
-pub fn notmuch<R: Threads + Wait + Sync, M: Maildir, D: Disk, I: Source, O: Sink, E: Sink>(
+/// Each lane passes the gate under its number before its work in a phase, and under that and 16 after it; a gate changes no answer.
+pub fn notmuch<
+    R: Threads + Wait + Sync,
+    M: Maildir,
+    D: Disk,
+    I: Source,
+    O: Sink,
+    E: Sink,
+    G: Gate + Sync,
+>(
     rt: &R,
     alloc: Global,
     words: &[Text],
@@ -45,6 +55,7 @@ pub fn notmuch<R: Threads + Wait + Sync, M: Maildir, D: Disk, I: Source, O: Sink
     input: &mut I,
     out: &mut O,
     err: &mut E,
+    gate: &G,
 ) -> Done
     requires some_worker { 1 ≤ setting.now.workers }
     requires few_workers { setting.now.workers ≤ 16 }
@@ -62,11 +73,19 @@ pub fn notmuch<R: Threads + Wait + Sync, M: Maildir, D: Disk, I: Source, O: Sink
         (devices (M.observed mail.new) (D.observed disk.new) (I.observed input.new) (O.observed out.new) (E.observed err.new)) result) }
 {
     a_history_is_complete();
-    answered(rt, alloc, words, setting, mail, disk, input, out, err)
+    answered(rt, alloc, words, setting, mail, disk, input, out, err, gate)
 }
 
 /// Does what the words say: they begin a session, or are a single command.
-fn answered<R: Threads + Wait + Sync, M: Maildir, D: Disk, I: Source, O: Sink, E: Sink>(
+fn answered<
+    R: Threads + Wait + Sync,
+    M: Maildir,
+    D: Disk,
+    I: Source,
+    O: Sink,
+    E: Sink,
+    G: Gate + Sync,
+>(
     rt: &R,
     alloc: Global,
     words: &[Text],
@@ -76,6 +95,7 @@ fn answered<R: Threads + Wait + Sync, M: Maildir, D: Disk, I: Source, O: Sink, E
     input: &mut I,
     out: &mut O,
     err: &mut E,
+    gate: &G,
 ) -> Done
     requires moment { IsMoment setting.now.moment }
     requires workers { (0 < setting.now.workers) × (setting.now.workers ≤ 16) }
@@ -84,13 +104,21 @@ fn answered<R: Threads + Wait + Sync, M: Maildir, D: Disk, I: Source, O: Sink, E
         (devices (M.observed mail.new) (D.observed disk.new) (I.observed input.new) (O.observed out.new) (E.observed err.new)) result) }
 {
     if is_session(words) {
-        return answer_session(rt, alloc, words, setting, mail, disk, input, out, err);
+        return answer_session(rt, alloc, words, setting, mail, disk, input, out, err, gate);
     }
-    answer_command(rt, alloc, words, setting, mail, disk, input, out, err)
+    answer_command(rt, alloc, words, setting, mail, disk, input, out, err, gate)
 }
 
 /// Tests the words of a session, and runs its script.
-fn answer_session<R: Threads + Wait + Sync, M: Maildir, D: Disk, I: Source, O: Sink, E: Sink>(
+fn answer_session<
+    R: Threads + Wait + Sync,
+    M: Maildir,
+    D: Disk,
+    I: Source,
+    O: Sink,
+    E: Sink,
+    G: Gate + Sync,
+>(
     rt: &R,
     alloc: Global,
     words: &[Text],
@@ -100,6 +128,7 @@ fn answer_session<R: Threads + Wait + Sync, M: Maildir, D: Disk, I: Source, O: S
     input: &mut I,
     out: &mut O,
     err: &mut E,
+    gate: &G,
 ) -> Done
     requires moment { IsMoment setting.now.moment }
     requires workers { (0 < setting.now.workers) × (setting.now.workers ≤ 16) }
@@ -110,7 +139,7 @@ fn answer_session<R: Threads + Wait + Sync, M: Maildir, D: Disk, I: Source, O: S
 {
     refusal_laws();
     match command(alloc, words) {
-        Ok(_) => read_and_run(rt, alloc, setting, mail, disk, input, out, err),
+        Ok(_) => read_and_run(rt, alloc, setting, mail, disk, input, out, err, gate),
         Err(CommandError::Usage { word, kind }) => refuse(
             alloc,
             err,
@@ -121,7 +150,15 @@ fn answer_session<R: Threads + Wait + Sync, M: Maildir, D: Disk, I: Source, O: S
 }
 
 /// Tests the words of a single command and its query, and runs it.
-fn answer_command<R: Threads + Wait + Sync, M: Maildir, D: Disk, I: Source, O: Sink, E: Sink>(
+fn answer_command<
+    R: Threads + Wait + Sync,
+    M: Maildir,
+    D: Disk,
+    I: Source,
+    O: Sink,
+    E: Sink,
+    G: Gate + Sync,
+>(
     rt: &R,
     alloc: Global,
     words: &[Text],
@@ -131,6 +168,7 @@ fn answer_command<R: Threads + Wait + Sync, M: Maildir, D: Disk, I: Source, O: S
     input: &mut I,
     out: &mut O,
     err: &mut E,
+    gate: &G,
 ) -> Done
     requires moment { IsMoment setting.now.moment }
     requires workers { (0 < setting.now.workers) × (setting.now.workers ≤ 16) }
@@ -141,14 +179,22 @@ fn answer_command<R: Threads + Wait + Sync, M: Maildir, D: Disk, I: Source, O: S
 {
     refusal_laws();
     match single_fault(alloc, words) {
-        Ok(None) => run_command(rt, alloc, words, setting, mail, disk, input, out, err),
+        Ok(None) => run_command(rt, alloc, words, setting, mail, disk, input, out, err, gate),
         Ok(Some(outcome)) => refuse_unasked(alloc, outcome, mail, disk, err),
         Err(NoMemory) => refuse(alloc, err, &Refusal::NoMemory),
     }
 }
 
 /// Runs a single command, over the input where it reads one.
-fn run_command<R: Threads + Wait + Sync, M: Maildir, D: Disk, I: Source, O: Sink, E: Sink>(
+fn run_command<
+    R: Threads + Wait + Sync,
+    M: Maildir,
+    D: Disk,
+    I: Source,
+    O: Sink,
+    E: Sink,
+    G: Gate + Sync,
+>(
     rt: &R,
     alloc: Global,
     words: &[Text],
@@ -158,6 +204,7 @@ fn run_command<R: Threads + Wait + Sync, M: Maildir, D: Disk, I: Source, O: Sink
     input: &mut I,
     out: &mut O,
     err: &mut E,
+    gate: &G,
 ) -> Done
     requires moment { IsMoment setting.now.moment }
     requires workers { (0 < setting.now.workers) × (setting.now.workers ≤ 16) }
@@ -169,14 +216,16 @@ fn run_command<R: Threads + Wait + Sync, M: Maildir, D: Disk, I: Source, O: Sink
 {
     refusal_laws();
     match reads_lines(alloc, words) {
-        Ok(true) => read_lines_and_run(rt, alloc, words, setting, mail, disk, input, out, err),
-        Ok(false) => run_alone(rt, alloc, words, setting, mail, disk, out, err),
+        Ok(true) => read_lines_and_run(
+            rt, alloc, words, setting, mail, disk, input, out, err, gate,
+        ),
+        Ok(false) => run_alone(rt, alloc, words, setting, mail, disk, out, err, gate),
         Err(NoMemory) => refuse(alloc, err, &Refusal::NoMemory),
     }
 }
 
 /// Runs a single command that leaves the input as it is.
-fn run_alone<R: Threads + Wait + Sync, M: Maildir, D: Disk, O: Sink, E: Sink>(
+fn run_alone<R: Threads + Wait + Sync, M: Maildir, D: Disk, O: Sink, E: Sink, G: Gate + Sync>(
     rt: &R,
     alloc: Global,
     words: &[Text],
@@ -185,6 +234,7 @@ fn run_alone<R: Threads + Wait + Sync, M: Maildir, D: Disk, O: Sink, E: Sink>(
     disk: &mut D,
     out: &mut O,
     err: &mut E,
+    gate: &G,
 ) -> Done
     requires moment { IsMoment setting.now.moment }
     requires workers { (0 < setting.now.workers) × (setting.now.workers ≤ 16) }
@@ -208,13 +258,22 @@ fn run_alone<R: Threads + Wait + Sync, M: Maildir, D: Disk, O: Sink, E: Sink>(
             disk,
             out,
             err,
+            gate,
         ),
         Err(NoMemory) => refuse(alloc, err, &Refusal::NoMemory),
     }
 }
 
 /// Reads the lines that a single command asks for, before any other device is asked, and runs it.
-fn read_lines_and_run<R: Threads + Wait + Sync, M: Maildir, D: Disk, I: Source, O: Sink, E: Sink>(
+fn read_lines_and_run<
+    R: Threads + Wait + Sync,
+    M: Maildir,
+    D: Disk,
+    I: Source,
+    O: Sink,
+    E: Sink,
+    G: Gate + Sync,
+>(
     rt: &R,
     alloc: Global,
     words: &[Text],
@@ -224,6 +283,7 @@ fn read_lines_and_run<R: Threads + Wait + Sync, M: Maildir, D: Disk, I: Source, 
     input: &mut I,
     out: &mut O,
     err: &mut E,
+    gate: &G,
 ) -> Done
     requires moment { IsMoment setting.now.moment }
     requires workers { (0 < setting.now.workers) × (setting.now.workers ≤ 16) }
@@ -236,13 +296,13 @@ fn read_lines_and_run<R: Threads + Wait + Sync, M: Maildir, D: Disk, I: Source, 
 {
     refusal_laws();
     match take_all(alloc, input, MAX_INPUT) {
-        Ok(bytes) => run_over(rt, alloc, words, setting, bytes, mail, disk, out, err),
+        Ok(bytes) => run_over(rt, alloc, words, setting, bytes, mail, disk, out, err, gate),
         Err(error) => refuse(alloc, err, &take_refusal(error)),
     }
 }
 
 /// Runs a single command over the input that was read, where each of its lines is of its form.
-fn run_over<R: Threads + Wait + Sync, M: Maildir, D: Disk, O: Sink, E: Sink>(
+fn run_over<R: Threads + Wait + Sync, M: Maildir, D: Disk, O: Sink, E: Sink, G: Gate + Sync>(
     rt: &R,
     alloc: Global,
     words: &[Text],
@@ -252,6 +312,7 @@ fn run_over<R: Threads + Wait + Sync, M: Maildir, D: Disk, O: Sink, E: Sink>(
     disk: &mut D,
     out: &mut O,
     err: &mut E,
+    gate: &G,
 ) -> Done
     requires moment { IsMoment setting.now.moment }
     requires workers { (0 < setting.now.workers) × (setting.now.workers ≤ 16) }
@@ -275,6 +336,7 @@ fn run_over<R: Threads + Wait + Sync, M: Maildir, D: Disk, O: Sink, E: Sink>(
                 disk,
                 out,
                 err,
+                gate,
             ),
             Err(NoMemory) => refuse(alloc, err, &Refusal::NoMemory),
         },
@@ -297,7 +359,15 @@ fn refuse_unasked<M: Maildir, D: Disk, E: Sink>(
 }
 
 /// Reads the script, before any other device is asked, and runs it.
-fn read_and_run<R: Threads + Wait + Sync, M: Maildir, D: Disk, I: Source, O: Sink, E: Sink>(
+fn read_and_run<
+    R: Threads + Wait + Sync,
+    M: Maildir,
+    D: Disk,
+    I: Source,
+    O: Sink,
+    E: Sink,
+    G: Gate + Sync,
+>(
     rt: &R,
     alloc: Global,
     setting: &Setting,
@@ -306,6 +376,7 @@ fn read_and_run<R: Threads + Wait + Sync, M: Maildir, D: Disk, I: Source, O: Sin
     input: &mut I,
     out: &mut O,
     err: &mut E,
+    gate: &G,
 ) -> Done
     requires moment { IsMoment setting.now.moment }
     requires workers { (0 < setting.now.workers) × (setting.now.workers ≤ 16) }
@@ -326,6 +397,7 @@ fn read_and_run<R: Threads + Wait + Sync, M: Maildir, D: Disk, I: Source, O: Sin
                 disk,
                 out,
                 err,
+                gate,
             ),
             Err(ScriptError::Limit(_)) => refuse(alloc, err, &Refusal::Limit(Limit::Lines)),
             Err(ScriptError::NoMemory) => refuse(alloc, err, &Refusal::NoMemory),
@@ -335,7 +407,7 @@ fn read_and_run<R: Threads + Wait + Sync, M: Maildir, D: Disk, I: Source, O: Sin
 }
 
 /// Runs the phases over the index that the disk holds, with the replies of each printed at its end, and says how it ended.
-fn run_phases<R: Threads + Wait + Sync, M: Maildir, D: Disk, O: Sink, E: Sink>(
+fn run_phases<R: Threads + Wait + Sync, M: Maildir, D: Disk, O: Sink, E: Sink, G: Gate + Sync>(
     rt: &R,
     alloc: Global,
     setting: &Setting,
@@ -345,6 +417,7 @@ fn run_phases<R: Threads + Wait + Sync, M: Maildir, D: Disk, O: Sink, E: Sink>(
     disk: &mut D,
     out: &mut O,
     err: &mut E,
+    gate: &G,
 ) -> Done
     requires moment { IsMoment setting.now.moment }
     requires workers { (0 < setting.now.workers) × (setting.now.workers ≤ 16) }
@@ -354,7 +427,7 @@ fn run_phases<R: Threads + Wait + Sync, M: Maildir, D: Disk, O: Sink, E: Sink>(
         (devices (M.observed mail.new) (D.observed disk.new) new (O.observed out.new) (E.observed err.new)) result) }
 {
     refusal_laws();
-    match run_session(rt, alloc, setting, session, phases, mail, disk, out) {
+    match run_session(rt, alloc, setting, session, phases, mail, disk, out, gate) {
         Ok((log, out_failed)) => {
             let lines = log.lines.as_slice();
             say_last(err, session, lines, out_failed);

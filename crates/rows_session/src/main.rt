@@ -5,6 +5,7 @@
 mod answers;
 mod device_rows;
 mod disks;
+mod gates;
 mod line_rows;
 mod log_lines;
 mod machine_rows;

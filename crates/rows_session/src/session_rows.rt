@@ -26,6 +26,7 @@ pub fn answer<R: Threads + Wait + Sync>(
         b"gone",
         b"shift",
         b"goes",
+        b"meets",
         b"comes",
         b"then",
         b"head",
@@ -128,7 +129,7 @@ fn add_head(text: &mut Many<u8>, head: &[u8], told: &[u8]) -> Result<(), NoMemor
 }
 
 /// By `tell acked` the clocks at which commits were acknowledged, by `tell calls` the number of the disk's calls, by `tell lines` the
-/// lines of the log.
+/// lines of the log, by `tell met` whether two seats met.
 fn add_told(alloc: Global, text: &mut Many<u8>, ran: &Ran, told: &[u8]) -> Result<(), NoMemory> {
     'words: for word in told.split(|b| *b == b'\n') {
         if word == b"acked".as_slice() {
@@ -137,6 +138,9 @@ fn add_told(alloc: Global, text: &mut Many<u8>, ran: &Ran, told: &[u8]) -> Resul
         if word == b"calls".as_slice() {
             text.extend_from_slice(b", calls")?;
             add_number(alloc, text, ran.calls)?;
+        }
+        if word == b"met".as_slice() {
+            text.extend_from_slice(if ran.met { b", met" } else { b", not met" })?;
         }
         if word == b"lines".as_slice() {
             add_lines(alloc, text, ran.done.log.lines.as_slice())?;

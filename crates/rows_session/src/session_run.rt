@@ -2,6 +2,7 @@
 
 use crate::device_rows::{input, sink};
 use crate::disks::{calls, fail_at};
+use crate::gates::{RowGate, gate};
 use crate::shifting::{Folder, mail_folder};
 use crate::values::text;
 use nm_base::{Many, Text};
@@ -36,6 +37,8 @@ pub struct Ran {
     pub err: MemSink,
     /// How many calls the disk had.
     pub calls: u64,
+    /// Whether the two seats of the row met.
+    pub met: bool,
 }
 
 /// Runs the session over the disk.
@@ -110,14 +113,18 @@ fn on_output<R: Threads + Wait + Sync>(
 ) -> Result<Ran, RowError> {
     let mut out = sink(alloc, row, b"out-fails")?;
     let mut err = sink(alloc, row, b"err-fails")?;
+    let gate = gate(alloc, row)?;
     let before = calls(disk);
-    let done = call(rt, alloc, row, args, mail, disk, input, &mut out, &mut err);
+    let done = call(
+        rt, alloc, row, args, mail, disk, input, &mut out, &mut err, &gate,
+    );
     let calls = calls(disk).saturating_sub(before);
     Ok(Ran {
         done,
         out,
         err,
         calls,
+        met: gate.met(),
     })
 }
 
@@ -132,14 +139,17 @@ fn call<R: Threads + Wait + Sync>(
     input: &mut MemSource,
     out: &mut MemSink,
     err: &mut MemSink,
+    gate: &RowGate,
 ) -> Done {
     match mail {
         Folder::Still(mail) => {
             if row.kind == b"program".as_slice() {
                 return program(rt, alloc, &START, args, mail, disk, input, out, err);
             }
-            notmuch(rt, alloc, args, &SETTING, mail, disk, input, out, err)
+            notmuch(rt, alloc, args, &SETTING, mail, disk, input, out, err, gate)
         }
-        Folder::Shifting(mail) => notmuch(rt, alloc, args, &SETTING, mail, disk, input, out, err),
+        Folder::Shifting(mail) => notmuch(
+            rt, alloc, args, &SETTING, mail, disk, input, out, err, gate,
+        ),
     }
 }
