@@ -275,9 +275,6 @@ module _ (not_bad : (bytes : List ℕ) (index : Base) (at : ℕ) → HoldsIndex 
       → IsFinished input call ⊎ (call.done.status ≡ 7)
   by-ending (Refused (refusals.Usage word kind)) opening read ran out_failed call input right quiet within opens said status answers looks given =
       let wrong = sym right ∙ said.0.1 in absurd (cc)
-  by-ending (Refused (refusals.BadQuery at kind)) opening read ran out_failed call input right quiet within opens said status answers looks given = absurd said.0
-  by-ending (Refused (refusals.BadDate at)) opening read ran out_failed call input right quiet within opens said status answers looks given = absurd said.0
-  by-ending (Refused (refusals.BadLine line kind)) opening read ran out_failed call input right quiet within opens said status answers looks given = absurd said.0
   by-ending (Refused refusals.ReadFault) opening read ran out_failed call input right quiet within opens said status answers looks given =
       let rose = said.0.2.1 quiet.input.room in let same = quiet.input.same in absurd (omega arith)
   by-ending (Refused (refusals.Limit limit)) opening read ran out_failed call input right quiet within opens said status answers looks given =

@@ -68,9 +68,6 @@ IsUnasked call = (call.after.input ≡ call.entry.input) × DiskUnasked call
 abbrev pub IsRefusedFor : Refusal → List ℕ → Call → Type 0
 IsRefusedFor (refusals.Usage word kind) input call =
     (is_session call.words ≡ true) × (call_fault call.words ≡ Some (outcomes.Usage word kind)) × IsUnasked call
-IsRefusedFor (refusals.BadQuery at kind) input call = ⊥
-IsRefusedFor (refusals.BadDate at) input call = ⊥
-IsRefusedFor (refusals.BadLine line kind) input call = ⊥
 IsRefusedFor refusals.ReadFault input call =
     (call_fault call.words ≡ None) × (call_reads call.words ≡ true) × HasRisen call.entry.input.faults call.after.input.faults × DiskUnasked call
 IsRefusedFor (refusals.Limit limit) input call =

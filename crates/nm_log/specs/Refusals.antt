@@ -4,16 +4,13 @@ use Rattle.std.specs.Prelude.{ℕ, List, ◌++◌, codes}
 use Rattle.std.specs.Fmt.{decimal}
 use Rattle.nm_disk.specs.declared.disk.FileNo.{FileNo}
 use Rattle.nm_disk.specs.declared.disk.FileNo.TheVariants.{Head, BankA, BankB}
-use Rattle.nm_log.specs.Replies.{bad_line, date_line, limit_line, query_line, usage_line}
+use Rattle.nm_log.specs.Replies.{limit_line, usage_line}
 use Rattle.nm_log.specs.declared.refusal.Refusal.{Refusal}
 use Rattle.nm_log.specs.declared.refusal.Refusal.TheVariants as refusals
 
 -- the status of a call that was refused
 abbrev pub refused_status : Refusal → ℕ
 refused_status (refusals.Usage word kind) = 2
-refused_status (refusals.BadQuery at kind) = 1
-refused_status (refusals.BadDate at) = 1
-refused_status (refusals.BadLine line kind) = 1
 refused_status refusals.ReadFault = 5
 refused_status refusals.DiskFault = 4
 refused_status (refusals.BadIndex file at) = 8
@@ -33,9 +30,6 @@ bad_index_line file at = codes "notmuch: bad index: file " ++ (file_name file ++
 -- the line that the user reads
 abbrev pub refused_line : Refusal → List ℕ
 refused_line (refusals.Usage word kind) = usage_line kind word
-refused_line (refusals.BadQuery at kind) = query_line kind at
-refused_line (refusals.BadDate at) = date_line at
-refused_line (refusals.BadLine line kind) = bad_line line kind
 refused_line refusals.ReadFault = codes "notmuch: read fault\n"
 refused_line refusals.DiskFault = codes "notmuch: disk fault\n"
 refused_line (refusals.BadIndex file at) = bad_index_line file at

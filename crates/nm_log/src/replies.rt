@@ -88,7 +88,7 @@ pub fn usage_line(alloc: Global, kind: UsageKind, word: &Text) -> Result<Many<u8
 }
 
 /// What is wrong with a query, as it is printed.
-pub(crate) fn query_kind_name(kind: QueryKind) -> &'static str
+fn query_kind_name(kind: QueryKind) -> &'static str
     ensures { result.now ≡ query_kind_name kind }
 {
     match kind {
@@ -122,7 +122,7 @@ fn date_line(alloc: Global, at: u32) -> Result<Many<u8>, NoMemory>
 }
 
 /// What is wrong with a line of an input, as it is printed.
-pub(crate) fn line_kind_name(kind: LineKind) -> &'static str
+fn line_kind_name(kind: LineKind) -> &'static str
     ensures { result.now ≡ line_kind_name kind }
 {
     match kind {
