@@ -16,7 +16,7 @@ use nm_publish::Reader;
 use std::alloc::Global;
 
 /// Lanes 0 to 15.
-const LANES: u32 = 16;
+pub(crate) const LANES: u32 = 16;
 
 /// The lanes other than 0.
 const OTHER_LANES: usize = 15;

@@ -17,6 +17,7 @@ ghost use Rattle.nm_session.specs.Turns.{other_lanes, planned_line};
 
 use crate::looking::{look, note_answer};
 use crate::marks::Mark;
+use crate::planning::LANES;
 use crate::reader_lane::{ReaderLane, Sight};
 use crate::rooms::Rooms;
 use core::mem;
@@ -27,9 +28,6 @@ use nm_log::Setting;
 use nm_publish::Shown;
 use nm_writer::Writer;
 use std::alloc::Global;
-
-/// Lanes 0 to 15.
-const LANES: u32 = 16;
 
 /// Notes the lines of all other lanes, each where its lane saw what it saw; the readers learn what is shown. A line of which
 /// nothing was seen is answered on what the writer shows.
