@@ -6,9 +6,10 @@ use Rattle.std.specs.Prelude.{Some, None, Result, Ok, Err}
 use Rattle.nm_base.specs.declared.refusals.UsageKind.{UsageKind}
 use Rattle.nm_base.specs.declared.refusals.UsageKind.TheVariants as kinds
 use Rattle.nm_base.specs.declared.tag_op.TagOp.{TagOp}
-use Rattle.nm_command.specs.Grammar.{HasChanges, HasOptions, HasTagFault, IsRefused, IsRequest, a_batch_count, a_batch_tag, a_change_too_many, a_clash, a_count, a_dump, a_fault, a_new, a_query_too_many, a_restore, a_search, a_session, a_show, a_tag, a_tag_fault, a_word_too_many, needs_query, no_change, no_command, no_query, no_tag_query, nothing_left, takes_words, unknown_command}
+use Rattle.nm_command.specs.Grammar.{HasChanges, HasOptions, HasTagFault, IsRefused, IsRequest, a_bad_count, a_batch_count, a_batch_tag, a_change_too_many, a_clash, a_count, a_drill, a_dump, a_fault, a_new, a_query_too_many, a_restore, a_search, a_session, a_show, a_tag, a_tag_fault, a_word_behind_the_count, a_word_too_many, needs_word, no_change, no_command, no_word, no_tag_query, nothing_left, takes_words, unknown_command}
+use Rattle.nm_command.specs.Numbers.{drill_count_in}
 use Rattle.nm_command.specs.Options.{read_options}
-use Rattle.nm_command.specs.Requests.{after_options, batch_fault, batch_tag, changes_tags, count_ask, refused, request_named, request_of, request_with, single_tag, tag_ask, tag_with, with_words, without_words}
+use Rattle.nm_command.specs.Requests.{after_options, batch_fault, batch_tag, changes_tags, count_ask, drill_of, drill_with, refused, request_named, request_of, request_with, single_tag, tag_ask, tag_with, with_words, without_words}
 use Rattle.nm_command.specs.Settings.{nothing_set}
 use Rattle.nm_command.specs.Table.{commands, meaning_of}
 use Rattle.nm_command.specs.TagWords.{changes_of, is_tag_word, op_of, query_words}
@@ -18,7 +19,7 @@ use Rattle.nm_command.specs.declared.request.Request.{Request}
 use Rattle.nm_command.specs.declared.request.Request.TheVariants as requests
 use Rattle.nm_command.specs.declared.settings.Settings.{Settings}
 use Rattle.nm_command.specs.declared.table.CommandName.{CommandName}
-use Rattle.nm_command.specs.declared.table.CommandName.TheVariants.{Count, Dump, New, Restore, Search, Session, Show, Tag}
+use Rattle.nm_command.specs.declared.table.CommandName.TheVariants.{Count, Drill, Dump, New, Restore, Search, Session, Show, Tag}
 use Rattle.nm_command.proofs.ReadingLemmas.{IsRead, fault-read, has-read, read-is}
 use Rattle.nm_command.proofs.TagLemmas.{IsAsked, asked-is, batch-by, has-asked, query-asked, read-change, tag-refused, untagged}
 
@@ -87,19 +88,34 @@ tag-is name words settings rest found has =
       | false ↦ λ single. single-is name words settings rest found has single (changes_of rest) (asked-is rest)
     ] refl
 
+drill-is : (name : List ℕ) (words : List (List ℕ)) (settings : Settings) (rest : List (List ℕ)) → meaning_of name commands ≡ Some Drill →
+    HasOptions Drill nothing_set words settings rest → IsAnswer (name ∷ words) (drill_with rest)
+drill-is name words settings [] found has = no_word Drill name words settings found refl has
+drill-is name words settings (digits ∷ rest) found has =
+    elim (drill_count_in digits) as (λ v. drill_count_in digits ≡ v → IsAnswer (name ∷ words) (drill_of v digits rest)) [
+      | None ↦ λ none. a_bad_count name digits words rest settings found has none
+      | Some count ↦ λ says. alone rest has count says
+    ] refl
+  where
+    alone : (more : List (List ℕ)) → HasOptions Drill nothing_set words settings (digits ∷ more) → (count : ℕ) → drill_count_in digits ≡ Some count →
+        IsAnswer (name ∷ words) (without_words kinds.Extra (requests.Drill count) more)
+    alone [] has count says = a_drill name digits words settings count found has says
+    alone (word ∷ more) has count says = a_word_behind_the_count name digits word words more settings count found has says
+
 with-is : (command : CommandName) (name : List ℕ) (words : List (List ℕ)) (settings : Settings) (rest : List (List ℕ)) → meaning_of name commands ≡ Some command →
     HasOptions command nothing_set words settings rest → IsAnswer (name ∷ words) (request_with command settings rest)
 with-is New name words settings [] found has = a_new name words settings found has
 with-is New name words settings (word ∷ more) found has = a_word_too_many New name word words more settings found refl has
-with-is Search name words settings [] found has = no_query Search name words settings found refl has
+with-is Search name words settings [] found has = no_word Search name words settings found refl has
 with-is Search name words settings (word ∷ more) found has = a_search name word words more settings found has
 with-is Count name words settings rest found has = count-is name words settings rest found has
-with-is Show name words settings [] found has = no_query Show name words settings found refl has
+with-is Show name words settings [] found has = no_word Show name words settings found refl has
 with-is Show name words settings (word ∷ more) found has = a_show name word words more settings found has
 with-is Tag name words settings rest found has = tag-is name words settings rest found has
 with-is Dump name words settings rest found has = a_dump name words rest settings found has
 with-is Restore name words settings [] found has = a_restore name words settings found has
 with-is Restore name words settings (word ∷ more) found has = a_word_too_many Restore name word words more settings found refl has
+with-is Drill name words settings rest found has = drill-is name words settings rest found has
 with-is Session name words settings [] found has = a_session name words settings found has
 with-is Session name words settings (word ∷ more) found has = a_word_too_many Session name word words more settings found refl has
 
@@ -160,9 +176,11 @@ request-read words request (a_batch_tag name more rest settings found has batch 
     options-give Tag name more rest settings found has ∙ ap (tagged settings rest) batch ∙ batch-by settings rest [] (has-asked rest [] [] changes)
 request-read words request (a_restore name more settings found has) = options-give Restore name more [] settings found has
 request-read words request (a_dump name more query settings found has) = options-give Dump name more query settings found has
+request-read words request (a_drill name digits more settings count found has says) =
+    options-give Drill name more (digits ∷ []) settings found has ∙ ap (λ v. drill_of v digits []) says
 request-read words request (a_session name more settings found has) = options-give Session name more [] settings found has
 
-wanting : (command : CommandName) (settings : Settings) → needs_query command ≡ true → request_with command settings [] ≡ Err (Usage [] kinds.Missing)
+wanting : (command : CommandName) (settings : Settings) → needs_word command ≡ true → request_with command settings [] ≡ Err (Usage [] kinds.Missing)
 wanting New settings h = absurd (cc)
 wanting Search settings h = refl
 wanting Count settings h = absurd (cc)
@@ -170,6 +188,7 @@ wanting Show settings h = refl
 wanting Tag settings h = absurd (cc)
 wanting Dump settings h = absurd (cc)
 wanting Restore settings h = absurd (cc)
+wanting Drill settings h = refl
 wanting Session settings h = absurd (cc)
 
 too_many : (command : CommandName) (settings : Settings) (word : List ℕ) (more : List (List ℕ)) → takes_words command ≡ false →
@@ -181,6 +200,7 @@ too_many Show settings word more h = absurd (cc)
 too_many Tag settings word more h = absurd (cc)
 too_many Dump settings word more h = absurd (cc)
 too_many Restore settings word more h = refl
+too_many Drill settings word more h = absurd (cc)
 too_many Session settings word more h = refl
 
 pub refused-read : (words : List (List ℕ)) (word : List ℕ) (kind : UsageKind) → IsRefused words word kind → request_of words ≡ Err (Usage word kind)
@@ -188,7 +208,7 @@ refused-read words word kind no_command = refl
 refused-read words word kind (unknown_command _ more none) = ap (λ command. request_named command word more) none
 refused-read words word kind (a_fault command name _ more _ found is) =
     ap (λ command. request_named command name more) found ∙ ap (after_options command) (fault-read command nothing_set more word kind is)
-refused-read words word kind (no_query command name more settings found needs has) = options-give command name more [] settings found has ∙ wanting command settings needs
+refused-read words word kind (no_word command name more settings found needs has) = options-give command name more [] settings found has ∙ wanting command settings needs
 refused-read words word kind (a_word_too_many command name _ more others settings found takes has) =
     options-give command name more (word ∷ others) settings found has ∙ too_many command settings word others takes
 refused-read words word kind (a_clash name _ more others settings found batch has) =
@@ -199,6 +219,10 @@ refused-read words word kind (no_change name more rest query settings ops found 
     changes-give name more rest query settings ops found has single changes ∙ ap (when_changed settings ops query) none
 refused-read words word kind (no_tag_query name more rest settings ops found has single changes) =
     changes-give name more rest [] settings ops found has single changes ∙ either-missing settings ops (changes_tags settings.clear ops)
+refused-read words word kind (a_bad_count name _ more others settings found has none) =
+    options-give Drill name more (word ∷ others) settings found has ∙ ap (λ v. drill_of v word others) none
+refused-read words word kind (a_word_behind_the_count name digits _ more others settings count found has says) =
+    options-give Drill name more (digits ∷ word ∷ others) settings found has ∙ ap (λ v. drill_of v digits (word ∷ others)) says
 
 -- each answer is one or the other
 either-is : (words : List (List ℕ)) (answer : Result Request CommandError) → IsAnswer words answer →

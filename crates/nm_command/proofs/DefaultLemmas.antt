@@ -6,7 +6,7 @@ use Rattle.nm_command.specs.Settings.{nothing_set, with_setting}
 use Rattle.nm_command.specs.Table.{meaning_of, options_of, values_of}
 use Rattle.nm_command.specs.declared.settings.Setting.{Setting}
 use Rattle.nm_command.specs.declared.table.CommandName.{CommandName}
-use Rattle.nm_command.specs.declared.table.CommandName.TheVariants.{Count, Dump, New, Restore, Search, Session, Show, Tag}
+use Rattle.nm_command.specs.declared.table.CommandName.TheVariants.{Count, Drill, Dump, New, Restore, Search, Session, Show, Tag}
 use Rattle.nm_command.specs.declared.table.Form.{Form}
 use Rattle.nm_command.specs.declared.table.Form.TheVariants.{Flag, Number, OneOf}
 use Rattle.nm_command.specs.declared.table.Values.{Values}
@@ -29,6 +29,7 @@ all_default Show = ((λ words. refl), ((λ words. refl), tt))
 all_default Tag = (tt, (tt, tt))
 all_default Dump = ((λ words. refl), tt)
 all_default Restore = (tt, ((λ words. refl), tt))
+all_default Drill = tt
 all_default Session = tt
 
 pub first-default : (command : CommandName) (name value : List ℕ) (which : Values) (first : Setting) (more : List (List ℕ × Setting)) (words : List (List ℕ)) →

@@ -12,7 +12,7 @@ use Rattle.nm_text.specs.Cuts.{is_byte}
 use Rattle.nm_command.specs.Options.{begins_with_dashes}
 use Rattle.nm_command.specs.Table.{meaning_of, options_of}
 use Rattle.nm_command.specs.declared.table.CommandName.{CommandName}
-use Rattle.nm_command.specs.declared.table.CommandName.TheVariants.{Count, Dump, New, Restore, Search, Session, Show, Tag}
+use Rattle.nm_command.specs.declared.table.CommandName.TheVariants.{Count, Drill, Dump, New, Restore, Search, Session, Show, Tag}
 use Rattle.nm_command.specs.declared.table.Form.{Form}
 use Rattle.nm_command.proofs.RowLemmas.{AllRows, row-holds}
 
@@ -30,6 +30,7 @@ all_names Show = (refl, (refl, tt))
 all_names Tag = (refl, (refl, tt))
 all_names Dump = (refl, tt)
 all_names Restore = (refl, (refl, tt))
+all_names Drill = tt
 all_names Session = tt
 
 pub name-found : (command : CommandName) (name : List ℕ) (form : Form) → meaning_of name (options_of command) ≡ Some form → is_name name ≡ true

@@ -10,7 +10,7 @@ use Rattle.std.proofs.lemmas.Bool.Decides.{nat_tests}
 use Rattle.std.proofs.lemmas.Fmt.{decimal_nonempty, digits_decimal, digits_value-decimal, length-decimal-le}
 use Rattle.std.proofs.lemmas.Str.Parse.{IsNumeralModel, numerals_by_value, parse_digits}
 use Rattle.nm_base.specs.Limits.{max_date}
-use Rattle.nm_command.specs.Numbers.{are_digits, moment_in, number_in, workers_in}
+use Rattle.nm_command.specs.Numbers.{are_digits, moment_in, number_in, number_up_to}
 
 pub own : IsNumeralModel (λ ds. list_all is_ascii_digit ds ≡ true) (digits_value 10)
 own = numerals_by_value _ (search rules)
@@ -73,11 +73,12 @@ moment-back n h =
     ∙ ap (λ m. cond (nat_le m max_date) (Some (pos m)) None) (digits_value-decimal own n few)
     ∙ ap (λ v. cond v (Some (pos n)) None) h
 
-in_workers : (n : ℕ) → nat_le n 16 ≡ true → nat_le n 4294967295 ≡ true
-in_workers n h = grind (arith, nat_tests)
-
-pub workers-back : (n : ℕ) → nat_le 1 n ≡ true → nat_le n 16 ≡ true → workers_in (decimal n) ≡ Some n
-workers-back n some few =
-    ap (option_and_then (λ number. cond (nat_le 1 number && nat_le number 16) (Some number) None)) (number-back n (in_workers n few))
-    ∙ ap (λ v. cond (v && nat_le n 16) (Some n) None) some
+-- so is a number from 1 to another
+pub up_to-back : (most n : ℕ) → nat_le most 4294967295 ≡ true → nat_le 1 n ≡ true → nat_le n most ≡ true → number_up_to most (decimal n) ≡ Some n
+up_to-back most n small some few =
+    ap (option_and_then (λ number. cond (nat_le 1 number && nat_le number most) (Some number) None)) (number-back n (in_range most n small few))
+    ∙ ap (λ v. cond (v && nat_le n most) (Some n) None) some
     ∙ ap (λ v. cond v (Some n) None) few
+  where
+    in_range : (most n : ℕ) → nat_le most 4294967295 ≡ true → nat_le n most ≡ true → nat_le n 4294967295 ≡ true
+    in_range most n small few = grind (arith, nat_tests)

@@ -5,13 +5,14 @@ use Rattle.std.proofs.lemmas.Bool.{and_from, and_parts}
 use Rattle.std.proofs.lemmas.Option.{same_Some}
 use Rattle.std.specs.Prelude.{Option, Some, None, nat_le}
 use Rattle.std.specs.List.{list_all}
+use Rattle.std.specs.Option.{option_and_then}
 use Rattle.std.specs.Str.Parse.{digits_value}
 use Rattle.nm_base.specs.Tag.{is_tag}
 use Rattle.nm_base.specs.declared.forms.Output.{Output}
 use Rattle.nm_base.specs.declared.forms.Output.TheVariants as output
 use Rattle.nm_base.specs.declared.tag_op.TagOp.{TagOp}
-use Rattle.nm_command.specs.Grammar.{HasChanges, HasOptions, IsChange, IsOption, IsRequest, a_batch_count, a_batch_tag, a_count, a_dump, a_flag, a_new, a_number, a_restore, a_search, a_session, a_show, a_tag, an_option, dashes, no_option, no_words, nothing_left, one_change, one_of, query_after_dashes, query_at_once, sets_tag, takes_off}
-use Rattle.nm_command.specs.Numbers.{are_digits, is_number, number_in}
+use Rattle.nm_command.specs.Grammar.{HasChanges, HasOptions, IsChange, IsOption, IsRequest, a_batch_count, a_batch_tag, a_count, a_drill, a_dump, a_flag, a_new, a_number, a_restore, a_search, a_session, a_show, a_tag, an_option, dashes, no_option, no_words, nothing_left, one_change, one_of, query_after_dashes, query_at_once, sets_tag, takes_off}
+use Rattle.nm_command.specs.Numbers.{are_digits, drill_count_in, is_number, number_in}
 use Rattle.nm_command.specs.Settings.{nothing_set, or_default, with_setting}
 use Rattle.nm_command.specs.Requests.{changes_tags, query_of}
 use Rattle.nm_command.specs.Spelling.{are_changes, can_be_asked, fits, is_counted, lacks_query, limit_fits}
@@ -21,7 +22,7 @@ use Rattle.nm_command.specs.declared.settings.Setting.{Setting}
 use Rattle.nm_command.specs.declared.settings.Setting.TheVariants as sets
 use Rattle.nm_command.specs.declared.settings.Settings.{Settings}
 use Rattle.nm_command.specs.declared.table.CommandName.{CommandName}
-use Rattle.nm_command.specs.declared.table.CommandName.TheVariants.{Count, Dump, New, Restore, Search, Session, Show, Tag}
+use Rattle.nm_command.specs.declared.table.CommandName.TheVariants.{Count, Drill, Dump, New, Restore, Search, Session, Show, Tag}
 use Rattle.nm_command.specs.declared.table.Form.{Form}
 use Rattle.nm_command.specs.declared.table.Form.TheVariants.{Flag, Number, OneOf}
 use Rattle.nm_command.specs.declared.table.Numbered.{Numbered}
@@ -37,6 +38,7 @@ takes Show output = true
 takes Tag output = true
 takes Dump output = true
 takes Restore output = true
+takes Drill output = true
 takes Session output = true
 
 abbrev setting_fits : CommandName → Setting → Bool
@@ -69,6 +71,7 @@ all_fit Show = ((refl, (refl, tt)), ((refl, (refl, tt)), tt))
 all_fit Tag = (refl, (refl, tt))
 all_fit Dump = ((refl, (refl, tt)), tt)
 all_fit Restore = (refl, ((refl, (refl, (refl, tt))), tt))
+all_fit Drill = tt
 all_fit Session = tt
 
 number-fits : (digits : List ℕ) (number : ℕ) → number_in digits ≡ Some number → fits number ≡ true
@@ -158,6 +161,19 @@ changes-fit words query ops (query_at_once word more unsigned) = refl
 changes-fit words query ops (one_change word op more _ others is has) =
     and_from (is_tag op.tag) (list_all (λ op. is_tag op.tag) others) (change-fits word op is) (changes-fit more query others has)
 
+-- what a drill is asked is from 1 to 20,000
+count-told : (told : Option ℕ) (count : ℕ) → option_and_then (λ number. cond (nat_le 1 number && nat_le number 20000) (Some number) None) told ≡ Some count →
+    (nat_le 1 count && nat_le count 20000) ≡ true
+count-told None count h = absurd (cc)
+count-told (Some number) count h =
+    elim (nat_le 1 number && nat_le number 20000) as (λ v. (nat_le 1 number && nat_le number 20000) ≡ v → cond v (Some number) None ≡ Some count → (nat_le 1 count && nat_le count 20000) ≡ true) [
+      | true ↦ λ fits h. subst (λ n. (nat_le 1 n && nat_le n 20000) ≡ true) (same_Some number count h) fits
+      | false ↦ λ beyond h. absurd (cc)
+    ] refl h
+
+count-fits : (digits : List ℕ) (count : ℕ) → drill_count_in digits ≡ Some count → (nat_le 1 count && nat_le count 20000) ≡ true
+count-fits digits count h = count-told (number_in digits) count h
+
 pub request-fits : (words : List (List ℕ)) (request : Request) → IsRequest words request → can_be_asked request ≡ true
 request-fits words request (a_new name more settings found has) = refl
 request-fits words request (a_search name word more query settings found has) =
@@ -176,4 +192,5 @@ request-fits words request (a_tag name word more rest query settings ops found h
 request-fits words request (a_batch_tag name more rest settings found has batch changes) = ap (λ batch. are_changes settings.clear batch [] []) batch
 request-fits words request (a_dump name more query settings found has) = refl
 request-fits words request (a_restore name more settings found has) = refl
+request-fits words request (a_drill name digits more settings count found has says) = count-fits digits count says
 request-fits words request (a_session name more settings found has) = refl

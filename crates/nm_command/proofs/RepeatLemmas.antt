@@ -14,7 +14,7 @@ use Rattle.nm_command.specs.declared.settings.Setting.{Setting}
 use Rattle.nm_command.specs.declared.settings.Setting.TheVariants as sets
 use Rattle.nm_command.specs.declared.settings.Settings.{Settings}
 use Rattle.nm_command.specs.declared.table.CommandName.{CommandName}
-use Rattle.nm_command.specs.declared.table.CommandName.TheVariants.{Count, Dump, New, Restore, Search, Session, Show, Tag}
+use Rattle.nm_command.specs.declared.table.CommandName.TheVariants.{Count, Drill, Dump, New, Restore, Search, Session, Show, Tag}
 use Rattle.nm_command.specs.declared.table.Form.{Form}
 use Rattle.nm_command.specs.declared.table.Form.TheVariants.{Flag, Number, OneOf}
 use Rattle.nm_command.specs.declared.table.Numbered.{Numbered}
@@ -155,6 +155,7 @@ all_named Show = ((refl, (refl, tt)), ((refl, (refl, tt)), tt))
 all_named Tag = (refl, (refl, tt))
 all_named Dump = ((refl, (refl, tt)), tt)
 all_named Restore = (refl, ((refl, (refl, (refl, tt))), tt))
+all_named Drill = tt
 all_named Session = tt
 
 option-name : (command : CommandName) (word : List ℕ) (setting : Setting) → IsOption command word setting → name_of word ≡ setting_name setting

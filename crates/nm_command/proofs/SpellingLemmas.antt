@@ -2,7 +2,7 @@
 -- For the proof of `a_request_that_is_written_out_is_read_back`.
 use Rattle.std.proofs.Common.{◌≡◌, ℕ, Bool, true, false, cond, List, [], ◌∷◌, ◌++◌, map, refl}
 use Rattle.std.proofs.lemmas.Bool.{and_parts}
-use Rattle.std.specs.Prelude.{Option, Some, None, codes}
+use Rattle.std.specs.Prelude.{Option, Some, None, codes, nat_le}
 use Rattle.std.specs.Fmt.{decimal}
 use Rattle.std.specs.List.{list_all}
 use Rattle.nm_base.specs.Tag.{is_tag}
@@ -18,7 +18,7 @@ use Rattle.nm_base.specs.declared.forms.Output.TheVariants as output
 use Rattle.nm_base.specs.declared.forms.ReadForm.{ReadForm}
 use Rattle.nm_base.specs.declared.forms.ReadForm.TheVariants as reads
 use Rattle.nm_base.specs.declared.tag_op.TagOp.{TagOp}
-use Rattle.nm_command.specs.Grammar.{HasChanges, HasOptions, IsChange, IsOption, IsRequest, a_batch_count, a_batch_tag, a_count, a_dump, a_flag, a_new, a_number, a_restore, a_search, a_session, a_show, a_tag, an_option, dashes, no_words, nothing_left, one_change, one_of, query_after_dashes, sets_tag, takes_off}
+use Rattle.nm_command.specs.Grammar.{HasChanges, HasOptions, IsChange, IsOption, IsRequest, a_batch_count, a_batch_tag, a_count, a_drill, a_dump, a_flag, a_new, a_number, a_restore, a_search, a_session, a_show, a_tag, an_option, dashes, no_words, nothing_left, one_change, one_of, query_after_dashes, sets_tag, takes_off}
 use Rattle.nm_command.specs.Requests.{changes_tags}
 use Rattle.nm_command.specs.Settings.{nothing_set}
 use Rattle.nm_command.specs.Spelling.{are_changes, before_flag, before_limit, can_be_asked, dump_form_word, exclude_option, fits, is_counted, lacks_query, limit_fits, op_word, option, output_word, query_words, read_form_word, spelled, tag_words}
@@ -28,11 +28,11 @@ use Rattle.nm_command.specs.declared.request.Request.TheVariants as requests
 use Rattle.nm_command.specs.declared.settings.Setting.TheVariants as sets
 use Rattle.nm_command.specs.declared.settings.Settings.{Settings}
 use Rattle.nm_command.specs.declared.table.CommandName.{CommandName}
-use Rattle.nm_command.specs.declared.table.CommandName.TheVariants.{Count, Dump, New, Restore, Search, Session, Show, Tag}
+use Rattle.nm_command.specs.declared.table.CommandName.TheVariants.{Count, Drill, Dump, New, Restore, Search, Session, Show, Tag}
 use Rattle.nm_command.specs.declared.table.Form.TheVariants.{OneOf}
 use Rattle.nm_command.specs.declared.table.Numbered.TheVariants as numbers
 use Rattle.nm_command.specs.declared.table.Values.TheVariants as values
-use Rattle.nm_command.proofs.NumberLemmas.{number-back}
+use Rattle.nm_command.proofs.NumberLemmas.{number-back, up_to-back}
 
 format-option : (json : Bool) → IsOption Search (option (codes "--format") (cond json (codes "json") (codes "text"))) (sets.Json json)
 format-option true = one_of Search (codes "--format") (codes "json") values.SearchFormat (sets.Json true) refl refl
@@ -225,6 +225,11 @@ restore-back ask =
     a_restore (codes "restore") (form ∷ words) after refl
     (an_option Restore nothing_set after (sets.ReadForm ask.form) form words [] (read_form-option ask.form) refl (accumulate-flag ask.form ask.accumulate))
 
+drill-back : (count : ℕ) → nat_le 1 count ≡ true → nat_le count 20000 ≡ true → IsRequest (spelled (requests.Drill count)) (requests.Drill count)
+drill-back count some few =
+    a_drill (codes "drill") (decimal count) (codes "--" ∷ decimal count ∷ []) nothing_set count refl
+    (dashes Drill nothing_set (decimal count ∷ [])) (up_to-back 20000 count refl some few)
+
 pub spelled-back : (request : Request) → can_be_asked request ≡ true → IsRequest (spelled request) request
 spelled-back requests.New h = a_new (codes "new") [] nothing_set refl (no_words New nothing_set)
 spelled-back (requests.Search ask) h = search-back ask h
@@ -234,4 +239,5 @@ spelled-back (requests.Show ask) h = show-back ask
 spelled-back (requests.Tag ask) h = tag-back ask.clear ask.batch ask.ops ask.query h
 spelled-back (requests.Dump ask) h = dump-back ask
 spelled-back (requests.Restore ask) h = restore-back ask
+spelled-back (requests.Drill count) h = drill-back count (and_parts (nat_le 1 count) (nat_le count 20000) h).0 (and_parts (nat_le 1 count) (nat_le count 20000) h).1
 spelled-back requests.Session h = a_session (codes "session") [] nothing_set refl (no_words Session nothing_set)

@@ -1,5 +1,5 @@
 -- The grammar of commands, a case for each of its rules: which words ask for what, and which word is at fault.
---   command := ("new" | "restore" | "session") options   |   ("count" | "dump") options word*   |   ("search" | "show") options word+
+--   command := ("new" | "restore" | "session") options   |   "drill" options number   |   ("count" | "dump") options word*   |   ("search" | "show") options word+
 --            |   "tag" options change* "--"? word*
 --   options := (flag | name "=" value)* "--"?
 --   change := ("+" | "-") tag
@@ -11,7 +11,7 @@ use Rattle.nm_base.specs.declared.refusals.UsageKind.{UsageKind}
 use Rattle.nm_base.specs.declared.refusals.UsageKind.TheVariants as kinds
 use Rattle.nm_base.specs.declared.tag_op.TagOp.{TagOp}
 use Rattle.nm_text.specs.Cuts.{is_byte}
-use Rattle.nm_command.specs.Numbers.{number_in}
+use Rattle.nm_command.specs.Numbers.{drill_count_in, number_in}
 use Rattle.nm_command.specs.Options.{begins_with_dashes}
 use Rattle.nm_command.specs.Requests.{changes_tags, count_ask, dump_ask, restore_ask, search_ask, show_ask, tag_ask}
 use Rattle.nm_command.specs.Settings.{is_given, nothing_set, with_setting}
@@ -22,7 +22,7 @@ use Rattle.nm_command.specs.declared.request.Request.TheVariants as requests
 use Rattle.nm_command.specs.declared.settings.Setting.{Setting}
 use Rattle.nm_command.specs.declared.settings.Settings.{Settings}
 use Rattle.nm_command.specs.declared.table.CommandName.{CommandName}
-use Rattle.nm_command.specs.declared.table.CommandName.TheVariants.{Count, Dump, New, Restore, Search, Session, Show, Tag}
+use Rattle.nm_command.specs.declared.table.CommandName.TheVariants.{Count, Drill, Dump, New, Restore, Search, Session, Show, Tag}
 use Rattle.nm_command.specs.declared.table.Form.{Form}
 use Rattle.nm_command.specs.declared.table.Form.TheVariants.{Flag, Number, OneOf}
 use Rattle.nm_command.specs.declared.table.Numbered.{Numbered}
@@ -37,18 +37,20 @@ takes_words Show = true
 takes_words Tag = true
 takes_words Dump = true
 takes_words Restore = false
+takes_words Drill = true
 takes_words Session = false
 
 -- and these need one, whatever their options
-abbrev pub needs_query : CommandName → Bool
-needs_query New = false
-needs_query Search = true
-needs_query Count = false
-needs_query Show = true
-needs_query Tag = false
-needs_query Dump = false
-needs_query Restore = false
-needs_query Session = false
+abbrev pub needs_word : CommandName → Bool
+needs_word New = false
+needs_word Search = true
+needs_word Count = false
+needs_word Show = true
+needs_word Tag = false
+needs_word Dump = false
+needs_word Restore = false
+needs_word Drill = true
+needs_word Session = false
 
 -- the word is an option of the command, and sets this
 pub data IsOption : CommandName → List ℕ → Setting → Type 0 where
@@ -101,6 +103,8 @@ pub data IsRequest : List (List ℕ) → Request → Type 0 where
       HasOptions Tag nothing_set words settings rest → settings.batch ≡ true → HasChanges rest [] [] → IsRequest (name ∷ words) (requests.Tag (tag_ask settings [] []))
   a_restore : (name : List ℕ) (words : List (List ℕ)) (settings : Settings) → meaning_of name commands ≡ Some Restore → HasOptions Restore nothing_set words settings [] →
       IsRequest (name ∷ words) (requests.Restore (restore_ask settings))
+  a_drill : (name digits : List ℕ) (words : List (List ℕ)) (settings : Settings) (count : ℕ) → meaning_of name commands ≡ Some Drill →
+      HasOptions Drill nothing_set words settings (digits ∷ []) → drill_count_in digits ≡ Some count → IsRequest (name ∷ words) (requests.Drill count)
   a_session : (name : List ℕ) (words : List (List ℕ)) (settings : Settings) → meaning_of name commands ≡ Some Session → HasOptions Session nothing_set words settings [] →
       IsRequest (name ∷ words) requests.Session
 
@@ -135,7 +139,7 @@ pub data IsRefused : List (List ℕ) → List ℕ → UsageKind → Type 0 where
   unknown_command : (word : List ℕ) (words : List (List ℕ)) → meaning_of word commands ≡ None → IsRefused (word ∷ words) word kinds.Command
   a_fault : (command : CommandName) (name word : List ℕ) (words : List (List ℕ)) (kind : UsageKind) → meaning_of name commands ≡ Some command →
       HasFault command nothing_set words word kind → IsRefused (name ∷ words) word kind
-  no_query : (command : CommandName) (name : List ℕ) (words : List (List ℕ)) (settings : Settings) → meaning_of name commands ≡ Some command → needs_query command ≡ true →
+  no_word : (command : CommandName) (name : List ℕ) (words : List (List ℕ)) (settings : Settings) → meaning_of name commands ≡ Some command → needs_word command ≡ true →
       HasOptions command nothing_set words settings [] → IsRefused (name ∷ words) [] kinds.Missing
   a_word_too_many : (command : CommandName) (name word : List ℕ) (words more : List (List ℕ)) (settings : Settings) → meaning_of name commands ≡ Some command →
       takes_words command ≡ false → HasOptions command nothing_set words settings (word ∷ more) → IsRefused (name ∷ words) word kinds.Extra
@@ -148,3 +152,7 @@ pub data IsRefused : List (List ℕ) → List ℕ → UsageKind → Type 0 where
       IsRefused (name ∷ words) [] kinds.Missing
   no_tag_query : (name : List ℕ) (words rest : List (List ℕ)) (settings : Settings) (ops : List TagOp) → meaning_of name commands ≡ Some Tag →
       HasOptions Tag nothing_set words settings rest → settings.batch ≡ false → HasChanges rest ops [] → IsRefused (name ∷ words) [] kinds.Missing
+  a_bad_count : (name digits : List ℕ) (words more : List (List ℕ)) (settings : Settings) → meaning_of name commands ≡ Some Drill →
+      HasOptions Drill nothing_set words settings (digits ∷ more) → drill_count_in digits ≡ None → IsRefused (name ∷ words) digits kinds.Value
+  a_word_behind_the_count : (name digits word : List ℕ) (words more : List (List ℕ)) (settings : Settings) (count : ℕ) → meaning_of name commands ≡ Some Drill →
+      HasOptions Drill nothing_set words settings (digits ∷ word ∷ more) → drill_count_in digits ≡ Some count → IsRefused (name ∷ words) word kinds.Extra

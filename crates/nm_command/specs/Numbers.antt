@@ -1,4 +1,4 @@
--- The numbers that options have as their values. Cited by `leading` and `number`.
+-- The numbers that options and a drill are given. Cited by `leading`, `number` and `reading`.
 use Rattle.std.specs.Prelude.{ℕ, ℤ, pos, Bool, ◌&&◌, nat_le, List, length, Option, Some, None, if◌then◌else◌}
 use Rattle.std.specs.Char.{is_ascii_digit}
 use Rattle.std.specs.List.{list_all}
@@ -18,9 +18,17 @@ is_number text = are_digits 10 text && nat_le (digits_value 10 text) 4294967295
 abbrev pub number_in : List ℕ → Option ℕ
 number_in text = if is_number text then Some (digits_value 10 text) else None
 
--- the same, where it is a number of workers: 1 to 16
+-- the same, where it is from 1 to another
+abbrev pub number_up_to : ℕ → List ℕ → Option ℕ
+number_up_to most text = option_and_then (λ number. if nat_le 1 number && nat_le number most then Some number else None) (number_in text)
+
+-- a number of workers: 1 to 16
 abbrev pub workers_in : List ℕ → Option ℕ
-workers_in text = option_and_then (λ number. if nat_le 1 number && nat_le number 16 then Some number else None) (number_in text)
+workers_in text = number_up_to 16 text
+
+-- how many mails a drill makes: 1 to 20,000
+abbrev pub drill_count_in : List ℕ → Option ℕ
+drill_count_in text = number_up_to 20000 text
 
 -- 1 to 12 digits that say at most 253,000,000,000
 abbrev pub is_moment : List ℕ → Bool

@@ -13,6 +13,7 @@ use Rattle.nm_base.specs.declared.forms.ReadForm.TheVariants as reads
 use Rattle.nm_base.specs.declared.refusals.UsageKind.{UsageKind}
 use Rattle.nm_base.specs.declared.refusals.UsageKind.TheVariants as kinds
 use Rattle.nm_base.specs.declared.tag_op.TagOp.{TagOp}
+use Rattle.nm_command.specs.Numbers.{drill_count_in}
 use Rattle.nm_command.specs.Options.{read_options}
 use Rattle.nm_command.specs.Settings.{nothing_set, or_default}
 use Rattle.nm_command.specs.Table.{commands, meaning_of}
@@ -23,7 +24,7 @@ use Rattle.nm_command.specs.declared.request.Request.{Request}
 use Rattle.nm_command.specs.declared.request.Request.TheVariants as requests
 use Rattle.nm_command.specs.declared.settings.Settings.{Settings}
 use Rattle.nm_command.specs.declared.table.CommandName.{CommandName}
-use Rattle.nm_command.specs.declared.table.CommandName.TheVariants.{Count, Dump, New, Restore, Search, Session, Show, Tag}
+use Rattle.nm_command.specs.declared.table.CommandName.TheVariants.{Count, Drill, Dump, New, Restore, Search, Session, Show, Tag}
 
 -- the words of a query, with a space between each two
 abbrev pub query_of : List (List ℕ) → List ℕ
@@ -109,6 +110,16 @@ batch_tag settings (word ∷ more) =
     if is_tag_word word then refused word (batch_fault (op_of word))
     else without_words kinds.Clash (requests.Tag (tag_ask settings [] [])) (query_words (word ∷ more))
 
+-- what `drill` asks for, where its first word says how many mails it makes: nothing follows
+abbrev pub drill_of : Option ℕ → List ℕ → List (List ℕ) → Result Request CommandError
+drill_of None digits more = refused digits kinds.Value
+drill_of (Some count) digits more = without_words kinds.Extra (requests.Drill count) more
+
+-- and by its words
+abbrev pub drill_with : List (List ℕ) → Result Request CommandError
+drill_with [] = refused [] kinds.Missing
+drill_with (digits ∷ more) = drill_of (drill_count_in digits) digits more
+
 -- what a command asks for by its options and the words after them
 abbrev pub request_with : CommandName → Settings → List (List ℕ) → Result Request CommandError
 request_with New settings words = without_words kinds.Extra requests.New words
@@ -120,6 +131,7 @@ request_with Show settings words = with_words (requests.Show (show_ask settings 
 request_with Tag settings words = if settings.batch then batch_tag settings words else single_tag settings (changes_of words)
 request_with Dump settings words = Ok (requests.Dump (dump_ask settings words))
 request_with Restore settings words = without_words kinds.Extra (requests.Restore (restore_ask settings)) words
+request_with Drill settings words = drill_with words
 request_with Session settings words = without_words kinds.Extra requests.Session words
 
 -- a fault of an option comes before those of the words

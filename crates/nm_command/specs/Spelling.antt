@@ -84,6 +84,7 @@ spelled (requests.Show ask) =
 spelled (requests.Tag ask) = codes "tag" ∷ before_flag ask.clear (codes "--remove-all") (tag_words ask.batch ask.ops ask.query)
 spelled (requests.Dump ask) = codes "dump" ∷ option (codes "--format") (dump_form_word ask.form) ∷ query_words false ask.query
 spelled (requests.Restore ask) = codes "restore" ∷ option (codes "--format") (read_form_word ask.form) ∷ before_flag ask.accumulate (codes "--accumulate") []
+spelled (requests.Drill count) = codes "drill" ∷ codes "--" ∷ decimal count ∷ []
 spelled requests.Session = codes "session" ∷ []
 
 -- a number fits 32 bits
@@ -124,6 +125,7 @@ can_be_asked (requests.Show ask) = true
 can_be_asked (requests.Tag ask) = are_changes ask.clear ask.batch ask.ops ask.query
 can_be_asked (requests.Dump ask) = true
 can_be_asked (requests.Restore ask) = true
+can_be_asked (requests.Drill count) = nat_le 1 count && nat_le count 20000
 can_be_asked requests.Session = true
 
 -- leading options in words

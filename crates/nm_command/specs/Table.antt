@@ -11,7 +11,7 @@ use Rattle.nm_command.specs.Numbers.{number_in}
 use Rattle.nm_command.specs.declared.settings.Setting.{Setting}
 use Rattle.nm_command.specs.declared.settings.Setting.TheVariants.{Accumulate, Batch, Clear, DumpForm, Exclude, Json, Limit, Offset, Oldest, Output, Raw, ReadForm}
 use Rattle.nm_command.specs.declared.table.CommandName.{CommandName}
-use Rattle.nm_command.specs.declared.table.CommandName.TheVariants.{Count, Dump, New, Restore, Search, Session, Show, Tag}
+use Rattle.nm_command.specs.declared.table.CommandName.TheVariants.{Count, Drill, Dump, New, Restore, Search, Session, Show, Tag}
 use Rattle.nm_command.specs.declared.table.Form.{Form}
 use Rattle.nm_command.specs.declared.table.Form.TheVariants.{Flag, Number, OneOf}
 use Rattle.nm_command.specs.declared.table.LeadingForm.{LeadingForm}
@@ -44,6 +44,7 @@ commands =
     ∷ (codes "tag", Tag)
     ∷ (codes "dump", Dump)
     ∷ (codes "restore", Restore)
+    ∷ (codes "drill", Drill)
     ∷ (codes "session", Session)
     ∷ []
 
@@ -76,6 +77,7 @@ options_of Restore =
     (codes "--accumulate", Flag Accumulate)
     ∷ (codes "--format", OneOf values.RestoreFormat)
     ∷ []
+options_of Drill = []
 options_of Session = []
 
 -- the words that a value may be, with what each sets; the first is the default

@@ -1,14 +1,17 @@
-//! The numbers that options have as their values, for `leading` and `table`.
+//! The numbers that options and a drill are given, for `leading`, `table` and `reading`.
 
 ghost use Rattle.std.specs.Prelude.{◌≡◌, ◌&&◌, nat_le, pos, Some, None, if◌then◌else◌};
 ghost use Rattle.std.specs.Char.{is_ascii_digit};
 ghost use Rattle.std.specs.List.{list_all};
 ghost use Rattle.nm_base.specs.Limits.{max_date};
-ghost use Rattle.nm_command.specs.Numbers.{are_digits, moment_in, number_in, workers_in};
+ghost use Rattle.nm_command.specs.Numbers.{are_digits, drill_count_in, moment_in, number_in, number_up_to, workers_in};
 
 const MAX_DIGITS: usize = 10;
 
 const MAX_WORKERS: u32 = 16;
+
+/// The most mails of a drill.
+const MAX_MAILS: u32 = 20_000;
 
 const MAX_MOMENT_DIGITS: usize = 12;
 
@@ -31,16 +34,30 @@ pub(crate) fn number(text: &str) -> Option<u32>
 pub(crate) fn workers(text: &str) -> Option<u32>
     ensures { result ≡ workers_in text.now }
 {
+    number_up_to(MAX_WORKERS, text)
+}
+
+/// How many mails a drill makes, as the text says it: 1 to 20,000.
+pub(crate) fn drill_count(text: &str) -> Option<u32>
+    ensures { result ≡ drill_count_in text.now }
+{
+    number_up_to(MAX_MAILS, text)
+}
+
+/// The number that the text says, where it is from 1 to this one.
+fn number_up_to(most: u32, text: &str) -> Option<u32>
+    ensures { result ≡ number_up_to most text.now }
+{
     match number(text) {
-        Some(number) => if_workers(number),
+        Some(number) => if_up_to(most, number),
         None => None,
     }
 }
 
-fn if_workers(number: u32) -> Option<u32>
-    ensures { result ≡ (if nat_le 1 number && nat_le number 16 then Some number else None) }
+fn if_up_to(most: u32, number: u32) -> Option<u32>
+    ensures { result ≡ (if nat_le 1 number && nat_le number most then Some number else None) }
 {
-    if number >= 1 && number <= MAX_WORKERS {
+    if number >= 1 && number <= most {
         return Some(number);
     }
     None

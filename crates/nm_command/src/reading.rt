@@ -2,11 +2,12 @@
 //! `nm_top` those of the program.
 
 ghost use Rattle.std.specs.Prelude.{◌≡◌, ◌⊎◌, [], ◌∷◌, ◌++◌, IfOk, MatchResult, Ok, Err, nat_lt, true, string_bytes, if◌then◌else◌};
-ghost use Rattle.nm_command.specs.Requests.{after_options, batch_fault, batch_tag, query_of, refused, request_of, request_with, single_tag, tag_ask, tag_with, without_words};
+ghost use Rattle.nm_command.specs.Requests.{after_options, batch_fault, batch_tag, drill_with, query_of, refused, request_of, request_with, single_tag, tag_ask, tag_with, without_words};
 ghost use Rattle.nm_command.specs.Options.{read_options};
 ghost use Rattle.nm_command.specs.Settings.{nothing_set};
 ghost use Rattle.nm_command.specs.TagWords.{changes_of, is_tag_word, op_of};
 
+use crate::number::drill_count;
 use crate::options::read_options;
 use crate::settings::{Settings, excludes};
 use crate::table::{CommandName, command_named};
@@ -71,6 +72,7 @@ fn request(
         CommandName::Tag => tag(alloc, settings, words),
         CommandName::Dump => dump(alloc, settings, words),
         CommandName::Restore => restore(alloc, settings, words),
+        CommandName::Drill => drill(alloc, words),
         CommandName::Session => without_words(alloc, UsageKind::Extra, Request::Session, words),
     }
 }
@@ -111,7 +113,7 @@ fn search(alloc: Global, settings: Settings, words: &[Text]) -> Result<Request, 
     }))
 }
 
-/// A query is wanting, or a tag word.
+/// A query is wanting, a tag word, or the number of a drill.
 fn refuse_missing(alloc: Global) -> Result<Request, CommandError>
     ensures { MatchResult result (λ request. refused [] UsageKind.Missing ≡ Ok request)
         (λ error. (error ≡ CommandError.NoMemory) ⊎ (refused [] UsageKind.Missing ≡ Err error)) }
@@ -177,6 +179,20 @@ fn restore(alloc: Global, settings: Settings, words: &[Text]) -> Result<Request,
         accumulate: settings.accumulate,
     });
     without_words(alloc, UsageKind::Extra, request, words)
+}
+
+/// A drill is asked how many mails it makes, and nothing else.
+fn drill(alloc: Global, words: &[Text]) -> Result<Request, CommandError>
+    ensures { MatchResult result (λ request. drill_with words.now ≡ Ok request)
+        (λ error. (error ≡ CommandError.NoMemory) ⊎ (drill_with words.now ≡ Err error)) }
+{
+    match words {
+        [] => refuse_missing(alloc),
+        [digits, more @ ..] => match drill_count(digits.as_str()) {
+            Some(count) => without_words(alloc, UsageKind::Extra, Request::Drill(count), more),
+            None => refuse(alloc, digits.as_str(), UsageKind::Value),
+        },
+    }
 }
 
 fn tag(alloc: Global, settings: Settings, words: &[Text]) -> Result<Request, CommandError>

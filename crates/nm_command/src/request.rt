@@ -12,6 +12,8 @@ pub enum Request {
     Tag(TagAsk),
     Dump(DumpAsk),
     Restore(RestoreAsk),
+    /// A trial over so many mails, 1 to 20,000.
+    Drill(u32),
     Session,
 }
 
@@ -43,6 +45,7 @@ impl Copies for Request {
                 let ask = ask.copy()?;
                 Ok(Request::Restore(ask))
             }
+            Request::Drill(count) => Ok(Request::Drill(*count)),
             Request::Session => Ok(Request::Session),
         }
     }

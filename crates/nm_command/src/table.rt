@@ -17,6 +17,7 @@ pub enum CommandName {
     Tag,
     Dump,
     Restore,
+    Drill,
     Session,
 }
 
@@ -77,6 +78,7 @@ const COMMANDS: &[Row<CommandName>] = &[
     ("tag", CommandName::Tag),
     ("dump", CommandName::Dump),
     ("restore", CommandName::Restore),
+    ("drill", CommandName::Drill),
     ("session", CommandName::Session),
 ];
 
@@ -236,7 +238,7 @@ fn options(command: CommandName) -> &'static [Row<Form>]
     ensures { map (λ row. (row.0.now, row.1)) result.now ≡ options_of command }
 {
     match command {
-        CommandName::New | CommandName::Session => &[],
+        CommandName::New | CommandName::Drill | CommandName::Session => &[],
         CommandName::Search => SEARCH_OPTIONS,
         CommandName::Count => COUNT_OPTIONS,
         CommandName::Show => SHOW_OPTIONS,

@@ -69,6 +69,7 @@ references_line (Some first) = codes "References: <" ++ (id_of first ++ codes ">
 abbrev pub body_of : ℕ → List ℕ
 body_of k = codes "\nline " ++ (decimal k ++ codes "\n")
 
+-- the whole mail
 abbrev pub drill_mail : ℕ → List ℕ
 drill_mail k = from_line k ++ subject_line k ++ id_line k ++ date_line k ++ references_line (answered k) ++ body_of k
 
@@ -91,6 +92,7 @@ drill_tree n = still_of (codes "new" ∷ codes "cur" ∷ []) (drill_files n) []
 
 -- ---- the script
 
+-- the mails are taken in, and those of one word are read; then four lanes look
 abbrev pub script_lines : List (List ℕ)
 script_lines =
     codes "0 new"

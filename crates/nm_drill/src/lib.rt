@@ -1,5 +1,5 @@
 //! Commands and replies: a drill, which is a trial over mail made by its numbers: the store, as a tree in memory, and the script
-//! of its session. No command uses it yet.
+//! of its session. `nm_top` runs it.
 #![tactic(auto)]
 
 mod answered;

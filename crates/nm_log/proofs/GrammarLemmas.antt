@@ -6,7 +6,7 @@ use Rattle.nm_base.specs.declared.refusals.UsageKind.{UsageKind}
 use Rattle.nm_base.specs.declared.refusals.UsageKind.TheVariants as kinds
 use Rattle.nm_answer.specs.declared.request.Request.{Request}
 use Rattle.nm_answer.specs.declared.request.Request.TheVariants as requests
-use Rattle.nm_command.specs.Grammar.{IsRefused, IsRequest, a_batch_count, a_batch_tag, a_count, a_dump, a_new, a_restore, a_search, a_session, a_show, a_tag}
+use Rattle.nm_command.specs.Grammar.{IsRefused, IsRequest, a_batch_count, a_batch_tag, a_count, a_drill, a_dump, a_new, a_restore, a_search, a_session, a_show, a_tag}
 use Rattle.nm_command.specs.Requests.{request_of}
 use Rattle.nm_command.specs.Table.{commands, meaning_of}
 use Rattle.nm_command.specs.declared.command_error.CommandError.{CommandError}
@@ -31,6 +31,7 @@ name_of (asked.Show ask) = names.Show
 name_of (asked.Dump ask) = names.Dump
 name_of (asked.Tag ask) = names.Tag
 name_of (asked.Restore ask) = names.Restore
+name_of (asked.Drill count) = names.Drill
 name_of asked.Session = names.Session
 
 -- lane 0 may run it, or each other lane
@@ -42,6 +43,7 @@ may_run first (asked.Show ask) = first
 may_run first (asked.Dump ask) = true
 may_run first (asked.Tag ask) = first
 may_run first (asked.Restore ask) = first
+may_run first (asked.Drill count) = false
 may_run first asked.Session = false
 
 fault-is : (first : Bool) (request : asks.Request) → command_fault first (name_of request) ≡ (if may_run first request then None else Some kinds.Lane)
@@ -52,6 +54,7 @@ fault-is true (asked.Show ask) = refl
 fault-is true (asked.Dump ask) = refl
 fault-is true (asked.Tag ask) = refl
 fault-is true (asked.Restore ask) = refl
+fault-is true (asked.Drill count) = refl
 fault-is true asked.Session = refl
 fault-is false asked.New = refl
 fault-is false (asked.Search ask) = refl
@@ -60,6 +63,7 @@ fault-is false (asked.Show ask) = refl
 fault-is false (asked.Dump ask) = refl
 fault-is false (asked.Tag ask) = refl
 fault-is false (asked.Restore ask) = refl
+fault-is false (asked.Drill count) = refl
 fault-is false asked.Session = refl
 
 -- the words of a request begin with its name
@@ -75,6 +79,7 @@ begins-with words request (a_search name word more query settings found has) = r
 begins-with words request (a_count name more query settings found has single) = record { name = name; more = more; are = refl; means = found }
 begins-with words request (a_batch_count name more settings found has batch) = record { name = name; more = more; are = refl; means = found }
 begins-with words request (a_show name word more query settings found has) = record { name = name; more = _; are = refl; means = found }
+begins-with words request (a_drill name digits more settings count found has says) = record { name = name; more = _; are = refl; means = found }
 begins-with words request (a_session name more settings found has) = record { name = name; more = more; are = refl; means = found }
 begins-with words request (a_dump name more query settings found has) = record { name = name; more = more; are = refl; means = found }
 begins-with words request (a_tag name word more rest query settings ops found has single changes some) = record { name = name; more = _; are = refl; means = found }
@@ -157,6 +162,7 @@ module _ (requests_are : (words : List (List ℕ)) → (request : asks.Request) 
   every-answer lane name words other may (Ok (asked.Show ask)) e = absurd (runs-not lane (name ∷ words) (asked.Show ask) other ((requests_are (name ∷ words) (asked.Show ask)).0 e) may)
   every-answer lane name words other may (Ok (asked.Tag ask)) e = absurd (runs-not lane (name ∷ words) (asked.Tag ask) other ((requests_are (name ∷ words) (asked.Tag ask)).0 e) may)
   every-answer lane name words other may (Ok (asked.Restore ask)) e = absurd (runs-not lane (name ∷ words) (asked.Restore ask) other ((requests_are (name ∷ words) (asked.Restore ask)).0 e) may)
+  every-answer lane name words other may (Ok (asked.Drill count)) e = tt
   every-answer lane name words other may (Ok asked.Session) e = tt
   every-answer lane name words other may (Err (errors.Usage word kind)) e = tt
   every-answer lane name words other may (Err errors.NoMemory) e = tt
@@ -230,6 +236,8 @@ module _ (requests_are : (words : List (List ℕ)) → (request : asks.Request) 
     answer-parsed name words are may (Ok (asked.Show ask)) e = asks-for name words are may (requests.Show ask) e
     answer-parsed name words are may (Ok (asked.Tag ask)) e = asks-for name words are may (requests.Tag ask) e
     answer-parsed name words are may (Ok (asked.Restore ask)) e = asks-for name words are may (requests.Restore ask) e
+    answer-parsed name words are may (Ok (asked.Drill count)) e =
+        absurd (runs-not line.lane (name ∷ words) (asked.Drill count) refl ((requests_are (name ∷ words) (asked.Drill count)).0 e) may)
     answer-parsed name words are may (Ok asked.Session) e = absurd (runs-not line.lane (name ∷ words) asked.Session refl ((requests_are (name ∷ words) asked.Session).0 e) may)
     answer-parsed name words are may (Err (errors.Usage word kind)) e = is-faulty (name ∷ words) are may word kind ((refusals_are (name ∷ words) word kind).0 e)
     answer-parsed name words are may (Err errors.NoMemory) e = absurd (no-memory (name ∷ words) e)

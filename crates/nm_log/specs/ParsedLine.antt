@@ -21,7 +21,7 @@ use Rattle.nm_log.specs.declared.line_parser.ParsedLine.TheVariants.{Request, Us
 abbrev pub refused : UsageKind → List ℕ → ParsedLine
 refused kind word = Usage word kind
 
--- what is wrong with a command in lane 0, whatever follows it: a session begins no other
+-- what is wrong with a command in lane 0, whatever follows it: a session begins no other, and no drill
 abbrev pub fault_in_first : CommandName → Option UsageKind
 fault_in_first names.New = None
 fault_in_first names.Search = None
@@ -30,6 +30,7 @@ fault_in_first names.Show = None
 fault_in_first names.Dump = None
 fault_in_first names.Tag = None
 fault_in_first names.Restore = None
+fault_in_first names.Drill = Some kinds.Lane
 fault_in_first names.Session = Some kinds.Lane
 
 -- the other lanes search, count and dump
@@ -41,6 +42,7 @@ fault_in_others names.Show = Some kinds.Lane
 fault_in_others names.Dump = None
 fault_in_others names.Tag = Some kinds.Lane
 fault_in_others names.Restore = Some kinds.Lane
+fault_in_others names.Drill = Some kinds.Lane
 fault_in_others names.Session = Some kinds.Lane
 
 -- in lane 0, or in another
@@ -66,6 +68,7 @@ line_request name (asked.Show ask) = Request (asks_for.Show ask)
 line_request name (asked.Dump ask) = Request (asks_for.Dump ask)
 line_request name (asked.Tag ask) = Request (asks_for.Tag ask)
 line_request name (asked.Restore ask) = Request (asks_for.Restore ask)
+line_request name (asked.Drill count) = refused kinds.Lane name
 line_request name asked.Session = refused kinds.Lane name
 
 -- or the word of them that is at fault; running out of memory is no fault of words

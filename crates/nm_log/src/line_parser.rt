@@ -129,7 +129,7 @@ fn fault_in_first(command: CommandName) -> Option<UsageKind>
         | CommandName::Dump
         | CommandName::Tag
         | CommandName::Restore => None,
-        CommandName::Session => Some(UsageKind::Lane),
+        CommandName::Drill | CommandName::Session => Some(UsageKind::Lane),
     }
 }
 
@@ -143,6 +143,7 @@ fn fault_in_others(command: CommandName) -> Option<UsageKind>
         | CommandName::Show
         | CommandName::Tag
         | CommandName::Restore
+        | CommandName::Drill
         | CommandName::Session => Some(UsageKind::Lane),
     }
 }
@@ -173,6 +174,8 @@ fn line_request(
         nm_command::Request::Show(ask) => Ok(ParsedLine::Request(Request::Show(ask))),
         nm_command::Request::Tag(ask) => Ok(ParsedLine::Request(Request::Tag(ask))),
         nm_command::Request::Restore(ask) => Ok(ParsedLine::Request(Request::Restore(ask))),
-        nm_command::Request::Session => refuse(alloc, UsageKind::Lane, name),
+        nm_command::Request::Drill(_) | nm_command::Request::Session => {
+            refuse(alloc, UsageKind::Lane, name)
+        }
     }
 }

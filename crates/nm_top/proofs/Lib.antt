@@ -1,3 +1,4 @@
+pub mod DrillLemmas
 pub mod HistoryLemmas
 pub mod StatusLemmas
 pub mod ProgramLemmas

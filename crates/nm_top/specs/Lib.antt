@@ -1,3 +1,4 @@
+pub mod Drill
 pub mod Ending
 pub mod Program
 pub mod RefusalLaws

@@ -8,11 +8,11 @@ use Rattle.nm_command.specs.declared.leading.Leading.{Leading}
 use Rattle.nm_faults.specs.Faults.{HasRisen}
 use Rattle.nm_history.specs.Call.{Devices, call_of}
 use Rattle.nm_history.specs.Complete.{IsComplete}
-use Rattle.nm_history.specs.History.{History}
 use Rattle.nm_history.specs.PrintedOut.{Prints}
 use Rattle.nm_log.specs.declared.log.Done.{Done}
 use Rattle.nm_log.specs.declared.log.Setting.{Setting}
 use Rattle.nm_maildir.specs.Observed.{ObservedMail}
+use Rattle.nm_top.specs.Drill.{CallHistory}
 use Rattle.nm_top.specs.Ending.{ended_with}
 use Rattle.nm_top.specs.declared.starting.Start.{Start}
 
@@ -48,5 +48,5 @@ pub data IsProgram (start : Start) (words : List (List ℕ)) (entry after : Devi
   no_index : (leading : Leading) → leading_of words ≡ Ok leading → after.mail ≡ entry.mail → HasRisen entry.disk.faults after.disk.faults → after.disk.told ≡ entry.disk.told →
       EndsBefore 4 (codes "notmuch: cannot open\n") entry after done → IsProgram start words entry after done
   called : (leading : Leading) → leading_of words ≡ Ok leading →
-      History (call_of (command_words words leading) (setting_by start leading) entry after done) →
+      CallHistory (call_of (command_words words leading) (setting_by start leading) entry after done) →
       IsComplete (call_of (command_words words leading) (setting_by start leading) entry after done) → IsProgram start words entry after done

@@ -36,7 +36,7 @@ fn say_write<E: Sink>(err: &mut E, out_failed: bool)
     }
 }
 
-fn say<E: Sink>(err: &mut E, text: &[u8])
+pub(crate) fn say<E: Sink>(err: &mut E, text: &[u8])
     ensures { Prints (Some text.now) (E.observed err.old) (E.observed err.new) }
 {
     let _ = print_text(err, text);

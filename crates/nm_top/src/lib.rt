@@ -2,6 +2,7 @@
 //! prints the replies, and gives the status.
 #![tactic(auto)]
 
+mod drill;
 mod ending;
 mod laws;
 mod starting;

@@ -9,11 +9,13 @@ ghost use Rattle.nm_history.specs.History.{History};
 ghost use Rattle.nm_history.specs.Refusals.{IsRead, TakesInput};
 ghost use Rattle.nm_io.specs.Observed.{ObservedStream};
 ghost use Rattle.nm_log.specs.ParsedLine.{parse_single};
+ghost use Rattle.nm_top.specs.Drill.{CallHistory};
 ghost use Rattle.nm_top.specs.Ending.{RefusesAlone, refusal_of, take_refusal};
 
+use crate::drill::drill;
 use crate::ending::{refuse, refuse_line, say_last, status_of_run};
 use crate::laws::refusal_laws;
-use crate::words::{is_session, lines_fault, reads_lines, single_fault, single_phases};
+use crate::words::{is_drill, is_session, lines_fault, reads_lines, single_fault, single_phases};
 use nm_base::{Limit, Many, NoMemory, Text};
 use nm_command::{CommandError, command};
 use nm_disk::Disk;
@@ -34,6 +36,7 @@ const MAX_INPUT: u64 = 67_108_864;
 
 /// Runs the command that the words name over the index that the disk holds and the mail folder. `session` reads a script from `input`,
 /// runs its phases, and at the end of each prints the replies of its lines, each behind a header, to `out`; where that fails it runs no further one.
+/// `drill` runs a session over a store, an index and a script of its own, all in memory, and prints a summary of it.
 /// Any other is run as the one line, over the lines of `input` where it reads some, and its reply stands alone. `err` gains at most one line. It takes
 /// what memory it needs. It may wait: as readers leave a snapshot, as the lanes of a phase are joined, and as a `new` joins its workers.
 /// Each lane passes the gate under its number before its work in a phase, and under that and 16 after it; a gate changes no answer.
@@ -63,7 +66,7 @@ pub fn notmuch<
     requires moment { setting.now.moment ≤ℤ pos max_date }
 
     // The statement of a call, over its actual log.
-    ensures history { History (call_of words.now setting.now
+    ensures history { CallHistory (call_of words.now setting.now
         (devices (M.observed mail.old) (D.observed disk.old) (I.observed input.old) (O.observed out.old) (E.observed err.old))
         (devices (M.observed mail.new) (D.observed disk.new) (I.observed input.new) (O.observed out.new) (E.observed err.new)) result) }
 
@@ -72,6 +75,9 @@ pub fn notmuch<
         (devices (M.observed mail.old) (D.observed disk.old) (I.observed input.old) (O.observed out.old) (E.observed err.old))
         (devices (M.observed mail.new) (D.observed disk.new) (I.observed input.new) (O.observed out.new) (E.observed err.new)) result) }
 {
+    if is_drill(words) {
+        return drill(rt, alloc, words, setting, out, err, gate);
+    }
     a_history_is_complete();
     answered(rt, alloc, words, setting, mail, disk, input, out, err, gate)
 }
@@ -359,7 +365,7 @@ fn refuse_unasked<M: Maildir, D: Disk, E: Sink>(
 }
 
 /// Reads the script, before any other device is asked, and runs it.
-fn read_and_run<
+pub(crate) fn read_and_run<
     R: Threads + Wait + Sync,
     M: Maildir,
     D: Disk,

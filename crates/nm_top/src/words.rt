@@ -8,6 +8,7 @@ ghost use Rattle.nm_answer.specs.DumpReading.{read_dump};
 ghost use Rattle.nm_history.specs.Requests.{bad_line_in, first_bad_line, own_query, query_outcome, refused_line, refused_query, refused_text};
 ghost use Rattle.nm_log.specs.ParsedLine.{parse_single};
 ghost use Rattle.nm_query.specs.Answers.{answer_of};
+ghost use Rattle.nm_top.specs.Drill.{is_drill};
 
 use nm_answer::Request;
 use nm_base::{Copies, Many, NoMemory, ReadForm, Text};
@@ -25,6 +26,16 @@ pub(crate) fn is_session(words: &[Text]) -> bool
 {
     match words.first() {
         Some(word) => word.as_str() == "session",
+        None => false,
+    }
+}
+
+/// Whether the words ask for a drill.
+pub(crate) fn is_drill(words: &[Text]) -> bool
+    ensures { result ≡ is_drill words.now }
+{
+    match words.first() {
+        Some(word) => word.as_str() == "drill",
         None => false,
     }
 }

@@ -23,6 +23,7 @@ Commands
                   --batch: each line of standard input is such changes and a query
   dump [QUERY]    --format=batch-tag|sup
   restore < DUMP  --accumulate  --format=auto|batch-tag|sup
+  drill N         try all this on a store of N mails made in memory, 1 to 20,000
   session         run the lines of a script on standard input, as '0 search from:ann'
 
 Queries

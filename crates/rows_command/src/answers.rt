@@ -153,8 +153,16 @@ fn push_request(alloc: Global, lines: &mut Lines, request: &Request) -> Result<(
         Request::Tag(ask) => push_tag(lines, ask),
         Request::Dump(ask) => push_dump(lines, ask),
         Request::Restore(ask) => push_restore(lines, ask),
+        Request::Drill(count) => push_drill_count(alloc, lines, *count),
         Request::Session => Ok(lines.push(b"session")?),
     }
+}
+
+/// `drill N`
+fn push_drill_count(alloc: Global, lines: &mut Lines, count: u32) -> Result<(), RowError> {
+    lines.push(b"drill ")?;
+    let count = count.to_string(alloc)?;
+    Ok(lines.push(count.as_bytes())?)
 }
 
 /// `search FORMAT OUTPUT SORT, offset N, limit N, exclude true: QUERY`

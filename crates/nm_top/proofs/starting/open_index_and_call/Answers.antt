@@ -2,8 +2,8 @@ use Rattle.std.proofs.Common.{List, ℕ, refl, subst}
 use Rattle.nm_disk.specs.Observed.{ObservedDisk}
 use Rattle.nm_history.specs.Call.{call_of, devices}
 use Rattle.nm_history.specs.Complete.{IsComplete}
-use Rattle.nm_history.specs.History.{History}
 use Rattle.nm_log.specs.declared.log.Setting.{Setting}
+use Rattle.nm_top.specs.Drill.{CallHistory}
 use Rattle.nm_top.specs.Program.{IsProgram, called, no_index, setting_by}
 use Rattle.nm_top.proofs.ProgramLemmas.{disk-same}
 use Rattle.nm_top.proofs.starting.open_index_and_call.Goals as goal
@@ -25,7 +25,7 @@ returns-in-Ok g c =
     subst (λ (disk : ObservedDisk). IsProgram c.args.start.now c.args.words.now (devices mail disk input out err) after done.result)
     (disk-same (g.D.Disk.observed c.args.disk.now) opened c.in-Ok.ensures.told c.in-Ok.ensures.clock c.in-Ok.ensures.cause)
     (called c.args.leading.now c.requires.read
-    (subst (λ (words : List (List ℕ)). History (call_of words (setting_by c.args.start.now c.args.leading.now) (devices mail opened input out err) after done.result)) c.command_words-command.ensures
-    (subst (λ (s : Setting). History (call_of c.command_words-command.result.now s (devices mail opened input out err) after done.result)) c.setting_by-setting.ensures.value done.ensures.history))
+    (subst (λ (words : List (List ℕ)). CallHistory (call_of words (setting_by c.args.start.now c.args.leading.now) (devices mail opened input out err) after done.result)) c.command_words-command.ensures
+    (subst (λ (s : Setting). CallHistory (call_of c.command_words-command.result.now s (devices mail opened input out err) after done.result)) c.setting_by-setting.ensures.value done.ensures.history))
     (subst (λ (words : List (List ℕ)). IsComplete (call_of words (setting_by c.args.start.now c.args.leading.now) (devices mail opened input out err) after done.result)) c.command_words-command.ensures
     (subst (λ (s : Setting). IsComplete (call_of c.command_words-command.result.now s (devices mail opened input out err) after done.result)) c.setting_by-setting.ensures.value done.ensures.complete)))

@@ -1,0 +1,12 @@
+use Rattle.std.proofs.Common.{ℕ, List, [], ◌∷◌, codes, refl, ap, ◌∙◌}
+use Rattle.nm_drill.specs.Drill.{drill_script}
+use Rattle.nm_top.proofs.DrillLemmas.{log-is, sink_of, source_of}
+use Rattle.nm_top.proofs.drill.run_session.Goals as goal
+
+pub returns : goal.returns
+returns g c =
+    log-is c.args.count c.args.setting.now c.in_ok-mail.mail c.in_ok-disk.disk c.new-input.result c.new-out.result c.new-err.result _ c.read_and_run-done.result
+    c.in_ok-mail.ensures c.in_ok-disk.ensures
+    (c.new-input.ensures ∙ (ap (λ (held : List ℕ). source_of held c.new.result) c.in_ok-script.ensures ∙ ap (source_of drill_script) c.new.ensures))
+    (c.new-out.ensures ∙ ap sink_of c.new-2.ensures) (c.new-err.ensures ∙ ap sink_of c.new-3.ensures)
+    (c.read_and_run-done.ensures (codes "session" ∷ []) refl refl)
