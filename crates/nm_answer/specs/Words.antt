@@ -2,10 +2,10 @@
 -- Cited by `laws` and `nm_eval`.
 use Rattle.std.specs.Prelude.{ℕ, Bool, true, false, ◌&&◌, ◌||◌, ◌==◌, List, [], ◌∷◌, Option, Some, None, nat_eq, if◌then◌else◌}
 use Rattle.std.specs.List.{list_any, starts_with}
+use Rattle.nm_base.specs.FieldNumber.{field_number}
 use Rattle.nm_base.specs.Order.{same_text}
 use Rattle.nm_base.specs.declared.facts.Facts.{Facts}
 use Rattle.nm_base.specs.declared.facts.Field.{Field}
-use Rattle.nm_base.specs.declared.facts.Field.TheVariants.{From, To, Subject, Body, Attachment}
 use Rattle.nm_base.specs.declared.facts.FieldWords.{FieldWords}
 
 -- the word found is the last one that is asked, or begins with it where `starts` is set
@@ -23,14 +23,6 @@ begins_with starts (word ∷ next ∷ words) (found ∷ list) = same_text word f
 abbrev pub has_words : Bool → List (List ℕ) → List (List ℕ) → Bool
 has_words starts words [] = begins_with starts words []
 has_words starts words (found ∷ list) = begins_with starts words (found ∷ list) || has_words starts words list
-
--- the fields by number, to tell them apart
-abbrev pub field_number : Field → ℕ
-field_number From = 0
-field_number To = 1
-field_number Subject = 2
-field_number Body = 3
-field_number Attachment = 4
 
 -- the field is the one that is asked; where none is named, each of the five is
 abbrev pub is_asked : Option Field → Field → Bool

@@ -1,4 +1,5 @@
 pub mod Bounds
+pub mod FieldNumber
 pub mod MailPath
 pub mod MessageId
 pub mod Limits

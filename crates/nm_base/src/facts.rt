@@ -1,5 +1,8 @@
 //! What the index knows of a mail; `nm_extract` makes it, commits and replies take it.
 
+ghost use Rattle.std.specs.Prelude.{◌≡◌};
+ghost use Rattle.nm_base.specs.FieldNumber.{field_number};
+
 use crate::{Copies, Many, MessageId, NoMemory, Text, WordList};
 
 /// Where in a mail a word stands.
@@ -10,6 +13,21 @@ pub enum Field {
     Subject,
     Body,
     Attachment,
+}
+
+impl Field {
+    /// Its place among the five, from 0.
+    pub fn number(self) -> u8
+        ensures { result ≡ field_number self }
+    {
+        match self {
+            Field::From => 0,
+            Field::To => 1,
+            Field::Subject => 2,
+            Field::Body => 3,
+            Field::Attachment => 4,
+        }
+    }
 }
 
 /// A name and an address; either may be empty.

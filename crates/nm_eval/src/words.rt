@@ -2,7 +2,7 @@
 
 ghost use Rattle.std.specs.Prelude.{◌≡◌, ◌≢◌, ◌∷◌, [], ◌&&◌};
 ghost use Rattle.nm_base.specs.Order.{same_text};
-ghost use Rattle.nm_answer.specs.Words.{begins_with, field_number, has_words, is_asked, is_last_word, lists_have};
+ghost use Rattle.nm_answer.specs.Words.{begins_with, has_words, is_asked, is_last_word, lists_have};
 
 use nm_base::{Facts, Field, FieldWords, WordList, Words};
 
@@ -42,20 +42,8 @@ fn is_asked(asked: Option<Field>, field: Field) -> bool
     ensures { result ≡ is_asked asked field }
 {
     match asked {
-        Some(asked) => field_number(asked) == field_number(field),
+        Some(asked) => asked.number() == field.number(),
         None => true,
-    }
-}
-
-fn field_number(field: Field) -> u8
-    ensures { result ≡ field_number field }
-{
-    match field {
-        Field::From => 0,
-        Field::To => 1,
-        Field::Subject => 2,
-        Field::Body => 3,
-        Field::Attachment => 4,
     }
 }
 

@@ -9,9 +9,8 @@ use Rattle.std.proofs.lemmas.List.Folds.{list_any-append, list_any_more}
 use Rattle.nm_base.specs.Bounds.{is_white_space}
 use Rattle.nm_header.specs.declared.header.HeaderField.{HeaderField}
 use Rattle.nm_header.specs.Fields.{begins_field, continues, field_of, fields_in, folded_of, header_of, is_from_line, joined_of, without_from_line}
-use Rattle.nm_header.specs.Laws.{stands_on_one_line}
 use Rattle.nm_header.specs.HeaderLines.{header_lines, is_empty_line}
-use Rattle.nm_text.specs.Lines.{content, is_line_feed, lines_of}
+use Rattle.nm_text.specs.Lines.{content, is_line_feed, is_one_line, lines_of}
 use Rattle.nm_text.specs.WhiteSpace.{trimmed}
 use Rattle.nm_text.specs.Cuts.{is_byte}
 
@@ -103,7 +102,7 @@ body_free line more e f =
     trimmed_free (joined_of line more) (any_both is_line_feed (after_first (is_byte 58) (content line)) (folded_of more) (any_drop is_line_feed (position_or_len (is_byte 58) (content line) + 1) (content line) e) (joined_free (take_while continues more) (any_take broken (prefix_len continues more) more f)))
 
 abbrev whole_fields : List HeaderField → Bool
-whole_fields fields = list_all (λ field. stands_on_one_line field.body) fields
+whole_fields fields = list_all (λ field. is_one_line field.body) fields
 
 fields_free : (lines : List (List ℕ)) → list_any broken lines ≡ false → whole_fields (fields_in lines) ≡ true
 fields_free [] e = refl
@@ -123,6 +122,6 @@ without_free (line ∷ more) e =
       | false ↦ e
     ]
 
-pub bodies_free : (bytes : List ℕ) → list_all (λ field. stands_on_one_line field.body) (header_of bytes).list ≡ true
+pub bodies_free : (bytes : List ℕ) → list_all (λ field. is_one_line field.body) (header_of bytes).list ≡ true
 bodies_free bytes =
     fields_free (without_from_line (header_lines bytes)) (without_free (header_lines bytes) (any_take broken (prefix_len (λ line. not (is_empty_line line)) (lines_of bytes)) (lines_of bytes) (no_line_broken bytes)))

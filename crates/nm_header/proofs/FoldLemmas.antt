@@ -13,11 +13,11 @@ use Rattle.std.proofs.lemmas.List.Folds.{list_all_at, list_any-append, list_any_
 use Rattle.std.proofs.lemmas.List.Sums.{suffix_len_is, take_while-cons}
 use Rattle.nm_base.specs.Bounds.{is_white_space}
 use Rattle.nm_header.specs.declared.header.HeaderField.{HeaderField}
-use Rattle.nm_header.specs.Fields.{begins_field, continues, field_of, fields_in, folded_of, header_of, is_from_line, is_name, is_name_byte, joined_of, name_of, without_from_line}
+use Rattle.nm_header.specs.Fields.{begins_field, continues, field_of, fields_in, folded_of, header_of, is_from_line, is_name, joined_of, name_of, without_from_line}
 use Rattle.nm_header.specs.Laws.{folded, is_line_end}
 use Rattle.nm_header.specs.HeaderLines.{header_lines, is_empty_line}
 use Rattle.nm_text.specs.Lines.{content, is_line_feed, lines_of}
-use Rattle.nm_text.specs.WhiteSpace.{trimmed, trimmed_end}
+use Rattle.nm_text.specs.WhiteSpace.{is_printable, trimmed, trimmed_end}
 use Rattle.nm_header.proofs.HeaderLemmas.{continues_begins_none}
 use Rattle.nm_text.specs.Cuts.{is_byte}
 use Rattle.std.proofs.Math.Bool.{and-false}
@@ -69,28 +69,28 @@ no_carriage_return (b ∷ text) e =
     ap (λ v. v || list_any is_carriage_return text) (or_parts (b == 13) (b == 10) (or_parts (is_line_end b) (list_any is_line_end text) e).0).0 ∙ no_carriage_return text (or_parts (is_line_end b) (list_any is_line_end text) e).1
 
 -- a name's byte is neither white space nor a line's end
-white_in_no_name : (b : ℕ) → is_white_space b ≡ true → is_name_byte b ≡ false
+white_in_no_name : (b : ℕ) → is_white_space b ≡ true → is_printable b ≡ false
 white_in_no_name b e = grind (arith, nat_tests)
 
-no_end_byte : (b : ℕ) → is_name_byte b ≡ true → is_line_end b ≡ false
+no_end_byte : (b : ℕ) → is_printable b ≡ true → is_line_end b ≡ false
 no_end_byte b e = grind (arith, nat_tests)
 
-no_space_byte : (b : ℕ) → is_name_byte b ≡ true → nat_eq 32 b ≡ false
+no_space_byte : (b : ℕ) → is_printable b ≡ true → nat_eq 32 b ≡ false
 no_space_byte b e = grind (arith, nat_tests)
 
-no_blank_byte : (b : ℕ) → is_name_byte b ≡ true → (b == 32 || b == 9) ≡ false
+no_blank_byte : (b : ℕ) → is_printable b ≡ true → (b == 32 || b == 9) ≡ false
 no_blank_byte b e = grind (arith, nat_tests)
 
-no_end_in_name : (name : List ℕ) → list_all is_name_byte name ≡ true → list_any is_line_end name ≡ false
+no_end_in_name : (name : List ℕ) → list_all is_printable name ≡ true → list_any is_line_end name ≡ false
 no_end_in_name [] e = refl
 no_end_in_name (b ∷ name) e =
-    ap (λ v. v || list_any is_line_end name) (no_end_byte b (and_parts (is_name_byte b) (list_all is_name_byte name) e).0) ∙ no_end_in_name name (and_parts (is_name_byte b) (list_all is_name_byte name) e).1
+    ap (λ v. v || list_any is_line_end name) (no_end_byte b (and_parts (is_printable b) (list_all is_printable name) e).0) ∙ no_end_in_name name (and_parts (is_printable b) (list_all is_printable name) e).1
 
-trimmed_name : (name : List ℕ) → list_all is_name_byte name ≡ true → trimmed_end name ≡ name
+trimmed_name : (name : List ℕ) → list_all is_printable name ≡ true → trimmed_end name ≡ name
 trimmed_name name e =
     let last : ℕ = get_or name (length name - 1) 0 in
     let none : 0 < length name → is_white_space last ≡ false = λ h. elim (is_white_space last) as (λ v. is_white_space last ≡ v → v ≡ false) [
-      | true ↦ λ white. absurd (let no : list_all is_name_byte name ≡ false = list_all_at is_name_byte name (length name - 1) 0 (omega arith) (white_in_no_name last white) in let never : true ≡ false = sym e ∙ no in cc)
+      | true ↦ λ white. absurd (let no : list_all is_printable name ≡ false = list_all_at is_printable name (length name - 1) 0 (omega arith) (white_in_no_name last white) in let never : true ≡ false = sym e ∙ no in cc)
       | false ↦ λ black. refl
     ] refl in
     let suffix : suffix_len is_white_space name ≡ length name - length name = suffix_len_is is_white_space name (length name) 0 (omega arith) (λ k h g. absurd (omega arith)) none in
@@ -98,19 +98,19 @@ trimmed_name name e =
     ap (λ n. take n name) kept ∙ take_all (length name) name (omega arith)
 
 -- a line that begins with a name and a colon is not the first of an mbox
-not_from : (word name rest : List ℕ) → list_any (is_byte 58) word ≡ false → list_all is_name_byte name ≡ true → pointwise nat_eq (word ++ 32 ∷ []) (take (suc (length word)) (name ++ 58 ∷ rest)) ≡ false
+not_from : (word name rest : List ℕ) → list_any (is_byte 58) word ≡ false → list_all is_printable name ≡ true → pointwise nat_eq (word ++ 32 ∷ []) (take (suc (length word)) (name ++ 58 ∷ rest)) ≡ false
 not_from [] [] rest w e = refl
-not_from [] (b ∷ name) rest w e = ap (λ v. v && true) (no_space_byte b (and_parts (is_name_byte b) (list_all is_name_byte name) e).0)
+not_from [] (b ∷ name) rest w e = ap (λ v. v && true) (no_space_byte b (and_parts (is_printable b) (list_all is_printable name) e).0)
 not_from (c ∷ word) [] rest w e = ap (λ v. v && pointwise nat_eq (word ++ 32 ∷ []) (take (suc (length word)) rest)) (or_parts (is_byte 58 c) (list_any (is_byte 58) word) w).0
 not_from (c ∷ word) (b ∷ name) rest w e =
-    ap (λ v. nat_eq c b && v) (not_from word name rest (or_parts (is_byte 58 c) (list_any (is_byte 58) word) w).1 (and_parts (is_name_byte b) (list_all is_name_byte name) e).1) ∙ and-false (nat_eq c b)
+    ap (λ v. nat_eq c b && v) (not_from word name rest (or_parts (is_byte 58 c) (list_any (is_byte 58) word) w).1 (and_parts (is_printable b) (list_all is_printable name) e).1) ∙ and-false (nat_eq c b)
 
-some_name : (name : List ℕ) → is_name name ≡ true → list_all is_name_byte name ≡ true
-some_name name e = (and_parts (not (length name == 0)) (list_all is_name_byte name) e).1
+some_name : (name : List ℕ) → is_name name ≡ true → list_all is_printable name ≡ true
+some_name name e = (and_parts (not (length name == 0)) (list_all is_printable name) e).1
 
 no_continuing : (name rest : List ℕ) → is_name name ≡ true → continues (name ++ rest) ≡ false
 no_continuing [] rest e = absurd (cc)
-no_continuing (b ∷ name) rest e = no_blank_byte b (and_parts (is_name_byte b) (list_all is_name_byte name) (some_name (b ∷ name) e)).0
+no_continuing (b ∷ name) rest e = no_blank_byte b (and_parts (is_printable b) (list_all is_printable name) (some_name (b ∷ name) e)).0
 
 still_continues : (back rest : List ℕ) → continues back ≡ true → continues (back ++ rest) ≡ true
 still_continues [] rest e = absurd (cc)

@@ -6,7 +6,7 @@ use Rattle.std.proofs.lemmas.Bool.{eqb-true, or_parts}
 use Rattle.std.proofs.lemmas.List.{append-nil, drop_at, drop_min, length-take-le, take_at, take_min, take-append-drop}
 use Rattle.std.proofs.lemmas.List.Folds.{concat-append, list_any-append}
 use Rattle.nm_text.specs.QuotedStrings.{pair_more, pairs_of, quoted_len}
-use Rattle.nm_header.specs.Mailboxes.{StopsAt, begins_with, lexemes_before, mailbox_lexeme_more, mailbox_lexemes_of}
+use Rattle.nm_header.specs.Mailboxes.{StopsAt, begins_with_any, lexemes_before, mailbox_lexeme_more, mailbox_lexemes_of}
 use Rattle.nm_header.proofs.CutLemmas.{cut-cons, cut-nil}
 use Rattle.nm_header.proofs.DepthLemmas.{neq}
 use Rattle.nm_text.specs.Cuts.{is_byte}
@@ -57,29 +57,29 @@ before_is p (x ∷ before) rest none stop =
 pub record GoneTo (specials text left : List ℕ) (before : List (List ℕ)) : Type 0 where
   pub lexemes : mailbox_lexemes_of text ≡ before ++ mailbox_lexemes_of left
   pub bytes : concat before ++ left ≡ text
-  pub none : list_any (begins_with specials) before ≡ false
+  pub none : list_any (begins_with_any specials) before ≡ false
 
 pub gone_begin : (specials text : List ℕ) → GoneTo specials text text []
 gone_begin specials text = record { lexemes = refl; bytes = refl; none = refl }
 
-begins_front : (specials left : List ℕ) (n : ℕ) → 0 < n → begins_with specials (take n left) ≡ begins_with specials left
+begins_front : (specials left : List ℕ) (n : ℕ) → 0 < n → begins_with_any specials (take n left) ≡ begins_with_any specials left
 begins_front specials left zero h = absurd (omega arith)
 begins_front specials [] (suc n) h = refl
 begins_front specials (b ∷ left) (suc n) h = refl
 
-pub gone_turn : (specials text left behind : List ℕ) (before : List (List ℕ)) (n : ℕ) → GoneTo specials text left before → mailbox_lexemes_of left ≡ take n left ∷ mailbox_lexemes_of (drop n left) → 0 < n → begins_with specials left ≡ false → behind ≡ drop n left → GoneTo specials text behind (before ++ take n left ∷ [])
+pub gone_turn : (specials text left behind : List ℕ) (before : List (List ℕ)) (n : ℕ) → GoneTo specials text left before → mailbox_lexemes_of left ≡ take n left ∷ mailbox_lexemes_of (drop n left) → 0 < n → begins_with_any specials left ≡ false → behind ≡ drop n left → GoneTo specials text behind (before ++ take n left ∷ [])
 gone_turn specials text left behind before n g first some plain b =
     let lexeme : List ℕ = take n left in
     record {
       lexemes = g.lexemes ∙ ap (λ x. before ++ x) first ∙ sym (append_assoc before (lexeme ∷ []) (mailbox_lexemes_of (drop n left))) ∙ ap (λ x. (before ++ lexeme ∷ []) ++ mailbox_lexemes_of x) (sym b);
       bytes = ap (λ x. x ++ behind) (concat-append before (lexeme ∷ []) ∙ ap (λ x. concat before ++ x) (append-nil lexeme)) ∙ append_assoc (concat before) lexeme behind ∙ ap (λ x. concat before ++ (lexeme ++ x)) b ∙ ap (λ x. concat before ++ x) (take-append-drop n left) ∙ g.bytes;
-      none = list_any-append (begins_with specials) before (lexeme ∷ []) ∙ ap (λ v. v || (begins_with specials lexeme || false)) g.none ∙ ap (λ v. v || false) (begins_front specials left n some ∙ plain);
+      none = list_any-append (begins_with_any specials) before (lexeme ∷ []) ∙ ap (λ v. v || (begins_with_any specials lexeme || false)) g.none ∙ ap (λ v. v || false) (begins_front specials left n some ∙ plain);
     }
 
 -- where it stops, at a special or at the end
-gone_stop : (specials text left : List ℕ) (before : List (List ℕ)) → GoneTo specials text left before → length left ≤ length text → position_or_len (begins_with specials) (mailbox_lexemes_of left) ≡ 0 → (0 < length left → begins_with specials left ≡ true) → StopsAt specials text (length text - length left)
+gone_stop : (specials text left : List ℕ) (before : List (List ℕ)) → GoneTo specials text left before → length left ≤ length text → position_or_len (begins_with_any specials) (mailbox_lexemes_of left) ≡ 0 → (0 < length left → begins_with_any specials left ≡ true) → StopsAt specials text (length text - length left)
 gone_stop specials text left before g within stops special =
-    let is : lexemes_before specials text ≡ before = ap (before_first (begins_with specials)) g.lexemes ∙ before_is (begins_with specials) before (mailbox_lexemes_of left) g.none stops in
+    let is : lexemes_before specials text ≡ before = ap (before_first (begins_with_any specials)) g.lexemes ∙ before_is (begins_with_any specials) before (mailbox_lexemes_of left) g.none stops in
     let long : length text ≡ length (concat before) + length left = ap length (sym g.bytes) ∙ length-append (concat before) left in
     let n : ℕ = length text - length left in
     let size : length (concat before) ≡ n = omega arith in
@@ -88,17 +88,17 @@ gone_stop specials text left before g within stops special =
     record {
       bytes = ap concat is ∙ sym front;
       lexemes = g.lexemes ∙ ap (λ x. x ++ mailbox_lexemes_of left) (sym is) ∙ ap (λ x. lexemes_before specials text ++ mailbox_lexemes_of x) (sym back);
-      none = ap (list_any (begins_with specials)) is ∙ g.none;
+      none = ap (list_any (begins_with_any specials)) is ∙ g.none;
       within = omega arith;
-      stop = λ h. ap (begins_with specials) back ∙ special (omega arith);
+      stop = λ h. ap (begins_with_any specials) back ∙ special (omega arith);
     }
 
-pub stop_at : (specials text left : List ℕ) (before : List (List ℕ)) → GoneTo specials text left before → length left ≤ length text → begins_with specials left ≡ true → StopsAt specials text (length text - length left)
+pub stop_at : (specials text left : List ℕ) (before : List (List ℕ)) → GoneTo specials text left before → length left ≤ length text → begins_with_any specials left ≡ true → StopsAt specials text (length text - length left)
 stop_at specials text [] before g within special = absurd (cc)
 stop_at specials text (b ∷ left) before g within special =
-    gone_stop specials text (b ∷ left) before g within (ap (position_or_len (begins_with specials)) (cut-cons mailbox_lexeme_more b left) ∙ ap (λ v. cond (not v) (1 + position_or_len (begins_with specials) (mailbox_lexemes_of (drop (mailbox_lexeme_more b left) left))) 0) special) (λ h. special)
+    gone_stop specials text (b ∷ left) before g within (ap (position_or_len (begins_with_any specials)) (cut-cons mailbox_lexeme_more b left) ∙ ap (λ v. cond (not v) (1 + position_or_len (begins_with_any specials) (mailbox_lexemes_of (drop (mailbox_lexeme_more b left) left))) 0) special) (λ h. special)
 
 pub stop_end : (specials text left : List ℕ) (before : List (List ℕ)) → GoneTo specials text left before → length left ≤ length text → (length left == 0) ≡ true → StopsAt specials text (length text)
 stop_end specials text [] before g within none =
-    subst (StopsAt specials text) (let e : length text - 0 ≡ length text = omega arith in e) (gone_stop specials text [] before g within (ap (position_or_len (begins_with specials)) (cut-nil mailbox_lexeme_more)) (λ h. absurd (omega arith)))
+    subst (StopsAt specials text) (let e : length text - 0 ≡ length text = omega arith in e) (gone_stop specials text [] before g within (ap (position_or_len (begins_with_any specials)) (cut-nil mailbox_lexeme_more)) (λ h. absurd (omega arith)))
 stop_end specials text (b ∷ left) before g within none = absurd (let no : length (b ∷ left) ≡ 0 = eqb-true (length (b ∷ left)) 0 none in omega arith)

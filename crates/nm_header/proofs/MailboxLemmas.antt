@@ -10,7 +10,7 @@ use Rattle.std.proofs.lemmas.List.Splits.{length-slice_split, slice_split-cons_n
 use Rattle.std.proofs.lemmas.Str.{IsCharBoundary-after_ascii, IsCharBoundary-before_ascii, IsCharBoundary-end}
 use Rattle.nm_base.specs.declared.facts.Mailbox.{Mailbox}
 use Rattle.nm_text.specs.WhiteSpace.{without_white_space}
-use Rattle.nm_header.specs.Mailboxes.{StopsAt, after_colon, begins_with, is_angle, is_colon, is_separator, lexemes_before, mailbox_from, mailbox_in, mailbox_lexeme_more, mailbox_lexemes_of, mailbox_of, mailboxes_in, name_ends, part_ends, spaced_of}
+use Rattle.nm_header.specs.Mailboxes.{StopsAt, after_colon, begins_with_any, is_angle, is_colon, is_separator, lexemes_before, mailbox_from, mailbox_in, mailbox_lexeme_more, mailbox_lexemes_of, mailbox_of, mailboxes_in, name_ends, part_ends, spaced_of}
 use Rattle.nm_text.specs.QuotedStrings.{unquoted}
 use Rattle.nm_header.proofs.CutLemmas.{cut-cons, cut-nil}
 use Rattle.nm_header.proofs.DepthLemmas.{neq}
@@ -30,7 +30,7 @@ special_small (s ∷ specials) b small e =
 
 -- the byte at which the lexemes stop
 pub stop_special : (specials text : List ℕ) (n : ℕ) → StopsAt specials text n → n < length text → list_any (λ s. s == get_or text n 0) specials ≡ true
-stop_special specials text n s h = sym (ap (begins_with specials) (drop_more text n 0 h)) ∙ s.stop h
+stop_special specials text n s h = sym (ap (begins_with_any specials) (drop_more text n 0 h)) ∙ s.stop h
 
 pub stop_before : (specials text : List ℕ) (n : ℕ) → list_all (λ s. ltb s 128) specials ≡ true → StopsAt specials text n → IsCharBoundary text n
 stop_before specials text n small s =
@@ -78,19 +78,19 @@ fourth_of false true z w e = absurd (cc)
 fourth_of false false true w e = absurd (cc)
 fourth_of false false false w e = e
 
-no_separator : (t : List ℕ) → begins_with part_ends t ≡ false → is_separator t ≡ false
+no_separator : (t : List ℕ) → begins_with_any part_ends t ≡ false → is_separator t ≡ false
 no_separator [] e = refl
 no_separator (b ∷ t) e = first_two (44 == b) (59 == b) (58 == b) e
 
-no_colon : (t : List ℕ) → begins_with part_ends t ≡ false → is_colon t ≡ false
+no_colon : (t : List ℕ) → begins_with_any part_ends t ≡ false → is_colon t ≡ false
 no_colon [] e = refl
 no_colon (b ∷ t) e = third_of (44 == b) (59 == b) (58 == b) e
 
-pub no_part_end : (t : List ℕ) → begins_with name_ends t ≡ false → begins_with part_ends t ≡ false
+pub no_part_end : (t : List ℕ) → begins_with_any name_ends t ≡ false → begins_with_any part_ends t ≡ false
 no_part_end [] e = refl
 no_part_end (b ∷ t) e = first_three (44 == b) (59 == b) (58 == b) (60 == b) e
 
-pub no_angle : (t : List ℕ) → begins_with name_ends t ≡ false → is_angle t ≡ false
+pub no_angle : (t : List ℕ) → begins_with_any name_ends t ≡ false → is_angle t ≡ false
 no_angle [] e = refl
 no_angle (b ∷ t) e = fourth_of (44 == b) (59 == b) (58 == b) (60 == b) e
 
@@ -150,22 +150,22 @@ colon_after (x ∷ before) c part e =
     ap (λ v. cond v (after_colon (before ++ c ∷ part)) (cond (is_colon x) (before ++ c ∷ part) (x ∷ (before ++ c ∷ part)))) (has_colon before c part e) ∙ colon_after before c part e
 
 -- ---- the mailboxes of a text, part by part
-pub in_end : (lexemes : List (List ℕ)) → list_any (begins_with part_ends) lexemes ≡ false → mailboxes_in lexemes ≡ mailbox_in lexemes
+pub in_end : (lexemes : List (List ℕ)) → list_any (begins_with_any part_ends) lexemes ≡ false → mailboxes_in lexemes ≡ mailbox_in lexemes
 in_end lexemes none =
-    ap (flat_map (λ part. mailbox_in (after_colon part))) (split_whole is_separator lexemes (none_of is_separator (begins_with part_ends) no_separator lexemes none)) ∙ append-nil (mailbox_in (after_colon lexemes)) ∙ ap mailbox_in (colon_none lexemes (none_of is_colon (begins_with part_ends) no_colon lexemes none))
+    ap (flat_map (λ part. mailbox_in (after_colon part))) (split_whole is_separator lexemes (none_of is_separator (begins_with_any part_ends) no_separator lexemes none)) ∙ append-nil (mailbox_in (after_colon lexemes)) ∙ ap mailbox_in (colon_none lexemes (none_of is_colon (begins_with_any part_ends) no_colon lexemes none))
 
-pub in_separator : (lexemes : List (List ℕ)) (t : List ℕ) (rest : List (List ℕ)) → list_any (begins_with part_ends) lexemes ≡ false → is_separator t ≡ true → mailboxes_in (lexemes ++ t ∷ rest) ≡ mailbox_in lexemes ++ mailboxes_in rest
+pub in_separator : (lexemes : List (List ℕ)) (t : List ℕ) (rest : List (List ℕ)) → list_any (begins_with_any part_ends) lexemes ≡ false → is_separator t ≡ true → mailboxes_in (lexemes ++ t ∷ rest) ≡ mailbox_in lexemes ++ mailboxes_in rest
 in_separator lexemes t rest none e =
-    ap (flat_map (λ part. mailbox_in (after_colon part))) (split_after is_separator lexemes t rest (none_of is_separator (begins_with part_ends) no_separator lexemes none) e) ∙ ap (λ x. mailbox_in x ++ mailboxes_in rest) (colon_none lexemes (none_of is_colon (begins_with part_ends) no_colon lexemes none))
+    ap (flat_map (λ part. mailbox_in (after_colon part))) (split_after is_separator lexemes t rest (none_of is_separator (begins_with_any part_ends) no_separator lexemes none) e) ∙ ap (λ x. mailbox_in x ++ mailboxes_in rest) (colon_none lexemes (none_of is_colon (begins_with_any part_ends) no_colon lexemes none))
 
-in_colon : (lexemes : List (List ℕ)) (c : List ℕ) (rest : List (List ℕ)) → list_any (begins_with part_ends) lexemes ≡ false → is_colon c ≡ true → is_separator c ≡ false → mailboxes_in (lexemes ++ c ∷ rest) ≡ mailboxes_in rest
+in_colon : (lexemes : List (List ℕ)) (c : List ℕ) (rest : List (List ℕ)) → list_any (begins_with_any part_ends) lexemes ≡ false → is_colon c ≡ true → is_separator c ≡ false → mailboxes_in (lexemes ++ c ∷ rest) ≡ mailboxes_in rest
 in_colon lexemes c rest none e f =
     let s = split_some is_separator rest in
     let part : List (List ℕ) = s.0 in
     let parts : List (List (List ℕ)) = s.1 in
     let split : slice_split is_separator rest ≡ part ∷ parts = s.2 in
     let front : slice_split is_separator (c ∷ rest) ≡ (c ∷ part) ∷ parts = slice_split-cons_no is_separator c rest f ∙ ap (onto_first c) split in
-    let whole : slice_split is_separator (lexemes ++ c ∷ rest) ≡ (lexemes ++ c ∷ part) ∷ parts = split_front is_separator lexemes (c ∷ rest) (c ∷ part) parts (none_of is_separator (begins_with part_ends) no_separator lexemes none) front in
+    let whole : slice_split is_separator (lexemes ++ c ∷ rest) ≡ (lexemes ++ c ∷ part) ∷ parts = split_front is_separator lexemes (c ∷ rest) (c ∷ part) parts (none_of is_separator (begins_with_any part_ends) no_separator lexemes none) front in
     ap (flat_map (λ x. mailbox_in (after_colon x))) whole ∙ ap (λ x. mailbox_in x ++ flat_map (λ y. mailbox_in (after_colon y)) parts) (colon_after lexemes c part e) ∙ sym (ap (flat_map (λ x. mailbox_in (after_colon x))) split)
 
 special_lexeme : (b : ℕ) (text : List ℕ) → list_any (λ s. s == b) part_ends ≡ true → mailbox_lexeme_more b text ≡ 0
@@ -238,13 +238,13 @@ angle_from text behind b m s e special =
     let before : List (List ℕ) = lexemes_before name_ends text in
     let more : List ℕ = take (mailbox_lexeme_more b behind) behind in
     let rest : List (List ℕ) = mailbox_lexemes_of (drop (mailbox_lexeme_more b behind) behind) in
-    let others : List (List ℕ) = before_first (begins_with part_ends) rest in
+    let others : List (List ℕ) = before_first (begins_with_any part_ends) rest in
     let lexemes : mailbox_lexemes_of text ≡ before ++ (b ∷ more) ∷ rest = s.lexemes ∙ ap (λ x. before ++ mailbox_lexemes_of x) e ∙ ap (λ x. before ++ x) (cut-cons mailbox_lexeme_more b behind) in
-    let no_end : list_any (begins_with part_ends) before ≡ false = none_of (begins_with part_ends) (begins_with name_ends) no_part_end before s.none in
-    let none : list_any is_angle before ≡ false = none_of is_angle (begins_with name_ends) no_angle before s.none in
-    let goes_on : begins_with part_ends (b ∷ more) ≡ false = ap (λ x. list_any (λ s. s == x) part_ends) special in
+    let no_end : list_any (begins_with_any part_ends) before ≡ false = none_of (begins_with_any part_ends) (begins_with_any name_ends) no_part_end before s.none in
+    let none : list_any is_angle before ≡ false = none_of is_angle (begins_with_any name_ends) no_angle before s.none in
+    let goes_on : begins_with_any part_ends (b ∷ more) ≡ false = ap (λ x. list_any (λ s. s == x) part_ends) special in
     let angle : is_angle (b ∷ more) ≡ true = ap (λ x. list_any (λ s. s == x) (60 ∷ [])) special in
-    let part : lexemes_before part_ends text ≡ before ++ (b ∷ more) ∷ others = ap (before_first (begins_with part_ends)) lexemes ∙ before_after (begins_with part_ends) before ((b ∷ more) ∷ rest) no_end ∙ ap (λ x. before ++ x) (before_first-no (begins_with part_ends) (b ∷ more) rest goes_on) in
+    let part : lexemes_before part_ends text ≡ before ++ (b ∷ more) ∷ others = ap (before_first (begins_with_any part_ends)) lexemes ∙ before_after (begins_with_any part_ends) before ((b ∷ more) ∷ rest) no_end ∙ ap (λ x. before ++ x) (before_first-no (begins_with_any part_ends) (b ∷ more) rest goes_on) in
     let stop : position_or_len is_angle ((b ∷ more) ∷ others) ≡ 0 = ap (λ v. cond (not v) (1 + position_or_len is_angle others) 0) angle in
     let front : before_first is_angle (before ++ (b ∷ more) ∷ others) ≡ before = before_is is_angle before ((b ∷ more) ∷ others) none stop in
     let back : drop (position_or_len is_angle (before ++ (b ∷ more) ∷ others)) (before ++ (b ∷ more) ∷ others) ≡ (b ∷ more) ∷ others = drop_before is_angle before ((b ∷ more) ∷ others) none stop in
@@ -267,21 +267,21 @@ angle_at text (b ∷ behind) m s e angle =
 pub mailbox_angle : (text : List ℕ) (m : ℕ) → StopsAt name_ends text m → is_angle (drop m text) ≡ true → mailbox_of (lexemes_before part_ends text) ≡ record { name = spaced_of (unquoted (take m text)); address = without_white_space (before_first (is_byte 62) (drop (m + 1) text)) }
 mailbox_angle text m s angle = angle_at text (drop m text) m s refl angle
 
-stops_too : (text rest : List ℕ) (m : ℕ) → StopsAt name_ends text m → drop m text ≡ rest → is_angle rest ≡ false → position_or_len (begins_with part_ends) (mailbox_lexemes_of rest) ≡ 0
-stops_too text [] m t e angle = ap (position_or_len (begins_with part_ends)) (cut-nil mailbox_lexeme_more)
+stops_too : (text rest : List ℕ) (m : ℕ) → StopsAt name_ends text m → drop m text ≡ rest → is_angle rest ≡ false → position_or_len (begins_with_any part_ends) (mailbox_lexemes_of rest) ≡ 0
+stops_too text [] m t e angle = ap (position_or_len (begins_with_any part_ends)) (cut-nil mailbox_lexeme_more)
 stops_too text (b ∷ behind) m t e angle =
     let long : length (b ∷ behind) ≡ length text - m = sym (ap length e) ∙ length-drop m text in
-    let special : begins_with name_ends (b ∷ behind) ≡ true = sym (ap (begins_with name_ends) e) ∙ t.stop (omega arith) in
-    let ends : begins_with part_ends (b ∷ behind) ≡ true = or_three (44 == b) (59 == b) (58 == b) (60 == b) special angle in
-    ap (position_or_len (begins_with part_ends)) (cut-cons mailbox_lexeme_more b behind) ∙ ap (λ v. cond (not v) (1 + position_or_len (begins_with part_ends) (mailbox_lexemes_of (drop (mailbox_lexeme_more b behind) behind))) 0) ends
+    let special : begins_with_any name_ends (b ∷ behind) ≡ true = sym (ap (begins_with_any name_ends) e) ∙ t.stop (omega arith) in
+    let ends : begins_with_any part_ends (b ∷ behind) ≡ true = or_three (44 == b) (59 == b) (58 == b) (60 == b) special angle in
+    ap (position_or_len (begins_with_any part_ends)) (cut-cons mailbox_lexeme_more b behind) ∙ ap (λ v. cond (not v) (1 + position_or_len (begins_with_any part_ends) (mailbox_lexemes_of (drop (mailbox_lexeme_more b behind) behind))) 0) ends
 
 -- without one
 pub mailbox_plain : (text : List ℕ) (n m : ℕ) → StopsAt part_ends text n → StopsAt name_ends text m → is_angle (drop m text) ≡ false → mailbox_of (lexemes_before part_ends text) ≡ record { name = []; address = without_white_space (take n text) }
 mailbox_plain text n m s t angle =
     let before : List (List ℕ) = lexemes_before name_ends text in
-    let no_end : list_any (begins_with part_ends) before ≡ false = none_of (begins_with part_ends) (begins_with name_ends) no_part_end before t.none in
-    let none : list_any is_angle before ≡ false = none_of is_angle (begins_with name_ends) no_angle before t.none in
-    let same : lexemes_before part_ends text ≡ before = ap (before_first (begins_with part_ends)) t.lexemes ∙ before_is (begins_with part_ends) before (mailbox_lexemes_of (drop m text)) no_end (stops_too text (drop m text) m t refl angle) in
+    let no_end : list_any (begins_with_any part_ends) before ≡ false = none_of (begins_with_any part_ends) (begins_with_any name_ends) no_part_end before t.none in
+    let none : list_any is_angle before ≡ false = none_of is_angle (begins_with_any name_ends) no_angle before t.none in
+    let same : lexemes_before part_ends text ≡ before = ap (before_first (begins_with_any part_ends)) t.lexemes ∙ before_is (begins_with_any part_ends) before (mailbox_lexemes_of (drop m text)) no_end (stops_too text (drop m text) m t refl angle) in
     let front : before_first is_angle before ≡ before = ap (before_first is_angle) (sym (append-nil before)) ∙ before_is is_angle before [] none refl in
     let back : drop (position_or_len is_angle before) before ≡ [] = ap (λ x. drop (position_or_len is_angle x) x) (sym (append-nil before)) ∙ drop_before is_angle before [] none refl in
     ap mailbox_of same ∙ ap (λ x. mailbox_from x (drop (position_or_len is_angle before) before)) front ∙ ap (λ x. mailbox_from before x) back ∙ ap bare (ap concat (sym same) ∙ s.bytes)

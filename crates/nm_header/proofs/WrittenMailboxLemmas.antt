@@ -14,7 +14,7 @@ use Rattle.nm_text.specs.Cuts.{is_byte, len_through}
 use Rattle.nm_text.specs.QuotedStrings.{is_special, pair_more, pairs_of, quoted_len, unquoted, unquoted_pair}
 use Rattle.nm_text.specs.WhiteSpace.{is_all_white_space, without_white_space}
 use Rattle.nm_header.specs.Comments.{comment_len, lexeme_more, lexemes_of, plain_of, shown}
-use Rattle.nm_header.specs.Mailboxes.{begins_with, is_angle, is_some_text, mailbox_from, mailbox_in, mailbox_lexeme_more, mailbox_lexemes_of, mailbox_of, mailboxes_in, mailboxes_of, name_ends, part_ends, spaced_of}
+use Rattle.nm_header.specs.Mailboxes.{begins_with_any, is_angle, is_some_text, mailbox_from, mailbox_in, mailbox_lexeme_more, mailbox_lexemes_of, mailbox_of, mailboxes_in, mailboxes_of, name_ends, part_ends, spaced_of}
 use Rattle.nm_header.specs.WrittenMailboxes.{WrittenMailbox, escaped, is_address_byte, is_spaced, is_unquoted_byte, is_word, is_writable, written_mailbox, written_mailboxes, written_name}
 use Rattle.nm_header.proofs.CutLemmas.{cut-cons, cut-nil}
 use Rattle.nm_header.proofs.LexemeLemmas.{before_is}
@@ -30,7 +30,7 @@ unquoted_free b e = (grind (arith, nat_tests), grind (arith, nat_tests), grind (
 unquoted_angle : (b : ℕ) → is_unquoted_byte b ≡ true → (b == 60) ≡ false
 unquoted_angle b e = grind (arith, nat_tests)
 
-unquoted_ends : (b : ℕ) → is_unquoted_byte b ≡ true → begins_with name_ends (b ∷ []) ≡ false
+unquoted_ends : (b : ℕ) → is_unquoted_byte b ≡ true → begins_with_any name_ends (b ∷ []) ≡ false
 unquoted_ends b e = grind (arith, nat_tests)
 
 address_free : (b : ℕ) → is_address_byte b ≡ true → IsFree b
@@ -317,20 +317,20 @@ lexemes-followed blank written rest w =
     ap (λ l. blank ++ l) (front ∙ sym (append_assoc name ((32 ∷ []) ∷ []) (angled address ∷ others))) ∙ sym (append_assoc blank (name ++ (32 ∷ []) ∷ []) (angled address ∷ others)) ∙ sym (append_assoc (front_lexemes blank written) (angled address ∷ []) others)
 
 -- ---- one mailbox
-none_ends : (name : List ℕ) → list_all is_unquoted_byte name ≡ true → list_any (begins_with name_ends) (map (λ b. b ∷ []) name) ≡ false
+none_ends : (name : List ℕ) → list_all is_unquoted_byte name ≡ true → list_any (begins_with_any name_ends) (map (λ b. b ∷ []) name) ≡ false
 none_ends [] e = refl
 none_ends (b ∷ name) e =
     let both = and_parts (is_unquoted_byte b) (list_all is_unquoted_byte name) e in
-    ap (λ v. v || list_any (begins_with name_ends) (map (λ x. x ∷ []) name)) (unquoted_ends b both.0) ∙ none_ends name both.1
+    ap (λ v. v || list_any (begins_with_any name_ends) (map (λ x. x ∷ []) name)) (unquoted_ends b both.0) ∙ none_ends name both.1
 
-name_inside : (is_quoted : Bool) (name : List ℕ) → (is_quoted || list_all is_unquoted_byte name) ≡ true → list_any (begins_with name_ends) (name_lexemes is_quoted name) ≡ false
+name_inside : (is_quoted : Bool) (name : List ℕ) → (is_quoted || list_all is_unquoted_byte name) ≡ true → list_any (begins_with_any name_ends) (name_lexemes is_quoted name) ≡ false
 name_inside true name e = refl
 name_inside false name e = none_ends name e
 
-front_inside : (blank : List (List ℕ)) (written : WrittenMailbox) → list_any (begins_with name_ends) blank ≡ false → IsWritable written → list_any (begins_with name_ends) (front_lexemes blank written) ≡ false
+front_inside : (blank : List (List ℕ)) (written : WrittenMailbox) → list_any (begins_with_any name_ends) blank ≡ false → IsWritable written → list_any (begins_with_any name_ends) (front_lexemes blank written) ≡ false
 front_inside blank written none w =
     let name : List (List ℕ) = name_lexemes written.is_quoted written.mailbox.name in
-    list_any-append (begins_with name_ends) blank (name ++ (32 ∷ []) ∷ []) ∙ ap (λ v. v || list_any (begins_with name_ends) (name ++ (32 ∷ []) ∷ [])) none ∙ list_any-append (begins_with name_ends) name ((32 ∷ []) ∷ []) ∙ ap (λ v. v || false) (name_inside written.is_quoted written.mailbox.name w.1)
+    list_any-append (begins_with_any name_ends) blank (name ++ (32 ∷ []) ∷ []) ∙ ap (λ v. v || list_any (begins_with_any name_ends) (name ++ (32 ∷ []) ∷ [])) none ∙ list_any-append (begins_with_any name_ends) name ((32 ∷ []) ∷ []) ∙ ap (λ v. v || false) (name_inside written.is_quoted written.mailbox.name w.1)
 
 concat-singles : (name : List ℕ) → concat (map (λ b. b ∷ []) name) ≡ name
 concat-singles [] = refl
@@ -357,7 +357,7 @@ name_read is_next written w =
     let two : spaced_of (unquoted (32 ∷ text)) ≡ name = ap spaced_of (unquoted-byte 32 text refl refl) ∙ spaced_front (unquoted text) ∙ one in
     ap (λ l. spaced_of (unquoted l)) (concat-front (blank_of is_next) written) ∙ elim is_next as (λ v. spaced_of (unquoted (concat (blank_of v) ++ text)) ≡ name) [ true ↦ two | false ↦ one ]
 
-blank_inside : (is_next : Bool) → list_any (begins_with name_ends) (blank_of is_next) ≡ false
+blank_inside : (is_next : Bool) → list_any (begins_with_any name_ends) (blank_of is_next) ≡ false
 blank_inside true = refl
 blank_inside false = refl
 
@@ -371,7 +371,7 @@ mailbox_read is_next written w =
     let front : List (List ℕ) = front_lexemes (blank_of is_next) written in
     let angle : List ℕ = angled written.mailbox.address in
     let make : List ℕ → List ℕ → Mailbox = λ x y. record { name = x; address = y } in
-    let none : list_any is_angle front ≡ false = none_of is_angle (begins_with name_ends) no_angle front (front_inside (blank_of is_next) written (blank_inside is_next) w) in
+    let none : list_any is_angle front ≡ false = none_of is_angle (begins_with_any name_ends) no_angle front (front_inside (blank_of is_next) written (blank_inside is_next) w) in
     let before : before_first is_angle (front ++ angle ∷ []) ≡ front = before_is is_angle front (angle ∷ []) none refl in
     let after : drop (position_or_len is_angle (front ++ angle ∷ [])) (front ++ angle ∷ []) ≡ angle ∷ [] = drop_before is_angle front (angle ∷ []) none refl in
     let address : without_white_space (before_first (is_byte 62) (drop 1 angle)) ≡ written.mailbox.address = ap without_white_space (address_before written.mailbox.address w.2) ∙ address_kept written.mailbox.address w.2 in
@@ -379,11 +379,11 @@ mailbox_read is_next written w =
     let some : is_all_white_space (concat (front ++ angle ∷ [])) ≡ false = ap is_all_white_space (concat-append front (angle ∷ []) ∙ ap (λ l. concat front ++ l) (append-nil angle)) ∙ not_blank (concat front) written.mailbox.address in
     ap (λ v. cond v [] (mailbox_of (front ++ angle ∷ []) ∷ [])) some ∙ ap (λ m. m ∷ []) read
 
-part_inside : (is_next : Bool) (written : WrittenMailbox) → IsWritable written → list_any (begins_with part_ends) (part_lexemes (blank_of is_next) written) ≡ false
+part_inside : (is_next : Bool) (written : WrittenMailbox) → IsWritable written → list_any (begins_with_any part_ends) (part_lexemes (blank_of is_next) written) ≡ false
 part_inside is_next written w =
     let front : List (List ℕ) = front_lexemes (blank_of is_next) written in
-    let none : list_any (begins_with part_ends) front ≡ false = none_of (begins_with part_ends) (begins_with name_ends) no_part_end front (front_inside (blank_of is_next) written (blank_inside is_next) w) in
-    list_any-append (begins_with part_ends) front (angled written.mailbox.address ∷ []) ∙ ap (λ v. v || false) none
+    let none : list_any (begins_with_any part_ends) front ≡ false = none_of (begins_with_any part_ends) (begins_with_any name_ends) no_part_end front (front_inside (blank_of is_next) written (blank_inside is_next) w) in
+    list_any-append (begins_with_any part_ends) front (angled written.mailbox.address ∷ []) ∙ ap (λ v. v || false) none
 
 -- ---- one mailbox after the other
 lexemes-nil : mailbox_lexemes_of [] ≡ []

@@ -1,8 +1,8 @@
 -- Comments (RFC 5322, section 3.2.2) between quoted strings and quoted pairs.
 -- Cited by `comments`, `plain_text` and `nm_extract`.
-use Rattle.std.specs.Prelude.{ℕ, ◌+◌, ◌-◌, Bool, false, ◌==◌, List, [], ◌∷◌, length, map, find, count_by, unwrap_or, if◌then◌else◌}
+use Rattle.std.specs.Prelude.{ℕ, ◌+◌, ◌-◌, Bool, ◌==◌, List, [], ◌∷◌, length, map, find, count_by, unwrap_or, if◌then◌else◌}
 use Rattle.std.specs.List.{concat, flat_map}
-use Rattle.nm_text.specs.Cuts.{cut}
+use Rattle.nm_text.specs.Cuts.{begins_with, cut}
 use Rattle.nm_text.specs.QuotedStrings.{is_special, pair_more, pairs_of, quoted_len}
 
 -- the beginnings of a list, the shortest first
@@ -32,8 +32,7 @@ lexemes_of text = cut lexeme_more text
 
 -- it begins with `(`
 abbrev pub is_comment : List ℕ → Bool
-is_comment [] = false
-is_comment (b ∷ lexeme) = b == 40
+is_comment lexeme = begins_with 40 lexeme
 
 -- a comment is one space
 abbrev pub shown : List ℕ → List ℕ

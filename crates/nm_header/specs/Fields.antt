@@ -1,6 +1,6 @@
 -- Header fields (RFC 5322, sections 2.2 and 2.2.3): one starting line and all continuing lines right after it.
 -- Cited by `field_line`, `header`, `nm_mime` and others.
-use Rattle.std.specs.Prelude.{ℕ, Bool, false, ◌&&◌, ◌||◌, ◌==◌, not, List, [], ◌∷◌, ◌++◌, length, map, nat_le, nat_eq, codes, if◌then◌else◌}
+use Rattle.std.specs.Prelude.{ℕ, Bool, false, ◌&&◌, ◌==◌, not, List, [], ◌∷◌, ◌++◌, length, map, nat_eq, codes, if◌then◌else◌}
 use Rattle.std.specs.Char.{to_ascii_lowercase}
 use Rattle.std.specs.List.{before_first, after_first, concat, list_all, list_any, starts_with, take_while}
 use Rattle.nm_header.specs.declared.header.HeaderField.{HeaderField}
@@ -8,28 +8,24 @@ use Rattle.nm_header.specs.declared.header.HeaderList.{HeaderList}
 use Rattle.nm_header.specs.HeaderLines.{header_lines, rest_of}
 use Rattle.nm_text.specs.Cuts.{is_byte}
 use Rattle.nm_text.specs.Lines.{content}
-use Rattle.nm_text.specs.WhiteSpace.{trimmed, trimmed_end}
+use Rattle.nm_text.specs.WhiteSpace.{is_blank, is_printable, trimmed, trimmed_end}
 
 -- it begins with space or tab
 abbrev pub continues : List ℕ → Bool
 continues [] = false
-continues (b ∷ line) = b == 32 || b == 9
+continues (b ∷ line) = is_blank b
 
 -- it begins with `From `, as the first line of a mail in an mbox does
 abbrev pub is_from_line : List ℕ → Bool
 is_from_line line = starts_with nat_eq line (codes "From ")
 
--- a printable ASCII character that is no space
-abbrev pub is_name_byte : ℕ → Bool
-is_name_byte b = nat_le 33 b && nat_le b 126
-
 -- what stands before the first colon, without white space at its end
 abbrev pub name_of : List ℕ → List ℕ
 name_of line = trimmed_end (before_first (is_byte 58) (content line))
 
--- such characters alone, and at least one
+-- printable characters alone, and at least one
 abbrev pub is_name : List ℕ → Bool
-is_name name = not (length name == 0) && list_all is_name_byte name
+is_name name = not (length name == 0) && list_all is_printable name
 
 -- a line that continues none and has a name before a colon
 abbrev pub begins_field : List ℕ → Bool

@@ -1,9 +1,9 @@
 -- What follows from the definitions: no byte of a header is lost or read twice, and ids and fields that are written are read.
 -- Cited by `laws`.
-use Rattle.std.specs.Prelude.{ℕ, Bool, ◌||◌, ◌==◌, not, List, [], ◌∷◌, ◌++◌, length, take, drop}
-use Rattle.std.specs.List.{concat, flat_map, list_any}
+use Rattle.std.specs.Prelude.{ℕ, Bool, ◌||◌, ◌==◌, List, [], ◌∷◌, ◌++◌, length, take, drop}
+use Rattle.std.specs.List.{concat, flat_map}
 use Rattle.nm_header.specs.HeaderLines.{header_lines, rest_of}
-use Rattle.nm_text.specs.Lines.{is_line_feed, lines_of}
+use Rattle.nm_text.specs.Lines.{lines_of}
 
 -- the empty line after the header, if there is one
 abbrev pub line_after_header : List ℕ → List ℕ
@@ -16,10 +16,6 @@ put_together bytes = concat (header_lines bytes) ++ (line_after_header bytes ++ 
 -- ids as they are written in a field: each in angles, after a blank
 abbrev pub written : List (List ℕ) → List ℕ
 written ids = flat_map (λ id. 32 ∷ 60 ∷ (id ++ 62 ∷ [])) ids
-
--- it has no LF
-abbrev pub stands_on_one_line : List ℕ → Bool
-stands_on_one_line text = not (list_any is_line_feed text)
 
 -- CR or LF
 abbrev pub is_line_end : ℕ → Bool

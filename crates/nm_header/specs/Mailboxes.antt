@@ -19,9 +19,9 @@ abbrev pub mailbox_lexemes_of : List ℕ → List (List ℕ)
 mailbox_lexemes_of text = cut mailbox_lexeme_more text
 
 -- its first byte is one of these specials
-abbrev pub begins_with : List ℕ → List ℕ → Bool
-begins_with specials [] = false
-begins_with specials (b ∷ lexeme) = list_any (λ special. special == b) specials
+abbrev pub begins_with_any : List ℕ → List ℕ → Bool
+begins_with_any specials [] = false
+begins_with_any specials (b ∷ lexeme) = list_any (λ special. special == b) specials
 
 -- a text with a byte
 abbrev pub is_some_text : List ℕ → Bool
@@ -39,7 +39,7 @@ mailbox_from lexemes (angle ∷ more) = record { name = spaced_of (unquoted (con
 
 -- it begins with `<`
 abbrev pub is_angle : List ℕ → Bool
-is_angle lexeme = begins_with (60 ∷ []) lexeme
+is_angle lexeme = begins_with_any (60 ∷ []) lexeme
 
 -- the mailbox of a part with these lexemes
 abbrev pub mailbox_of : List (List ℕ) → Mailbox
@@ -47,11 +47,11 @@ mailbox_of lexemes = mailbox_from (before_first is_angle lexemes) (drop (positio
 
 -- it begins with `,` or `;`
 abbrev pub is_separator : List ℕ → Bool
-is_separator lexeme = begins_with (44 ∷ 59 ∷ []) lexeme
+is_separator lexeme = begins_with_any (44 ∷ 59 ∷ []) lexeme
 
 -- it begins with `:`
 abbrev pub is_colon : List ℕ → Bool
-is_colon lexeme = begins_with (58 ∷ []) lexeme
+is_colon lexeme = begins_with_any (58 ∷ []) lexeme
 
 -- what stands after the last `:`, or all where there is none
 abbrev pub after_colon : List (List ℕ) → List (List ℕ)
@@ -81,15 +81,15 @@ name_ends = 44 ∷ 59 ∷ 58 ∷ 60 ∷ []
 
 -- the lexemes before the first that begins with one of these specials
 abbrev pub lexemes_before : List ℕ → List ℕ → List (List ℕ)
-lexemes_before specials text = before_first (begins_with specials) (mailbox_lexemes_of text)
+lexemes_before specials text = before_first (begins_with_any specials) (mailbox_lexemes_of text)
 
 -- n is how many bytes they have
 pub record StopsAt (specials text : List ℕ) (n : ℕ) : Type 0 where
   pub bytes : concat (lexemes_before specials text) ≡ take n text
   pub lexemes : mailbox_lexemes_of text ≡ lexemes_before specials text ++ mailbox_lexemes_of (drop n text)
-  pub none : list_any (begins_with specials) (lexemes_before specials text) ≡ false
+  pub none : list_any (begins_with_any specials) (lexemes_before specials text) ≡ false
   pub within : n ≤ length text
-  pub stop : n < length text → begins_with specials (drop n text) ≡ true
+  pub stop : n < length text → begins_with_any specials (drop n text) ≡ true
 
 -- a word after the words so far
 abbrev pub added_word : List ℕ → List ℕ → List ℕ

@@ -3,12 +3,13 @@
 ghost use Rattle.std.specs.Prelude.{◌≡◌, IfOk, map, true};
 ghost use Rattle.std.specs.Char.{to_ascii_lowercase};
 ghost use Rattle.std.specs.List.{after_first, list_all, list_any};
-ghost use Rattle.nm_header.specs.Fields.{begins_field, continues, is_from_line, is_name, is_name_byte, name_of};
+ghost use Rattle.nm_header.specs.Fields.{begins_field, continues, is_from_line, is_name, name_of};
 ghost use Rattle.nm_text.specs.Cuts.{is_byte};
 ghost use Rattle.nm_text.specs.Lines.{content};
+ghost use Rattle.nm_text.specs.WhiteSpace.{is_printable};
 
 use nm_base::{NoMemory, Text};
-use nm_text::{after_first, before_first, content, lowercase, text_of, trimmed_end};
+use nm_text::{after_first, before_first, content, is_blank, is_printable, lowercase, text_of, trimmed_end};
 use std::alloc::Global;
 
 /// Whether the line goes on with the field before it.
@@ -17,7 +18,7 @@ pub(crate) fn continues(line: &[u8]) -> bool
 {
     match line {
         [] => false,
-        [first, ..] => *first == b' ' || *first == b'\t',
+        [first, ..] => is_blank(*first),
     }
 }
 
@@ -79,13 +80,7 @@ fn is_name(name: &[u8]) -> bool
 }
 
 fn has_name_bytes(name: &[u8]) -> bool
-    ensures { result ≡ list_all is_name_byte name.now }
+    ensures { result ≡ list_all is_printable name.now }
 {
-    name.iter().all(|b| is_name_byte(*b))
-}
-
-fn is_name_byte(b: u8) -> bool
-    ensures { result ≡ is_name_byte b }
-{
-    33 <= b && b <= 126
+    name.iter().all(|b| is_printable(*b))
 }

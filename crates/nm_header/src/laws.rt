@@ -5,11 +5,12 @@ ghost use Rattle.std.specs.List.{concat, list_all, list_any};
 ghost use Rattle.nm_base.specs.MessageId.{is_message_id};
 ghost use Rattle.nm_header.specs.Fields.{continues, header_of, is_name};
 ghost use Rattle.nm_header.specs.Ids.{ids_of};
-ghost use Rattle.nm_header.specs.Laws.{folded, is_line_end, put_together, stands_on_one_line, written};
+ghost use Rattle.nm_header.specs.Laws.{folded, is_line_end, put_together, written};
 ghost use Rattle.nm_header.specs.Mailboxes.{mailbox_lexemes_of, mailboxes_of};
 ghost use Rattle.nm_header.specs.WrittenMailboxes.{WrittenMailbox, is_writable, written_mailboxes};
 ghost use Rattle.nm_header.specs.Comments.{lexemes_of};
 ghost use Rattle.nm_text.specs.Cuts.{is_byte};
+ghost use Rattle.nm_text.specs.Lines.{is_one_line};
 ghost use Rattle.nm_text.specs.WhiteSpace.{trimmed};
 
 use nm_text::nothing_is_cut_away;
@@ -41,7 +42,7 @@ pub fn written_mailboxes_are_read()
 
 /// No body of a field has an LF, however many lines the field had.
 pub fn a_body_has_no_line_feed()
-    ensures { (bytes : List ℕ) → list_all (λ field. stands_on_one_line field.body) (header_of bytes).list ≡ true }
+    ensures { (bytes : List ℕ) → list_all (λ field. is_one_line field.body) (header_of bytes).list ≡ true }
 {}
 
 /// A body that is folded before a space or tab is read as it was (RFC 5322, section 2.2.3).

@@ -2,7 +2,7 @@
 
 ghost use Rattle.std.specs.Prelude.{◌≡◌, ◌+◌, ◌∷◌, ◌<◌, ◌≤◌, length, min, take, drop};
 ghost use Rattle.std.specs.List.{position_or_len};
-ghost use Rattle.nm_header.specs.Mailboxes.{StopsAt, begins_with, mailbox_lexemes_of};
+ghost use Rattle.nm_header.specs.Mailboxes.{StopsAt, begins_with_any, mailbox_lexemes_of};
 ghost use Rattle.nm_text.specs.Cuts.{is_byte};
 
 use nm_text::{first_place, pair_len, quoted_len};
@@ -13,7 +13,7 @@ pub(crate) fn stop_len(text: &[u8], specials: &[u8]) -> usize
 {
     let mut left = text;
     'lexemes: while !left.is_empty() {
-        if begins_with(left, specials) {
+        if begins_with_any(left, specials) {
             return text.len() - left.len();
         }
         let (_, after) = left.split_at(mailbox_lexeme_len(left));
@@ -22,8 +22,8 @@ pub(crate) fn stop_len(text: &[u8], specials: &[u8]) -> usize
     text.len()
 }
 
-pub(crate) fn begins_with(text: &[u8], specials: &[u8]) -> bool
-    ensures { result ≡ begins_with specials.now text.now }
+pub(crate) fn begins_with_any(text: &[u8], specials: &[u8]) -> bool
+    ensures { result ≡ begins_with_any specials.now text.now }
 {
     match text {
         [] => false,

@@ -8,7 +8,7 @@ ghost use Rattle.nm_header.specs.Mailboxes.{StopsAt, is_angle, lexemes_before, m
 ghost use Rattle.nm_text.specs.Cuts.{is_byte};
 
 use crate::display_name::display_name;
-use crate::mailbox_lexemes::{begins_with, stop_len};
+use crate::mailbox_lexemes::{begins_with_any, stop_len};
 use crate::plain;
 use nm_base::{Mailbox, Many, NoMemory, Text};
 use nm_text::{cut_at, is_all_white_space, without_white_space};
@@ -86,7 +86,7 @@ fn is_angle(text: &[u8], at: usize) -> bool
     ensures { result ≡ is_angle (drop at text.now) }
 {
     let (_, after) = text.split_at(at);
-    begins_with(after, b"<")
+    begins_with_any(after, b"<")
 }
 
 /// What stands before the next `>`, or all.

@@ -1,11 +1,11 @@
 //! A text without its comments, for mailboxes in `mailbox_list` and for dates in `nm_extract`.
 
 ghost use Rattle.std.specs.Prelude.{◌≡◌, ◌++◌, IfOk, OnOk};
-ghost use Rattle.nm_header.specs.Comments.{is_comment, plain_of, shown};
+ghost use Rattle.nm_header.specs.Comments.{plain_of, shown};
 
 use crate::comments::lexeme_len;
 use nm_base::{NoMemory, Text};
-use nm_text::text_of;
+use nm_text::{begins_with, text_of};
 use std::alloc::Global;
 
 /// The text with each comment replaced by one space (RFC 5322, section 3.2.2). Comments nest, a `\`
@@ -28,19 +28,10 @@ pub fn plain(alloc: Global, text: &str) -> Result<Text, NoMemory>
 fn show(lexeme: &[u8], text: &mut Vec<u8>) -> Result<(), NoMemory>
     ensures { OnOk result (text.new.items ≡ text.old.items ++ shown lexeme.now) }
 {
-    if is_comment(lexeme) {
+    if begins_with(b'(', lexeme) {
         text.push(b' ')?;
     } else {
         text.extend_from_slice(lexeme)?;
     }
     Ok(())
-}
-
-fn is_comment(lexeme: &[u8]) -> bool
-    ensures { result ≡ is_comment lexeme.now }
-{
-    match lexeme {
-        [] => false,
-        [first, ..] => *first == b'(',
-    }
 }

@@ -7,9 +7,9 @@ use Rattle.std.specs.Str.Lines.{strip_carriage_return}
 use Rattle.std.proofs.lemmas.Bool.{and_parts, eq-eqb, eqb-true, not-true, or_parts, or_right}
 use Rattle.std.proofs.lemmas.List.{append-nil, drop_all, drop_at, get_or_at, take_all, take_at}
 use Rattle.nm_base.specs.Bounds.{is_white_space}
-use Rattle.nm_text.specs.Lines.{content, is_line_feed, lines_of}
+use Rattle.nm_text.specs.Lines.{content, is_line_feed, is_one_line, lines_of}
 use Rattle.nm_mime.specs.Children.{delimiters_of, ends_part, is_line_of, part_after, part_at, part_len, spans_in, spans_of, stops}
-use Rattle.nm_mime.specs.Laws.{is_kept, is_one_line, line_end, read_parts, written_parts}
+use Rattle.nm_mime.specs.Laws.{is_kept, line_end, read_parts, written_parts}
 use Rattle.nm_mime.specs.Parts.{bytes_in}
 use Rattle.nm_mime.specs.declared.children.Delimiters.{Delimiters}
 use Rattle.nm_mime.specs.declared.children.Span.{Span}

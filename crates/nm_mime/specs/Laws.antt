@@ -6,7 +6,7 @@ use Rattle.std.specs.List.{before_first, concat, list_all, list_any, slice_split
 use Rattle.nm_base.specs.Bounds.{is_white_space}
 use Rattle.nm_mime.specs.Params.{ends_name}
 use Rattle.nm_mime.specs.declared.param_list.Param.{Param}
-use Rattle.nm_text.specs.Lines.{content, is_line_feed, lines_of}
+use Rattle.nm_text.specs.Lines.{content, lines_of}
 use Rattle.nm_mime.specs.Children.{ends_part, is_line_of, spans_of}
 use Rattle.nm_mime.specs.Parts.{bytes_in}
 use Rattle.nm_mime.specs.declared.children.Delimiters.{Delimiters}
@@ -36,10 +36,6 @@ written_parts delimiters (part ∷ more) = delimiters.delimiter ++ (line_end ++ 
 -- with a line end after it none of its lines ends a part
 abbrev pub is_kept : Delimiters → List ℕ → Bool
 is_kept delimiters part = not (list_any (ends_part delimiters) (lines_of (part ++ line_end)))
-
--- it has no LF
-abbrev pub is_one_line : List ℕ → Bool
-is_one_line text = not (list_any is_line_feed text)
 
 -- the parts that are read in a content
 abbrev pub read_parts : Delimiters → List ℕ → List (List ℕ)

@@ -1,13 +1,13 @@
 -- How a part is encoded, whether it is attached, and what becomes of it: the first of eight rules that fits.
 -- Cited by `roles`.
-use Rattle.std.specs.Prelude.{ℕ, Bool, true, false, ◌&&◌, ◌||◌, ◌==◌, not, List, Option, None, Some, nat_le, nat_lt, nat_eq, codes, if◌then◌else◌}
+use Rattle.std.specs.Prelude.{ℕ, Bool, true, false, ◌&&◌, ◌||◌, ◌==◌, not, List, Option, None, Some, nat_lt, nat_eq, codes, if◌then◌else◌}
 use Rattle.std.specs.List.{before_first, list_any, starts_with}
 use Rattle.std.specs.Option.{option_map}
 use Rattle.std.specs.Str.{bytes_eq}
 use Rattle.nm_base.specs.Bounds.{fits_length}
 use Rattle.nm_text.specs.Case.{same_ignoring_case}
 use Rattle.nm_decode.specs.EncodedWords.{words_decoded}
-use Rattle.nm_text.specs.WhiteSpace.{trimmed}
+use Rattle.nm_text.specs.WhiteSpace.{is_printable, trimmed}
 use Rattle.nm_mime.specs.declared.param_list.Param.{Param}
 use Rattle.nm_mime.specs.declared.roles.Encoding.{Encoding}
 use Rattle.nm_mime.specs.declared.roles.Encoding.TheVariants.{Plain, Quoted, Base64}
@@ -28,7 +28,7 @@ is_tspecial b = list_any (λ special. special == b) (codes "()<>@,;:\\\"/[]?=")
 
 -- no character of a token (RFC 2045, section 5.1)
 abbrev pub ends_token : ℕ → Bool
-ends_token b = not (nat_le 33 b && nat_le b 126) || is_tspecial b
+ends_token b = not (is_printable b) || is_tspecial b
 
 -- a Content-Disposition begins with the token `attachment` (RFC 2183, section 2)
 abbrev pub is_attachment : List ℕ → Bool

@@ -1,15 +1,15 @@
 -- Content types (RFC 2045, sections 5.1 and 5.2). Cited by `types`.
-use Rattle.std.specs.Prelude.{ℕ, ◌+◌, Bool, ◌&&◌, ◌||◌, ◌==◌, not, List, [], ◌∷◌, Option, None, Some, length, map, nat_le, nat_lt, unwrap_or, codes, if◌then◌else◌}
+use Rattle.std.specs.Prelude.{ℕ, ◌+◌, Bool, ◌&&◌, ◌||◌, ◌==◌, not, List, [], ◌∷◌, Option, None, Some, length, map, nat_lt, unwrap_or, codes, if◌then◌else◌}
 use Rattle.std.specs.Char.{to_ascii_lowercase}
 use Rattle.std.specs.List.{before_first, position_or_len}
 use Rattle.nm_text.specs.Cuts.{is_byte}
-use Rattle.nm_text.specs.WhiteSpace.{trimmed_start}
+use Rattle.nm_text.specs.WhiteSpace.{is_printable, trimmed_start}
 use Rattle.nm_mime.specs.declared.types.ContentType.{ContentType}
 use Rattle.nm_mime.specs.Params.{params_of}
 
 -- no printable ASCII character, or a `;`
 abbrev pub ends_type : ℕ → Bool
-ends_type b = not (nat_le 33 b && nat_le b 126) || b == 59
+ends_type b = not (is_printable b) || b == 59
 
 -- the characters with which the text begins after white space
 abbrev pub run_of : List ℕ → List ℕ

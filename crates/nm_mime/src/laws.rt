@@ -2,9 +2,9 @@
 
 ghost use Rattle.std.specs.Prelude.{◌≡◌, List, ℕ, ◌∷◌, length, suc, true};
 ghost use Rattle.std.specs.List.{flat_map, list_all};
-ghost use Rattle.nm_text.specs.Lines.{lines_of};
+ghost use Rattle.nm_text.specs.Lines.{is_one_line, lines_of};
 ghost use Rattle.nm_mime.specs.Children.{delimiters_of};
-ghost use Rattle.nm_mime.specs.Laws.{AreApart, GoDown, is_kept, is_one_line, is_writable, parts_between, read_parts, written_params, written_parts};
+ghost use Rattle.nm_mime.specs.Laws.{AreApart, GoDown, is_kept, is_writable, parts_between, read_parts, written_params, written_parts};
 ghost use Rattle.nm_mime.specs.Params.{params_of};
 ghost use Rattle.nm_mime.specs.declared.param_list.Param.{Param};
 ghost use Rattle.nm_mime.specs.Parts.{IsInside, children_of, inside, opening_of, parts_of, parts_upto};

@@ -10,7 +10,7 @@ ghost use Rattle.nm_mime.specs.Roles.{encoding_of, ends_token, filename_of, is_a
 use crate::param_list::{Param, param_text, params};
 use nm_base::{NoMemory, Text};
 use nm_decode::encoded_words;
-use nm_text::{same_ignoring_case, trimmed};
+use nm_text::{is_printable, same_ignoring_case, trimmed};
 use std::alloc::Global;
 
 /// How the content of a part is encoded (RFC 2045, section 6).
@@ -73,10 +73,7 @@ fn token_end(text: &[u8]) -> Option<usize>
 fn ends_token(b: u8) -> bool
     ensures { result ≡ ends_token b }
 {
-    if b < 33 {
-        return true;
-    }
-    if b > 126 {
+    if !is_printable(b) {
         return true;
     }
     is_tspecial(b)

@@ -8,7 +8,7 @@ ghost use Rattle.nm_mime.specs.Types.{content_type_of, default_type, ends_type, 
 
 use crate::param_list::{Param, params};
 use nm_base::{Many, NoMemory, Text};
-use nm_text::{first_place, lowercase, text_of, trimmed_start};
+use nm_text::{first_place, is_printable, lowercase, text_of, trimmed_start};
 use std::alloc::Global;
 
 /// A content type with its parameters.
@@ -93,10 +93,7 @@ fn type_end(text: &[u8]) -> Option<usize>
 fn ends_type(b: u8) -> bool
     ensures { result ≡ ends_type b }
 {
-    if b < 33 {
-        return true;
-    }
-    b > 126 || b == b';'
+    !is_printable(b) || b == b';'
 }
 
 /// Whether the first `/` has something before it and something after it.

@@ -2,22 +2,23 @@
 use Rattle.std.proofs.Common.{◌≡◌, ℕ, zero, suc, ◌<◌, ◌^◌, ℤ, pos, negsuc, Bool, true, false, Option, Some, refl, sym, ap, arith}
 use Rattle.std.specs.Prelude.{FitsSigned}
 use Rattle.std.specs.Int.{w64}
+use Rattle.nm_base.specs.FieldNumber.{field_number}
 use Rattle.nm_base.specs.Limits.{is_date}
 use Rattle.nm_base.specs.declared.facts.Field.{Field}
 use Rattle.nm_base.specs.declared.facts.Field.TheVariants.{From, To, Subject, Body, Attachment}
 use Rattle.nm_base.specs.declared.facts.Marks.{Marks}
-use Rattle.nm_record.specs.Codes.{field_code, field_of, marks_code, marks_of}
+use Rattle.nm_record.specs.Codes.{field_of, marks_code, marks_of}
 
--- the field of a code that was written
-pub field_back : (f : Field) → field_of (field_code f) ≡ Some f
+-- the field of a number that was written
+pub field_back : (f : Field) → field_of (field_number f) ≡ Some f
 field_back From = refl
 field_back To = refl
 field_back Subject = refl
 field_back Body = refl
 field_back Attachment = refl
 
--- the code of a field is a byte
-pub field_is_small : (f : Field) → field_code f < 2 ^ 8
+-- the number of a field is a byte
+pub field_is_small : (f : Field) → field_number f < 2 ^ 8
 field_is_small From = omega arith
 field_is_small To = omega arith
 field_is_small Subject = omega arith
@@ -30,14 +31,14 @@ the a = Some a
 is_the : {A : Type 0} (a b : A) → the a ≡ the b → a ≡ b
 is_the a b e = cc
 
--- the code of a field that was read
-pub field_code_of : (n : ℕ) (f : Field) → field_of n ≡ Some f → field_code f ≡ n
-field_code_of zero f e = ap field_code (sym (is_the From f e))
-field_code_of (suc zero) f e = ap field_code (sym (is_the To f e))
-field_code_of (suc (suc zero)) f e = ap field_code (sym (is_the Subject f e))
-field_code_of (suc (suc (suc zero))) f e = ap field_code (sym (is_the Body f e))
-field_code_of (suc (suc (suc (suc zero)))) f e = ap field_code (sym (is_the Attachment f e))
-field_code_of (suc (suc (suc (suc (suc n))))) f e = absurd cc
+-- the number of a field that was read
+pub field_number_of : (n : ℕ) (f : Field) → field_of n ≡ Some f → field_number f ≡ n
+field_number_of zero f e = ap field_number (sym (is_the From f e))
+field_number_of (suc zero) f e = ap field_number (sym (is_the To f e))
+field_number_of (suc (suc zero)) f e = ap field_number (sym (is_the Subject f e))
+field_number_of (suc (suc (suc zero))) f e = ap field_number (sym (is_the Body f e))
+field_number_of (suc (suc (suc (suc zero)))) f e = ap field_number (sym (is_the Attachment f e))
+field_number_of (suc (suc (suc (suc (suc n))))) f e = absurd cc
 
 abbrev of_three : Bool → Bool → Bool → Marks
 of_three a s e = record { attachment = a; signed = s; encrypted = e }

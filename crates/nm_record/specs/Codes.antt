@@ -4,15 +4,7 @@ use Rattle.nm_base.specs.declared.facts.Field.{Field}
 use Rattle.nm_base.specs.declared.facts.Field.TheVariants.{From, To, Subject, Body, Attachment}
 use Rattle.nm_base.specs.declared.facts.Marks.{Marks}
 
--- the fields in their order, from 0
-abbrev pub field_code : Field → ℕ
-field_code From = 0
-field_code To = 1
-field_code Subject = 2
-field_code Body = 3
-field_code Attachment = 4
-
--- the field that has this code
+-- the field that has this number
 abbrev pub field_of : ℕ → Option Field
 field_of zero = Some From
 field_of (suc zero) = Some To

@@ -11,8 +11,9 @@ use Rattle.nm_base.specs.declared.facts.Facts.{Facts}
 use Rattle.nm_base.specs.declared.facts.Field.{Field}
 use Rattle.nm_base.specs.declared.facts.FieldWords.{FieldWords}
 use Rattle.nm_base.specs.declared.facts.Marks.{Marks}
-use Rattle.nm_record.specs.CodeLaws.{date_fits, field_back, field_code_of, field_is_small, marks_back, marks_code_of, marks_are_small}
-use Rattle.nm_record.specs.Codes.{field_code, field_of, marks_code, marks_of}
+use Rattle.nm_record.specs.CodeLaws.{date_fits, field_back, field_number_of, field_is_small, marks_back, marks_code_of, marks_are_small}
+use Rattle.nm_base.specs.FieldNumber.{field_number}
+use Rattle.nm_record.specs.Codes.{field_of, marks_code, marks_of}
 use Rattle.nm_codec.specs.Grammar.{Grammar, code_grammar, list_grammar, mapped_grammar, pair_grammar, signed_grammar, tested_grammar, text_grammar, words_grammar}
 
 abbrev pub id_grammar : Grammar (List ℕ)
@@ -33,7 +34,7 @@ mailbox_grammar = mapped_grammar mailbox_of (λ mailbox. (mailbox.name, mailbox.
 
 -- a field in one byte
 abbrev pub field_grammar : Grammar Field
-field_grammar = code_grammar field_of field_code field_back field_is_small field_code_of
+field_grammar = code_grammar field_of field_number field_back field_is_small field_number_of
 
 -- the marks in one byte
 abbrev pub marks_grammar : Grammar Marks

@@ -2,7 +2,7 @@
 
 ghost use Rattle.std.specs.Prelude.{◌≡◌, ◌++◌, ◌<◌, ◌^◌, length, min, true, OnOk};
 ghost use Rattle.nm_base.specs.Limits.{is_date, max_count};
-ghost use Rattle.nm_record.specs.Codes.{field_code, marks_code, marks_of};
+ghost use Rattle.nm_record.specs.Codes.{marks_code, marks_of};
 ghost use Rattle.nm_record.specs.Facts.{content_grammar, content_parts, date_grammar, facts_grammar, field_grammar, field_words_grammar, heading_grammar, heading_parts, mailbox_grammar, marks_grammar};
 
 use crate::names::IdFormat;
@@ -70,19 +70,7 @@ impl Format for FieldFormat {
     }
 
     fn write(value: &Field, writer: &mut Writer) -> Result<(), NoMemory> {
-        writer.put_u8(field_code(*value))
-    }
-}
-
-fn field_code(field: Field) -> u8
-    ensures { result ≡ field_code field }
-{
-    match field {
-        Field::From => 0,
-        Field::To => 1,
-        Field::Subject => 2,
-        Field::Body => 3,
-        Field::Attachment => 4,
+        writer.put_u8(value.number())
     }
 }
 

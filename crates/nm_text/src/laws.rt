@@ -1,4 +1,4 @@
-//! What follows from the definitions. These functions run no code: their clauses are the laws, which `nm_header` calls.
+//! What follows from the definitions. These functions run no code: their clauses are the laws; `nm_header` proves its own by the first.
 ghost use Rattle.std.specs.Prelude.{◌≡◌, ◌<◌, ◌+◌, ◌∷◌, List, ℕ, length, take, drop, map};
 ghost use Rattle.std.specs.List.{concat, position_or_len};
 ghost use Rattle.std.specs.Str.Lines.{lines};

@@ -17,6 +17,6 @@ pub use lines::{content, line_len, next_content, next_line};
 pub use quoted_strings::{is_special, pair_len, quoted_len, unquoted};
 pub use utf8::{as_text, text_of};
 pub use white_space::{
-    is_all_white_space, is_blank, is_white_space, trimmed, trimmed_end, trimmed_start,
-    without_white_space,
+    is_all_white_space, is_blank, is_printable, is_white_space, trimmed, trimmed_end,
+    trimmed_start, without_white_space,
 };

@@ -3,7 +3,7 @@
 ghost use Rattle.std.specs.Prelude.{◌≡◌, ◌-◌, ◌≤◌, IfOk, length};
 ghost use Rattle.std.specs.List.{prefix_len, suffix_len};
 ghost use Rattle.nm_base.specs.Bounds.{is_white_space};
-ghost use Rattle.nm_text.specs.WhiteSpace.{is_all_white_space, is_blank, trimmed, trimmed_end, trimmed_start, without_white_space};
+ghost use Rattle.nm_text.specs.WhiteSpace.{is_all_white_space, is_blank, is_printable, trimmed, trimmed_end, trimmed_start, without_white_space};
 
 use crate::utf8::text_of;
 use nm_base::{NoMemory, Text};
@@ -21,6 +21,13 @@ pub fn is_blank(b: u8) -> bool
     ensures { result ≡ is_blank b }
 {
     b == b' ' || b == b'\t'
+}
+
+/// Whether it is a printable ASCII character that is no space.
+pub fn is_printable(b: u8) -> bool
+    ensures { result ≡ is_printable b }
+{
+    33 <= b && b <= 126
 }
 
 /// Whether the bytes are white space alone, or none.
