@@ -1,5 +1,5 @@
 -- Messages by their numbers: one more comes to its place, and in the end they are the live ones that are named.
--- For the proofs of `add_numbered` and `by_numbers`.
+-- For the proofs of `add_numbered`, `by_numbers` and `the_live_ones_stand_at_their_numbers`.
 use Rattle.std.proofs.Common.{◌≡◌, ℕ, zero, suc, ◌<◌, Bool, true, false, ◌||◌, ◌&&◌, cond, List, [], ◌∷◌, ◌++◌, filter, map, length, refl, sym, ap, ◌∙◌, subst, arith}
 use Rattle.std.specs.Prelude.{Contains, slice_index_or}
 use Rattle.std.specs.BTreeMap.{insert_entry}
@@ -197,8 +197,11 @@ none-at : (files : List (List ℕ × Facts)) (entries : List Entry) → at_numbe
 none-at files [] = refl
 none-at files (entry ∷ entries) = none-cond (has_id files entry.0) entry (at_numbers (λ id. has_id files id && has_text [] id) entries) (none-at files entries)
 
+pub none_of_none : (index : Base) → live_at_numbers index [] ≡ []
+none_of_none index = none-at index.files index.entries
+
 pub none_yet : (index : Base) (pairs : List Pair) → pairs ≡ [] → pairs ≡ live_at_numbers index []
-none_yet index pairs none = none ∙ sym (none-at index.files index.entries)
+none_yet index pairs none = none ∙ sym (none_of_none index)
 
 values-by : (ids : List (List ℕ)) (entry : Entry) (pairs : List Pair) (entries : List Entry) (a b : Bool) → has_text ids entry.0 ≡ b → values_of pairs ≡ filter (has_text ids) (map (λ e. e.0) entries)
     → values_of (cond (a && b) ((entry.1, entry.0) ∷ pairs) pairs) ≡ filter (has_text ids) (map (λ e. e.0) (cond a (entry ∷ entries) entries))
@@ -214,6 +217,9 @@ values-are files ids (entry ∷ entries) =
     values-by ids entry (at_numbers (λ id. has_id files id && has_text ids id) entries) (filter (λ e. has_id files e.0) entries) (has_id files entry.0) (has_text ids entry.0) refl (values-are files ids entries)
 
 -- by their numbers they are the live ones of the messages
+pub values_live : (index : Base) (ids : List (List ℕ)) → values_of (live_at_numbers index ids) ≡ filter (has_text ids) (live_ids index.files index.entries)
+values_live index ids = values-are index.files ids index.entries
+
 pub live_are : (index : Base) (ids : List (List ℕ)) (pairs : List Pair) (live : List (List ℕ)) → live ≡ values_of pairs → pairs ≡ live_at_numbers index ids
     → live ≡ filter (has_text ids) (live_ids index.files index.entries)
-live_are index ids pairs live is so_far = is ∙ (ap values_of so_far ∙ values-are index.files ids index.entries)
+live_are index ids pairs live is so_far = is ∙ (ap values_of so_far ∙ values_live index ids)

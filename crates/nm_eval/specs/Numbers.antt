@@ -1,4 +1,4 @@
--- Messages by their numbers, as they are gathered before they are tested. Cited by `numbers`.
+-- Messages by their numbers, as they are gathered before they are tested or tagged. Cited by `numbers` and `nm_writer`.
 use Rattle.std.specs.Prelude.{ℕ, Bool, ◌&&◌, List, [], ◌∷◌, if◌then◌else◌}
 use Rattle.nm_base.specs.Order.{has_text}
 use Rattle.nm_commit.specs.Files.{has_id}

@@ -1,4 +1,4 @@
-//! Messages by their numbers, in which order `matches` tests those that a query names.
+//! Messages by their numbers: in this order `matches` tests those that a query names, and the commits of `nm_writer` set tags.
 
 ghost use Rattle.std.specs.Prelude.{◌≡◌, ◌&&◌, ◌∷◌, ◌++◌, [], ℕ, List, IfOk, OnOk};
 ghost use Rattle.std.specs.List.{filter};
@@ -12,7 +12,7 @@ use std::alloc::Global;
 use std::collections::BTreeMap;
 
 /// Of the messages those that have a file, by their numbers, each once.
-pub(crate) fn by_numbers(
+pub fn by_numbers(
     alloc: Global,
     snapshot: &Snapshot,
     ids: &[MessageId],
@@ -27,8 +27,8 @@ pub(crate) fn by_numbers(
     Ok(Many::from_vec(live))
 }
 
-/// Puts the message at its number, where it has a file.
-fn add_numbered(
+/// Puts the message at its number, where it has a file. `numbered` has those of other ids so far.
+pub fn add_numbered(
     snapshot: &Snapshot,
     id: &MessageId,
     numbered: &mut BTreeMap<u64, MessageId>,

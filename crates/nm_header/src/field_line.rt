@@ -9,7 +9,9 @@ ghost use Rattle.nm_text.specs.Lines.{content};
 ghost use Rattle.nm_text.specs.WhiteSpace.{is_printable};
 
 use nm_base::{NoMemory, Text};
-use nm_text::{after_first, before_first, content, is_blank, is_printable, lowercase, text_of, trimmed_end};
+use nm_text::{
+    after_first, before_first, content, is_blank, is_printable, lowercase, text_of, trimmed_end,
+};
 use std::alloc::Global;
 
 /// Whether the line goes on with the field before it.

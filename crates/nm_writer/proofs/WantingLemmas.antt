@@ -1,20 +1,19 @@
 -- What is wanted, line by line: a line more, and what it finds comes to the messages found before.
 -- For the proofs of `keep_move`, `want_line` and `wanted_by`.
-use Rattle.std.proofs.Common.{◌≡◌, ℕ, ◌+◌, ◌<◌, ℤ, Bool, true, false, ◌||◌, List, [], ◌∷◌, ◌++◌, length, map, take, get_or, refl, sym, ap, ◌∙◌, subst, Result, Ok, Err}
+use Rattle.std.proofs.Common.{◌≡◌, ℕ, ◌+◌, ◌<◌, ℤ, Bool, true, false, ◌||◌, List, [], ◌∷◌, ◌++◌, filter, length, map, take, get_or, refl, sym, ap, ◌∙◌, subst, Result, Ok, Err}
 use Rattle.std.proofs.lemmas.List.{take_more}
 use Rattle.std.proofs.lemmas.List.Sums.{fold-append}
 use Rattle.std.specs.Map.{values_of}
 use Rattle.std.specs.Prelude.{OnOk}
 use Rattle.std.proofs.lemmas.Bool.{or_parts}
 use Rattle.nm_base.specs.Order.{has_text, same_text}
+use Rattle.nm_index.specs.Index.{live_ids}
 use Rattle.nm_index.specs.declared.base.Base.{Base}
 use Rattle.nm_answer.specs.View.{tags_of}
-use Rattle.nm_plan.specs.Numbering.{AreNumbered}
 use Rattle.nm_answer.specs.Tagging.{asked_tags, found_by, line_sets, wanted_after, wanted_by}
 use Rattle.nm_answer.specs.declared.tagging.Tagging.{Tagging}
-use Rattle.nm_writer.specs.Naming.{live_at_numbers}
+use Rattle.nm_eval.specs.Numbers.{live_at_numbers}
 use Rattle.nm_writer.specs.Wanting.{AreTouched}
-use Rattle.nm_writer.proofs.NamingLemmas.{live_are, none_yet}
 
 abbrev Texts : Type 0
 Texts = List (List ℕ)
@@ -29,9 +28,9 @@ pub record InWanting (moment : ℤ) (shown : Base) (lines : List Tagging) (after
   pub pairs_are : pairs ≡ live_at_numbers shown among
   pub others : (id : List ℕ) → has_text among id ≡ false → tags_of after id ≡ tags_of shown id
 
-pub nothing_wanted : (moment : ℤ) (shown after : Base) (pairs : Pairs) → after ≡ shown → pairs ≡ [] → InWanting moment shown [] after pairs
-nothing_wanted moment shown after pairs same none =
-    record { after_is = same; among = []; pairs_are = none_yet shown pairs none; others = λ id apart. ap (λ (i : Base). tags_of i id) same }
+pub nothing_wanted : ((index : Base) → live_at_numbers index [] ≡ []) → (moment : ℤ) (shown after : Base) (pairs : Pairs) → after ≡ shown → pairs ≡ [] → InWanting moment shown [] after pairs
+nothing_wanted law moment shown after pairs same none =
+    record { after_is = same; among = []; pairs_are = none ∙ sym (law shown); others = λ id apart. ap (λ (i : Base). tags_of i id) same }
 
 or-step : (a : Bool) (b c d : Bool) → b ≡ (c || d) → (a || b) ≡ ((a || c) || d)
 or-step true b c d h = refl
@@ -50,9 +49,6 @@ module _ (others : (moment : ℤ) (index : Base) (line : Tagging) (id : List ℕ
 
   same_numbers : (moment : ℤ) (shown : Base) (lines : List Tagging) (after : Base) (pairs : Pairs) → InWanting moment shown lines after pairs → (ids : Texts) → live_at_numbers after ids ≡ live_at_numbers shown ids
   same_numbers moment shown lines after pairs h ids = ap (λ (i : Base). live_at_numbers i ids) (same_but_tags moment shown lines after pairs h)
-
-  pub numbered_still : (moment : ℤ) (shown : Base) (lines : List Tagging) (after : Base) (pairs : Pairs) → InWanting moment shown lines after pairs → AreNumbered shown → AreNumbered after
-  numbered_still moment shown lines after pairs h order = subst AreNumbered (sym (same_but_tags moment shown lines after pairs h)) order
 
   next_wanted : (moment : ℤ) (shown : Base) (lines : List Tagging) (before : Base) (pairs : Pairs) (line : Tagging) (after : Base) (more : Pairs) → InWanting moment shown lines before pairs
       → after ≡ wanted_after moment before line → ((ids : Texts) → pairs ≡ live_at_numbers before ids → more ≡ live_at_numbers before (ids ++ found_by moment before line)) → InWanting moment shown (lines ++ line ∷ []) after more
@@ -76,8 +72,9 @@ module _ (others : (moment : ℤ) (index : Base) (line : Tagging) (id : List ℕ
       (λ ids so_far. put ids so_far ∙ ap (λ (m : ℤ). live_at_numbers before (ids ++ found_by m before line)) same))
 
 -- and so these are the messages that may have other tags
-pub all_touched : (moment : ℤ) (shown : Base) (lines : List Tagging) (after : Base) (pairs : Pairs) (ids : Texts) → InWanting moment shown lines after pairs → ids ≡ values_of pairs → AreTouched shown after ids
-all_touched moment shown lines after pairs ids h are = record { among = h.among; ids_are = live_are shown h.among pairs ids are h.pairs_are; others = h.others }
+pub all_touched : ((index : Base) (ids : Texts) → values_of (live_at_numbers index ids) ≡ filter (has_text ids) (live_ids index.files index.entries))
+    → (moment : ℤ) (shown : Base) (lines : List Tagging) (after : Base) (pairs : Pairs) (ids : Texts) → InWanting moment shown lines after pairs → ids ≡ values_of pairs → AreTouched shown after ids
+all_touched law moment shown lines after pairs ids h are = record { among = h.among; ids_are = are ∙ (ap values_of h.pairs_are ∙ law shown h.among); others = h.others }
 
 -- what a line finds, with the tags that are then wanted
 pub sets_are : (moment passed : ℤ) (before : Base) (line : Tagging) (found seen : Texts) (sets : List (List ℕ × Texts)) → passed ≡ moment → found ≡ found_by passed before line → seen ≡ found

@@ -1,7 +1,6 @@
 pub mod Batch
 pub mod Durable
 pub mod Errors
-pub mod Naming
 pub mod New
 pub mod Opening
 pub mod Renamed

@@ -1,23 +1,19 @@
 //! The tags that the names of files give the messages of a commit; each commit of a `new` ends with them.
 
-ghost use Rattle.std.specs.Prelude.{◌≡◌, ◌++◌, ◌∷◌, [], ℕ, List, IfOk, OnOk, map};
+ghost use Rattle.std.specs.Prelude.{◌≡◌, ◌++◌, IfOk, OnOk};
 ghost use Rattle.std.specs.List.{flat_map};
 ghost use Rattle.nm_commit.specs.Files.{Fits};
 ghost use Rattle.nm_flags.specs.Following.{tags_by_names};
 ghost use Rattle.nm_index.specs.Index.{committed};
 ghost use Rattle.nm_answer.specs.View.{message_paths, tags_of};
-ghost use Rattle.nm_plan.specs.NameTags.{follow_names, live_of, named_tags, set_tags, with_names};
-ghost use Rattle.nm_plan.specs.Numbering.{AreNumbered};
-ghost use Rattle.nm_writer.specs.Naming.{live_at_numbers};
+ghost use Rattle.nm_plan.specs.NameTags.{named_tags, set_tags, with_names};
 
-use crate::reporting::has_message;
 use nm_base::{Copies, MailPath, Many, MessageId, NoMemory, Tags};
 use nm_commit::{Change, Commit};
+use nm_eval::by_numbers;
 use nm_flags::tags_from_names;
-use nm_plan::numbers_stay_in_order;
 use nm_state::Snapshot;
 use std::alloc::Global;
-use std::collections::BTreeMap;
 
 /// The changes, and behind them the tags that the messages with these ids then have by the names of their files, where they have
 /// others.
@@ -27,11 +23,9 @@ pub(crate) fn with_names(
     changes: Many<Change>,
     ids: &[MessageId],
 ) -> Result<Many<Change>, NoMemory>
-    requires numbered { AreNumbered shown.now }
     requires fits { Fits shown.now.files (record { changes = changes }) }
     ensures { IfOk result (λ all. all ≡ with_names shown.now changes ids.now) }
 {
-    numbers_stay_in_order();
     let commit = Commit { changes };
     let after = apply(shown, &commit)?;
     let ids = by_numbers(alloc, &after, ids)?;
@@ -49,44 +43,6 @@ fn apply(shown: &Snapshot, commit: &Commit) -> Result<Snapshot, NoMemory>
         return Err(NoMemory);
     }
     shown.apply(commit)
-}
-
-/// Of the messages those that have a file, by their numbers.
-fn by_numbers(
-    alloc: Global,
-    after: &Snapshot,
-    ids: &[MessageId],
-) -> Result<Many<MessageId>, NoMemory>
-    requires numbered { AreNumbered after.now }
-    ensures { IfOk result (λ live. live ≡ live_of after.now ids.now) }
-{
-    let mut numbered: BTreeMap<u64, MessageId> = BTreeMap::new(alloc);
-    'ids: for id in ids {
-        add_numbered(after, id, &mut numbered)?;
-    }
-    let live: Vec<MessageId> = numbered.into_values().collect(alloc)?;
-    Ok(Many::from_vec(live))
-}
-
-/// Puts the message at its number, where it has a file.
-pub(crate) fn add_numbered(
-    after: &Snapshot,
-    id: &MessageId,
-    numbered: &mut BTreeMap<u64, MessageId>,
-) -> Result<(), NoMemory>
-    requires numbered { AreNumbered after.now }
-    ensures { OnOk result ((ids : List (List ℕ)) → numbered.old.entries ≡ live_at_numbers after.now ids
-        → numbered.new.entries ≡ live_at_numbers after.now (ids ++ id.now ∷ [])) }
-{
-    if !has_message(after, id) {
-        return Ok(());
-    }
-    let Some(number) = after.number(id) else {
-        return Ok(());
-    };
-    let id = id.copy()?;
-    numbered.insert(number, id)?;
-    Ok(())
 }
 
 /// Sets the tags of the messages, where the names of their files say others.

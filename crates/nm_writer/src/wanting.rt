@@ -4,15 +4,13 @@ ghost use Rattle.std.specs.Prelude.{◌≡◌, ◌++◌, ◌<◌, ℕ, List, fal
 ghost use Rattle.nm_answer.specs.Matches.{matches_of};
 ghost use Rattle.nm_dates.specs.Seconds.{IsMoment};
 ghost use Rattle.nm_answer.specs.View.{tags_of};
-ghost use Rattle.nm_plan.specs.Numbering.{AreNumbered};
 ghost use Rattle.nm_answer.specs.Tagging.{asked_tags, found_by, wanted_after, wanted_by};
-ghost use Rattle.nm_writer.specs.Naming.{live_at_numbers};
+ghost use Rattle.nm_eval.specs.Numbers.{live_at_numbers};
 ghost use Rattle.nm_writer.specs.Wanting.{AreTouched};
 
-use crate::naming::add_numbered;
 use nm_answer::Tagging;
 use nm_base::{Copies, Many, MessageId, NoMemory, Steps, Tags};
-use nm_eval::matches;
+use nm_eval::{add_numbered, matches, the_live_ones_stand_at_their_numbers};
 use nm_plan::a_line_tags_what_it_finds;
 use nm_query::Query;
 use nm_state::Snapshot;
@@ -36,12 +34,12 @@ pub(crate) fn wanted_by(
     lines: &[Tagging],
     moment: i64,
 ) -> Result<Wanted, NoMemory>
-    requires numbered { AreNumbered shown.now }
     requires moment { IsMoment moment }
     ensures after { IfOk result (λ wanted. wanted.after ≡ wanted_by moment shown.now lines.now) }
     ensures ids { IfOk result (λ wanted. AreTouched shown.now wanted.after wanted.ids) }
 {
     a_line_tags_what_it_finds();
+    the_live_ones_stand_at_their_numbers();
     let mut after = shown.copy()?;
     let mut numbered: BTreeMap<u64, MessageId> = BTreeMap::new(alloc);
     'lines: for line in lines {
@@ -62,7 +60,6 @@ fn want_line(
     moment: i64,
     numbered: &mut BTreeMap<u64, MessageId>,
 ) -> Result<Snapshot, NoMemory>
-    requires numbered { AreNumbered before }
     requires moment { IsMoment moment }
     ensures after { IfOk result (λ after. after ≡ wanted_after moment before line.now) }
     ensures found { OnOk result ((ids : List (List ℕ)) → numbered.old.entries ≡ live_at_numbers before ids
@@ -81,7 +78,6 @@ fn add_all_numbered(
     found: &[MessageId],
     numbered: &mut BTreeMap<u64, MessageId>,
 ) -> Result<(), NoMemory>
-    requires numbered { AreNumbered before.now }
     ensures { OnOk result ((ids : List (List ℕ)) → numbered.old.entries ≡ live_at_numbers before.now ids
         → numbered.new.entries ≡ live_at_numbers before.now (ids ++ found.now)) }
 {

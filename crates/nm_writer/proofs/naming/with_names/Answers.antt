@@ -2,13 +2,8 @@ use Rattle.std.proofs.Common.{rules, ◌≡◌, [], ◌∷◌, ◌++◌, sym, su
 use Rattle.std.specs.List.{flat_map}
 use Rattle.nm_answer.specs.View.{tags_of}
 use Rattle.nm_plan.specs.NameTags.{live_of, named_tags, set_tags}
-use Rattle.nm_plan.specs.Numbering.{AreNumbered}
 use Rattle.nm_writer.proofs.NamingLemmas.{named-are}
 use Rattle.nm_writer.proofs.naming.with_names.Goals as goal
-
-pub by_numbers-requires : goal.by_numbers-requires
-by_numbers-requires c =
-    record { numbered = subst AreNumbered (sym c.in_ok-after.ensures) (c.numbers_stay_in_order.ensures.kept c.args.shown.now (record { changes = c.args.changes } ∷ []) c.requires.numbered) }
 
 pub returns : goal.returns
 returns c =

@@ -1,5 +1,5 @@
 use Rattle.std.proofs.Common.{◌≡◌, ℕ, List, ◌++◌, take}
-use Rattle.nm_writer.specs.Naming.{live_at_numbers}
+use Rattle.nm_eval.specs.Numbers.{live_at_numbers}
 use Rattle.nm_writer.proofs.wanting.add_all_numbered.Given as goal
 
 abbrev pub invariant-found : goal.invariant-found

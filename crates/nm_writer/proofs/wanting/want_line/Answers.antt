@@ -3,7 +3,7 @@ use Rattle.std.specs.Prelude.{IfOk, IsTrue}
 use Rattle.std.specs.List.{AllByRecursion}
 use Rattle.nm_commit.specs.Files.{has_id}
 use Rattle.nm_answer.specs.Tagging.{found_by, retagged}
-use Rattle.nm_writer.specs.Naming.{live_at_numbers}
+use Rattle.nm_eval.specs.Numbers.{live_at_numbers}
 use Rattle.nm_writer.proofs.WantingLemmas.{always, sets_are}
 use Rattle.nm_writer.proofs.wanting.want_line.Goals as goal
 

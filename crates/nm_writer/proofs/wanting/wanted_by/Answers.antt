@@ -7,7 +7,7 @@ use Rattle.nm_writer.proofs.wanting.wanted_by.Goals as goal
 pub lines-init : goal.lines-init
 lines-init c =
     let moment : ℤ = to_z w64 (of_z w64 c.args.moment) in
-    nothing_wanted moment c.args.shown.now c.in_ok-after.after c.new-numbered.result.entries c.in_ok-after.ensures c.new-numbered.ensures.empty
+    nothing_wanted c.the_live_ones_stand_at_their_numbers.ensures.none moment c.args.shown.now c.in_ok-after.after c.new-numbered.result.entries c.in_ok-after.ensures c.new-numbered.ensures.empty
 
 pub lines-preserved : goal.lines-preserved
 lines-preserved c =
@@ -27,4 +27,4 @@ pub returns-clause-ids : goal.returns-clause-ids
 returns-clause-ids c =
     let moment : ℤ = to_z w64 (of_z w64 c.args.moment) in
     let collected : c.from_vec.result ≡ values_of c.lines.numbered.entries = search rules in
-    all_touched moment c.args.shown.now (take c.lines.line-index c.args.lines.now) c.lines.after c.lines.numbered.entries c.from_vec.result c.lines.invariant collected
+    all_touched c.the_live_ones_stand_at_their_numbers.ensures.live moment c.args.shown.now (take c.lines.line-index c.args.lines.now) c.lines.after c.lines.numbered.entries c.from_vec.result c.lines.invariant collected

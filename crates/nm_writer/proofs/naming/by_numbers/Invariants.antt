@@ -1,7 +1,0 @@
-use Rattle.std.proofs.Common.{◌≡◌, take}
-use Rattle.nm_writer.specs.Naming.{live_at_numbers}
-use Rattle.nm_writer.proofs.naming.by_numbers.Given as goal
-
--- the messages so far stand at their numbers
-abbrev pub invariant-ids : goal.invariant-ids
-invariant-ids l = l.numbered.entries ≡ live_at_numbers l.after (take l.id-index l.ids)
