@@ -55,10 +55,14 @@ pub data Ending : Type 0 where
   Unasked : Outcome → Ending
   Ran : Ending
 
+-- a word is the first of these
+abbrev pub is_first : List ℕ → List (List ℕ) → Bool
+is_first word [] = false
+is_first word (first ∷ more) = same_text first word
+
 -- the call runs a script: its first word is `session`; any other words are a single command
 abbrev pub is_session : List (List ℕ) → Bool
-is_session [] = false
-is_session (word ∷ more) = same_text word (codes "session")
+is_session words = is_first (codes "session") words
 
 -- why words that begin with `session` are refused
 abbrev pub fault_of_session : Result asks.Request CommandError → Option Outcome

@@ -1,4 +1,4 @@
--- The statement of a drill, from its parts. For the proofs of `drill`, `notmuch` and `run_session`.
+-- The statement of a drill, from its parts. For the proofs of `drill`, `notmuch` and `run_its_session`.
 use Rattle.std.proofs.Common.{◌≡◌, ◌⊎◌, inl, inr, ℕ, true, Bool, List, [], ◌∷◌, Err, replicate, codes, sym, ap, subst, ◌∙◌}
 use Rattle.nm_base.specs.declared.refusals.UsageKind.{UsageKind}
 use Rattle.nm_command.specs.Requests.{request_of}

@@ -3,14 +3,13 @@
 use Rattle.std.specs.Prelude.{◌≡◌, ℕ, ◌==◌, Bool, true, false, List, [], ◌∷◌, ◌++◌, length, replicate, Option, None, Some, Ok, Err, codes, if◌then◌else◌}
 use Rattle.std.specs.Fmt.{decimal}
 use Rattle.std.specs.List.{list_all}
-use Rattle.nm_base.specs.Order.{same_text}
 use Rattle.nm_base.specs.declared.refusals.UsageKind.{UsageKind}
 use Rattle.nm_command.specs.Requests.{request_of}
 use Rattle.nm_command.specs.declared.command_error.CommandError.TheVariants.{Usage}
 use Rattle.nm_command.specs.declared.request.Request.TheVariants as asked
 use Rattle.nm_disk.specs.Memory.{fresh_disk, observed_mem}
 use Rattle.nm_drill.specs.Drill.{drill_script, drill_tree}
-use Rattle.nm_history.specs.Call.{Call, Devices, call_of, devices}
+use Rattle.nm_history.specs.Call.{Call, Devices, call_of, devices, is_first}
 use Rattle.nm_history.specs.History.{History}
 use Rattle.nm_history.specs.PrintedOut.{Prints, StreamAppends}
 use Rattle.nm_io.specs.Observed.{ObservedStream}
@@ -25,8 +24,7 @@ use Rattle.nm_top.specs.Ending.{Refuses}
 
 -- the words ask for a drill: the first of them is `drill`
 abbrev pub is_drill : List (List ℕ) → Bool
-is_drill [] = false
-is_drill (word ∷ more) = same_text word (codes "drill")
+is_drill words = is_first (codes "drill") words
 
 -- ---- its session
 

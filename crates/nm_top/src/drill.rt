@@ -86,14 +86,14 @@ fn run<R: Threads + Wait + Sync, O: Sink, E: Sink, G: Gate + Sync>(
     ensures { (words : List (List ℕ)) → request_of words ≡ Ok (asked.Drill count)
         → DrillEnds words setting.now result (O.observed out.old) (O.observed out.new) (E.observed err.old) (E.observed err.new) }
 {
-    match run_session(rt, alloc, count, setting, gate) {
+    match run_its_session(rt, alloc, count, setting, gate) {
         Ok(done) => end(alloc, count, done, out, err),
         Err(NoMemory) => refuse(alloc, err, &Refusal::NoMemory),
     }
 }
 
 /// Runs the session over devices of its own, none of whose calls is to fail.
-fn run_session<R: Threads + Wait + Sync, G: Gate + Sync>(
+fn run_its_session<R: Threads + Wait + Sync, G: Gate + Sync>(
     rt: &R,
     alloc: Global,
     count: u32,

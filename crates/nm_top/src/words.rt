@@ -2,7 +2,7 @@
 //! device is asked.
 
 ghost use Rattle.std.specs.Prelude.{◌≡◌, ◌≢◌, [], ◌∷◌, Some, IfOk, false};
-ghost use Rattle.nm_history.specs.Call.{call_fault, command_reads, fault_of_command, fault_of_input, is_session, single_phase};
+ghost use Rattle.nm_history.specs.Call.{call_fault, command_reads, fault_of_command, fault_of_input, is_first, is_session, single_phase};
 ghost use Rattle.nm_answer.specs.BatchLines.{queries_in, taggings_in};
 ghost use Rattle.nm_answer.specs.DumpReading.{read_dump};
 ghost use Rattle.nm_history.specs.Requests.{bad_line_in, first_bad_line, own_query, query_outcome, refused_line, refused_query, refused_text};
@@ -24,18 +24,21 @@ use std::alloc::Global;
 pub(crate) fn is_session(words: &[Text]) -> bool
     ensures { result ≡ is_session words.now }
 {
-    match words.first() {
-        Some(word) => word.as_str() == "session",
-        None => false,
-    }
+    is_first(words, "session")
 }
 
 /// Whether the words ask for a drill.
 pub(crate) fn is_drill(words: &[Text]) -> bool
     ensures { result ≡ is_drill words.now }
 {
+    is_first(words, "drill")
+}
+
+fn is_first(words: &[Text], word: &str) -> bool
+    ensures { result ≡ is_first word.now words.now }
+{
     match words.first() {
-        Some(word) => word.as_str() == "drill",
+        Some(first) => first.as_str() == word,
         None => false,
     }
 }

@@ -1,7 +1,7 @@
 use Rattle.std.proofs.Common.{ℕ, List, [], ◌∷◌, codes, refl, ap, ◌∙◌}
 use Rattle.nm_drill.specs.Drill.{drill_script}
 use Rattle.nm_top.proofs.DrillLemmas.{log-is, sink_of, source_of}
-use Rattle.nm_top.proofs.drill.run_session.Goals as goal
+use Rattle.nm_top.proofs.drill.run_its_session.Goals as goal
 
 pub returns : goal.returns
 returns g c =
