@@ -1,7 +1,6 @@
 //! The bytes of a record as they are written, which `nm_writer` makes before the disk is touched.
 
-ghost use Rattle.std.specs.Prelude.{◌≡◌, ◌<◌, ◌^◌, ◌++◌, ◌∷◌, [], IfOk, length};
-ghost use Rattle.std.specs.Int.{w32, to_be_bytes};
+ghost use Rattle.std.specs.Prelude.{◌≡◌, ◌<◌, ◌^◌, ◌++◌, ◌∷◌, [], ℕ, List, IfOk, length};
 ghost use Rattle.nm_journal.specs.Frame.{framed};
 
 use nm_base::{Many, NoMemory};
@@ -31,19 +30,21 @@ impl Frame {
         requires { length body.now < 2 ^ 32 }
         ensures { IfOk result (λ frame. frame ≡ body.now) }
     {
+        let len = body.len() as u32;
         let mut bytes = Vec::with_capacity(alloc, body.len() + 5)?;
+        bytes.extend_from_slice(&len.to_be_bytes())?;
         bytes.extend_from_slice(body.as_slice())?;
-        Frame::of(Many::from_vec(bytes))
+        bytes.push(0)?;
+        Ok(Frame::of_bytes(Many::from_vec(bytes)))
     }
 
-    /// The frame of a body, made in the memory of the body, which gains 5 bytes.
-    #[tactic(auto, using(crate::proofs::FrameLemmas::body_framed, crate::proofs::FrameLemmas::is_framed, crate::proofs::FrameLemmas::short_framed))]
-    pub fn of(body: Many<u8>) -> Result<Frame, NoMemory>
-        requires { length body < 2 ^ 32 }
-        ensures { IfOk result (λ frame. frame ≡ body) }
+    /// The frame that these bytes are: the length of a body in four bytes, the body, and a closed gate.
+    #[tactic(auto, using(crate::proofs::FrameLemmas::is_framed_body, crate::proofs::FrameLemmas::short_framed_body, crate::proofs::FrameLemmas::has_framed_body))]
+    pub fn of_bytes(bytes: Many<u8>) -> Frame
+        requires { (body : List ℕ) × (bytes ≡ framed body) × (length body < 2 ^ 32) }
+        ensures { (body : List ℕ) → bytes ≡ framed body → result ≡ body }
     {
-        let bytes = framed(body)?;
-        Ok(Frame { bytes })
+        Frame { bytes }
     }
 
     /// The body, and the closed gate behind it.
@@ -68,19 +69,4 @@ impl Frame {
     {
         self.bytes.as_slice()
     }
-}
-
-/// The bytes that frame a body: the gate and the length are put behind it, and the length is turned to the front.
-#[tactic(auto, using(crate::proofs::FrameLemmas::turned))]
-fn framed(body: Many<u8>) -> Result<Many<u8>, NoMemory>
-    requires { length body < 2 ^ 32 }
-    ensures { IfOk result (λ bytes. bytes ≡ framed body) }
-{
-    let len = body.len() as u32;
-    let mut bytes = body.into_vec();
-    bytes.reserve_exact(5)?;
-    bytes.push(0)?;
-    bytes.extend_from_slice(&len.to_be_bytes())?;
-    bytes.as_mut_slice().rotate_right(4);
-    Ok(Many::from_vec(bytes))
 }

@@ -1,6 +1,6 @@
 -- Parameters of a header field (RFC 2045, section 5.1), read generously: `;name=value`, the value a run or a quoted string.
 -- Cited by `param_list` and `types`.
-use Rattle.std.specs.Prelude.{ℕ, zero, suc, Bool, false, ◌||◌, ◌==◌, List, [], ◌∷◌, ◌++◌, Option, length, map, take, drop, find, unwrap_or, if◌then◌else◌}
+use Rattle.std.specs.Prelude.{ℕ, zero, suc, Bool, ◌||◌, ◌==◌, List, [], ◌∷◌, ◌++◌, Option, length, map, take, drop, find, unwrap_or, if◌then◌else◌}
 use Rattle.std.specs.Char.{to_ascii_lowercase}
 use Rattle.std.specs.List.{after_first, before_first, list_any, position_or_len}
 use Rattle.std.specs.Option.{option_map}

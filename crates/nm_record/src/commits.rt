@@ -1,6 +1,6 @@
 //! Commits in bytes: `nm_writer` has the journal keep them, and reads them back where it replays.
 
-ghost use Rattle.std.specs.Prelude.{◌≡◌, ◌&&◌, ◌<◌, ◌^◌, ℕ, List, length, min, nat_lt, true, IfOk};
+ghost use Rattle.std.specs.Prelude.{◌≡◌, ◌&&◌, ◌++◌, ◌<◌, ◌^◌, ℕ, List, length, min, nat_lt, true, IfOk, OnOk};
 ghost use Rattle.std.specs.List.{list_all};
 ghost use Rattle.nm_base.specs.Limits.{max_count};
 ghost use Rattle.nm_base.specs.declared.facts.Facts.{Facts};
@@ -26,13 +26,21 @@ pub fn commit_len(commit: &Commit) -> u64
     CommitFormat::len(commit)
 }
 
+/// Writes the one spelling of a commit, which has fewer than 2 ^ 32 bytes.
+pub fn write_commit(commit: &Commit, writer: &mut Writer) -> Result<(), NoMemory>
+    requires { length (commit_grammar.bytes commit.now) < 2 ^ 32 }
+    ensures { OnOk result (writer.new ≡ writer.old ++ commit_grammar.bytes commit.now) }
+{
+    CommitFormat::write(commit, writer)
+}
+
 /// The one spelling of a commit, which has fewer than 2 ^ 32 bytes.
 pub fn commit_bytes(alloc: Global, commit: &Commit) -> Result<Many<u8>, NoMemory>
     requires { length (commit_grammar.bytes commit.now) < 2 ^ 32 }
     ensures { IfOk result (λ bytes. bytes ≡ commit_grammar.bytes commit.now) }
 {
     let mut writer = Writer::new(alloc);
-    CommitFormat::write(commit, &mut writer)?;
+    write_commit(commit, &mut writer)?;
     Ok(writer.finish())
 }
 

@@ -1,6 +1,6 @@
 //! One commit, which every command makes so: `new`, `naming` and `tagging` call it.
 
-ghost use Rattle.std.specs.Prelude.{◌≡◌, false, length, min, true, IfErr, IfOk, IfSome, None, OnOk};
+ghost use Rattle.std.specs.Prelude.{◌≡◌, ◌<◌, ◌^◌, false, length, min, true, IfErr, IfOk, IfSome, None, OnOk};
 ghost use Rattle.std.specs.Arc.{arc_value};
 ghost use Rattle.nm_base.specs.Limits.{max_count};
 ghost use Rattle.nm_commit.specs.Files.{Fits};
@@ -22,7 +22,7 @@ use nm_commit::Commit;
 use nm_disk::{Disk, DiskFault, FileNo};
 use nm_journal::Frame;
 use nm_plan::{files_stay_apart, numbers_stay_in_order};
-use nm_record::{commit_bytes, commit_len};
+use nm_record::{commit_len, write_commit};
 use nm_state::{RoomError, Snapshot};
 use std::alloc::Global;
 use std::sync::{Arc, Wait};
@@ -133,9 +133,20 @@ fn prepared(
         return Err(WriteError::Limit(Limit::CommitBytes));
     }
     let next = shared(alloc, next_snapshot(shown, commit)?)?;
-    let body = commit_bytes(alloc, commit)?;
-    let frame = Frame::of(body)?;
+    let frame = framed(alloc, commit)?;
     Ok((frame, next))
+}
+
+/// The record of a commit, made in one piece.
+fn framed(alloc: Global, commit: &Commit) -> Result<Frame, NoMemory>
+    requires { length (commit_grammar.bytes commit.now) < 2 ^ 32 }
+    ensures { IfOk result (λ frame. frame ≡ commit_grammar.bytes commit.now) }
+{
+    let mut bytes = nm_codec::Writer::new(alloc);
+    bytes.put_u32(commit_len(commit) as u32)?;
+    write_commit(commit, &mut bytes)?;
+    bytes.put_u8(0)?;
+    Ok(Frame::of_bytes(bytes.finish()))
 }
 
 /// The snapshot after the commit, or the first limit that it would pass.
