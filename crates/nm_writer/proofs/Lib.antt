@@ -6,6 +6,7 @@ pub mod DurableLemmas
 pub mod EntryLemmas
 pub mod LawLemmas
 pub mod MailLemmas
+pub mod MergeLemmas
 pub mod NamingLemmas
 pub mod NewLemmas
 pub mod RenamingLemmas

@@ -16,7 +16,7 @@ use Rattle.nm_base.specs.OrderLaws.{IsSorted-sorted, above_all, turned}
 use Rattle.nm_base.specs.SetLaws.{bytes_same, has_text-filter, has_text-sorted}
 
 -- who is below all is none of them
-lacks : (text : List ℕ) (texts : List (List ℕ)) → AllByRecursion (λ y. slice_cmp nat_cmp text y ≡ Less) texts → has_text texts text ≡ false
+pub lacks : (text : List ℕ) (texts : List (List ℕ)) → AllByRecursion (λ y. slice_cmp nat_cmp text y ≡ Less) texts → has_text texts text ≡ false
 lacks text [] below = refl
 lacks text (y ∷ texts) below = ap (λ b. b || has_text texts text) (texts_ties text y ∙ ap is_eq below.0) ∙ lacks text texts below.1
 

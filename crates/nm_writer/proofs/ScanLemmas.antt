@@ -1,9 +1,13 @@
--- What a scan asks, notes and finds, from its parts. For the proofs of `compare`, `gone_paths` and `Writer::take_in`.
-use Rattle.std.proofs.Common.{◌≡◌, inr, ℕ, not, List, [], ◌∷◌, ◌++◌, Option, None, Some, Ok, IfSome, filter, take, refl, sym, ap, ◌∙◌, subst, append-nil, arith}
+-- What a scan asks, notes and finds, from its parts. For the proofs of `compare`, `compared`, `gone_ids` and others.
+use Rattle.std.proofs.Common.{◌≡◌, inr, ℕ, Bool, true, false, ◌||◌, ◌&&◌, ◌==◌, not, cond, length, List, [], ◌∷◌, ◌++◌, Option, None, Some, Ok, IfSome, filter, take, refl, sym, ap, ◌∙◌, subst, append-nil, arith}
 use Rattle.nm_answer.specs.NewText.{gone}
-use Rattle.nm_base.specs.Order.{IsSorted, has_text}
+use Rattle.std.specs.Cmp.Lexicographic.{nat_list_eq_equiv}
+use Rattle.std.proofs.Math.Bool.{or-true}
+use Rattle.std.proofs.lemmas.Bool.{eqb-true}
+use Rattle.nm_base.specs.Order.{IsSorted, has_text, same_text, sorted}
+use Rattle.nm_base.specs.SetLaws.{has_text-filter, has_text-sorted}
 use Rattle.nm_base.specs.declared.facts.Facts.{Facts}
-use Rattle.nm_commit.specs.Files.{has_path}
+use Rattle.nm_commit.specs.Files.{has_path, paths_of}
 use Rattle.nm_maildir.specs.Observed.{ObservedMail}
 use Rattle.nm_maildir.specs.Tree.{Tree}
 use Rattle.nm_maildir.specs.declared.given.Given.{Given}
@@ -47,12 +51,71 @@ read_none mail given paths = record {
   tree = refl;
 }
 
--- the paths of the index that are not listed, once none is left to look at
-pub gone-end : (files : List (List ℕ × Facts)) (listed paths start rest found : List (List ℕ)) → IsSorted paths → ((path : List ℕ) → has_text paths path ≡ has_path files path) → start ≡ paths → rest ≡ []
-    → found ++ filter (λ path. not (has_text listed path)) rest ≡ filter (λ path. not (has_text listed path)) start → found ≡ gone files listed
-gone-end files listed paths start rest found sorted same begins none so_far =
-    sym (append-nil found) ∙ (ap (λ (l : List (List ℕ)). found ++ filter (λ path. not (has_text listed path)) l) (sym none)
-    ∙ (so_far ∙ ap (filter (λ path. not (has_text listed path))) (begins ∙ paths-are files paths sorted same)))
+-- the paths of the index, once none is left to look at
+pub known-end : (files : List (List ℕ × Facts)) (paths start rest known : List (List ℕ)) → IsSorted paths → ((path : List ℕ) → has_text paths path ≡ has_path files path) → start ≡ paths → rest ≡ []
+    → known ++ rest ≡ start → known ≡ sorted (paths_of files)
+known-end files paths start rest known rising same begins none so_far =
+    sym (append-nil known) ∙ (ap (λ (l : List (List ℕ)). known ++ l) (sym none) ∙ (so_far ∙ (begins ∙ paths-are files paths rising same)))
+
+pub known-rising : (paths start rest known : List (List ℕ)) → IsSorted paths → start ≡ paths → rest ≡ [] → known ++ rest ≡ start → IsSorted known
+known-rising paths start rest known rising begins none so_far =
+    subst IsSorted (sym (sym (append-nil known) ∙ (ap (λ (l : List (List ℕ)). known ++ l) (sym none) ∙ (so_far ∙ begins)))) rising
+
+-- a path is known where a file of the index lies there
+known-at : (files : List (List ℕ × Facts)) (path : List ℕ) → has_text (sorted (paths_of files)) path ≡ has_path files path
+known-at files path = has_text-sorted (paths_of files) path
+
+filter_by : (p q : List ℕ → Bool) → ((text : List ℕ) → p text ≡ q text) → (texts : List (List ℕ)) → filter p texts ≡ filter q texts
+filter_by p q same [] = refl
+filter_by p q same (text ∷ texts) =
+    ap (λ (b : Bool). cond b (text ∷ filter p texts) (filter p texts)) (same text) ∙ ap (λ (l : List (List ℕ)). cond (q text) (text ∷ l) l) (filter_by p q same texts)
+
+-- what is listed and not known is to be read
+pub unknown-are : (files : List (List ℕ × Facts)) (listed known paths others found : List (List ℕ)) → known ≡ sorted (paths_of files) → paths ≡ listed → others ≡ known
+    → found ≡ filter (λ path. not (has_text others path)) paths → found ≡ to_read files listed
+unknown-are files listed known paths others found is paths_are others_are found_is =
+    found_is
+    ∙ (ap (λ (l : List (List ℕ)). filter (λ path. not (has_text l path)) paths) (others_are ∙ is)
+    ∙ (filter_by (λ path. not (has_text (sorted (paths_of files)) path)) (λ path. not (has_path files path)) (λ path. ap not (known-at files path)) paths
+    ∙ ap (to_read files) paths_are))
+
+-- what is known and not listed is gone
+pub gone-are : (files : List (List ℕ × Facts)) (listed known paths others found : List (List ℕ)) → known ≡ sorted (paths_of files) → paths ≡ known → others ≡ listed
+    → found ≡ filter (λ path. not (has_text others path)) paths → found ≡ gone files listed
+gone-are files listed known paths others found is paths_are others_are found_is =
+    found_is ∙ (ap (λ (l : List (List ℕ)). filter (λ path. not (has_text l path)) paths) others_are ∙ ap (filter (λ path. not (has_text listed path))) (paths_are ∙ is))
+
+-- where none is gone, no file is unlisted
+is-there : (b : Bool) → not b ≡ false → b ≡ true
+is-there true h = refl
+is-there false h = absurd cc
+
+listed-at : (files : List (List ℕ × Facts)) (listed : List (List ℕ)) → gone files listed ≡ [] → (path : List ℕ) → has_path files path ≡ true → has_text listed path ≡ true
+listed-at files listed none path there =
+    let kept = has_text-filter (λ p. not (has_text listed p)) (sorted (paths_of files)) path in
+    let out : (has_text (sorted (paths_of files)) path && not (has_text listed path)) ≡ false = sym kept ∙ ap (λ (l : List (List ℕ)). has_text l path) none in
+    is-there (has_text listed path) (sym (ap (λ b. b && not (has_text listed path)) (known-at files path ∙ there)) ∙ out)
+
+first-there : (file : List ℕ × Facts) (all : List (List ℕ × Facts)) → has_path (file ∷ all) file.0 ≡ true
+first-there file all = ap (λ b. b || has_path all file.0) (nat_list_eq_equiv.refl file.0)
+
+more-there : (file : List ℕ × Facts) (all : List (List ℕ × Facts)) (path : List ℕ) → has_path all path ≡ true → has_path (file ∷ all) path ≡ true
+more-there file all path there = ap (λ b. same_text path file.0 || b) there ∙ or-true (same_text path file.0)
+
+unremoved : (files all : List (List ℕ × Facts)) (listed : List (List ℕ)) → ((path : List ℕ) → has_path files path ≡ true → has_text listed path ≡ true)
+    → ((path : List ℕ) → has_path all path ≡ true → has_path files path ≡ true) → removed_files all listed ≡ []
+unremoved files [] listed are within = refl
+unremoved files (file ∷ all) listed are within =
+    ap (λ (b : Bool). cond (not b) (file ∷ removed_files all listed) (removed_files all listed)) (are file.0 (within file.0 (first-there file all)))
+    ∙ unremoved files all listed are (λ path there. within path (more-there file all path there))
+
+none-of : (texts : List (List ℕ)) → (length texts == 0) ≡ true → texts ≡ []
+none-of [] h = refl
+none-of (text ∷ texts) h = absurd (let no : length (text ∷ texts) ≡ 0 = eqb-true (length (text ∷ texts)) 0 h in omega arith)
+
+pub none-removed : (files : List (List ℕ × Facts)) (listed away ids : List (List ℕ)) → away ≡ gone files listed → (length away == 0) ≡ true → ids ≡ [] → ids ≡ message_ids (removed_files files listed)
+none-removed files listed away ids is none empty =
+    empty ∙ sym (ap message_ids (unremoved files files listed (listed-at files listed (sym is ∙ none-of away none)) (λ path there. there)))
 
 -- the listing and the first of the paths were asked
 pub asked_reading : (old mid new : ObservedMail) (files : List (List ℕ × Facts)) (before noted0 given : List Given) (listed paths : List (List ℕ)) → mid.tree ≡ old.tree → mid.reads ≡ old.reads → before ≡ [] → noted0 ≡ before ++ givens.Listed listed ∷ []

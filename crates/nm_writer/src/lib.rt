@@ -4,6 +4,7 @@
 
 mod committing;
 mod laws;
+mod merging;
 mod naming;
 mod new;
 mod open_error;

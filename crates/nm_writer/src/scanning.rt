@@ -2,7 +2,8 @@
 
 ghost use Rattle.std.specs.Prelude.{◌≡◌, ◌∷◌, ◌++◌, [], Err, IfErr, IfOk, OnErr, OnOk};
 ghost use Rattle.nm_answer.specs.NewText.{gone};
-ghost use Rattle.nm_base.specs.Order.{IsSorted};
+ghost use Rattle.nm_base.specs.Order.{IsSorted, sorted};
+ghost use Rattle.nm_commit.specs.Files.{paths_of};
 ghost use Rattle.nm_plan.specs.Plan.{message_ids, removed_files, to_read};
 ghost use Rattle.nm_scan.specs.Listing.{PassesListing};
 ghost use Rattle.nm_scan.specs.Walking.{is_scan_fault};
@@ -11,6 +12,7 @@ ghost use Rattle.nm_faults.specs.Faults.{HasCauseOf};
 ghost use Rattle.nm_scan.specs.Scanning.{AsksNew};
 ghost use Rattle.nm_writer.specs.New.{HasListed};
 
+use crate::merging::only_in;
 use nm_base::{Copies, MailPath, Many, MessageId, NoMemory, TextSet};
 use nm_maildir::{Given, Maildir};
 use nm_scan::{ScanError, list_paths};
@@ -47,9 +49,25 @@ pub(crate) fn compare<M: Maildir>(
         Err(error) => return Err(error),
     };
     note_listed(alloc, &listed, given)?;
-    let unknown = unknown_paths(alloc, shown, &listed)?;
-    let gone = gone_paths(alloc, shown, &listed)?;
-    let gone_ids = gone_ids(alloc, shown, &listed)?;
+    let compared = compared(alloc, shown, &listed)?;
+    Ok(compared)
+}
+
+/// The paths of the listing and those of the index, passed side by side.
+fn compared(
+    alloc: Global,
+    shown: &Snapshot,
+    listed: &TextSet<MailPath>,
+) -> Result<Compared, NoMemory>
+    ensures unknown { IfOk result (λ compared. compared.unknown ≡ to_read shown.now.files listed.now) }
+    ensures gone { IfOk result (λ compared. compared.gone ≡ gone shown.now.files listed.now) }
+    ensures ids { IfOk result (λ compared. compared.gone_ids ≡ message_ids (removed_files shown.now.files listed.now)) }
+{
+    let paths = listed.to_list(alloc)?;
+    let known = known_paths(alloc, shown)?;
+    let unknown = only_in(alloc, paths.as_slice(), known.as_slice())?;
+    let gone = only_in(alloc, known.as_slice(), paths.as_slice())?;
+    let gone_ids = gone_ids(alloc, shown, listed, &gone)?;
     Ok(Compared {
         unknown,
         gone,
@@ -71,53 +89,36 @@ fn note_listed(
     Ok(())
 }
 
-/// The listed paths at which the index has no file.
-fn unknown_paths(
-    alloc: Global,
-    shown: &Snapshot,
-    listed: &TextSet<MailPath>,
-) -> Result<Many<MailPath>, NoMemory>
-    ensures { IfOk result (λ paths. paths ≡ to_read shown.now.files listed.now) }
+/// The paths of the index, in order.
+fn known_paths(alloc: Global, shown: &Snapshot) -> Result<Many<MailPath>, NoMemory>
+    ensures paths { IfOk result (λ known. known ≡ sorted (paths_of shown.now.files)) }
+    ensures rising { IfOk result (λ known. IsSorted known) }
 {
-    let mut unknown = Many::new(alloc);
-    'paths: for path in listed.iter() {
-        if !shown.has_path(path) {
-            unknown.push(path.copy()?)?;
-        }
+    let mut known = Many::new(alloc);
+    'paths: for path in shown.paths() {
+        known.push(path.copy()?)?;
     }
-    Ok(unknown)
+    Ok(known)
 }
 
-/// The messages of the files that are not listed, in the order of their arrival.
+/// The messages of the files that are not listed, in the order of their arrival. Where no path is gone, no file is looked at.
 fn gone_ids(
     alloc: Global,
     shown: &Snapshot,
     listed: &TextSet<MailPath>,
+    gone: &Many<MailPath>,
 ) -> Result<Many<MessageId>, NoMemory>
+    requires { gone.now ≡ gone shown.now.files listed.now }
     ensures { IfOk result (λ ids. ids ≡ message_ids (removed_files shown.now.files listed.now)) }
 {
     let mut ids = Many::new(alloc);
+    if gone.is_empty() {
+        return Ok(ids);
+    }
     'files: for file in shown.files_in_order() {
         if !listed.contains(file.0) {
             ids.push(file.1.id.copy()?)?;
         }
     }
     Ok(ids)
-}
-
-/// The paths of the index that are not listed.
-fn gone_paths(
-    alloc: Global,
-    shown: &Snapshot,
-    listed: &TextSet<MailPath>,
-) -> Result<Many<MailPath>, NoMemory>
-    ensures { IfOk result (λ paths. paths ≡ gone shown.now.files listed.now) }
-{
-    let mut gone = Many::new(alloc);
-    'paths: for path in shown.paths() {
-        if !listed.contains(path) {
-            gone.push(path.copy()?)?;
-        }
-    }
-    Ok(gone)
 }

@@ -8,20 +8,8 @@ returns-in-Err-clause-asked g c = inl (c.requires, c.list_paths.ensures.reads)
 pub returns-in_err-note_listed-clause-asked : goal.returns-in_err-note_listed-clause-asked
 returns-in_err-note_listed-clause-asked g c = inl (c.in_err-note_listed.ensures.err ∙ c.requires, c.list_paths.ensures.reads)
 
-pub returns-in_err-unknown-clause-asked : goal.returns-in_err-unknown-clause-asked
-returns-in_err-unknown-clause-asked g c =
-    let mail = g.M.Maildir in
-    asked_listing _ (mail.observed c.list_paths.new.mail) c.args.shown.now.files c.args.given.now c.note_listed.new.given c.in-Ok.listed
-    c.list_paths.ensures.tree c.list_paths.ensures.reads c.requires c.in_ok-note_listed.ensures.ok c.in_ok-note_listed.ensures.rising c.in-Ok.ensures.listed
-
-pub returns-in_err-gone-clause-asked : goal.returns-in_err-gone-clause-asked
-returns-in_err-gone-clause-asked g c =
-    let mail = g.M.Maildir in
-    asked_listing _ (mail.observed c.list_paths.new.mail) c.args.shown.now.files c.args.given.now c.note_listed.new.given c.in-Ok.listed
-    c.list_paths.ensures.tree c.list_paths.ensures.reads c.requires c.in_ok-note_listed.ensures.ok c.in_ok-note_listed.ensures.rising c.in-Ok.ensures.listed
-
-pub returns-in_err-gone_ids-clause-asked : goal.returns-in_err-gone_ids-clause-asked
-returns-in_err-gone_ids-clause-asked g c =
+pub returns-in_err-compared-clause-asked : goal.returns-in_err-compared-clause-asked
+returns-in_err-compared-clause-asked g c =
     let mail = g.M.Maildir in
     asked_listing _ (mail.observed c.list_paths.new.mail) c.args.shown.now.files c.args.given.now c.note_listed.new.given c.in-Ok.listed
     c.list_paths.ensures.tree c.list_paths.ensures.reads c.requires c.in_ok-note_listed.ensures.ok c.in_ok-note_listed.ensures.rising c.in-Ok.ensures.listed
@@ -29,7 +17,7 @@ returns-in_err-gone_ids-clause-asked g c =
 pub returns-clause-ok : goal.returns-clause-ok
 returns-clause-ok g c =
     has_listed (g.M.Maildir.observed c.args.mail.now).tree c.args.shown.now.files c.args.given.now c.note_listed.new.given c.in-Ok.listed _ _ _
-    c.requires c.in_ok-note_listed.ensures.ok c.in_ok-note_listed.ensures.rising c.in-Ok.ensures.listed c.in_ok-unknown.ensures c.in_ok-gone.ensures c.in_ok-gone_ids.ensures
+    c.requires c.in_ok-note_listed.ensures.ok c.in_ok-note_listed.ensures.rising c.in-Ok.ensures.listed c.in_ok-compared.ensures.unknown c.in_ok-compared.ensures.gone c.in_ok-compared.ensures.ids
 
 pub returns-clause-mail : goal.returns-clause-mail
 returns-clause-mail g c = same_mail _ _ c.list_paths.ensures.tree c.list_paths.ensures.reads c.in-Ok.ensures.cause

@@ -1,0 +1,9 @@
+use Rattle.std.proofs.Common.{rules, ◌≡◌, length, arith}
+use Rattle.nm_journal.specs.Frame.{framed}
+use Rattle.nm_record.specs.CommitGrammar.{commit_grammar}
+use Rattle.nm_writer.proofs.committing.framed.Goals as goal
+
+pub of_bytes-requires : goal.of_bytes-requires
+of_bytes-requires c =
+    let is : c.finish.result ≡ framed (commit_grammar.bytes c.args.commit.now) = search rules in
+    (commit_grammar.bytes c.args.commit.now, is, c.requires)
