@@ -1,4 +1,4 @@
--- What a scan asks, notes and finds, from its parts. For the proofs of `compare`, `compared`, `gone_ids` and others.
+-- What a scan asks, notes and finds, from its parts. For the proofs of `compare`, `gone_ids`, `side_by_side` and others.
 use Rattle.std.proofs.Common.{◌≡◌, inr, ℕ, Bool, true, false, ◌||◌, ◌&&◌, ◌==◌, not, cond, length, List, [], ◌∷◌, ◌++◌, Option, None, Some, Ok, IfSome, filter, take, refl, sym, ap, ◌∙◌, subst, append-nil, arith}
 use Rattle.nm_answer.specs.NewText.{gone}
 use Rattle.std.specs.Cmp.Lexicographic.{nat_list_eq_equiv}

@@ -49,12 +49,12 @@ pub(crate) fn compare<M: Maildir>(
         Err(error) => return Err(error),
     };
     note_listed(alloc, &listed, given)?;
-    let compared = compared(alloc, shown, &listed)?;
+    let compared = side_by_side(alloc, shown, &listed)?;
     Ok(compared)
 }
 
 /// The paths of the listing and those of the index, passed side by side.
-fn compared(
+fn side_by_side(
     alloc: Global,
     shown: &Snapshot,
     listed: &TextSet<MailPath>,
@@ -106,13 +106,13 @@ fn gone_ids(
     alloc: Global,
     shown: &Snapshot,
     listed: &TextSet<MailPath>,
-    gone: &Many<MailPath>,
+    away: &Many<MailPath>,
 ) -> Result<Many<MessageId>, NoMemory>
-    requires { gone.now ≡ gone shown.now.files listed.now }
+    requires { away.now ≡ gone shown.now.files listed.now }
     ensures { IfOk result (λ ids. ids ≡ message_ids (removed_files shown.now.files listed.now)) }
 {
     let mut ids = Many::new(alloc);
-    if gone.is_empty() {
+    if away.is_empty() {
         return Ok(ids);
     }
     'files: for file in shown.files_in_order() {

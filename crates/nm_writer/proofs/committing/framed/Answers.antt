@@ -7,3 +7,8 @@ pub of_bytes-requires : goal.of_bytes-requires
 of_bytes-requires c =
     let is : c.finish.result ≡ framed (commit_grammar.bytes c.args.commit.now) = search rules in
     (commit_grammar.bytes c.args.commit.now, is, c.requires)
+
+pub returns : goal.returns
+returns c =
+    let is : c.finish.result ≡ framed (commit_grammar.bytes c.args.commit.now) = search rules in
+    c.of_bytes.ensures (commit_grammar.bytes c.args.commit.now) is

@@ -1,6 +1,6 @@
 use Rattle.std.proofs.Common.{rules, ◌≡◌}
 use Rattle.nm_writer.proofs.ScanLemmas.{gone-are, unknown-are}
-use Rattle.nm_writer.proofs.scanning.compared.Goals as goal
+use Rattle.nm_writer.proofs.scanning.side_by_side.Goals as goal
 
 pub returns-clause-unknown : goal.returns-clause-unknown
 returns-clause-unknown c =
