@@ -1,4 +1,4 @@
-use Rattle.std.proofs.Common.{rules, ◌≡◌, length, arith}
+use Rattle.std.proofs.Common.{rules, ◌≡◌}
 use Rattle.nm_journal.specs.Frame.{framed}
 use Rattle.nm_record.specs.CommitGrammar.{commit_grammar}
 use Rattle.nm_writer.proofs.committing.framed.Goals as goal

@@ -1,4 +1,4 @@
-use Rattle.std.proofs.Common.{rules, ◌≡◌, [], ◌∷◌, ◌++◌, sym, subst}
+use Rattle.std.proofs.Common.{rules, ◌≡◌, ◌++◌}
 use Rattle.std.specs.List.{flat_map}
 use Rattle.nm_answer.specs.View.{tags_of}
 use Rattle.nm_plan.specs.NameTags.{live_of, named_tags, set_tags}

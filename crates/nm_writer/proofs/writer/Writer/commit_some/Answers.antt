@@ -13,10 +13,11 @@ returns-then-is_empty-clause-after g c =
     let none = no-commit c.args.self.now.shown c.args.changes c.args.ids.now (eqb-true _ _ (sym c.is_empty.ensures ∙ c.if-is_empty.true)) in
     subst (λ (l : List Commit). HasCommitted c.args.self.now l c.args.self.now) (sym none) (none-made c.args.self.now)
 
-pub with_names-requires-clause-fits : goal.with_names-requires-clause-fits
-with_names-requires-clause-fits g c =
-    subst (λ (b : Base). Fits b.files (record { changes = c.args.changes })) (sym c.snapshot.ensures)
-    (front-fits c.args.self.now.shown c.args.changes c.args.ids.now (eqb-false _ _ (sym c.is_empty.ensures ∙ c.if-is_empty.false)) c.requires.fit)
+pub with_names-requires : goal.with_names-requires
+with_names-requires g c = record {
+  fits = subst (λ (b : Base). Fits b.files (record { changes = c.args.changes })) (sym c.snapshot.ensures)
+      (front-fits c.args.self.now.shown c.args.changes c.args.ids.now (eqb-false _ _ (sym c.is_empty.ensures ∙ c.if-is_empty.false)) c.requires.fit);
+}
 
 pub returns-clause-after : goal.returns-clause-after
 returns-clause-after g c =
