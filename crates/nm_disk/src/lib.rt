@@ -15,6 +15,3 @@ pub use disk::{Disk, DiskFault, DiskFolder, FileNo};
 pub use file_disk::FileDisk;
 pub use mem_disk::MemDisk;
 pub use stopping::Pick;
-
-#[cfg(test)]
-mod tests;

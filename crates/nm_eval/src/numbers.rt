@@ -27,7 +27,7 @@ pub fn by_numbers(
     Ok(Many::from_vec(live))
 }
 
-/// Puts the message at its number, where it has a file. `numbered` has those of other ids so far.
+/// Puts the message at its number, where it has a file. `numbered` has those of the ids so far.
 pub fn add_numbered(
     snapshot: &Snapshot,
     id: &MessageId,

@@ -17,6 +17,3 @@ pub use source::Source;
 pub use std_sink::StdSink;
 pub use std_source::StdSource;
 pub use taking::{TakeError, take_all};
-
-#[cfg(test)]
-mod tests;

@@ -12,6 +12,3 @@ mod words;
 pub use laws::lines_are_told_where_they_stand;
 pub use phase::{LaneWork, run_phase};
 pub use script::{Phase, Script, ScriptError, ScriptLine, read_script};
-
-#[cfg(test)]
-mod tests;

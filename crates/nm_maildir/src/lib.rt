@@ -18,6 +18,3 @@ pub use given::{Given, ReadAnswer};
 pub use maildir::{MailFolder, Maildir};
 pub use shift_tree::ShiftTree;
 pub use still_tree::StillTree;
-
-#[cfg(test)]
-mod tests;

@@ -20,6 +20,3 @@ pub use reader::Reader;
 pub use shower::Shower;
 pub use shown::Shown;
 pub use starting::{Started, start};
-
-#[cfg(test)]
-mod tests;

@@ -13,6 +13,3 @@ pub use gate::{Gate, OpenGate};
 pub use job::Job;
 pub use map::map_jobs;
 pub use meet_gate::MeetGate;
-
-#[cfg(test)]
-mod tests;

@@ -1,4 +1,4 @@
-//! A job over many inputs, by several workers, as the `tests` have it done.
+//! A job over many inputs, by several workers, as `nm_scan` has it done.
 
 ghost use Rattle.std.specs.Prelude.{◌<◌, ◌≤◌, IfOk, All};
 ghost use Rattle.std.specs.List.{AllZip};

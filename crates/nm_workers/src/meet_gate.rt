@@ -1,4 +1,4 @@
-//! The gate of tests, here and in `nm_publish` and `nm_lanes`: of two seats, the one that comes first waits for the
+//! The gate by which `rows_system` and `rows_index` tell that two seats worked at once: of the two, the one that comes first waits for the
 //! other, for a number of turns.
 
 ghost use Rattle.std.specs.Prelude.{◌≢◌};
