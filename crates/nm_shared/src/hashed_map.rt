@@ -62,7 +62,7 @@ fn found<'a, K: Hashed, V>(
     ensures { MatchOption result (slot_value K.cmp K.hash places.now slots.now key.now ≡ None) (λ found. (at (K.hash key.now) places.now ≡ Some found.0) × (at found.0 slots.now ≡ Some found.1.now) × (is_eq (K.cmp key.now found.1.now.0) ≡ true)) }
 {
     let slot = places.get(key.hash_code())?;
-    let pair = slots.get(&slot)?;
+    let pair = slots.get_numbered(&slot)?;
     if key.cmp(&pair.0) == Ordering::Equal {
         Some((slot, pair))
     } else {
@@ -92,7 +92,7 @@ fn is_taken<K: Hashed, V>(places: &Places, slots: &SharedMap<u64, (K, V)>, code:
 {
     match places.get(code) {
         None => false,
-        Some(slot) => slots.get(&slot).is_some(),
+        Some(slot) => slots.get_numbered(&slot).is_some(),
     }
 }
 

@@ -73,7 +73,7 @@ impl Places {
     pub fn get(&self, hash: u64) -> Option<u64>
         ensures { result ≡ at hash self.now }
     {
-        if let Some(slot) = self.late.get(&hash) {
+        if let Some(slot) = self.late.get_spread(&hash) {
             return Some(*slot);
         }
         self.older.get(hash)
@@ -126,10 +126,10 @@ impl Older {
     fn get(&self, hash: u64) -> Option<u64>
         ensures { result ≡ at hash self.now }
     {
-        if let Some(slot) = self.middle.get(&hash) {
+        if let Some(slot) = self.middle.get_spread(&hash) {
             return Some(*slot);
         }
-        Some(*self.early.get(&hash)?)
+        Some(*self.early.get_spread(&hash)?)
     }
 
     fn share(&self) -> Result<Older, NoMemory>

@@ -12,7 +12,7 @@ const MAX_RUN: usize = 64;
 
 /// For each of many runs the last one may have so many items. Items that rise fill it, and a second handle counts fewer runs
 /// then: their number rises with the root of that of the items.
-const LAST_PER_RUN: usize = 8;
+const LAST_PER_RUN: usize = 3;
 
 /// So many runs are many.
 const MANY_RUNS: usize = 64;

@@ -1,7 +1,7 @@
 //! Where a key stands among blocks of pairs: `shared_map` asks it for each look-up, and `room` for a new pair.
 
-ghost use Rattle.std.specs.Prelude.{◌≡◌, ◌≢◌, ◌-◌, ◌<◌, ℕ, true, false, length, slice_index_or};
-ghost use Rattle.std.specs.declared.cmp.Ordering.TheVariants.{Equal, Less};
+ghost use Rattle.std.specs.Prelude.{◌≡◌, ◌≢◌, ◌-◌, ◌<◌, ◌≤◌, ℕ, true, false, length, slice_index_or};
+ghost use Rattle.std.specs.declared.cmp.Ordering.TheVariants.{Equal, Greater, Less};
 ghost use Rattle.std.specs.List.Sorted.{IsStrictlySortedBy};
 ghost use Rattle.std.specs.Map.{keys_of};
 ghost use Rattle.nm_shared.specs.Runs.{flat, run_at, HaveItems};
@@ -52,12 +52,77 @@ fn is_in_last<K: Ord, V>(runs: &[Run<(K, V)>], key: &K) -> bool
     }
 }
 
-/// How many keys of a run are below `key`.
-pub fn place_of<K: Ord, V>(items: &[(K, V)], key: &K) -> usize
+/// A way to find a key in a run. All find the same place, at different costs.
+pub trait Seek<K: Ord> {
+    /// How many keys of the run are below `key`.
+    fn place_of<V>(&self, items: &[(K, V)], key: &K) -> usize
+        ensures { IsPlaceOf K.cmp key.now items.now result };
+}
+
+/// By halves.
+#[derive(Clone, Copy, Debug)]
+pub struct Halves;
+
+impl<K: Ord> Seek<K> for Halves {
+    fn place_of<V>(&self, items: &[(K, V)], key: &K) -> usize {
+        place_between(items, key, 0, items.len())
+    }
+}
+
+/// By guesses, of numbers of which so many of 2^64 are keys, or about so many: of hashes as many as the map has, of numbers
+/// that follow one another all. What a guess costs is time alone.
+#[derive(Clone, Copy, Debug)]
+pub struct Guesses {
+    pub keys: u64,
+}
+
+/// So many guesses are made before the rest is halved. Of a million hashes four or five find the place.
+const MAX_GUESSES: u32 = 12;
+
+impl Guesses {
+    /// How many keys lie within such a distance.
+    fn within(&self, distance: u64) -> usize {
+        (u128::from(distance).wrapping_mul(u128::from(self.keys)) >> 64) as usize
+    }
+}
+
+impl Seek<u64> for Guesses {
+    fn place_of<V>(&self, items: &[(u64, V)], key: &u64) -> usize {
+        let mut low = 0;
+        let mut high = items.len();
+        let mut guess = 0;
+        'guesses: for _ in 0..MAX_GUESSES {
+            if low >= high {
+                return low;
+            }
+            let at = high.saturating_sub(1).min(low.max(guess));
+            let found = items[at].0;
+            let count = self.within(key.abs_diff(found));
+            match key.cmp(&found) {
+                Ordering::Greater => {
+                    low = at + 1;
+                    guess = low.saturating_add(count);
+                }
+                _ => {
+                    high = at;
+                    guess = high.saturating_sub(count.saturating_add(1));
+                }
+            }
+        }
+        place_between(items, key, low, high)
+    }
+}
+
+/// How many keys of a run are below `key`, where as many as `low` are and at most `high`.
+fn place_between<K: Ord, V>(items: &[(K, V)], key: &K, low: usize, high: usize) -> usize
+    requires order { low ≤ high }
+    requires within { high ≤ length items.now }
+    requires before { (entry : K × V) → 0 < low → K.cmp key.now (slice_index_or items.now (low - 1) entry).0 ≡ Greater }
+    requires after { (entry : K × V) → high < length items.now → K.cmp key.now (slice_index_or items.now high entry).0 ≢ Greater }
     ensures { IsPlaceOf K.cmp key.now items.now result }
 {
-    let mut low = 0;
-    let mut high = items.len();
+    let mut low = low;
+    let mut high = high;
     'halves: while low < high {
         let middle = low + (high - low) / 2;
         match key.cmp(&items[middle].0) {
@@ -68,7 +133,7 @@ pub fn place_of<K: Ord, V>(items: &[(K, V)], key: &K) -> usize
     low
 }
 
-pub fn spot_of<K: Ord, V>(runs: &[Run<(K, V)>], key: &K) -> Spot
+pub fn spot_of<K: Ord, V, S: Seek<K>>(runs: &[Run<(K, V)>], key: &K, seek: &S) -> Spot
     requires filled { HaveItems runs.now }
     requires sorted { IsStrictlySortedBy K.cmp (keys_of (flat runs.now)) }
     ensures { IsSpotOf K.cmp key.now runs.now result }
@@ -82,7 +147,7 @@ pub fn spot_of<K: Ord, V>(runs: &[Run<(K, V)>], key: &K) -> Spot
         };
     };
     let items = chosen.as_slice();
-    let at = place_of(items, key);
+    let at = seek.place_of(items, key);
     let found = is_key_at(items, at, key);
     Spot { run, at, found }
 }

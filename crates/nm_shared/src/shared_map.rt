@@ -7,13 +7,13 @@ ghost use Rattle.std.specs.BTreeMap.Range.{entries_from};
 ghost use Rattle.std.specs.List.Sorted.{IsStrictlySortedBy};
 ghost use Rattle.std.specs.Map.{keys_of, lookup, remove_entry};
 ghost use Rattle.std.specs.Option.{option_copied};
-ghost use Rattle.std.specs.Ordering.{is_eq};
+ghost use Rattle.std.specs.Ordering.{is_eq, nat_cmp};
 
 use crate::Items;
 use crate::room::spot_with_room;
 use crate::run::Run;
 use crate::runs::{join_run, put_first, shared};
-use crate::search::spot_of;
+use crate::search::{Guesses, Halves, Seek, spot_of};
 use nm_base::{Copies, NoMemory};
 use std::alloc::Global;
 use std::marker::Model;
@@ -71,7 +71,13 @@ impl<K: Ord, V> SharedMap<K, V> {
     pub fn get(&self, key: &K) -> Option<&V>
         ensures { option_copied result ≡ lookup (is_at (K.cmp key.now)) self.now }
     {
-        let spot = spot_of(self.runs.as_slice(), key);
+        self.get_by(key, &Halves)
+    }
+
+    fn get_by<S: Seek<K>>(&self, key: &K, seek: &S) -> Option<&V>
+        ensures { option_copied result ≡ lookup (is_at (K.cmp key.now)) self.now }
+    {
+        let spot = spot_of(self.runs.as_slice(), key, seek);
         if !spot.found {
             return None;
         }
@@ -105,7 +111,7 @@ impl<K: Ord, V> SharedMap<K, V> {
         ensures rest { result ≡ entries_from (K.cmp key.now) self.now }
         ensures sorted { IsStrictlySortedBy K.cmp (keys_of self.now) }
     {
-        let spot = spot_of(self.runs.as_slice(), key);
+        let spot = spot_of(self.runs.as_slice(), key, &Halves);
         let Some(run) = self.runs.get(spot.run) else {
             return self.iter();
         };
@@ -113,6 +119,23 @@ impl<K: Ord, V> SharedMap<K, V> {
             &run.as_slice()[spot.at..],
             &self.runs.as_slice()[spot.run + 1..],
         )
+    }
+}
+
+impl<V> SharedMap<u64, V> {
+    /// The same as `get`, for less work where the keys are spread evenly over all numbers, as hashes are.
+    pub(crate) fn get_spread(&self, key: &u64) -> Option<&V>
+        ensures { option_copied result ≡ lookup (is_at (nat_cmp key.now)) self.now }
+    {
+        let keys = self.len as u64;
+        self.get_by(key, &Guesses { keys })
+    }
+
+    /// The same as `get`, for less work where most keys follow one another.
+    pub(crate) fn get_numbered(&self, key: &u64) -> Option<&V>
+        ensures { option_copied result ≡ lookup (is_at (nat_cmp key.now)) self.now }
+    {
+        self.get_by(key, &Guesses { keys: u64::MAX })
     }
 }
 
@@ -192,7 +215,7 @@ impl<K: Ord + Copies, V: Copies> SharedMap<K, V> {
         ensures err { OnErr result (self.new ≡ self.old) }
         ensures sorted { IsStrictlySortedBy K.cmp (keys_of self.old) }
     {
-        let spot = spot_of(self.runs.as_slice(), key);
+        let spot = spot_of(self.runs.as_slice(), key, &Halves);
         if !spot.found {
             return Ok(spot.run);
         }

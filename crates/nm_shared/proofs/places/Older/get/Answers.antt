@@ -11,17 +11,17 @@ returns-in-Some c =
     ∙ sym (lookup_both (is_at (nat_cmp c.args.hash)) c.self.inside.middle c.self.inside.early)
     ∙ ap (at c.args.hash) c.self.view_is
 
-pub returns-in_err-get : goal.returns-in_err-get
-returns-in_err-get c =
+pub returns-in_err-get_spread : goal.returns-in_err-get_spread
+returns-in_err-get_spread c =
     c.from_residual.ensures
-    ∙ c.in_err-get.ensures
+    ∙ c.in_err-get_spread.ensures
     ∙ ap (λ first. or_else first (at c.args.hash c.self.inside.early)) c.in_default.ensures
     ∙ sym (lookup_both (is_at (nat_cmp c.args.hash)) c.self.inside.middle c.self.inside.early)
     ∙ ap (at c.args.hash) c.self.view_is
 
 pub returns : goal.returns
 returns c =
-    c.in_ok-get.ensures
+    c.in_ok-get_spread.ensures
     ∙ ap (λ first. or_else first (at c.args.hash c.self.inside.early)) c.in_default.ensures
     ∙ sym (lookup_both (is_at (nat_cmp c.args.hash)) c.self.inside.middle c.self.inside.early)
     ∙ ap (at c.args.hash) c.self.view_is

@@ -13,7 +13,7 @@ returns-in-Some c =
 
 pub returns : goal.returns
 returns c =
-    c.get-2.ensures
+    c.get.ensures
     ∙ ap (λ first. or_else first (at c.args.hash c.self.inside.older)) c.in_default.ensures
     ∙ sym (lookup_both (is_at (nat_cmp c.args.hash)) c.self.inside.late c.self.inside.older)
     ∙ ap (at c.args.hash) c.self.view_is

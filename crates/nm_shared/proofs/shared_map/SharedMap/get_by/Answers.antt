@@ -2,7 +2,7 @@ use Rattle.std.proofs.Common.{sym, ap, ◌∙◌}
 use Rattle.std.specs.BTreeMap.{is_at}
 use Rattle.std.specs.Map.{lookup}
 use Rattle.nm_shared.proofs.MapLemmas.{lookup_missing, get_is, not_true, not_false}
-use Rattle.nm_shared.proofs.shared_map.SharedMap.get.Goals as goal
+use Rattle.nm_shared.proofs.shared_map.SharedMap.get_by.Goals as goal
 
 pub returns-then-not-spot : goal.returns-then-not-spot
 returns-then-not-spot g c =

@@ -1,6 +1,6 @@
 use Rattle.std.proofs.Common.{◌≡◌, ◌≢◌, ◌-◌, ◌<◌, ◌≤◌, length, get_or}
 use Rattle.std.specs.declared.cmp.Ordering.TheVariants.{Greater}
-use Rattle.nm_shared.proofs.search.place_of.Given as goal
+use Rattle.nm_shared.proofs.search.place_between.Given as goal
 
 abbrev pub invariant-halves : goal.invariant-halves
 invariant-halves g l = (l.low ≤ l.high) × (l.high ≤ length l.items)
