@@ -132,7 +132,7 @@ impl<V> SharedMap<u64, V> {
     }
 
     /// The same as `get`, for less work where most keys follow one another.
-    pub(crate) fn get_numbered(&self, key: &u64) -> Option<&V>
+    pub fn get_numbered(&self, key: &u64) -> Option<&V>
         ensures { option_copied result ≡ lookup (is_at (nat_cmp key.now)) self.now }
     {
         self.get_by(key, &Guesses { keys: u64::MAX })

@@ -128,7 +128,7 @@ impl<'a> Iterator for MessageFiles<'a> {
         'places: loop {
             let (place, rest) = self.places.split_first()?;
             self.places = rest;
-            if let Some(file) = self.files.get(place) {
+            if let Some(file) = self.files.get_numbered(place) {
                 return Some((&file.0, file.1.get()));
             }
         }

@@ -27,7 +27,7 @@ pub fn place_of(maps: &Maps, id: &MessageId) -> Option<Place>
     ensures { MatchOption result (at_id id.now maps.now.numbers ≡ None) (λ place. (number : ℕ) × Contains maps.now.ids (number, id.now) × (at number maps.now.groups ≡ Some place.group) × (at place.group maps.now.threads ≡ Some place.thread)) }
 {
     let number = maps.numbers.get(id)?;
-    let group = *maps.groups.get(number)?;
+    let group = *maps.groups.get_numbered(number)?;
     let thread = *maps.threads.get(&group)?;
     Some(Place { group, thread })
 }
@@ -39,7 +39,7 @@ pub fn place_at(maps: &Maps, number: u64) -> Place
     ensures group { at number maps.now.groups ≡ Some result.group }
     ensures thread { at result.group maps.now.threads ≡ Some result.thread }
 {
-    let Some(group) = maps.groups.get(&number) else {
+    let Some(group) = maps.groups.get_numbered(&number) else {
         unreachable!()
     };
     let Some(thread) = maps.threads.get(group) else {
