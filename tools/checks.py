@@ -274,6 +274,7 @@ def kit_is_told():
 
 # The sections of docs/TESTING.md on rows, and the programs that run them.
 ROWS = {
+    "the system": "rows_outside",
     "reading one mail": "rows_mail",
     "queries and dates": "rows_query",
     "what queries find": "rows_eval",
