@@ -1,5 +1,5 @@
 -- The mails that a `new` has read come to an index that lacks them, each path once.
--- For `BatchLemmas`, `MailLemmas`, `NamingLemmas` and others.
+-- For `BatchLemmas`, `MailLemmas`, `NewLemmas` and `ReportLemmas`.
 use Rattle.std.proofs.Common.{◌≡◌, ℕ, Bool, true, false, ◌||◌, not, cond, List, [], ◌∷◌, ◌++◌, map, filter, refl, sym, ap, ◌∙◌, subst}
 use Rattle.std.specs.List.{AllByRecursion, flat_map, IsDistinct}
 use Rattle.std.specs.Cmp.Lexicographic.{slice_cmp, texts_ties, nat_list_eq_equiv}

@@ -1,9 +1,8 @@
--- Two sorted lists that have the same texts are one. For the proofs of `has_message` and `ids_only_in`.
-use Rattle.std.proofs.Common.{◌≡◌, ℕ, Bool, true, false, ◌||◌, ◌&&◌, not, List, [], ◌∷◌, Option, None, Some, is_some, cond, length, fold, filter, map, refl, sym, ap, ◌∙◌}
+-- Two sorted lists that have the same texts are one. For `MergeLemmas`, `ScanLemmas` and the proof of `ids_only_in`.
+use Rattle.std.proofs.Common.{◌≡◌, ℕ, Bool, true, false, ◌||◌, ◌&&◌, not, List, [], ◌∷◌, length, fold, filter, map, refl, sym, ap, ◌∙◌}
 use Rattle.std.specs.Cmp.Lexicographic.{nat_list_eq_equiv, slice_cmp, texts_ties}
 use Rattle.std.specs.List.{AllByRecursion}
 use Rattle.std.specs.List.Sorted.{IsStrictlySortedBy}
-use Rattle.std.specs.Map.Iter.{TakesFirst}
 use Rattle.std.specs.Ordering.{is_eq, nat_cmp}
 use Rattle.std.specs.declared.cmp.Ordering.{Ordering}
 use Rattle.std.specs.declared.cmp.Ordering.TheVariants.{Less, Equal, Greater}
@@ -87,22 +86,3 @@ ids-end first second ids rest none so_far =
     let all : ids ≡ sorted (lacking-ids first (map (λ file. file.1.id) second)) =
     sym (ap (λ (l : List (List ℕ × Facts)). fold insert ids (lacking-ids first (map (λ file. file.1.id) l))) none) ∙ so_far in
     ap (λ (l : List (List ℕ)). length l) (all ∙ only-are first second)
-
--- there is one at least
-abbrev pub has_some : List (List ℕ × Facts) → Bool
-has_some [] = false
-has_some (file ∷ files) = true
-
-some-by : (b : Bool) (file : List ℕ × Facts) (rest : List (List ℕ × Facts)) (more : Bool) → more ≡ has_some rest → (b || more) ≡ has_some (cond b (file ∷ rest) rest)
-some-by true file rest more is = refl
-some-by false file rest more is = is
-
--- a message has a file where there is a file of it
-pub has_id-filter : (files : List (List ℕ × Facts)) (id : List ℕ) → has_id files id ≡ has_some (filter (λ file. same_text id file.1.id) files)
-has_id-filter [] id = refl
-has_id-filter (file ∷ files) id = some-by (same_text id file.1.id) file (filter (λ other. same_text id other.1.id) files) (has_id files id) (has_id-filter files id)
-
--- a first one is taken where there is one
-pub some-taken : {A : Type 0} (shows : A → List ℕ × Facts) (files rest : List (List ℕ × Facts)) (taken : Option A) → TakesFirst shows files taken rest → is_some taken ≡ has_some files
-some-taken shows files rest None h = sym (ap has_some h.0)
-some-taken shows files rest (Some file) h = sym (ap has_some h)

@@ -4,7 +4,6 @@ ghost use Rattle.std.specs.Prelude.{◌≡◌, ◌++◌, List, IfOk, OnOk, fold,
 ghost use Rattle.std.specs.List.{flat_map};
 ghost use Rattle.nm_answer.specs.NewText.{mail_given, only_in, skip_at, skip_given};
 ghost use Rattle.nm_base.specs.Order.{insert};
-ghost use Rattle.nm_commit.specs.Files.{has_id};
 ghost use Rattle.nm_commit.specs.declared.change.Commit.{Commit};
 ghost use Rattle.nm_index.specs.Index.{folded};
 ghost use Rattle.nm_writer.specs.Report.{lacking, report_with};
@@ -97,21 +96,11 @@ fn add_if_lacking(
 ) -> Result<(), NoMemory>
     ensures { OnOk result (ids.new ≡ fold insert ids.old (lacking first.now.files id.now)) }
 {
-    if has_message(first, id) {
+    if first.is_live(id) {
         return Ok(());
     }
     ids.insert(id.copy()?)?;
     Ok(())
-}
-
-/// Says whether the snapshot has a file of the message.
-pub(crate) fn has_message(snapshot: &Snapshot, id: &MessageId) -> bool
-    ensures { result ≡ has_id snapshot.now.files id.now }
-{
-    match snapshot.files(id) {
-        None => false,
-        Some(mut files) => files.next().is_some(),
-    }
 }
 
 /// The files that were read and passed over.
