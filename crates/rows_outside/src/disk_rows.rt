@@ -93,7 +93,10 @@ fn read(disk: &mut FileDisk, lines: &mut Lines, words: &[u8]) -> Result<(), RowE
 fn write(disk: &mut FileDisk, lines: &mut Lines, words: &[u8]) -> Result<(), RowError> {
     let (file, rest) = cut(words, b' ');
     let (place, text) = cut(rest, b' ');
-    push_done(lines, disk.write_at(file_of(file)?, number_of(place)?, text))
+    push_done(
+        lines,
+        disk.write_at(file_of(file)?, number_of(place)?, text),
+    )
 }
 
 fn push_done(lines: &mut Lines, answer: Result<(), Failed>) -> Result<(), RowError> {

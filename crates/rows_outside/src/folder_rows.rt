@@ -70,12 +70,7 @@ fn open(
 }
 
 /// `PATH MOST`
-fn read(
-    alloc: Global,
-    mail: &mut Mail,
-    lines: &mut Lines,
-    words: &[u8],
-) -> Result<(), RowError> {
+fn read(alloc: Global, mail: &mut Mail, lines: &mut Lines, words: &[u8]) -> Result<(), RowError> {
     let (path, most) = cut(words, b' ');
     let answer = mail.read(&path_of(alloc, path)?, number_of(most)?);
     match answer {
@@ -90,12 +85,7 @@ fn read(
 }
 
 /// `PATH PATH`
-fn rename(
-    alloc: Global,
-    mail: &mut Mail,
-    lines: &mut Lines,
-    words: &[u8],
-) -> Result<(), RowError> {
+fn rename(alloc: Global, mail: &mut Mail, lines: &mut Lines, words: &[u8]) -> Result<(), RowError> {
     let (from, to) = cut(words, b' ');
     let answer = mail.rename(&path_of(alloc, from)?, &path_of(alloc, to)?);
     match answer {

@@ -47,12 +47,7 @@ pub fn remove(rt: &HostRuntime, folder: &str) -> Result<(), RowError> {
 }
 
 /// Makes what the lines `+` of the row say.
-pub fn fill(
-    rt: &HostRuntime,
-    alloc: Global,
-    folder: &str,
-    row: &Row<'_>,
-) -> Result<(), RowError> {
+pub fn fill(rt: &HostRuntime, alloc: Global, folder: &str, row: &Row<'_>) -> Result<(), RowError> {
     'lines: for line in row.lines.as_slice() {
         if line.mark == b"+".as_slice() {
             put(rt, alloc, folder, line.bytes.as_slice())?;
@@ -70,7 +65,9 @@ fn put(rt: &HostRuntime, alloc: Global, folder: &str, line: &[u8]) -> Result<(),
         return fs::create_dir(rt, place.as_str()).map_err(refused);
     }
     if arrow == b"->".as_slice() {
-        return rt.symlink(text_of(target)?, place.as_str()).map_err(refused);
+        return rt
+            .symlink(text_of(target)?, place.as_str())
+            .map_err(refused);
     }
     fs::write(rt, place.as_str(), text_of(rest)?).map_err(refused)
 }
