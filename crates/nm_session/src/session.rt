@@ -82,7 +82,7 @@ fn open_and_run<R: Threads + Wait + Sync, M: Maildir, D: Disk, O: Sink, G: Gate 
         lanes,
         rooms,
     } = plan;
-    match Writer::open(rt, alloc, disk, named) {
+    match Writer::open(rt, alloc, disk, named, setting.workers) {
         Ok(opened) => {
             let Opened { writer, readers } = opened;
             let mut lanes = lanes_with(alloc, setting, phases, readers, lanes);

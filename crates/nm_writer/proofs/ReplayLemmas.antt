@@ -1,6 +1,8 @@
 -- Replaying one body more. For the proofs of `replayed` and `Writer::open_head`.
-use Rattle.std.proofs.Common.{◌≡◌, ℕ, ◌+◌, ◌<◌, ◌^◌, true, zero, suc, List, [], ◌∷◌, ◌++◌, length, min, take, drop, get_or, None, refl, sym, ap, ◌∙◌, subst, arith, length-append}
+use Rattle.std.proofs.Common.{◌≡◌, ℕ, ◌+◌, ◌<◌, ◌^◌, true, zero, suc, List, [], ◌∷◌, ◌++◌, length, min, take, drop, get_or, Option, None, Some, refl, sym, ap, ◌∙◌, subst, arith, length-append}
+use Rattle.std.specs.List.{AllZip}
 use Rattle.std.proofs.lemmas.List.{map-append, take_more}
+use Rattle.std.proofs.lemmas.Option.{none-some, same_Some}
 use Rattle.nm_base.specs.Limits.{max_count}
 use Rattle.nm_base.specs.declared.limit.Limit.{Limit as AnyLimit}
 use Rattle.nm_commit.specs.Files.{Fits}
@@ -11,7 +13,7 @@ use Rattle.nm_index.specs.declared.base.Base.{Base}
 use Rattle.nm_journal.specs.Records.{AreBodies, record_of, records_of}
 use Rattle.nm_record.specs.CommitGrammar.{commit_grammar}
 use Rattle.nm_record.specs.Room.{limit_passed}
-use Rattle.nm_writer.specs.Opening.{HasBodyFault, IsRefusedBody, IsToldAt, IsTooMuch}
+use Rattle.nm_writer.specs.Opening.{HasBodyFault, IsAfterRead, IsRead, IsRefusedBody, IsRefusedRead, IsToldAt, IsTooMuch}
 use Rattle.nm_writer.specs.declared.open_error.OpenError.{OpenError}
 use Rattle.nm_writer.specs.declared.open_error.OpenError.TheVariants.{BadIndex, DiskFault, Limit, NoMemory}
 use Rattle.nm_writer.specs.StoredIndex.{AreCommits, HasBadBody, HasCommits, HasPassed, IsNoCommit, StayWithin, bodies_of}
@@ -127,3 +129,53 @@ body-fault bodies i body seen index gate (BadIndex file at) within is same befor
 body-fault bodies i body seen index gate (Limit limit) within is same before place bad told = passed-at bodies i body seen index limit within is same before bad
 body-fault bodies i body seen index gate DiskFault within is same before place bad told = absurd bad
 body-fault bodies i body seen index gate NoMemory within is same before place bad told = tt
+
+-- the index after what a body is read as is that after the body
+pub after-read : (body : List ℕ) (read : Option Commit) (index new : Base) → IsRead body read → IsAfterRead index read new → IsAfter index body new
+after-read body (Some commit) index new is after = (commit, is.found.0, is.found.1, after.0, after.1, after.2)
+after-read body None index new is after = absurd after
+
+-- what refuses what a body is read as refuses the body
+pub refused-read : (body : List ℕ) (read : Option Commit) (index : Base) (error : OpenError) → IsRead body read → IsRefusedRead index read error → IsRefusedBody index body error
+refused-read body (Some commit) index (BadIndex file at) is bad = (bad.0, λ short other value same fits. bad.1 (subst (λ (c : Commit). Fits index.files c) (sym (same_Some commit other (is.only other value short same))) fits))
+refused-read body (Some commit) index (Limit limit) is bad = (commit, is.found.0, is.found.1, bad)
+refused-read body (Some commit) index DiskFault is bad = absurd bad
+refused-read body (Some commit) index NoMemory is bad = tt
+refused-read body None index (BadIndex file at) is bad = (bad, λ short other value same fits. none-some other (is.only other value short same))
+refused-read body None index (Limit limit) is bad = absurd bad
+refused-read body None index DiskFault is bad = absurd bad
+refused-read body None index NoMemory is bad = absurd bad
+
+same-at : (bodies : List (List ℕ)) (i : ℕ) (d e : List ℕ) → i < length bodies → get_or bodies i d ≡ get_or bodies i e
+same-at [] i d e within = absurd (omega arith)
+same-at (first ∷ bodies) zero d e within = refl
+same-at (first ∷ bodies) (suc i) d e within = same-at bodies i d e (omega arith)
+
+-- as many were read as there are
+pub all-read : (bodies : List (List ℕ)) (read : List (Option Commit)) → AllZip IsRead bodies read → length read ≡ length bodies
+all-read [] [] are = refl
+all-read [] (one ∷ read) are = absurd are
+all-read (body ∷ bodies) [] are = absurd are
+all-read (body ∷ bodies) (one ∷ read) are = ap (λ n. suc n) (all-read bodies read are.1)
+
+read-at : (bodies : List (List ℕ)) (read : List (Option Commit)) (i : ℕ) (body : List ℕ) (one : Option Commit) → AllZip IsRead bodies read → i < length bodies → body ≡ get_or bodies i body → one ≡ get_or read i one → IsRead body one
+read-at [] read i body one are within is same = absurd (omega arith)
+read-at (first ∷ bodies) [] i body one are within is same = absurd are
+read-at (first ∷ bodies) (other ∷ read) zero body one are within is same = subst (λ (b : List ℕ). IsRead b one) (sym is) (subst (λ (o : Option Commit). IsRead first o) (sym same) are.0)
+read-at (first ∷ bodies) (other ∷ read) (suc i) body one are within is same = read-at bodies read i body one are.1 (omega arith) is same
+
+-- the next of what was read is applied
+pub read-turn : (bodies : List (List ℕ)) (read : List (Option Commit)) (i : ℕ) (one : Option Commit) (index new : Base) → AllZip IsRead bodies read → i < length bodies → one ≡ get_or read i one → Replayed (take i bodies) index
+    → IsAfterRead index one new → Replayed (take (i + 1) bodies) new
+read-turn bodies read i one index new are within same before after =
+    let body : List ℕ = get_or bodies i [] in
+    let is : body ≡ get_or bodies i body = same-at bodies i [] body within in
+    replayed-turn bodies i body body index new within is refl before (after-read body one index new (read-at bodies read i body one are within is same) after)
+
+-- the next of what was read is refused
+pub read-fault : (bodies : List (List ℕ)) (read : List (Option Commit)) (i : ℕ) (one : Option Commit) (index : Base) (gate : ℕ) (error : OpenError) → AllZip IsRead bodies read → i < length bodies → one ≡ get_or read i one
+    → Replayed (take i bodies) index → gate ≡ min (length (records_of (take i bodies))) max_count → IsRefusedRead index one error → IsToldAt gate error → HasBodyFault bodies error
+read-fault bodies read i one index gate error are within same before place bad told =
+    let body : List ℕ = get_or bodies i [] in
+    let is : body ≡ get_or bodies i body = same-at bodies i [] body within in
+    body-fault bodies i body body index gate error within is refl before place (refused-read body one index error (read-at bodies read i body one are within is same) bad) told

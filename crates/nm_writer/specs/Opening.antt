@@ -1,5 +1,5 @@
--- What is answered where an index can't be opened. Cited by `opening` and `replaying`.
-use Rattle.std.specs.Prelude.{◌≡◌, ℕ, ◌<◌, ◌^◌, Bool, true, false, List, Some, length}
+-- What is answered where an index can't be opened. Cited by `bodies`, `opening` and `replaying`.
+use Rattle.std.specs.Prelude.{◌≡◌, ℕ, ◌<◌, ◌^◌, Bool, true, false, List, Option, None, Some, IfSome, length}
 use Rattle.nm_base.specs.declared.limit.Limit.{Limit as AnyLimit}
 use Rattle.nm_commit.specs.Files.{Fits}
 use Rattle.nm_commit.specs.declared.change.Commit.{Commit}
@@ -38,6 +38,16 @@ HasBodyFault bodies NoMemory = Unit {0}
 abbrev pub IsTooMuch : Base → Commit → AnyLimit → Type 0
 IsTooMuch index commit limit = Fits index.files commit × (limit_passed (committed index commit) ≡ Some limit)
 
+-- what a body is read as: the commit that it spells, where one does
+pub record IsRead (body : List ℕ) (read : Option Commit) : Type 0 where
+  pub found : IfSome read (λ commit. (body ≡ commit_grammar.bytes commit) × (commit_grammar.is_value commit ≡ true))
+  pub only : (commit : Commit) → commit_grammar.is_value commit ≡ true → length body < 2 ^ 32 → body ≡ commit_grammar.bytes commit → read ≡ Some commit
+
+-- the index after what was read: the commit fits, and no limit is passed
+abbrev pub IsAfterRead : Base → Option Commit → Base → Type 0
+IsAfterRead index None new = ⊥
+IsAfterRead index (Some commit) new = Fits index.files commit × (new ≡ committed index commit) × (limit_passed (committed index commit) ≡ None)
+
 -- a single body is refused so over this index: it is bad, or the index after it passes the limit
 abbrev pub IsRefusedBody : Base → List ℕ → OpenError → Type 0
 IsRefusedBody index body (BadIndex file at) = (file ≡ Head) × (length body < 2 ^ 32 → IsNoCommit index body)
@@ -51,6 +61,14 @@ IsRefusedCommit index commit (BadIndex file at) = (file ≡ Head) × ¬ Fits ind
 IsRefusedCommit index commit (Limit limit) = IsTooMuch index commit limit
 IsRefusedCommit index commit DiskFault = ⊥
 IsRefusedCommit index commit NoMemory = Unit {0}
+
+-- what was read is refused so over this index: it is no commit, or the commit is refused
+abbrev pub IsRefusedRead : Base → Option Commit → OpenError → Type 0
+IsRefusedRead index (Some commit) error = IsRefusedCommit index commit error
+IsRefusedRead index None (BadIndex file at) = file ≡ Head
+IsRefusedRead index None (Limit limit) = ⊥
+IsRefusedRead index None DiskFault = ⊥
+IsRefusedRead index None NoMemory = ⊥
 
 -- where a bad body was told, it is that of this gate
 abbrev pub IsToldAt : ℕ → OpenError → Type 0

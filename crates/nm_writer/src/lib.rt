@@ -2,6 +2,7 @@
 //! readers after each.
 #![tactic(auto)]
 
+mod bodies;
 mod committing;
 mod laws;
 mod merging;

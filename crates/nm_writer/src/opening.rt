@@ -1,6 +1,6 @@
 //! Opening the index that a disk holds, for `nm_session`: a writer, and readers that see what it shows.
 
-ghost use Rattle.std.specs.Prelude.{◌≡◌, ◌≤◌, [], IfErr, IfOk, IfSome, None, replicate};
+ghost use Rattle.std.specs.Prelude.{◌≡◌, ◌<◌, ◌≤◌, [], IfErr, IfOk, IfSome, None, replicate};
 ghost use Rattle.nm_base.specs.Limits.{max_count};
 ghost use Rattle.nm_disk.specs.Calls.{GoesOn};
 ghost use Rattle.nm_disk.specs.Images.{MayLeave};
@@ -13,6 +13,7 @@ ghost use Rattle.nm_writer.specs.Opening.{HasOpenFault, IsOfHead, is_disk_fault}
 ghost use Rattle.nm_writer.specs.StoredIndex.{HoldsWithin};
 ghost use Rattle.nm_writer.specs.Writer.{StandsOnIndex};
 
+use crate::bodies::read_bodies;
 use crate::replaying::replayed;
 use crate::{OpenError, Writer};
 use nm_base::{Many, NoMemory, Room};
@@ -23,6 +24,7 @@ use nm_publish::{Reader, Started, start};
 use nm_state::Snapshot;
 use std::alloc::Global;
 use std::sync::{Arc, Wait};
+use std::thread::Threads;
 
 /// Who writes, and who reads.
 pub struct Opened {
@@ -32,12 +34,15 @@ pub struct Opened {
 
 impl Writer {
     /// Opens the index that the head file holds, for so many readers: a fresh disk holds the empty one. The disk is synced first.
-    pub fn open<R: Wait, D: Disk>(
+    /// 1 to 16 workers read the records; no clause knows how many they are.
+    pub fn open<R: Threads + Wait + Sync, D: Disk>(
         rt: &R,
         alloc: Global,
         disk: &mut D,
         readers: u32,
+        workers: u32,
     ) -> Result<Opened, OpenError>
+        requires workers { (0 < workers) × (workers ≤ 16) }
         // The index shown is that which a read gives, and no index on the way to it passes a limit.
         ensures index { GoesOn (λ old new. IfOk result (λ opened. HoldsWithin (bytes_now old FileNo.Head) opened.writer.shown))
             (D.observed disk.old).told (D.observed disk.new).told }
@@ -76,16 +81,18 @@ impl Writer {
 
         ensures cause { HasCauseOf is_disk_fault (D.observed disk.old).faults (D.observed disk.new).faults result }
     {
-        Writer::open_head(rt, alloc, disk, readers)
+        Writer::open_head(rt, alloc, disk, readers, workers)
     }
 
     /// Opens the index, as `open` does.
-    fn open_head<R: Wait, D: Disk>(
+    fn open_head<R: Threads + Wait + Sync, D: Disk>(
         rt: &R,
         alloc: Global,
         disk: &mut D,
         readers: u32,
+        workers: u32,
     ) -> Result<Opened, OpenError>
+        requires workers { (0 < workers) × (workers ≤ 16) }
         ensures index { GoesOn (λ old new. IfOk result (λ opened. HoldsWithin (bytes_now old FileNo.Head) opened.writer.shown))
             (D.observed disk.old).told (D.observed disk.new).told }
         ensures stands { GoesOn (λ old new. IfOk result (λ opened. StandsOnIndex new.present opened.writer))
@@ -106,7 +113,8 @@ impl Writer {
         let (journal, bodies) = Journal::open(alloc, disk, FileNo::Head, 0)?;
         numbers_stay_in_order();
         files_stay_apart();
-        let shown = replayed(alloc, bodies.as_slice())?;
+        let read = read_bodies(rt, alloc, workers, &bodies)?;
+        let shown = replayed(alloc, bodies.as_slice(), read.as_slice())?;
         // A clock is a number of 64 bits, which the contract tells of the disk as well.
         let _ = disk.clock();
         let started = show_first(rt, alloc, shown, readers)?;

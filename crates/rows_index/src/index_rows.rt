@@ -9,21 +9,29 @@ use nm_writer::{OpenError, Opened, Writer};
 use rows::{Lines, Row, RowError};
 use std::alloc::Global;
 use std::sync::Wait;
+use std::thread::Threads;
+
+/// So many workers read the records.
+const WORKERS: u32 = 2;
 
 /// What the index that is opened answers to what stands behind `?`, or the place of the bad record.
-pub fn opened<R: Wait>(rt: &R, alloc: Global, row: &Row<'_>) -> Result<Vec<u8>, RowError> {
+pub fn opened<R: Threads + Wait + Sync>(
+    rt: &R,
+    alloc: Global,
+    row: &Row<'_>,
+) -> Result<Vec<u8>, RowError> {
     let mut disk = fresh(alloc)?;
     found(rt, alloc, &mut disk, row)
 }
 
-fn found<R: Wait, D: Disk>(
+fn found<R: Threads + Wait + Sync, D: Disk>(
     rt: &R,
     alloc: Global,
     disk: &mut D,
     row: &Row<'_>,
 ) -> Result<Vec<u8>, RowError> {
     append_all(alloc, disk, row)?;
-    match Writer::open(rt, alloc, disk, 0) {
+    match Writer::open(rt, alloc, disk, 0, WORKERS) {
         Ok(opened) => {
             let Opened { writer, readers: _ } = opened;
             let answer = answered(alloc, &writer, row);

@@ -106,7 +106,7 @@ fn run_new<R: Threads + Wait + Sync, M: Maildir, D: Disk, G: Gate + Sync>(
 ) -> Result<(u64, u64), RowError>
     requires workers { (0 < workers) × (workers ≤ 16) }
 {
-    match Writer::open(rt, alloc, disk, 0) {
+    match Writer::open(rt, alloc, disk, 0, workers) {
         Ok(opened) => {
             let Opened {
                 mut writer,
