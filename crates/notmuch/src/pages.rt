@@ -9,7 +9,7 @@ Indexes a folder of mail and searches it.
 Options before the command
   --mail=DIR      the folder of mail, a tree of Maildirs (mail)
   --index=DIR     the folder of the index; it is made where it is not there (index)
-  --workers=N     how many threads may read mail, 1 to 16 (4)
+  --workers=N     how many threads may read mail and index, 1 to 16 (4)
   --moment=S      the second since 1970 that counts as the present (the clock's)
 
 Commands
