@@ -121,7 +121,7 @@ pub(crate) struct Changes {
 }
 
 /// Sets the tags that the lines of a `tag` want, where each is of its form and has a query.
-pub(crate) fn run_tag<R: Wait, M: Maildir, D: Disk>(
+pub(crate) fn run_tag<R: Threads + Wait + Sync, M: Maildir, D: Disk>(
     rt: &R,
     alloc: Global,
     setting: &Setting,
@@ -157,7 +157,7 @@ pub(crate) fn run_tag<R: Wait, M: Maildir, D: Disk>(
 }
 
 /// Sets the tags that the lines of a dump have, where each is of its form.
-pub(crate) fn run_restore<R: Wait, M: Maildir, D: Disk>(
+pub(crate) fn run_restore<R: Threads + Wait + Sync, M: Maildir, D: Disk>(
     rt: &R,
     alloc: Global,
     setting: &Setting,
@@ -186,7 +186,7 @@ pub(crate) fn run_restore<R: Wait, M: Maildir, D: Disk>(
 }
 
 /// Sets the tags that a request wants.
-fn change_tags<R: Wait, M: Maildir, D: Disk>(
+fn change_tags<R: Threads + Wait + Sync, M: Maildir, D: Disk>(
     rt: &R,
     alloc: Global,
     setting: &Setting,

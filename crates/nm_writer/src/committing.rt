@@ -26,6 +26,7 @@ use nm_record::{commit_len, write_commit};
 use nm_state::{RoomError, Snapshot};
 use std::alloc::Global;
 use std::sync::{Arc, Wait};
+use std::thread::{Threads, join};
 
 /// The most commits of a session.
 const MAX_COMMITS: usize = 65_536;
@@ -33,10 +34,13 @@ const MAX_COMMITS: usize = 65_536;
 /// The most bytes of a commit.
 const MAX_COMMIT_BYTES: u64 = 1_073_741_824;
 
+/// A commit of so many bytes is worth a thread.
+const LARGE_BYTES: u64 = 65_536;
+
 impl Writer {
     /// Makes one commit: all memory first, then the record on the disk, then the index after it is shown. It may wait for readers to
     /// leave the snapshot from before.
-    pub fn commit<R: Wait, D: Disk>(
+    pub fn commit<R: Threads + Wait + Sync, D: Disk>(
         &mut self,
         rt: &R,
         disk: &mut D,
@@ -69,7 +73,7 @@ impl Writer {
     }
 
     /// Makes one commit, as `commit` does.
-    fn make<R: Wait, D: Disk>(
+    fn make<R: Threads + Wait + Sync, D: Disk>(
         &mut self,
         rt: &R,
         disk: &mut D,
@@ -91,7 +95,14 @@ impl Writer {
         numbers_stay_in_order();
         files_stay_apart();
         let made = self.begun.as_slice().len();
-        let (frame, next) = prepared(self.alloc, made, self.shower.now(), &commit)?;
+        let (frame, next) = prepared(
+            rt,
+            self.alloc,
+            self.workers,
+            made,
+            self.shower.now(),
+            &commit,
+        )?;
         self.begun.reserve(1)?;
         self.acked.reserve(1)?;
         self.shower.stage(&commit, next)?;
@@ -112,9 +123,12 @@ impl Writer {
     }
 }
 
-/// The record of the commit, and the snapshot after it. `made` is how many commits were begun before.
-fn prepared(
+/// The record of the commit, and the snapshot after it: of a large one both at once, where there are workers. `made` is how many
+/// commits were begun before.
+fn prepared<R: Threads + Wait + Sync>(
+    rt: &R,
     alloc: Global,
+    workers: u32,
     made: usize,
     shown: &Snapshot,
     commit: &Commit,
@@ -129,12 +143,45 @@ fn prepared(
     if made >= MAX_COMMITS {
         return Err(WriteError::Limit(Limit::Commits));
     }
-    if commit_len(commit) > MAX_COMMIT_BYTES {
+    let len = commit_len(commit);
+    if len > MAX_COMMIT_BYTES {
         return Err(WriteError::Limit(Limit::CommitBytes));
     }
-    let next = shared(alloc, next_snapshot(shown, commit)?)?;
-    let frame = framed(alloc, commit)?;
-    Ok((frame, next))
+    if workers < 2 || len < LARGE_BYTES {
+        let next = shared(alloc, next_snapshot(shown, commit)?)?;
+        let frame = framed(alloc, commit)?;
+        return Ok((frame, next));
+    }
+    let (frame, next) = at_once(rt, alloc, shown, commit);
+    let next = shared(alloc, next?)?;
+    Ok((frame?, next))
+}
+
+/// The record of the commit, made in a thread of its own, and the snapshot after it.
+fn at_once<R: Threads + Wait + Sync>(
+    rt: &R,
+    alloc: Global,
+    shown: &Snapshot,
+    commit: &Commit,
+) -> (Result<Frame, NoMemory>, Result<Snapshot, WriteError>)
+    requires fits { Fits shown.now.files commit.now }
+    requires short { length (commit_grammar.bytes commit.now) < 2 ^ 32 }
+    ensures frame { IfOk result.0 (λ frame. frame ≡ commit_grammar.bytes commit.now) }
+    ensures next { IfOk result.1 (λ next. next ≡ committed shown.now commit.now) }
+    ensures within { IfOk result.1 (λ _. limit_passed (committed shown.now commit.now) ≡ None) }
+    ensures limits { IfErr result.1 (IsFull (committed shown.now commit.now)) }
+{
+    let spell = move || -> Result<Frame, NoMemory>
+        requires { length (commit_grammar.bytes commit.now) < 2 ^ 32 }
+        ensures { IfOk result (λ frame. frame ≡ commit_grammar.bytes commit.entry.now) }
+    { framed(alloc, commit) };
+    let apply = move || -> Result<Snapshot, WriteError>
+        requires { Fits shown.now.files commit.now }
+        ensures next { IfOk result (λ next. next ≡ committed shown.entry.now commit.entry.now) }
+        ensures within { IfOk result (λ _. limit_passed (committed shown.entry.now commit.entry.now) ≡ None) }
+        ensures limits { IfErr result (IsFull (committed shown.entry.now commit.entry.now)) }
+    { next_snapshot(shown, commit) };
+    join(rt, spell, apply)
 }
 
 /// The record of a commit, made in one piece.

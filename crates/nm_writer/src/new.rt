@@ -246,7 +246,7 @@ impl Writer {
 
     /// Makes a commit of the mails, where there are some.
     #[tactic(auto, using(crate::proofs::DoneLemmas::stops))]
-    fn commit_added<R: Wait, D: Disk>(
+    fn commit_added<R: Threads + Wait + Sync, D: Disk>(
         &mut self,
         rt: &R,
         disk: &mut D,
@@ -268,7 +268,7 @@ impl Writer {
 
     /// Makes a commit of what is gone, where there is something, and reports what the `new` did.
     #[tactic(auto, using(crate::proofs::DoneLemmas::stops))]
-    fn let_go<R: Wait, D: Disk>(
+    fn let_go<R: Threads + Wait + Sync, D: Disk>(
         &mut self,
         rt: &R,
         disk: &mut D,
@@ -300,7 +300,7 @@ impl Writer {
 
     /// Makes a commit of the changes of these messages' files, where there are some; it ends with the tags that follow the names.
     #[tactic(auto, using(crate::proofs::DoneLemmas::stops))]
-    fn commit_some<R: Wait, D: Disk>(
+    fn commit_some<R: Threads + Wait + Sync, D: Disk>(
         &mut self,
         rt: &R,
         disk: &mut D,

@@ -123,6 +123,7 @@ impl Writer {
         Ok(Opened {
             writer: Writer {
                 alloc,
+                workers,
                 journal,
                 shower,
                 begun: Room::new(alloc),

@@ -27,11 +27,12 @@ use nm_flags::Rename;
 use nm_maildir::{Given, MailError, Maildir};
 use nm_plan::{tag_commits_fit, the_commit_of_tags_leaves_what_is_wanted};
 use std::sync::Wait;
+use std::thread::Threads;
 
 impl Writer {
     /// Sets the tags that the lines want, the first line first, in one commit; then renames the files whose names follow their
     /// tags, and makes a commit of those that moved. What the folder answered is noted. A closed writer asks nothing.
-    pub fn tag<R: Wait, M: Maildir, D: Disk>(
+    pub fn tag<R: Threads + Wait + Sync, M: Maildir, D: Disk>(
         &mut self,
         rt: &R,
         mail: &mut M,
@@ -69,7 +70,7 @@ impl Writer {
     }
 
     /// Finds the tags that the lines want, and sets them.
-    fn want_and_set<R: Wait, M: Maildir, D: Disk>(
+    fn want_and_set<R: Threads + Wait + Sync, M: Maildir, D: Disk>(
         &mut self,
         rt: &R,
         mail: &mut M,
@@ -97,7 +98,7 @@ impl Writer {
     }
 
     /// Sets the tags that are wanted, whichever command wants them.
-    fn set_tags<R: Wait, M: Maildir, D: Disk>(
+    fn set_tags<R: Threads + Wait + Sync, M: Maildir, D: Disk>(
         &mut self,
         rt: &R,
         mail: &mut M,
@@ -128,7 +129,7 @@ impl Writer {
     }
 
     /// Tries the renames, and makes a commit of the files that moved, also where the folder failed in one.
-    fn rename_files<R: Wait, M: Maildir, D: Disk>(
+    fn rename_files<R: Threads + Wait + Sync, M: Maildir, D: Disk>(
         &mut self,
         rt: &R,
         mail: &mut M,

@@ -26,6 +26,7 @@ use nm_flags::{Rename, rename_plan};
 use nm_state::Snapshot;
 use std::alloc::Global;
 use std::sync::Wait;
+use std::thread::Threads;
 
 /// The changes of tags, and the renames that follow them.
 #[derive(Drop)]
@@ -107,7 +108,7 @@ fn add_renames(
 
 impl Writer {
     /// Makes a commit of the changes, where there are some.
-    pub(crate) fn commit_changes<R: Wait, D: Disk>(
+    pub(crate) fn commit_changes<R: Threads + Wait + Sync, D: Disk>(
         &mut self,
         rt: &R,
         disk: &mut D,

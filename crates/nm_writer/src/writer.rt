@@ -19,6 +19,8 @@ use std::sync::Wait;
 /// `finish`.
 pub struct Writer {
     pub(crate) alloc: Global,
+    /// So many threads may work at once.
+    pub(crate) workers: u32,
     pub(crate) journal: Journal,
     /// Nothing is staged between two calls.
     pub(crate) shower: Shower,
@@ -105,6 +107,7 @@ impl Writer {
     {
         let Writer {
             alloc: _,
+            workers: _,
             journal: _,
             shower,
             begun,

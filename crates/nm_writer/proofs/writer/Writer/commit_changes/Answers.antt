@@ -1,4 +1,4 @@
-use Rattle.std.proofs.Common.{List, sym, subst, ◌∙◌}
+use Rattle.std.proofs.Common.{rules, List, sym, subst, ◌∙◌}
 use Rattle.std.proofs.lemmas.Bool.{eqb-true, eqb-false}
 use Rattle.nm_commit.specs.declared.change.Commit.{Commit}
 use Rattle.nm_writer.specs.Writing.{HasCommitted, IsAfterCommits}
@@ -12,7 +12,9 @@ returns-then-is_empty-clause-after g c =
     subst (λ (l : List Commit). HasCommitted c.args.self.now l c.args.self.now) (sym none) (none-made c.args.self.now)
 
 pub commit-requires-clause-fits : goal.commit-requires-clause-fits
-commit-requires-clause-fits g c = fits-alone c.args.self.now.shown c.args.changes (eqb-false _ _ (sym c.is_empty.ensures ∙ c.if-is_empty.false)) c.requires.fit
+commit-requires-clause-fits g c =
+    let fits = fits-alone c.args.self.now.shown c.args.changes (eqb-false _ _ (sym c.is_empty.ensures ∙ c.if-is_empty.false)) c.requires.fit in
+    search (rules, fits)
 
 pub returns-clause-after : goal.returns-clause-after
 returns-clause-after g c =

@@ -24,7 +24,8 @@ pub commit_changes-requires-clause-fit : goal.commit_changes-requires-clause-fit
 commit_changes-requires-clause-fit g c =
     let wanted = c.args.wanted.now.after in
     let changes : c.in_ok-planned.planned.changes ≡ tag_changes c.args.self.now.shown wanted = c.in_ok-planned.ensures.changes ∙ ap (λ (b : Base). tag_changes b wanted) c.snapshot.ensures in
-    subst (λ (l : List Change). FitInTurn c.args.self.now.shown (commit_with l)) (sym changes) (c.the_commit_of_tags_leaves_what_is_wanted.ensures.fits c.args.self.now.shown wanted)
+    let fit = subst (λ (l : List Change). FitInTurn c.args.self.now.shown (commit_with l)) (sym changes) (c.the_commit_of_tags_leaves_what_is_wanted.ensures.fits c.args.self.now.shown wanted) in
+    search (rules, fit)
 
 pub rename_files-requires-clause-fit : goal.rename_files-requires-clause-fit
 rename_files-requires-clause-fit g c =
@@ -34,8 +35,9 @@ rename_files-requires-clause-fit g c =
     let changes : c.in_ok-planned.planned.changes ≡ tag_changes old.shown wanted = c.in_ok-planned.ensures.changes ∙ ap (λ (b : Base). tag_changes b wanted) c.snapshot.ensures in
     let are : c.in_ok-planned.planned.renames ≡ renames_for old.shown wanted = c.in_ok-planned.ensures.renames ∙ ap (λ (b : Base). renames_for b wanted) c.snapshot.ensures in
     let made : HasCommitted old (tag_commit old.shown wanted) mid = subst (λ (l : List Change). HasCommitted old (commit_with l) mid) changes c.in-Ok.ensures.after in
-    moves-fit c.tag_commits_fit.ensures old mid wanted c.in_ok-planned.planned.renames (subst (λ (w : WriterState). AreNumbered w.shown) c.self.view_is c.self.invariant.2)
-    (subst (λ (w : WriterState). AreApart w.shown.files) c.self.view_is c.self.invariant.3) are (ap (λ (b : Base). b.files) made.shown ∙ c.the_commit_of_tags_leaves_what_is_wanted.ensures.files old.shown wanted) made
+    let fit = moves-fit c.tag_commits_fit.ensures old mid wanted c.in_ok-planned.planned.renames (subst (λ (w : WriterState). AreNumbered w.shown) c.self.view_is c.self.invariant.2)
+    (subst (λ (w : WriterState). AreApart w.shown.files) c.self.view_is c.self.invariant.3) are (ap (λ (b : Base). b.files) made.shown ∙ c.the_commit_of_tags_leaves_what_is_wanted.ensures.files old.shown wanted) made in
+    search (rules, fit)
 
 pub returns-in-Ok-clause-after : goal.returns-in-Ok-clause-after
 returns-in-Ok-clause-after g c =

@@ -26,10 +26,11 @@ pub let_go-requires-clause-fit : goal.let_go-requires-clause-fit
 let_go-requires-clause-fit g c =
     let mail = g.M.Maildir in
     let made = c.in-Ok.ensures.after in
-    subst (λ (l : List Change). FitInTurn c.take_in_batches.new.self.shown (commit_of c.take_in_batches.new.self.shown l c.args.compared.gone_ids)) (sym c.in_ok-went.ensures)
+    let fit = subst (λ (l : List Change). FitInTurn c.take_in_batches.new.self.shown (commit_of c.take_in_batches.new.self.shown l c.args.compared.gone_ids)) (sym c.in_ok-went.ensures)
     (gone-fit (record { fits = c.new_commits_fit.ensures; in_one = c.batches_are_what_was_read.ensures })
     (record { mail = mail.observed c.args.mail.now; given = c.args.given.now }) (record { mail = mail.observed c.take_in_batches.new.mail; given = c.take_in_batches.new.given })
-    c.args.compared c.args.self.now c.requires.listed c.take_in_batches.new.self made.0 made.1 made.2)
+    c.args.compared c.args.self.now c.requires.listed c.take_in_batches.new.self made.0 made.1 made.2) in
+    search (rules, fit)
 
 pub returns-in-Ok-clause-after : goal.returns-in-Ok-clause-after
 returns-in-Ok-clause-after g c =
