@@ -1,6 +1,6 @@
 //! A map that snapshots share, in which keys are found by their hashes: `nm_threads` and `nm_state` look up ids in such maps.
 
-ghost use Rattle.std.specs.Prelude.{◌≡◌, [], ℕ, true, false, IfOk, MatchOption, OnOk, OnErr, Some, None, if◌then◌else◌};
+ghost use Rattle.std.specs.Prelude.{◌≡◌, [], ℕ, true, false, IfOk, MatchResult, OnOk, OnErr, Some, None, if◌then◌else◌};
 ghost use Rattle.std.specs.BTreeMap.{is_at};
 ghost use Rattle.std.specs.List.{IsDistinct};
 ghost use Rattle.std.specs.Map.{keys_of, lookup};
@@ -53,47 +53,37 @@ impl<K: Hashed, V> Model for HashedMap<K, V> {
     ghost invariant = { λ m. IsHashed K.cmp K.hash m.places m.slots m.crowded m.next };
 }
 
-/// The slot of a key, and the pair in it.
+/// The slot of a key, and the pair in it. Else whether the hash leads to no pair: it may lead to another key's.
 fn found<'a, K: Hashed, V>(
     places: &Places,
     slots: &'a SharedMap<u64, (K, V)>,
     key: &K,
-) -> Option<(u64, &'a (K, V))>
-    ensures { MatchOption result (slot_value K.cmp K.hash places.now slots.now key.now ≡ None) (λ found. (at (K.hash key.now) places.now ≡ Some found.0) × (at found.0 slots.now ≡ Some found.1.now) × (is_eq (K.cmp key.now found.1.now.0) ≡ true)) }
+    code: u64,
+) -> Result<(u64, &'a (K, V)), bool>
+    requires { code ≡ K.hash key.now }
+    ensures { MatchResult result
+        (λ found. (at (K.hash key.now) places.now ≡ Some found.0) × (at found.0 slots.now ≡ Some found.1.now) × (is_eq (K.cmp key.now found.1.now.0) ≡ true))
+        (λ is_free. (slot_value K.cmp K.hash places.now slots.now key.now ≡ None) × (is_free ≡ true → option_and_then (λ slot. at slot slots.now) (at (K.hash key.now) places.now) ≡ None)) }
 {
-    let slot = places.get(key.hash_code())?;
-    let pair = slots.get_numbered(&slot)?;
+    let Some(slot) = places.get(code) else {
+        return Err(true);
+    };
+    let Some(pair) = slots.get_numbered(&slot) else {
+        return Err(true);
+    };
     if key.cmp(&pair.0) == Ordering::Equal {
-        Some((slot, pair))
+        Ok((slot, pair))
     } else {
-        None
+        Err(false)
     }
 }
 
 /// Says whether a key without a slot can have none: it is crowded already, or its hash leads to another key.
-fn is_crowded<K: Hashed, V>(
-    places: &Places,
-    slots: &SharedMap<u64, (K, V)>,
-    crowded: &SharedMap<K, V>,
-    key: &K,
-) -> bool
-    ensures free { result ≡ false → option_and_then (λ slot. at slot slots.now) (at (K.hash key.now) places.now) ≡ None }
+fn is_crowded<K: Hashed, V>(crowded: &SharedMap<K, V>, key: &K, is_free: bool) -> bool
+    ensures free { result ≡ false → is_free ≡ true }
     ensures apart { result ≡ false → lookup (is_at (K.cmp key.now)) crowded.now ≡ None }
 {
-    if is_taken(places, slots, key.hash_code()) {
-        return true;
-    }
-    crowded.get(key).is_some()
-}
-
-/// Says whether a hash leads to a pair that is still there.
-fn is_taken<K: Hashed, V>(places: &Places, slots: &SharedMap<u64, (K, V)>, code: u64) -> bool
-    ensures { result ≡ false → option_and_then (λ slot. at slot slots.now) (at code places.now) ≡ None }
-{
-    match places.get(code) {
-        None => false,
-        Some(slot) => slots.get_numbered(&slot).is_some(),
-    }
+    !is_free || crowded.get(key).is_some()
 }
 
 impl<K: Hashed, V> HashedMap<K, V> {
@@ -112,7 +102,7 @@ impl<K: Hashed, V> HashedMap<K, V> {
     pub fn get(&self, key: &K) -> Option<&V>
         ensures { option_copied result ≡ lookup (is_at (K.cmp key.now)) self.now }
     {
-        let Some((_, pair)) = found(&self.places, &self.slots, key) else {
+        let Ok((_, pair)) = found(&self.places, &self.slots, key, key.hash_code()) else {
             return self.crowded.get(key);
         };
         Some(&pair.1)
@@ -149,13 +139,17 @@ impl<K: Hashed + Copies, V: Copies> HashedMap<K, V> {
         ensures found { OnOk result ((other : K) → lookup (is_at (K.cmp other)) self.new ≡ (if is_eq (K.cmp other key) then Some value else lookup (is_at (K.cmp other)) self.old)) }
         ensures err { OnErr result (self.new ≡ self.old) }
     {
-        if let Some((slot, _)) = found(&self.places, &self.slots, &key) {
-            self.slots.insert(slot, (key, value))?;
-            // No code needs the number; that slots rise comes with it.
-            let _ = self.slots.len();
-            return Ok(());
-        }
-        if is_crowded(&self.places, &self.slots, &self.crowded, &key) {
+        let code = key.hash_code();
+        let is_free = match found(&self.places, &self.slots, &key, code) {
+            Ok((slot, _)) => {
+                self.slots.insert(slot, (key, value))?;
+                // No code needs the number; that slots rise comes with it.
+                let _ = self.slots.len();
+                return Ok(());
+            }
+            Err(is_free) => is_free,
+        };
+        if is_crowded(&self.crowded, &key, is_free) {
             self.crowded.insert(key, value)?;
             return Ok(());
         }
@@ -163,7 +157,7 @@ impl<K: Hashed + Copies, V: Copies> HashedMap<K, V> {
         if slot == u64::MAX {
             return Err(NoMemory);
         }
-        self.places.insert(key.hash_code(), slot)?;
+        self.places.insert(code, slot)?;
         self.slots.insert(slot, (key, value))?;
         let _ = self.slots.len();
         self.next = slot + 1;
@@ -174,7 +168,7 @@ impl<K: Hashed + Copies, V: Copies> HashedMap<K, V> {
         ensures found { OnOk result ((other : K) → lookup (is_at (K.cmp other)) self.new ≡ (if is_eq (K.cmp other key.now) then None else lookup (is_at (K.cmp other)) self.old)) }
         ensures err { OnErr result (self.new ≡ self.old) }
     {
-        let Some((slot, _)) = found(&self.places, &self.slots, key) else {
+        let Ok((slot, _)) = found(&self.places, &self.slots, key, key.hash_code()) else {
             self.crowded.remove(key)?;
             return Ok(());
         };

@@ -8,7 +8,7 @@ ghost use Rattle.nm_shared.specs.Spot.{IsSpotOf};
 
 use crate::run::Run;
 use crate::runs::{cut_run, max_items};
-use crate::search::{Halves, Spot, spot_of};
+use crate::search::{AtEnd, Spot, spot_of};
 use nm_base::Copies;
 
 /// Where a key stands, or would stand; its run is cut before, if it is full. Without memory for that the run grows.
@@ -19,12 +19,12 @@ pub fn spot_with_room<K: Ord + Copies, V: Copies>(runs: &mut Vec<Run<(K, V)>>, k
     ensures filled { HaveItems runs.new.items }
     ensures spot { IsSpotOf K.cmp key.now runs.new.items result }
 {
-    let spot = spot_of(runs.as_slice(), key, &Halves);
+    let spot = spot_of(runs.as_slice(), key, &AtEnd);
     if spot.found || !is_full(runs.as_slice(), spot.run) {
         return spot;
     }
     let _ = cut_run(runs, spot.run);
-    spot_of(runs.as_slice(), key, &Halves)
+    spot_of(runs.as_slice(), key, &AtEnd)
 }
 
 fn is_full<T>(runs: &[Run<T>], at: usize) -> bool {

@@ -69,6 +69,20 @@ impl<K: Ord> Seek<K> for Halves {
     }
 }
 
+/// At the end first, where keys that rise come, and then by halves.
+#[derive(Clone, Copy, Debug)]
+pub struct AtEnd;
+
+impl<K: Ord> Seek<K> for AtEnd {
+    fn place_of<V>(&self, items: &[(K, V)], key: &K) -> usize {
+        let len = items.len();
+        if len > 0 && key.cmp(&items[len - 1].0) == Ordering::Greater {
+            return len;
+        }
+        place_between(items, key, 0, len)
+    }
+}
+
 /// By guesses, of numbers of which so many of 2^64 are keys, or about so many: of hashes as many as the map has, of numbers
 /// that follow one another all. What a guess costs is time alone.
 #[derive(Clone, Copy, Debug)]

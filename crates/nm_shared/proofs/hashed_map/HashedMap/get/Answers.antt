@@ -7,10 +7,10 @@ use Rattle.nm_shared.proofs.hashed_map.HashedMap.get.Goals as goal
 pub returns-in_default : goal.returns-in_default
 returns-in_default g c =
     c.get.ensures
-    ∙ sym (found_crowded g.K.Ord.cmp g.K.Hashed.hash g.met.K.Hashed.same c.self.inside.places c.self.inside.slots c.self.inside.crowded c.self.inside.next c.self.invariant c.args.key.now c.in_default.ensures)
+    ∙ sym (found_crowded g.K.Ord.cmp g.K.Hashed.hash g.met.K.Hashed.same c.self.inside.places c.self.inside.slots c.self.inside.crowded c.self.inside.next c.self.invariant c.args.key.now c.in_default.ensures.0)
     ∙ ap (lookup (is_at (g.K.Ord.cmp c.args.key.now))) c.self.view_is
 
 pub returns : goal.returns
 returns g c =
-    sym (found_slot g.K.Ord.cmp g.K.Hashed.hash g.met.K.Hashed.same c.self.inside.places c.self.inside.slots c.self.inside.crowded c.self.inside.next c.self.invariant c.args.key.now _ c.in-Some.pair.now c.in-Some.ensures.0 c.in-Some.ensures.1 c.in-Some.ensures.2)
+    sym (found_slot g.K.Ord.cmp g.K.Hashed.hash g.met.K.Hashed.same c.self.inside.places c.self.inside.slots c.self.inside.crowded c.self.inside.next c.self.invariant c.args.key.now _ c.in-Ok.pair.now c.in-Ok.ensures.0 c.in-Ok.ensures.1 c.in-Ok.ensures.2)
     ∙ ap (lookup (is_at (g.K.Ord.cmp c.args.key.now))) c.self.view_is

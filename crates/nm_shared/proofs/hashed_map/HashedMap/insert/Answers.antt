@@ -5,29 +5,29 @@ use Rattle.std.specs.Ordering.{is_eq}
 use Rattle.nm_shared.proofs.HashedLemmas.{crowded_are, replaced_hashed, replaced_are, last_hashed, last_are}
 use Rattle.nm_shared.proofs.hashed_map.HashedMap.insert.Goals as goal
 
-pub invariant_of-self-in-Some : goal.invariant_of-self-in-Some
-invariant_of-self-in-Some g c =
-    replaced_hashed g.K.Ord.cmp g.K.Hashed.hash g.met.K.Hashed.same c.self.inside.places c.self.inside.slots c.insert.new.self c.self.inside.crowded c.self.inside.next c.self.invariant c.args.key c.args.value c.in-Some.slot _
-    c.in-Some.ensures.0 c.in-Some.ensures.1 c.in-Some.ensures.2 c.len.ensures.sorted c.in_ok-insert.ensures.found
+pub invariant_of-self-in-Ok : goal.invariant_of-self-in-Ok
+invariant_of-self-in-Ok g c =
+    replaced_hashed g.K.Ord.cmp g.K.Hashed.hash g.met.K.Hashed.same c.self.inside.places c.self.inside.slots c.insert.new.self c.self.inside.crowded c.self.inside.next c.self.invariant c.args.key c.args.value c.in-Ok.slot _
+    c.in-Ok.ensures.0 c.in-Ok.ensures.1 c.in-Ok.ensures.2 c.len.ensures.sorted c.in_ok-insert-in-Ok.ensures.found
 
-pub returns-in-Some-clause-found : goal.returns-in-Some-clause-found
-returns-in-Some-clause-found g c = λ other.
-    replaced_are g.K.Ord.cmp g.K.Hashed.hash g.met.K.Hashed.same c.self.inside.places c.self.inside.slots c.insert.new.self c.self.inside.crowded c.self.inside.next c.self.invariant c.args.key c.args.value c.in-Some.slot _
-    c.in-Some.ensures.0 c.in-Some.ensures.1 c.in-Some.ensures.2 c.len.ensures.sorted c.in_ok-insert.ensures.found other
+pub returns-in-Ok-clause-found : goal.returns-in-Ok-clause-found
+returns-in-Ok-clause-found g c = λ other.
+    replaced_are g.K.Ord.cmp g.K.Hashed.hash g.met.K.Hashed.same c.self.inside.places c.self.inside.slots c.insert.new.self c.self.inside.crowded c.self.inside.next c.self.invariant c.args.key c.args.value c.in-Ok.slot _
+    c.in-Ok.ensures.0 c.in-Ok.ensures.1 c.in-Ok.ensures.2 c.len.ensures.sorted c.in_ok-insert-in-Ok.ensures.found other
     ∙ ap (λ all. cond (is_eq (g.K.Ord.cmp other c.args.key)) (Some c.args.value) (lookup (is_at (g.K.Ord.cmp other)) all)) c.self.view_is
 
 pub returns-then-is_crowded-clause-found : goal.returns-then-is_crowded-clause-found
 returns-then-is_crowded-clause-found g c = λ other.
-    crowded_are g.K.Ord.cmp g.K.Hashed.hash g.met.K.Hashed.same c.self.inside.places c.self.inside.slots c.self.inside.crowded c.insert-then-is_crowded.new.self c.self.inside.next c.self.invariant c.args.key (Some c.args.value) c.in_default.ensures c.in_ok-insert-2.ensures.found other
+    crowded_are g.K.Ord.cmp g.K.Hashed.hash g.met.K.Hashed.same c.self.inside.places c.self.inside.slots c.self.inside.crowded c.insert-then-is_crowded.new.self c.self.inside.next c.self.invariant c.args.key (Some c.args.value) c.in-Err.ensures.0 c.in_ok-insert.ensures.found other
     ∙ ap (λ all. cond (is_eq (g.K.Ord.cmp other c.args.key)) (Some c.args.value) (lookup (is_at (g.K.Ord.cmp other)) all)) c.self.view_is
 
 pub invariant_of-self-2 : goal.invariant_of-self-2
 invariant_of-self-2 g c =
-    last_hashed g.K.Ord.cmp g.K.Hashed.hash g.met.K.Hashed.same c.self.inside.places c.insert-2.new.self c.self.inside.slots c.insert-3.new.self c.self.inside.crowded c.self.inside.next c.self.invariant c.args.key c.args.value c.hash_code.result
-    c.hash_code.ensures (c.is_crowded.ensures.free c.if-is_crowded.false) (c.is_crowded.ensures.apart c.if-is_crowded.false) c.in_ok-insert-3.ensures.found c.len-2.ensures.sorted c.in_ok-insert-4.ensures.found
+    last_hashed g.K.Ord.cmp g.K.Hashed.hash g.met.K.Hashed.same c.self.inside.places c.insert-2.new.self c.self.inside.slots c.insert-3.new.self c.self.inside.crowded c.self.inside.next c.self.invariant c.args.key c.args.value c.hash_code-code.result
+    c.hash_code-code.ensures (c.in-Err.ensures.1 (c.is_crowded.ensures.free c.if-is_crowded.false)) (c.is_crowded.ensures.apart c.if-is_crowded.false) c.in_ok-insert-2.ensures.found c.len-2.ensures.sorted c.in_ok-insert-3.ensures.found
 
 pub returns-clause-found : goal.returns-clause-found
 returns-clause-found g c = λ other.
-    last_are g.K.Ord.cmp g.K.Hashed.hash g.met.K.Hashed.same c.self.inside.places c.insert-2.new.self c.self.inside.slots c.insert-3.new.self c.self.inside.crowded c.self.inside.next c.self.invariant c.args.key c.args.value c.hash_code.result
-    c.hash_code.ensures (c.is_crowded.ensures.free c.if-is_crowded.false) (c.is_crowded.ensures.apart c.if-is_crowded.false) c.in_ok-insert-3.ensures.found c.len-2.ensures.sorted c.in_ok-insert-4.ensures.found other
+    last_are g.K.Ord.cmp g.K.Hashed.hash g.met.K.Hashed.same c.self.inside.places c.insert-2.new.self c.self.inside.slots c.insert-3.new.self c.self.inside.crowded c.self.inside.next c.self.invariant c.args.key c.args.value c.hash_code-code.result
+    c.hash_code-code.ensures (c.in-Err.ensures.1 (c.is_crowded.ensures.free c.if-is_crowded.false)) (c.is_crowded.ensures.apart c.if-is_crowded.false) c.in_ok-insert-2.ensures.found c.len-2.ensures.sorted c.in_ok-insert-3.ensures.found other
     ∙ ap (λ all. cond (is_eq (g.K.Ord.cmp other c.args.key)) (Some c.args.value) (lookup (is_at (g.K.Ord.cmp other)) all)) c.self.view_is
