@@ -1,4 +1,4 @@
-//! A job over many inputs, by several workers, as `nm_scan` has it done.
+//! A job over many inputs, by several workers, as `nm_scan` and `nm_writer` have it done.
 
 ghost use Rattle.std.specs.Prelude.{◌<◌, ◌≤◌, IfOk, All};
 ghost use Rattle.std.specs.List.{AllZip};

@@ -1,5 +1,5 @@
-//! The gate by which `rows_system` and `rows_index` tell that two seats worked at once: of the two, the one that comes first waits for the
-//! other, for a number of turns.
+//! The gate by which `rows_index` and `rows_session` tell that two seats worked at once: of the two, the one that comes first
+//! waits for the other, for a number of turns.
 
 ghost use Rattle.std.specs.Prelude.{◌≢◌};
 

@@ -7,13 +7,14 @@ use Rattle.nm_base.specs.Limits.{max_count}
 use Rattle.nm_base.specs.declared.limit.Limit.{Limit as AnyLimit}
 use Rattle.nm_commit.specs.Files.{Fits}
 use Rattle.nm_commit.specs.declared.change.Commit.{Commit}
+use Rattle.nm_disk.specs.declared.disk.FileNo.TheVariants.{Head}
 use Rattle.nm_index.specs.Fits.{FitInTurn}
 use Rattle.nm_index.specs.Index.{committed, empty_index, folded}
 use Rattle.nm_index.specs.declared.base.Base.{Base}
 use Rattle.nm_journal.specs.Records.{AreBodies, record_of, records_of}
 use Rattle.nm_record.specs.CommitGrammar.{commit_grammar}
 use Rattle.nm_record.specs.Room.{limit_passed}
-use Rattle.nm_writer.specs.Opening.{HasBodyFault, IsAfterRead, IsRead, IsRefusedBody, IsRefusedRead, IsToldAt, IsTooMuch}
+use Rattle.nm_writer.specs.Opening.{HasBodyFault, IsAfterRead, IsRead, IsRefusedRead, IsToldAt, IsTooMuch}
 use Rattle.nm_writer.specs.declared.open_error.OpenError.{OpenError}
 use Rattle.nm_writer.specs.declared.open_error.OpenError.TheVariants.{BadIndex, DiskFault, Limit, NoMemory}
 use Rattle.nm_writer.specs.StoredIndex.{AreCommits, HasBadBody, HasCommits, HasPassed, IsNoCommit, StayWithin, bodies_of}
@@ -121,6 +122,13 @@ gate-turn bodies i body gate mid next len within is before first second long =
     let front : take (i + 1) bodies ≡ take i bodies ++ body ∷ [] = take_more bodies i body within ∙ ap (λ (b : List ℕ). take i bodies ++ b ∷ []) (sym is) in
     let longer : length (records_of (take (i + 1) bodies)) ≡ length (records_of (take i bodies)) + (5 + length body) = ap (λ l. length (records_of l)) front ∙ records-more (take i bodies) body in
     omega (arith, before, first, second, long, longer)
+
+-- a single body is refused so over this index: it is bad, or the index after it passes the limit
+abbrev pub IsRefusedBody : Base → List ℕ → OpenError → Type 0
+IsRefusedBody index body (BadIndex file at) = (file ≡ Head) × (length body < 2 ^ 32 → IsNoCommit index body)
+IsRefusedBody index body (Limit limit) = (commit : Commit) × (body ≡ commit_grammar.bytes commit) × (commit_grammar.is_value commit ≡ true) × IsTooMuch index commit limit
+IsRefusedBody index body DiskFault = ⊥
+IsRefusedBody index body NoMemory = Unit {0}
 
 -- a bad body is told of all bodies
 pub body-fault : (bodies : List (List ℕ)) (i : ℕ) (body seen : List ℕ) (index : Base) (gate : ℕ) (error : OpenError) → i < length bodies → body ≡ get_or bodies i body → seen ≡ body → Replayed (take i bodies) index

@@ -9,7 +9,7 @@ use Rattle.nm_index.specs.declared.base.Base.{Base}
 use Rattle.nm_journal.specs.Records.{AreBodies}
 use Rattle.nm_record.specs.CommitGrammar.{commit_grammar}
 use Rattle.nm_record.specs.Room.{limit_passed}
-use Rattle.nm_writer.specs.StoredIndex.{HasBadBody, HasPassed, HoldsNoIndex, IsNoCommit, PassesLimit}
+use Rattle.nm_writer.specs.StoredIndex.{HasBadBody, HasPassed, HoldsNoIndex, PassesLimit}
 use Rattle.nm_writer.specs.declared.open_error.OpenError.{OpenError}
 use Rattle.nm_writer.specs.declared.open_error.OpenError.TheVariants.{BadIndex, DiskFault, Limit, NoMemory}
 
@@ -47,13 +47,6 @@ pub record IsRead (body : List ℕ) (read : Option Commit) : Type 0 where
 abbrev pub IsAfterRead : Base → Option Commit → Base → Type 0
 IsAfterRead index None new = ⊥
 IsAfterRead index (Some commit) new = Fits index.files commit × (new ≡ committed index commit) × (limit_passed (committed index commit) ≡ None)
-
--- a single body is refused so over this index: it is bad, or the index after it passes the limit
-abbrev pub IsRefusedBody : Base → List ℕ → OpenError → Type 0
-IsRefusedBody index body (BadIndex file at) = (file ≡ Head) × (length body < 2 ^ 32 → IsNoCommit index body)
-IsRefusedBody index body (Limit limit) = (commit : Commit) × (body ≡ commit_grammar.bytes commit) × (commit_grammar.is_value commit ≡ true) × IsTooMuch index commit limit
-IsRefusedBody index body DiskFault = ⊥
-IsRefusedBody index body NoMemory = Unit {0}
 
 -- a commit is refused so over this index: it doesn't fit, or the index after it passes the limit
 abbrev pub IsRefusedCommit : Base → Commit → OpenError → Type 0

@@ -1,7 +1,7 @@
 //! Rows on the disks of a real folder, which the lines `+` fill: each line `|` is a call on one of two disks, and is answered by a
 //! line. For `answers`.
 
-use crate::real_folder::{below, fill, new_folder, remove};
+use crate::real_folder::{below, fill};
 use nm_base::{Failed, Text};
 use nm_disk::{Disk, DiskFolder, FileDisk, FileNo};
 use rows::{Lines, Row, RowError, cut, number_of, text_of};
@@ -10,14 +10,7 @@ use std::alloc::Global;
 /// A read asks for so many bytes.
 const READ: usize = 16;
 
-pub fn answered(rt: &HostRuntime, alloc: Global, row: &Row<'_>) -> Result<Vec<u8>, RowError> {
-    let folder = new_folder(rt)?;
-    let answer = called(rt, alloc, folder.as_str(), row);
-    remove(rt, folder.as_str())?;
-    answer
-}
-
-fn called(
+pub fn called(
     rt: &HostRuntime,
     alloc: Global,
     folder: &str,

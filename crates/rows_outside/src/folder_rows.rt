@@ -1,6 +1,6 @@
 //! Rows on a real folder of mail, which the lines `+` fill: each line `|` is a call, and is answered by a line. For `answers`.
 
-use crate::real_folder::{fill, new_folder, remove};
+use crate::real_folder::fill;
 use nm_base::{Failed, MailPath, Text};
 use nm_maildir::{FolderMail, Got, Listing, MailError, MailFolder, Maildir, Renamed};
 use rows::{Lines, Row, RowError, cut, number_of, text_of};
@@ -8,14 +8,7 @@ use std::alloc::Global;
 
 type Mail = FolderMail<HostRuntime>;
 
-pub fn answered(rt: &HostRuntime, alloc: Global, row: &Row<'_>) -> Result<Vec<u8>, RowError> {
-    let folder = new_folder(rt)?;
-    let answer = called(rt, alloc, folder.as_str(), row);
-    remove(rt, folder.as_str())?;
-    answer
-}
-
-fn called(
+pub fn called(
     rt: &HostRuntime,
     alloc: Global,
     folder: &str,

@@ -1,7 +1,7 @@
 //! Rows on sources and sinks over a real file, and over streams that are interrupted or fail: each line `|` is a call, and is
 //! answered by a line. For `answers`.
 
-use crate::real_folder::{below, new_folder, refused, remove};
+use crate::real_folder::{below, refused};
 use crate::script::Script;
 use nm_base::Failed;
 use nm_io::{Sink, Source, StdSink, StdSource, TakeError, take_all};
@@ -65,14 +65,7 @@ fn put<S: Sink>(sink: &mut S, lines: &mut Lines, line: &[u8]) -> Result<(), RowE
 }
 
 /// `put TEXT` into a new file, `take-all MOST` from it, and `take-unread`, a call on a file that may only be written.
-pub fn of_file(rt: &HostRuntime, alloc: Global, row: &Row<'_>) -> Result<Vec<u8>, RowError> {
-    let folder = new_folder(rt)?;
-    let answer = of_file_in(rt, alloc, folder.as_str(), row);
-    remove(rt, folder.as_str())?;
-    answer
-}
-
-fn of_file_in(
+pub fn of_file(
     rt: &HostRuntime,
     alloc: Global,
     folder: &str,
