@@ -12,7 +12,7 @@ const KEPT_EVERY: u64 = 256;
 const SCATTER: u64 = 0x9e37_79b9_7f4a_7c15;
 
 /// In which order keys come.
-#[derive(Clone, Copy, Debug, PartialEq, Eq)]
+#[derive(Clone, Copy)]
 pub enum Order {
     Rising,
     Scattered,

@@ -21,7 +21,7 @@ const COMMITS: u64 = 1_000;
 const MOST: u64 = 1 << 63;
 
 /// What is done.
-#[derive(Clone, Copy, Debug, PartialEq, Eq)]
+#[derive(Clone, Copy, PartialEq, Eq)]
 pub enum Job {
     /// A store is made.
     Built,

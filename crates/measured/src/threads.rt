@@ -21,7 +21,7 @@ const MAX_LEN: u64 = 200;
 const MOST: u64 = 1 << 63;
 
 /// What is done to the labels.
-#[derive(Clone, Copy, Debug, PartialEq, Eq)]
+#[derive(Clone, Copy, PartialEq, Eq)]
 pub enum Work {
     /// Mails in threads of 1 to 200 come.
     Many,
@@ -32,7 +32,7 @@ pub enum Work {
 }
 
 /// How the rows of a commit are added.
-#[derive(Clone, Copy, Debug, PartialEq, Eq)]
+#[derive(Clone, Copy, PartialEq, Eq)]
 pub enum Coming {
     /// All or none.
     Together,
@@ -41,7 +41,7 @@ pub enum Coming {
 }
 
 /// A thread that mails come to: the numbers of its first mail and of the last one, and how many are still to come.
-#[derive(Clone, Copy, Debug)]
+#[derive(Clone, Copy)]
 struct Thread {
     first: u64,
     last: u64,

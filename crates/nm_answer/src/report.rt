@@ -3,7 +3,7 @@
 use nm_base::{MailPath, Many, Skip};
 
 /// What `new` did.
-#[derive(Debug, Drop)]
+#[derive(Drop)]
 pub struct NewReport {
     /// Files.
     pub added: u64,

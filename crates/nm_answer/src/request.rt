@@ -3,7 +3,7 @@
 use nm_base::{Copies, CountAsk, DumpAsk, NoMemory, RestoreAsk, SearchAsk, ShowAsk, TagAsk};
 
 /// What a command asks for.
-#[derive(Clone, Debug, Drop, PartialEq, Eq)]
+#[derive(Drop)]
 pub enum Request {
     /// Add the mail that the folder holds anew, and remove what it lacks.
     New,

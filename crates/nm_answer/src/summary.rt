@@ -3,7 +3,7 @@
 use nm_base::{Many, Tags};
 
 /// What a search tells of a thread.
-#[derive(Debug, Drop)]
+#[derive(Drop)]
 pub struct ThreadSummary {
     /// The name of the thread.
     pub thread: u64,

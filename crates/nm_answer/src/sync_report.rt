@@ -4,7 +4,7 @@
 use nm_base::{MailPath, Many};
 
 /// Why a file keeps its name.
-#[derive(Clone, Copy, Debug, PartialEq, Eq)]
+#[derive(Clone, Copy)]
 pub enum Unmoved {
     /// It isn't there.
     Missing,
@@ -15,7 +15,7 @@ pub enum Unmoved {
 }
 
 /// What a command that sets tags did with the names of files.
-#[derive(Debug, Drop)]
+#[derive(Drop)]
 pub struct SyncReport {
     /// The files that keep names which don't follow their tags, in the order in which they were gone through.
     pub unmoved: Many<(MailPath, Unmoved)>,

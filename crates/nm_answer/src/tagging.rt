@@ -5,7 +5,7 @@ use nm_base::{Many, TagOp};
 use nm_query::Query;
 
 /// Operations on the tags of each message that a query finds.
-#[derive(Debug, Drop)]
+#[derive(Drop)]
 pub struct Tagging {
     /// All its tags are taken off first.
     pub clear: bool,

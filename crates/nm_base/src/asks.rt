@@ -4,7 +4,7 @@
 use crate::{Copies, DumpForm, Many, NoMemory, Output, ReadForm, TagOp, Text};
 
 /// What `search` was asked.
-#[derive(Clone, Debug, Drop, PartialEq, Eq)]
+#[derive(Clone, Drop)]
 pub struct SearchAsk {
     pub json: bool,
     pub output: Output,
@@ -20,7 +20,7 @@ pub struct SearchAsk {
 }
 
 /// What `count` was asked.
-#[derive(Clone, Debug, Drop, PartialEq, Eq)]
+#[derive(Clone, Drop)]
 pub struct CountAsk {
     pub output: Output,
     /// Whether messages with an excluded tag are left out.
@@ -31,7 +31,7 @@ pub struct CountAsk {
 }
 
 /// What `show` was asked.
-#[derive(Clone, Debug, Drop, PartialEq, Eq)]
+#[derive(Clone, Drop)]
 pub struct ShowAsk {
     /// Whether the file is shown as it is.
     pub raw: bool,
@@ -41,7 +41,7 @@ pub struct ShowAsk {
 }
 
 /// What `tag` was asked.
-#[derive(Clone, Debug, Drop, PartialEq, Eq)]
+#[derive(Clone, Drop)]
 pub struct TagAsk {
     /// Whether all tags are taken off first.
     pub clear: bool,
@@ -52,14 +52,14 @@ pub struct TagAsk {
 }
 
 /// What `dump` was asked.
-#[derive(Clone, Debug, Drop, PartialEq, Eq)]
+#[derive(Clone, Drop)]
 pub struct DumpAsk {
     pub form: DumpForm,
     pub query: Text,
 }
 
 /// What `restore` was asked.
-#[derive(Clone, Copy, Debug, PartialEq, Eq)]
+#[derive(Clone, Copy)]
 pub struct RestoreAsk {
     pub form: ReadForm,
     /// Whether the tags that a message has stay.

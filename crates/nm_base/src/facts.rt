@@ -6,7 +6,7 @@ ghost use Rattle.nm_base.specs.FieldNumber.{field_number};
 use crate::{Copies, Many, MessageId, NoMemory, Text, WordList};
 
 /// Where in a mail a word stands.
-#[derive(Clone, Copy, Debug, PartialEq, Eq, PartialOrd, Ord)]
+#[derive(Clone, Copy)]
 pub enum Field {
     From,
     To,
@@ -31,21 +31,21 @@ impl Field {
 }
 
 /// A name and an address; either may be empty.
-#[derive(Clone, Debug, Drop, PartialEq, Eq)]
+#[derive(Clone, Drop)]
 pub struct Mailbox {
     pub name: Text,
     pub address: Text,
 }
 
 /// The words of one text of a mail, in their order.
-#[derive(Clone, Debug, Drop)]
+#[derive(Clone, Drop)]
 pub struct FieldWords {
     pub field: Field,
     pub words: WordList,
 }
 
 /// What the parts of a mail say of it.
-#[derive(Clone, Copy, Debug, PartialEq, Eq)]
+#[derive(Clone, Copy)]
 pub struct Marks {
     pub attachment: bool,
     pub signed: bool,
@@ -53,7 +53,7 @@ pub struct Marks {
 }
 
 /// What the index knows of a mail.
-#[derive(Clone, Debug, Drop)]
+#[derive(Clone, Drop)]
 pub struct Facts {
     pub id: MessageId,
     /// The ids of the mails that it answers or names, the own id left out, without repeats.
@@ -70,7 +70,7 @@ pub struct Facts {
 }
 
 /// An id, and the ids that its mail links to.
-#[derive(Clone, Debug, Drop, PartialEq, Eq)]
+#[derive(Clone, Drop, PartialEq, Eq)]
 pub struct LinkRow {
     pub id: MessageId,
     pub links: Many<MessageId>,

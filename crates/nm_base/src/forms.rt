@@ -4,7 +4,7 @@
 use crate::{Copies, NoMemory};
 
 /// What is printed or counted of the messages that match.
-#[derive(Clone, Copy, Debug, PartialEq, Eq)]
+#[derive(Clone, Copy, PartialEq, Eq)]
 pub enum Output {
     Summary,
     Threads,
@@ -14,7 +14,7 @@ pub enum Output {
 }
 
 /// How a dump is written.
-#[derive(Clone, Copy, Debug, PartialEq, Eq)]
+#[derive(Clone, Copy)]
 pub enum DumpForm {
     /// A line of tag changes and the id.
     BatchTag,
@@ -23,7 +23,7 @@ pub enum DumpForm {
 }
 
 /// How a dump is read.
-#[derive(Clone, Copy, Debug, PartialEq, Eq)]
+#[derive(Clone, Copy)]
 pub enum ReadForm {
     /// The first line tells.
     Auto,

@@ -10,7 +10,7 @@ use std::marker::Model;
 use std::mem;
 
 /// A vector that contracts see as the list of its items.
-#[derive(Clone, Debug, Drop)]
+#[derive(Clone, Drop)]
 pub struct Many<T> {
     vec: Vec<T>,
 }

@@ -4,12 +4,12 @@ use std::alloc::{AllocError, AllocFailed};
 use thiserror::Error;
 
 /// A device outside the process failed. Its count of faults tells more.
-#[derive(Clone, Copy, Debug, PartialEq, Eq, Error)]
+#[derive(Clone, Copy, Debug, Error)]
 #[error("a device failed")]
 pub struct Failed;
 
 /// There was no memory.
-#[derive(Clone, Copy, Debug, PartialEq, Eq, Error)]
+#[derive(Clone, Copy, Debug, Error)]
 #[error("no memory")]
 pub struct NoMemory;
 

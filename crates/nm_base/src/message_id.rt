@@ -10,7 +10,7 @@ use crate::{BadValue, Copies, NoMemory, Text};
 use std::marker::Model;
 
 /// What names a message: 1 to 1,000 bytes, none of them white space, `<` or `>`.
-#[derive(Clone, Debug, Drop, PartialEq, Eq, PartialOrd, Ord)]
+#[derive(Clone, Drop, PartialEq, Eq, PartialOrd, Ord)]
 pub struct MessageId {
     text: Text,
 }

@@ -6,7 +6,7 @@ ghost use Rattle.nm_base.specs.Bounds.{fits_length};
 use thiserror::Error;
 
 /// What is wrong with a text that was to become a name, a tag, a word or a path.
-#[derive(Clone, Copy, Debug, PartialEq, Eq, Error)]
+#[derive(Clone, Copy, Debug, Error)]
 pub enum BadValue {
     /// It is empty or too long.
     #[error("length")]

@@ -1,7 +1,7 @@
 //! The kinds of refusals: of the words of a command, by `nm_command`, and of a file by `new`, in the report of `nm_answer`.
 
 /// What is wrong with the words of a command.
-#[derive(Clone, Copy, Debug, PartialEq, Eq)]
+#[derive(Clone, Copy, Debug)]
 pub enum UsageKind {
     /// No such command, or none at all.
     Command,
@@ -28,7 +28,7 @@ pub enum UsageKind {
 }
 
 /// Why `new` passed over a file.
-#[derive(Clone, Copy, Debug, PartialEq, Eq)]
+#[derive(Clone, Copy)]
 pub enum Skip {
     NotMail,
     Missing,

@@ -7,7 +7,7 @@ use std::alloc::Global;
 use std::marker::Model;
 
 /// A vector with places kept free: seen as its list, and the number of spare places.
-#[derive(Debug, Drop)]
+#[derive(Drop)]
 pub struct Room<T> {
     vec: Vec<T>,
     spare: usize,

@@ -9,7 +9,7 @@ use crate::{BadValue, Copies, NoMemory, Text};
 use std::marker::Model;
 
 /// A tag: 1 to 200 bytes, the first of them no `-`.
-#[derive(Clone, Debug, Drop, PartialEq, Eq, PartialOrd, Ord)]
+#[derive(Clone, Drop, PartialEq, Eq, PartialOrd, Ord)]
 pub struct Tag {
     text: Text,
 }

@@ -3,7 +3,7 @@
 use crate::{Copies, NoMemory, Tag};
 
 /// One change of a message's tags.
-#[derive(Clone, Debug, Drop, PartialEq, Eq)]
+#[derive(Clone, Drop)]
 pub struct TagOp {
     /// Whether the tag is set, else it is taken off.
     pub add: bool,

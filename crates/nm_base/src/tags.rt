@@ -11,7 +11,7 @@ use std::collections::btree_set;
 use std::marker::Model;
 
 /// A set of tags, seen as the strictly rising list of them.
-#[derive(Clone, Debug, Drop, PartialEq, Eq)]
+#[derive(Clone, Drop, PartialEq, Eq)]
 pub struct Tags {
     set: TextSet<Tag>,
 }

@@ -15,7 +15,7 @@ use std::collections::{BTreeSet, btree_set};
 use std::marker::Model;
 
 /// A set of texts, as names, ids or paths, seen as the strictly rising list of them.
-#[derive(Clone, Debug, Drop)]
+#[derive(Clone, Drop)]
 pub struct TextSet<T: Ord> {
     set: BTreeSet<T>,
 }

@@ -13,7 +13,7 @@ use std::mem::size_of;
 
 /// The words of a text in their order, each of 1 to 200 bytes and UTF-8. A word takes its bytes and one more. A
 /// mail may have many texts without words, so the list of none is small and takes no block.
-#[derive(Clone, Debug, Drop)]
+#[derive(Clone, Drop)]
 pub struct WordList {
     alloc: Global,
     row: Option<Box<WordRow>>,
@@ -23,14 +23,14 @@ pub struct WordList {
 const _: () = prove!(size_of::<WordList>() <= 16);
 
 /// One word or more.
-#[derive(Clone, Debug, Drop)]
+#[derive(Clone, Drop)]
 pub(crate) struct WordRow {
     count: usize,
     bytes: Vec<u8>,
 }
 
 /// The words of a list from some place on, seen as those.
-#[derive(Debug, Drop)]
+#[derive(Drop)]
 pub struct Words<'a> {
     count: usize,
     bytes: &'a [u8],

@@ -19,7 +19,7 @@ pub fn read_queries(alloc: Global, input: &[u8]) -> Result<Many<Query>, LineErro
 }
 
 /// Each line is a query.
-#[derive(Clone, Copy, Debug)]
+#[derive(Clone, Copy)]
 struct CountLines;
 
 impl LineReader for CountLines {

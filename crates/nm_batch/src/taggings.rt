@@ -21,7 +21,7 @@ pub fn read_taggings(alloc: Global, input: &[u8], clear: bool) -> Result<Many<Ta
 }
 
 /// Each line that is not passed over has changes of tags, and a query.
-#[derive(Clone, Copy, Debug)]
+#[derive(Clone, Copy)]
 struct TagLines {
     clear: bool,
 }

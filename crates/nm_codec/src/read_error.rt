@@ -5,14 +5,14 @@ use std::alloc::AllocError;
 use thiserror::Error;
 
 /// The place of the first byte that is not of the grammar, counted from 0; at the length where the bytes end too soon.
-#[derive(Clone, Copy, Debug, PartialEq, Eq, Error)]
+#[derive(Clone, Copy, Debug, Error)]
 #[error("bad at {at}")]
 pub struct Bad {
     pub at: u64,
 }
 
 /// As `Bad`, or out of memory.
-#[derive(Clone, Copy, Debug, PartialEq, Eq, Error)]
+#[derive(Clone, Copy, Debug, Error)]
 pub enum ReadError {
     #[error("bad at {at}")]
     Bad { at: u64 },

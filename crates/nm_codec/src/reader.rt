@@ -10,7 +10,7 @@ use std::alloc::Global;
 use std::marker::Model;
 
 /// Reads bytes from left to right, seen as the bytes that are left and how many there are in all.
-#[derive(Debug, Drop)]
+#[derive(Drop)]
 pub struct Reader<'a> {
     len: usize,
     rest: &'a [u8],

@@ -4,7 +4,7 @@ use nm_base::{Text, UsageKind};
 use thiserror::Error;
 
 /// The word at fault, and what is wrong with it; the word is empty where one is wanting.
-#[derive(Debug, Drop, PartialEq, Eq, Error)]
+#[derive(Debug, Drop, Error)]
 pub enum CommandError {
     #[error("usage")]
     Usage { word: Text, kind: UsageKind },

@@ -19,7 +19,7 @@ use std::alloc::Global;
 use thiserror::Error;
 
 /// What the program's leading options say.
-#[derive(Debug, Drop, PartialEq, Eq)]
+#[derive(Drop)]
 pub struct Leading {
     /// The folder of mail.
     pub mail: Text,
@@ -34,7 +34,7 @@ pub struct Leading {
 }
 
 /// Why words have no leading options.
-#[derive(Clone, Copy, Debug, PartialEq, Eq, Error)]
+#[derive(Clone, Copy, Debug, Error)]
 pub enum HeadError {
     /// One of them is out of form, or a name stands twice.
     #[error("usage")]

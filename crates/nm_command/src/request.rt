@@ -3,7 +3,7 @@
 use nm_base::{Copies, CountAsk, DumpAsk, NoMemory, RestoreAsk, SearchAsk, ShowAsk, TagAsk};
 
 /// What a command asks for.
-#[derive(Debug, Drop, PartialEq, Eq)]
+#[derive(Drop)]
 pub enum Request {
     New,
     Search(SearchAsk),

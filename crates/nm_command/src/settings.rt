@@ -6,7 +6,7 @@ ghost use Rattle.nm_command.specs.Settings.{is_given, nothing_set, or_default, w
 use nm_base::{DumpForm, Output, ReadForm};
 
 /// What one option sets.
-#[derive(Clone, Copy, Debug, PartialEq, Eq)]
+#[derive(Clone, Copy)]
 pub(crate) enum Setting {
     Json(bool),
     Raw(bool),
@@ -23,7 +23,7 @@ pub(crate) enum Setting {
 }
 
 /// What the options up to a word have set, as far as they were there.
-#[derive(Clone, Copy, Debug, PartialEq, Eq)]
+#[derive(Clone, Copy)]
 pub(crate) struct Settings {
     pub json: Option<bool>,
     pub raw: Option<bool>,

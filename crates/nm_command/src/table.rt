@@ -8,7 +8,7 @@ use crate::settings::Setting;
 use nm_base::{DumpForm, Output, ReadForm};
 
 /// The commands that there are.
-#[derive(Clone, Copy, Debug, PartialEq, Eq)]
+#[derive(Clone, Copy)]
 pub enum CommandName {
     New,
     Search,
@@ -22,7 +22,7 @@ pub enum CommandName {
 }
 
 /// What the value of an option may be.
-#[derive(Clone, Copy, Debug, PartialEq, Eq)]
+#[derive(Clone, Copy)]
 pub(crate) enum Form {
     /// It has none.
     Flag(Setting),
@@ -32,7 +32,7 @@ pub(crate) enum Form {
 }
 
 /// The options whose value is one of a few words.
-#[derive(Clone, Copy, Debug, PartialEq, Eq)]
+#[derive(Clone, Copy)]
 pub(crate) enum Values {
     SearchFormat,
     ShowFormat,
@@ -45,14 +45,14 @@ pub(crate) enum Values {
 }
 
 /// The options whose value is a number.
-#[derive(Clone, Copy, Debug, PartialEq, Eq)]
+#[derive(Clone, Copy)]
 pub(crate) enum Numbered {
     Offset,
     Limit,
 }
 
 /// What the value of an option before the command may be.
-#[derive(Clone, Copy, Debug, PartialEq, Eq)]
+#[derive(Clone, Copy)]
 pub(crate) enum LeadingForm {
     /// A path, of one byte at least.
     Folder,

@@ -21,7 +21,7 @@ use std::mem;
 use thiserror::Error;
 
 /// Why a step was not taken.
-#[derive(Clone, Copy, Debug, PartialEq, Eq, Error)]
+#[derive(Clone, Copy, Debug, Error)]
 pub enum CoreError {
     /// The machine does not allow it.
     #[error("not now")]

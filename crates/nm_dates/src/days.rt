@@ -10,7 +10,7 @@ use crate::seconds::{DAY, FIRST_DAY};
 use jiff_core::civil::Date;
 
 /// A date by its numbers.
-#[derive(Clone, Copy, Debug, PartialEq, Eq)]
+#[derive(Clone, Copy)]
 pub(crate) struct Civil {
     pub year: u16,
     pub month: u8,

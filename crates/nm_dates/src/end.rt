@@ -3,7 +3,7 @@
 use thiserror::Error;
 
 /// What `N days` and the like count in.
-#[derive(Clone, Copy, Debug, PartialEq, Eq)]
+#[derive(Clone, Copy)]
 pub enum DateUnit {
     Hours,
     Days,
@@ -13,7 +13,7 @@ pub enum DateUnit {
 }
 
 /// One end of a date range. It stands for the seconds of its unit of time.
-#[derive(Clone, Copy, Debug, PartialEq, Eq)]
+#[derive(Clone, Copy)]
 pub enum End {
     /// That second, counted from 1970-01-01 00:00:00 UTC.
     Second(i64),
@@ -30,6 +30,6 @@ pub enum End {
 }
 
 /// The text is no end of a date range.
-#[derive(Clone, Copy, Debug, PartialEq, Eq, Error)]
+#[derive(Clone, Copy, Debug, Error)]
 #[error("no date")]
 pub struct BadDate;

@@ -9,7 +9,7 @@ use crate::days::{date_of, day_number, last_of_month, months_before};
 use crate::{DateUnit, End};
 
 /// From the first to the last of the seconds that an end stands for.
-#[derive(Clone, Copy, Debug, PartialEq, Eq)]
+#[derive(Clone, Copy)]
 pub struct Seconds {
     pub first: i64,
     pub last: i64,

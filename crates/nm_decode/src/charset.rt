@@ -9,7 +9,7 @@ use nm_text::{as_text, same_ignoring_case};
 use std::alloc::Global;
 
 /// The charsets that are told apart: every other label is read as ASCII.
-#[derive(Clone, Copy, Debug, PartialEq, Eq)]
+#[derive(Clone, Copy)]
 pub enum Charset {
     Ascii,
     Latin1,

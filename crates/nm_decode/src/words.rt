@@ -11,14 +11,14 @@ use nm_text::is_all_white_space;
 use std::alloc::Global;
 
 /// An encoded word that decodes: its length in bytes, and its text.
-#[derive(Debug, Drop)]
+#[derive(Drop)]
 pub struct EncodedWord {
     pub len: usize,
     pub text: Text,
 }
 
 /// The first such word of a text, and the byte at which it begins.
-#[derive(Debug, Drop)]
+#[derive(Drop)]
 pub struct FoundWord {
     pub at: usize,
     pub word: EncodedWord,

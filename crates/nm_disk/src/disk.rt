@@ -11,12 +11,12 @@ use nm_base::{Failed, Text};
 use thiserror::Error;
 
 /// A call of the disk failed; what it was writing is lost or not.
-#[derive(Clone, Copy, Debug, PartialEq, Eq, Error)]
+#[derive(Clone, Copy, Debug, Error)]
 #[error("disk fault")]
 pub struct DiskFault;
 
 /// The three files of a disk.
-#[derive(Clone, Copy, Debug, PartialEq, Eq)]
+#[derive(Clone, Copy, Debug)]
 pub enum FileNo {
     Head,
     BankA,

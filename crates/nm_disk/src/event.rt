@@ -7,7 +7,7 @@ use crate::FileNo;
 use nm_base::Many;
 
 /// What a call did to the disk.
-#[derive(Debug, Drop)]
+#[derive(Drop)]
 pub enum Deed {
     Write {
         file: FileNo,
@@ -26,7 +26,7 @@ pub enum Deed {
 }
 
 /// A deed, and the number of its call since the disk was made, from 1.
-#[derive(Debug, Drop)]
+#[derive(Drop)]
 pub struct Event {
     pub call: u64,
     pub deed: Deed,

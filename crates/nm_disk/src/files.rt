@@ -9,7 +9,7 @@ use std::alloc::Global;
 use std::mem;
 
 /// The bytes of the three files.
-#[derive(Debug, Drop)]
+#[derive(Drop)]
 pub struct Files {
     pub head: Many<u8>,
     pub bank_a: Many<u8>,

@@ -12,7 +12,7 @@ use std::alloc::Global;
 use std::mem;
 
 /// Bytes of a file that were written: where they begin, and how many they are.
-#[derive(Clone, Copy, Debug, PartialEq, Eq)]
+#[derive(Clone, Copy)]
 pub struct Range {
     pub file: FileNo,
     pub start: u64,
@@ -21,7 +21,7 @@ pub struct Range {
 
 /// A disk at a moment: what a read gives, what it gave after the last sync that went well, and what was written since,
 /// the last first.
-#[derive(Debug, Drop)]
+#[derive(Drop)]
 pub struct DiskState {
     pub now: Files,
     pub synced: Files,

@@ -13,7 +13,7 @@ use nm_base::NoMemory;
 use std::alloc::Global;
 
 /// What the ranges hold that were written and not synced.
-#[derive(Clone, Copy, Debug, PartialEq, Eq)]
+#[derive(Clone, Copy)]
 pub enum Pick {
     /// What they held before.
     Old,

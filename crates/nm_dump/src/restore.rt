@@ -14,7 +14,7 @@ use nm_tags::Wanted;
 use std::alloc::Global;
 
 /// Changes of tags by the lines of a dump, and what they name that is no message.
-#[derive(Debug, Drop)]
+#[derive(Drop)]
 pub struct DumpChanges {
     /// A change for each line. Unless tags are to stay, the first line that names a message takes off all that it has.
     pub lines: Many<Tagging>,

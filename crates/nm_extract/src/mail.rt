@@ -19,7 +19,7 @@ use std::alloc::Global;
 use thiserror::Error;
 
 /// Why a file has no facts.
-#[derive(Clone, Copy, Debug, Error, PartialEq, Eq)]
+#[derive(Clone, Copy, Debug, Error)]
 pub enum ExtractError {
     /// It says neither who wrote it, nor who gets it, nor what it is about.
     #[error("not mail")]

@@ -15,7 +15,7 @@ use nm_mime::{Part, PartReader};
 use std::alloc::Global;
 
 /// What the parts of a mail say: their types, the words of the names of attached files and of the bodies, the marks.
-#[derive(Debug, Drop)]
+#[derive(Drop)]
 pub struct PartFacts {
     pub types: Many<Text>,
     pub attachments: Many<FieldWords>,

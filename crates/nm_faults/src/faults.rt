@@ -8,7 +8,7 @@ use nm_base::Failed;
 use std::marker::Model;
 
 /// How often an object has failed. The count stops at its type's end.
-#[derive(Debug, Drop)]
+#[derive(Drop)]
 pub struct Faults {
     count: u64,
 }

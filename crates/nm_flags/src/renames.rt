@@ -12,7 +12,7 @@ use nm_name::{Flags, NameError, with_flags};
 use std::alloc::Global;
 
 /// A file that has to be renamed.
-#[derive(Clone, Debug, Drop, PartialEq, Eq)]
+#[derive(Drop)]
 pub struct Rename {
     pub from: MailPath,
     /// None where the new path would have more than 4,096 bytes.

@@ -13,7 +13,7 @@ use nm_text::{content, trimmed};
 use std::alloc::Global;
 
 /// A field of a header.
-#[derive(Clone, Debug, Drop, PartialEq, Eq)]
+#[derive(Drop)]
 pub struct HeaderField {
     /// In lower case.
     pub name: Text,
@@ -22,7 +22,7 @@ pub struct HeaderField {
 }
 
 /// The fields of a header in their order, and the place in the bytes where the body begins.
-#[derive(Clone, Debug, Drop, PartialEq, Eq)]
+#[derive(Drop)]
 pub struct HeaderList {
     pub list: Many<HeaderField>,
     pub rest: usize,

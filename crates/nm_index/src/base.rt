@@ -7,7 +7,7 @@ use nm_base::{Copies, Facts, LinkRow, MailPath, Many, MessageId, NoMemory, Tags}
 use std::alloc::Global;
 
 /// The index as data.
-#[derive(Debug, Drop)]
+#[derive(Drop)]
 pub struct Base {
     /// How many commits there were.
     pub revision: u64,

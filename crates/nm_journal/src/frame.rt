@@ -8,7 +8,7 @@ use std::alloc::Global;
 use std::marker::Model;
 
 /// The length of a body, the body, and the next closed gate.
-#[derive(Debug, Drop)]
+#[derive(Drop)]
 pub struct Frame {
     bytes: Many<u8>,
 }

@@ -14,7 +14,7 @@ use std::marker::Model;
 use thiserror::Error;
 
 /// Why a journal can't be opened.
-#[derive(Debug, Drop, PartialEq, Eq, Error)]
+#[derive(Debug, Drop, Error)]
 pub enum JournalError {
     #[error("disk fault")]
     DiskFault,
@@ -59,7 +59,7 @@ impl From<AllocError> for JournalError {
 }
 
 /// Records in a file of a disk, each there whole or not at all. It has failed for good after a fault of the disk.
-#[derive(Debug, Drop)]
+#[derive(Drop)]
 pub struct Journal {
     pub(crate) file: FileNo,
     pub(crate) start: u64,

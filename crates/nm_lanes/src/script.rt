@@ -15,19 +15,19 @@ use thiserror::Error;
 const MAX_LINES: u32 = 4096;
 
 /// What a session runs, phase after phase.
-#[derive(Debug, Drop)]
+#[derive(Drop)]
 pub struct Script {
     pub phases: Many<Phase>,
 }
 
 /// Lines that may run at once, those of one lane in their order.
-#[derive(Debug, Drop)]
+#[derive(Drop)]
 pub struct Phase {
     pub lines: Many<ScriptLine>,
 }
 
 /// A command, or a line that is none.
-#[derive(Debug, Drop)]
+#[derive(Drop)]
 pub struct ScriptLine {
     /// Counted from 1 over all lines of the script.
     pub number: u32,
@@ -42,7 +42,7 @@ pub struct ScriptLine {
 }
 
 /// Why a script was not read.
-#[derive(Clone, Copy, Debug, PartialEq, Eq, Error)]
+#[derive(Clone, Copy, Debug, Error)]
 pub enum ScriptError {
     #[error("the script passes a limit")]
     Limit(Limit),

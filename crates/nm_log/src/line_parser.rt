@@ -11,7 +11,7 @@ use nm_lanes::ScriptLine;
 use std::alloc::Global;
 
 /// What a line asks for, or what is wrong with it.
-#[derive(Debug, Drop, PartialEq, Eq)]
+#[derive(Drop)]
 pub enum ParsedLine {
     Request(Request),
     Usage { word: Text, kind: UsageKind },

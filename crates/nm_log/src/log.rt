@@ -6,7 +6,7 @@ use nm_machine::Step;
 use nm_maildir::Given;
 
 /// What a run of the program is given beside its words and devices.
-#[derive(Debug, Drop)]
+#[derive(Drop)]
 pub struct Setting {
     /// The present second, counted from 1970-01-01 00:00:00 UTC.
     pub moment: i64,
@@ -17,7 +17,7 @@ pub struct Setting {
 }
 
 /// What a session did with one line of its script.
-#[derive(Debug, Drop)]
+#[derive(Drop)]
 pub struct LineLog {
     /// The phase of the line, from 0.
     pub phase: u32,

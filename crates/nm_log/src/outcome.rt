@@ -5,7 +5,7 @@ use nm_query::QueryKind;
 use nm_tags::LineKind;
 
 /// How a line of a session, or a single command, ended.
-#[derive(Clone, Debug, Drop, PartialEq, Eq)]
+#[derive(Drop)]
 pub enum Outcome {
     Ok,
     /// The words are outside the grammar; `word` is the one at fault.

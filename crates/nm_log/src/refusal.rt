@@ -14,7 +14,7 @@ use nm_disk::FileNo;
 use nm_io::Sink;
 
 /// Why a call was refused before a line ran.
-#[derive(Clone, Debug, Drop, PartialEq, Eq)]
+#[derive(Drop)]
 pub enum Refusal {
     /// The words of the call are outside the grammar; `word` is the one at fault.
     Usage { word: Text, kind: UsageKind },

@@ -8,14 +8,14 @@ use std::alloc::{AllocError, AllocFailed};
 use thiserror::Error;
 
 /// The names in one folder, each list in byte order without repeats.
-#[derive(Clone, Debug, Drop, PartialEq, Eq)]
+#[derive(Drop)]
 pub struct Listing {
     pub dirs: Many<Text>,
     pub files: Many<Text>,
 }
 
 /// What a read found.
-#[derive(Clone, Debug, Drop, PartialEq, Eq)]
+#[derive(Drop)]
 pub enum Got {
     Found(Many<u8>),
     Missing,
@@ -24,7 +24,7 @@ pub enum Got {
 }
 
 /// What a rename did.
-#[derive(Clone, Copy, Debug, PartialEq, Eq)]
+#[derive(Clone, Copy)]
 pub enum Renamed {
     Moved,
     /// The source is not there.
@@ -34,7 +34,7 @@ pub enum Renamed {
 }
 
 /// Why a call of a mail folder gave nothing.
-#[derive(Clone, Copy, Debug, PartialEq, Eq, Error)]
+#[derive(Clone, Copy, Debug, Error)]
 pub enum MailError {
     #[error("the mail folder failed")]
     Failed,

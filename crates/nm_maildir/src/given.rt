@@ -4,7 +4,7 @@ use crate::Renamed;
 use nm_base::{Copies, MailPath, Many, NoMemory};
 
 /// What a mail folder answered to one step of a command.
-#[derive(Clone, Debug, Drop, PartialEq, Eq)]
+#[derive(Clone, Drop)]
 pub enum Given {
     /// The paths of a whole listing.
     Listed(Many<MailPath>),
@@ -20,7 +20,7 @@ pub enum Given {
 }
 
 /// What became of a file that was to be read.
-#[derive(Clone, Debug, Drop, PartialEq, Eq)]
+#[derive(Clone, Drop)]
 pub enum ReadAnswer {
     Mail,
     NotMail,

@@ -10,14 +10,14 @@ use nm_text::{content, is_all_white_space, line_len};
 use std::alloc::Global;
 
 /// What a line begins with that ends a part.
-#[derive(Debug, Drop)]
+#[derive(Drop)]
 pub struct Delimiters {
     pub delimiter: Many<u8>,
     pub closing: Many<u8>,
 }
 
 /// Where a part begins and ends.
-#[derive(Clone, Copy, Debug)]
+#[derive(Clone, Copy)]
 pub struct Span {
     pub from: usize,
     pub to: usize,
@@ -34,7 +34,7 @@ pub(crate) fn line_delimiters(alloc: Global, boundary: &[u8]) -> Result<Delimite
 }
 
 /// A part, and where the bytes after it begin.
-#[derive(Clone, Copy, Debug)]
+#[derive(Clone, Copy)]
 pub struct NextSpan {
     pub span: Span,
     pub next: usize,
@@ -67,7 +67,7 @@ pub(crate) fn next_span(delimiters: &Delimiters, bytes: &[u8], end: usize) -> Op
 }
 
 /// How far a part goes.
-#[derive(Clone, Copy, Debug)]
+#[derive(Clone, Copy)]
 pub struct PartEnd {
     /// How many bytes it has.
     pub len: usize,

@@ -4,7 +4,7 @@ use crate::roles::{Encoding, Role};
 use nm_base::Text;
 
 /// A part of a mail, or the mail itself.
-#[derive(Clone, Debug, Drop, PartialEq, Eq)]
+#[derive(Clone, Drop)]
 pub struct Part {
     /// How many parts it stands in.
     pub depth: u32,
@@ -24,7 +24,7 @@ pub struct Part {
 }
 
 /// A part with its header, still unread: where it begins and ends in the mail.
-#[derive(Clone, Copy, Debug)]
+#[derive(Clone, Copy)]
 pub struct Entity {
     pub depth: u32,
     pub from: usize,
@@ -36,7 +36,7 @@ pub struct Entity {
 }
 
 /// A part, and the boundary that its type names, or nothing.
-#[derive(Debug, Drop)]
+#[derive(Drop)]
 pub struct Opening {
     pub part: Part,
     pub boundary: Text,

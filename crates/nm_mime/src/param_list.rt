@@ -16,7 +16,7 @@ use nm_text::{
 use std::alloc::Global;
 
 /// A parameter of a header field.
-#[derive(Clone, Debug, Drop, PartialEq, Eq)]
+#[derive(Drop)]
 pub struct Param {
     /// In lower case.
     pub name: Text,

@@ -15,7 +15,7 @@ use std::alloc::Global;
 
 /// Reads the parts of a mail one by one, each before those in it. Its memory follows how deep the parts stand, not
 /// how many there are. Once it ran out of memory it tells nothing.
-#[derive(Debug, Drop)]
+#[derive(Drop)]
 pub struct PartReader<'a> {
     mail: &'a [u8],
     /// The last one is read next.

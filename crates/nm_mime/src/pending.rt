@@ -11,7 +11,7 @@ use nm_base::{Many, NoMemory};
 use std::alloc::Global;
 
 /// What is still to be read in a part that is opened.
-#[derive(Debug, Drop)]
+#[derive(Drop)]
 pub enum Pending {
     /// The mail that its content is.
     Mail(Entity),
@@ -20,7 +20,7 @@ pub enum Pending {
 }
 
 /// A multipart whose parts are read one by one, so that no place is kept for each.
-#[derive(Debug, Drop)]
+#[derive(Drop)]
 pub struct OpenMultipart {
     pub part: Part,
     pub delimiters: Delimiters,

@@ -14,7 +14,7 @@ use nm_text::{is_printable, same_ignoring_case, trimmed};
 use std::alloc::Global;
 
 /// How the content of a part is encoded (RFC 2045, section 6).
-#[derive(Clone, Copy, Debug, PartialEq, Eq)]
+#[derive(Clone, Copy)]
 pub enum Encoding {
     /// Not at all, or in a way that is not known.
     Plain,
@@ -23,7 +23,7 @@ pub enum Encoding {
 }
 
 /// What becomes of a part.
-#[derive(Clone, Copy, Debug, PartialEq, Eq)]
+#[derive(Clone, Copy, PartialEq, Eq)]
 pub enum Role {
     /// Its content is read as parts.
     Opened,

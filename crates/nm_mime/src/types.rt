@@ -12,7 +12,7 @@ use nm_text::{first_place, is_printable, lowercase, text_of, trimmed_start};
 use std::alloc::Global;
 
 /// A content type with its parameters.
-#[derive(Clone, Debug, Drop, PartialEq, Eq)]
+#[derive(Drop)]
 pub struct ContentType {
     /// `type/subtype`, in lower case.
     pub kind: Text,

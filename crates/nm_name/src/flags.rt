@@ -1,7 +1,7 @@
 //! The flags of a mail, as maildir(5) has them: `parse_name` reads them, and `with_flags` writes them.
 
 /// The flags of a mail.
-#[derive(Clone, Copy, Debug, PartialEq, Eq)]
+#[derive(Clone, Copy)]
 pub struct Flags {
     /// D: a draft of the user's.
     pub draft: bool,

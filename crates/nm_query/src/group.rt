@@ -42,7 +42,7 @@ fn grouped(alloc: Global, items: Many<Item>) -> Result<Many<Item>, NoMemory>
 
 /// A group as one kind of terms parts it: what stands before the first of them, these terms, and what else
 /// stands after it.
-#[derive(Debug, Drop)]
+#[derive(Drop)]
 pub(crate) struct Parted {
     pub before: Many<Item>,
     pub found: Many<Query>,

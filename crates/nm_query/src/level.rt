@@ -12,7 +12,7 @@ use std::alloc::Global;
 use std::mem;
 
 /// The queries that have ended, each in the list of the operator that joins it with what follows.
-#[derive(Debug, Drop)]
+#[derive(Drop)]
 pub(crate) struct Level {
     /// What `or` joins.
     pub disjuncts: Many<Query>,

@@ -11,7 +11,7 @@ use std::alloc::Global;
 const MAX_DEPTH: u32 = 64;
 
 /// The negations that have not ended, and how many levels there are with the open parentheses.
-#[derive(Debug, Drop)]
+#[derive(Drop)]
 pub(crate) struct Nesting {
     /// The negations inside the innermost parenthesis.
     pub inner: u32,

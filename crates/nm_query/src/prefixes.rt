@@ -6,7 +6,7 @@ ghost use Rattle.nm_query.specs.Prefixes.{CutsOff, begins, begins_what_is_not_he
 use nm_base::Field;
 
 /// What a value is the name of.
-#[derive(Clone, Copy, Debug, PartialEq, Eq)]
+#[derive(Clone, Copy)]
 pub(crate) enum Name {
     Tag,
     /// A tag, whose name is never a pattern.
@@ -20,14 +20,14 @@ pub(crate) enum Name {
 }
 
 /// A field, and how many bytes its prefix has.
-#[derive(Clone, Copy, Debug)]
+#[derive(Clone, Copy)]
 pub(crate) struct FieldPrefix {
     pub field: Field,
     pub len: usize,
 }
 
 /// A name, and how many bytes its prefix has.
-#[derive(Clone, Copy, Debug)]
+#[derive(Clone, Copy)]
 pub(crate) struct NamePrefix {
     pub name: Name,
     pub len: usize,

@@ -7,7 +7,7 @@ use nm_dates::End;
 use std::alloc::Global;
 
 /// What is asked of a message.
-#[derive(Debug, Drop)]
+#[derive(Drop)]
 pub enum Query {
     /// Every message.
     All,

@@ -4,7 +4,7 @@ use nm_base::Limit;
 use thiserror::Error;
 
 /// What is wrong with a query.
-#[derive(Clone, Copy, Debug, PartialEq, Eq)]
+#[derive(Clone, Copy, Debug)]
 pub enum QueryKind {
     /// A quoted text without its end.
     Quote,
@@ -19,7 +19,7 @@ pub enum QueryKind {
 }
 
 /// Why a text has no tree. A place is that of a byte of the text.
-#[derive(Clone, Copy, Debug, PartialEq, Eq, Error)]
+#[derive(Clone, Copy, Debug, Error)]
 pub enum QueryError {
     #[error("bad query")]
     BadQuery { at: u32, kind: QueryKind },

@@ -12,7 +12,7 @@ use std::alloc::Global;
 use std::mem;
 
 /// What was read: the level of the innermost parenthesis that is open, and those round it.
-#[derive(Debug, Drop)]
+#[derive(Drop)]
 pub(crate) struct Reading {
     pub inner: Level,
     pub outer: Stack<Level>,

@@ -7,7 +7,7 @@ use std::alloc::Global;
 use std::marker::Model;
 
 /// A stack, seen as the list of its items, the last one that was pushed first.
-#[derive(Debug, Drop)]
+#[derive(Drop)]
 pub(crate) struct Stack<T> {
     vec: Vec<T>,
 }

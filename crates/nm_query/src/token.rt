@@ -3,7 +3,7 @@
 use crate::Query;
 
 /// An operator between two queries.
-#[derive(Clone, Copy, Debug, PartialEq, Eq)]
+#[derive(Clone, Copy)]
 pub(crate) enum Operator {
     Conjunction,
     Exclusion,
@@ -11,7 +11,7 @@ pub(crate) enum Operator {
 }
 
 /// With which terms beside it a term is joined by Or: with those of its own kind, and as `Other` with none.
-#[derive(Clone, Copy, Debug, PartialEq, Eq)]
+#[derive(Clone, Copy)]
 pub(crate) enum TermKind {
     Tag,
     Id,
@@ -22,13 +22,13 @@ pub(crate) enum TermKind {
 }
 
 /// A query in a group, and with which others of the group it is joined by Or.
-#[derive(Debug, Drop)]
+#[derive(Drop)]
 pub(crate) struct Item {
     pub kind: TermKind,
     pub query: Query,
 }
 
-#[derive(Debug, Drop)]
+#[derive(Drop)]
 pub(crate) enum Token {
     Open,
     Close,
@@ -38,14 +38,14 @@ pub(crate) enum Token {
 }
 
 /// A token, and the place of its first byte.
-#[derive(Debug, Drop)]
+#[derive(Drop)]
 pub(crate) struct Placed {
     pub at: u32,
     pub token: Token,
 }
 
 /// What begins at a place of the text: a token or nothing, and how many bytes it has.
-#[derive(Debug, Drop)]
+#[derive(Drop)]
 pub(crate) struct Lexeme {
     pub token: Option<Token>,
     pub len: usize,

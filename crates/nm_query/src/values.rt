@@ -11,7 +11,7 @@ use nm_text::{is_white_space, text_of};
 use std::alloc::Global;
 
 /// A value, and how many bytes it has with its quotes.
-#[derive(Debug, Drop)]
+#[derive(Drop)]
 pub(crate) struct Value {
     pub said: Text,
     pub quoted: bool,
@@ -19,7 +19,7 @@ pub(crate) struct Value {
 }
 
 /// What ends a value that is not quoted.
-#[derive(Clone, Copy, Debug)]
+#[derive(Clone, Copy)]
 pub(crate) enum Ends {
     /// White space, a parenthesis or `"`.
     Run,

@@ -18,7 +18,7 @@ use std::alloc::Global;
 use thiserror::Error;
 
 /// Why there is nothing to show.
-#[derive(Debug, Drop, PartialEq, Eq, Error)]
+#[derive(Debug, Drop, Error)]
 pub enum ShowError {
     /// Raw form shows one message, and the query finds so many.
     #[error("not one message")]

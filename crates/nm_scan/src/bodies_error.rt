@@ -8,7 +8,7 @@ use nm_maildir::MailError;
 use thiserror::Error;
 
 /// Why the files that `show` asks for could not be read whole.
-#[derive(Clone, Copy, Debug, PartialEq, Eq, Error)]
+#[derive(Clone, Copy, Debug, Error)]
 pub enum BodiesError {
     /// The mail folder failed.
     #[error("mail fault")]

@@ -8,7 +8,7 @@ use nm_maildir::MailError;
 use thiserror::Error;
 
 /// Why a mail folder could not be listed whole.
-#[derive(Clone, Copy, Debug, PartialEq, Eq, Error)]
+#[derive(Clone, Copy, Debug, Error)]
 pub enum ScanError {
     /// The mail folder failed.
     #[error("mail fault")]

@@ -15,7 +15,7 @@ use nm_state::Snapshot;
 use std::alloc::Global;
 
 /// Why there is nothing to show.
-#[derive(Debug, Drop)]
+#[derive(Drop)]
 pub(crate) enum ShowFault {
     /// Raw form shows one message, and the query finds so many.
     NotOne { found: u64 },

@@ -12,7 +12,7 @@ use crate::run::Run;
 use std::cmp::Ordering;
 
 /// Where a key stands among runs of pairs, or would stand.
-#[derive(Clone, Copy, Debug, PartialEq, Eq)]
+#[derive(Clone, Copy)]
 pub struct Spot {
     pub run: usize,
     pub at: usize,
@@ -60,7 +60,7 @@ pub trait Seek<K: Ord> {
 }
 
 /// By halves.
-#[derive(Clone, Copy, Debug)]
+#[derive(Clone, Copy)]
 pub struct Halves;
 
 impl<K: Ord> Seek<K> for Halves {
@@ -85,7 +85,7 @@ impl<K: Ord> Seek<K> for AtEnd {
 
 /// By guesses, of numbers of which so many of 2^64 are keys, or about so many: of hashes as many as the map has, of numbers
 /// that follow one another all. What a guess costs is time alone.
-#[derive(Clone, Copy, Debug)]
+#[derive(Clone, Copy)]
 pub struct Guesses {
     pub keys: u64,
 }

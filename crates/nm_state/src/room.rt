@@ -22,7 +22,7 @@ use std::alloc::Global;
 use thiserror::Error;
 
 /// Why a commit is not made.
-#[derive(Clone, Copy, Debug, PartialEq, Eq, Error)]
+#[derive(Clone, Copy, Debug, Error)]
 pub enum RoomError {
     /// The index after it would pass this limit.
     #[error("limit")]
@@ -52,7 +52,7 @@ const MAX_INDEX_BYTES: u64 = 1_073_741_824;
 const MAX_NUMBER: u64 = 1 << 63;
 
 /// What an index comes to, as far as a number tells it: how many files, how many bytes as data, and the next number.
-#[derive(Clone, Copy, Debug, Drop)]
+#[derive(Clone, Copy, Drop)]
 pub struct Counts {
     pub files: u64,
     pub bytes: u64,

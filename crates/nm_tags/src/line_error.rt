@@ -6,7 +6,7 @@ use nm_base::NoMemory;
 use thiserror::Error;
 
 /// What is wrong with a line.
-#[derive(Clone, Copy, Debug, PartialEq, Eq)]
+#[derive(Clone, Copy, Debug)]
 pub enum LineKind {
     /// It is not UTF-8.
     Utf8,
@@ -19,7 +19,7 @@ pub enum LineKind {
 }
 
 /// Why lines are refused.
-#[derive(Clone, Copy, Debug, PartialEq, Eq, Error)]
+#[derive(Clone, Copy, Debug, Error)]
 pub enum LineError {
     #[error("line {line} is not of the form")]
     BadLine {

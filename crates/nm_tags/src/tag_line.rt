@@ -4,7 +4,7 @@ use crate::TagOp;
 use nm_base::{Copies, Many, NoMemory, Text};
 
 /// Changes of tags, and the query whose messages they are made to.
-#[derive(Clone, Debug, Drop, PartialEq, Eq)]
+#[derive(Clone, Drop)]
 pub struct TagLine {
     /// Counted from 1, empty lines and comments too.
     pub line: u32,

@@ -4,7 +4,7 @@ use crate::TagOp;
 use nm_base::{Copies, Many, MessageId, NoMemory};
 
 /// Changes of the tags of one message.
-#[derive(Clone, Debug, Drop, PartialEq, Eq)]
+#[derive(Clone, Drop)]
 pub struct Wanted {
     /// Counted from 1, lines that are passed over too.
     pub line: u32,

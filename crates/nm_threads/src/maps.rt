@@ -7,7 +7,7 @@ use nm_shared::{HashedMap, SharedMap};
 use std::alloc::Global;
 
 /// The name of a thread, and how many ids it has, which says on which side less is to be relabelled.
-#[derive(Clone, Copy, Debug, PartialEq, Eq)]
+#[derive(Clone, Copy)]
 pub struct Thread {
     pub name: u64,
     pub len: u64,
@@ -20,7 +20,7 @@ impl Copies for Thread {
 }
 
 /// What stands beside a group and a number: the number is of the group.
-#[derive(Clone, Copy, Debug, PartialEq, Eq)]
+#[derive(Clone, Copy)]
 pub struct Member;
 
 impl Copies for Member {

@@ -22,7 +22,7 @@ use std::sync::Wait;
 use std::thread::Threads;
 
 /// What a run begins with beside its words and devices.
-#[derive(Debug, Drop)]
+#[derive(Drop)]
 pub struct Start {
     /// The present second, counted from 1970-01-01 00:00:00 UTC.
     pub moment: i64,

@@ -6,7 +6,7 @@ use nm_journal::JournalError;
 use thiserror::Error;
 
 /// Why an index can't be opened.
-#[derive(Debug, Drop, PartialEq, Eq, Error)]
+#[derive(Debug, Drop, Error)]
 pub enum OpenError {
     #[error("disk fault")]
     DiskFault,

@@ -4,7 +4,7 @@ use nm_base::{Limit, NoMemory};
 use thiserror::Error;
 
 /// Why a commit or a command was refused.
-#[derive(Clone, Copy, Debug, PartialEq, Eq, Error)]
+#[derive(Clone, Copy, Debug, Error)]
 pub enum WriteError {
     /// The mail folder failed, and nothing is changed.
     #[error("mail fault")]

@@ -4,7 +4,7 @@ use nm_base::NoMemory;
 use std::alloc::{AllocError, AllocFailed};
 
 /// Why a row can't be run.
-#[derive(Clone, Copy, Debug)]
+#[derive(Clone, Copy)]
 pub enum RowError {
     /// The row is not written in the language of the table.
     Broken(&'static str),

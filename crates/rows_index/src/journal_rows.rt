@@ -12,7 +12,7 @@ use rows::{Lines, Row, RowError};
 use std::alloc::{AllocError, Global};
 
 /// How an append went.
-#[derive(Clone, Copy, PartialEq, Eq)]
+#[derive(Clone, Copy)]
 pub enum Appended {
     Acknowledged,
     Failed,
