@@ -1,10 +1,10 @@
 //! What a mail folder answered, as the log notes it: `nm_scan` and `nm_writer` note each call so, and `nm_log` has the list.
 
 use crate::Renamed;
-use nm_base::{Copies, MailPath, Many, NoMemory};
+use nm_base::{MailPath, Many};
 
 /// What a mail folder answered to one step of a command.
-#[derive(Clone, Drop)]
+#[derive(Drop)]
 pub enum Given {
     /// The paths of a whole listing.
     Listed(Many<MailPath>),
@@ -20,7 +20,7 @@ pub enum Given {
 }
 
 /// What became of a file that was to be read.
-#[derive(Clone, Drop)]
+#[derive(Drop)]
 pub enum ReadAnswer {
     Mail,
     NotMail,
@@ -28,10 +28,4 @@ pub enum ReadAnswer {
     TooLong,
     /// The bytes themselves, where they are shown.
     Body(Many<u8>),
-}
-
-impl Copies for Given {
-    fn copy(&self) -> Result<Given, NoMemory> {
-        Ok(self.clone()?)
-    }
 }
