@@ -13,7 +13,7 @@ use Rattle.std.proofs.lemmas.List.Sums.{fails_before_first}
 use Rattle.std.proofs.lemmas.Option.{cond_some}
 use Rattle.std.proofs.lemmas.List.Quantifiers.{position-Some}
 use Rattle.nm_base.specs.Word.{is_word}
-use Rattle.nm_words.specs.Words.{is_cut, words_in, folded}
+use Rattle.nm_words.specs.Words.{chosen, folded, is_cut, is_named, words_in}
 
 none_of : (b : Bool) (n : ℕ) → cond b (Some n) None ≡ None → b ≡ false
 none_of true n e = absurd (cc)
@@ -45,20 +45,28 @@ boundary_before xs i e = let h = cut_is_ascii xs i e in IsCharBoundary-before_as
 pub boundary_after : (xs : List ℕ) (i : ℕ) → IsUtf8 xs → position is_cut xs ≡ Some i → IsCharBoundary xs (i + 1)
 boundary_after xs i u e = let h = cut_is_ascii xs i e in IsCharBoundary-after_ascii xs i u h.0 h.1
 
--- the words of two lists of pieces, and of one piece more
+-- the words of two lists of pieces
 pub words_in-append : (xs ys : List (List ℕ)) → words_in (xs ++ ys) ≡ words_in xs ++ words_in ys
 words_in-append xs ys = ap (filter is_word) (map-append folded xs ys) ∙ filter-append is_word (map folded xs) (map folded ys)
-
-pub words_in-cons : (piece : List ℕ) (pieces : List (List ℕ)) → words_in (piece ∷ pieces) ≡ words_in (piece ∷ []) ++ words_in pieces
-words_in-cons piece pieces = words_in-append (piece ∷ []) pieces
 
 -- words of a text of one word more
 pub more_words : (ws : List (List ℕ)) (w : List ℕ) → words_in (flat_map (slice_split is_cut) (ws ++ w ∷ [])) ≡ words_in (flat_map (slice_split is_cut) ws) ++ words_in (slice_split is_cut w)
 more_words ws w = ap words_in (sym (flat_map_more (slice_split is_cut) [] ws w)) ∙ words_in-append (flat_map (slice_split is_cut) ws) (slice_split is_cut w)
 
+named_first : (piece : List ℕ) (test : Bool) (pieces : List (List ℕ)) → cond test (piece ∷ pieces) pieces ≡ cond test (piece ∷ []) [] ++ pieces
+named_first piece true pieces = refl
+named_first piece false pieces = refl
+
+chosen-cons : (named : Bool) (piece : List ℕ) (pieces : List (List ℕ)) → chosen named (piece ∷ pieces) ≡ chosen named (piece ∷ []) ++ chosen named pieces
+chosen-cons true piece pieces = named_first piece (is_named piece) (filter is_named pieces)
+chosen-cons false piece pieces = refl
+
+chosen_words : (named : Bool) (piece : List ℕ) (pieces : List (List ℕ)) → words_in (chosen named (piece ∷ pieces)) ≡ words_in (chosen named (piece ∷ [])) ++ words_in (chosen named pieces)
+chosen_words named piece pieces = ap words_in (chosen-cons named piece pieces) ∙ words_in-append (chosen named (piece ∷ [])) (chosen named pieces)
+
 -- a turn of the loop over the pieces
-pub pieces_turn : (before found : List (List ℕ)) (piece left : List ℕ) (i : ℕ) → position is_cut left ≡ Some i → piece ≡ take (i - 0) left → found ≡ before ++ words_in (piece ∷ []) → found ++ words_in (slice_split is_cut (drop (i + 1) left)) ≡ before ++ words_in (slice_split is_cut left)
-pieces_turn before found piece left i e p f =
+pub pieces_turn : (named : Bool) (before found : List (List ℕ)) (piece left : List ℕ) (i : ℕ) → position is_cut left ≡ Some i → piece ≡ take (i - 0) left → found ≡ before ++ words_in (chosen named (piece ∷ [])) → found ++ words_in (chosen named (slice_split is_cut (drop (i + 1) left))) ≡ before ++ words_in (chosen named (slice_split is_cut left))
+pieces_turn named before found piece left i e p f =
     let front : piece ≡ take i left = p ∙ ap (λ n. take n left) (let none : i - 0 ≡ i = omega arith in none) in
     let split : slice_split is_cut left ≡ piece ∷ slice_split is_cut (drop (i + 1) left) = split_at is_cut left i e ∙ ap (λ x. x ∷ slice_split is_cut (drop (i + 1) left)) (sym front) in
-    rw f (append_assoc before (words_in (piece ∷ [])) (words_in (slice_split is_cut (drop (i + 1) left))) ∙ ap (λ l. before ++ l) (sym (words_in-cons piece (slice_split is_cut (drop (i + 1) left))) ∙ ap words_in (sym split)))
+    rw f (append_assoc before (words_in (chosen named (piece ∷ []))) (words_in (chosen named (slice_split is_cut (drop (i + 1) left)))) ∙ ap (λ l. before ++ l) (sym (chosen_words named piece (slice_split is_cut (drop (i + 1) left))) ∙ ap (λ l. words_in (chosen named l)) (sym split)))

@@ -1,22 +1,22 @@
--- What was found is what the words so far gave; at the end these are all words of the text.
-use Rattle.std.proofs.Common.{sym, ◌∙◌, ap, ◌++◌, map, append_assoc}
-use Rattle.std.specs.List.{flat_map, slice_split}
-use Rattle.std.proofs.lemmas.List.{map_push}
-use Rattle.std.proofs.lemmas.Iterator.Consumers.{YieldsList-end}
-use Rattle.unicode_segmentation.proofs.SegmentsLemmas.{YieldsList-from_gives}
-use Rattle.unicode_segmentation.specs.Iter.{unicode_words_left}
-use Rattle.nm_words.specs.Words.{is_cut, words_in}
-use Rattle.nm_words.proofs.PieceLemmas.{more_words}
+-- A line is cut off behind its line feed, and what was found with the words of what is left is all.
+use Rattle.std.proofs.Common.{◌≡◌, ◌+◌, ◌-◌, sym, ◌∙◌, ap, ◌++◌, append_assoc, take, arith}
+use Rattle.nm_words.specs.Words.{words_of}
+use Rattle.nm_words.proofs.LineLemmas.{behind_line, lines_turn}
 use Rattle.nm_words.proofs.text.add_words.Goals as goal
 
-pub words-preserved : goal.words-preserved
-words-preserved c =
-    let before = words_in (flat_map (slice_split is_cut) (map (λ w. w.now) c.words.yielded)) in
-    let here = words_in (slice_split is_cut c.in-Some.word.now) in
-    c.in_ok-add_pieces.ensures ∙ ap (λ f. f ++ here) c.words.invariant ∙ append_assoc c.args.found.now before here
-    ∙ ap (λ l. c.args.found.now ++ l) (sym (more_words (map (λ w. w.now) c.words.yielded) c.in-Some.word.now) ∙ ap (λ l. words_in (flat_map (slice_split is_cut) l)) (sym (map_push (λ w. w.now) c.words.yielded c.in-Some.word)))
+pub range-requires-clause-end_boundary : goal.range-requires-clause-end_boundary
+range-requires-clause-end_boundary c = behind_line c.lines.left.now c.in-Some.at c.lines.invariant.0 (sym c.in-Some.ensures.found)
 
-pub returns : goal.returns
-returns c =
-    let t = YieldsList-end (YieldsList-from_gives _ _ c.into_iter-word-iterator.result) c.words.yielded _ c.words.yielded_by _ _ c.in-None.is c.next.ensures.steps in
-    c.words.invariant ∙ ap (λ l. c.args.found.now ++ words_in (flat_map (slice_split is_cut) l)) (t.0 ∙ ap unicode_words_left c.into_iter-word-iterator.ensures.into_iter_gives ∙ c.unicode_words-word-items.ensures.left)
+pub range_from-left-requires : goal.range_from-left-requires
+range_from-left-requires c = λ _. behind_line c.lines.left.now c.in-Some.at c.lines.invariant.0 (sym c.in-Some.ensures.found)
+
+pub lines-preserved : goal.lines-preserved
+lines-preserved c =
+    let at = c.in-Some.at in
+    let line = c.range.result.now in
+    let left = c.range_from-left.result.now in
+    let front : line ≡ take (at + 1) c.lines.left.now = c.range.ensures.value ∙ ap (λ n. take n c.lines.left.now) (let same : (at + 1) - 0 ≡ at + 1 = omega arith in same) in (
+      c.range_from-left.utf8,
+      ap (λ found. found ++ words_of left) c.in_ok-add_line.ensures ∙ append_assoc c.lines.found (words_of line) (words_of left)
+          ∙ ap (λ more. c.lines.found ++ more) (sym (lines_turn c.lines.left.now line left at c.lines.invariant.0 (sym c.in-Some.ensures.found) front c.range_from-left.ensures.value)) ∙ c.lines.invariant.1,
+    )

@@ -1,8 +1,12 @@
-use Rattle.std.proofs.Common.{◌≡◌, ◌++◌, map}
-use Rattle.std.specs.List.{flat_map, slice_split}
-use Rattle.nm_words.specs.Words.{is_cut, words_in}
+use Rattle.std.proofs.Common.{◌≡◌, ◌++◌, length}
+use denote.Text.{Utf8}
+use denote.Shadow.{shadow}
+use Rattle.nm_words.specs.Words.{words_of}
 use Rattle.nm_words.proofs.text.add_words.Given as goal
 
--- the words so far gave what was found
-abbrev pub invariant-words : goal.invariant-words
-invariant-words l = l.found ≡ l.fn.found ++ words_in (flat_map (slice_split is_cut) (map (λ w. w.now) l.yielded))
+-- so far, and what is left, is all
+abbrev pub invariant-lines : goal.invariant-lines
+invariant-lines l = shadow (Utf8 l.left) × (l.found ++ words_of l.left ≡ l.fn.found ++ words_of l.text)
+
+abbrev pub decreases-lines : goal.decreases-lines
+decreases-lines l = length l.left
