@@ -189,12 +189,13 @@ def code_files():
 
 
 def speakers(texts):
-    """For each file the names of what speaks of it: another crate, or of its own crate a file, and what stands in that."""
+    """For each file the names of what speaks of it: another crate, or of its own crate a file, and what stands in that. Lemmas that
+    others rest on have what speaks of those too."""
     known = set(crates())
     code = {path: re.sub(r"(?m)//.*$|^(?: *ghost|pub) use [^;]*;", "", text) for path, text in texts.items() if path.endswith(".rt")}
     items = {path: ITEM.findall(text) for path, text in code.items()}
     words = {path: set(re.findall(r"\w+", text)) for path, text in code.items()}
-    found = {path: set() for path in texts}
+    found, above = ({path: set() for path in texts} for _ in range(2))
 
     def add(path, by):
         crate, parts = path.split("/")[1], by.split("/")
@@ -202,6 +203,8 @@ def speakers(texts):
             return
         named = {parts[1]} if parts[1] != crate else set(re.findall(r"\w+", by.rpartition(".")[0].split("/", 3)[3]))
         found[path] |= named | {it[2] for it in items.get(by, [])}
+        if {path.split("/")[2], parts[2]} == {"proofs"}:
+            above[path].add(by)
 
     for path, its in items.items():
         public = {it[2] for it in its if it[1] and not it[0]} or {it[2] for it in its if it[1]}
@@ -216,6 +219,11 @@ def speakers(texts):
             for it in ("/".join(parts[:end]) + ".antt" for end in range(2, len(parts) + 1)):
                 if it in found:
                     add(it, by)
+    lacks = True
+    while lacks:
+        lacks = {path: more for path, its in above.items() if (more := set().union(*(found[it] for it in its)) - found[path])}
+        for path, more in lacks.items():
+            found[path] |= more
     return found
 
 
