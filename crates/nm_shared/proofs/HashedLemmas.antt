@@ -211,6 +211,11 @@ module _ {K V : Type 0} (cmp : K → K → Ordering) (hash : K → ℕ) (same : 
           | inr apart ↦ ap (value_of cmp hash key) (there n apart)
         ]
 
+  -- a pair in a slot is what its key finds, however the slot was come by
+  pub found_near : (places : List (ℕ × ℕ)) (slots : List (ℕ × (K × V))) (crowded : List (K × V)) (next : ℕ) → IsHashed cmp hash places slots crowded next → (key : K) (slot : ℕ) (pair : K × V) → at slot slots ≡ Some pair → is_eq (cmp key pair.0) ≡ true
+      → lookup (is_at (cmp key)) (values_of slots ++ crowded) ≡ Some pair.1
+  found_near places slots crowded next is key slot pair there equal = found_slot places slots crowded next is key slot pair (ap (λ k. at (hash k) places) (same key pair.0 equal) ∙ is.placed slot pair there) there equal
+
   -- ---- the crowded pairs
 
   crowded_by : (places : List (ℕ × ℕ)) (slots : List (ℕ × (K × V))) (crowded new : List (K × V)) (next : ℕ) (is : IsHashed cmp hash places slots crowded next) (is_new : IsHashed cmp hash places slots new next)

@@ -1,12 +1,12 @@
 //! A map that snapshots share, in which keys are found by their hashes: `nm_threads` and `nm_state` look up ids in such maps.
 
-ghost use Rattle.std.specs.Prelude.{◌≡◌, [], ℕ, true, false, IfOk, MatchResult, OnOk, OnErr, Some, None, if◌then◌else◌};
+ghost use Rattle.std.specs.Prelude.{◌≡◌, ◌≢◌, ◌++◌, [], ℕ, true, false, IfOk, MatchOption, MatchResult, OnOk, OnErr, Some, None, if◌then◌else◌};
 ghost use Rattle.std.specs.BTreeMap.{is_at};
 ghost use Rattle.std.specs.List.{IsDistinct};
-ghost use Rattle.std.specs.Map.{keys_of, lookup};
+ghost use Rattle.std.specs.Map.{keys_of, lookup, values_of};
 ghost use Rattle.std.specs.Option.{option_and_then, option_copied};
 ghost use Rattle.std.specs.Ordering.{eq_by_cmp, is_eq};
-ghost use Rattle.nm_shared.specs.Hashed.{at, slot_value};
+ghost use Rattle.nm_shared.specs.Hashed.{at, slot_value, IsHashed};
 
 use crate::SharedMap;
 use crate::pairs::Pairs;
@@ -78,12 +78,62 @@ fn found<'a, K: Hashed, V>(
     }
 }
 
+/// The slot of a key, and the pair in it. The slot `near` is looked at first.
+fn found_near<'a, K: Hashed, V>(
+    places: &Places,
+    slots: &'a SharedMap<u64, (K, V)>,
+    key: &K,
+    near: u64,
+) -> Option<(u64, &'a (K, V))>
+    ensures { MatchOption result (slot_value K.cmp K.hash places.now slots.now key.now ≡ None) (λ found. (at found.0 slots.now ≡ Some found.1.now) × (is_eq (K.cmp key.now found.1.now.0) ≡ true)) }
+{
+    if let Some(pair) = slots.get_numbered(&near) {
+        if let Ordering::Equal = key.cmp(&pair.0) {
+            return Some((near, pair));
+        }
+    }
+    match found(places, slots, key, key.hash_code()) {
+        Ok(found) => Some(found),
+        Err(_) => None,
+    }
+}
+
 /// Says whether a key without a slot can have none: it is crowded already, or its hash leads to another key.
 fn is_crowded<K: Hashed, V>(crowded: &SharedMap<K, V>, key: &K, is_free: bool) -> bool
     ensures free { result ≡ false → is_free ≡ true }
     ensures apart { result ≡ false → lookup (is_at (K.cmp key.now)) crowded.now ≡ None }
 {
     !is_free || crowded.get(key).is_some()
+}
+
+/// Puts a pair into the next slot, to which its hash leads from then on.
+fn add_slot<K: Hashed + Copies, V: Copies>(
+    places: &mut Places,
+    slots: &mut SharedMap<u64, (K, V)>,
+    crowded: &SharedMap<K, V>,
+    next: &mut u64,
+    code: u64,
+    key: K,
+    value: V,
+) -> Result<(), NoMemory>
+    requires hashed { IsHashed K.cmp K.hash places.old slots.old crowded.now next.old }
+    requires code { code ≡ K.hash key }
+    requires free { option_and_then (λ slot. at slot slots.old) (at (K.hash key) places.old) ≡ None }
+    requires apart { lookup (is_at (K.cmp key)) crowded.now ≡ None }
+    ensures hashed { IsHashed K.cmp K.hash places.new slots.new crowded.now next.new }
+    ensures found { OnOk result ((other : K) → lookup (is_at (K.cmp other)) (values_of slots.new ++ crowded.now) ≡ (if is_eq (K.cmp other key) then Some value else lookup (is_at (K.cmp other)) (values_of slots.old ++ crowded.now))) }
+    ensures err { OnErr result (slots.new ≡ slots.old) }
+{
+    let slot = *next;
+    if slot == u64::MAX {
+        return Err(NoMemory);
+    }
+    places.insert(code, slot)?;
+    slots.insert(slot, (key, value))?;
+    // No code needs the number; that slots rise comes with it.
+    let _ = slots.len();
+    *next = slot + 1;
+    Ok(())
 }
 
 impl<K: Hashed, V> HashedMap<K, V> {
@@ -106,6 +156,20 @@ impl<K: Hashed, V> HashedMap<K, V> {
             return self.crowded.get(key);
         };
         Some(&pair.1)
+    }
+
+    /// The same as `get`, for less work where keys are asked for in the order in which they came. Beside the value stands
+    /// where the next one is looked for first; wherever a look begins, it finds the same.
+    pub fn get_near(&self, key: &K, near: u64) -> Option<(u64, &V)>
+        ensures { MatchOption result (lookup (is_at (K.cmp key.now)) self.now ≡ None) (λ found. lookup (is_at (K.cmp key.now)) self.now ≡ Some found.1.now) }
+    {
+        if let Some((slot, pair)) = found_near(&self.places, &self.slots, key, near) {
+            return Some((slot.saturating_add(1), &pair.1));
+        }
+        match self.crowded.get(key) {
+            Some(value) => Some((near, value)),
+            None => None,
+        }
     }
 
     /// All pairs, in no order that is told.
@@ -153,15 +217,48 @@ impl<K: Hashed + Copies, V: Copies> HashedMap<K, V> {
             self.crowded.insert(key, value)?;
             return Ok(());
         }
-        let slot = self.next;
-        if slot == u64::MAX {
-            return Err(NoMemory);
-        }
-        self.places.insert(code, slot)?;
-        self.slots.insert(slot, (key, value))?;
-        let _ = self.slots.len();
-        self.next = slot + 1;
+        add_slot(
+            &mut self.places,
+            &mut self.slots,
+            &self.crowded,
+            &mut self.next,
+            code,
+            key,
+            value,
+        )?;
         Ok(())
+    }
+
+    /// Puts `value` beside `key` where it has none. Else nothing changes, and the answer is a copy of what it has.
+    pub fn insert_new(&mut self, key: &K, value: V) -> Result<Option<V>, NoMemory>
+        ensures there { IfOk result (λ there. there ≡ lookup (is_at (K.cmp key.now)) self.old) }
+        ensures new { IfOk result (λ there. there ≡ None → (other : K) → lookup (is_at (K.cmp other)) self.new ≡ (if is_eq (K.cmp other key.now) then Some value else lookup (is_at (K.cmp other)) self.old)) }
+        ensures old { IfOk result (λ there. there ≢ None → self.new ≡ self.old) }
+        ensures err { OnErr result (self.new ≡ self.old) }
+    {
+        let code = key.hash_code();
+        let is_free = match found(&self.places, &self.slots, key, code) {
+            Ok((_, pair)) => return Ok(Some(pair.1.copy()?)),
+            Err(is_free) => is_free,
+        };
+        if let Some(there) = self.crowded.get(key) {
+            return Ok(Some(there.copy()?));
+        }
+        let key = key.copy()?;
+        if !is_free {
+            self.crowded.insert(key, value)?;
+            return Ok(None);
+        }
+        add_slot(
+            &mut self.places,
+            &mut self.slots,
+            &self.crowded,
+            &mut self.next,
+            code,
+            key,
+            value,
+        )?;
+        Ok(None)
     }
 
     pub fn remove(&mut self, key: &K) -> Result<(), NoMemory>

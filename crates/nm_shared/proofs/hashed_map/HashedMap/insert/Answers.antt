@@ -21,13 +21,3 @@ returns-then-is_crowded-clause-found g c = λ other.
     crowded_are g.K.Ord.cmp g.K.Hashed.hash g.met.K.Hashed.same c.self.inside.places c.self.inside.slots c.self.inside.crowded c.insert-then-is_crowded.new.self c.self.inside.next c.self.invariant c.args.key (Some c.args.value) c.in-Err.ensures.0 c.in_ok-insert.ensures.found other
     ∙ ap (λ all. cond (is_eq (g.K.Ord.cmp other c.args.key)) (Some c.args.value) (lookup (is_at (g.K.Ord.cmp other)) all)) c.self.view_is
 
-pub invariant_of-self-2 : goal.invariant_of-self-2
-invariant_of-self-2 g c =
-    last_hashed g.K.Ord.cmp g.K.Hashed.hash g.met.K.Hashed.same c.self.inside.places c.insert-2.new.self c.self.inside.slots c.insert-3.new.self c.self.inside.crowded c.self.inside.next c.self.invariant c.args.key c.args.value c.hash_code-code.result
-    c.hash_code-code.ensures (c.in-Err.ensures.1 (c.is_crowded.ensures.free c.if-is_crowded.false)) (c.is_crowded.ensures.apart c.if-is_crowded.false) c.in_ok-insert-2.ensures.found c.len-2.ensures.sorted c.in_ok-insert-3.ensures.found
-
-pub returns-clause-found : goal.returns-clause-found
-returns-clause-found g c = λ other.
-    last_are g.K.Ord.cmp g.K.Hashed.hash g.met.K.Hashed.same c.self.inside.places c.insert-2.new.self c.self.inside.slots c.insert-3.new.self c.self.inside.crowded c.self.inside.next c.self.invariant c.args.key c.args.value c.hash_code-code.result
-    c.hash_code-code.ensures (c.in-Err.ensures.1 (c.is_crowded.ensures.free c.if-is_crowded.false)) (c.is_crowded.ensures.apart c.if-is_crowded.false) c.in_ok-insert-2.ensures.found c.len-2.ensures.sorted c.in_ok-insert-3.ensures.found other
-    ∙ ap (λ all. cond (is_eq (g.K.Ord.cmp other c.args.key)) (Some c.args.value) (lookup (is_at (g.K.Ord.cmp other)) all)) c.self.view_is
