@@ -1,5 +1,5 @@
 -- What an insertion, a removal and a look-up do to pairs in order, cut at the place of their key.
--- For the proofs of `SharedMap::insert` and `SharedMap::remove`.
+-- For the proofs of `SharedMap::insert`, `SharedMap::remove` and others.
 use Rattle.std.proofs.Common.{◌≡◌, ◌≢◌, refl, sym, ap, ◌∙◌, cond, true≢false, Bool, true, false, List, [], ◌∷◌, ◌++◌}
 use Rattle.std.specs.Prelude.{Option, Some, None}
 use Rattle.std.specs.declared.cmp.Ordering.{Ordering}

@@ -1,6 +1,7 @@
 pub mod EntryLemmas
 pub mod SpotLemmas
 pub mod MapLemmas
+pub mod PartLemmas
 pub mod BlockLemmas
 pub mod HashedLemmas
 pub mod PlacesLemmas

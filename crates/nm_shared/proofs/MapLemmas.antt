@@ -1,4 +1,4 @@
--- What a change of one run does to a map. For the proofs of `cut_run`, `join_run`, `SharedMap::get` and others.
+-- What a change of one run does to a map. For the proofs of `cut_run`, `join_run`, `Part::get_by` and others.
 use Rattle.std.proofs.Common.{◌≡◌, ◌≢◌, refl, sym, ap, subst, ◌∙◌, ℕ, ◌+◌, ◌-◌, ◌<◌, ◌≤◌, suc, zero, Bool, true, false, List, [], ◌∷◌, ◌++◌, length, take, drop, get_or, set, arith, append_assoc, length-append, length-drop, add-one, lit<, inl, inr, ◌⊎◌, not}
 use Rattle.std.proofs.lemmas.List.Edits.{length-insert, length-remove, get_or-insert_below, get_or-insert_at, get_or-insert_above, get_or-remove_below, get_or-remove_above}
 use Rattle.std.proofs.Math.ListN.{length-set}
@@ -177,11 +177,11 @@ HaveItems_one item zero within = lit< tt
 HaveItems_one item (suc place) within = absurd (omega arith)
 
 module _ {K V : Type 0} {cmp : K → K → Ordering} (order : IsTotalOrder cmp) (key : K) (runs : List (List (K × V))) (len : ℕ) (map : IsMap cmp runs len) where
-  map_of_insert : (value : V) (new : List (List (K × V))) (count : ℕ) → flat new ≡ insert_entry cmp (flat runs) key value → HaveItems new → count ≡ length (flat new) → IsMap cmp new count
+  pub map_of_insert : (value : V) (new : List (List (K × V))) (count : ℕ) → flat new ≡ insert_entry cmp (flat runs) key value → HaveItems new → count ≡ length (flat new) → IsMap cmp new count
   map_of_insert value new count is filled counted =
       record { sorted = subst (λ all. IsStrictlySortedBy cmp (keys_of all)) (sym is) (sorted_insert order (flat runs) key value map.sorted); filled = filled; counted = counted }
 
-  map_of_remove : (new : List (List (K × V))) (count : ℕ) → flat new ≡ remove_entry (is_at (cmp key)) (flat runs) → HaveItems new → count ≡ length (flat new) → IsMap cmp new count
+  pub map_of_remove : (new : List (List (K × V))) (count : ℕ) → flat new ≡ remove_entry (is_at (cmp key)) (flat runs) → HaveItems new → count ≡ length (flat new) → IsMap cmp new count
   map_of_remove new count is filled counted =
       record { sorted = subst (λ all. IsStrictlySortedBy cmp (keys_of all)) (sym is) (sorted_remove cmp (is_at (cmp key)) (flat runs) map.sorted); filled = filled; counted = counted }
 

@@ -67,7 +67,7 @@ none_chosen place run is le = omega arith
 
 module _ {K V : Type 0} {cmp : K → K → Ordering} (order : IsTotalOrder cmp) (key : K) where
   -- the first items of a run up to one below the key
-  up_to : (items rest : List (K × V)) (at : ℕ) → IsStrictlySortedBy cmp (keys_of (items ++ rest)) → at < length items → (c : Cut items at) → cmp key c.item.0 ≡ Greater → AllBelow cmp key (take (suc at) items)
+  pub up_to : (items rest : List (K × V)) (at : ℕ) → IsStrictlySortedBy cmp (keys_of (items ++ rest)) → at < length items → (c : Cut items at) → cmp key c.item.0 ≡ Greater → AllBelow cmp key (take (suc at) items)
   up_to items rest at sorted lt c greater =
       let whole : items ++ rest ≡ take at items ++ (c.item ∷ (drop (at + 1) items ++ rest)) = ap (λ all. all ++ rest) c.whole ∙ append_assoc (take at items) (c.item ∷ drop (at + 1) items) rest in
       let cut_sorted : IsStrictlySortedBy cmp (keys_of (take at items ++ (c.item ∷ (drop (at + 1) items ++ rest)))) = subst (λ all. IsStrictlySortedBy cmp (keys_of all)) whole sorted in
@@ -127,7 +127,7 @@ module _ {K V : Type 0} {cmp : K → K → Ordering} (order : IsTotalOrder cmp) 
       below_sorted order key (flat (take run runs)) c.item (drop 1 (run_at runs run) ++ flat (drop (run + 1) runs)) (subst (λ all. IsStrictlySortedBy cmp (keys_of all)) whole sorted) not
 
   -- the runs before the one that is chosen are below the key
-  before_runs : (runs : List (List (K × V))) (place : ℕ) → HaveItems runs → IsStrictlySortedBy cmp (keys_of (flat runs)) → IsRunOf cmp key runs place → AllBelow cmp key (flat (take (place - 1) runs))
+  pub before_runs : (runs : List (List (K × V))) (place : ℕ) → HaveItems runs → IsStrictlySortedBy cmp (keys_of (flat runs)) → IsRunOf cmp key runs place → AllBelow cmp key (flat (take (place - 1) runs))
   before_runs runs zero filled sorted chosen = tt
   before_runs runs (suc place) filled sorted chosen =
       let lt : suc place - 1 < length runs = omega (arith, chosen.within) in
@@ -150,7 +150,7 @@ module _ {K V : Type 0} {cmp : K → K → Ordering} (order : IsTotalOrder cmp) 
       elim (cases_lt run (length runs)) [ inl lt ↦ from_run runs run filled sorted lt (λ entry. chosen.after entry lt) | inr le ↦ past_runs runs run le ]
 
   -- the runs after the one that is chosen are above the key
-  after_runs : (runs : List (List (K × V))) (place : ℕ) → HaveItems runs → IsStrictlySortedBy cmp (keys_of (flat runs)) → IsRunOf cmp key runs place → place - 1 < length runs → AllAbove cmp key (flat (drop (place - 1 + 1) runs))
+  pub after_runs : (runs : List (List (K × V))) (place : ℕ) → HaveItems runs → IsStrictlySortedBy cmp (keys_of (flat runs)) → IsRunOf cmp key runs place → place - 1 < length runs → AllAbove cmp key (flat (drop (place - 1 + 1) runs))
   after_runs runs zero filled sorted chosen lt =
       All-append_right (λ entry. cmp key entry.0 ≡ Less) (run_at runs 0) (flat (drop 1 runs)) (subst (AllAbove cmp key) (flat_drop runs 0 lt) (after_run runs 0 filled sorted chosen))
   after_runs runs (suc place) filled sorted chosen lt =

@@ -1,4 +1,4 @@
--- What holds of the runs of a map. Cited by `shared_map`.
+-- What holds of the runs of a part of a map, and of the parts of a map. Cited by `part` and `shared_map`.
 use Rattle.std.specs.Prelude.{◌≡◌, ℕ, List, length}
 use Rattle.std.specs.declared.cmp.Ordering.{Ordering}
 use Rattle.std.specs.List.Sorted.{IsStrictlySortedBy}

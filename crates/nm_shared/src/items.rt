@@ -1,4 +1,4 @@
-//! Reading a shared map in order, for `merge` and for the readers of snapshots in `nm_state` and `nm_threads`.
+//! Reading runs of items in order, for `part`, `in_order` and `shared_list`.
 
 ghost use Rattle.std.specs.Prelude.{◌≡◌, ◌++◌, length, slice_get};
 ghost use Rattle.std.specs.Iterator.{at_most};

@@ -4,9 +4,11 @@
 
 mod across;
 mod hashed_map;
+mod in_order;
 mod items;
 mod merge;
 mod pairs;
+mod part;
 mod places;
 mod room;
 mod run;
@@ -15,10 +17,12 @@ mod search;
 mod shared;
 mod shared_list;
 mod shared_map;
+mod shared_part;
 mod text_hash;
 
 pub use across::{hashed_may_cross, list_may_cross, map_may_cross, value_may_cross};
 pub use hashed_map::{Hashed, HashedMap};
+pub use in_order::InOrder;
 pub use items::Items;
 pub use pairs::Pairs;
 pub use shared::Shared;

@@ -8,15 +8,15 @@ ghost use Rattle.std.specs.Map.Iter.{TakesFirst};
 ghost use Rattle.std.specs.Ordering.{nat_cmp};
 ghost use Rattle.nm_shared.specs.Places.{merge};
 
-use crate::Items;
+use crate::InOrder;
 use std::cmp::Ordering;
 use std::marker::Model;
 
 /// Pairs of both in order: of two with one number the late one. A contract sees it as the pairs that are left.
 #[derive(Drop)]
 pub struct Merge<'a> {
-    late: Items<'a, (u64, u64)>,
-    early: Items<'a, (u64, u64)>,
+    late: InOrder<'a, u64, u64>,
+    early: InOrder<'a, u64, u64>,
 }
 
 impl<'a> Model for Merge<'a> {
@@ -37,7 +37,7 @@ impl<'a> Model for Merge<'a> {
 }
 
 impl<'a> Merge<'a> {
-    pub fn of(late: Items<'a, (u64, u64)>, early: Items<'a, (u64, u64)>) -> Merge<'a>
+    pub fn of(late: InOrder<'a, u64, u64>, early: InOrder<'a, u64, u64>) -> Merge<'a>
         requires late { IsStrictlySortedBy nat_cmp (keys_of late) }
         requires early { IsStrictlySortedBy nat_cmp (keys_of early) }
         ensures { result ≡ merge late.entry early.entry }

@@ -5,17 +5,17 @@ ghost use Rattle.std.specs.Iterator.{at_most};
 ghost use Rattle.std.specs.Map.{values_of};
 ghost use Rattle.std.specs.Map.Iter.{TakesFirst, deref};
 
-use crate::{Items, SharedMap};
+use crate::{InOrder, SharedMap};
 use std::marker::Model;
 
 /// Reads pairs: those in slots, then those that are crowded. A contract sees it as the pairs that are left.
 #[derive(Drop)]
-pub struct Pairs<'a, K, V> {
-    slots: Items<'a, (u64, (K, V))>,
-    crowded: Items<'a, (K, V)>,
+pub struct Pairs<'a, K: Ord, V> {
+    slots: InOrder<'a, u64, (K, V)>,
+    crowded: InOrder<'a, K, V>,
 }
 
-impl<'a, K, V> Model for Pairs<'a, K, V> {
+impl<'a, K: Ord, V> Model for Pairs<'a, K, V> {
     ghost use Rattle.std.specs.Prelude.{List, ◌++◌};
     ghost use Rattle.std.specs.Coded.{coded_list, coded×};
     ghost use Rattle.std.specs.Map.{values_of};
@@ -41,7 +41,7 @@ impl<'a, K: Ord, V> Pairs<'a, K, V> {
     }
 }
 
-impl<'a, K, V> Iterator for Pairs<'a, K, V> {
+impl<'a, K: Ord, V> Iterator for Pairs<'a, K, V> {
     type Item = &'a (K, V);
 
     ghost next_gives = { TakesFirst deref };

@@ -1,4 +1,4 @@
-//! Room for a pair in the run that it goes into, for `insert` of `shared_map`.
+//! Room for a pair in the run that it goes into, for `insert` of `part`.
 
 ghost use Rattle.std.specs.Prelude.{◌≡◌};
 ghost use Rattle.std.specs.List.Sorted.{IsStrictlySortedBy};
@@ -7,7 +7,7 @@ ghost use Rattle.nm_shared.specs.Runs.{flat, HaveItems};
 ghost use Rattle.nm_shared.specs.Spot.{IsSpotOf};
 
 use crate::run::Run;
-use crate::runs::{cut_run, max_items};
+use crate::runs::{MAX_RUN, cut_run};
 use crate::search::{AtEnd, Spot, spot_of};
 use nm_base::Copies;
 
@@ -30,6 +30,6 @@ pub fn spot_with_room<K: Ord + Copies, V: Copies>(runs: &mut Vec<Run<(K, V)>>, k
 fn is_full<T>(runs: &[Run<T>], at: usize) -> bool {
     match runs.get(at) {
         None => false,
-        Some(run) => run.len() >= max_items(at, runs.len()),
+        Some(run) => run.len() >= MAX_RUN,
     }
 }

@@ -53,11 +53,11 @@ impl<T: Drop> Run<T> {
             arc: Arc::new(alloc, vec)?,
         })
     }
+}
 
-    /// A second handle on the same block.
-    pub fn share(&self) -> Result<Run<T>, NoMemory>
-        ensures { IfOk result (λ run. run ≡ self.now) }
-    {
+/// The copy is a second handle on the same block.
+impl<T: Drop> Copies for Run<T> {
+    fn copy(&self) -> Result<Run<T>, NoMemory> {
         Ok(Run {
             arc: Arc::try_clone(&self.arc)?,
         })

@@ -1,6 +1,6 @@
-//! Blocks one after the other, cut where they are full and joined where they are small, for `shared_map` and `shared_list`.
+//! Blocks one after the other, cut where they are full and joined where they are small, for `part` and `room`.
 
-ghost use Rattle.std.specs.Prelude.{◌≡◌, ◌<◌, [], ◌∷◌, ◌++◌, take, IfOk, OnOk, OnErr};
+ghost use Rattle.std.specs.Prelude.{◌≡◌, ◌<◌, [], ◌∷◌, ◌++◌, IfOk, OnOk, OnErr};
 ghost use Rattle.nm_shared.specs.Runs.{flat, HaveItems};
 
 use crate::run::{Run, copied};
@@ -8,28 +8,10 @@ use nm_base::{Copies, NoMemory};
 use std::alloc::Global;
 
 /// A run with this many items is cut in two before another goes into it.
-const MAX_RUN: usize = 64;
-
-/// For each of many runs the last one may have so many items. Items that rise fill it, and a second handle counts fewer runs
-/// then: their number rises with the root of that of the items.
-const LAST_PER_RUN: usize = 3;
-
-/// So many runs are many.
-const MANY_RUNS: usize = 64;
+pub const MAX_RUN: usize = 64;
 
 /// Two neighbours with this many items together become one, which has room for as many again.
 const MAX_JOINED: usize = MAX_RUN / 2;
-
-/// A second handle on each run.
-pub fn shared<T: Drop>(runs: &Vec<Run<T>>) -> Result<Vec<Run<T>>, NoMemory>
-    ensures { IfOk result (λ shared. shared.items ≡ runs.now.items) }
-{
-    let mut shared = Vec::with_capacity(*runs.allocator(), runs.len())?;
-    'runs: for run in runs.as_slice() {
-        shared.push(run.share()?)?;
-    }
-    Ok(shared)
-}
 
 /// Puts the first run there, with one item.
 pub fn put_first<T: Drop>(runs: &mut Vec<Run<T>>, item: T) -> Result<(), NoMemory>
@@ -55,7 +37,7 @@ pub fn cut_run<T: Copies>(runs: &mut Vec<Run<T>>, at: usize) -> Result<(), NoMem
         return Ok(());
     };
     let items = run.as_slice();
-    if items.len() < max_items(at, runs.len()) {
+    if items.len() < MAX_RUN {
         return Ok(());
     }
     let middle = middle_of(items.len(), at + 1 < runs.len());
@@ -64,17 +46,6 @@ pub fn cut_run<T: Copies>(runs: &mut Vec<Run<T>>, at: usize) -> Result<(), NoMem
     runs.insert(at + 1, back)?;
     runs[at] = front;
     Ok(())
-}
-
-/// How many items the run at `at` may have, of so many runs.
-pub fn max_items(at: usize, runs: usize) -> usize
-    ensures { 1 < result }
-{
-    if runs < MANY_RUNS || at.saturating_add(1) < runs {
-        MAX_RUN
-    } else {
-        runs.saturating_mul(LAST_PER_RUN).max(MAX_RUN)
-    }
 }
 
 /// Where a full run of so many items is cut.

@@ -1,10 +1,10 @@
-//! Where a key stands among blocks of pairs: `shared_map` asks it for each look-up, and `room` for a new pair.
+//! Where a key stands among blocks of pairs: `part` asks it for each look-up, and `room` for a new pair; `shared_map` looks for a part in the same way.
 
-ghost use Rattle.std.specs.Prelude.{◌≡◌, ◌≢◌, ◌-◌, ◌<◌, ◌≤◌, ℕ, true, false, length, slice_index_or};
-ghost use Rattle.std.specs.declared.cmp.Ordering.TheVariants.{Equal, Greater, Less};
+ghost use Rattle.std.specs.Prelude.{◌≡◌, ◌≢◌, ◌-◌, ◌<◌, ◌≤◌, true, false, length, slice_index_or};
+ghost use Rattle.std.specs.declared.cmp.Ordering.TheVariants.{Equal, Greater};
 ghost use Rattle.std.specs.List.Sorted.{IsStrictlySortedBy};
 ghost use Rattle.std.specs.Map.{keys_of};
-ghost use Rattle.nm_shared.specs.Runs.{flat, run_at, HaveItems};
+ghost use Rattle.nm_shared.specs.Runs.{flat, HaveItems};
 ghost use Rattle.nm_shared.specs.Search.{IsRunOf, IsPlaceOf};
 ghost use Rattle.nm_shared.specs.Spot.{IsSpotOf};
 
@@ -19,61 +19,92 @@ pub struct Spot {
     pub found: bool,
 }
 
+/// A block of pairs that is full has two to this power, where keys rise.
+const RUN_BITS: u32 = 6;
+
 /// How many runs begin with a key that is not above `key`.
-pub fn run_of<K: Ord, V>(runs: &[Run<(K, V)>], key: &K) -> usize
+pub fn run_of<K: Ord, V, S: Seek<K>>(runs: &[Run<(K, V)>], key: &K, seek: &S) -> usize
     requires { HaveItems runs.now }
     ensures { IsRunOf K.cmp key.now runs.now result }
 {
-    // Keys that rise are looked for at the end, whose last run is at hand.
-    if is_in_last(runs, key) {
-        return runs.len();
-    }
+    let Some(first) = runs.first() else {
+        return 0;
+    };
+    let mut probe = Probe {
+        at: seek.guess(&first.as_slice()[0].0, key, runs.len(), RUN_BITS),
+        is_guess: true,
+    };
     let mut low = 0;
     let mut high = runs.len();
-    'halves: while low < high {
-        let middle = low + (high - low) / 2;
-        let items = runs[middle].as_slice();
-        match key.cmp(&items[0].0) {
-            Ordering::Less => high = middle,
-            _ => low = middle + 1,
+    'runs: while low < high {
+        let at = probe.at.max(low).min(high - 1);
+        let is_above = key.cmp(&runs[at].as_slice()[0].0) == Ordering::Less;
+        if is_above {
+            high = at;
+        } else {
+            low = at + 1;
         }
+        probe = probe.next(low, high, is_above);
     }
     low
 }
 
-/// Whether there is a last run, and it doesn't begin above `key`.
-fn is_in_last<K: Ord, V>(runs: &[Run<(K, V)>], key: &K) -> bool
-    requires { HaveItems runs.now }
-    ensures { result ≡ true → (entry : K × V) → K.cmp key.now (slice_index_or (run_at runs.now (length runs.now - 1)) 0 entry).0 ≢ Less }
-{
-    match runs.last() {
-        None => false,
-        Some(run) => key.cmp(&run.as_slice()[0].0) != Ordering::Less,
+/// Where a search among blocks looks next.
+#[derive(Clone, Copy)]
+pub struct Probe {
+    pub at: usize,
+    /// Whether this is the guess that it begins with.
+    pub is_guess: bool,
+}
+
+impl Probe {
+    /// A guess is followed by the block beside it, since most guesses are right; then the rest is halved.
+    pub fn next(self, low: usize, high: usize, is_above: bool) -> Probe {
+        let at = if !self.is_guess {
+            low.saturating_add(high.saturating_sub(low) / 2)
+        } else if is_above {
+            high.saturating_sub(1)
+        } else {
+            low
+        };
+        Probe {
+            at,
+            is_guess: false,
+        }
     }
 }
 
-/// A way to find a key in a run. All find the same place, at different costs.
+/// A way to find a key among blocks and in a run. All find the same place, at different costs.
 pub trait Seek<K: Ord> {
+    /// At which of so many blocks to look first, whose first key is `first`. A full block has two to the power of `bits` items.
+    fn guess(&self, first: &K, key: &K, blocks: usize, bits: u32) -> usize;
+
     /// How many keys of the run are below `key`.
     fn place_of<V>(&self, items: &[(K, V)], key: &K) -> usize
         ensures { IsPlaceOf K.cmp key.now items.now result };
 }
 
 /// By halves.
-#[derive(Clone, Copy)]
 pub struct Halves;
 
 impl<K: Ord> Seek<K> for Halves {
+    fn guess(&self, _first: &K, _key: &K, blocks: usize, _bits: u32) -> usize {
+        blocks
+    }
+
     fn place_of<V>(&self, items: &[(K, V)], key: &K) -> usize {
         place_between(items, key, 0, items.len())
     }
 }
 
 /// At the end first, where keys that rise come, and then by halves.
-#[derive(Clone, Copy, Debug)]
 pub struct AtEnd;
 
 impl<K: Ord> Seek<K> for AtEnd {
+    fn guess(&self, _first: &K, _key: &K, blocks: usize, _bits: u32) -> usize {
+        blocks
+    }
+
     fn place_of<V>(&self, items: &[(K, V)], key: &K) -> usize {
         let len = items.len();
         if len > 0 && key.cmp(&items[len - 1].0) == Ordering::Greater {
@@ -85,7 +116,7 @@ impl<K: Ord> Seek<K> for AtEnd {
 
 /// By guesses, of numbers of which so many of 2^64 are keys, or about so many: of hashes as many as the map has, of numbers
 /// that follow one another all. What a guess costs is time alone.
-#[derive(Clone, Copy)]
+#[derive(Drop)]
 pub struct Guesses {
     pub keys: u64,
 }
@@ -101,6 +132,13 @@ impl Guesses {
 }
 
 impl Seek<u64> for Guesses {
+    fn guess(&self, first: &u64, key: &u64, blocks: usize, bits: u32) -> usize {
+        if self.keys == u64::MAX {
+            return key.saturating_sub(*first).checked_shr(bits).unwrap_or(0) as usize;
+        }
+        (u128::from(*key).wrapping_mul(blocks as u128) >> 64) as usize
+    }
+
     fn place_of<V>(&self, items: &[(u64, V)], key: &u64) -> usize {
         let mut low = 0;
         let mut high = items.len();
@@ -152,7 +190,7 @@ pub fn spot_of<K: Ord, V, S: Seek<K>>(runs: &[Run<(K, V)>], key: &K, seek: &S) -
     requires sorted { IsStrictlySortedBy K.cmp (keys_of (flat runs.now)) }
     ensures { IsSpotOf K.cmp key.now runs.now result }
 {
-    let run = run_of(runs, key).saturating_sub(1);
+    let run = run_of(runs, key, seek).saturating_sub(1);
     let Some(chosen) = runs.get(run) else {
         return Spot {
             run,

@@ -1,4 +1,4 @@
-//! A value that several handles hold: each block of `runs` is one, and so is each message of a snapshot of `nm_state`.
+//! A value that several handles hold: each message of a snapshot of `nm_state` is one, and so are its tags.
 
 ghost use Rattle.std.specs.Prelude.{◌≡◌, IfOk};
 

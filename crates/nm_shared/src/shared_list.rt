@@ -7,8 +7,7 @@ ghost use Rattle.nm_shared.specs.Blocks.{IsBlocks};
 ghost use Rattle.nm_shared.specs.Runs.{flat};
 
 use crate::Items;
-use crate::run::Run;
-use crate::runs::shared;
+use crate::run::{Run, copied};
 use nm_base::{Copies, NoMemory};
 use std::alloc::Global;
 use std::marker::Model;
@@ -82,7 +81,7 @@ impl<T: Drop> SharedList<T> {
         ensures { IfOk result (λ list. list ≡ self.now) }
     {
         Ok(SharedList {
-            blocks: shared(&self.blocks)?,
+            blocks: copied(*self.blocks.allocator(), self.blocks.as_slice())?,
             len: self.len,
         })
     }

@@ -1,27 +1,36 @@
 //! An ordered map that snapshots share: `hashed_map` rests on it, and `nm_threads` and `nm_state` keep threads and
-//! messages in it.
+//! messages in it. Its pairs stand in parts, so that a second handle counts a few, and a change copies little.
 
-ghost use Rattle.std.specs.Prelude.{◌≡◌, ◌==◌, ◌-◌, [], length, slice_get, IfOk, OnOk, OnErr, Some, None, if◌then◌else◌};
+ghost use Rattle.std.specs.Prelude.{◌≡◌, ◌==◌, ◌-◌, ◌<◌, [], false, true, length, slice_get, IfOk, OnOk, OnErr, Some, None, if◌then◌else◌};
 ghost use Rattle.std.specs.BTreeMap.{insert_entry, is_at};
 ghost use Rattle.std.specs.BTreeMap.Range.{entries_from};
 ghost use Rattle.std.specs.List.Sorted.{IsStrictlySortedBy};
 ghost use Rattle.std.specs.Map.{keys_of, lookup, remove_entry};
 ghost use Rattle.std.specs.Option.{option_copied};
 ghost use Rattle.std.specs.Ordering.{is_eq, nat_cmp};
+ghost use Rattle.nm_shared.specs.Runs.{HaveItems};
+ghost use Rattle.nm_shared.specs.Search.{IsRunOf};
+ghost use Rattle.nm_shared.specs.Spot.{AllBelow};
 
-use crate::Items;
-use crate::room::spot_with_room;
-use crate::run::Run;
-use crate::runs::{join_run, put_first, shared};
-use crate::search::{Guesses, Halves, Seek, spot_of};
+use crate::part::Part;
+use crate::run::copied;
+use crate::search::{AtEnd, Guesses, Halves, Probe, Seek};
+use crate::shared_part::SharedPart;
+use crate::{InOrder, Items};
 use nm_base::{Copies, NoMemory};
 use std::alloc::Global;
+use std::cmp::Ordering;
 use std::marker::Model;
+
+/// A last part with this many pairs is full: a key above all others begins the next one.
+const MAX_PART: usize = 1 << PART_BITS;
+
+const PART_BITS: u32 = 13;
 
 /// Pairs in the order of their keys, each key once. A contract sees it as the list of its pairs.
 #[derive(Drop)]
 pub struct SharedMap<K: Ord, V> {
-    runs: Vec<Run<(K, V)>>,
+    parts: Vec<SharedPart<K, V>>,
     len: usize,
 }
 
@@ -35,9 +44,36 @@ impl<K: Ord, V> Model for SharedMap<K, V> {
 
     ghost coded = { coded_list (coded× K.code V.code) };
 
-    ghost view = { λ m. flat m.runs.items };
+    ghost view = { λ m. flat m.parts.items };
 
-    ghost invariant = { λ m. IsMap K.cmp m.runs.items m.len };
+    ghost invariant = { λ m. IsMap K.cmp m.parts.items m.len };
+}
+
+/// How many parts begin with a key that is not above `key`.
+fn part_of<K: Ord, V, S: Seek<K>>(parts: &[SharedPart<K, V>], key: &K, seek: &S) -> usize
+    requires { HaveItems parts.now }
+    ensures { IsRunOf K.cmp key.now parts.now result }
+{
+    let Some(first) = parts.first() else {
+        return 0;
+    };
+    let mut probe = Probe {
+        at: seek.guess(&first.get().first().0, key, parts.len(), PART_BITS),
+        is_guess: true,
+    };
+    let mut low = 0;
+    let mut high = parts.len();
+    'parts: while low < high {
+        let at = probe.at.max(low).min(high - 1);
+        let is_above = key.cmp(&parts[at].get().first().0) == Ordering::Less;
+        if is_above {
+            high = at;
+        } else {
+            low = at + 1;
+        }
+        probe = probe.next(low, high, is_above);
+    }
+    low
 }
 
 impl<K: Ord, V> SharedMap<K, V> {
@@ -46,7 +82,7 @@ impl<K: Ord, V> SharedMap<K, V> {
         ensures { result ≡ [] }
     {
         SharedMap {
-            runs: Vec::new(alloc),
+            parts: Vec::new(alloc),
             len: 0,
         }
     }
@@ -65,7 +101,7 @@ impl<K: Ord, V> SharedMap<K, V> {
     }
 
     pub(crate) fn alloc(&self) -> Global {
-        *self.runs.allocator()
+        *self.parts.allocator()
     }
 
     pub fn get(&self, key: &K) -> Option<&V>
@@ -77,48 +113,50 @@ impl<K: Ord, V> SharedMap<K, V> {
     fn get_by<S: Seek<K>>(&self, key: &K, seek: &S) -> Option<&V>
         ensures { option_copied result ≡ lookup (is_at (K.cmp key.now)) self.now }
     {
-        let spot = spot_of(self.runs.as_slice(), key, seek);
-        if !spot.found {
+        let at = part_of(self.parts.as_slice(), key, seek).saturating_sub(1);
+        let Some(part) = self.parts.get(at) else {
             return None;
-        }
-        let entry = &self.runs[spot.run].as_slice()[spot.at];
-        Some(&entry.1)
+        };
+        part.get().get_by(key, seek)
     }
 
     /// The pair with the least key.
     pub fn first(&self) -> Option<&(K, V)>
         ensures { option_copied result ≡ slice_get self.now 0 }
     {
-        self.runs.first()?.as_slice().first()
+        let Some(part) = self.parts.first() else {
+            return None;
+        };
+        Some(part.get().first())
     }
 
     /// The pair with the greatest key.
     pub fn last(&self) -> Option<&(K, V)>
         ensures { option_copied result ≡ slice_get self.now (length self.now - 1) }
     {
-        self.runs.last()?.as_slice().last()
+        let Some(part) = self.parts.last() else {
+            return None;
+        };
+        part.get().last()
     }
 
     /// All pairs, in order.
-    pub fn iter(&self) -> Items<'_, (K, V)>
+    pub fn iter(&self) -> InOrder<'_, K, V>
         ensures { result ≡ self.now }
     {
-        Items::of(&[], self.runs.as_slice())
+        InOrder::of(Items::of(&[], &[]), self.parts.as_slice())
     }
 
     /// The pairs whose keys are not below `key`, in order.
-    pub fn iter_from(&self, key: &K) -> Items<'_, (K, V)>
+    pub fn iter_from(&self, key: &K) -> InOrder<'_, K, V>
         ensures rest { result ≡ entries_from (K.cmp key.now) self.now }
         ensures sorted { IsStrictlySortedBy K.cmp (keys_of self.now) }
     {
-        let spot = spot_of(self.runs.as_slice(), key, &Halves);
-        let Some(run) = self.runs.get(spot.run) else {
+        let at = part_of(self.parts.as_slice(), key, &Halves).saturating_sub(1);
+        let Some(part) = self.parts.get(at) else {
             return self.iter();
         };
-        Items::of(
-            &run.as_slice()[spot.at..],
-            &self.runs.as_slice()[spot.run + 1..],
-        )
+        InOrder::of(part.get().iter_from(key), &self.parts.as_slice()[at + 1..])
     }
 }
 
@@ -147,12 +185,12 @@ impl<K: Ord + Drop, V: Drop> SharedMap<K, V> {
     {
         let alloc = *pairs.allocator();
         let len = pairs.len();
-        let mut runs = Vec::new(alloc);
+        let mut parts = Vec::new(alloc);
         if len == 0 {
-            return Ok(SharedMap { runs, len });
+            return Ok(SharedMap { parts, len });
         }
-        runs.push(Run::of(pairs)?)?;
-        Ok(SharedMap { runs, len })
+        parts.push(SharedPart::new(Part::of_sorted(pairs)?)?)?;
+        Ok(SharedMap { parts, len })
     }
 
     /// A second handle, for far less than a copy. No change of one shows in the other.
@@ -160,7 +198,7 @@ impl<K: Ord + Drop, V: Drop> SharedMap<K, V> {
         ensures { IfOk result (λ map. map ≡ self.now) }
     {
         Ok(SharedMap {
-            runs: shared(&self.runs)?,
+            parts: copied(self.alloc(), self.parts.as_slice())?,
             len: self.len,
         })
     }
@@ -173,6 +211,10 @@ impl<K: Ord + Copies, V: Copies> SharedMap<K, V> {
         ensures found { OnOk result ((other : K) → lookup (is_at (K.cmp other)) self.new ≡ (if is_eq (K.cmp other key) then Some value else lookup (is_at (K.cmp other)) self.old)) }
         ensures err { OnErr result (self.new ≡ self.old) }
     {
+        if self.begins_part(&key) {
+            self.push_part(key, value)?;
+            return Ok(());
+        }
         self.put(key, value)?;
         Ok(())
     }
@@ -182,59 +224,85 @@ impl<K: Ord + Copies, V: Copies> SharedMap<K, V> {
         ensures found { OnOk result ((other : K) → lookup (is_at (K.cmp other)) self.new ≡ (if is_eq (K.cmp other key.now) then None else lookup (is_at (K.cmp other)) self.old)) }
         ensures err { OnErr result (self.new ≡ self.old) }
     {
-        let run = self.take_out(key)?;
-        self.join_beside(run);
+        self.take_out(key)?;
         Ok(())
     }
 
-    fn put(&mut self, key: K, value: V) -> Result<(), NoMemory>
+    /// Says whether a key above all others goes into a part of its own: there is none, or the last one is full.
+    fn begins_part(&self, key: &K) -> bool
+        ensures above { result ≡ true → AllBelow K.cmp key.now self.now }
+        ensures some { result ≡ false → 0 < length self.now }
+    {
+        if self.len() == 0 {
+            return true;
+        }
+        let Some(pair) = self.last() else {
+            return false;
+        };
+        match key.cmp(&pair.0) {
+            Ordering::Greater => self.is_full(),
+            _ => false,
+        }
+    }
+
+    fn is_full(&self) -> bool {
+        match self.parts.last() {
+            None => false,
+            Some(part) => part.get().len() >= MAX_PART,
+        }
+    }
+
+    /// Puts a pair with a key above all others behind them, in a part of its own.
+    fn push_part(&mut self, key: K, value: V) -> Result<(), NoMemory>
+        requires { AllBelow K.cmp key self.old }
         ensures ok { OnOk result (self.new ≡ insert_entry K.cmp self.old key value) }
         ensures err { OnErr result (self.new ≡ self.old) }
     {
         if self.len == usize::MAX {
             return Err(NoMemory);
         }
-        let spot = spot_with_room(&mut self.runs, &key);
-        if spot.found {
-            self.runs[spot.run].replace_value(spot.at, value)?;
-            return Ok(());
-        }
-        if self.runs.is_empty() {
-            put_first(&mut self.runs, (key, value))?;
-            self.len += 1;
-            return Ok(());
-        }
-        self.runs[spot.run].insert(spot.at, (key, value))?;
+        let mut pairs = Vec::new(self.alloc());
+        pairs.push((key, value))?;
+        self.parts.push(SharedPart::new(Part::of_sorted(pairs)?)?)?;
         self.len += 1;
         Ok(())
     }
 
-    /// The same, and answers at which run the pair stood, or would stand.
-    fn take_out(&mut self, key: &K) -> Result<usize, NoMemory>
+    /// Puts a pair into the part that its key belongs to.
+    fn put(&mut self, key: K, value: V) -> Result<(), NoMemory>
+        requires { 0 < length self.old }
+        ensures ok { OnOk result (self.new ≡ insert_entry K.cmp self.old key value) }
+        ensures err { OnErr result (self.new ≡ self.old) }
+    {
+        if self.len == usize::MAX {
+            return Err(NoMemory);
+        }
+        let at = part_of(self.parts.as_slice(), &key, &AtEnd).saturating_sub(1);
+        let part = &mut self.parts[at];
+        let before = part.get().len();
+        part.insert(key, value)?;
+        let more = part.get().len().saturating_sub(before);
+        self.len = self.len.saturating_add(more);
+        Ok(())
+    }
+
+    fn take_out(&mut self, key: &K) -> Result<(), NoMemory>
         ensures ok { OnOk result (self.new ≡ remove_entry (is_at (K.cmp key.now)) self.old) }
         ensures err { OnErr result (self.new ≡ self.old) }
         ensures sorted { IsStrictlySortedBy K.cmp (keys_of self.old) }
     {
-        let spot = spot_of(self.runs.as_slice(), key, &Halves);
-        if !spot.found {
-            return Ok(spot.run);
+        let at = part_of(self.parts.as_slice(), key, &Halves).saturating_sub(1);
+        if at >= self.parts.len() {
+            return Ok(());
         }
-        let len = self.len.saturating_sub(1);
-        if self.runs[spot.run].len() == 1 {
-            self.runs.remove(spot.run);
-            self.len = len;
-            return Ok(spot.run);
+        let part = &mut self.parts[at];
+        let before = part.get().len();
+        part.remove(key)?;
+        let after = part.get().len();
+        self.len = self.len.saturating_sub(before.saturating_sub(after));
+        if after == 0 {
+            self.parts.remove(at);
         }
-        self.runs[spot.run].remove(spot.at)?;
-        self.len = len;
-        Ok(spot.run)
-    }
-
-    /// Joins small runs beside this one. Without memory for it they stay.
-    fn join_beside(&mut self, run: usize)
-        ensures { self.new ≡ self.old }
-    {
-        let _ = join_run(&mut self.runs, run);
-        let _ = join_run(&mut self.runs, run.saturating_sub(1));
+        Ok(())
     }
 }

@@ -9,7 +9,7 @@ ghost use Rattle.nm_base.specs.Limits.{max_count};
 ghost use Rattle.nm_state.specs.Measures.{pairs_len};
 
 use nm_base::{Copies, NoMemory};
-use nm_shared::{Items, SharedMap};
+use nm_shared::{InOrder, SharedMap};
 use std::alloc::Global;
 use std::marker::Model;
 
@@ -106,7 +106,7 @@ impl<K: MeasuredKey, V: Measured> MeasuredMap<K, V> {
     }
 
     /// All pairs, in order.
-    pub fn iter(&self) -> Items<'_, (K, V)>
+    pub fn iter(&self) -> InOrder<'_, K, V>
         ensures { result ≡ self.now }
     {
         self.map.iter()

@@ -10,13 +10,13 @@ ghost use Rattle.std.specs.Ordering.{eq_by_cmp, nat_cmp};
 ghost use Rattle.nm_state.specs.Filing.{files_at_places};
 
 use nm_base::{Facts, MailPath, MessageId, Tags};
-use nm_shared::{HashedMap, Items, Pairs, Shared, SharedMap};
+use nm_shared::{HashedMap, InOrder, Pairs, Shared, SharedMap};
 use std::marker::Model;
 
 /// Paths in the order of their bytes. A contract sees those that are left.
 #[derive(Drop)]
 pub struct Paths<'a> {
-    rest: Items<'a, (MailPath, u64)>,
+    rest: InOrder<'a, MailPath, u64>,
 }
 
 impl<'a> Model for Paths<'a> {
@@ -54,7 +54,7 @@ impl<'a> Iterator for Paths<'a> {
 /// Files in the order of their arrival. A contract sees those that are left.
 #[derive(Drop)]
 pub struct Files<'a> {
-    rest: Items<'a, (u64, (MailPath, Shared<Facts>))>,
+    rest: InOrder<'a, u64, (MailPath, Shared<Facts>)>,
 }
 
 impl<'a> Model for Files<'a> {

@@ -6,13 +6,13 @@ ghost use Rattle.std.specs.Map.Iter.{TakesFirst};
 ghost use Rattle.nm_threads.specs.Entries.{id_and_number};
 
 use nm_base::MessageId;
-use nm_shared::{Items, SharedMap};
+use nm_shared::{InOrder, SharedMap};
 use std::marker::Model;
 
 /// Ids with their numbers, by rising numbers. A contract sees those that are left.
 #[derive(Drop)]
 pub struct Entries<'a> {
-    rest: Items<'a, (u64, MessageId)>,
+    rest: InOrder<'a, u64, MessageId>,
 }
 
 impl<'a> Model for Entries<'a> {

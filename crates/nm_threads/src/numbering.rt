@@ -16,16 +16,15 @@ pub fn give_number(maps: &mut Maps, id: &MessageId) -> Result<u64, NoMemory>
     ensures number { IfOk result (λ number. Contains maps.new.ids (number, id.now)) }
     ensures others { OnOk result ((number : ℕ) (other : List ℕ) → Contains maps.old.ids (number, other) → Contains maps.new.ids (number, other)) }
 {
-    if let Some(number) = maps.numbers.get(id) {
-        return Ok(*number);
-    }
     let number = maps.next;
+    if let Some(there) = maps.numbers.insert_new(id, number)? {
+        return Ok(there);
+    }
     let thread = Thread {
         name: number,
         len: 1,
     };
     maps.ids.insert(number, id.copy()?)?;
-    maps.numbers.insert(id.copy()?, number)?;
     maps.groups.insert(number, number)?;
     maps.threads.insert(number, thread)?;
     maps.members.insert((number, number), Member)?;

@@ -1,34 +1,29 @@
-use Rattle.std.proofs.Common.{sym, ap, ◌∙◌}
+use Rattle.std.proofs.Common.{ap, ◌∙◌, length, arith}
 use Rattle.std.specs.BTreeMap.{is_at}
 use Rattle.std.specs.Map.{remove_entry}
-use Rattle.nm_shared.proofs.MapLemmas.{remove_missing_any, take_item, take_run, not_true, not_false}
+use Rattle.nm_shared.proofs.PartLemmas.{take_flat, take_map, gone_flat, gone_map}
 use Rattle.nm_shared.proofs.shared_map.SharedMap.take_out.Goals as goal
 
-pub returns-then-not-spot-clause-ok : goal.returns-then-not-spot-clause-ok
-returns-then-not-spot-clause-ok g c =
-    sym (ap (remove_entry (is_at (g.K.Ord.cmp c.args.key.now))) (sym c.self.view_is)
-    ∙ remove_missing_any g.K.Ord.cmp c.args.key.now c.self.inside.runs.items c.spot_of-spot.result (rw c.as_slice.ensures.value at c.spot_of-spot.ensures) (not_true _ c.if-not-spot.true) ∙ c.self.view_is)
+pub invariant_of-self-then-after-eq0 : goal.invariant_of-self-then-after-eq0
+invariant_of-self-then-after-eq0 g c =
+    gone_map g.met.K.Ord.total c.args.key.now c.self.inside.parts.items c.self.inside.len c.part_of.result c.saturating_sub-at.result c.saturating_sub-at.ensures
+    (omega arith) c.self.invariant (rw c.as_slice.ensures.value at c.part_of.ensures) c.index_mut-part.result.now c.remove.new.self c.index_mut-part.ensures.value c.in_ok-remove.ensures.ok c.remove-then-after-eq0.new.self.items c.remove-then-after-eq0.ensures.items c.len-after.result (c.len-after.ensures.len ∙ ap length c.get-2.ensures) c.if-after-eq0.true
+    c.len-before.result c.saturating_sub.result c.saturating_sub-self-inside.result (c.len-before.ensures.len ∙ ap length c.get.ensures) c.saturating_sub.ensures c.saturating_sub-self-inside.ensures
 
-pub invariant_of-self : goal.invariant_of-self
-invariant_of-self g c =
-    rw c.saturating_sub-len.ensures
-    (take_run c.args.key.now c.self.inside.runs.items c.spot_of-spot.result (rw c.as_slice.ensures.value at c.spot_of-spot.ensures) g.met.K.Ord.total c.self.inside.len c.self.invariant c.index.result.now c.index.ensures (not_false _ c.if-not-spot.false)
-    c.remove.new.self.items (sym c.len.ensures ∙ c.if-len-eq1.true) c.remove.ensures.items).0
+pub invariant_of-self-else-after-eq0 : goal.invariant_of-self-else-after-eq0
+invariant_of-self-else-after-eq0 g c =
+    take_map g.met.K.Ord.total c.args.key.now c.self.inside.parts.items c.self.inside.len c.part_of.result c.saturating_sub-at.result c.saturating_sub-at.ensures
+    (omega arith) c.self.invariant (rw c.as_slice.ensures.value at c.part_of.ensures) c.index_mut-part.result.now c.remove.new.self c.index_mut-part.ensures.value c.in_ok-remove.ensures.ok c.len-before.result c.len-after.result c.saturating_sub.result c.saturating_sub-self-inside.result
+    (c.len-before.ensures.len ∙ ap length c.get.ensures) (c.len-after.ensures.len ∙ ap length c.get-2.ensures) c.saturating_sub.ensures c.saturating_sub-self-inside.ensures c.if-after-eq0.false
 
-pub returns-then-len-eq1-clause-ok : goal.returns-then-len-eq1-clause-ok
-returns-then-len-eq1-clause-ok g c =
-    (take_run c.args.key.now c.self.inside.runs.items c.spot_of-spot.result (rw c.as_slice.ensures.value at c.spot_of-spot.ensures) g.met.K.Ord.total c.self.inside.len c.self.invariant c.index.result.now c.index.ensures (not_false _ c.if-not-spot.false)
-    c.remove.new.self.items (sym c.len.ensures ∙ c.if-len-eq1.true) c.remove.ensures.items).1
+pub returns-then-after-eq0-clause-ok : goal.returns-then-after-eq0-clause-ok
+returns-then-after-eq0-clause-ok g c =
+    gone_flat g.met.K.Ord.total c.args.key.now c.self.inside.parts.items c.self.inside.len c.part_of.result c.saturating_sub-at.result c.saturating_sub-at.ensures
+    (omega arith) c.self.invariant (rw c.as_slice.ensures.value at c.part_of.ensures) c.index_mut-part.result.now c.remove.new.self c.index_mut-part.ensures.value c.in_ok-remove.ensures.ok c.remove-then-after-eq0.new.self.items c.remove-then-after-eq0.ensures.items c.len-after.result (c.len-after.ensures.len ∙ ap length c.get-2.ensures) c.if-after-eq0.true
     ∙ ap (remove_entry (is_at (g.K.Ord.cmp c.args.key.now))) c.self.view_is
 
-pub invariant_of-self-2 : goal.invariant_of-self-2
-invariant_of-self-2 g c =
-    rw c.saturating_sub-len.ensures
-    (take_item c.args.key.now c.self.inside.runs.items c.spot_of-spot.result (rw c.as_slice.ensures.value at c.spot_of-spot.ensures) g.met.K.Ord.total c.self.inside.len c.self.invariant c.index_mut.result.now c.index_mut.ensures.value (not_false _ c.if-not-spot.false)
-    c.remove-2.new.self c.index.result.now c.index.ensures (λ one. c.if-len-eq1.false (c.len.ensures ∙ one)) c.in_ok-remove.ensures.ok).0
-
-pub returns-clause-ok : goal.returns-clause-ok
-returns-clause-ok g c =
-    (take_item c.args.key.now c.self.inside.runs.items c.spot_of-spot.result (rw c.as_slice.ensures.value at c.spot_of-spot.ensures) g.met.K.Ord.total c.self.inside.len c.self.invariant c.index_mut.result.now c.index_mut.ensures.value (not_false _ c.if-not-spot.false)
-    c.remove-2.new.self c.index.result.now c.index.ensures (λ one. c.if-len-eq1.false (c.len.ensures ∙ one)) c.in_ok-remove.ensures.ok).1
+pub returns-else-after-eq0-clause-ok : goal.returns-else-after-eq0-clause-ok
+returns-else-after-eq0-clause-ok g c =
+    take_flat g.met.K.Ord.total c.args.key.now c.self.inside.parts.items c.self.inside.len c.part_of.result c.saturating_sub-at.result c.saturating_sub-at.ensures
+    (omega arith) c.self.invariant (rw c.as_slice.ensures.value at c.part_of.ensures) c.index_mut-part.result.now c.remove.new.self c.index_mut-part.ensures.value c.in_ok-remove.ensures.ok
     ∙ ap (remove_entry (is_at (g.K.Ord.cmp c.args.key.now))) c.self.view_is
