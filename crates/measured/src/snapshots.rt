@@ -185,7 +185,7 @@ fn opened_of(alloc: Global, base: &Base) -> Result<u64, NoMemory>
 
 fn len(snapshot: &Snapshot) -> u64 {
     let mut count = 0u64;
-    for _ in snapshot.ids() {
+    for _ in snapshot.messages() {
         count = count.saturating_add(1);
     }
     count

@@ -1,4 +1,4 @@
--- The files of a message. For the proof of `Message::files`.
+-- The files of a message. For the proof of `Message::of`.
 use Rattle.std.proofs.Common.{◌≡◌, refl, ℕ, false, List, [], ◌∷◌, filter, Option, None, Some, MatchOption}
 use Rattle.std.proofs.lemmas.Bool.{or_parts}
 use Rattle.nm_base.specs.Order.{same_text}

@@ -3,6 +3,7 @@ mod ExclusionLemmas
 mod FileLemmas
 mod FoundLemmas
 mod LeftOutLemmas
+mod LiveLemmas
 mod NamingLemmas
 mod NumberLemmas
 mod PlaceLemmas

@@ -105,31 +105,31 @@ fn all_matches<L: Ledger>(
     let mut found = Many::new(alloc);
     let out = left_out(alloc, snapshot, find_exclusion(query, exclude))?;
     let asked = prepared(alloc, query, moment)?;
-    let mut rest = snapshot.ids();
-    'ids: while let Some(id) = rest.next() {
+    let mut rest = snapshot.messages();
+    'messages: while let Some((id, files)) = rest.next() {
         steps.tick();
-        if passes_within(snapshot, id, &asked, moment, &out) {
+        let message = Message::with_files(snapshot, id, files);
+        if passes_within(&message, &asked, moment, &out) {
             add(&mut found, id)?;
         }
     }
     Ok(found)
 }
 
-/// Says whether the message of the id passes the query, and is none of those that are left out.
+/// Says whether the message passes the query, and is none of those that are left out.
 fn passes_within(
-    snapshot: &Snapshot,
-    id: &MessageId,
+    message: &Message<'_>,
     query: &Query,
     moment: i64,
     left_out: &TextSet<MessageId>,
 ) -> bool
     requires { IsMoment moment }
-    ensures { result ≡ (passes query.now (view_of snapshot.now id.now) moment && not (has_text left_out.now id.now)) }
+    ensures { result ≡ (passes query.now message.now moment && not (has_text left_out.now message.now.id)) }
 {
-    if left_out.contains(id) {
+    if left_out.contains(message.id()) {
         return false;
     }
-    passes(query, &Message::of(snapshot, id), moment)
+    passes(query, message, moment)
 }
 
 fn add(found: &mut Many<MessageId>, id: &MessageId) -> Result<(), NoMemory>

@@ -4,39 +4,74 @@ ghost use Rattle.std.specs.Prelude.{◌≡◌, [], MatchOption};
 ghost use Rattle.nm_base.specs.Order.{has_text, same_text};
 ghost use Rattle.nm_base.specs.Tags.{has_tag};
 ghost use Rattle.nm_answer.specs.Test.{is_thread};
-ghost use Rattle.nm_answer.specs.View.{view_of};
+ghost use Rattle.nm_answer.specs.View.{files_of, view_of};
 
 use nm_base::{MessageId, Tags};
 use nm_state::{MessageFiles, Snapshot};
 use std::marker::Model;
 
-/// A message, which a contract sees as its id, its files, its tags and its thread. Nothing is looked up before it is asked.
+/// A message, which a contract sees as its id, its files, its tags and its thread. Its files are looked up once, or not at
+/// all where they are known; its tags and its thread are not before they are asked.
 #[derive(Drop)]
 pub(crate) struct Message<'a> {
     snapshot: &'a Snapshot,
     id: &'a MessageId,
+    files: Option<MessageFiles<'a>>,
 }
 
 impl<'a> Model for Message<'a> {
-    ghost use Rattle.nm_answer.specs.View.{View, view_of};
+    ghost use Rattle.std.specs.Prelude.{◌≡◌, [], MatchOption};
+    ghost use Rattle.nm_answer.specs.View.{View, files_of, view_of};
 
     ghost Value = { View };
 
     ghost view = { λ m. view_of m.snapshot.now m.id.now };
+
+    ghost invariant = { λ m. MatchOption m.files (files_of m.snapshot.now m.id.now ≡ []) (λ files. files ≡ files_of m.snapshot.now m.id.now) };
 }
 
 impl<'a> Message<'a> {
     pub fn of(snapshot: &'a Snapshot, id: &'a MessageId) -> Message<'a>
         ensures { result ≡ view_of snapshot.now id.now }
     {
-        Message { snapshot, id }
+        let files = snapshot.files(id);
+        Message {
+            snapshot,
+            id,
+            files,
+        }
+    }
+
+    /// The same, where its files are known.
+    pub fn with_files(
+        snapshot: &'a Snapshot,
+        id: &'a MessageId,
+        files: MessageFiles<'a>,
+    ) -> Message<'a>
+        requires { files ≡ files_of snapshot.now id.now }
+        ensures { result ≡ view_of snapshot.now id.now }
+    {
+        Message {
+            snapshot,
+            id,
+            files: Some(files),
+        }
+    }
+
+    pub fn id(&self) -> &'a MessageId
+        ensures { result.now ≡ self.now.id }
+    {
+        self.id
     }
 
     /// Its files, the lead file first.
     pub fn files(&self) -> Option<MessageFiles<'a>>
         ensures { MatchOption result (self.now.files ≡ []) (λ files. files ≡ self.now.files) }
     {
-        self.snapshot.files(self.id)
+        match &self.files {
+            Some(files) => Some(files.again()),
+            None => None,
+        }
     }
 
     pub fn has_tag(&self, tag: &str) -> bool

@@ -3,6 +3,7 @@ pub mod Counts
 pub mod Filing
 pub mod Kept
 pub mod Measures
+pub mod Messages
 pub mod Parts
 pub mod Renumbered
 pub mod Snapshot

@@ -11,7 +11,7 @@ mod filing;
 mod fitting;
 mod kept;
 mod labelling;
-mod live_ids;
+mod live_messages;
 mod measured_labels;
 mod measured_map;
 mod measures;
@@ -28,7 +28,7 @@ mod row_bytes;
 mod snapshot;
 mod tagging;
 
-pub use live_ids::LiveIds;
+pub use live_messages::LiveMessages;
 pub use reading::{Files, MessageFiles, Paths, Tagged};
 pub use room::RoomError;
 pub use snapshot::{Snapshot, a_snapshot_is_a_valid_index};

@@ -115,6 +115,16 @@ impl<'a> MessageFiles<'a> {
     {
         MessageFiles { places, files }
     }
+
+    /// The same files once more.
+    pub fn again(&self) -> MessageFiles<'a>
+        ensures { result ≡ self.now }
+    {
+        MessageFiles {
+            places: self.places,
+            files: self.files,
+        }
+    }
 }
 
 impl<'a> Iterator for MessageFiles<'a> {

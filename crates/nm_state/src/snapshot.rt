@@ -12,17 +12,18 @@ ghost use Rattle.nm_base.specs.Order.{IsSorted, has_text, same_text};
 ghost use Rattle.nm_base.specs.declared.limit.Limit.{Limit};
 ghost use Rattle.nm_commit.specs.Files.{Fits, has_id, has_path};
 ghost use Rattle.nm_index.specs.Fits.{ids_named};
-ghost use Rattle.nm_index.specs.Index.{committed, empty_index, has_entry, live_ids, rows_of};
+ghost use Rattle.nm_index.specs.Index.{committed, empty_index, has_entry, rows_of};
 ghost use Rattle.nm_index.specs.Valid.{IsValid};
 ghost use Rattle.nm_record.specs.Room.{limit_passed};
 ghost use Rattle.nm_threads.specs.Name.{thread_name};
+ghost use Rattle.nm_state.specs.Messages.{live_messages};
 ghost use Rattle.nm_state.specs.Snapshot.{retagged, thread_messages};
 
 use crate::applying::{apply_changes, retag};
 use crate::exporting::base_of;
-use crate::filing::{files_of, has_file, is_live, paths_of};
+use crate::filing::{files_near, files_of, has_file, is_live, paths_of};
 use crate::fitting::fit;
-use crate::live_ids::LiveIds;
+use crate::live_messages::LiveMessages;
 use crate::messages::messages_of;
 use crate::numbers::has_ids;
 use crate::opening::parts_of;
@@ -213,11 +214,11 @@ impl Snapshot {
         fit(self.alloc, &self.parts.filing, commit.changes.as_slice())
     }
 
-    /// The ids of the messages that have a file, by their numbers.
-    pub fn ids(&self) -> LiveIds<'_>
-        ensures { result ≡ live_ids self.now.files self.now.entries }
+    /// The messages that have a file, by their numbers, each with its files: nobody has to look these up again.
+    pub fn messages(&self) -> LiveMessages<'_>
+        ensures { result ≡ live_messages self.now.files self.now.entries }
     {
-        LiveIds::of(self.parts.labels.entries(), &self.parts.filing)
+        LiveMessages::of(self.parts.labels.entries(), &self.parts.filing)
     }
 
     /// The paths of all files, in the order of their bytes.
@@ -247,6 +248,14 @@ impl Snapshot {
         ensures { MatchOption result (has_id self.now.files id.now ≡ false) (λ files. files ≡ filter (λ file. same_text id.now file.1.id) self.now.files) }
     {
         files_of(&self.parts.filing, id)
+    }
+
+    /// The same as `files`, for less work where messages are asked for in the order in which they came. Beside the files stands
+    /// where the next ones are looked for first; wherever a look begins, it finds the same.
+    pub fn files_near(&self, id: &MessageId, near: u64) -> Option<(u64, MessageFiles<'_>)>
+        ensures { MatchOption result (has_id self.now.files id.now ≡ false) (λ found. found.1 ≡ filter (λ file. same_text id.now file.1.id) self.now.files) }
+    {
+        files_near(&self.parts.filing, id, near)
     }
 
     /// Says whether a file lies there.

@@ -5,7 +5,7 @@ use crate::journal_rows::bodies_of;
 use crate::values::push_number;
 use nm_base::{LinkRow, MessageId, Tag};
 use nm_commit::Commit;
-use nm_state::Snapshot;
+use nm_state::{MessageFiles, Snapshot};
 use rows::{Lines, Row, RowError, cut};
 use std::alloc::Global;
 
@@ -167,17 +167,14 @@ fn push_ids(lines: &mut Lines, ids: &[MessageId]) -> Result<(), RowError> {
 
 /// A line for each message, by numbers: the id, and its paths.
 fn push_messages(lines: &mut Lines, snapshot: &Snapshot) -> Result<(), RowError> {
-    'ids: for id in snapshot.ids() {
+    'messages: for (id, files) in snapshot.messages() {
         lines.line(id.text().as_bytes())?;
-        push_paths_of(lines, snapshot, id)?;
+        push_paths_of(lines, files)?;
     }
     Ok(())
 }
 
-fn push_paths_of(lines: &mut Lines, snapshot: &Snapshot, id: &MessageId) -> Result<(), RowError> {
-    let Some(files) = snapshot.files(id) else {
-        return Ok(());
-    };
+fn push_paths_of(lines: &mut Lines, files: MessageFiles<'_>) -> Result<(), RowError> {
     'files: for (path, _) in files {
         lines.push_after_blank(path.text().as_bytes())?;
     }
@@ -186,7 +183,7 @@ fn push_paths_of(lines: &mut Lines, snapshot: &Snapshot, id: &MessageId) -> Resu
 
 /// A line for each message, by numbers: the id, and its tags.
 fn push_tags(alloc: Global, lines: &mut Lines, snapshot: &Snapshot) -> Result<(), RowError> {
-    'ids: for id in snapshot.ids() {
+    'messages: for (id, _) in snapshot.messages() {
         lines.line(id.text().as_bytes())?;
         push_tags_of(alloc, lines, snapshot, id)?;
     }

@@ -35,8 +35,8 @@ fn form_of(text: &[u8]) -> Result<DumpForm, RowError> {
 
 fn live_ids(alloc: Global, snapshot: &Snapshot) -> Result<Many<MessageId>, RowError> {
     let mut ids = Many::new(alloc);
-    let mut rest = snapshot.ids();
-    'ids: while let Some(id) = rest.next() {
+    let mut rest = snapshot.messages();
+    'messages: while let Some((id, _)) = rest.next() {
         ids.push(id.copy()?)?;
     }
     Ok(ids)

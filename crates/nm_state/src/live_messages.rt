@@ -1,0 +1,66 @@
+//! The messages that have a file, by their numbers, each with its files, which a `snapshot` lists.
+
+ghost use Rattle.std.specs.Prelude.{◌≡◌, length};
+ghost use Rattle.std.specs.Iterator.{at_most};
+ghost use Rattle.std.specs.Map.Iter.{TakesFirst};
+ghost use Rattle.nm_state.specs.Filing.{AreFiled, files_in};
+ghost use Rattle.nm_state.specs.Messages.{id_and_files, live_messages};
+
+use crate::filing::{Filing, files_near};
+use crate::reading::MessageFiles;
+use nm_base::MessageId;
+use nm_threads::Entries;
+use std::marker::Model;
+
+/// Messages that have a file, by rising numbers, each with its files. A contract sees those that are left.
+#[derive(Drop)]
+pub struct LiveMessages<'a> {
+    rest: Entries<'a>,
+    filing: &'a Filing,
+    /// Where the files of the next one are looked for first: messages mostly came in the order of their numbers.
+    near: u64,
+}
+
+impl<'a> Model for LiveMessages<'a> {
+    ghost use Rattle.std.specs.Prelude.{List, ℕ};
+    ghost use Rattle.nm_base.specs.declared.facts.Facts.{Facts};
+    ghost use Rattle.nm_state.specs.Filing.{AreFiled, files_in};
+    ghost use Rattle.nm_state.specs.Messages.{live_messages};
+
+    ghost Value = { List (List ℕ × List (List ℕ × Facts)) };
+
+    ghost view = { λ l. live_messages (files_in l.filing.now) l.rest };
+
+    ghost invariant = { λ l. AreFiled l.filing.now };
+}
+
+impl<'a> LiveMessages<'a> {
+    pub(crate) fn of(rest: Entries<'a>, filing: &'a Filing) -> LiveMessages<'a>
+        requires { AreFiled filing.now }
+        ensures { result ≡ live_messages (files_in filing.now) rest.entry }
+    {
+        LiveMessages {
+            rest,
+            filing,
+            near: 0,
+        }
+    }
+}
+
+impl<'a> Iterator for LiveMessages<'a> {
+    type Item = (&'a MessageId, MessageFiles<'a>);
+
+    ghost next_gives = { TakesFirst id_and_files };
+
+    ghost remaining = { λ l. at_most (length l) };
+
+    fn next(&mut self) -> Option<(&'a MessageId, MessageFiles<'a>)> {
+        'entries: loop {
+            let (id, _) = self.rest.next()?;
+            if let Some((near, files)) = files_near(self.filing, id, self.near) {
+                self.near = near;
+                return Some((id, files));
+            }
+        }
+    }
+}
