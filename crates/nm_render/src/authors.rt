@@ -60,7 +60,7 @@ fn authors_of(alloc: Global, snapshot: &Snapshot, ids: &[MessageId]) -> Result<M
     ensures { IfOk result (λ authors. authors ≡ authors_of snapshot.now ids.now) }
 {
     let ids = copies_of(alloc, ids)?;
-    let sorted = ordered(snapshot, true, ids)?;
+    let sorted = ordered(alloc, snapshot, true, ids)?;
     let named = named_authors(alloc, snapshot, sorted.as_slice())?;
     each_once(alloc, named.as_slice())
 }

@@ -19,7 +19,7 @@ messages-init g c =
     let live : List (List ℕ) = live_ids files c.args.snapshot.now.entries in
     let matches : List ℕ → Bool = λ id. is_match c.args.query.now moment c.args.exclude (view_of c.args.snapshot.now id) in (
       ap (λ found. found ++ filter matches (ids_in c.messages-rest.result)) c.new-found.ensures
-      ∙ (ap (λ rest. filter matches (ids_in rest)) c.messages-rest.ensures ∙ ap (filter matches) (ids_told files live)),
+          ∙ (ap (λ rest. filter matches (ids_in rest)) c.messages-rest.ensures ∙ ap (filter matches) (ids_told files live)),
       omega (arith, ap length c.messages-rest.ensures, number_told files live),
       λ message. c.in_ok-asked.ensures message,
       subst (AllByRecursion (HasItsFiles files)) (sym c.messages-rest.ensures) (files_told files live),
