@@ -1,7 +1,6 @@
 -- The live messages of a thread, by the labels. For the proof of `messages_of`.
 use Rattle.std.proofs.Common.{◌≡◌, refl, sym, ap, ◌∙◌, ℕ, Bool, true, false, cond, ◌==◌, List, [], ◌∷◌, map, filter, Option, Some}
 use Rattle.std.specs.Prelude.{Contains}
-use Rattle.nm_base.specs.declared.facts.Facts.{Facts}
 use Rattle.nm_commit.specs.Files.{has_id}
 use Rattle.nm_index.specs.Index.{live_ids, rows_of}
 use Rattle.nm_index.specs.declared.base.Base.{Base}
