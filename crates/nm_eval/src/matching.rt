@@ -108,7 +108,7 @@ fn all_matches<L: Ledger>(
     let mut rest = snapshot.messages();
     'messages: while let Some((id, files)) = rest.next() {
         steps.tick();
-        let message = Message::with_files(snapshot, id, files);
+        let message = Message::with_files(snapshot, id, files, rest.near());
         if passes_within(&message, &asked, moment, &out) {
             add(&mut found, id)?;
         }

@@ -17,6 +17,8 @@ pub(crate) struct Message<'a> {
     snapshot: &'a Snapshot,
     id: &'a MessageId,
     files: Option<MessageFiles<'a>>,
+    /// Where its tags are looked for first.
+    near: u64,
 }
 
 impl<'a> Model for Message<'a> {
@@ -39,14 +41,16 @@ impl<'a> Message<'a> {
             snapshot,
             id,
             files,
+            near: 0,
         }
     }
 
-    /// The same, where its files are known.
+    /// The same, where its files are known, and about where its tags stand.
     pub fn with_files(
         snapshot: &'a Snapshot,
         id: &'a MessageId,
         files: MessageFiles<'a>,
+        near: u64,
     ) -> Message<'a>
         requires { files ≡ files_of snapshot.now id.now }
         ensures { result ≡ view_of snapshot.now id.now }
@@ -55,6 +59,7 @@ impl<'a> Message<'a> {
             snapshot,
             id,
             files: Some(files),
+            near,
         }
     }
 
@@ -77,8 +82,8 @@ impl<'a> Message<'a> {
     pub fn has_tag(&self, tag: &str) -> bool
         ensures { result ≡ has_tag self.now.tags tag.now }
     {
-        match self.snapshot.tags(self.id) {
-            Some(tags) => has_text(tags, tag),
+        match self.snapshot.tags_near(self.id, self.near) {
+            Some((_, tags)) => has_text(tags, tag),
             None => false,
         }
     }

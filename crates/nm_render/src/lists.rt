@@ -151,23 +151,30 @@ pub(crate) fn tags_of_all(
     ensures { IfOk result (λ tags. tags ≡ tags_of_all snapshot.now ids.now) }
 {
     let mut tags = Tags::new(alloc);
+    let mut near = 0;
     'ids: for id in ids {
-        add_tags(&mut tags, snapshot, id)?;
+        near = add_tags(&mut tags, snapshot, id, near)?;
     }
     Ok(tags)
 }
 
-fn add_tags(tags: &mut Tags, snapshot: &Snapshot, id: &MessageId) -> Result<(), NoMemory>
-    ensures { OnOk result (tags.new ≡ fold insert tags.old (tags_of snapshot.now id.now)) }
+/// Adds the tags of a message, and tells where those of the next one are looked for first.
+fn add_tags(
+    tags: &mut Tags,
+    snapshot: &Snapshot,
+    id: &MessageId,
+    near: u64,
+) -> Result<u64, NoMemory>
+    ensures { IfOk result (λ _. tags.new ≡ fold insert tags.old (tags_of snapshot.now id.now)) }
 {
-    let Some(more) = snapshot.tags(id) else {
-        return Ok(());
+    let Some((next, more)) = snapshot.tags_near(id, near) else {
+        return Ok(near);
     };
     let mut rest = more.iter();
     'tags: while let Some(tag) = rest.next() {
         add_tag(tags, tag)?;
     }
-    Ok(())
+    Ok(next)
 }
 
 /// Adds a copy of the tag, where it is not there yet.

@@ -45,6 +45,11 @@ impl<'a> LiveMessages<'a> {
             near: 0,
         }
     }
+
+    /// Where the message that was read last came among all messages, or about there: its tags stand near this too.
+    pub fn near(&self) -> u64 {
+        self.near.saturating_sub(1)
+    }
 }
 
 impl<'a> Iterator for LiveMessages<'a> {

@@ -1,7 +1,7 @@
 //! The tags of messages, found by the hashes of their ids, with a count of what they take in an index as data: the `parts` of a
 //! snapshot hold them. Ids come in any order, and in a map by ids each would go into a run of its own, which is copied first.
 
-ghost use Rattle.std.specs.Prelude.{◌≡◌, [], ℕ, List, None, Some, if◌then◌else◌, IfOk, OnOk};
+ghost use Rattle.std.specs.Prelude.{◌≡◌, [], ℕ, List, None, Some, if◌then◌else◌, IfOk, MatchOption, OnOk};
 ghost use Rattle.std.specs.BTreeMap.{insert_entry, is_at};
 ghost use Rattle.std.specs.Cmp.Lexicographic.{slice_cmp};
 ghost use Rattle.std.specs.List.Sorted.{IsPermutation};
@@ -84,6 +84,14 @@ impl MessageTags {
         ensures { option_copied result ≡ lookup (is_at (slice_cmp nat_cmp id.now)) self.now }
     {
         self.map.get(id)
+    }
+
+    /// The same, for less work where messages are asked for in the order in which they came. Beside the tags stands where the
+    /// next ones are looked for first; wherever a look begins, it finds the same.
+    pub fn get_near(&self, id: &MessageId, near: u64) -> Option<(u64, &Shared<Tags>)>
+        ensures { MatchOption result (at_text id.now self.now ≡ None) (λ found. at_text id.now self.now ≡ Some found.1.now) }
+    {
+        self.map.get_near(id, near)
     }
 
     /// The messages, in no order that is told, each with its tags.

@@ -175,6 +175,17 @@ impl Snapshot {
         Some(tags.get())
     }
 
+    /// The same, for less work where messages are asked for in the order in which they came. Beside the tags stands where the
+    /// next ones are looked for first; wherever a look begins, it finds the same.
+    pub fn tags_near(&self, id: &MessageId, near: u64) -> Option<(u64, &Tags)>
+        ensures { MatchOption result (lookup (is_at (slice_cmp nat_cmp id.now)) self.now.tags ≡ None) (λ found. lookup (is_at (slice_cmp nat_cmp id.now)) self.now.tags ≡ Some found.1.now) }
+    {
+        match self.parts.tags.get_near(id, near) {
+            Some((near, tags)) => Some((near, tags.get())),
+            None => None,
+        }
+    }
+
     /// The messages that have a file, in no order that is told, each with its tags.
     pub fn tagged(&self) -> Tagged<'_>
         ensures { IsPermutation self.now.tags result }
