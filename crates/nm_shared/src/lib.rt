@@ -6,6 +6,7 @@ mod across;
 mod hashed_map;
 mod in_order;
 mod items;
+mod long;
 mod merge;
 mod pairs;
 mod part;
@@ -18,6 +19,7 @@ mod shared;
 mod shared_list;
 mod shared_map;
 mod shared_part;
+mod table;
 mod text_hash;
 
 pub use across::{hashed_may_cross, list_may_cross, map_may_cross, value_may_cross};

@@ -3,10 +3,9 @@
 ghost use Rattle.std.specs.Prelude.{◌≡◌, ◌++◌, [], ℕ, IfOk, OnOk, OnErr, Some, if◌then◌else◌};
 ghost use Rattle.std.specs.Ordering.{is_eq, nat_cmp};
 ghost use Rattle.nm_shared.specs.Hashed.{at};
-ghost use Rattle.nm_shared.specs.Places.{merge};
 
 use crate::SharedMap;
-use crate::merge::Merge;
+use crate::long::Long;
 use nm_base::NoMemory;
 use std::alloc::Global;
 use std::marker::Model;
@@ -32,8 +31,8 @@ pub struct Places {
 /// What came before the late ones: two long runs, so that a second handle counts two. The late ones join the shorter.
 #[derive(Drop)]
 struct Older {
-    middle: SharedMap<u64, u64>,
-    early: SharedMap<u64, u64>,
+    middle: Long,
+    early: Long,
 }
 
 impl Model for Places {
@@ -118,18 +117,18 @@ impl Older {
         ensures { result ≡ [] }
     {
         Older {
-            middle: SharedMap::new(alloc),
-            early: SharedMap::new(alloc),
+            middle: Long::new(alloc),
+            early: Long::new(alloc),
         }
     }
 
     fn get(&self, hash: u64) -> Option<u64>
         ensures { result ≡ at hash self.now }
     {
-        if let Some(slot) = self.middle.get_spread(&hash) {
-            return Some(*slot);
+        if let Some(slot) = self.middle.get(hash) {
+            return Some(slot);
         }
-        Some(*self.early.get_spread(&hash)?)
+        self.early.get(hash)
     }
 
     fn share(&self) -> Result<Older, NoMemory>
@@ -146,7 +145,7 @@ impl Older {
         ensures found { OnOk result ((hash : ℕ) → at hash self.new ≡ at hash (late.now ++ self.old)) }
         ensures err { OnErr result (self.new ≡ self.old) }
     {
-        self.middle = merged(late, &self.middle)?;
+        self.middle = self.middle.with(late)?;
         self.settle();
         Ok(())
     }
@@ -159,25 +158,10 @@ impl Older {
         if self.middle.len() < max {
             return;
         }
-        let Ok(merged) = merged(&self.middle, &self.early) else {
+        let Ok(merged) = self.middle.before(&self.early) else {
             return;
         };
-        self.middle = SharedMap::new(self.early.alloc());
+        self.middle = Long::new(self.early.alloc());
         self.early = merged;
     }
-}
-
-/// Both in one run.
-fn merged(
-    late: &SharedMap<u64, u64>,
-    early: &SharedMap<u64, u64>,
-) -> Result<SharedMap<u64, u64>, NoMemory>
-    ensures { IfOk result (λ map. map ≡ merge late.now early.now) }
-{
-    let len = late.len().saturating_add(early.len());
-    let mut merged = Vec::with_capacity(early.alloc(), len)?;
-    'pairs: for pair in Merge::of(late.iter(), early.iter()) {
-        merged.push(pair)?;
-    }
-    Ok(SharedMap::of_sorted(merged)?)
 }

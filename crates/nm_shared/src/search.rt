@@ -166,7 +166,7 @@ impl Seek<u64> for Guesses {
 }
 
 /// How many keys of a run are below `key`, where as many as `low` are and at most `high`.
-fn place_between<K: Ord, V>(items: &[(K, V)], key: &K, low: usize, high: usize) -> usize
+pub fn place_between<K: Ord, V>(items: &[(K, V)], key: &K, low: usize, high: usize) -> usize
     requires order { low ≤ high }
     requires within { high ≤ length items.now }
     requires before { (entry : K × V) → 0 < low → K.cmp key.now (slice_index_or items.now (low - 1) entry).0 ≡ Greater }

@@ -110,7 +110,7 @@ impl<K: Ord, V> SharedMap<K, V> {
         self.get_by(key, &Halves)
     }
 
-    fn get_by<S: Seek<K>>(&self, key: &K, seek: &S) -> Option<&V>
+    pub(crate) fn get_by<S: Seek<K>>(&self, key: &K, seek: &S) -> Option<&V>
         ensures { option_copied result ≡ lookup (is_at (K.cmp key.now)) self.now }
     {
         let at = part_of(self.parts.as_slice(), key, seek).saturating_sub(1);

@@ -11,17 +11,9 @@ returns-in-Some c =
     ∙ sym (lookup_both (is_at (nat_cmp c.args.hash)) c.self.inside.middle c.self.inside.early)
     ∙ ap (at c.args.hash) c.self.view_is
 
-pub returns-in_err-get_spread : goal.returns-in_err-get_spread
-returns-in_err-get_spread c =
-    c.from_residual.ensures
-    ∙ c.in_err-get_spread.ensures
-    ∙ ap (λ first. or_else first (at c.args.hash c.self.inside.early)) c.in_default.ensures
-    ∙ sym (lookup_both (is_at (nat_cmp c.args.hash)) c.self.inside.middle c.self.inside.early)
-    ∙ ap (at c.args.hash) c.self.view_is
-
 pub returns : goal.returns
 returns c =
-    c.in_ok-get_spread.ensures
+    c.get-2.ensures
     ∙ ap (λ first. or_else first (at c.args.hash c.self.inside.early)) c.in_default.ensures
     ∙ sym (lookup_both (is_at (nat_cmp c.args.hash)) c.self.inside.middle c.self.inside.early)
     ∙ ap (at c.args.hash) c.self.view_is

@@ -5,7 +5,7 @@ use Rattle.std.specs.Ordering.{nat_cmp}
 use Rattle.std.proofs.lemmas.List.{append-nil}
 use Rattle.nm_shared.specs.Places.{merge}
 use Rattle.nm_shared.proofs.PlacesLemmas.{merge_sorted}
-use Rattle.nm_shared.proofs.places.merged.Goals as goal
+use Rattle.nm_shared.proofs.long.merged.Goals as goal
 
 pub of_sorted-requires : goal.of_sorted-requires
 of_sorted-requires c =
