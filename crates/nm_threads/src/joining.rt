@@ -32,6 +32,17 @@ pub fn place_of(maps: &Maps, id: &MessageId) -> Option<Place>
     Some(Place { group, thread })
 }
 
+/// The same, and where the number of the next id is looked for first. That of this one is looked for at `near` first.
+pub fn place_near(maps: &Maps, id: &MessageId, near: u64) -> Option<(u64, Place)>
+    requires { AreMaps maps.now }
+    ensures { MatchOption result (at_id id.now maps.now.numbers ≡ None) (λ found. (number : ℕ) × Contains maps.now.ids (number, id.now) × (at number maps.now.groups ≡ Some found.1.group) × (at found.1.group maps.now.threads ≡ Some found.1.thread)) }
+{
+    let (next, number) = maps.numbers.get_near(id, near)?;
+    let group = *maps.groups.get_numbered(number)?;
+    let thread = *maps.threads.get(&group)?;
+    Some((next, Place { group, thread }))
+}
+
 /// Where the id of a number stands.
 pub fn place_at(maps: &Maps, number: u64) -> Place
     requires maps { AreMaps maps.now }

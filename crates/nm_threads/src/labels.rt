@@ -13,7 +13,7 @@ ghost use Rattle.nm_threads.specs.Work.{Doubles, potential};
 
 use crate::dead::remove_dead;
 use crate::entries::Entries;
-use crate::joining::place_of;
+use crate::joining::{place_near, place_of};
 use crate::maps::Maps;
 use crate::members::members_named;
 use crate::opening::{add_uncounted, give_numbers};
@@ -97,6 +97,17 @@ impl Labels {
     {
         let place = place_of(&self.maps, id)?;
         Some(place.thread.name)
+    }
+
+    /// Where the name of the next id is looked for first, and that of this one, for less work where ids are asked for in the
+    /// order of their numbers; wherever a look begins, it finds the same.
+    pub fn name_near(&self, id: &MessageId, near: u64) -> (u64, Option<u64>)
+        ensures { (rows : List LinkRow) → AreLabelsOf rows self.now.labels → result.1 ≡ thread_name rows (entries_of self.now.labels) id.now }
+    {
+        match place_near(&self.maps, id, near) {
+            Some((next, place)) => (next, Some(place.thread.name)),
+            None => (near, None),
+        }
     }
 
     /// All ids that have numbers, by rising numbers.

@@ -18,7 +18,7 @@ pub fn group_named(maps: &Maps, name: u64) -> Option<u64>
     requires { AreMaps maps.now }
     ensures { MatchOption result ((label : Label) → Contains (labelling_of maps.now).labels label → label.name ≢ name) (λ group. (thread : Thread) × (at group maps.now.threads ≡ Some thread) × (thread.name ≡ name)) }
 {
-    let group = *maps.groups.get(&name)?;
+    let group = *maps.groups.get_numbered(&name)?;
     let thread = maps.threads.get(&group)?;
     if thread.name == name {
         Some(group)
@@ -40,7 +40,7 @@ fn ids_at<L: Ledger>(
     let mut found = Many::new(alloc);
     'numbers: for number in numbers {
         steps.tick();
-        if let Some(id) = ids.get(number) {
+        if let Some(id) = ids.get_numbered(number) {
             found.push(id.copy()?)?;
         }
     }

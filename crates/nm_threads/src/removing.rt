@@ -23,7 +23,7 @@ fn remove_number(maps: &mut Maps, number: u64, group: u64) -> Result<(), NoMemor
     ensures threads { OnOk result (maps.new.threads ≡ maps.old.threads) }
     ensures next { OnOk result (maps.new.next ≡ maps.old.next) }
 {
-    let Some(id) = maps.ids.get(&number) else {
+    let Some(id) = maps.ids.get_numbered(&number) else {
         return Ok(());
     };
     let id = id.copy()?;

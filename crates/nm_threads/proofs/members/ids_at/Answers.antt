@@ -5,7 +5,7 @@ use Rattle.nm_threads.proofs.members.ids_at.Goals.{in-Some+in_ok-copy+in_ok-push
 use Rattle.nm_threads.proofs.members.ids_at.Goals as goal
 
 pub numbers-preserved : goal.numbers-preserved
-numbers-preserved g c = elim c.match-get.branch [
+numbers-preserved g c = elim c.match-get_numbered.branch [
   | in-Some+in_ok-copy+in_ok-push w ↦ record {
     ids =
         w.found-is ∙ w.in_ok-push.ensures.ok ∙ ap (λ id. c.numbers.found ++ id ∷ []) w.in_ok-copy.ensures
