@@ -225,6 +225,13 @@ impl MeasuredLabels {
         self.labels.name_of(id)
     }
 
+    /// Where the name of the next id is looked for first, and that of this one; wherever a look begins, it finds the same.
+    pub fn name_near(&self, id: &MessageId, near: u64) -> (u64, Option<u64>)
+        ensures { (rows : List LinkRow) → AreLabelsOf rows self.now.labels → result.1 ≡ thread_name rows (entries_of self.now.labels) id.now }
+    {
+        self.labels.name_near(id, near)
+    }
+
     /// All ids that have numbers, by rising numbers.
     pub fn entries(&self) -> Entries<'_>
         ensures { result ≡ entries_of self.now.labels }

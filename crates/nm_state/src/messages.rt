@@ -7,7 +7,7 @@ ghost use Rattle.nm_state.specs.Filing.{AreFiled, files_in};
 ghost use Rattle.nm_state.specs.Parts.{AreParts, base_of};
 ghost use Rattle.nm_state.specs.Snapshot.{thread_messages};
 
-use crate::filing::{Filing, is_live};
+use crate::filing::{Filing, files_near};
 use crate::parts::Parts;
 use nm_base::{Many, MessageId, NoMemory};
 use std::alloc::Global;
@@ -32,8 +32,11 @@ fn live_of(
     ensures { IfOk result (λ live. live ≡ filter (has_id (files_in filing.now)) ids) }
 {
     let mut live = Many::new(alloc);
+    // Messages mostly came in the order of their numbers.
+    let mut near = 0;
     'ids: for id in ids.into_vec() {
-        if is_live(filing, &id) {
+        if let Some((next, _)) = files_near(filing, &id, near) {
+            near = next;
             live.push(id)?;
         }
     }

@@ -207,6 +207,14 @@ impl Snapshot {
         self.parts.labels.name_of(id)
     }
 
+    /// Where the thread of the next id is looked for first, and the name of this one's, for less work where ids are asked for in
+    /// the order of their numbers; wherever a look begins, it finds the same.
+    pub fn thread_near(&self, id: &MessageId, near: u64) -> (u64, Option<u64>)
+        ensures { result.1 ≡ thread_name (rows_of self.now) self.now.entries id.now }
+    {
+        self.parts.labels.name_near(id, near)
+    }
+
     /// The messages of the thread of this name that have a file, by their numbers; none where no thread has it. It costs what
     /// the ids of the thread cost, however many others there are.
     pub fn thread_messages(&self, name: u64) -> Result<Many<MessageId>, NoMemory>
