@@ -11,18 +11,19 @@ use nm_base::{Copies, Mailbox, Many, MessageId, NoMemory, Text};
 use nm_state::Snapshot;
 use std::alloc::Global;
 
-/// The authors of messages, and of others that are left, as they are shown.
+/// The authors of messages, and of others that are left, as they are shown. All are looked for at `near` first.
 pub(crate) fn authors_text(
     alloc: Global,
     snapshot: &Snapshot,
     matched: &[MessageId],
     others: &[MessageId],
+    near: u64,
 ) -> Result<Many<u8>, NoMemory>
     ensures value { IfOk result (λ text. text ≡ authors_text snapshot.now matched.now others.now) }
     ensures utf8 { IfOk result (λ text. IsUtf8 text) }
 {
-    let authors = authors_of(alloc, snapshot, matched)?;
-    let left = left_authors(alloc, snapshot, authors.as_slice(), others)?;
+    let authors = authors_of(alloc, snapshot, matched, near)?;
+    let left = left_authors(alloc, snapshot, authors.as_slice(), others, near)?;
     let text = with_others(alloc, authors.as_slice(), left.as_slice())?;
     let text = shown(alloc, text.as_bytes())?;
     Ok(text)
@@ -34,10 +35,11 @@ fn left_authors(
     snapshot: &Snapshot,
     authors: &[Text],
     others: &[MessageId],
+    near: u64,
 ) -> Result<Many<Text>, NoMemory>
     ensures { IfOk result (λ left. left ≡ others_of authors.now (authors_of snapshot.now others.now)) }
 {
-    let more = authors_of(alloc, snapshot, others)?;
+    let more = authors_of(alloc, snapshot, others, near)?;
     let left = others_of(alloc, authors, more.as_slice())?;
     Ok(left)
 }
@@ -56,12 +58,17 @@ fn with_others(alloc: Global, authors: &[Text], others: &[Text]) -> Result<Strin
 }
 
 /// The authors of messages, by date, each once.
-fn authors_of(alloc: Global, snapshot: &Snapshot, ids: &[MessageId]) -> Result<Many<Text>, NoMemory>
+fn authors_of(
+    alloc: Global,
+    snapshot: &Snapshot,
+    ids: &[MessageId],
+    near: u64,
+) -> Result<Many<Text>, NoMemory>
     ensures { IfOk result (λ authors. authors ≡ authors_of snapshot.now ids.now) }
 {
     let ids = copies_of(alloc, ids)?;
-    let sorted = ordered(alloc, snapshot, true, ids)?;
-    let named = named_authors(alloc, snapshot, sorted.as_slice())?;
+    let sorted = ordered(alloc, snapshot, true, ids, near)?;
+    let named = named_authors(alloc, snapshot, sorted.as_slice(), near)?;
     each_once(alloc, named.as_slice())
 }
 
@@ -79,12 +86,15 @@ fn named_authors(
     alloc: Global,
     snapshot: &Snapshot,
     ids: &[MessageId],
+    near: u64,
 ) -> Result<Many<Text>, NoMemory>
     ensures { IfOk result (λ authors. authors ≡ filter is_some_text (map (author_of snapshot.now) ids.now)) }
 {
     let mut authors = Many::new(alloc);
+    let mut near = near;
     'ids: for id in ids {
-        let author = author_of(alloc, snapshot, id)?;
+        let (next, author) = author_of(alloc, snapshot, id, near)?;
+        near = next;
         if !author.as_bytes().is_empty() {
             authors.push(author)?;
         }
@@ -92,17 +102,23 @@ fn named_authors(
     Ok(authors)
 }
 
-/// The author of a message, by its lead file.
-fn author_of(alloc: Global, snapshot: &Snapshot, id: &MessageId) -> Result<Text, NoMemory>
-    ensures { IfOk result (λ author. author ≡ author_of snapshot.now id.now) }
+/// The author of a message, by its lead file, and where that of the next one is looked for first.
+fn author_of(
+    alloc: Global,
+    snapshot: &Snapshot,
+    id: &MessageId,
+    near: u64,
+) -> Result<(u64, Text), NoMemory>
+    ensures { IfOk result (λ told. told.1 ≡ author_of snapshot.now id.now) }
 {
-    let Some(mut files) = snapshot.files(id) else {
-        return Ok(Text::new(alloc));
+    let Some((next, mut files)) = snapshot.files_near(id, near) else {
+        return Ok((near, Text::new(alloc)));
     };
-    match files.next() {
-        Some((_, facts)) => first_author(alloc, facts.from.as_slice()),
-        None => Ok(Text::new(alloc)),
-    }
+    let author = match files.next() {
+        Some((_, facts)) => first_author(alloc, facts.from.as_slice())?,
+        None => Text::new(alloc),
+    };
+    Ok((next, author))
 }
 
 fn first_author(alloc: Global, mailboxes: &[Mailbox]) -> Result<Text, NoMemory>

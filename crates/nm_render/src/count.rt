@@ -78,7 +78,7 @@ fn counted(
     match output {
         Output::Threads => count_threads(alloc, snapshot, ids),
         Output::Messages => Ok(ids.len() as u64),
-        Output::Files => count_files(snapshot, ids),
+        Output::Files => count_files(snapshot, ids, 0),
         Output::Summary | Output::Tags => Ok(0),
     }
 }
@@ -107,28 +107,42 @@ fn add_thread(
     Ok(())
 }
 
-/// How many files the messages have.
-pub(crate) fn count_files(snapshot: &Snapshot, ids: &[MessageId]) -> Result<u64, NoMemory>
+/// How many files the messages have. Those of the first one are looked for at `near` first.
+pub(crate) fn count_files(
+    snapshot: &Snapshot,
+    ids: &[MessageId],
+    near: u64,
+) -> Result<u64, NoMemory>
     ensures { IfOk result (λ number. number ≡ length (files_of_all snapshot.now ids.now)) }
 {
     let mut number = 0;
+    let mut near = near;
     'ids: for id in ids {
-        number = add_files(number, snapshot, id)?;
+        let (counted, next) = add_files(number, snapshot, id, near)?;
+        number = counted;
+        near = next;
     }
     Ok(number)
 }
 
-/// The number with the files of a message counted too. More than a number tells finds no memory.
-fn add_files(before: u64, snapshot: &Snapshot, id: &MessageId) -> Result<u64, NoMemory>
-    ensures { IfOk result (λ number. number ≡ before + length (files_of snapshot.now id.now)) }
+/// The number with the files of a message counted too, and where those of the next one are looked for first. More than a number
+/// tells finds no memory.
+fn add_files(
+    before: u64,
+    snapshot: &Snapshot,
+    id: &MessageId,
+    near: u64,
+) -> Result<(u64, u64), NoMemory>
+    ensures { IfOk result (λ told. told.0 ≡ before + length (files_of snapshot.now id.now)) }
 {
+    let Some((next, mut rest)) = snapshot.files_near(id, near) else {
+        return Ok((before, near));
+    };
     let mut number = before;
-    if let Some(mut rest) = snapshot.files(id) {
-        'files: while rest.next().is_some() {
-            number = one_more(number)?;
-        }
+    'files: while rest.next().is_some() {
+        number = one_more(number)?;
     }
-    Ok(number)
+    Ok((number, next))
 }
 
 fn one_more(number: u64) -> Result<u64, NoMemory>

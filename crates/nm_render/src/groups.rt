@@ -1,11 +1,13 @@
 //! The messages of the threads that are printed, for `summary` and `summary_json`.
 
-ghost use Rattle.std.specs.Prelude.{◌≡◌, ◌==◌, ◌++◌, ℕ, [], ◌∷◌, true, nat_eq, if◌then◌else◌, IfOk, OnOk};
+ghost use Rattle.std.specs.Prelude.{◌≡◌, ◌==◌, ◌++◌, ℕ, [], ◌∷◌, Some, true, nat_eq, if◌then◌else◌, IfOk, OnOk};
 ghost use Rattle.std.specs.List.{filter, list_any};
 ghost use Rattle.nm_answer.specs.Summary.{in_thread};
-ghost use Rattle.nm_render.specs.Groups.{is_in_threads, listed};
+ghost use Rattle.nm_answer.specs.Test.{is_thread};
+ghost use Rattle.nm_render.specs.Groups.{is_in_threads, is_one_of, listed};
 
 use crate::lists::set_of;
+use crate::trail::Trail;
 use nm_base::{Copies, Many, MessageId, NoMemory, TextSet};
 use nm_state::Snapshot;
 use std::alloc::Global;
@@ -51,18 +53,21 @@ fn ids_in(
     ensures { IfOk result (λ printed. printed ≡ filter (is_in_threads snapshot.now names.now) ids.now) }
 {
     let mut printed = Many::new(alloc);
+    let mut trail = Trail::new();
     'ids: for id in ids {
-        if is_in_threads(snapshot, names, id) {
+        let (behind, thread) = snapshot.thread_near(id, trail.guess());
+        trail = trail.with(behind);
+        if is_one_of(names, thread) {
             printed.push(id.copy()?)?;
         }
     }
     Ok(printed)
 }
 
-fn is_in_threads(snapshot: &Snapshot, names: &TextSet<u64>, id: &MessageId) -> bool
-    ensures { result ≡ is_in_threads snapshot.now names.now id.now }
+fn is_one_of(names: &TextSet<u64>, thread: Option<u64>) -> bool
+    ensures { result ≡ is_one_of names.now thread }
 {
-    match snapshot.thread(id) {
+    match thread {
         Some(name) => names.contains(&name),
         None => false,
     }
@@ -73,8 +78,11 @@ fn by_thread(alloc: Global, snapshot: &Snapshot, ids: &[MessageId]) -> Result<Gr
     ensures { IfOk result (λ groups. (name : ℕ) → listed groups name ≡ in_thread snapshot.now name ids.now) }
 {
     let mut groups = BTreeMap::new(alloc);
+    let mut trail = Trail::new();
     'ids: for id in ids {
-        add_message(alloc, &mut groups, snapshot, id)?;
+        let (behind, thread) = snapshot.thread_near(id, trail.guess());
+        trail = trail.with(behind);
+        add_message(alloc, &mut groups, thread, id)?;
     }
     Ok(groups)
 }
@@ -82,12 +90,12 @@ fn by_thread(alloc: Global, snapshot: &Snapshot, ids: &[MessageId]) -> Result<Gr
 fn add_message(
     alloc: Global,
     groups: &mut Groups,
-    snapshot: &Snapshot,
+    thread: Option<u64>,
     id: &MessageId,
 ) -> Result<(), NoMemory>
-    ensures { OnOk result ((name : ℕ) → listed groups.new name ≡ listed groups.old name ++ in_thread snapshot.now name (id.now ∷ [])) }
+    ensures { OnOk result ((name : ℕ) → listed groups.new name ≡ listed groups.old name ++ (if is_thread (Some name) thread then id.now ∷ [] else [])) }
 {
-    if let Some(thread) = snapshot.thread(id) {
+    if let Some(thread) = thread {
         add_under(alloc, groups, thread, id)?;
     }
     Ok(())

@@ -94,7 +94,7 @@ pub(crate) fn tags_text(
     ensures text { IfOk result (λ text. text ≡ texts_printed ask.now.json [] (part_asked ask.now (tags_of_all snapshot.now ids.now))) }
     ensures reads_back { ask.now.json ≡ true → IfOk result (λ text. ReadsBack (map string (part_asked ask.now (tags_of_all snapshot.now ids.now))) text) }
 {
-    let tags = tags_of_all(alloc, snapshot, ids)?.to_list(alloc)?;
+    let tags = tags_of_all(alloc, snapshot, ids, 0)?.to_list(alloc)?;
     let texts = texts_of_tags(alloc, tags.as_slice())?;
     let asked = part_of(texts.as_slice(), ask.offset, ask.limit);
     texts_printed(alloc, ask.json, b"", asked)

@@ -17,6 +17,7 @@ mod show;
 mod shown;
 mod summary;
 mod summary_json;
+mod trail;
 
 pub use count::{count_reply, counts_reply};
 pub use search::search_reply;

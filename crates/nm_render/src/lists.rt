@@ -8,6 +8,7 @@ ghost use Rattle.nm_answer.specs.Listing.{each_once, part_of};
 ghost use Rattle.nm_answer.specs.Search.{part_asked, paths_of_all, tags_of_all, threads_of};
 ghost use Rattle.nm_answer.specs.View.{files_of, tags_of};
 
+use crate::trail::Trail;
 use nm_base::{Copies, Many, MessageId, NoMemory, SearchAsk, Tag, Tags, Text, TextSet};
 use nm_state::Snapshot;
 use std::alloc::Global;
@@ -59,11 +60,14 @@ fn first_threads(
 {
     let mut names = Many::new(alloc);
     let mut seen = TextSet::new(alloc);
+    let mut trail = Trail::new();
     'ids: for id in ids {
         if most <= names.len() {
             return Ok(names);
         }
-        let Some(name) = snapshot.thread(id) else {
+        let (behind, thread) = snapshot.thread_near(id, trail.guess());
+        trail = trail.with(behind);
+        let Some(name) = thread else {
             continue;
         };
         if seen.insert(name)? {
@@ -124,34 +128,43 @@ pub(crate) fn paths_of_all(
     ensures { IfOk result (λ paths. paths ≡ paths_of_all snapshot.now ids.now) }
 {
     let mut paths = Many::new(alloc);
+    let mut trail = Trail::new();
     'ids: for id in ids {
-        push_paths(&mut paths, snapshot, id)?;
+        let behind = push_paths(&mut paths, snapshot, id, trail.guess())?;
+        trail = trail.with(behind);
     }
     Ok(paths)
 }
 
-fn push_paths(paths: &mut Many<Text>, snapshot: &Snapshot, id: &MessageId) -> Result<(), NoMemory>
-    ensures { OnOk result (paths.new ≡ paths.old ++ map (λ file. file.0) (files_of snapshot.now id.now)) }
+/// Adds the paths of a message, and tells where those of the next one are looked for first.
+fn push_paths(
+    paths: &mut Many<Text>,
+    snapshot: &Snapshot,
+    id: &MessageId,
+    near: u64,
+) -> Result<u64, NoMemory>
+    ensures { IfOk result (λ _. paths.new ≡ paths.old ++ map (λ file. file.0) (files_of snapshot.now id.now)) }
 {
-    let Some(mut rest) = snapshot.files(id) else {
-        return Ok(());
+    let Some((next, mut rest)) = snapshot.files_near(id, near) else {
+        return Ok(near);
     };
     'files: while let Some((path, _)) = rest.next() {
         paths.push(path.text().copy()?)?;
     }
-    Ok(())
+    Ok(next)
 }
 
-/// The tags of the messages, in byte order.
+/// The tags of the messages, in byte order. Those of the first one are looked for at `near` first.
 pub(crate) fn tags_of_all(
     alloc: Global,
     snapshot: &Snapshot,
     ids: &[MessageId],
+    near: u64,
 ) -> Result<Tags, NoMemory>
     ensures { IfOk result (λ tags. tags ≡ tags_of_all snapshot.now ids.now) }
 {
     let mut tags = Tags::new(alloc);
-    let mut near = 0;
+    let mut near = near;
     'ids: for id in ids {
         near = add_tags(&mut tags, snapshot, id, near)?;
     }

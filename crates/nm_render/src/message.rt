@@ -104,7 +104,7 @@ fn push_fields(
     ensures { OnOk result (text.new ≡ text.old ++ fields_text snapshot.now id.now) }
 {
     push_from(alloc, text, snapshot, id)?;
-    let subject = lead_subject(snapshot, id);
+    let subject = lead_subject(snapshot, id, 0);
     push_shown(alloc, text, b"subject ", subject.as_bytes())?;
     Ok(())
 }

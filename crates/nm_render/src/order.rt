@@ -8,16 +8,18 @@ use nm_base::{Many, MessageId, NoMemory};
 use nm_state::{MessageFiles, Snapshot};
 use std::alloc::Global;
 
-/// The messages by date, the oldest or the newest first; those of one date stay in their order.
+/// The messages by date, the oldest or the newest first; those of one date stay in their order. The first one's files are looked
+/// for at `near` first.
 pub(crate) fn ordered(
     alloc: Global,
     snapshot: &Snapshot,
     oldest: bool,
     ids: Many<MessageId>,
+    near: u64,
 ) -> Result<Many<MessageId>, NoMemory>
     ensures { IfOk result (λ sorted. sorted ≡ ordered snapshot.now oldest ids) }
 {
-    let mut sorted = ranked(alloc, snapshot, oldest, ids)?;
+    let mut sorted = ranked(alloc, snapshot, oldest, ids, near)?;
     sorted.sort_by_key(|message| message.0)?;
     ids_of(alloc, sorted)
 }
@@ -28,11 +30,12 @@ fn ranked(
     snapshot: &Snapshot,
     oldest: bool,
     ids: Many<MessageId>,
+    near: u64,
 ) -> Result<Vec<(i128, MessageId)>, NoMemory>
     ensures { IfOk result (λ ranked. ranked.items ≡ map (λ id. (rank_of snapshot.now oldest id, id)) ids) }
 {
     let mut ranked = Vec::with_capacity(alloc, ids.len())?;
-    let mut near = 0;
+    let mut near = near;
     'ids: for id in ids.into_vec() {
         let (next, date) = date_near(snapshot, &id, near);
         ranked.push((rank_by(oldest, date), id))?;
@@ -62,7 +65,7 @@ fn ids_of(alloc: Global, ranked: Vec<(i128, MessageId)>) -> Result<Many<MessageI
 }
 
 /// The date of a message, and where the files of the next one are looked for first.
-fn date_near(snapshot: &Snapshot, id: &MessageId, near: u64) -> (u64, i64)
+pub(crate) fn date_near(snapshot: &Snapshot, id: &MessageId, near: u64) -> (u64, i64)
     ensures { result.1 ≡ message_date snapshot.now id.now }
 {
     let Some((next, files)) = snapshot.files_near(id, near) else {

@@ -35,7 +35,7 @@ pub fn search_reply(
     if let Output::Tags = ask.output {
         return tags_text(alloc, snapshot, ask, ids.as_slice());
     }
-    let sorted = ordered(alloc, snapshot, ask.oldest, ids)?;
+    let sorted = ordered(alloc, snapshot, ask.oldest, ids, 0)?;
     found_text(alloc, snapshot, ask, sorted.as_slice())
 }
 

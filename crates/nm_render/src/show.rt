@@ -78,7 +78,7 @@ fn found_oldest_first(
     ensures { IfOk result (λ ids. ids ≡ shown_ids ask.now snapshot.now moment query.now) }
 {
     let ids = found(alloc, snapshot, query, moment, ask.exclude)?;
-    ordered(alloc, snapshot, true, ids)
+    ordered(alloc, snapshot, true, ids, 0)
 }
 
 fn is_not_one(ask: &ShowAsk, ids: &[MessageId]) -> bool

@@ -15,7 +15,7 @@ use crate::count::count_files;
 use crate::groups::{Groups, groups_of};
 use crate::items::{texts_of_tags, thread_digits};
 use crate::lists::{others_of, tags_of_all, threads_asked};
-use crate::order::message_date;
+use crate::order::date_near;
 use crate::shown::{bare_subject, joined, shown, shown_day};
 use itoa::Buffer;
 use nm_answer::ThreadSummary;
@@ -81,8 +81,21 @@ pub(crate) fn thread_summary(
 {
     let matched = listed(matched, name);
     let members = snapshot.thread_messages(name)?;
-    let summary = summary_by(alloc, snapshot, name, matched, members.as_slice())?;
+    let near = place_near(snapshot, members.as_slice(), name);
+    let summary = summary_by(alloc, snapshot, name, matched, members.as_slice(), near)?;
     Ok(summary)
+}
+
+/// Where the messages of a thread are looked for first: where its first one stands. Numbers begin at 1, and come as messages do.
+fn place_near(snapshot: &Snapshot, members: &[MessageId], name: u64) -> u64 {
+    let guess = name.saturating_sub(1);
+    let Some(first) = members.first() else {
+        return guess;
+    };
+    match snapshot.files_near(first, guess) {
+        Some((behind, _)) => behind.saturating_sub(1),
+        None => guess,
+    }
 }
 
 /// The messages of the thread.
@@ -95,13 +108,14 @@ fn listed(groups: &Groups, name: u64) -> &[MessageId]
     }
 }
 
-/// The summary of a thread, by its messages that match, in order, and its live ones.
+/// The summary of a thread, by its messages that match, in order, and its live ones, which are looked for at `near` first.
 fn summary_by(
     alloc: Global,
     snapshot: &Snapshot,
     name: u64,
     matched: &[MessageId],
     members: &[MessageId],
+    near: u64,
 ) -> Result<ThreadSummary, NoMemory>
     ensures value { IfOk result (λ summary. summary ≡ summary_by snapshot.now name matched.now members.now) }
     ensures utf8 { IfOk result (λ summary. HasTexts summary) }
@@ -109,21 +123,21 @@ fn summary_by(
     let others = others_of(alloc, matched, members)?;
     Ok(ThreadSummary {
         thread: name,
-        date: first_date(snapshot, matched),
+        date: first_date(snapshot, matched, near),
         matched: matched.len() as u64,
         total: members.len() as u64,
-        files: count_files(snapshot, members)?,
-        authors: authors_text(alloc, snapshot, matched, others.as_slice())?,
-        subject: first_subject(alloc, snapshot, matched)?,
-        tags: tags_of_all(alloc, snapshot, members)?,
+        files: count_files(snapshot, members, near)?,
+        authors: authors_text(alloc, snapshot, matched, others.as_slice(), near)?,
+        subject: first_subject(alloc, snapshot, matched, near)?,
+        tags: tags_of_all(alloc, snapshot, members, near)?,
     })
 }
 
-fn first_date(snapshot: &Snapshot, ids: &[MessageId]) -> i64
+fn first_date(snapshot: &Snapshot, ids: &[MessageId], near: u64) -> i64
     ensures { result ≡ first_date snapshot.now ids.now }
 {
     match ids.first() {
-        Some(id) => message_date(snapshot, id),
+        Some(id) => date_near(snapshot, id, near).1,
         None => 0,
     }
 }
@@ -132,29 +146,36 @@ fn first_subject(
     alloc: Global,
     snapshot: &Snapshot,
     ids: &[MessageId],
+    near: u64,
 ) -> Result<Many<u8>, NoMemory>
     ensures value { IfOk result (λ subject. subject ≡ first_subject snapshot.now ids.now) }
     ensures utf8 { IfOk result (λ subject. IsUtf8 subject) }
 {
     match ids.first() {
-        Some(id) => subject_of(alloc, snapshot, id),
+        Some(id) => subject_of(alloc, snapshot, id, near),
         None => Ok(Many::new(alloc)),
     }
 }
 
 /// The subject of a message, as it is shown.
-fn subject_of(alloc: Global, snapshot: &Snapshot, id: &MessageId) -> Result<Many<u8>, NoMemory>
+fn subject_of(
+    alloc: Global,
+    snapshot: &Snapshot,
+    id: &MessageId,
+    near: u64,
+) -> Result<Many<u8>, NoMemory>
     ensures value { IfOk result (λ subject. subject ≡ subject_of snapshot.now id.now) }
     ensures utf8 { IfOk result (λ subject. IsUtf8 subject) }
 {
-    let subject = lead_subject(snapshot, id);
+    let subject = lead_subject(snapshot, id, near);
     shown(alloc, bare_subject(subject.as_bytes()))
 }
 
-pub(crate) fn lead_subject<'a>(snapshot: &'a Snapshot, id: &MessageId) -> &'a str
+/// The subject of a message, by its lead file, which is looked for at `near` first.
+pub(crate) fn lead_subject<'a>(snapshot: &'a Snapshot, id: &MessageId, near: u64) -> &'a str
     ensures { result.now ≡ lead_subject (files_of snapshot.now id.now) }
 {
-    let Some(mut files) = snapshot.files(id) else {
+    let Some((_, mut files)) = snapshot.files_near(id, near) else {
         return "";
     };
     match files.next() {

@@ -1,0 +1,30 @@
+//! Where the next message of a walk is looked for first: `groups` and `lists` go along messages by their dates, which mostly rise
+//! or fall as the messages came.
+
+/// The places behind the last message that was found, and behind the one before it. Whatever is guessed, the same is found.
+#[derive(Clone, Copy)]
+pub(crate) struct Trail {
+    before: u64,
+    last: u64,
+}
+
+impl Trail {
+    /// No message was found yet; the first guess is the first place.
+    pub(crate) fn new() -> Trail {
+        Trail { before: 1, last: 1 }
+    }
+
+    /// As far from the last message as that is from the one before it.
+    pub(crate) fn guess(self) -> u64 {
+        let step = self.last.wrapping_sub(self.before);
+        self.last.wrapping_sub(1).wrapping_add(step)
+    }
+
+    /// The same walk with one message more, which stands before this place.
+    pub(crate) fn with(self, behind: u64) -> Trail {
+        Trail {
+            before: self.last,
+            last: behind,
+        }
+    }
+}
