@@ -190,12 +190,12 @@ def code_files():
 
 def speakers(texts):
     """For each file the names of what speaks of it: another crate, or of its own crate a file, and what stands in that. Lemmas that
-    others rest on have what speaks of those too, and a source that one other alone of its crate calls what speaks of that one."""
+    others rest on have what speaks of those too."""
     known = set(crates())
     code = {path: re.sub(r"(?m)//.*$|^(?: *ghost|pub) use [^;]*;", "", text) for path, text in texts.items() if path.endswith(".rt")}
     items = {path: ITEM.findall(text) for path, text in code.items()}
     words = {path: set(re.findall(r"\w+", text)) for path, text in code.items()}
-    found, above, callers = ({path: set() for path in texts} for _ in range(3))
+    found, above = ({path: set() for path in texts} for _ in range(2))
 
     def add(path, by):
         crate, parts = path.split("/")[1], by.split("/")
@@ -205,8 +205,6 @@ def speakers(texts):
         found[path] |= named | {it[2] for it in items.get(by, [])}
         if {path.split("/")[2], parts[2]} == {"proofs"}:
             above[path].add(by)
-        if {path.split("/")[2], parts[2]} == {"src"}:
-            callers[path].add(by)
 
     for path, its in items.items():
         public = {it[2] for it in its if it[1] and not it[0]} or {it[2] for it in its if it[1]}
@@ -226,8 +224,7 @@ def speakers(texts):
         lacks = {path: more for path, its in above.items() if (more := set().union(*(found[it] for it in its)) - found[path])}
         for path, more in lacks.items():
             found[path] |= more
-    alone = {path: found[by] for path, its in callers.items() if len(its) == 1 for by in its if by.split("/")[1] == path.split("/")[1]}
-    return {path: by | alone.get(path, set()) for path, by in found.items()}
+    return found
 
 
 def heads_say_where():

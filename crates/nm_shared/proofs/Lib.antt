@@ -2,6 +2,5 @@ pub mod EntryLemmas
 pub mod SpotLemmas
 pub mod MapLemmas
 pub mod PartLemmas
-pub mod BlockLemmas
 pub mod HashedLemmas
 pub mod PlacesLemmas

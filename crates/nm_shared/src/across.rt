@@ -1,18 +1,13 @@
 //! Proofs that what is shared may go to other threads and be read by several at once. No code calls them; snapshots
 //! rest on them.
 
-use crate::{Hashed, HashedMap, Shared, SharedList, SharedMap};
+use crate::{Hashed, HashedMap, Shared, SharedMap};
 
 fn may_cross<T: Send + Sync>(_value: &T) {}
 
 /// A shared value may be shared among threads where its content may.
 pub fn value_may_cross<T: Send + Sync>(value: &Shared<T>) {
     may_cross(value);
-}
-
-/// So may a list.
-pub fn list_may_cross<T: Send + Sync>(list: &SharedList<T>) {
-    may_cross(list);
 }
 
 /// So may a map.

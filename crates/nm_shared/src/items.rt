@@ -1,4 +1,4 @@
-//! Reading runs of items in order, for `part`, `in_order` and `shared_list`.
+//! Reading runs of items in order, for `part` and `in_order`.
 
 ghost use Rattle.std.specs.Prelude.{◌≡◌, ◌++◌, length, slice_get};
 ghost use Rattle.std.specs.Iterator.{at_most};

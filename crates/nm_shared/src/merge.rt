@@ -1,4 +1,4 @@
-//! Reading pairs of two ordered maps in order, as if those of one had been inserted into the other: `places` are joined by it.
+//! Reading pairs of two ordered maps in order, as if those of one had been inserted into the other: `long` makes one run of two by it.
 
 ghost use Rattle.std.specs.Prelude.{◌≡◌, length};
 ghost use Rattle.std.specs.Iterator.{at_most};

@@ -1,4 +1,4 @@
-//! A block of items that is copied where it is changed while another handle has it: `runs`, and so maps and lists,
+//! A block of items that is copied where it is changed while another handle has it: `runs`, and so maps,
 //! are made of these.
 
 ghost use Rattle.std.specs.Prelude.{◌≡◌, ◌+◌, ◌≤◌, ◌<◌, [], ◌∷◌, ◌++◌, take, drop, length, slice_set, slice_index_or, IfOk, OnOk, OnErr};
@@ -108,21 +108,6 @@ impl<T: Copies> Run<T> {
         }
         let mut items = self.copied_items()?;
         items.remove(at);
-        *self = Run::of(items)?;
-        Ok(())
-    }
-
-    pub fn replace(&mut self, at: usize, item: T) -> Result<(), NoMemory>
-        requires { at < length self.old }
-        ensures ok { OnOk result (self.new ≡ slice_set self.old at item) }
-        ensures err { OnErr result (self.new ≡ self.old) }
-    {
-        if let Some(items) = Arc::get_mut(&mut self.arc) {
-            items[at] = item;
-            return Ok(());
-        }
-        let mut items = self.copied_items()?;
-        items[at] = item;
         *self = Run::of(items)?;
         Ok(())
     }

@@ -121,7 +121,7 @@ pub struct Guesses {
     pub keys: u64,
 }
 
-/// So many guesses are made before the rest is halved. Of a million hashes four or five find the place.
+/// So many guesses are made before the rest is halved, so that keys that lie unevenly cost little more than by halves.
 const MAX_GUESSES: u32 = 12;
 
 impl Guesses {

@@ -233,6 +233,7 @@ impl<K: Ord + Copies, V: Copies> SharedMap<K, V> {
         ensures above { result ≡ true → AllBelow K.cmp key.now self.now }
         ensures some { result ≡ false → 0 < length self.now }
     {
+        // No code needs the number; that the last pair is above the others comes with it.
         if self.len() == 0 {
             return true;
         }
