@@ -1,6 +1,7 @@
 //! The bytes of a record as they are written, which `nm_writer` makes before the disk is touched.
 
 ghost use Rattle.std.specs.Prelude.{◌≡◌, ◌<◌, ◌^◌, ◌++◌, ◌∷◌, [], ℕ, List, IfOk, length};
+ghost use Rattle.std.specs.List.{flat_map};
 ghost use Rattle.nm_journal.specs.Frame.{framed};
 
 use nm_base::{Many, NoMemory};
@@ -30,10 +31,25 @@ impl Frame {
         requires { length body.now < 2 ^ 32 }
         ensures { IfOk result (λ frame. frame ≡ body.now) }
     {
-        let len = body.len() as u32;
-        let mut bytes = Vec::with_capacity(alloc, body.len() + 5)?;
+        Frame::of_pieces(alloc, body.len() as u32, body.as_slice(), &[])
+    }
+
+    /// The frame of a body of `len` bytes, given in pieces: its first bytes, and then all others.
+    pub fn of_pieces(
+        alloc: Global,
+        len: u32,
+        first: &[u8],
+        others: &[Many<u8>],
+    ) -> Result<Frame, NoMemory>
+        requires { len ≡ length (first.now ++ flat_map (λ piece. piece) others.now) }
+        ensures { IfOk result (λ frame. frame ≡ first.now ++ flat_map (λ piece. piece) others.now) }
+    {
+        let mut bytes = Vec::with_capacity(alloc, (len as usize).saturating_add(5))?;
         bytes.extend_from_slice(&len.to_be_bytes())?;
-        bytes.extend_from_slice(body.as_slice())?;
+        bytes.extend_from_slice(first)?;
+        'others: for piece in others {
+            bytes.extend_from_slice(piece.as_slice())?;
+        }
         bytes.push(0)?;
         Ok(Frame::of_bytes(Many::from_vec(bytes)))
     }

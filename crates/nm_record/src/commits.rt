@@ -8,12 +8,12 @@ ghost use Rattle.nm_commit.specs.Files.{Fits};
 ghost use Rattle.nm_commit.specs.declared.change.Commit.{Commit};
 ghost use Rattle.nm_codec.specs.Reading.{AnswersUnlessNoMemory, all_of};
 ghost use Rattle.nm_record.specs.CommitGrammar.{commit_grammar};
-ghost use Rattle.nm_record.specs.Commits.{has_date};
+ghost use Rattle.nm_record.specs.Commits.{change_bytes, has_date};
 
 use crate::changes::ChangeFormat;
 use nm_base::{Many, NoMemory};
 use nm_codec::{Format, ListOf, ReadError, Reader, Writer};
-use nm_commit::Commit;
+use nm_commit::{Change, Commit};
 use std::alloc::Global;
 
 /// How many bytes the one spelling of a commit has, up to 2^64 - 1. It takes no memory.
@@ -41,6 +41,19 @@ pub fn commit_bytes(alloc: Global, commit: &Commit) -> Result<Many<u8>, NoMemory
 {
     let mut writer = Writer::new(alloc);
     write_commit(commit, &mut writer)?;
+    Ok(writer.finish())
+}
+
+/// The one spelling of a change. A commit is the count of its changes in four bytes, and then all of them.
+pub fn change_bytes(alloc: Global, change: &Change) -> Result<Many<u8>, NoMemory>
+    ensures { IfOk result (λ bytes. bytes ≡ change_bytes change.now) }
+{
+    // No commit has room for it.
+    if ChangeFormat::len(change) > u64::from(u32::MAX) {
+        return Err(NoMemory);
+    }
+    let mut writer = Writer::new(alloc);
+    ChangeFormat::write(change, &mut writer)?;
     Ok(writer.finish())
 }
 
