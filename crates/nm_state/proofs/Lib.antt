@@ -1,5 +1,6 @@
 pub mod KeyLemmas
 pub mod OrderLemmas
+pub mod SideLemmas
 pub mod SortedLemmas
 pub mod FilingLemmas
 pub mod KeptLemmas

@@ -99,7 +99,7 @@ none false true c e f g = absurd (true≢false f)
 none false false true e f g = absurd (true≢false g)
 none false false false e f g = refl
 
-module _ (index : Base) (counts : Counts) (revision : ℕ) (are : AreCounts index counts) (is : index.revision ≡ revision + 1) where
+module _ (index : Base) (counts : Counts) (revision : ℕ) (are : AreCounts index counts) (is : revision ≡ min index.revision max_count) where
   abbrev files : Bool
   files = nat_lt max_files (length index.files)
 
@@ -124,10 +124,10 @@ module _ (index : Base) (counts : Counts) (revision : ℕ) (are : AreCounts inde
   pub used_up : counts.files ≤ max_files → counts.bytes ≤ max_index_bytes → max_number < counts.next → Some Numbers ≡ limit_passed index
   used_up le le2 lt = third files bytes numbers (few le) (small le2) (or_left (nat_lt max_number index.next) (nat_lt max_number index.revision) (lt-ltb max_number index.next (omega (arith, lt, are.next))))
 
-  pub too_late : counts.files ≤ max_files → counts.bytes ≤ max_index_bytes → max_number ≤ revision → Some Numbers ≡ limit_passed index
+  pub too_late : counts.files ≤ max_files → counts.bytes ≤ max_index_bytes → max_number < revision → Some Numbers ≡ limit_passed index
   too_late le le2 late = third files bytes numbers (few le) (small le2) (or_right (nat_lt max_number index.next) (nat_lt max_number index.revision) (lt-ltb max_number index.revision (omega (arith, late, is))))
 
-  pub within : counts.files ≤ max_files → counts.bytes ≤ max_index_bytes → counts.next ≤ max_number → revision < max_number → None ≡ limit_passed index
+  pub within : counts.files ≤ max_files → counts.bytes ≤ max_index_bytes → counts.next ≤ max_number → revision ≤ max_number → None ≡ limit_passed index
   within le le2 le3 lt =
       none files bytes numbers (few le) (small le2)
       (or_from (nat_lt max_number index.next) (nat_lt max_number index.revision) (le-ltb max_number index.next (omega (arith, le3, are.next))) (le-ltb max_number index.revision (omega (arith, lt, is))))

@@ -6,6 +6,7 @@ pub mod Measures
 pub mod Messages
 pub mod Parts
 pub mod Renumbered
+pub mod Sides
 pub mod Snapshot
 pub mod Sorted
 pub mod ThreadLaws

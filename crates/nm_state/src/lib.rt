@@ -25,6 +25,7 @@ mod reading;
 mod renumbering;
 mod room;
 mod row_bytes;
+mod sides;
 mod snapshot;
 mod tagging;
 

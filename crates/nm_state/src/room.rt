@@ -123,9 +123,9 @@ pub fn counts_after(alloc: Global, parts: &Parts, commit: &Commit) -> Result<Cou
     }
 }
 
-/// The first limit that an index passes which comes to so much, one revision after this one.
+/// The first limit that an index of this revision passes which comes to so much.
 pub fn limit_passed(counts: Counts, revision: u64) -> Option<Limit>
-    ensures { (index : Base) → AreCounts index counts → index.revision ≡ revision + 1 → result ≡ limit_passed index }
+    ensures { (index : Base) → AreCounts index counts → revision ≡ min index.revision max_count → result ≡ limit_passed index }
 {
     if counts.files > MAX_FILES {
         return Some(Limit::Files);
@@ -133,7 +133,7 @@ pub fn limit_passed(counts: Counts, revision: u64) -> Option<Limit>
     if counts.bytes > MAX_INDEX_BYTES {
         return Some(Limit::IndexBytes);
     }
-    if counts.next > MAX_NUMBER || revision >= MAX_NUMBER {
+    if counts.next > MAX_NUMBER || revision > MAX_NUMBER {
         return Some(Limit::Numbers);
     }
     None
