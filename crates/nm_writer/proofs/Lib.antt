@@ -14,5 +14,6 @@ pub mod ReplayLemmas
 pub mod ReportLemmas
 pub mod SameLemmas
 pub mod ScanLemmas
+pub mod SpellingLemmas
 pub mod TaggingLemmas
 pub mod WantingLemmas

@@ -1,22 +1,100 @@
 -- The tags that follow the changes of a commit, and the paths of a message. For the proofs of `message_paths` and `with_names`.
-use Rattle.std.proofs.Common.{◌≡◌, Bool, true, false, ◌||◌, cond, ℕ, List, [], ◌∷◌, ◌++◌, filter, refl, ap, ◌∙◌}
-use Rattle.std.specs.List.{flat_map}
-use Rattle.nm_base.specs.Order.{same_text}
+use Rattle.std.proofs.Common.{◌≡◌, Bool, true, false, ◌||◌, cond, ℕ, ◌+◌, List, [], ◌∷◌, ◌++◌, filter, map, refl, sym, ap, ◌∙◌}
+use Rattle.std.specs.Prelude.{IsTrue, fold}
+use Rattle.std.specs.Cmp.Lexicographic.{pointwise}
+use Rattle.std.specs.List.{AllByRecursion, flat_map}
+use Rattle.std.proofs.lemmas.List.Sums.{fold-append}
+use Rattle.nm_base.specs.Order.{has_text, same_text}
 use Rattle.nm_base.specs.declared.facts.Facts.{Facts}
 use Rattle.nm_commit.specs.Files.{has_id, paths_of}
 use Rattle.nm_commit.specs.declared.change.Change.{Change}
-use Rattle.nm_index.specs.Index.{committed}
+use Rattle.nm_commit.specs.declared.change.Change.TheVariants.{SetTags}
+use Rattle.nm_index.specs.Index.{applied, committed, with_revision, with_tags}
 use Rattle.nm_index.specs.declared.base.Base.{Base}
 use Rattle.nm_answer.specs.View.{message_paths, tags_of}
 use Rattle.nm_plan.specs.NameTags.{follow_names, live_of, named_tags, set_tags, with_names}
+use Rattle.nm_state.specs.Snapshot.{retagged}
+use Rattle.nm_writer.specs.Naming.{new_set, set_of}
+
+abbrev Sets : Type 0
+Sets = List (List ℕ × List (List ℕ))
+
+-- ---- what is set
+
+set_more : (test : Bool) (id : List ℕ) (new : List (List ℕ)) (more : Sets) → map set_of (cond test [] ((id, new) ∷ []) ++ more) ≡ cond test [] (SetTags id new ∷ []) ++ map set_of more
+set_more true id new more = refl
+set_more false id new more = refl
+
+sets_are : (after : Base) (ids : List (List ℕ)) → map set_of (flat_map (λ id. new_set id (tags_of after id) (named_tags after id)) ids) ≡ flat_map (λ id. set_tags id (tags_of after id) (named_tags after id)) ids
+sets_are after [] = refl
+sets_are after (id ∷ ids) =
+    set_more (pointwise same_text (tags_of after id) (named_tags after id)) id (named_tags after id) (flat_map (λ it. new_set it (tags_of after it) (named_tags after it)) ids)
+    ∙ ap (λ (more : List Change). set_tags id (tags_of after id) (named_tags after id) ++ more) (sets_are after ids)
 
 -- the changes, and the tags that follow
-pub named-are : (shown after : Base) (changes all : List Change) (ids live : List (List ℕ)) → after ≡ committed shown (record { changes = changes }) → live ≡ live_of after ids
-    → all ≡ changes ++ flat_map (λ id. set_tags id (tags_of after id) (named_tags after id)) live → all ≡ with_names shown changes ids
-named-are shown after changes all ids live is live_is all_is =
+pub named-are : (shown after : Base) (changes all : List Change) (ids live : List (List ℕ)) (sets : Sets) → after ≡ committed shown (record { changes = changes }) → live ≡ live_of after ids
+    → sets ≡ flat_map (λ id. new_set id (tags_of after id) (named_tags after id)) live → all ≡ changes ++ map set_of sets → all ≡ with_names shown changes ids
+named-are shown after changes all ids live sets is live_is sets_is all_is =
     all_is
+    ∙ (ap (λ (l : Sets). changes ++ map set_of l) sets_is
+    ∙ (ap (λ (l : List Change). changes ++ l) (sets_are after live)
     ∙ (ap (λ (l : List (List ℕ)). changes ++ flat_map (λ id. set_tags id (tags_of after id) (named_tags after id)) l) live_is
-    ∙ ap (λ (b : Base). changes ++ follow_names b ids) is)
+    ∙ ap (λ (b : Base). changes ++ follow_names b ids) is)))
+
+-- ---- the index after all
+
+revised : (sets : Sets) (revision : ℕ) (index : Base) → retagged (with_revision revision index) sets ≡ with_revision revision (retagged index sets)
+revised [] revision index = refl
+revised (set ∷ sets) revision index = revised sets revision (with_tags index set.0 set.1)
+
+all_set : (sets : Sets) (index : Base) → retagged index sets ≡ fold applied index (map set_of sets)
+all_set [] index = refl
+all_set (set ∷ sets) index = all_set sets (with_tags index set.0 set.1)
+
+-- the tags that are set on the index after the changes leave the index after both
+pub next-is : (shown after next : Base) (changes all : List Change) (sets : Sets) → after ≡ committed shown (record { changes = changes }) → next ≡ retagged after sets → all ≡ changes ++ map set_of sets
+    → next ≡ committed shown (record { changes = all })
+next-is shown after next changes all sets is next_is all_is =
+    let revision : ℕ = shown.revision + 1 in
+    next_is
+    ∙ (ap (λ (b : Base). retagged b sets) is
+    ∙ (revised sets revision (fold applied shown changes)
+    ∙ (ap (with_revision revision) (all_set sets (fold applied shown changes) ∙ sym (fold-append applied shown changes (map set_of sets)))
+    ∙ ap (λ (l : List Change). committed shown (record { changes = l })) (sym all_is))))
+
+-- ---- those that are set are live
+
+live_one : (test : Bool) (files : List (List ℕ × Facts)) (entry : List ℕ × ℕ) (rest : List (List ℕ × ℕ)) → has_id files entry.0 ≡ test → AllByRecursion (λ id. IsTrue (has_id files id)) (map (λ e. e.0) rest)
+    → AllByRecursion (λ id. IsTrue (has_id files id)) (map (λ e. e.0) (cond test (entry ∷ rest) rest))
+live_one true files entry rest here more = (here, more)
+live_one false files entry rest here more = more
+
+live_all : (files : List (List ℕ × Facts)) (entries : List (List ℕ × ℕ)) → AllByRecursion (λ id. IsTrue (has_id files id)) (map (λ e. e.0) (filter (λ e. has_id files e.0) entries))
+live_all files [] = tt
+live_all files (entry ∷ entries) = live_one (has_id files entry.0) files entry (filter (λ e. has_id files e.0) entries) refl (live_all files entries)
+
+module _ (P : List ℕ → Type 0) where
+  kept_one : (test : Bool) (text : List ℕ) (rest : List (List ℕ)) → P text → AllByRecursion P rest → AllByRecursion P (cond test (text ∷ rest) rest)
+  kept_one true text rest here more = (here, more)
+  kept_one false text rest here more = more
+
+  kept_all : (keep : List ℕ → Bool) (texts : List (List ℕ)) → AllByRecursion P texts → AllByRecursion P (filter keep texts)
+  kept_all keep [] all = tt
+  kept_all keep (text ∷ texts) (here, more) = kept_one (keep text) text (filter keep texts) here (kept_all keep texts more)
+
+  put_one : (test : Bool) (id : List ℕ) (new : List (List ℕ)) (more : Sets) → P id → AllByRecursion (λ (set : List ℕ × List (List ℕ)). P set.0) more
+      → AllByRecursion (λ (set : List ℕ × List (List ℕ)). P set.0) (cond test [] ((id, new) ∷ []) ++ more)
+  put_one true id new more here all = all
+  put_one false id new more here all = (here, all)
+
+  put_all : (after : Base) (ids : List (List ℕ)) → AllByRecursion P ids → AllByRecursion (λ (set : List ℕ × List (List ℕ)). P set.0) (flat_map (λ id. new_set id (tags_of after id) (named_tags after id)) ids)
+  put_all after [] all = tt
+  put_all after (id ∷ ids) (here, more) =
+      put_one (pointwise same_text (tags_of after id) (named_tags after id)) id (named_tags after id) (flat_map (λ it. new_set it (tags_of after it) (named_tags after it)) ids) here (put_all after ids more)
+
+-- tags are set of messages that have a file
+pub sets-live : (after : Base) (ids : List (List ℕ)) → AllByRecursion (λ set. IsTrue (has_id after.files set.0)) (flat_map (λ id. new_set id (tags_of after id) (named_tags after id)) (live_of after ids))
+sets-live after ids = put_all (λ id. IsTrue (has_id after.files id)) after (live_of after ids) (kept_all (λ id. IsTrue (has_id after.files id)) (has_text ids) (map (λ e. e.0) (filter (λ e. has_id after.files e.0) after.entries)) (live_all after.files after.entries))
 
 -- a message without a file has no paths
 none-left : (b : Bool) (file : List ℕ × Facts) (rest : List (List ℕ × Facts)) (more : Bool) → (b || more) ≡ false → (more ≡ false → paths_of rest ≡ []) → paths_of (cond b (file ∷ rest) rest) ≡ []

@@ -2,6 +2,7 @@ pub mod Batch
 pub mod Durable
 pub mod Errors
 pub mod Merging
+pub mod Naming
 pub mod New
 pub mod Opening
 pub mod Renamed

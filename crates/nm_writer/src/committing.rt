@@ -16,17 +16,19 @@ ghost use Rattle.nm_writer.specs.Durable.{IsDurable};
 ghost use Rattle.nm_writer.specs.Writer.{StandsOnIndex};
 ghost use Rattle.nm_writer.specs.Writing.{HoldsEither, IsAfterCommit, IsFull, IsPreparing, IsWithin, is_write_fault};
 
+use crate::applying::next_snapshot;
+use crate::spelling::framed;
 use crate::{WriteError, Writer};
 use nm_base::{Limit, NoMemory};
 use nm_commit::Commit;
 use nm_disk::{Disk, DiskFault, FileNo};
 use nm_journal::Frame;
 use nm_plan::{files_stay_apart, numbers_stay_in_order};
-use nm_record::{commit_len, write_commit};
+use nm_record::commit_len;
 use nm_state::{RoomError, Snapshot};
 use std::alloc::Global;
 use std::sync::{Arc, Wait};
-use std::thread::{Threads, join};
+use std::thread::Threads;
 
 /// The most commits of a session.
 const MAX_COMMITS: usize = 65_536;
@@ -34,20 +36,19 @@ const MAX_COMMITS: usize = 65_536;
 /// The most bytes of a commit.
 const MAX_COMMIT_BYTES: u64 = 1_073_741_824;
 
-/// A commit of so many bytes is worth a thread.
-const LARGE_BYTES: u64 = 65_536;
-
 impl Writer {
-    /// Makes one commit: all memory first, then the record on the disk, then the index after it is shown. It may wait for readers to
-    /// leave the snapshot from before.
+    /// Makes one commit: all memory first, then the record on the disk, then the index after it is shown. The caller may have made the
+    /// snapshot after it already. It may wait for readers to leave the snapshot from before.
     pub fn commit<R: Threads + Wait + Sync, D: Disk>(
         &mut self,
         rt: &R,
         disk: &mut D,
         commit: Commit,
+        next: Option<Snapshot>,
     ) -> Result<(), WriteError>
         requires alive { self.old.closed ≡ None }
         requires fits { Fits self.old.shown.files commit }
+        requires next { IfSome next (λ next. next ≡ committed self.old.shown commit) }
         requires stands { IfSome (D.observed disk.old).told (λ moments. StandsOnIndex moments.present self.old) }
 
         // What is made, or begun, passes no limit.
@@ -69,7 +70,7 @@ impl Writer {
 
         ensures cause { HasCauseOf is_write_fault (D.observed disk.old).faults (D.observed disk.new).faults result }
     {
-        self.make(rt, disk, commit)
+        self.make(rt, disk, commit, next)
     }
 
     /// Makes one commit, as `commit` does.
@@ -78,9 +79,11 @@ impl Writer {
         rt: &R,
         disk: &mut D,
         commit: Commit,
+        next: Option<Snapshot>,
     ) -> Result<(), WriteError>
         requires alive { self.old.closed ≡ None }
         requires fits { Fits self.old.shown.files commit }
+        requires next { IfSome next (λ next. next ≡ committed self.old.shown commit) }
         requires stands { IfSome (D.observed disk.old).told (λ moments. StandsOnIndex moments.present self.old) }
         ensures after { IsAfterCommit self.old commit (D.observed disk.new).clock (D.observed disk.new).faults result self.new }
         ensures stands { GoesOn (λ old new. OnOk result (StandsOnIndex new.present self.new))
@@ -102,6 +105,7 @@ impl Writer {
             made,
             self.shower.now(),
             &commit,
+            next,
         )?;
         self.begun.reserve(1)?;
         self.acked.reserve(1)?;
@@ -123,8 +127,7 @@ impl Writer {
     }
 }
 
-/// The record of the commit, and the snapshot after it: of a large one both at once, where there are workers. `made` is how many
-/// commits were begun before.
+/// The record of the commit, and the snapshot after it, which the caller may have made. `made` is how many commits were begun before.
 fn prepared<R: Threads + Wait + Sync>(
     rt: &R,
     alloc: Global,
@@ -132,8 +135,10 @@ fn prepared<R: Threads + Wait + Sync>(
     made: usize,
     shown: &Snapshot,
     commit: &Commit,
+    next: Option<Snapshot>,
 ) -> Result<(Frame, Arc<Snapshot, Global>), WriteError>
     requires fits { Fits shown.now.files commit.now }
+    requires next { IfSome next (λ next. next ≡ committed shown.now commit.now) }
     ensures frame { IfOk result (λ prepared. prepared.0 ≡ commit_grammar.bytes commit.now) }
     ensures value { IfOk result (λ prepared. commit_grammar.is_value commit.now ≡ true) }
     ensures next { IfOk result (λ prepared. arc_value prepared.1 ≡ committed shown.now commit.now) }
@@ -147,66 +152,36 @@ fn prepared<R: Threads + Wait + Sync>(
     if len > MAX_COMMIT_BYTES {
         return Err(WriteError::Limit(Limit::CommitBytes));
     }
-    if workers < 2 || len < LARGE_BYTES {
-        let next = shared(alloc, next_snapshot(shown, commit)?)?;
-        let frame = framed(alloc, commit)?;
-        return Ok((frame, next));
-    }
-    let (frame, next) = at_once(rt, alloc, shown, commit);
-    let next = shared(alloc, next?)?;
-    Ok((frame?, next))
+    let next = within_limits(rt, workers, shown, commit, next)?;
+    let frame = framed(rt, alloc, workers, commit, len as u32)?;
+    let next = shared(alloc, next)?;
+    Ok((frame, next))
 }
 
-/// The record of the commit, made in a thread of its own, and the snapshot after it.
-fn at_once<R: Threads + Wait + Sync>(
+/// The snapshot after the commit, or the first limit that it passes.
+fn within_limits<R: Threads>(
     rt: &R,
-    alloc: Global,
+    workers: u32,
     shown: &Snapshot,
     commit: &Commit,
-) -> (Result<Frame, NoMemory>, Result<Snapshot, WriteError>)
+    next: Option<Snapshot>,
+) -> Result<Snapshot, WriteError>
     requires fits { Fits shown.now.files commit.now }
-    requires short { length (commit_grammar.bytes commit.now) < 2 ^ 32 }
-    ensures frame { IfOk result.0 (λ frame. frame ≡ commit_grammar.bytes commit.now) }
-    ensures next { IfOk result.1 (λ next. next ≡ committed shown.now commit.now) }
-    ensures within { IfOk result.1 (λ _. limit_passed (committed shown.now commit.now) ≡ None) }
-    ensures limits { IfErr result.1 (IsFull (committed shown.now commit.now)) }
-{
-    let spell = move || -> Result<Frame, NoMemory>
-        requires { length (commit_grammar.bytes commit.now) < 2 ^ 32 }
-        ensures { IfOk result (λ frame. frame ≡ commit_grammar.bytes commit.entry.now) }
-    { framed(alloc, commit) };
-    let apply = move || -> Result<Snapshot, WriteError>
-        requires { Fits shown.now.files commit.now }
-        ensures next { IfOk result (λ next. next ≡ committed shown.entry.now commit.entry.now) }
-        ensures within { IfOk result (λ _. limit_passed (committed shown.entry.now commit.entry.now) ≡ None) }
-        ensures limits { IfErr result (IsFull (committed shown.entry.now commit.entry.now)) }
-    { next_snapshot(shown, commit) };
-    join(rt, spell, apply)
-}
-
-/// The record of a commit, made in one piece.
-fn framed(alloc: Global, commit: &Commit) -> Result<Frame, NoMemory>
-    requires { length (commit_grammar.bytes commit.now) < 2 ^ 32 }
-    ensures { IfOk result (λ frame. frame ≡ commit_grammar.bytes commit.now) }
-{
-    let mut bytes = nm_codec::Writer::new(alloc);
-    bytes.put_u32(commit_len(commit) as u32)?;
-    write_commit(commit, &mut bytes)?;
-    bytes.put_u8(0)?;
-    Ok(Frame::of_bytes(bytes.finish()))
-}
-
-/// The snapshot after the commit, or the first limit that it would pass.
-fn next_snapshot(shown: &Snapshot, commit: &Commit) -> Result<Snapshot, WriteError>
-    requires fits { Fits shown.now.files commit.now }
+    requires next { IfSome next (λ next. next ≡ committed shown.now commit.now) }
     ensures next { IfOk result (λ next. next ≡ committed shown.now commit.now) }
     ensures within { IfOk result (λ _. limit_passed (committed shown.now commit.now) ≡ None) }
     ensures limits { IfErr result (IsFull (committed shown.now commit.now)) }
 {
-    match shown.apply_within_limits(commit) {
-        Ok(next) => Ok(next),
-        Err(RoomError::Limit(limit)) => Err(WriteError::Limit(limit)),
-        Err(RoomError::NoMemory) => Err(WriteError::NoMemory),
+    let Some(next) = next else {
+        return match next_snapshot(rt, workers, shown, commit) {
+            Ok(next) => Ok(next),
+            Err(RoomError::Limit(limit)) => Err(WriteError::Limit(limit)),
+            Err(RoomError::NoMemory) => Err(WriteError::NoMemory),
+        };
+    };
+    match next.limit_passed() {
+        None => Ok(next),
+        Some(limit) => Err(WriteError::Limit(limit)),
     }
 }
 

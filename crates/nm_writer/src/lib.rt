@@ -2,6 +2,7 @@
 //! readers after each.
 #![tactic(auto)]
 
+mod applying;
 mod bodies;
 mod committing;
 mod laws;
@@ -14,6 +15,7 @@ mod renaming;
 mod replaying;
 mod reporting;
 mod scanning;
+mod spelling;
 mod tag;
 mod tagging;
 mod wanting;

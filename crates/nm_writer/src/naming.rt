@@ -1,77 +1,80 @@
 //! The tags that the names of files give the messages of a commit; each commit of a `new` ends with them.
 
-ghost use Rattle.std.specs.Prelude.{◌≡◌, ◌++◌, IfOk, OnOk};
+ghost use Rattle.std.specs.Prelude.{◌≡◌, ◌++◌, IfOk, OnOk, map};
 ghost use Rattle.std.specs.List.{flat_map};
 ghost use Rattle.nm_commit.specs.Files.{Fits};
 ghost use Rattle.nm_flags.specs.Following.{tags_by_names};
 ghost use Rattle.nm_index.specs.Index.{committed};
 ghost use Rattle.nm_answer.specs.View.{message_paths, tags_of};
-ghost use Rattle.nm_plan.specs.NameTags.{named_tags, set_tags, with_names};
+ghost use Rattle.nm_plan.specs.NameTags.{named_tags, with_names};
+ghost use Rattle.nm_writer.specs.Naming.{new_set, set_of};
 
+use crate::applying::applied;
 use nm_base::{Copies, MailPath, Many, MessageId, NoMemory, Tags};
 use nm_commit::{Change, Commit};
 use nm_eval::by_numbers;
 use nm_flags::tags_from_names;
 use nm_state::Snapshot;
 use std::alloc::Global;
+use std::thread::Threads;
 
-/// The changes, and behind them the tags that the messages with these ids then have by the names of their files, where they have
-/// others.
-pub(crate) fn with_names(
+/// A commit, and the snapshot after it.
+#[derive(Drop)]
+pub(crate) struct Named {
+    pub(crate) commit: Commit,
+    pub(crate) next: Snapshot,
+}
+
+/// A commit of the changes, and behind them of the tags that the messages with these ids then have by the names of their files,
+/// where they have others.
+pub(crate) fn with_names<R: Threads>(
+    rt: &R,
     alloc: Global,
+    workers: u32,
     shown: &Snapshot,
     changes: Many<Change>,
     ids: &[MessageId],
-) -> Result<Many<Change>, NoMemory>
+) -> Result<Named, NoMemory>
     requires fits { Fits shown.now.files (record { changes = changes }) }
-    ensures { IfOk result (λ all. all ≡ with_names shown.now changes ids.now) }
+    ensures commit { IfOk result (λ named. named.commit.changes ≡ with_names shown.now changes ids.now) }
+    ensures next { IfOk result (λ named. named.next ≡ committed shown.now named.commit) }
 {
-    let commit = Commit { changes };
-    let after = apply(shown, &commit)?;
+    let files = Commit { changes };
+    let after = applied(rt, workers, shown, &files)?;
     let ids = by_numbers(alloc, &after, ids)?;
-    let Commit { mut changes } = commit;
-    add_all_tags(alloc, &after, ids.as_slice(), &mut changes)?;
-    Ok(changes)
+    let sets = sets_by_names(alloc, &after, ids.as_slice())?;
+    let next = after.with_tags(&sets)?;
+    let commit = with_sets(files, sets)?;
+    Ok(Named { commit, next })
 }
 
-/// The snapshot after a commit that fits. Numbers that would pass 2^63 are told as no memory.
-fn apply(shown: &Snapshot, commit: &Commit) -> Result<Snapshot, NoMemory>
-    requires fits { Fits shown.now.files commit.now }
-    ensures { IfOk result (λ new. new ≡ committed shown.now commit.now) }
-{
-    if !shown.has_numbers(commit) {
-        return Err(NoMemory);
-    }
-    shown.apply(commit)
-}
-
-/// Sets the tags of the messages, where the names of their files say others.
-fn add_all_tags(
+/// The tags of the messages by the names of their files, where they have others.
+fn sets_by_names(
     alloc: Global,
     after: &Snapshot,
     ids: &[MessageId],
-    changes: &mut Many<Change>,
-) -> Result<(), NoMemory>
-    ensures { OnOk result (changes.new ≡ changes.old ++ flat_map (λ id. set_tags id (tags_of after.now id) (named_tags after.now id)) ids.now) }
+) -> Result<Many<(MessageId, Tags)>, NoMemory>
+    ensures { IfOk result (λ sets. sets ≡ flat_map (λ id. new_set id (tags_of after.now id) (named_tags after.now id)) ids.now) }
 {
+    let mut sets = Many::new(alloc);
     'ids: for id in ids {
-        add_tags(alloc, after, id, changes)?;
+        add_by_names(alloc, after, id, &mut sets)?;
     }
-    Ok(())
+    Ok(sets)
 }
 
-fn add_tags(
+fn add_by_names(
     alloc: Global,
     after: &Snapshot,
     id: &MessageId,
-    changes: &mut Many<Change>,
+    sets: &mut Many<(MessageId, Tags)>,
 ) -> Result<(), NoMemory>
-    ensures { OnOk result (changes.new ≡ changes.old ++ set_tags id.now (tags_of after.now id.now) (named_tags after.now id.now)) }
+    ensures { OnOk result (sets.new ≡ sets.old ++ new_set id.now (tags_of after.now id.now) (named_tags after.now id.now)) }
 {
     let paths = message_paths(alloc, after, id)?;
     match after.tags(id) {
-        Some(tags) => add_set(alloc, id, tags, &paths, changes),
-        None => add_set(alloc, id, &Tags::new(alloc), &paths, changes),
+        Some(tags) => add_set(alloc, id, tags, &paths, sets),
+        None => add_set(alloc, id, &Tags::new(alloc), &paths, sets),
     }
 }
 
@@ -80,17 +83,26 @@ fn add_set(
     id: &MessageId,
     tags: &Tags,
     paths: &Many<MailPath>,
-    changes: &mut Many<Change>,
+    sets: &mut Many<(MessageId, Tags)>,
 ) -> Result<(), NoMemory>
-    ensures { OnOk result (changes.new ≡ changes.old ++ set_tags id.now tags.now (tags_by_names tags.now paths.now)) }
+    ensures { OnOk result (sets.new ≡ sets.old ++ new_set id.now tags.now (tags_by_names tags.now paths.now)) }
 {
     let named = tags_from_names(alloc, tags, paths)?;
     if *tags == named {
         return Ok(());
     }
-    let id = id.copy()?;
-    changes.push(Change::SetTags { id, tags: named })?;
-    Ok(())
+    sets.push((id.copy()?, named))
+}
+
+/// The commit, and behind it the tags that are set.
+fn with_sets(files: Commit, sets: Many<(MessageId, Tags)>) -> Result<Commit, NoMemory>
+    ensures { IfOk result (λ commit. commit.changes ≡ files.changes ++ map set_of sets) }
+{
+    let Commit { mut changes } = files;
+    'sets: for (id, tags) in sets.into_vec() {
+        changes.push(Change::SetTags { id, tags })?;
+    }
+    Ok(Commit { changes })
 }
 
 /// The paths of a message's files, in the order of their arrival.

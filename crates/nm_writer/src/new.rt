@@ -26,7 +26,7 @@ use crate::scanning::{Compared, compare};
 use crate::{WriteError, Writer};
 use nm_answer::NewReport;
 use nm_base::{Copies, MailPath, Many, MessageId, NoMemory};
-use nm_commit::{Change, Commit};
+use nm_commit::Change;
 use nm_disk::Disk;
 use nm_maildir::{Given, MailError, Maildir};
 use nm_plan::{new_commits_fit, new_leaves_what_is_listed, the_files_after_new};
@@ -319,8 +319,15 @@ impl Writer {
         if changes.is_empty() {
             return Ok(());
         }
-        let changes = with_names(self.alloc, self.snapshot(), changes, ids.as_slice())?;
-        self.commit(rt, disk, Commit { changes })
+        let named = with_names(
+            rt,
+            self.alloc,
+            self.workers,
+            self.snapshot(),
+            changes,
+            ids.as_slice(),
+        )?;
+        self.commit(rt, disk, named.commit, Some(named.next))
     }
 }
 

@@ -114,7 +114,7 @@ impl Writer {
         numbers_stay_in_order();
         files_stay_apart();
         let read = read_bodies(rt, alloc, workers, &bodies)?;
-        let shown = replayed(alloc, bodies.as_slice(), read.as_slice())?;
+        let shown = replayed(rt, alloc, workers, bodies.as_slice(), read.as_slice())?;
         // A clock is a number of 64 bits, which the contract tells of the disk as well.
         let _ = disk.clock();
         let started = show_first(rt, alloc, shown, readers)?;

@@ -10,16 +10,20 @@ ghost use Rattle.nm_writer.specs.Opening.{HasBodyFault, IsAfterRead, IsOfHead, I
 ghost use Rattle.nm_writer.specs.StoredIndex.{HasCommits, StayWithin};
 
 use crate::OpenError;
+use crate::applying::next_snapshot;
 use nm_base::Many;
 use nm_commit::Commit;
 use nm_disk::FileNo;
 use nm_state::{RoomError, Snapshot};
 use std::alloc::Global;
+use std::thread::Threads;
 
 /// The snapshot after the commits that the bodies spell, as these were read; none of them passes a limit. The first body that
 /// fails decides.
-pub(crate) fn replayed(
+pub(crate) fn replayed<R: Threads>(
+    rt: &R,
     alloc: Global,
+    workers: u32,
     bodies: &[Many<u8>],
     read: &[Option<Commit>],
 ) -> Result<Snapshot, OpenError>
@@ -31,7 +35,7 @@ pub(crate) fn replayed(
     let mut snapshot = Snapshot::empty(alloc);
     let mut gate = 0u64;
     'bodies: for at in 0..bodies.len() {
-        snapshot = replay_one(&snapshot, &read[at], gate)?;
+        snapshot = replay_one(rt, workers, &snapshot, &read[at], gate)?;
         gate = gate
             .saturating_add(5)
             .saturating_add(bodies[at].len() as u64);
@@ -40,14 +44,20 @@ pub(crate) fn replayed(
 }
 
 /// The snapshot after a commit that was read. Where no commit was, that is told at `gate`.
-fn replay_one(snapshot: &Snapshot, read: &Option<Commit>, gate: u64) -> Result<Snapshot, OpenError>
+fn replay_one<R: Threads>(
+    rt: &R,
+    workers: u32,
+    snapshot: &Snapshot,
+    read: &Option<Commit>,
+    gate: u64,
+) -> Result<Snapshot, OpenError>
     ensures ok { IfOk result (IsAfterRead snapshot.now read.now) }
     ensures bad { IfErr result (IsRefusedRead snapshot.now read.now) }
     ensures file { IfErr result IsOfHead }
     ensures gate { IfErr result (IsToldAt gate) }
 {
     match read {
-        Some(commit) => apply_read(snapshot, commit, gate),
+        Some(commit) => apply_read(rt, workers, snapshot, commit, gate),
         None => Err(OpenError::BadIndex {
             file: FileNo::Head,
             at: gate,
@@ -56,7 +66,13 @@ fn replay_one(snapshot: &Snapshot, read: &Option<Commit>, gate: u64) -> Result<S
 }
 
 /// The snapshot after a commit, where it fits and passes no limit.
-fn apply_read(snapshot: &Snapshot, commit: &Commit, gate: u64) -> Result<Snapshot, OpenError>
+fn apply_read<R: Threads>(
+    rt: &R,
+    workers: u32,
+    snapshot: &Snapshot,
+    commit: &Commit,
+    gate: u64,
+) -> Result<Snapshot, OpenError>
     ensures ok { IfOk result (λ new. Fits snapshot.now.files commit.now × (new ≡ committed snapshot.now commit.now) × (limit_passed (committed snapshot.now commit.now) ≡ None)) }
     ensures bad { IfErr result (IsRefusedCommit snapshot.now commit.now) }
     ensures file { IfErr result IsOfHead }
@@ -68,7 +84,7 @@ fn apply_read(snapshot: &Snapshot, commit: &Commit, gate: u64) -> Result<Snapsho
             at: gate,
         });
     }
-    match snapshot.apply_within_limits(commit) {
+    match next_snapshot(rt, workers, snapshot, commit) {
         Ok(next) => Ok(next),
         Err(RoomError::Limit(limit)) => Err(OpenError::Limit(limit)),
         Err(RoomError::NoMemory) => Err(OpenError::NoMemory),

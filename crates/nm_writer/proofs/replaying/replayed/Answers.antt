@@ -4,16 +4,16 @@ use Rattle.nm_writer.proofs.ReplayLemmas.{all-read, gate-turn, read-fault, read-
 use Rattle.nm_writer.proofs.replaying.replayed.Goals as goal
 
 pub bounds-read-at : goal.bounds-read-at
-bounds-read-at c = omega (arith, c.bodies-test.true, c.bodies.invariant.end, all-read c.args.bodies.now c.args.read.now c.requires)
+bounds-read-at g c = omega (arith, c.bodies-test.true, c.bodies.invariant.end, all-read c.args.bodies.now c.args.read.now c.requires)
 
 pub returns-in_err-snapshot-clause-bad : goal.returns-in_err-snapshot-clause-bad
-returns-in_err-snapshot-clause-bad c =
+returns-in_err-snapshot-clause-bad g c =
     let p = err_from_is_err_and c.from_residual.result c.from_residual.ensures.1 in
     rw (p.1, p.2) (read-fault c.args.bodies.now c.args.read.now c.bodies.at c.index-read-at.result c.bodies.snapshot c.bodies.gate c.in_err-snapshot.field-0.0
     c.requires c.bodies-test.true c.index-read-at.is c.bodies.invariant.replayed c.bodies.invariant.gate c.in_err-snapshot.ensures.bad c.in_err-snapshot.ensures.gate)
 
 pub bodies-preserved : goal.bodies-preserved
-bodies-preserved c = record {
+bodies-preserved g c = record {
   replayed = read-turn c.args.bodies.now c.args.read.now c.bodies.at c.index-read-at.result c.bodies.snapshot c.in_ok-snapshot.snapshot
       c.requires c.bodies-test.true c.index-read-at.is c.bodies.invariant.replayed c.in_ok-snapshot.ensures.ok;
   gate = gate-turn c.args.bodies.now c.bodies.at c.index-bodies-at.result c.bodies.gate c.saturating_add.result c.saturating_add-gate.result c.len.result c.bodies-test.true c.index-bodies-at.is c.bodies.invariant.gate

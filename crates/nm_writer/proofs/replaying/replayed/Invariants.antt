@@ -6,7 +6,7 @@ use Rattle.nm_writer.proofs.replaying.replayed.Given as goal
 
 -- the bodies so far are commits, and the next gate is the end of their records
 abbrev pub invariant-bodies : goal.invariant-bodies
-invariant-bodies l = record {
+invariant-bodies g l = record {
   replayed : Replayed (take l.at l.bodies) l.snapshot;
   gate : l.gate ≡ min (length (records_of (take l.at l.bodies))) max_count;
   within : l.at ≤ l.at-end;

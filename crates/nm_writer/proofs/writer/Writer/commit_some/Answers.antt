@@ -22,8 +22,8 @@ with_names-requires g c = record {
 pub returns-clause-after : goal.returns-clause-after
 returns-clause-after g c =
     let disk = g.D.Disk.observed c.commit.new.disk in
-    let named : c.in_ok-changes.changes ≡ with_names c.args.self.now.shown c.args.changes c.args.ids.now =
-    c.in_ok-changes.ensures ∙ (ap (λ (b : Base). with_names b c.args.changes c.as_slice.result.now) c.snapshot.ensures ∙ ap (with_names c.args.self.now.shown c.args.changes) c.as_slice.ensures) in
+    let named : c.in_ok-named.named.commit.changes ≡ with_names c.args.self.now.shown c.args.changes c.args.ids.now =
+    c.in_ok-named.ensures.commit ∙ (ap (λ (b : Base). with_names b c.args.changes c.as_slice.result.now) c.snapshot.ensures ∙ ap (with_names c.args.self.now.shown c.args.changes) c.as_slice.ensures) in
     subst (λ (l : List Commit). IsAfterCommits c.args.self.now l disk.faults c.commit.result c.commit.new.self)
-    (commit-is c.args.self.now.shown c.args.changes c.in_ok-changes.changes c.args.ids.now (eqb-false _ _ (sym c.is_empty.ensures ∙ c.if-is_empty.false)) named)
+    (commit-is c.args.self.now.shown c.args.changes c.in_ok-named.named.commit.changes c.args.ids.now (eqb-false _ _ (sym c.is_empty.ensures ∙ c.if-is_empty.false)) named)
     (one-made c.args.self.now c.commit.new.self _ disk.clock disk.faults c.commit.result c.commit.ensures.after)

@@ -1,12 +1,12 @@
 use Rattle.std.proofs.Common.{rules, ◌≡◌}
 use Rattle.nm_journal.specs.Frame.{framed}
 use Rattle.nm_record.specs.CommitGrammar.{commit_grammar}
-use Rattle.nm_writer.proofs.committing.framed.Goals as goal
+use Rattle.nm_writer.proofs.spelling.framed_alone.Goals as goal
 
 pub of_bytes-requires : goal.of_bytes-requires
 of_bytes-requires c =
     let is : c.finish.result ≡ framed (commit_grammar.bytes c.args.commit.now) = search rules in
-    (commit_grammar.bytes c.args.commit.now, is, c.requires)
+    (commit_grammar.bytes c.args.commit.now, is, search rules)
 
 pub returns : goal.returns
 returns c =

@@ -1,8 +1,0 @@
-use Rattle.std.proofs.Common.{◌≡◌, ◌++◌, take}
-use Rattle.std.specs.List.{flat_map}
-use Rattle.nm_answer.specs.View.{tags_of}
-use Rattle.nm_plan.specs.NameTags.{named_tags, set_tags}
-use Rattle.nm_writer.proofs.naming.add_all_tags.Given as goal
-
-abbrev pub invariant-ids : goal.invariant-ids
-invariant-ids l = l.changes ≡ l.initial.changes ++ flat_map (λ id. set_tags id (tags_of l.after id) (named_tags l.after id)) (take l.id-index l.ids)
