@@ -12,6 +12,7 @@ ghost use Rattle.nm_index.specs.Index.{rows_of};
 ghost use Rattle.nm_threads.specs.Name.{thread_name};
 
 use crate::matching::found;
+use crate::trail::Trail;
 use itoa::Buffer;
 use nm_base::{CountAsk, Many, MessageId, NoMemory, Output};
 use nm_query::Query;
@@ -88,23 +89,27 @@ fn count_threads(alloc: Global, snapshot: &Snapshot, ids: &[MessageId]) -> Resul
     ensures { IfOk result (λ number. number ≡ length (thread_names snapshot.now ids.now)) }
 {
     let mut names = BTreeSet::new(alloc);
+    let mut trail = Trail::new();
     'ids: for id in ids {
-        add_thread(&mut names, snapshot, id)?;
+        trail = add_thread(&mut names, snapshot, id, trail)?;
     }
     Ok(names.len() as u64)
 }
 
+/// The thread of a message, and the walk with it.
 fn add_thread(
     names: &mut BTreeSet<u64>,
     snapshot: &Snapshot,
     id: &MessageId,
-) -> Result<(), NoMemory>
+    trail: Trail,
+) -> Result<Trail, NoMemory>
     ensures { OnOk result (names.new.keys ≡ fold (insert_key nat_cmp) names.old.keys (filter_map (thread_name (rows_of snapshot.now) snapshot.now.entries) (id.now ∷ []))) }
 {
-    if let Some(name) = snapshot.thread(id) {
+    let (behind, thread) = snapshot.thread_near(id, trail.guess());
+    if let Some(name) = thread {
         names.insert(name)?;
     }
-    Ok(())
+    Ok(trail.with(behind))
 }
 
 /// How many files the messages have. Those of the first one are looked for at `near` first.

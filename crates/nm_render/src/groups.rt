@@ -1,10 +1,10 @@
 //! The messages of the threads that are printed, for `summary` and `summary_json`.
 
 ghost use Rattle.std.specs.Prelude.{◌≡◌, ◌==◌, ◌++◌, ℕ, [], ◌∷◌, Some, true, nat_eq, if◌then◌else◌, IfOk, OnOk};
-ghost use Rattle.std.specs.List.{filter, list_any};
+ghost use Rattle.std.specs.List.{list_any};
 ghost use Rattle.nm_answer.specs.Summary.{in_thread};
 ghost use Rattle.nm_answer.specs.Test.{is_thread};
-ghost use Rattle.nm_render.specs.Groups.{is_in_threads, is_one_of, listed};
+ghost use Rattle.nm_render.specs.Groups.{listed};
 
 use crate::lists::set_of;
 use crate::trail::Trail;
@@ -25,77 +25,31 @@ pub(crate) fn groups_of(
 ) -> Result<Groups, NoMemory>
     ensures { IfOk result (λ groups. (name : ℕ) → list_any (nat_eq name) names.now ≡ true → listed groups name ≡ in_thread snapshot.now name ids.now) }
 {
-    let printed = printed_ids(alloc, snapshot, names, ids)?;
-    let groups = by_thread(alloc, snapshot, printed.as_slice())?;
-    Ok(groups)
-}
-
-/// Those of the messages that are of these threads, in their order.
-fn printed_ids(
-    alloc: Global,
-    snapshot: &Snapshot,
-    names: &[u64],
-    ids: &[MessageId],
-) -> Result<Many<MessageId>, NoMemory>
-    ensures { IfOk result (λ printed. printed ≡ filter (is_in_threads snapshot.now names.now) ids.now) }
-{
     let set = set_of(alloc, names)?;
-    let printed = ids_in(alloc, snapshot, &set, ids)?;
-    Ok(printed)
-}
-
-fn ids_in(
-    alloc: Global,
-    snapshot: &Snapshot,
-    names: &TextSet<u64>,
-    ids: &[MessageId],
-) -> Result<Many<MessageId>, NoMemory>
-    ensures { IfOk result (λ printed. printed ≡ filter (is_in_threads snapshot.now names.now) ids.now) }
-{
-    let mut printed = Many::new(alloc);
-    let mut trail = Trail::new();
-    'ids: for id in ids {
-        let (behind, thread) = snapshot.thread_near(id, trail.guess());
-        trail = trail.with(behind);
-        if is_one_of(names, thread) {
-            printed.push(id.copy()?)?;
-        }
-    }
-    Ok(printed)
-}
-
-fn is_one_of(names: &TextSet<u64>, thread: Option<u64>) -> bool
-    ensures { result ≡ is_one_of names.now thread }
-{
-    match thread {
-        Some(name) => names.contains(&name),
-        None => false,
-    }
-}
-
-/// The messages by their threads, those of each in their order.
-fn by_thread(alloc: Global, snapshot: &Snapshot, ids: &[MessageId]) -> Result<Groups, NoMemory>
-    ensures { IfOk result (λ groups. (name : ℕ) → listed groups name ≡ in_thread snapshot.now name ids.now) }
-{
     let mut groups = BTreeMap::new(alloc);
     let mut trail = Trail::new();
     'ids: for id in ids {
         let (behind, thread) = snapshot.thread_near(id, trail.guess());
         trail = trail.with(behind);
-        add_message(alloc, &mut groups, thread, id)?;
+        add_message(alloc, &mut groups, &set, thread, id)?;
     }
     Ok(groups)
 }
 
+/// Adds a message where its thread is one of these.
 fn add_message(
     alloc: Global,
     groups: &mut Groups,
+    names: &TextSet<u64>,
     thread: Option<u64>,
     id: &MessageId,
 ) -> Result<(), NoMemory>
-    ensures { OnOk result ((name : ℕ) → listed groups.new name ≡ listed groups.old name ++ (if is_thread (Some name) thread then id.now ∷ [] else [])) }
+    ensures { OnOk result ((name : ℕ) → list_any (nat_eq name) names.now ≡ true → listed groups.new name ≡ listed groups.old name ++ (if is_thread (Some name) thread then id.now ∷ [] else [])) }
 {
-    if let Some(thread) = thread {
+    let Some(thread) = thread else {
+        return Ok(());
+    };
+    if names.contains(&thread) {
         add_under(alloc, groups, thread, id)?;
     }
     Ok(())

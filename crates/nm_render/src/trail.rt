@@ -1,4 +1,4 @@
-//! Where the next message of a walk is looked for first: `groups` and `lists` go along messages by their dates, which mostly rise
+//! Where the next message of a walk is looked for first: `count`, `groups` and `lists` go along messages by their dates, which mostly rise
 //! or fall as the messages came.
 
 /// The places behind the last message that was found, and behind the one before it. Whatever is guessed, the same is found.
