@@ -1,7 +1,8 @@
 //! A job over many inputs, by several workers, as `nm_scan` and `nm_writer` have it done.
 
-ghost use Rattle.std.specs.Prelude.{◌<◌, ◌≤◌, IfOk, All};
-ghost use Rattle.std.specs.List.{AllZip};
+ghost use Rattle.std.specs.Prelude.{◌<◌, ◌≤◌, IfOk};
+ghost use Rattle.std.specs.List.{All, AllZip};
+ghost use Rattle.std.specs.Thread.{IsSend, IsSync};
 ghost use Rattle.nm_workers.specs.Results.{AreGiven};
 
 use crate::results::gather;
@@ -11,8 +12,14 @@ use nm_base::{Many, NoMemory};
 use std::alloc::Global;
 use std::sync::Wait;
 use std::sync::atomic::AtomicUsize;
-use std::thread;
-use std::thread::Threads;
+use std::thread::{Threads, join};
+
+/// The seats of the workers that are still to be started.
+#[derive(Clone, Copy)]
+struct Seats {
+    next: u32,
+    last: u32,
+}
 
 /// Runs the job over the inputs with 1 to 16 workers, which pass the gate as seats 1, 2 and so on.
 /// The results stand in the order of the inputs. Where no thread can be started, the caller does the work.
@@ -31,29 +38,56 @@ where
     ensures { IfOk result (λ results. AllZip (J.gives job.now) inputs.now results) }
 {
     let inputs = inputs.as_slice();
-    let lists = run_workers(rt, alloc, job, inputs, workers, gate)?;
+    let taken = AtomicUsize::new(0);
+    let seats = Seats {
+        next: 1,
+        last: workers,
+    };
+    let lists = run_workers(rt, alloc, job, inputs, &taken, gate, seats)?;
     gather(alloc, job, inputs, lists)
 }
 
-/// What each worker did, in the order of their seats.
+/// What each worker did. The threads are started one after the other, from the caller's; the last seat is the caller's own. Were each
+/// to start others, the system might give two that start at the same moment one processor, while another has nothing to do.
 fn run_workers<R: Threads + Wait + Sync, J: Job + Sync, G: Gate + Sync>(
     rt: &R,
     alloc: Global,
     job: &J,
     inputs: &[J::In],
-    workers: u32,
+    taken: &AtomicUsize,
     gate: &G,
+    seats: Seats,
 ) -> Result<Vec<Result<Vec<Placed<J::Out>>, NoMemory>>, NoMemory>
 where
     J::In: Sync,
     J::Out: Send,
-    requires { workers ≤ 16 }
+    requires first { 0 < seats.next }
+    requires order { seats.next ≤ seats.last }
+    requires last { seats.last ≤ 16 }
     ensures { IfOk result (λ lists. All (λ list. IfOk list (λ done. AreGiven (J.gives job.now) inputs.now done.items)) lists.items) }
 {
-    let taken = AtomicUsize::new(0);
-    let worker = |number: usize| -> Result<Vec<Placed<J::Out>>, NoMemory>
-        requires { number < 16 }
-        ensures { IfOk result (λ done. AreGiven (J.gives job.entry.now) inputs.entry.now done.items) }
-    { work(rt, alloc, job, inputs, &taken, gate, number as u32 + 1) };
-    Ok(thread::map_indices(rt, alloc, workers as usize, &worker)?)
+    let Seats { next, last } = seats;
+    if next >= last {
+        let mut lists = Vec::new(alloc);
+        lists.push(work(rt, alloc, job, inputs, taken, gate, last))?;
+        return Ok(lists);
+    }
+    let further = Seats {
+        next: next + 1,
+        last,
+    };
+    let (done, rest) = join(
+        rt,
+        || -> Result<Vec<Placed<J::Out>>, NoMemory>
+            requires { (0 < next) × (next ≤ 16) }
+            ensures { IfOk result (λ done. AreGiven (J.gives job.entry.now) inputs.entry.now done.items) }
+        { work(rt, alloc, job, inputs, taken, gate, next) },
+        || -> Result<Vec<Result<Vec<Placed<J::Out>>, NoMemory>>, NoMemory>
+            requires { IsSync R.row × IsSync J.row × IsSync G.row × IsSync J.In.row × IsSend J.Out.row × (0 < further.next) × (further.next ≤ further.last) × (further.last ≤ 16) }
+            ensures { IfOk result (λ lists. All (λ list. IfOk list (λ done. AreGiven (J.gives job.entry.now) inputs.entry.now done.items)) lists.items) }
+        { run_workers(rt, alloc, job, inputs, taken, gate, further) },
+    );
+    let mut lists = rest?;
+    lists.push(done)?;
+    Ok(lists)
 }
