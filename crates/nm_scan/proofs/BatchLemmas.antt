@@ -1,5 +1,5 @@
 -- A batch goes on path by path, until it is full, or no path is left, or the reading stops; then what was found is noted.
--- For the proofs of `read_batch`, `read_files` and `read_next`.
+-- For the proofs of `read_batch`, `classify_batch`, `read_part` and `read_next`.
 use Rattle.std.proofs.Common.{◌≡◌, ◌⊎◌, inl, inr, ℕ, ◌+◌, ◌-◌, ◌<◌, ◌≤◌, List, [], ◌∷◌, ◌++◌, Option, None, Some, IfOk, IfSome, Result, Ok, Err, length, take, drop, refl, sym, ap, ◌∙◌, subst, append_assoc, length-append, take-append-drop, zero, suc, arith}
 use Rattle.std.specs.Prelude.{OnErr}
 use Rattle.std.proofs.Math.Seq.{take-append-add, take-append_seam, take-length}
@@ -14,7 +14,8 @@ use Rattle.nm_maildir.specs.declared.given.Given.{Given}
 use Rattle.nm_scan.proofs.LawLemmas.{len-front}
 use Rattle.nm_scan.proofs.ReadLemmas.{AllByRecursion-append, read_with-more, read_with-none, same_mail}
 use Rattle.nm_scan.specs.Batches.{HasReadBatch, IsBatch, IsOpen, StopsInBatch, len_at, len_at_all}
-use Rattle.nm_scan.specs.Found.{AreTold, HasFound, HasFoundBatch, HasNotedAll, HasNotedSome, StopsFinding, paths_found}
+use Rattle.nm_scan.specs.Found.{AreTold, HasFound, HasFoundBatch, HasNotedAll, HasNotedSome, InBatch, IsBegun, IsClosed, StopsFinding, lacks_all, paths_found}
+use Rattle.nm_scan.specs.declared.files.Lacks.{Lacks}
 use Rattle.nm_scan.specs.Reading.{AsksOnce, NotesReads, after_reads, full_answers, read_with}
 
 abbrev Found : Type 0
@@ -26,10 +27,10 @@ pub one_found : (old new : ObservedMail) (path : List ℕ) (got : Got) → IfSom
     → HasFound old new ((path, got) ∷ [])
 one_found old new path got told tree reads faults = record { told = (told, tt); mail = same_mail new (after_reads old (path ∷ [])) tree reads faults }
 
-none_found : (mail : ObservedMail) → HasFound mail mail []
+pub none_found : (mail : ObservedMail) → HasFound mail mail []
 none_found mail = record { told = tt; mail = same_mail mail (after_reads mail []) refl (read_with-none mail.reads) refl }
 
-paths-more : (xs ys : Found) → paths_found (xs ++ ys) ≡ paths_found xs ++ paths_found ys
+pub paths-more : (xs ys : Found) → paths_found (xs ++ ys) ≡ paths_found xs ++ paths_found ys
 paths-more xs ys = map-append (λ (one : List ℕ × Got). one.0) xs ys
 
 more_found : (m0 m1 m2 : ObservedMail) (xs ys : Found) → HasFound m0 m1 xs → HasFound m1 m2 ys → HasFound m0 m2 (xs ++ ys)
@@ -41,18 +42,6 @@ more_found m0 m1 m2 xs ys h k =
           ∙ (ap (λ (r : Option (List (List ℕ))). record { tree = m0.tree; reads = r; faults = m0.faults }) (read_with-more m0.reads (paths_found xs) (paths_found ys))
           ∙ ap (after_reads m0) (sym (paths-more xs ys))));
     }
-
--- the batch has no path yet and lacks all bytes, or it was open before the last of its paths
-abbrev IsBegun : Option Tree → List (List ℕ) → ℕ → Type 0
-IsBegun tree read bytes = ((read ≡ []) × (bytes ≡ full_bytes)) ⊎ ((before : List (List ℕ)) × (last : List ℕ) × (read ≡ before ++ last ∷ []) × IsOpen tree before)
-
--- A batch goes on: the first of the paths were read, and so many answers and bytes lack until it is full.
-pub record InBatch (old now : ObservedMail) (paths rest : List (List ℕ)) (found : List (List ℕ × Got)) (answers bytes : ℕ) : Type 0 where
-  pub paths_are : paths ≡ paths_found found ++ rest
-  pub all : HasFound old now found
-  pub answers_left : answers + length found ≡ full_answers
-  pub bytes_left : IfSome old.tree (λ t. bytes ≡ full_bytes - len_at_all t (paths_found found))
-  pub begun : IsBegun old.tree (paths_found found) bytes
 
 -- of at most one path
 take-once : (n : ℕ) (x : List ℕ) (xs : List (List ℕ)) → n ≤ 1 → take n (x ∷ xs) ≡ take n (x ∷ [])
@@ -83,79 +72,77 @@ large-by None read bytes none left = tt
 large-by (Some t) read bytes none left = omega (arith, none, left)
 
 -- it begins
-pub in_batch : (mail : ObservedMail) (paths : List (List ℕ)) (found : Found) (answers bytes : ℕ) → found ≡ [] → answers ≡ full_answers → bytes ≡ full_bytes → InBatch mail mail paths paths found answers bytes
-in_batch mail paths found answers bytes none many all =
-    subst (λ (l : Found). InBatch mail mail paths paths l answers bytes) (sym none)
-    (record { paths_are = refl; all = none_found mail; answers_left = omega (arith, many); bytes_left = all_bytes mail.tree bytes all; begun = inl (refl, all) })
+pub in_batch : (mail : ObservedMail) (paths : List (List ℕ)) → InBatch mail mail paths paths [] lacks_all
+in_batch mail paths = record { paths_are = refl; all = none_found mail; answers_left = refl; bytes_left = all_bytes mail.tree full_bytes refl; begun = inl (refl, refl) }
 
-long_found : (found : Found) → length (paths_found found) ≡ length found
+pub long_found : (found : Found) → length (paths_found found) ≡ length found
 long_found found = length-map found (λ (one : List ℕ × Got). one.0)
 
-module _ (m0 m1 : ObservedMail) (paths rest : List (List ℕ)) (found : Found) (answers bytes : ℕ) (h : InBatch m0 m1 paths rest found answers bytes) where
+module _ (m0 m1 : ObservedMail) (paths rest : List (List ℕ)) (found : Found) (lacks : Lacks) (h : InBatch m0 m1 paths rest found lacks) where
   same_tree : m1.tree ≡ m0.tree
   same_tree = ap (λ (m : ObservedMail). m.tree) h.all.mail
 
   long : length (paths_found found) ≡ length found
   long = long_found found
 
-  open-by : 0 < answers → 0 < bytes → IsOpen m0.tree (paths_found found)
-  open-by few small = record { few = omega (arith, few, h.answers_left, long); small = small-by m0.tree (paths_found found) bytes small h.bytes_left }
+  open-by : 0 < lacks.answers → 0 < lacks.bytes → IsOpen m0.tree (paths_found found)
+  open-by few small = record { few = omega (arith, few, h.answers_left, long); small = small-by m0.tree (paths_found found) lacks.bytes small h.bytes_left }
 
   -- it goes on by a path
-  pub next_in_batch : (m2 : ObservedMail) (path : List ℕ) (left : List (List ℕ)) (after : Found) (len answers_after bytes_after : ℕ) → rest ≡ path ∷ left → 0 < answers → 0 < bytes
-      → answers_after ≡ answers - 1 → bytes_after ≡ bytes - len → ((got : Got) × (after ≡ found ++ (path, got) ∷ []) × HasFound m1 m2 ((path, got) ∷ [])) → IfSome m1.tree (λ t. len ≡ len_at t path)
-      → InBatch m0 m2 paths left after answers_after bytes_after
-  next_in_batch m2 path left after len answers_after bytes_after next few small fewer less one told =
+  pub next_in_batch : (m2 : ObservedMail) (path : List ℕ) (left : List (List ℕ)) (after : Found) (len : ℕ) (less : Lacks) → rest ≡ path ∷ left → 0 < lacks.answers → 0 < lacks.bytes
+      → less.answers ≡ lacks.answers - 1 → less.bytes ≡ lacks.bytes - len → ((got : Got) × (after ≡ found ++ (path, got) ∷ []) × HasFound m1 m2 ((path, got) ∷ [])) → IfSome m1.tree (λ t. len ≡ len_at t path)
+      → InBatch m0 m2 paths left after less
+  next_in_batch m2 path left after len less next few small fewer smaller one told =
       let paths_after : paths_found (found ++ (path, one.0) ∷ []) ≡ paths_found found ++ path ∷ [] = paths-more found ((path, one.0) ∷ []) in
-      subst (λ (l : Found). InBatch m0 m2 paths left l answers_after bytes_after) (sym one.1) (record {
+      subst (λ (l : Found). InBatch m0 m2 paths left l less) (sym one.1) (record {
         paths_are = h.paths_are ∙ (ap (λ (l : List (List ℕ)). paths_found found ++ l) next ∙ (sym (append_assoc (paths_found found) (path ∷ []) left)
             ∙ ap (λ (l : List (List ℕ)). l ++ left) (sym paths_after)));
         all = more_found m0 m1 m2 found ((path, one.0) ∷ []) h.all one.2;
         answers_left = omega (arith, h.answers_left, few, fewer, length-append found ((path, one.0) ∷ []));
-        bytes_left = subst (λ (l : List (List ℕ)). IfSome m0.tree (λ t. bytes_after ≡ full_bytes - len_at_all t l)) (sym paths_after)
-            (fewer_bytes m0.tree (paths_found found) path bytes len bytes_after less h.bytes_left (subst (λ (t : Option Tree). IfSome t (λ t. len ≡ len_at t path)) same_tree told));
+        bytes_left = subst (λ (l : List (List ℕ)). IfSome m0.tree (λ t. less.bytes ≡ full_bytes - len_at_all t l)) (sym paths_after)
+            (fewer_bytes m0.tree (paths_found found) path lacks.bytes len less.bytes smaller h.bytes_left (subst (λ (t : Option Tree). IfSome t (λ t. len ≡ len_at t path)) same_tree told));
         begun = inr (paths_found found, path, paths_after, open-by few small);
       })
 
   -- it is closed
-  closed-by : (rest ≡ []) ⊎ ((answers ≡ 0) ⊎ (bytes ≡ 0)) → (rest ≡ []) ⊎ ((full_answers ≤ length (paths_found found)) ⊎ IfSome m0.tree (λ t. full_bytes ≤ len_at_all t (paths_found found)))
+  closed-by : IsClosed rest lacks → (rest ≡ []) ⊎ ((full_answers ≤ length (paths_found found)) ⊎ IfSome m0.tree (λ t. full_bytes ≤ len_at_all t (paths_found found)))
   closed-by (inl none) = inl none
   closed-by (inr (inl full)) = inr (inl (omega (arith, full, h.answers_left, long)))
-  closed-by (inr (inr full)) = inr (inr (large-by m0.tree (paths_found found) bytes full h.bytes_left))
+  closed-by (inr (inr full)) = inr (inr (large-by m0.tree (paths_found found) lacks.bytes full h.bytes_left))
 
-  never-empty : paths_found found ≡ [] → bytes ≡ full_bytes → 0 < length paths → (rest ≡ []) ⊎ ((answers ≡ 0) ⊎ (bytes ≡ 0)) → ⊥
+  never-empty : paths_found found ≡ [] → lacks.bytes ≡ full_bytes → 0 < length paths → IsClosed rest lacks → ⊥
   never-empty none all some (inl no_rest) =
       let lengths : length paths ≡ length (paths_found found) + length rest = ap length h.paths_are ∙ length-append (paths_found found) rest in
       omega (arith, some, lengths, ap length none, ap length no_rest)
   never-empty none all some (inr (inl full)) = omega (arith, full, h.answers_left, ap length none, long)
   never-empty none all some (inr (inr full)) = omega (arith, full, all)
 
-  batch-by : IsBegun m0.tree (paths_found found) bytes → 0 < length paths → (rest ≡ []) ⊎ ((answers ≡ 0) ⊎ (bytes ≡ 0)) → IsBatch m0.tree (paths_found found) rest
+  batch-by : IsBegun m0.tree (paths_found found) lacks.bytes → 0 < length paths → IsClosed rest lacks → IsBatch m0.tree (paths_found found) rest
   batch-by (inl (none, all)) some why = absurd (never-empty none all some why)
   batch-by (inr (before, last, is, was)) some why = record { before = before; last = last; read_are = is; was_open = was; closed = closed-by why }
 
-  pub closed_batch : (left : List (List ℕ)) → 0 < length paths → left ≡ rest → (rest ≡ []) ⊎ ((answers ≡ 0) ⊎ (bytes ≡ 0)) → HasFoundBatch m0 m1 paths left found
-  closed_batch left some same why = subst (λ (l : List (List ℕ)). HasFoundBatch m0 m1 paths l found) (sym same) (record { paths_are = h.paths_are; batch = batch-by h.begun some why; all = h.all })
+  pub closed_batch : 0 < length paths → IsClosed rest lacks → HasFoundBatch m0 m1 paths rest found
+  closed_batch some why = record { paths_are = h.paths_are; batch = batch-by h.begun some why; all = h.all }
 
   -- the reading stops at a path
-  pub stops_finding : (m2 : ObservedMail) (after : Found) (path : List ℕ) (left : List (List ℕ)) → rest ≡ path ∷ left → 0 < answers → 0 < bytes → AsksOnce m1 m2 path → after ≡ found → StopsFinding m0 m2 paths after
-  stops_finding m2 after path left next few small asks same =
+  pub stops_finding : (m2 : ObservedMail) (path : List ℕ) (left : List (List ℕ)) → rest ≡ path ∷ left → 0 < lacks.answers → 0 < lacks.bytes → AsksOnce m1 m2 path → StopsFinding m0 m2 paths found
+  stops_finding m2 path left next few small asks =
       let read : List (List ℕ) = paths_found found in
       let paths_are : paths ≡ read ++ path ∷ left = h.paths_are ∙ ap (λ (l : List (List ℕ)). read ++ l) next in
       let front : read ≡ take (length read) paths = sym (take-append_seam read (path ∷ left)) ∙ sym (ap (take (length read)) paths_are) in
       let once : take asks.asked (path ∷ left) ≡ take asks.asked (path ∷ []) = take-once asks.asked path left asks.once in
       let asked : read ++ take asks.asked (path ∷ []) ≡ take (length read + asks.asked) paths =
       ap (λ (l : List (List ℕ)). read ++ l) (sym once) ∙ (sym (take-append-add read (path ∷ left) asks.asked) ∙ sym (ap (take (length read + asks.asked)) paths_are)) in
-      subst (λ (l : Found). StopsFinding m0 m2 paths l) (sym same) (record {
+      record {
         asked = length read + asks.asked;
         within = omega (arith, asks.once, ap length paths_are ∙ length-append read (path ∷ left));
-        last = (omega (arith, long), omega (arith, long, asks.once));
+        last = (omega (arith, long), omega (arith, long, asks.once, few, h.answers_left));
         front = front ∙ ap (λ (n : ℕ). take n paths) long;
         told = h.all.told;
         read = asks.read ∙ (ap (λ (m : ObservedMail). read_with m.reads (take asks.asked (path ∷ []))) h.all.mail ∙ (read_with-more m0.reads read (take asks.asked (path ∷ [])) ∙ ap (read_with m0.reads) asked));
         tree = asks.tree ∙ same_tree;
         is_open = open-by few small;
-      })
+      }
 
 -- what was found is noted
 
@@ -163,10 +150,10 @@ small_front : (tree : Option Tree) (xs ys : List (List ℕ)) → IfSome tree (λ
 small_front None xs ys small = tt
 small_front (Some t) xs ys small = omega (arith, small, len-front t xs ys)
 
-open_front : (tree : Option Tree) (xs ys : List (List ℕ)) → IsOpen tree (xs ++ ys) → IsOpen tree xs
+pub open_front : (tree : Option Tree) (xs ys : List (List ℕ)) → IsOpen tree (xs ++ ys) → IsOpen tree xs
 open_front tree xs ys h = record { few = omega (arith, h.few, length-append xs ys); small = small_front tree xs ys h.small }
 
-open_take : (tree : Option Tree) (xs : List (List ℕ)) (n : ℕ) → IsOpen tree xs → IsOpen tree (take n xs)
+pub open_take : (tree : Option Tree) (xs : List (List ℕ)) (n : ℕ) → IsOpen tree xs → IsOpen tree (take n xs)
 open_take tree xs n h = open_front tree (take n xs) (drop n xs) (subst (IsOpen tree) (sym (take-append-drop n xs)) h)
 
 -- all of a batch
@@ -234,7 +221,7 @@ module _ (m0 m1 : ObservedMail) (n0 n1 : List Given) (paths : List (List ℕ)) (
             answered = answered;
             asked = h.asked;
             within = h.within;
-            last = (omega (arith, few, h.last.0), omega (arith, h.last.1, h.is_open.few, long_found found));
+            last = (omega (arith, few, h.last.0), omega (arith, h.last.1));
             notes = subst (λ (l : List (List ℕ)). NotesReads m0.tree given l) (sym front) notes;
             read = h.read;
           };

@@ -1,4 +1,5 @@
 pub mod BatchLemmas
+pub mod PartLemmas
 pub mod BodyLemmas
 pub mod LawLemmas
 pub mod NoteLemmas

@@ -35,7 +35,7 @@ all_noted tree (one ∷ found) (classified ∷ all) are told =
     Reads-append tree (given_of classified ∷ []) (map given_of all) (one.0 ∷ []) (paths_found found) (mail_found classified) (flat_map mail_found all)
     (one_noted tree one classified are.0 told.0) (all_noted tree found all are.1 told.1)
 
-noted_all : (found : Found) (all : List Classified) (old new : List Given) (added : List (List ℕ × Facts)) → AllZip IsClassified found all → new ≡ old ++ map given_of all → added ≡ flat_map mail_found all
+pub noted_all : (found : Found) (all : List Classified) (old new : List Given) (added : List (List ℕ × Facts)) → AllZip IsClassified found all → new ≡ old ++ map given_of all → added ≡ flat_map mail_found all
     → HasNotedAll found old new added
 noted_all found all old new added are given_is added_is = record {
   given = map given_of all;
@@ -61,7 +61,7 @@ front_noted tree found front rest are told =
     subst (λ (l : List (List ℕ)). NotesReads tree (map given_of front) l) (sym (take-map (λ (one : List ℕ × Got). one.0) (length front) found))
     (all_noted tree (take (length front) found) front (front_zip IsClassified found front rest are) (told_front tree found (length front) told)).notes
 
-noted_some : (found : Found) (all : List Classified) (old new : List Given) → AllZip IsClassified found all → HasNotedFront all old new → HasNotedSome found old new
+pub noted_some : (found : Found) (all : List Classified) (old new : List Given) → AllZip IsClassified found all → HasNotedFront all old new → HasNotedSome found old new
 noted_some found all old new are h =
     let parts : AllZip IsClassified found (h.front ++ h.next ∷ h.rest) = subst (λ (l : List Classified). AllZip IsClassified found l) h.all_are are in
     let long : length (h.front ++ h.next ∷ h.rest) ≡ length found = AllZip-long IsClassified found (h.front ++ h.next ∷ h.rest) parts in

@@ -1,9 +1,9 @@
-//! Which of the files of a batch are mail, which several workers find at once, and what is given of each, for
+//! Which of the files of a batch are mail, which several workers find at once, and what is given of each, for `parts` and
 //! `read_batch`.
 
-ghost use Rattle.std.specs.Prelude.{◌≡◌, ◌<◌, ◌≤◌, ◌∷◌, [], ◌++◌, IfOk, OnErr, OnOk, map};
-ghost use Rattle.std.specs.List.{flat_map};
-ghost use Rattle.nm_scan.specs.Found.{HasNotedAll, HasNotedFront, HasNotedSome, given_of, mail_found};
+ghost use Rattle.std.specs.Prelude.{◌≡◌, ◌<◌, ◌≤◌, ◌∷◌, [], ◌++◌, IfOk, IsOk, OnErr, OnOk, map};
+ghost use Rattle.std.specs.List.{AllZip, flat_map};
+ghost use Rattle.nm_scan.specs.Found.{HasNotedFront, IsClassified, given_of, mail_found};
 ghost use Rattle.nm_scan.specs.Reading.{Classifies};
 
 use crate::Mail;
@@ -49,37 +49,46 @@ impl Job for Classifying {
     }
 }
 
-/// Classifies the files of a batch, and notes what is answered of each once all are classified. Gives those that are mail.
-#[tactic(auto, using(crate::proofs::NoteLemmas::noted_none))]
-pub(crate) fn take_found<R: Threads + Wait + Sync, G: Gate + Sync>(
+/// Classifies the files, by so many workers, who pass the gate.
+pub(crate) fn classify_all<R: Threads + Wait + Sync, G: Gate + Sync>(
     rt: &R,
     alloc: Global,
     workers: u32,
     gate: &G,
-    found: Many<(MailPath, Got)>,
-    given: &mut Many<Given>,
-) -> Result<Many<Mail>, NoMemory>
+    found: &Many<(MailPath, Got)>,
+) -> Result<Vec<Classified>, NoMemory>
     requires workers { (0 < workers) × (workers ≤ 16) }
-    ensures ok { IfOk result (HasNotedAll found given.old given.new) }
-    ensures err { OnErr result (HasNotedSome found given.old given.new) }
+    ensures { IfOk result (λ all. AllZip IsClassified found.now all.items) }
 {
-    let classified = map_jobs(rt, alloc, &Classifying { alloc }, &found, workers, gate)?;
-    // The bytes of the files are let go before anything is made of their facts.
-    drop(found);
-    note_all(alloc, classified, given)
+    let all = map_jobs(rt, alloc, &Classifying { alloc }, found, workers, gate)?;
+    Ok(all.into_vec())
 }
 
-/// Notes what is answered of each file, in order.
-fn note_all(
+/// Takes the classified files of a part behind those before it.
+pub(crate) fn take_part(
+    classified: Result<Vec<Classified>, NoMemory>,
+    all: &mut Vec<Classified>,
+) -> Result<(), NoMemory>
+    ensures ok { OnOk result (IfOk classified (λ more. all.new.items ≡ all.old.items ++ more.items)) }
+    ensures was_ok { OnOk result (IsOk classified) }
+    ensures err { OnErr result (all.new.items ≡ all.old.items) }
+{
+    let mut more = classified?;
+    all.append(&mut more)?;
+    Ok(())
+}
+
+/// Notes what is answered of each file, in order. Gives those that are mail.
+pub(crate) fn note_all(
     alloc: Global,
-    all: Many<Classified>,
+    all: Vec<Classified>,
     given: &mut Many<Given>,
 ) -> Result<Many<Mail>, NoMemory>
-    ensures ok { IfOk result (λ added. (given.new ≡ given.old ++ map given_of all) × (added ≡ flat_map mail_found all)) }
-    ensures err { OnErr result (HasNotedFront all given.old given.new) }
+    ensures ok { IfOk result (λ added. (given.new ≡ given.old ++ map given_of all.items) × (added ≡ flat_map mail_found all.items)) }
+    ensures err { OnErr result (HasNotedFront all.items given.old given.new) }
 {
     let mut added = Many::new(alloc);
-    'all: for classified in all.into_vec() {
+    'all: for classified in all {
         note(classified, given, &mut added)?;
     }
     Ok(added)

@@ -5,7 +5,9 @@
 mod bodies;
 mod bodies_error;
 mod classifying;
+mod files;
 mod laws;
+mod parts;
 mod reading;
 mod scan_error;
 mod walking;

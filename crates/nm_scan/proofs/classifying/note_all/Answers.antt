@@ -7,7 +7,7 @@ use Rattle.nm_scan.proofs.classifying.note_all.Goals as goal
 
 pub all-init : goal.all-init
 all-init c = record {
-  notes = no_notes c.args.all c.into_iter-classified-iterator.result.rest.items c.args.given.now c.new-added.result (search rules) c.new-added.ensures;
+  notes = no_notes c.args.all.items c.into_iter-classified-iterator.result.rest.items c.args.given.now c.new-added.result (search rules) c.new-added.ensures;
   whole = search rules;
 }
 
@@ -16,7 +16,7 @@ all-preserved c =
     let rest = c.next.new.self.rest.items in
     let cut : c.all.classified-iterator.rest.items ≡ c.in-Some.classified ∷ rest = search rules in
     record {
-      notes = next_note c.args.all c.all.classified-iterator.rest.items rest c.in-Some.classified c.args.given.now c.all.given c.note.new.given c.all.added c.note.new.added c.all.invariant.notes cut
+      notes = next_note c.args.all.items c.all.classified-iterator.rest.items rest c.in-Some.classified c.args.given.now c.all.given c.note.new.given c.all.added c.note.new.added c.all.invariant.notes cut
           c.in_ok-note.ensures.ok.0 c.in_ok-note.ensures.ok.1;
       whole = omega (arith, c.all.invariant.whole, c.in-Some.ensures.steps.1, ap (λ (l : List Classified). length l) cut);
     }
@@ -26,9 +26,9 @@ returns-in_err-note-clause-err c =
     let rest = c.next.new.self.rest.items in
     let cut : c.all.classified-iterator.rest.items ≡ c.in-Some.classified ∷ rest = search rules in
     on_err _ c.from_residual.result
-    (note_stops c.args.all c.all.classified-iterator.rest.items rest c.in-Some.classified c.args.given.now c.all.given c.note.new.given c.all.added c.all.invariant.notes cut c.in_err-note.ensures.err)
+    (note_stops c.args.all.items c.all.classified-iterator.rest.items rest c.in-Some.classified c.args.given.now c.all.given c.note.new.given c.all.added c.all.invariant.notes cut c.in_err-note.ensures.err)
 
 pub returns-clause-ok : goal.returns-clause-ok
 returns-clause-ok c =
     let none : c.all.classified-iterator.rest.items ≡ [] = nil_from_length c.all.classified-iterator.rest.items (omega (arith, c.all.invariant.whole, c.in-None.ensures.steps.0)) in
-    all_notes c.args.all c.all.classified-iterator.rest.items c.args.given.now c.all.given c.all.added c.all.invariant.notes none
+    all_notes c.args.all.items c.all.classified-iterator.rest.items c.args.given.now c.all.given c.all.added c.all.invariant.notes none

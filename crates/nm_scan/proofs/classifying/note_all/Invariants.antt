@@ -5,6 +5,6 @@ use Rattle.nm_scan.proofs.classifying.note_all.Given as goal
 -- the first are noted, and the others are left
 abbrev pub invariant-all : goal.invariant-all
 invariant-all l = record {
-  notes : InNotes l.fn.all l.classified-iterator.rest.items l.initial.given l.given l.added;
+  notes : InNotes l.fn.all.items l.classified-iterator.rest.items l.initial.given l.given l.added;
   whole : l.classified-iterator.rest.len ≡ length l.classified-iterator.rest.items;
 }
