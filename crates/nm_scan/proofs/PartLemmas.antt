@@ -1,6 +1,6 @@
 -- A batch is read part by part, and each part is classified; where the reading or memory stops it, the first parts are told.
 -- For the proofs of `read_part`, `classify_batch` and `classify_and_read`.
-use Rattle.std.proofs.Common.{◌≡◌, ◌⊎◌, inl, inr, ℕ, ◌+◌, ◌-◌, ◌<◌, ◌≤◌, List, [], ◌∷◌, ◌++◌, Option, IfErr, IfOk, IfSome, Result, Ok, Err, false, true, Global, Vec, length, take, drop, refl, sym, ap, ◌∙◌, subst, append-nil, append_assoc, length-append, take-append-drop, arith}
+use Rattle.std.proofs.Common.{◌≡◌, ◌⊎◌, inl, inr, ℕ, ◌+◌, ◌-◌, ◌<◌, ◌≤◌, List, [], ◌∷◌, ◌++◌, Option, IfErr, IfOk, IfSome, Result, Ok, Err, false, true, length, take, drop, refl, sym, ap, ◌∙◌, subst, append-nil, append_assoc, length-append, take-append-drop, arith}
 use Rattle.std.specs.Prelude.{IsErr, IsOk, OnOk}
 use Rattle.std.specs.List.{AllZip}
 use Rattle.std.proofs.Math.Seq.{take-append_seam}
@@ -169,9 +169,9 @@ module _ (m0 m1 m2 : ObservedMail) (paths rest left : List (List ℕ)) (lacks le
       subst (λ (l : List Classified). IsUnderWay m0 m2 paths left less next l further) (sym are)
       (record { gone = h.gone ++ found; each = told_more h.gone found all more h.each told; reading = further_read })
 
-  pub part_is_told : (classified : Result (Vec Classified Global) NoMemory) → IfOk classified (λ more. AllZip IsClassified found more.items) → IfOk classified (λ more. after ≡ all ++ more.items) → IsOk classified
+  pub part_is_told : (classified : Result (List Classified) NoMemory) → IfOk classified (AllZip IsClassified found) → IfOk classified (λ more. after ≡ all ++ more) → IsOk classified
       → IsUnderWay m0 m2 paths left less next after further
-  part_is_told (Ok more) told are was_ok = part_told more.items told are
+  part_is_told (Ok more) told are was_ok = part_told more told are
   part_is_told (Err error) told are was_ok = absurd (let no : false ≡ true = was_ok in cc)
 
   stops-by : (further : Read) → after ≡ all → 0 < length found → IsReading m0 m2 paths left ((h.gone ++ found) ++ next) less further → StopsClassifying m0 m2 paths after
@@ -184,9 +184,9 @@ module _ (m0 m1 m2 : ObservedMail) (paths rest left : List (List ℕ)) (lacks le
       subst (λ (l : List Classified). StopsClassifying m0 m2 paths l) (sym same) (record { found = h.gone; stops = stops_sooner m0 m2 paths h.gone (found ++ next) stops; each = h.each })
 
   -- so the measure of the parts goes down
-  pub more_are_told : (classified : Result (Vec Classified Global) NoMemory) → IfOk classified (λ more. AllZip IsClassified found more.items) → IfOk classified (λ more. after ≡ all ++ more.items) → IsOk classified
+  pub more_are_told : (classified : Result (List Classified) NoMemory) → IfOk classified (AllZip IsClassified found) → IfOk classified (λ more. after ≡ all ++ more) → IsOk classified
       → length after ≡ length all + length found
-  more_are_told (Ok more) told are was_ok = omega (arith, ap length are, length-append all more.items, AllZip-long IsClassified found more.items told)
+  more_are_told (Ok more) told are was_ok = omega (arith, ap length are, length-append all more, AllZip-long IsClassified found more told)
   more_are_told (Err error) told are was_ok = absurd (let no : false ≡ true = was_ok in cc)
 
   -- memory stops it

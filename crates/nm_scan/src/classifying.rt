@@ -25,8 +25,8 @@ pub(crate) struct Classified {
 
 /// The job of the workers.
 #[derive(Clone, Copy)]
-struct Classifying {
-    alloc: Global,
+pub(crate) struct Classifying {
+    pub alloc: Global,
 }
 
 impl Job for Classifying {
@@ -56,24 +56,23 @@ pub(crate) fn classify_all<R: Threads + Wait + Sync, G: Gate + Sync>(
     workers: u32,
     gate: &G,
     found: &Many<(MailPath, Got)>,
-) -> Result<Vec<Classified>, NoMemory>
+) -> Result<Many<Classified>, NoMemory>
     requires workers { (0 < workers) × (workers ≤ 16) }
-    ensures { IfOk result (λ all. AllZip IsClassified found.now all.items) }
+    ensures { IfOk result (AllZip IsClassified found.now) }
 {
-    let all = map_jobs(rt, alloc, &Classifying { alloc }, found, workers, gate)?;
-    Ok(all.into_vec())
+    map_jobs(rt, alloc, &Classifying { alloc }, found, workers, gate)
 }
 
 /// Takes the classified files of a part behind those before it.
 pub(crate) fn take_part(
-    classified: Result<Vec<Classified>, NoMemory>,
+    classified: Result<Many<Classified>, NoMemory>,
     all: &mut Vec<Classified>,
 ) -> Result<(), NoMemory>
-    ensures ok { OnOk result (IfOk classified (λ more. all.new.items ≡ all.old.items ++ more.items)) }
+    ensures ok { OnOk result (IfOk classified (λ more. all.new.items ≡ all.old.items ++ more)) }
     ensures was_ok { OnOk result (IsOk classified) }
     ensures err { OnErr result (all.new.items ≡ all.old.items) }
 {
-    let mut more = classified?;
+    let mut more = classified?.into_vec();
     all.append(&mut more)?;
     Ok(())
 }

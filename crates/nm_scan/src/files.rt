@@ -39,10 +39,6 @@ impl Lacks {
         }
     }
 
-    pub(crate) fn is_none(&self) -> bool {
-        self.answers == 0 || self.bytes == 0
-    }
-
     /// An answer with so many bytes has come.
     fn take(&mut self, len: u64)
         ensures answers { self.new.answers ≡ self.old.answers - 1 }

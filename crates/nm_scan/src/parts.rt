@@ -1,4 +1,4 @@
-//! A batch in parts: while the workers find which files of one are mail, the next is read. `read_batch` has it done.
+//! A batch in parts: while workers find which files of one are mail, the caller reads the next. `read_batch` has it done.
 
 ghost use Rattle.std.specs.Prelude.{◌≡◌, ℕ, [], ◌<◌, ◌≤◌, length, IfErr, IfOk, IsErr, Ok, OnOk};
 ghost use Rattle.std.specs.List.{AllZip};
@@ -6,14 +6,14 @@ ghost use Rattle.std.specs.Vec.Iter.{into_iter_items, into_iter_len};
 ghost use Rattle.nm_maildir.specs.Observed.{HasMailCause};
 ghost use Rattle.nm_scan.specs.Found.{HasClassifiedBatch, IsClassified, IsClosed, ReadsOn, StopsClassifying};
 
-use crate::classifying::{Classified, classify_all, take_part};
+use crate::classifying::{Classified, Classifying, classify_all, take_part};
 use crate::files::{Lacks, read_part};
 use nm_base::{MailPath, Many, NoMemory};
 use nm_maildir::{Got, MailError, Maildir};
-use nm_workers::Gate;
+use nm_workers::{Gate, map_jobs_beside};
 use std::alloc::Global;
 use std::sync::Wait;
-use std::thread::{Threads, join_mut};
+use std::thread::Threads;
 use std::vec::IntoIter;
 
 /// The files of the first part, where there are workers beside the reader: so few that they soon have something to do. Each further
@@ -87,7 +87,7 @@ fn next_part(part: usize) -> usize
     if part < MAX_PART { part * 2 } else { part }
 }
 
-/// Finds which of the files are mail, and meanwhile reads the next part, where nothing has stopped the reading before.
+/// Finds which of the files are mail; the caller reads the next part before it helps, where nothing has stopped the reading.
 fn classify_and_read<R: Threads + Wait + Sync, M: Maildir, G: Gate + Sync>(
     rt: &R,
     alloc: Global,
@@ -100,12 +100,12 @@ fn classify_and_read<R: Threads + Wait + Sync, M: Maildir, G: Gate + Sync>(
     most: usize,
     read: Result<(), MailError>,
     next: &mut Many<(MailPath, Got)>,
-) -> (Result<Vec<Classified>, NoMemory>, Result<(), MailError>)
+) -> (Result<Many<Classified>, NoMemory>, Result<(), MailError>)
     requires workers { (0 < workers) × (workers ≤ 16) }
     requires none { next.old ≡ [] }
     requires whole { into_iter_len paths.old ≡ length (into_iter_items paths.old) }
     requires some { 0 < most }
-    ensures classified { IfOk result.0 (λ more. AllZip IsClassified found.now more.items) }
+    ensures classified { IfOk result.0 (λ more. AllZip IsClassified found.now more) }
     ensures reads { ReadsOn (M.observed mail.old) (M.observed mail.new) (into_iter_items paths.old) (into_iter_items paths.new)
         lacks.old lacks.new next.new read result.1 }
     ensures closed { OnOk result.1 (next.new ≡ [] → IsClosed (into_iter_items paths.new) lacks.new) }
@@ -115,16 +115,13 @@ fn classify_and_read<R: Threads + Wait + Sync, M: Maildir, G: Gate + Sync>(
         Ok(()) => {}
         Err(error) => return (classify_all(rt, alloc, workers, gate, found), Err(error)),
     }
-    if workers < 2 || lacks.is_none() || paths.len() == 0 {
-        let classified = classify_all(rt, alloc, workers, gate, found);
-        return (classified, read_part(mail, paths, lacks, most, next));
-    }
-    join_mut(
+    let (read, classified) = map_jobs_beside(
         rt,
-        &mut || -> Result<Vec<Classified>, NoMemory>
-            requires { (0 < workers) × (workers ≤ 16) }
-            ensures { IfOk result (λ more. AllZip IsClassified found.entry.now more.items) }
-        { classify_all(rt, alloc, workers, gate, found) },
+        alloc,
+        &Classifying { alloc },
+        found,
+        workers,
+        gate,
         &mut || -> Result<(), MailError>
             requires whole { into_iter_len paths.now ≡ length (into_iter_items paths.now) }
             requires none { next.now ≡ [] }
@@ -134,5 +131,6 @@ fn classify_and_read<R: Threads + Wait + Sync, M: Maildir, G: Gate + Sync>(
             ensures closed { OnOk result (next.exit.now ≡ [] → IsClosed (into_iter_items paths.exit.now) lacks.exit.now) }
             ensures whole { into_iter_len paths.exit.now ≡ length (into_iter_items paths.exit.now) }
         { read_part(mail, paths, lacks, most, next) },
-    )
+    );
+    (classified, read)
 }

@@ -11,5 +11,5 @@ mod worker;
 
 pub use gate::{Gate, OpenGate};
 pub use job::Job;
-pub use map::map_jobs;
+pub use map::{map_jobs, map_jobs_beside};
 pub use meet_gate::MeetGate;

@@ -12,7 +12,7 @@ use nm_base::{Many, NoMemory};
 use std::alloc::Global;
 use std::sync::Wait;
 use std::sync::atomic::AtomicUsize;
-use std::thread::{Threads, join};
+use std::thread::{Threads, join_mut};
 
 /// The seats of the workers that are still to be started.
 #[derive(Clone, Copy)]
@@ -37,19 +37,49 @@ where
     requires workers { (0 < workers) × (workers ≤ 16) }
     ensures { IfOk result (λ results. AllZip (J.gives job.now) inputs.now results) }
 {
+    map_jobs_beside(rt, alloc, job, inputs, workers, gate, &mut || {}).1
+}
+
+/// The same, and the caller, whose seat is the last one, does something else once before it works: what that returned comes first.
+pub fn map_jobs_beside<
+    R: Threads + Wait + Sync,
+    J: Job + Sync,
+    G: Gate + Sync,
+    F: FnMut() -> T,
+    T: Drop,
+>(
+    rt: &R,
+    alloc: Global,
+    job: &J,
+    inputs: &Many<J::In>,
+    workers: u32,
+    gate: &G,
+    beside: &mut F,
+) -> (T, Result<Many<J::Out>, NoMemory>)
+where
+    J::In: Sync,
+    J::Out: Send,
+    requires workers { (0 < workers) × (workers ≤ 16) }
+    requires beside { F.pre beside.old }
+    ensures beside { F.step beside.old result.0 beside.new }
+    ensures results { IfOk result.1 (λ results. AllZip (J.gives job.now) inputs.now results) }
+{
     let inputs = inputs.as_slice();
     let taken = AtomicUsize::new(0);
     let seats = Seats {
         next: 1,
         last: workers,
     };
-    let lists = run_workers(rt, alloc, job, inputs, &taken, gate, seats)?;
-    gather(alloc, job, inputs, lists)
+    let (told, lists) = run_workers(rt, alloc, job, inputs, &taken, gate, seats, beside);
+    match lists {
+        Ok(lists) => (told, gather(alloc, job, inputs, lists)),
+        Err(NoMemory) => (told, Err(NoMemory)),
+    }
 }
 
 /// What each worker did. The threads are started one after the other, from the caller's; the last seat is the caller's own. Were each
 /// to start others, the system might give two that start at the same moment one processor, while another has nothing to do.
-fn run_workers<R: Threads + Wait + Sync, J: Job + Sync, G: Gate + Sync>(
+fn run_workers<R: Threads + Wait + Sync, J: Job + Sync, G: Gate + Sync, F: FnMut() -> T, T: Drop>(
     rt: &R,
     alloc: Global,
     job: &J,
@@ -57,37 +87,61 @@ fn run_workers<R: Threads + Wait + Sync, J: Job + Sync, G: Gate + Sync>(
     taken: &AtomicUsize,
     gate: &G,
     seats: Seats,
-) -> Result<Vec<Result<Vec<Placed<J::Out>>, NoMemory>>, NoMemory>
+    beside: &mut F,
+) -> (
+    T,
+    Result<Vec<Result<Vec<Placed<J::Out>>, NoMemory>>, NoMemory>,
+)
 where
     J::In: Sync,
     J::Out: Send,
     requires first { 0 < seats.next }
     requires order { seats.next ≤ seats.last }
     requires last { seats.last ≤ 16 }
-    ensures { IfOk result (λ lists. All (λ list. IfOk list (λ done. AreGiven (J.gives job.now) inputs.now done.items)) lists.items) }
+    requires beside { F.pre beside.old }
+    ensures beside { F.step beside.old result.0 beside.new }
+    ensures lists { IfOk result.1 (λ lists. All (λ list. IfOk list (λ done. AreGiven (J.gives job.now) inputs.now done.items)) lists.items) }
 {
     let Seats { next, last } = seats;
     if next >= last {
-        let mut lists = Vec::new(alloc);
-        lists.push(work(rt, alloc, job, inputs, taken, gate, last))?;
-        return Ok(lists);
+        let told = beside();
+        let done = work(rt, alloc, job, inputs, taken, gate, last);
+        return (told, with_list(job, inputs, Ok(Vec::new(alloc)), done));
     }
     let further = Seats {
         next: next + 1,
         last,
     };
-    let (done, rest) = join(
+    let (done, (told, lists)) = join_mut(
         rt,
-        || -> Result<Vec<Placed<J::Out>>, NoMemory>
+        &mut || -> Result<Vec<Placed<J::Out>>, NoMemory>
             requires { (0 < next) × (next ≤ 16) }
             ensures { IfOk result (λ done. AreGiven (J.gives job.entry.now) inputs.entry.now done.items) }
         { work(rt, alloc, job, inputs, taken, gate, next) },
-        || -> Result<Vec<Result<Vec<Placed<J::Out>>, NoMemory>>, NoMemory>
-            requires { IsSync R.row × IsSync J.row × IsSync G.row × IsSync J.In.row × IsSend J.Out.row × (0 < further.next) × (further.next ≤ further.last) × (further.last ≤ 16) }
-            ensures { IfOk result (λ lists. All (λ list. IfOk list (λ done. AreGiven (J.gives job.entry.now) inputs.entry.now done.items)) lists.items) }
-        { run_workers(rt, alloc, job, inputs, taken, gate, further) },
+        &mut || -> (
+            T,
+            Result<Vec<Result<Vec<Placed<J::Out>>, NoMemory>>, NoMemory>,
+        )
+            requires { IsSync R.row × IsSync J.row × IsSync G.row × IsSync J.In.row × IsSend J.Out.row × (0 < further.next) × (further.next ≤ further.last) × (further.last ≤ 16) × F.pre beside.now }
+            ensures beside { F.step beside.entry.now result.0 beside.exit.now }
+            ensures lists { IfOk result.1 (λ lists. All (λ list. IfOk list (λ done. AreGiven (J.gives job.entry.now) inputs.entry.now done.items)) lists.items) }
+        { run_workers(rt, alloc, job, inputs, taken, gate, further, beside) },
     );
-    let mut lists = rest?;
+    (told, with_list(job, inputs, lists, done))
+}
+
+/// What one worker more did, behind the others. The job and its inputs are there for the clauses alone.
+fn with_list<J: Job>(
+    _job: &J,
+    _inputs: &[J::In],
+    lists: Result<Vec<Result<Vec<Placed<J::Out>>, NoMemory>>, NoMemory>,
+    done: Result<Vec<Placed<J::Out>>, NoMemory>,
+) -> Result<Vec<Result<Vec<Placed<J::Out>>, NoMemory>>, NoMemory>
+    requires lists { IfOk lists (λ lists. All (λ list. IfOk list (λ done. AreGiven (J.gives _job.now) _inputs.now done.items)) lists.items) }
+    requires done { IfOk done (λ done. AreGiven (J.gives _job.now) _inputs.now done.items) }
+    ensures { IfOk result (λ lists. All (λ list. IfOk list (λ done. AreGiven (J.gives _job.now) _inputs.now done.items)) lists.items) }
+{
+    let mut lists = lists?;
     lists.push(done)?;
     Ok(lists)
 }
