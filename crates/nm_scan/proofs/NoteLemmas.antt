@@ -1,5 +1,5 @@
--- What is noted of files that were found, when each is classified. For the proofs of `take_found` and `note_all`.
-use Rattle.std.proofs.Common.{◌≡◌, inr, inl, ℕ, zero, suc, List, [], ◌∷◌, ◌++◌, Option, IfOk, IfSome, Result, Ok, Err, length, map, take, refl, sym, ap, ◌∙◌, subst, append-nil, append_assoc, length-append, arith}
+-- What is noted of files that were found, when each is classified. For the proofs of `read_batch` and `note_all`.
+use Rattle.std.proofs.Common.{◌≡◌, inr, ℕ, zero, suc, List, [], ◌∷◌, ◌++◌, Option, IfOk, IfSome, Result, Ok, Err, length, map, take, refl, sym, ap, ◌∙◌, subst, append-nil, append_assoc, length-append, arith}
 use Rattle.std.specs.Prelude.{OnErr}
 use Rattle.std.specs.List.{AllZip, flat_map}
 use Rattle.std.proofs.lemmas.Grind.{flat_map-append}
@@ -83,10 +83,6 @@ pub err_noted : {E : Type 0} (result : Result (List (List ℕ × Facts)) E) (fou
     → OnErr result (HasNotedFront all old new) → OnErr result (HasNotedSome found old new)
 err_noted (Ok added) found all old new are noted = tt
 err_noted (Err error) found all old new are noted = noted_some found all old new are noted
-
--- no file
-pub noted_none : (found : Found) (old new : List Given) → new ≡ old → HasNotedSome found old new
-noted_none found old new same = record { given = []; given_is = same ∙ sym (append-nil old); answered = 0; some = inl refl; reading = λ tree told. notes-none tree }
 
 -- The noting goes on: the first are noted, and these are left.
 pub record InNotes (all rest : List Classified) (old now : List Given) (added : List (List ℕ × Facts)) : Type 0 where

@@ -77,12 +77,6 @@ pub part_is_closed : (most left : ℕ) (rest after : List (List ℕ)) (less : La
 part_is_closed most left rest after less some whole same (inl none) = absurd (omega (arith, some, whole, none))
 part_is_closed most left rest after less some whole same (inr closed) = subst (λ (l : List (List ℕ)). IsClosed l less) (sym same) closed
 
--- where it has stopped, nothing more is read
-pub none_reads_on : (m : ObservedMail) (rest : List (List ℕ)) (lacks : Lacks) (none : Found) (read : Read) → none ≡ [] → ReadsOn m m rest rest lacks lacks none read read
-none_reads_on m rest lacks none read is = record {
-  reads = λ first paths so_far g. subst (λ (l : Found). IsReading first m paths rest l lacks read) (sym (append-nil so_far) ∙ ap (λ (l : Found). so_far ++ l) (sym is)) g;
-}
-
 -- the first of what was found
 
 told_first : (tree : Option Tree) (xs ys : Found) → AreTold tree (xs ++ ys) → AreTold tree xs

@@ -1,6 +1,6 @@
 //! Reading the files of a batch one after the other, as far as the batch goes, for `parts`.
 
-ghost use Rattle.std.specs.Prelude.{◌≡◌, ◌⊎◌, ◌∷◌, [], ◌++◌, ◌-◌, ◌<◌, ◌==◌, false, true, length, IfErr, IfOk, IfSome, MatchOption, Ok, OnErr, OnOk};
+ghost use Rattle.std.specs.Prelude.{◌≡◌, ◌⊎◌, ◌∷◌, [], ◌++◌, ◌-◌, ◌<◌, length, IfErr, IfOk, IfSome, MatchOption, Ok, OnErr, OnOk};
 ghost use Rattle.std.specs.Vec.Iter.{into_iter_items, into_iter_len};
 ghost use Rattle.nm_maildir.specs.Observed.{HasMailCause};
 ghost use Rattle.nm_maildir.specs.declared.answers.Got.{Got};

@@ -1,19 +1,50 @@
--- The bytes of changes, one behind the other, are those of their commit. For the proofs of `framed`.
-use Rattle.std.proofs.Common.{◌≡◌, ℕ, List, [], ◌∷◌, ◌++◌, length, refl, ap, ap₂, ◌∙◌}
+-- The bytes of changes, one behind the other, are those of their commit. For the proofs of `spell_beside`, `spell_rest`, `with_names`
+-- and `framed`.
+use Rattle.std.proofs.Common.{◌≡◌, ℕ, ◌-◌, ◌≤◌, List, [], ◌∷◌, ◌++◌, length, map, take, drop, refl, sym, ap, ap₂, ◌∙◌, arith, take-append-drop}
 use Rattle.std.specs.Int.{to_be_bytes, w32}
 use Rattle.std.specs.List.{AllZip, flat_map}
+use Rattle.std.proofs.Math.Seq.{take-append_seam, take-length}
+use Rattle.std.proofs.lemmas.List.{length-drop, length-map, length-take, map-append}
 use Rattle.nm_commit.specs.declared.change.Change.{Change}
 use Rattle.nm_commit.specs.declared.change.Commit.{Commit}
 use Rattle.nm_record.specs.CommitGrammar.{commit_grammar}
 use Rattle.nm_record.specs.Commits.{change_bytes}
 
-pieces_are : (changes : List Change) (pieces : List (List ℕ)) → AllZip (λ change bytes. bytes ≡ change_bytes change) changes pieces → flat_map (λ piece. piece) pieces ≡ flat_map change_bytes changes
-pieces_are [] [] all = refl
-pieces_are [] (piece ∷ pieces) all = absurd all
-pieces_are (change ∷ changes) [] all = absurd all
-pieces_are (change ∷ changes) (piece ∷ pieces) (first, rest) = ap₂ (λ (a b : List ℕ). a ++ b) first (pieces_are changes pieces rest)
+pub spelled : (changes : List Change) (pieces : List (List ℕ)) → AllZip (λ change bytes. bytes ≡ change_bytes change) changes pieces → pieces ≡ map change_bytes changes
+spelled [] [] all = refl
+spelled [] (piece ∷ pieces) all = absurd all
+spelled (change ∷ changes) [] all = absurd all
+spelled (change ∷ changes) (piece ∷ pieces) (first, rest) = ap₂ (λ (a : List ℕ) (b : List (List ℕ)). a ∷ b) first (spelled changes pieces rest)
 
-pub commit_is : (commit : Commit) (pieces slice : List (List ℕ)) (count : List ℕ) (len : ℕ) → AllZip (λ change bytes. bytes ≡ change_bytes change) commit.changes pieces → slice ≡ pieces → count ≡ to_be_bytes w32 len
+joined : (changes : List Change) → flat_map (λ piece. piece) (map change_bytes changes) ≡ flat_map change_bytes changes
+joined [] = refl
+joined (change ∷ changes) = ap (λ (l : List ℕ). change_bytes change ++ l) (joined changes)
+
+pub commit_is : (commit : Commit) (pieces slice : List (List ℕ)) (count : List ℕ) (len : ℕ) → pieces ≡ map change_bytes commit.changes → slice ≡ pieces → count ≡ to_be_bytes w32 len
     → len ≡ length commit.changes → count ++ flat_map (λ piece. piece) slice ≡ commit_grammar.bytes commit
 commit_is commit pieces slice count len all slice_is count_is len_is =
-    ap₂ (λ (a b : List ℕ). a ++ b) (count_is ∙ ap (to_be_bytes w32) len_is) (ap (flat_map (λ piece. piece)) slice_is ∙ pieces_are commit.changes pieces all)
+    ap₂ (λ (a b : List ℕ). a ++ b) (count_is ∙ ap (to_be_bytes w32) len_is) (ap (flat_map (λ piece. piece)) (slice_is ∙ all) ∙ joined commit.changes)
+
+-- the first changes of a commit are those whose bytes are there
+pub first_of : (first rest all : List Change) (pieces : List (List ℕ)) → all ≡ first ++ rest → pieces ≡ map change_bytes first → pieces ≡ map change_bytes (take (length pieces) all)
+first_of first rest all pieces all_is is =
+    let long : length pieces ≡ length first = ap length is ∙ length-map first change_bytes in
+    is ∙ ap (map change_bytes) (sym (ap (λ (n : ℕ). take n all) long ∙ (ap (take (length first)) all_is ∙ take-append_seam first rest)))
+
+-- there are no more bytes than changes
+pub no_more : (changes : List Change) (pieces : List (List ℕ)) → pieces ≡ map change_bytes (take (length pieces) changes) → length pieces ≤ length changes
+no_more changes pieces is =
+    omega (arith, ap length is, length-map (take (length pieces) changes) change_bytes, length-take (length pieces) changes)
+
+-- all that stands behind the first n
+behind : {A : Type 0} (n : ℕ) (xs : List A) → take (length xs - n) (drop n xs) ≡ drop n xs
+behind n xs = ap (λ (k : ℕ). take k (drop n xs)) (sym (length-drop n xs)) ∙ take-length (drop n xs)
+
+pub all_are : (changes : List Change) (pieces all : List (List ℕ)) (len : ℕ) → pieces ≡ map change_bytes (take (length pieces) changes) → len ≡ length pieces
+    → all ≡ pieces ++ map change_bytes (take (length changes - len) (drop len changes)) → all ≡ map change_bytes changes
+all_are changes pieces all len is len_is all_is =
+    all_is
+    ∙ (ap (λ (l : List Change). pieces ++ map change_bytes l) (behind len changes)
+    ∙ (ap (λ (n : ℕ). pieces ++ map change_bytes (drop n changes)) len_is
+    ∙ (ap (λ (l : List (List ℕ)). l ++ map change_bytes (drop (length pieces) changes)) is
+    ∙ (sym (map-append change_bytes (take (length pieces) changes) (drop (length pieces) changes)) ∙ ap (map change_bytes) (take-append-drop (length pieces) changes)))))

@@ -1,6 +1,6 @@
 //! One commit, which every command makes so: `new`, `naming` and `tagging` call it.
 
-ghost use Rattle.std.specs.Prelude.{◌≡◌, ◌<◌, ◌^◌, false, length, min, true, IfErr, IfOk, IfSome, None, OnOk};
+ghost use Rattle.std.specs.Prelude.{◌≡◌, ◌<◌, ◌^◌, false, length, map, min, true, IfErr, IfOk, IfSome, None, OnOk};
 ghost use Rattle.std.specs.Arc.{arc_value};
 ghost use Rattle.nm_base.specs.Limits.{max_count};
 ghost use Rattle.nm_commit.specs.Files.{Fits};
@@ -11,15 +11,16 @@ ghost use Rattle.nm_index.specs.Index.{committed};
 ghost use Rattle.nm_index.specs.declared.base.Base.{Base};
 ghost use Rattle.nm_journal.specs.Moments.{GoesThrough, NeverFalls};
 ghost use Rattle.nm_record.specs.CommitGrammar.{commit_grammar};
+ghost use Rattle.nm_record.specs.Commits.{change_bytes};
 ghost use Rattle.nm_record.specs.Room.{limit_passed};
 ghost use Rattle.nm_writer.specs.Durable.{IsDurable};
 ghost use Rattle.nm_writer.specs.Writer.{StandsOnIndex};
 ghost use Rattle.nm_writer.specs.Writing.{HoldsEither, IsAfterCommit, IsFull, IsPreparing, IsWithin, is_write_fault};
 
 use crate::applying::next_snapshot;
-use crate::spelling::framed;
+use crate::spelling::{framed, spell_beside};
 use crate::{WriteError, Writer};
-use nm_base::{Limit, NoMemory};
+use nm_base::{Limit, Many, NoMemory};
 use nm_commit::Commit;
 use nm_disk::{Disk, DiskFault, FileNo};
 use nm_journal::Frame;
@@ -38,17 +39,19 @@ const MAX_COMMIT_BYTES: u64 = 1_073_741_824;
 
 impl Writer {
     /// Makes one commit: all memory first, then the record on the disk, then the index after it is shown. The caller may have made the
-    /// snapshot after it already. It may wait for readers to leave the snapshot from before.
+    /// snapshot after it already, and the bytes of each of its changes. It may wait for readers to leave the snapshot from before.
     pub fn commit<R: Threads + Wait + Sync, D: Disk>(
         &mut self,
         rt: &R,
         disk: &mut D,
         commit: Commit,
         next: Option<Snapshot>,
+        pieces: Option<Many<Many<u8>>>,
     ) -> Result<(), WriteError>
         requires alive { self.old.closed ≡ None }
         requires fits { Fits self.old.shown.files commit }
         requires next { IfSome next (λ next. next ≡ committed self.old.shown commit) }
+        requires pieces { IfSome pieces (λ pieces. pieces ≡ map change_bytes commit.changes) }
         requires stands { IfSome (D.observed disk.old).told (λ moments. StandsOnIndex moments.present self.old) }
 
         // What is made, or begun, passes no limit.
@@ -70,7 +73,7 @@ impl Writer {
 
         ensures cause { HasCauseOf is_write_fault (D.observed disk.old).faults (D.observed disk.new).faults result }
     {
-        self.make(rt, disk, commit, next)
+        self.make(rt, disk, commit, next, pieces)
     }
 
     /// Makes one commit, as `commit` does.
@@ -80,10 +83,12 @@ impl Writer {
         disk: &mut D,
         commit: Commit,
         next: Option<Snapshot>,
+        pieces: Option<Many<Many<u8>>>,
     ) -> Result<(), WriteError>
         requires alive { self.old.closed ≡ None }
         requires fits { Fits self.old.shown.files commit }
         requires next { IfSome next (λ next. next ≡ committed self.old.shown commit) }
+        requires pieces { IfSome pieces (λ pieces. pieces ≡ map change_bytes commit.changes) }
         requires stands { IfSome (D.observed disk.old).told (λ moments. StandsOnIndex moments.present self.old) }
         ensures after { IsAfterCommit self.old commit (D.observed disk.new).clock (D.observed disk.new).faults result self.new }
         ensures stands { GoesOn (λ old new. OnOk result (StandsOnIndex new.present self.new))
@@ -106,6 +111,7 @@ impl Writer {
             self.shower.now(),
             &commit,
             next,
+            pieces,
         )?;
         self.begun.reserve(1)?;
         self.acked.reserve(1)?;
@@ -127,7 +133,8 @@ impl Writer {
     }
 }
 
-/// The record of the commit, and the snapshot after it, which the caller may have made. `made` is how many commits were begun before.
+/// The record of the commit, and the snapshot after it. The caller may have made that, and the bytes of the changes. `made` is how
+/// many commits were begun before.
 fn prepared<R: Threads + Wait + Sync>(
     rt: &R,
     alloc: Global,
@@ -136,9 +143,11 @@ fn prepared<R: Threads + Wait + Sync>(
     shown: &Snapshot,
     commit: &Commit,
     next: Option<Snapshot>,
+    pieces: Option<Many<Many<u8>>>,
 ) -> Result<(Frame, Arc<Snapshot, Global>), WriteError>
     requires fits { Fits shown.now.files commit.now }
     requires next { IfSome next (λ next. next ≡ committed shown.now commit.now) }
+    requires pieces { IfSome pieces (λ pieces. pieces ≡ map change_bytes commit.now.changes) }
     ensures frame { IfOk result (λ prepared. prepared.0 ≡ commit_grammar.bytes commit.now) }
     ensures value { IfOk result (λ prepared. commit_grammar.is_value commit.now ≡ true) }
     ensures next { IfOk result (λ prepared. arc_value prepared.1 ≡ committed shown.now commit.now) }
@@ -153,7 +162,11 @@ fn prepared<R: Threads + Wait + Sync>(
         return Err(WriteError::Limit(Limit::CommitBytes));
     }
     let next = within_limits(rt, workers, shown, commit, next)?;
-    let frame = framed(rt, alloc, workers, commit, len as u32)?;
+    let pieces = match pieces {
+        Some(pieces) => Some(pieces),
+        None => spell_beside(rt, alloc, workers, &commit.changes, &mut || {}).1?,
+    };
+    let frame = framed(alloc, commit, len as u32, pieces)?;
     let next = shared(alloc, next)?;
     Ok((frame, next))
 }

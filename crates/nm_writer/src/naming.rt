@@ -1,33 +1,45 @@
-//! The tags that the names of files give the messages of a commit; each commit of a `new` ends with them.
+//! The tags that the names of files give the messages of a commit; each commit of a `new` ends with them. While the caller finds
+//! them, workers put the changes into bytes.
 
-ghost use Rattle.std.specs.Prelude.{◌≡◌, ◌++◌, IfOk, OnOk, map};
+ghost use Rattle.std.specs.Prelude.{◌≡◌, ◌++◌, IfOk, IfSome, OnOk, map};
 ghost use Rattle.std.specs.List.{flat_map};
 ghost use Rattle.nm_commit.specs.Files.{Fits};
 ghost use Rattle.nm_flags.specs.Following.{tags_by_names};
 ghost use Rattle.nm_index.specs.Index.{committed};
 ghost use Rattle.nm_answer.specs.View.{message_paths, tags_of};
 ghost use Rattle.nm_plan.specs.NameTags.{named_tags, with_names};
-ghost use Rattle.nm_writer.specs.Naming.{new_set, set_of};
+ghost use Rattle.nm_record.specs.Commits.{change_bytes};
+ghost use Rattle.nm_writer.specs.Naming.{IsFollowed, new_set, set_of};
 
 use crate::applying::applied;
+use crate::spelling::{spell_beside, spell_rest};
 use nm_base::{Copies, MailPath, Many, MessageId, NoMemory, Tags};
 use nm_commit::{Change, Commit};
 use nm_eval::by_numbers;
 use nm_flags::tags_from_names;
 use nm_state::Snapshot;
 use std::alloc::Global;
+use std::sync::Wait;
 use std::thread::Threads;
 
-/// A commit, and the snapshot after it.
+/// A commit, the snapshot after it, and the bytes of its changes, where workers have put them together.
 #[derive(Drop)]
 pub(crate) struct Named {
     pub(crate) commit: Commit,
+    pub(crate) next: Snapshot,
+    pub(crate) pieces: Option<Many<Many<u8>>>,
+}
+
+/// The tags that follow the changes of a commit, and the snapshot after both.
+#[derive(Drop)]
+pub(crate) struct Followed {
+    pub(crate) sets: Many<(MessageId, Tags)>,
     pub(crate) next: Snapshot,
 }
 
 /// A commit of the changes, and behind them of the tags that the messages with these ids then have by the names of their files,
 /// where they have others.
-pub(crate) fn with_names<R: Threads>(
+pub(crate) fn with_names<R: Threads + Wait + Sync>(
     rt: &R,
     alloc: Global,
     workers: u32,
@@ -38,14 +50,50 @@ pub(crate) fn with_names<R: Threads>(
     requires fits { Fits shown.now.files (record { changes = changes }) }
     ensures commit { IfOk result (λ named. named.commit.changes ≡ with_names shown.now changes ids.now) }
     ensures next { IfOk result (λ named. named.next ≡ committed shown.now named.commit) }
+    ensures pieces { IfOk result (λ named. IfSome named.pieces (λ pieces. pieces ≡ map change_bytes named.commit.changes)) }
 {
     let files = Commit { changes };
-    let after = applied(rt, workers, shown, &files)?;
+    let (followed, pieces) = spell_beside(
+        rt,
+        alloc,
+        workers,
+        &files.changes,
+        &mut || -> Result<Followed, NoMemory>
+            requires { Fits shown.now.files files }
+            ensures { IfOk result (IsFollowed shown.entry.now files ids.entry.now) }
+        { follow(rt, alloc, shown, &files, ids) },
+    );
+    let Followed { sets, next } = followed?;
+    let pieces = pieces?;
+    let commit = with_sets(files, sets)?;
+    let pieces = match pieces {
+        Some(pieces) => Some(spell_rest(alloc, commit.changes.as_slice(), pieces)?),
+        None => None,
+    };
+    Ok(Named {
+        commit,
+        next,
+        pieces,
+    })
+}
+
+/// The tags that follow the changes of a commit, and the snapshot after both. It is made by one thread, since the others have
+/// something to do.
+fn follow<R: Threads>(
+    rt: &R,
+    alloc: Global,
+    shown: &Snapshot,
+    files: &Commit,
+    ids: &[MessageId],
+) -> Result<Followed, NoMemory>
+    requires { Fits shown.now.files files.now }
+    ensures { IfOk result (IsFollowed shown.now files.now ids.now) }
+{
+    let after = applied(rt, 1, shown, files)?;
     let ids = by_numbers(alloc, &after, ids)?;
     let sets = sets_by_names(alloc, &after, ids.as_slice())?;
     let next = after.with_tags(&sets)?;
-    let commit = with_sets(files, sets)?;
-    Ok(Named { commit, next })
+    Ok(Followed { sets, next })
 }
 
 /// The tags of the messages by the names of their files, where they have others.

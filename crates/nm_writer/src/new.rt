@@ -327,7 +327,7 @@ impl Writer {
             changes,
             ids.as_slice(),
         )?;
-        self.commit(rt, disk, named.commit, Some(named.next))
+        self.commit(rt, disk, named.commit, Some(named.next), named.pieces)
     }
 }
 

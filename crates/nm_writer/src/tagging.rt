@@ -126,6 +126,6 @@ impl Writer {
         if changes.is_empty() {
             return Ok(());
         }
-        self.commit(rt, disk, Commit { changes }, None)
+        self.commit(rt, disk, Commit { changes }, None, None)
     }
 }

@@ -1,26 +1,17 @@
-use Rattle.std.proofs.Common.{rules, ◌≡◌, ℕ, List, sym, subst}
-use Rattle.std.specs.Prelude.{IsTrue}
-use Rattle.std.specs.List.{AllByRecursion, flat_map}
-use Rattle.nm_answer.specs.View.{tags_of}
-use Rattle.nm_commit.specs.Files.{has_id}
-use Rattle.nm_plan.specs.NameTags.{live_of, named_tags}
-use Rattle.nm_writer.specs.Naming.{new_set}
-use Rattle.nm_writer.proofs.NamingLemmas.{named-are, next-is, sets-live}
+use Rattle.std.proofs.Common.{rules, refl}
+use Rattle.nm_index.specs.Index.{committed}
+use Rattle.nm_plan.specs.NameTags.{live_of}
+use Rattle.nm_writer.specs.Naming.{IsFollowed}
+use Rattle.nm_writer.proofs.NamingLemmas.{named-are, next-is}
 use Rattle.nm_writer.proofs.naming.with_names.Goals as goal
-
-pub with_tags-requires : goal.with_tags-requires
-with_tags-requires g c =
-    let live : c.as_slice.result.now ≡ live_of c.in_ok-after.after c.args.ids.now = search rules in
-    let sets : c.in_ok-sets.sets ≡ flat_map (λ id. new_set id (tags_of c.in_ok-after.after id) (named_tags c.in_ok-after.after id)) (live_of c.in_ok-after.after c.args.ids.now) = search (live, rules) in
-    record {
-      live = subst (AllByRecursion {X = List ℕ × List (List ℕ)} (λ set. IsTrue (has_id c.in_ok-after.after.files set.0))) (sym sets) (sets-live c.in_ok-after.after c.args.ids.now);
-    }
 
 pub returns-clause-commit : goal.returns-clause-commit
 returns-clause-commit g c =
-    let live : c.as_slice.result.now ≡ live_of c.in_ok-after.after c.args.ids.now = search rules in
-    named-are c.args.shown.now c.in_ok-after.after c.args.changes c.in_ok-commit.commit.changes c.args.ids.now c.as_slice.result.now c.in_ok-sets.sets c.in_ok-after.ensures live c.in_ok-sets.ensures c.in_ok-commit.ensures
+    let followed : IsFollowed c.args.shown.now (record { changes = c.args.changes }) c.args.ids.now c.in_ok-sets.field-0 = search rules in
+    named-are c.args.shown.now (committed c.args.shown.now (record { changes = c.args.changes })) c.args.changes c.in_ok-commit.commit.changes c.args.ids.now
+    (live_of (committed c.args.shown.now (record { changes = c.args.changes })) c.args.ids.now) c.in_ok-sets.field-0.sets refl refl followed.sets c.in_ok-commit.ensures
 
 pub returns-clause-next : goal.returns-clause-next
 returns-clause-next g c =
-    next-is c.args.shown.now c.in_ok-after.after c.in_ok-next.next c.args.changes c.in_ok-commit.commit.changes c.in_ok-sets.sets c.in_ok-after.ensures c.in_ok-next.ensures c.in_ok-commit.ensures
+    let followed : IsFollowed c.args.shown.now (record { changes = c.args.changes }) c.args.ids.now c.in_ok-sets.field-0 = search rules in
+    next-is c.args.shown.now (committed c.args.shown.now (record { changes = c.args.changes })) c.in_ok-sets.field-0.next c.args.changes c.in_ok-commit.commit.changes c.in_ok-sets.field-0.sets refl followed.next c.in_ok-commit.ensures

@@ -14,10 +14,11 @@ returns-then-is_empty-clause-after g c =
     subst (λ (l : List Commit). HasCommitted c.args.self.now l c.args.self.now) (sym none) (none-made c.args.self.now)
 
 pub with_names-requires : goal.with_names-requires
-with_names-requires g c = record {
-  fits = subst (λ (b : Base). Fits b.files (record { changes = c.args.changes })) (sym c.snapshot.ensures)
-      (front-fits c.args.self.now.shown c.args.changes c.args.ids.now (eqb-false _ _ (sym c.is_empty.ensures ∙ c.if-is_empty.false)) c.requires.fit);
-}
+with_names-requires g c = (
+  c.type_bounds.sync-R,
+  subst (λ (b : Base). Fits b.files (record { changes = c.args.changes })) (sym c.snapshot.ensures)
+      (front-fits c.args.self.now.shown c.args.changes c.args.ids.now (eqb-false _ _ (sym c.is_empty.ensures ∙ c.if-is_empty.false)) c.requires.fit),
+)
 
 pub returns-clause-after : goal.returns-clause-after
 returns-clause-after g c =
