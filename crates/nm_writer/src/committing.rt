@@ -164,7 +164,7 @@ fn prepared<R: Threads + Wait + Sync>(
     let next = within_limits(rt, workers, shown, commit, next)?;
     let pieces = match pieces {
         Some(pieces) => Some(pieces),
-        None => spell_beside(rt, alloc, workers, &commit.changes, &mut || {}).1?,
+        None => spell_beside(rt, alloc, workers, len, &commit.changes, &mut || {}).1?,
     };
     let frame = framed(alloc, commit, len as u32, pieces)?;
     let next = shared(alloc, next)?;

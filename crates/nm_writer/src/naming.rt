@@ -17,6 +17,7 @@ use nm_base::{Copies, MailPath, Many, MessageId, NoMemory, Tags};
 use nm_commit::{Change, Commit};
 use nm_eval::by_numbers;
 use nm_flags::tags_from_names;
+use nm_record::commit_len;
 use nm_state::Snapshot;
 use std::alloc::Global;
 use std::sync::Wait;
@@ -57,6 +58,7 @@ pub(crate) fn with_names<R: Threads + Wait + Sync>(
         rt,
         alloc,
         workers,
+        commit_len(&files),
         &files.changes,
         &mut || -> Result<Followed, NoMemory>
             requires { Fits shown.now.files files }

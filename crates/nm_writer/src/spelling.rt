@@ -13,8 +13,8 @@ use std::alloc::Global;
 use std::sync::Wait;
 use std::thread::Threads;
 
-/// So many changes are worth threads.
-const MANY_CHANGES: usize = 64;
+/// A commit of so many bytes is worth threads.
+const LARGE_BYTES: u64 = 65_536;
 
 /// So many workers at most.
 const MAX_WORKERS: u32 = 16;
@@ -40,12 +40,13 @@ impl Job for Spelling {
     }
 }
 
-/// The bytes of each change, put together by workers, where there are several and enough to do. The caller does something else once
-/// before it helps: what that returned comes first.
+/// The bytes of each change, put together by workers, where there are several and the changes have so many bytes that it is worth
+/// them. The caller does something else once before it helps: what that returned comes first.
 pub(crate) fn spell_beside<R: Threads + Wait + Sync, F: FnMut() -> T, T: Drop>(
     rt: &R,
     alloc: Global,
     workers: u32,
+    len: u64,
     changes: &Many<Change>,
     beside: &mut F,
 ) -> (T, Result<Option<Many<Many<u8>>>, NoMemory>)
@@ -53,7 +54,7 @@ pub(crate) fn spell_beside<R: Threads + Wait + Sync, F: FnMut() -> T, T: Drop>(
     ensures beside { F.step beside.old result.0 beside.new }
     ensures pieces { IfOk result.1 (λ pieces. IfSome pieces (λ pieces. pieces ≡ map change_bytes changes.now)) }
 {
-    if workers < 2 || changes.len() < MANY_CHANGES {
+    if workers < 2 || len < LARGE_BYTES {
         return (beside(), Ok(None));
     }
     let job = Spelling { alloc };
