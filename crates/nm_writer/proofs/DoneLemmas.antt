@@ -1,5 +1,5 @@
 -- Commits made one after the other. For the proofs of `commit_added`, `let_go`, `commit_some` and others.
-use Rattle.std.proofs.Common.{◌≡◌, ℕ, ◌+◌, ◌<◌, List, [], ◌∷◌, ◌++◌, fold, length, Result, Ok, Err, refl, sym, ap, ◌∙◌, subst, append_assoc, append-nil, length-append, arith}
+use Rattle.std.proofs.Common.{◌≡◌, ℕ, ◌+◌, ◌<◌, List, [], ◌∷◌, ◌++◌, fold, length, Result, Ok, Err, refl, sym, ap, ap₂, ◌∙◌, subst, append_assoc, append-nil, length-append, arith}
 use Rattle.std.proofs.lemmas.List.Sums.{fold-append}
 use Rattle.nm_faults.specs.Faults.{HasCauseOf}
 use Rattle.nm_base.specs.declared.facts.Facts.{Facts}
@@ -177,6 +177,10 @@ fit-second index [] second fit = fit
 fit-second index (commit ∷ first) second fit = fit-second (committed index commit) first second fit.1
 
 -- some changes make one commit
+-- the commit that is asked of a snapshot is that of its index
+pub named-is : (shown index : Base) (changes all : List Change) (slice ids : List (List ℕ)) → all ≡ with_names shown changes slice → shown ≡ index → slice ≡ ids → all ≡ with_names index changes ids
+named-is shown index changes all slice ids is shown_is slice_is = is ∙ ap₂ (λ (b : Base) (l : List (List ℕ)). with_names b changes l) shown_is slice_is
+
 pub one-commit : (index : Base) (changes : List Change) (ids : List (List ℕ)) → (length changes ≡ 0 → ⊥) → commit_of index changes ids ≡ record { changes = with_names index changes ids } ∷ []
 one-commit index [] ids some = absurd (some refl)
 one-commit index (change ∷ changes) ids some = refl

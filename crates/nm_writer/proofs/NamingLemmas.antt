@@ -1,5 +1,6 @@
--- The tags that follow the changes of a commit, and the paths of a message. For the proofs of `message_paths` and `with_names`.
-use Rattle.std.proofs.Common.{◌≡◌, Bool, true, false, ◌||◌, cond, ℕ, ◌+◌, List, [], ◌∷◌, ◌++◌, filter, map, refl, sym, ap, ◌∙◌}
+-- The tags that follow the changes of a commit, and the paths of a message. For the proofs of `message_paths`,
+-- `with_names` and `follow`.
+use Rattle.std.proofs.Common.{◌≡◌, Bool, true, false, ◌||◌, cond, ℕ, ◌+◌, List, [], ◌∷◌, ◌++◌, filter, map, refl, sym, subst, ap, ◌∙◌}
 use Rattle.std.specs.Prelude.{IsTrue, fold}
 use Rattle.std.specs.Cmp.Lexicographic.{pointwise}
 use Rattle.std.specs.List.{AllByRecursion, flat_map}
@@ -14,32 +15,23 @@ use Rattle.nm_index.specs.declared.base.Base.{Base}
 use Rattle.nm_answer.specs.View.{message_paths, tags_of}
 use Rattle.nm_plan.specs.NameTags.{follow_names, live_of, named_tags, set_tags, with_names}
 use Rattle.nm_state.specs.Snapshot.{retagged}
-use Rattle.nm_writer.specs.Naming.{new_set, set_of}
+use Rattle.nm_writer.specs.Naming.{set_of}
 
 abbrev Sets : Type 0
 Sets = List (List ℕ × List (List ℕ))
 
 -- ---- what is set
 
-set_more : (test : Bool) (id : List ℕ) (new : List (List ℕ)) (more : Sets) → map set_of (cond test [] ((id, new) ∷ []) ++ more) ≡ cond test [] (SetTags id new ∷ []) ++ map set_of more
-set_more true id new more = refl
-set_more false id new more = refl
-
-sets_are : (after : Base) (ids : List (List ℕ)) → map set_of (flat_map (λ id. new_set id (tags_of after id) (named_tags after id)) ids) ≡ flat_map (λ id. set_tags id (tags_of after id) (named_tags after id)) ids
-sets_are after [] = refl
-sets_are after (id ∷ ids) =
-    set_more (pointwise same_text (tags_of after id) (named_tags after id)) id (named_tags after id) (flat_map (λ it. new_set it (tags_of after it) (named_tags after it)) ids)
-    ∙ ap (λ (more : List Change). set_tags id (tags_of after id) (named_tags after id) ++ more) (sets_are after ids)
+-- what is found of the messages that are there is what follows
+pub follow-is : (after : Base) (ids live : List (List ℕ)) (sets : Sets) → live ≡ live_of after ids → map set_of sets ≡ flat_map (λ id. set_tags id (tags_of after id) (named_tags after id)) live
+    → map set_of sets ≡ follow_names after ids
+follow-is after ids live sets live_is is = is ∙ ap (flat_map (λ id. set_tags id (tags_of after id) (named_tags after id))) live_is
 
 -- the changes, and the tags that follow
-pub named-are : (shown after : Base) (changes all : List Change) (ids live : List (List ℕ)) (sets : Sets) → after ≡ committed shown (record { changes = changes }) → live ≡ live_of after ids
-    → sets ≡ flat_map (λ id. new_set id (tags_of after id) (named_tags after id)) live → all ≡ changes ++ map set_of sets → all ≡ with_names shown changes ids
-named-are shown after changes all ids live sets is live_is sets_is all_is =
-    all_is
-    ∙ (ap (λ (l : Sets). changes ++ map set_of l) sets_is
-    ∙ (ap (λ (l : List Change). changes ++ l) (sets_are after live)
-    ∙ (ap (λ (l : List (List ℕ)). changes ++ flat_map (λ id. set_tags id (tags_of after id) (named_tags after id)) l) live_is
-    ∙ ap (λ (b : Base). changes ++ follow_names b ids) is)))
+pub named-are : (shown after : Base) (changes all : List Change) (ids : List (List ℕ)) (sets : Sets) → after ≡ committed shown (record { changes = changes })
+    → map set_of sets ≡ follow_names after ids → all ≡ changes ++ map set_of sets → all ≡ with_names shown changes ids
+named-are shown after changes all ids sets is sets_are all_is =
+    all_is ∙ (ap (λ (l : List Change). changes ++ l) sets_are ∙ ap (λ (b : Base). changes ++ follow_names b ids) is)
 
 -- ---- the index after all
 
@@ -82,19 +74,30 @@ module _ (P : List ℕ → Type 0) where
   kept_all keep [] all = tt
   kept_all keep (text ∷ texts) (here, more) = kept_one (keep text) text (filter keep texts) here (kept_all keep texts more)
 
-  put_one : (test : Bool) (id : List ℕ) (new : List (List ℕ)) (more : Sets) → P id → AllByRecursion (λ (set : List ℕ × List (List ℕ)). P set.0) more
-      → AllByRecursion (λ (set : List ℕ × List (List ℕ)). P set.0) (cond test [] ((id, new) ∷ []) ++ more)
-  put_one true id new more here all = all
-  put_one false id new more here all = (here, all)
+-- the tags that a change sets are those of a message that has a file
+abbrev SetsLive : List (List ℕ × Facts) → Change → Type 0
+SetsLive files change = (id : List ℕ) (tags : List (List ℕ)) → change ≡ SetTags id tags → IsTrue (has_id files id)
 
-  put_all : (after : Base) (ids : List (List ℕ)) → AllByRecursion P ids → AllByRecursion (λ (set : List ℕ × List (List ℕ)). P set.0) (flat_map (λ id. new_set id (tags_of after id) (named_tags after id)) ids)
-  put_all after [] all = tt
-  put_all after (id ∷ ids) (here, more) =
-      put_one (pointwise same_text (tags_of after id) (named_tags after id)) id (named_tags after id) (flat_map (λ it. new_set it (tags_of after it) (named_tags after it)) ids) here (put_all after ids more)
+set_one : (files : List (List ℕ × Facts)) (test : Bool) (id : List ℕ) (new : List (List ℕ)) (more : List Change) → IsTrue (has_id files id) → AllByRecursion (SetsLive files) more
+    → AllByRecursion (SetsLive files) (cond test [] (SetTags id new ∷ []) ++ more)
+set_one files true id new more here all = all
+set_one files false id new more here all = ((λ other tags is. subst (λ it. IsTrue (has_id files it)) (cc is) here), all)
+
+set_all : (after : Base) (ids : List (List ℕ)) → AllByRecursion (λ id. IsTrue (has_id after.files id)) ids
+    → AllByRecursion (SetsLive after.files) (flat_map (λ id. set_tags id (tags_of after id) (named_tags after id)) ids)
+set_all after [] all = tt
+set_all after (id ∷ ids) (here, more) =
+    set_one after.files (pointwise same_text (tags_of after id) (named_tags after id)) id (named_tags after id) (flat_map (λ it. set_tags it (tags_of after it) (named_tags after it)) ids) here (set_all after ids more)
+
+live_sets : (files : List (List ℕ × Facts)) (sets : Sets) → AllByRecursion (SetsLive files) (map set_of sets) → AllByRecursion (λ set. IsTrue (has_id files set.0)) sets
+live_sets files [] all = tt
+live_sets files (set ∷ sets) (here, more) = (here set.0 set.1 refl, live_sets files sets more)
 
 -- tags are set of messages that have a file
-pub sets-live : (after : Base) (ids : List (List ℕ)) → AllByRecursion (λ set. IsTrue (has_id after.files set.0)) (flat_map (λ id. new_set id (tags_of after id) (named_tags after id)) (live_of after ids))
-sets-live after ids = put_all (λ id. IsTrue (has_id after.files id)) after (live_of after ids) (kept_all (λ id. IsTrue (has_id after.files id)) (has_text ids) (map (λ e. e.0) (filter (λ e. has_id after.files e.0) after.entries)) (live_all after.files after.entries))
+pub sets-live : (after : Base) (ids : List (List ℕ)) (sets : Sets) → map set_of sets ≡ follow_names after ids → AllByRecursion (λ set. IsTrue (has_id after.files set.0)) sets
+sets-live after ids sets is =
+    live_sets after.files sets (subst (AllByRecursion (SetsLive after.files)) (sym is) (set_all after (live_of after ids)
+    (kept_all (λ id. IsTrue (has_id after.files id)) (has_text ids) (map (λ e. e.0) (filter (λ e. has_id after.files e.0) after.entries)) (live_all after.files after.entries))))
 
 -- a message without a file has no paths
 none-left : (b : Bool) (file : List ℕ × Facts) (rest : List (List ℕ × Facts)) (more : Bool) → (b || more) ≡ false → (more ≡ false → paths_of rest ≡ []) → paths_of (cond b (file ∷ rest) rest) ≡ []

@@ -1,10 +1,10 @@
--- The bytes of changes, one behind the other, are those of their commit. For the proofs of `spell_beside`, `spell_rest`, `with_names`
+-- The bytes of changes, one behind the other, are those of their commit. For the proofs of `spell_beside`, `spell_rest`
 -- and `framed`.
-use Rattle.std.proofs.Common.{◌≡◌, ℕ, ◌-◌, ◌≤◌, List, [], ◌∷◌, ◌++◌, length, map, take, drop, refl, sym, ap, ap₂, ◌∙◌, arith, take-append-drop}
+use Rattle.std.proofs.Common.{◌≡◌, ℕ, ◌-◌, List, [], ◌∷◌, ◌++◌, length, map, take, drop, refl, sym, ap, ap₂, ◌∙◌, take-append-drop}
 use Rattle.std.specs.Int.{to_be_bytes, w32}
 use Rattle.std.specs.List.{AllZip, flat_map}
-use Rattle.std.proofs.Math.Seq.{take-append_seam, take-length}
-use Rattle.std.proofs.lemmas.List.{length-drop, length-map, length-take, map-append}
+use Rattle.std.proofs.Math.Seq.{take-length}
+use Rattle.std.proofs.lemmas.List.{length-drop, map-append}
 use Rattle.nm_commit.specs.declared.change.Change.{Change}
 use Rattle.nm_commit.specs.declared.change.Commit.{Commit}
 use Rattle.nm_record.specs.CommitGrammar.{commit_grammar}
@@ -24,17 +24,6 @@ pub commit_is : (commit : Commit) (pieces slice : List (List ℕ)) (count : List
     → len ≡ length commit.changes → count ++ flat_map (λ piece. piece) slice ≡ commit_grammar.bytes commit
 commit_is commit pieces slice count len all slice_is count_is len_is =
     ap₂ (λ (a b : List ℕ). a ++ b) (count_is ∙ ap (to_be_bytes w32) len_is) (ap (flat_map (λ piece. piece)) (slice_is ∙ all) ∙ joined commit.changes)
-
--- the first changes of a commit are those whose bytes are there
-pub first_of : (first rest all : List Change) (pieces : List (List ℕ)) → all ≡ first ++ rest → pieces ≡ map change_bytes first → pieces ≡ map change_bytes (take (length pieces) all)
-first_of first rest all pieces all_is is =
-    let long : length pieces ≡ length first = ap length is ∙ length-map first change_bytes in
-    is ∙ ap (map change_bytes) (sym (ap (λ (n : ℕ). take n all) long ∙ (ap (take (length first)) all_is ∙ take-append_seam first rest)))
-
--- there are no more bytes than changes
-pub no_more : (changes : List Change) (pieces : List (List ℕ)) → pieces ≡ map change_bytes (take (length pieces) changes) → length pieces ≤ length changes
-no_more changes pieces is =
-    omega (arith, ap length is, length-map (take (length pieces) changes) change_bytes, length-take (length pieces) changes)
 
 -- all that stands behind the first n
 behind : {A : Type 0} (n : ℕ) (xs : List A) → take (length xs - n) (drop n xs) ≡ drop n xs

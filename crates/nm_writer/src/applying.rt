@@ -1,7 +1,7 @@
-//! The snapshot after a commit, of which two threads make a part each where there are workers: `committing`, `naming` and
-//! `replaying` have it made.
+//! The snapshot after a commit: `committing`, `naming` and `replaying` have it made. Where two workers or more may be used, two
+//! threads make a part each.
 
-ghost use Rattle.std.specs.Prelude.{◌≡◌, IfOk, OnOk, Err, Some, None};
+ghost use Rattle.std.specs.Prelude.{◌≡◌, ◌≤◌, ◌<◌, ◌^◌, IfOk, OnOk, Err, Some, None};
 ghost use Rattle.nm_base.specs.declared.limit.Limit.{Limit};
 ghost use Rattle.nm_commit.specs.Files.{Fits};
 ghost use Rattle.nm_index.specs.Index.{committed};
@@ -27,7 +27,7 @@ pub(crate) fn next_snapshot<R: Threads>(
     if !shown.has_numbers(commit) {
         return shown.apply_within_limits(commit);
     }
-    let next = applied(rt, workers, shown, commit)?;
+    let next = with_numbers(rt, workers, shown, commit)?;
     match next.limit_passed() {
         None => Ok(next),
         Some(limit) => Err(RoomError::Limit(limit)),
@@ -47,6 +47,21 @@ pub(crate) fn applied<R: Threads>(
     if !shown.has_numbers(commit) {
         return Err(NoMemory);
     }
+    with_numbers(rt, workers, shown, commit)
+}
+
+/// The snapshot after a commit that fits, where there are numbers for it.
+fn with_numbers<R: Threads>(
+    rt: &R,
+    workers: u32,
+    shown: &Snapshot,
+    commit: &Commit,
+) -> Result<Snapshot, NoMemory>
+    requires fits { Fits shown.now.files commit.now }
+    requires numbers { (committed shown.now commit.now).next ≤ 2 ^ 63 }
+    requires revision { shown.now.revision < 2 ^ 63 }
+    ensures { IfOk result (λ next. next ≡ committed shown.now commit.now) }
+{
     if workers < 2 {
         return shown.apply(commit);
     }

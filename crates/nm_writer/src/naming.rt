@@ -7,9 +7,9 @@ ghost use Rattle.nm_commit.specs.Files.{Fits};
 ghost use Rattle.nm_flags.specs.Following.{tags_by_names};
 ghost use Rattle.nm_index.specs.Index.{committed};
 ghost use Rattle.nm_answer.specs.View.{message_paths, tags_of};
-ghost use Rattle.nm_plan.specs.NameTags.{named_tags, with_names};
+ghost use Rattle.nm_plan.specs.NameTags.{named_tags, set_tags, with_names};
 ghost use Rattle.nm_record.specs.Commits.{change_bytes};
-ghost use Rattle.nm_writer.specs.Naming.{IsFollowed, new_set, set_of};
+ghost use Rattle.nm_writer.specs.Naming.{IsFollowed, set_of};
 
 use crate::applying::applied;
 use crate::spelling::{spell_beside, spell_rest};
@@ -104,7 +104,7 @@ fn sets_by_names(
     after: &Snapshot,
     ids: &[MessageId],
 ) -> Result<Many<(MessageId, Tags)>, NoMemory>
-    ensures { IfOk result (λ sets. sets ≡ flat_map (λ id. new_set id (tags_of after.now id) (named_tags after.now id)) ids.now) }
+    ensures { IfOk result (λ sets. map set_of sets ≡ flat_map (λ id. set_tags id (tags_of after.now id) (named_tags after.now id)) ids.now) }
 {
     let mut sets = Many::new(alloc);
     'ids: for id in ids {
@@ -119,7 +119,7 @@ fn add_by_names(
     id: &MessageId,
     sets: &mut Many<(MessageId, Tags)>,
 ) -> Result<(), NoMemory>
-    ensures { OnOk result (sets.new ≡ sets.old ++ new_set id.now (tags_of after.now id.now) (named_tags after.now id.now)) }
+    ensures { OnOk result (map set_of sets.new ≡ map set_of sets.old ++ set_tags id.now (tags_of after.now id.now) (named_tags after.now id.now)) }
 {
     let paths = message_paths(alloc, after, id)?;
     match after.tags(id) {
@@ -135,7 +135,7 @@ fn add_set(
     paths: &Many<MailPath>,
     sets: &mut Many<(MessageId, Tags)>,
 ) -> Result<(), NoMemory>
-    ensures { OnOk result (sets.new ≡ sets.old ++ new_set id.now tags.now (tags_by_names tags.now paths.now)) }
+    ensures { OnOk result (map set_of sets.new ≡ map set_of sets.old ++ set_tags id.now tags.now (tags_by_names tags.now paths.now)) }
 {
     let named = tags_from_names(alloc, tags, paths)?;
     if *tags == named {

@@ -1,6 +1,5 @@
 use Rattle.std.proofs.Common.{rules, refl}
 use Rattle.nm_index.specs.Index.{committed}
-use Rattle.nm_plan.specs.NameTags.{live_of}
 use Rattle.nm_writer.specs.Naming.{IsFollowed}
 use Rattle.nm_writer.proofs.NamingLemmas.{named-are, next-is}
 use Rattle.nm_writer.proofs.naming.with_names.Goals as goal
@@ -8,8 +7,8 @@ use Rattle.nm_writer.proofs.naming.with_names.Goals as goal
 pub returns-clause-commit : goal.returns-clause-commit
 returns-clause-commit g c =
     let followed : IsFollowed c.args.shown.now (record { changes = c.args.changes }) c.args.ids.now c.in_ok-sets.field-0 = search rules in
-    named-are c.args.shown.now (committed c.args.shown.now (record { changes = c.args.changes })) c.args.changes c.in_ok-commit.commit.changes c.args.ids.now
-    (live_of (committed c.args.shown.now (record { changes = c.args.changes })) c.args.ids.now) c.in_ok-sets.field-0.sets refl refl followed.sets c.in_ok-commit.ensures
+    named-are c.args.shown.now (committed c.args.shown.now (record { changes = c.args.changes })) c.args.changes c.in_ok-commit.commit.changes c.args.ids.now c.in_ok-sets.field-0.sets
+    refl followed.sets c.in_ok-commit.ensures
 
 pub returns-clause-next : goal.returns-clause-next
 returns-clause-next g c =

@@ -1,11 +1,10 @@
-use Rattle.std.proofs.Common.{◌≡◌, List, sym, subst, ap, ◌∙◌}
+use Rattle.std.proofs.Common.{List, sym, subst, ◌∙◌}
 use Rattle.std.proofs.lemmas.Bool.{eqb-true, eqb-false}
 use Rattle.nm_commit.specs.Files.{Fits}
 use Rattle.nm_commit.specs.declared.change.Commit.{Commit}
 use Rattle.nm_index.specs.declared.base.Base.{Base}
-use Rattle.nm_plan.specs.NameTags.{with_names}
 use Rattle.nm_writer.specs.Writing.{HasCommitted, IsAfterCommits}
-use Rattle.nm_writer.proofs.DoneLemmas.{commit-is, front-fits, no-commit, none-made, one-made}
+use Rattle.nm_writer.proofs.DoneLemmas.{commit-is, front-fits, named-is, no-commit, none-made, one-made}
 use Rattle.nm_writer.proofs.writer.Writer.commit_some.Goals as goal
 
 pub returns-then-is_empty-clause-after : goal.returns-then-is_empty-clause-after
@@ -23,8 +22,7 @@ with_names-requires g c = (
 pub returns-clause-after : goal.returns-clause-after
 returns-clause-after g c =
     let disk = g.D.Disk.observed c.commit.new.disk in
-    let named : c.in_ok-named.named.commit.changes ≡ with_names c.args.self.now.shown c.args.changes c.args.ids.now =
-    c.in_ok-named.ensures.commit ∙ (ap (λ (b : Base). with_names b c.args.changes c.as_slice.result.now) c.snapshot.ensures ∙ ap (with_names c.args.self.now.shown c.args.changes) c.as_slice.ensures) in
+    let named = named-is _ c.args.self.now.shown c.args.changes c.in_ok-named.named.commit.changes c.as_slice.result.now c.args.ids.now c.in_ok-named.ensures.commit c.snapshot.ensures c.as_slice.ensures in
     subst (λ (l : List Commit). IsAfterCommits c.args.self.now l disk.faults c.commit.result c.commit.new.self)
     (commit-is c.args.self.now.shown c.args.changes c.in_ok-named.named.commit.changes c.args.ids.now (eqb-false _ _ (sym c.is_empty.ensures ∙ c.if-is_empty.false)) named)
     (one-made c.args.self.now c.commit.new.self _ disk.clock disk.faults c.commit.result c.commit.ensures.after)

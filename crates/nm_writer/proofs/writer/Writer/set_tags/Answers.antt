@@ -23,7 +23,7 @@ returns-in_err-planned-clause-after g c =
 pub commit_changes-requires-clause-fit : goal.commit_changes-requires-clause-fit
 commit_changes-requires-clause-fit g c =
     let wanted = c.args.wanted.now.after in
-    let changes : c.in_ok-planned.planned.changes ≡ tag_changes c.args.self.now.shown wanted = c.in_ok-planned.ensures.changes ∙ ap (λ (b : Base). tag_changes b wanted) c.snapshot.ensures in
+    let changes : c.in_ok-planned.planned.changes ≡ tag_changes c.args.self.now.shown wanted = subst (λ (b : Base). c.in_ok-planned.planned.changes ≡ tag_changes b wanted) c.snapshot.ensures c.in_ok-planned.ensures.changes in
     let fit = subst (λ (l : List Change). FitInTurn c.args.self.now.shown (commit_with l)) (sym changes) (c.the_commit_of_tags_leaves_what_is_wanted.ensures.fits c.args.self.now.shown wanted) in
     search (rules, fit)
 
@@ -32,8 +32,8 @@ rename_files-requires-clause-fit g c =
     let wanted = c.args.wanted.now.after in
     let old = c.args.self.now in
     let mid = c.commit_changes.new.self in
-    let changes : c.in_ok-planned.planned.changes ≡ tag_changes old.shown wanted = c.in_ok-planned.ensures.changes ∙ ap (λ (b : Base). tag_changes b wanted) c.snapshot.ensures in
-    let are : c.in_ok-planned.planned.renames ≡ renames_for old.shown wanted = c.in_ok-planned.ensures.renames ∙ ap (λ (b : Base). renames_for b wanted) c.snapshot.ensures in
+    let changes : c.in_ok-planned.planned.changes ≡ tag_changes old.shown wanted = subst (λ (b : Base). c.in_ok-planned.planned.changes ≡ tag_changes b wanted) c.snapshot.ensures c.in_ok-planned.ensures.changes in
+    let are : c.in_ok-planned.planned.renames ≡ renames_for old.shown wanted = subst (λ (b : Base). c.in_ok-planned.planned.renames ≡ renames_for b wanted) c.snapshot.ensures c.in_ok-planned.ensures.renames in
     let made : HasCommitted old (tag_commit old.shown wanted) mid = subst (λ (l : List Change). HasCommitted old (commit_with l) mid) changes c.in-Ok.ensures.after in
     let fit = moves-fit c.tag_commits_fit.ensures old mid wanted c.in_ok-planned.planned.renames (subst (λ (w : WriterState). AreNumbered w.shown) c.self.view_is c.self.invariant.2)
     (subst (λ (w : WriterState). AreApart w.shown.files) c.self.view_is c.self.invariant.3) are (ap (λ (b : Base). b.files) made.shown ∙ c.the_commit_of_tags_leaves_what_is_wanted.ensures.files old.shown wanted) made in
@@ -44,8 +44,8 @@ returns-in-Ok-clause-after g c =
     let wanted = c.args.wanted.now.after in
     let old = c.args.self.now in
     let mid = c.commit_changes.new.self in
-    let changes : c.in_ok-planned.planned.changes ≡ tag_changes old.shown wanted = c.in_ok-planned.ensures.changes ∙ ap (λ (b : Base). tag_changes b wanted) c.snapshot.ensures in
-    let are : c.in_ok-planned.planned.renames ≡ renames_for old.shown wanted = c.in_ok-planned.ensures.renames ∙ ap (λ (b : Base). renames_for b wanted) c.snapshot.ensures in
+    let changes : c.in_ok-planned.planned.changes ≡ tag_changes old.shown wanted = subst (λ (b : Base). c.in_ok-planned.planned.changes ≡ tag_changes b wanted) c.snapshot.ensures c.in_ok-planned.ensures.changes in
+    let are : c.in_ok-planned.planned.renames ≡ renames_for old.shown wanted = subst (λ (b : Base). c.in_ok-planned.planned.renames ≡ renames_for b wanted) c.snapshot.ensures c.in_ok-planned.ensures.renames in
     let made : HasCommitted old (tag_commit old.shown wanted) mid = subst (λ (l : List Change). HasCommitted old (commit_with l) mid) changes c.in-Ok.ensures.after in
     tags-then old mid c.rename_files.new.self wanted c.rename_files.new.given (g.D.Disk.observed c.rename_files.new.disk).faults made c.in_ok-planned.planned.renames c.rename_files.result are
     (ap (λ (b : Base). b.files) made.shown ∙ c.the_commit_of_tags_leaves_what_is_wanted.ensures.files old.shown wanted) c.rename_files.ensures.tried c.rename_files.ensures.after
@@ -55,6 +55,6 @@ returns-in-Err-clause-after g c =
     let wanted = c.args.wanted.now.after in
     let old = c.args.self.now in
     let faults = (g.D.Disk.observed c.commit_changes.new.disk).faults in
-    let changes : c.in_ok-planned.planned.changes ≡ tag_changes old.shown wanted = c.in_ok-planned.ensures.changes ∙ ap (λ (b : Base). tag_changes b wanted) c.snapshot.ensures in
+    let changes : c.in_ok-planned.planned.changes ≡ tag_changes old.shown wanted = subst (λ (b : Base). c.in_ok-planned.planned.changes ≡ tag_changes b wanted) c.snapshot.ensures c.in_ok-planned.ensures.changes in
     tags-refused old c.commit_changes.new.self wanted c.args.given.now faults c.in-Err.error c.requires.fresh
     (subst (λ (l : List Change). IsAfterCommits {T = Unit {0}} old (commit_with l) faults (Err c.in-Err.error) c.commit_changes.new.self) changes c.in-Err.ensures.after)
