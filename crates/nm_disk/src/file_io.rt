@@ -5,12 +5,17 @@ ghost use Rattle.nm_base.specs.Limits.{max_count};
 
 use std::alloc::{AllocError, Global};
 use std::fs;
-use std::fs::{OpenOptions, TryLockError};
+use std::fs::{DirBuilder, OpenOptions, TryLockError};
 use std::io::{self, ErrorKind};
-use std::os::unix::fs::FileExt;
+use std::os::unix::fs::{DirBuilderExt, FileExt, OpenOptionsExt};
 
 /// The bytes of a head on which no index was made yet.
 const FRESH_HEAD: [u8; 128] = [0; 128];
+
+/// The index has every word of the mail, so what is made is its owner's alone. What exists keeps its mode.
+const FOLDER_MODE: u32 = 0o700;
+
+const FILE_MODE: u32 = 0o600;
 
 /// A call of the system failed, or there was no memory for a path.
 #[derive(Drop)]
@@ -34,16 +39,17 @@ impl From<AllocError> for DiskError {
     }
 }
 
-/// An open file, and whether it was written since the last sync that went well.
+/// An open file, and whether it may have been written since the last sync that went well. One that was just opened may: a process
+/// before this one may have written it and not synced it.
 #[derive(Drop)]
 pub(crate) struct DiskFile {
     file: fs::File,
-    is_written: bool,
+    may_be_written: bool,
 }
 
 /// Opens the folder, which is made where it is missing, and locks it against other processes.
 pub(crate) fn lock_folder(rt: &HostRuntime, folder: &str) -> Result<fs::File, DiskError> {
-    match fs::create_dir(rt, folder) {
+    match DirBuilder::new().mode(FOLDER_MODE).create(rt, folder) {
         Ok(()) => {}
         Err(error) if error.kind() == ErrorKind::AlreadyExists => {}
         Err(error) => return Err(DiskError::from(error)),
@@ -53,7 +59,8 @@ pub(crate) fn lock_folder(rt: &HostRuntime, folder: &str) -> Result<fs::File, Di
     Ok(held)
 }
 
-/// Makes a fresh head where there is none: as another file, which gets its name once it is on the disk.
+/// Makes a fresh head where there is none: as another file, which gets its name once it is on the disk. The folder has its name on the
+/// disk before, since it may just have been made.
 pub(crate) fn make_head(
     rt: &HostRuntime,
     alloc: Global,
@@ -65,11 +72,22 @@ pub(crate) fn make_head(
         Err(error) if error.kind() == ErrorKind::NotFound => {}
         Err(error) => return Err(DiskError::from(error)),
     }
+    sync_folder(rt, format!(in alloc; "{folder}/..")?.as_str())?;
     let fresh = format!(in alloc; "{folder}/head.tmp")?;
-    let file = fs::create(rt, fresh.as_str())?;
+    let file = OpenOptions::new()
+        .write(true)
+        .create(true)
+        .truncate(true)
+        .mode(FILE_MODE)
+        .open(rt, fresh.as_str())?;
     write_all(&file, 0, &FRESH_HEAD)?;
     file.sync_all()?;
     fs::rename(rt, fresh.as_str(), head)?;
+    Ok(())
+}
+
+fn sync_folder(rt: &HostRuntime, folder: &str) -> Result<(), DiskError> {
+    fs::open(rt, folder)?.sync_all()?;
     Ok(())
 }
 
@@ -80,10 +98,11 @@ pub(crate) fn open_or_make(rt: &HostRuntime, path: &str) -> Result<DiskFile, Dis
         .write(true)
         .create(true)
         .truncate(false)
+        .mode(FILE_MODE)
         .open(rt, path)?;
     Ok(DiskFile {
         file,
-        is_written: false,
+        may_be_written: true,
     })
 }
 
@@ -108,15 +127,15 @@ impl DiskFile {
         if at.checked_add(bytes.len() as u64).is_none() {
             return Err(DiskError);
         }
-        self.is_written = true;
+        self.may_be_written = true;
         write_all(&self.file, at, bytes)
     }
 
-    /// A file that was not written is left alone.
+    /// A file that was synced and not written since is left alone.
     pub(crate) fn sync(&mut self) -> Result<(), DiskError> {
-        if self.is_written {
+        if self.may_be_written {
             self.file.sync_data()?;
-            self.is_written = false;
+            self.may_be_written = false;
         }
         Ok(())
     }

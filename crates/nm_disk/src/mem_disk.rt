@@ -1,4 +1,4 @@
-//! A disk in memory, over which `rows_index` and `rows_session` run. It keeps what each call did, so that it can be
+//! A disk in memory, over which `test_index` and `test_session` run. It keeps what each call did, so that it can be
 //! stopped within each.
 
 ghost use Rattle.std.specs.Prelude.{◌≡◌, ◌≤◌, ◌+◌, ◌/◌, ℕ, [], Some, is_err, IfOk, OnOk, OnErr, length, min, replicate, take};

@@ -1,5 +1,5 @@
 //! A stop of a disk in memory within one of its calls: a disk that holds one of the images of that moment, for rows
-//! of `rows_index` and `rows_session`.
+//! of `test_index` and `test_session`.
 
 ghost use Rattle.std.specs.Prelude.{◌≡◌, ◌≤◌, IfOk, OnOk, replicate};
 ghost use Rattle.nm_disk.specs.Images.{IsImage, bytes_of, overwritten, with_bytes};
