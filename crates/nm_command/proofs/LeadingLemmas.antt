@@ -20,7 +20,7 @@ use Rattle.nm_command.specs.declared.leading.HeadError.{HeadError}
 use Rattle.nm_command.specs.declared.leading.HeadError.TheVariants.{Usage}
 use Rattle.nm_command.specs.declared.leading.Leading.{Leading}
 use Rattle.nm_command.proofs.NameLemmas.{is_name, name-cut, name-dashes_on, name-lacks, value-cut}
-use Rattle.nm_command.proofs.NumberLemmas.{moment-back, up_to-back}
+use Rattle.nm_command.proofs.NumberLemmas.{moment-back, workers-back}
 use Rattle.nm_command.proofs.RowLemmas.{AllRows, row-holds}
 
 -- the names of the options have dashes and no `=`
@@ -118,14 +118,14 @@ spelled-distinct mail index workers (Some (negsuc second)) = refl
 
 spelled-good : (leading : Leading) → IsTold leading → are_options (leading_spelled leading) ≡ true
 spelled-good leading is =
-    let workers : is_some (workers_in (decimal leading.workers)) ≡ true = ap is_some (up_to-back 16 leading.workers refl is.some is.few) in
+    let workers : is_some (workers_in (decimal leading.workers)) ≡ true = ap is_some (workers-back leading.workers is.some is.few) in
     and_from (list_all is_option (leading_spelled leading)) (are_distinct (leading_spelled leading))
     (and_from _ _ is.mail (and_from _ _ is.index (and_from _ _ workers (moment-good leading.moment is.moment))))
     (spelled-distinct leading.mail leading.index (decimal leading.workers) leading.moment)
 
 spelled-told : (leading : Leading) → IsTold leading → told_by (leading_spelled leading) ≡ leading
 spelled-told leading is =
-    ap (λ (workers : Option ℕ). record (told_by (leading_spelled leading)) { workers = or_default workers 4 }) (up_to-back 16 leading.workers refl is.some is.few)
+    ap (λ (workers : Option ℕ). record (told_by (leading_spelled leading)) { workers = or_default workers 4 }) (workers-back leading.workers is.some is.few)
     ∙ ap (λ (moment : Option ℤ). record (told_by (leading_spelled leading)) { workers = leading.workers; moment = moment }) (moment-told leading.moment is.moment)
     ∙ ap (λ (rest : ℕ). record leading { rest = rest }) (sym is.rest)
 
