@@ -157,7 +157,7 @@ module _ (line : ScriptLine) (index : Base) (moment : ℤ) (count : ℕ) (tree :
   makes-nothing outcomes.DiskFault unasked e = absurd (cc)
   makes-nothing (outcomes.Closed fault) unasked e = absurd (cc)
   makes-nothing (outcomes.Limit limit) unasked e = (inl (refl, inl (refl, e)), refl)
-  makes-nothing outcomes.NoMemory unasked e = (inl refl, refl)
+  makes-nothing outcomes.NoMemory unasked e = (inl (refl, inl refl), refl)
 
 module _ (line : ParsedLine) (input : List ℕ) (place : Place) (index : Base) (moment : ℤ) where
   has-cause : (why : Outcome) → is_unasked why ≡ true → refused_unasked line input place.writer.closed ≡ Some why

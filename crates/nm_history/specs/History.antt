@@ -21,7 +21,7 @@ pub record IsHistory (opening : Base) (input : List ℕ) (call : Call) : Type 0 
   pub phases_run : ℕ
   pub out_failed : Bool
   pub acknowledged : List Commit
-  pub opening_index : OpeningIndex ending call.entry.disk opening
+  pub opening_index : OpeningIndex ending call.entry.disk call.after.disk opening
   pub machine_run : MachineRun opening call.setting.moment (at_first opening call.entry) call.done.log.steps (lines_run input call) acknowledged (phases_ended ending phases_run)
   pub line_commits : LineCommits opening call.setting.moment call.entry.mail.tree call.done.log.steps (lane_zero_lines (lines_run input call)) acknowledged
   pub line_answers : LineAnswers opening call.setting.moment (at_first opening call.entry) call.done.log.steps (lane_zero_lines (lines_run input call))

@@ -1,6 +1,6 @@
 -- Which commits a line of lane 0 makes: all that are due, or by its outcome the first of them.
 -- Cited by `going_on`, `nm_session` and `nm_top`.
-use Rattle.std.specs.Prelude.{◌≡◌, ◌⊎◌, ℕ, ℤ, ◌+◌, Bool, false, List, [], ◌∷◌, ◌++◌, drop, length, map, Option, None, Some, if◌then◌else◌}
+use Rattle.std.specs.Prelude.{◌≡◌, ◌⊎◌, ℕ, ℤ, ◌+◌, Bool, false, List, [], ◌∷◌, ◌++◌, drop, length, map, Option, None, Some, ⊤, if◌then◌else◌}
 use Rattle.nm_answer.specs.Changes.{wanted_for}
 use Rattle.nm_answer.specs.Renaming.{renames_done, renames_for}
 use Rattle.nm_answer.specs.declared.request.Request.{Request}
@@ -64,12 +64,13 @@ pub record StopsAt (moment : ℤ) (tree : Option Tree) (index : Base) (line : Sc
   pub more : List Commit
   pub order : due ≡ made ++ commit ∷ more
 
--- the first of the commits due were made, all of them perhaps; or none
+-- Out of memory: the first of the commits due were made, all of them perhaps. What sets tags has asked then for the first of the renames
+-- due, or for nothing; what sets none has perhaps made none.
 abbrev pub MakesFirst : ℤ → Option Tree → Base → ScriptLine → List Given → List Commit → Type 0
 MakesFirst moment tree index line given made =
-    (made ≡ []) ⊎ ((left : List (List ℕ)) × (due more : List Commit) × AreDue moment tree index line given left due × (due ≡ made ++ more))
+    ((made ≡ []) × ((given ≡ []) ⊎ (asks_to_tag (parse_line line) ≡ false))) ⊎ ((left : List (List ℕ)) × (due more : List Commit) × AreDue moment tree index line given left due × (due ≡ made ++ more))
 
--- Behind a fault of the folder in a rename the tags are set; the commit of the files that were moved is made, or the disk failed in it, or
+-- Behind a fault of the folder in what sets tags the tags are set; the commit of the files that were moved is made, or the disk failed in it, or
 -- something else refused it.
 pub record MakesTags (index wanted : Base) (given : List Given) (made in_flight : List Commit) : Type 0 where
   pub moves : List Commit
@@ -77,7 +78,7 @@ pub record MakesTags (index wanted : Base) (given : List Given) (made in_flight 
   pub made_are : made ≡ tag_commit index wanted ++ moves
   pub order : moves ++ (in_flight ++ more) ≡ move_commit given
 
--- What was made before the folder failed, while paths were left: by a `new` all that was due, by a `tag` or a `restore` the
+-- What was made before the folder failed: by a `new` all that was due, by a `tag` or a `restore` the
 -- commit of the tags.
 abbrev pub MakesBefore : Request → List ℕ → ℤ → Base → List Given → List Commit → List Commit → List Commit → Type 0
 MakesBefore New input moment index given due made in_flight = (made ≡ due) × (in_flight ≡ [])
@@ -88,12 +89,22 @@ MakesBefore (Show ask) input moment index given due made in_flight = (made ≡ d
 MakesBefore (Tag ask) input moment index given due made in_flight = MakesTags index (wanted_for (Tag ask) input moment index) given made in_flight
 MakesBefore (Restore ask) input moment index given due made in_flight = MakesTags index (wanted_for (Restore ask) input moment index) given made in_flight
 
--- The folder failed with paths left, in a `new` or in what sets tags.
+-- A `new` had paths left to read. What sets tags may have done all its renames, since the folder may fail as their names are synced.
+abbrev pub MayFailWith : Request → List (List ℕ) → Type 0
+MayFailWith New left = (path : List ℕ) × (rest : List (List ℕ)) × (left ≡ path ∷ rest)
+MayFailWith (Count ask) left = ⊥
+MayFailWith (Search ask) left = ⊥
+MayFailWith (Dump ask) left = ⊥
+MayFailWith (Show ask) left = ⊥
+MayFailWith (Tag ask) left = ⊤
+MayFailWith (Restore ask) left = ⊤
+
+-- The folder failed in a `new`, with paths left, or in what sets tags, in a rename or behind them.
 pub record FailsBefore (moment : ℤ) (tree : Option Tree) (index : Base) (line : ScriptLine) (given : List Given) (made in_flight : List Commit) : Type 0 where
-  pub path : List ℕ
   pub left : List (List ℕ)
   pub due : List Commit
-  pub are_due : AreDue moment tree index line given (path ∷ left) due
+  pub are_due : AreDue moment tree index line given left due
+  pub may_fail : MayFailWith are_due.request left
   pub makes : MakesBefore are_due.request line.input moment index given due made in_flight
 
 -- nothing was made, and nothing is on its way
@@ -101,17 +112,17 @@ pub record MakesNothing (made in_flight : List Commit) : Type 0 where
   pub made_are : made ≡ []
   pub in_flight_is : in_flight ≡ []
 
--- The folder failed at a listing or in a show, and nothing was made; or with paths left.
+-- The folder failed at a listing or in a show, and nothing was made; or as a `new` read, or in what sets tags.
 abbrev pub MakesToFault : ℤ → Option Tree → Base → ScriptLine → List Given → List Commit → List Commit → Type 0
 MakesToFault moment tree index line given made in_flight =
     ((asks_to_tag (parse_line line) ≡ false) × ((given ≡ []) ⊎ (asks_to_write (parse_line line) ≡ false)) × MakesNothing made in_flight)
     ⊎ FailsBefore moment tree index line given made in_flight
 
--- the query of the line passes the limit, or the mail folder passed it as it was listed, or a show passed its bytes
+-- the query of the line passes the limit, or the mail folder passed it as a `new` listed it, or a show passed its bytes
 abbrev pub PassesUnmade : Option Tree → ScriptLine → List Given → Limit → Type 0
 PassesUnmade tree line given limit =
     ((given ≡ []) × (refused_unasked (parse_line line) line.input None ≡ Some (outcomes.Limit limit)))
-    ⊎ (((given ≡ []) × PassesListing tree limit) ⊎ ((asks_to_write (parse_line line) ≡ false) × (limit ≡ ShowBytes)))
+    ⊎ (((given ≡ []) × (parse_line line ≡ asked.Request New) × PassesListing tree limit) ⊎ ((asks_to_write (parse_line line) ≡ false) × (limit ≡ ShowBytes)))
 
 -- The limit was passed outside a commit, and nothing was made; or the next commit would pass it.
 abbrev pub MakesToLimit : ℤ → Option Tree → Base → ScriptLine → List Given → ℕ → List Commit → Limit → Type 0

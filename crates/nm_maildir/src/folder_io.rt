@@ -9,7 +9,7 @@ use crate::{Got, Listing, Renamed};
 use nm_base::{MailPath, Many, NoMemory, Text};
 use std::alloc::{AllocError, AllocFailed, Global};
 use std::collections::BTreeSet;
-use std::fs;
+use std::fs::{self, OpenFile};
 use std::io::{self, ErrorKind, Read};
 use std::rt::Files;
 
@@ -141,6 +141,25 @@ pub(crate) fn rename_in<R: Files + AllocGlobal>(
     }
     fs::rename(rt, source.as_str(), target.as_str())?;
     Ok(Renamed::Moved)
+}
+
+/// Has the names in a folder on the device. Some file systems, as those over a network, offer no
+/// sync of a folder; that is no failure, since nothing more can be asked.
+pub(crate) fn sync_names<R: Files + AllocGlobal>(
+    rt: &R,
+    root: &Text,
+    dir: &Text,
+) -> Result<(), FolderError> {
+    let place = full_path(rt.alloc(), root.as_str(), dir.as_str())?;
+    match fs::open(rt, place.as_str())?.sync_all() {
+        Ok(()) => Ok(()),
+        Err(error) if is_not_offered(&error) => Ok(()),
+        Err(error) => Err(FolderError::from(error)),
+    }
+}
+
+fn is_not_offered(error: &io::Error) -> bool {
+    error.kind() == ErrorKind::InvalidInput || error.kind() == ErrorKind::Unsupported
 }
 
 /// Whether the folder is there. The root itself may be a link, no folder below it may.

@@ -5,10 +5,12 @@ ghost use Rattle.nm_faults.specs.Faults.{Counts};
 ghost use Rattle.nm_maildir.specs.Observed.{is_mail_fault};
 ghost use Rattle.nm_maildir.specs.Order.{AreInOrder};
 
-use crate::folder_io::{FolderError, bytes_in, can_be_listed, names_at, rename_in};
+use crate::folder_io::{FolderError, bytes_in, can_be_listed, names_at, rename_in, sync_names};
 use crate::{Got, Listing, MailError, MailFolder, Maildir, Renamed};
 use nm_base::{Copies, Failed, MailPath, Text};
 use nm_faults::Faults;
+use std::alloc::Global;
+use std::collections::BTreeSet;
 use std::rt::Files;
 
 /// A real folder of mail. It follows no link below its root, fails at a name that is not UTF-8, and tells
@@ -17,8 +19,16 @@ use std::rt::Files;
 pub struct FolderMail<R> {
     rt: R,
     /// None as long as no folder was opened.
-    root: Option<Text>,
+    opened: Option<OpenFolder>,
     faults: Faults,
+}
+
+/// A folder that was opened.
+#[derive(Drop)]
+struct OpenFolder {
+    root: Text,
+    /// The folders below it in which a file was renamed since they were synced.
+    renamed_in: BTreeSet<Text>,
 }
 
 impl<R> FolderMail<R> {
@@ -26,7 +36,7 @@ impl<R> FolderMail<R> {
     pub fn new(rt: R) -> FolderMail<R> {
         FolderMail {
             rt,
-            root: None,
+            opened: None,
             faults: Faults::new(),
         }
     }
@@ -46,61 +56,102 @@ fn count_fault(faults: &mut Faults, error: FolderError) -> MailError
 }
 
 /// The root, where a folder was opened.
-fn opened(root: &Option<Text>) -> Result<&Text, FolderError> {
-    match root {
-        Some(root) => Ok(root),
+fn root_of(opened: &Option<OpenFolder>) -> Result<&Text, FolderError> {
+    match opened {
+        Some(folder) => Ok(&folder.root),
         None => Err(FolderError::Io),
     }
 }
 
 fn names_below<R: Files + AllocGlobal + Clone + Drop>(
     rt: &R,
-    root: &Option<Text>,
+    opened: &Option<OpenFolder>,
     dir: &Text,
 ) -> Result<Listing, FolderError>
     ensures { IfOk result (λ listing. AreInOrder listing) }
 {
-    names_at(rt, opened(root)?, dir)
+    names_at(rt, root_of(opened)?, dir)
 }
 
 fn bytes_below<R: Files + AllocGlobal>(
     rt: &R,
-    root: &Option<Text>,
+    opened: &Option<OpenFolder>,
     path: &MailPath,
     max: u64,
 ) -> Result<Got, FolderError> {
-    bytes_in(rt, opened(root)?, path, max)
+    bytes_in(rt, root_of(opened)?, path, max)
 }
 
+/// The folders of both names are noted first, so that no name is changed without a note.
 fn rename_below<R: Files + AllocGlobal>(
     rt: &R,
-    root: &Option<Text>,
+    opened: &mut Option<OpenFolder>,
     from: &MailPath,
     to: &MailPath,
 ) -> Result<Renamed, FolderError> {
-    rename_in(rt, opened(root)?, from, to)
+    let Some(folder) = opened else {
+        return Err(FolderError::Io);
+    };
+    note_folder(rt.alloc(), &mut folder.renamed_in, from)?;
+    note_folder(rt.alloc(), &mut folder.renamed_in, to)?;
+    rename_in(rt, &folder.root, from, to)
+}
+
+/// Notes the folder that a file lies in.
+fn note_folder(
+    alloc: Global,
+    folders: &mut BTreeSet<Text>,
+    path: &MailPath,
+) -> Result<(), FolderError> {
+    let Some((dir, _)) = path.text().as_str().rsplit_once('/') else {
+        return Ok(());
+    };
+    folders.insert(Text::of(alloc, dir)?)?;
+    Ok(())
+}
+
+/// Syncs the folders that were noted. Where one fails all are noted as before.
+fn sync_below<R: Files + AllocGlobal>(
+    rt: &R,
+    opened: &mut Option<OpenFolder>,
+) -> Result<(), FolderError> {
+    let Some(folder) = opened else {
+        return Err(FolderError::Io);
+    };
+    'folders: for dir in folder.renamed_in.iter() {
+        sync_names(rt, &folder.root, dir)?;
+    }
+    folder.renamed_in.clear();
+    Ok(())
 }
 
 impl<R: Files + AllocGlobal + Clone + Drop> Maildir for FolderMail<R> {
     ghost observed = { λ s. record { tree = None; reads = None; faults = s.faults } };
 
     fn list(&mut self, dir: &Text) -> Result<Listing, MailError> {
-        match names_below(&self.rt, &self.root, dir) {
+        match names_below(&self.rt, &self.opened, dir) {
             Ok(listing) => Ok(listing),
             Err(error) => Err(count_fault(&mut self.faults, error)),
         }
     }
 
     fn read(&mut self, path: &MailPath, max: u64) -> Result<Got, MailError> {
-        match bytes_below(&self.rt, &self.root, path, max) {
+        match bytes_below(&self.rt, &self.opened, path, max) {
             Ok(got) => Ok(got),
             Err(error) => Err(count_fault(&mut self.faults, error)),
         }
     }
 
     fn rename(&mut self, from: &MailPath, to: &MailPath) -> Result<Renamed, MailError> {
-        match rename_below(&self.rt, &self.root, from, to) {
+        match rename_below(&self.rt, &mut self.opened, from, to) {
             Ok(renamed) => Ok(renamed),
+            Err(error) => Err(count_fault(&mut self.faults, error)),
+        }
+    }
+
+    fn sync(&mut self) -> Result<(), MailError> {
+        match sync_below(&self.rt, &mut self.opened) {
+            Ok(()) => Ok(()),
             Err(error) => Err(count_fault(&mut self.faults, error)),
         }
     }
@@ -119,7 +170,8 @@ impl<R: Files + AllocGlobal + Clone + Drop> MailFolder for FolderMail<R> {
         let Ok(root) = dir.copy() else {
             return Err(self.faults.failed());
         };
-        self.root = Some(root);
+        let renamed_in = BTreeSet::new(self.rt.alloc());
+        self.opened = Some(OpenFolder { root, renamed_in });
         Ok(())
     }
 }

@@ -1,7 +1,7 @@
 //! Trees of mail in memory that follow one another, as where another program changes the folder between two calls,
-//! for `rows_session`.
+//! for `test_session`.
 
-ghost use Rattle.std.specs.Prelude.{◌≡◌, ◌<◌, ◌∷◌, length, IfOk};
+ghost use Rattle.std.specs.Prelude.{◌≡◌, ◌<◌, ◌∷◌, length, IfOk, IsOk};
 ghost use Rattle.nm_faults.specs.Faults.{Counts};
 ghost use Rattle.nm_maildir.specs.Observed.{KeepsMail, after_read, after_rename, is_mail_fault, tree_with};
 ghost use Rattle.nm_maildir.specs.Order.{AreInOrder};
@@ -117,6 +117,15 @@ impl Maildir for ShiftTree {
             Ok(renamed) => Ok(renamed),
             Err(error) => Err(self.count(error)),
         }
+    }
+
+    /// It has no device, so it finds no next tree.
+    fn sync(&mut self) -> Result<(), MailError>
+        ensures keeps { KeepsMail (observed_shift self.old) (observed_shift self.new) result }
+        ensures ok { IsOk result }
+        ensures same { self.new ≡ self.old }
+    {
+        Ok(())
     }
 
     fn faults(&self) -> u64 {

@@ -1,6 +1,6 @@
-//! A tree of mail in memory, which tells what it holds, for `rows_session` and the drills of `nm_drill`.
+//! A tree of mail in memory, which tells what it holds, for `test_session` and the drills of `nm_drill`.
 
-ghost use Rattle.std.specs.Prelude.{◌≡◌, is_err, is_some, IfOk, IfSome, IsTrue};
+ghost use Rattle.std.specs.Prelude.{◌≡◌, is_err, is_some, IfOk, IfSome, IsOk, IsTrue};
 ghost use Rattle.nm_faults.specs.Calls.{counted, is_next_listed};
 ghost use Rattle.nm_maildir.specs.Observed.{KeepsMail, OpensMail, after_read, after_rename};
 ghost use Rattle.nm_maildir.specs.Order.{AreInOrder};
@@ -118,6 +118,15 @@ impl Maildir for StillTree {
         let renamed = self.files.rename(from, to)?;
         self.calls.count();
         Ok(renamed)
+    }
+
+    /// What lies in memory has no device, so this is no call that is counted.
+    fn sync(&mut self) -> Result<(), MailError>
+        ensures keeps { KeepsMail (observed_still self.old) (observed_still self.new) result }
+        ensures ok { IsOk result }
+        ensures same { self.new ≡ self.old }
+    {
+        Ok(())
     }
 
     fn faults(&self) -> u64 {

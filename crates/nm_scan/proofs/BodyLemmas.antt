@@ -1,9 +1,10 @@
 -- Bodies are read one after the other, until all are there, or the reading stops.
--- For the proofs of `left_after`, `read_bodies` and `bytes_left_go_down_in_turn`.
-use Rattle.std.proofs.Common.{◌≡◌, ℕ, ◌+◌, ◌-◌, ◌<◌, List, [], ◌∷◌, ◌++◌, Option, length, take, drop, get_or, refl, sym, ap, ◌∙◌, subst, append-nil, append_assoc, arith}
+-- For the proofs of `left_after`, `read_body`, `read_bodies` and `bytes_left_go_down_in_turn`.
+use Rattle.std.proofs.Common.{◌≡◌, ℕ, ◌+◌, ◌-◌, ◌<◌, List, [], ◌∷◌, ◌++◌, Option, Ok, length, take, drop, get_or, refl, sym, ap, ◌∙◌, subst, append-nil, append_assoc, arith}
 use Rattle.std.proofs.lemmas.List.{drop_more, take-append-drop, take_more}
-use Rattle.nm_maildir.specs.Observed.{ObservedMail}
+use Rattle.nm_maildir.specs.Observed.{KeepsMail, ObservedMail, after_read}
 use Rattle.nm_maildir.specs.Tree.{Tree}
+use Rattle.nm_maildir.specs.declared.answers.Got.{Got}
 use Rattle.nm_maildir.specs.declared.given.Given.{Given}
 use Rattle.nm_maildir.specs.declared.given.Given.TheVariants as givens
 use Rattle.nm_maildir.specs.declared.given.ReadAnswer.{ReadAnswer}
@@ -11,6 +12,7 @@ use Rattle.nm_scan.proofs.ReadLemmas.{read_with-more, read_with-none, same_mail}
 use Rattle.nm_scan.specs.Bodies.{AreBodies, HasReadBodies, HasReadBody, IsBody, StopsAtBody, StopsInBodies, body_len, bytes_given, given_len, left_after}
 use Rattle.nm_scan.specs.Reading.{after_reads}
 use Rattle.nm_scan.specs.declared.bodies_error.BodiesError.{BodiesError}
+use Rattle.nm_scan.specs.declared.bodies_error.BodiesError.TheVariants.{NoMemory}
 
 -- ---- how many bytes
 
@@ -104,3 +106,15 @@ stopped_in_turn m0 m1 m2 left rest n0 n1 n2 paths i path h is before error stop 
     let are : paths ≡ take i paths ++ path ∷ drop (i + 1) paths =
     sym (take-append-drop i paths) ∙ (ap (λ (l : List (List ℕ)). take i paths ++ l) (drop_more paths i path h) ∙ ap (λ (item : List ℕ). take i paths ++ item ∷ drop (i + 1) paths) (sym is)) in
     stopped_bodies m0 m1 m2 left rest n0 n1 n2 (take i paths) path before paths (drop (i + 1) paths) error are stop
+
+-- a file was read, and there was no memory to note it
+pub stopped_at_note : (old new : ObservedMail) (left : ℕ) (old_given new_given : List Given) (path : List ℕ) (got : Got) → KeepsMail {T = Got} (after_read {T = Got} old path (Ok got)) new (Ok got) → new_given ≡ old_given
+    → StopsAtBody old new left old_given new_given path NoMemory
+stopped_at_note old new left old_given new_given path got keeps same = record {
+  asked = 1;
+  given = [];
+  given_is = same ∙ sym (append-nil old_given);
+  why = (omega arith, refl);
+  read = keeps.reads;
+  tree = keeps.tree;
+}

@@ -153,7 +153,7 @@ none-failed place = record { mail_same = refl; disk_well = refl }
 pub found-no-memory : (moment : ℤ) (place : Place) (line : ScriptLine) (noted : List Given) → noted ≡ [] → IsLineAnswer moment place line noted outcomes.NoMemory (newly_closed place.writer place.writer) (stays-at place noted)
 found-no-memory moment place line noted none =
     subst (λ (l : List Given). IsLineAnswer moment place line l outcomes.NoMemory (newly_closed place.writer place.writer) (stays-at place l)) (sym none)
-    (idle moment place line outcomes.NoMemory (inl refl, refl) (asks-early outcomes.NoMemory (parse_line line) place.writer.shown moment place.left place.mail refl) refl)
+    (idle moment place line outcomes.NoMemory (inl (refl, inl refl), refl) (asks-early outcomes.NoMemory (parse_line line) place.writer.shown moment place.left place.mail refl) refl)
 
 pub failed-ends : (moment : ℤ) (place : Place) (line : ScriptLine) (noted : List Given) (result : Result LineAnswer NoMemory) → IsErr result → noted ≡ [] → Ends moment place line noted result (stays-at place noted)
 failed-ends moment place line noted (Ok done) failed none = absurd (cc)
@@ -287,7 +287,7 @@ module _ (moment : ℤ) (place : Place) (line : ScriptLine) (request : Request) 
   text-refused (outcomes.Closed fault) of e = absurd (cc)
   text-refused (outcomes.Limit limit) of e =
       early (outcomes.Limit limit) refl refl (inl (refl, inl (refl, refused-as _ None e)), refl) (inl (refused-as _ place.writer.closed e), none-failed place)
-  text-refused outcomes.NoMemory of e = early outcomes.NoMemory refl refl (inl refl, refl) refl
+  text-refused outcomes.NoMemory of e = early outcomes.NoMemory refl refl (inl (refl, inl refl), refl) refl
 
   pub refused-ends : (outcome : Outcome) → refused_text_of request line.input ≡ Some outcome → Ends moment place line [] (Ok (refused_with outcome)) (stays-at place [])
   refused-ends outcome e = text-refused outcome (text-refuses request line.input outcome e) e

@@ -1,18 +1,19 @@
 -- How a line ends that changes the index, from what the writer did: what both a `new` and a `tag` need.
 -- For the proofs of `change_tags` and `run_new`.
-use Rattle.std.proofs.Common.{◌≡◌, ◌&&◌, inl, inr, ℕ, ℤ, ◌+◌, ◌≤◌, Bool, true, false, not, List, [], ◌∷◌, ◌++◌, Option, None, Some, IfSome, IsSome, MatchResult, is_some, Result, Ok, Err, length, refl, sym, ap, ◌∙◌, subst, append-nil, append_assoc, arith}
+use Rattle.std.proofs.Common.{◌≡◌, ◌&&◌, ◌⊎◌, inl, inr, ℕ, ℤ, ◌+◌, ◌≤◌, Bool, true, false, not, List, [], ◌∷◌, ◌++◌, Option, None, Some, IfSome, IsSome, MatchResult, is_some, Result, Ok, Err, length, refl, sym, ap, ◌∙◌, subst, append-nil, append_assoc, arith}
 use Rattle.std.proofs.lemmas.List.{length-append}
 use Rattle.nm_answer.specs.declared.request.Request.{Request}
+use Rattle.nm_answer.specs.declared.request.Request.TheVariants as requests
 use Rattle.nm_base.specs.declared.limit.Limit.{Limit}
 use Rattle.nm_base.specs.declared.memory.NoMemory.{NoMemory}
 use Rattle.nm_commit.specs.declared.change.Commit.{Commit}
 use Rattle.nm_faults.specs.Faults.{Counts}
 use Rattle.nm_history.specs.Given.{AsksMail, AsksNothing}
 use Rattle.nm_history.specs.LineAnswers.{HasCause}
-use Rattle.nm_history.specs.LineCommits.{IsOnItsWay, Makes}
+use Rattle.nm_history.specs.LineCommits.{IsOnItsWay, Makes, PassesUnmade}
 use Rattle.nm_history.specs.LineResult.{HasMade, Place, before_at}
 use Rattle.nm_history.specs.Lines.{closed_after, tree_after_line}
-use Rattle.nm_history.specs.Requests.{refused_closed, refused_unasked}
+use Rattle.nm_history.specs.Requests.{asks_to_tag, asks_to_write, refused_closed, refused_unasked}
 use Rattle.nm_index.specs.Fits.{FitInTurn}
 use Rattle.nm_index.specs.Index.{committed, folded}
 use Rattle.nm_index.specs.declared.base.Base.{Base}
@@ -23,6 +24,7 @@ use Rattle.nm_log.specs.declared.line_parser.ParsedLine.{ParsedLine}
 use Rattle.nm_log.specs.declared.line_parser.ParsedLine.TheVariants as asked
 use Rattle.nm_log.specs.declared.outcome.Outcome.{Outcome}
 use Rattle.nm_log.specs.declared.outcome.Outcome.TheVariants as outcomes
+use Rattle.nm_maildir.specs.Observed.{ObservedMail}
 use Rattle.nm_maildir.specs.Tree.{Tree}
 use Rattle.nm_maildir.specs.declared.given.Given.{Given}
 use Rattle.nm_scan.specs.Bodies.{left_after}
@@ -171,14 +173,40 @@ module _ (moment : ℤ) (old new : Place) (line : ScriptLine) (noted : List Give
 
 -- a line that finds no memory for its text
 
-makes-first : (error : WriteError) (moment : ℤ) (tree : Option Tree) (index : Base) (line : ScriptLine) (noted : List Given) (count : ℕ) (made in_flight : List Commit) → is_fault error ≡ false
+-- what writes nothing sets no tags
+sets-none : (line : ParsedLine) → asks_to_write line ≡ false → asks_to_tag line ≡ false
+sets-none (asked.Request requests.New) writes = refl
+sets-none (asked.Request (requests.Count ask)) writes = refl
+sets-none (asked.Request (requests.Search ask)) writes = refl
+sets-none (asked.Request (requests.Dump ask)) writes = refl
+sets-none (asked.Request (requests.Show ask)) writes = refl
+sets-none (asked.Request (requests.Tag ask)) writes = absurd (cc)
+sets-none (asked.Request (requests.Restore ask)) writes = absurd (cc)
+sets-none (asked.Usage word kind) writes = refl
+
+-- a limit that is passed outside a commit is told before a rename is asked
+unmade-limit : (tree : Option Tree) (line : ScriptLine) (noted : List Given) (limit : Limit) → PassesUnmade tree line noted limit → (noted ≡ []) ⊎ (asks_to_tag (parse_line line) ≡ false)
+unmade-limit tree line noted limit (inl query) = inl query.0
+unmade-limit tree line noted limit (inr (inl listing)) = inl listing.0
+unmade-limit tree line noted limit (inr (inr show)) = inr (sets-none (parse_line line) show.0)
+
+-- a closed writer asks nothing
+closed-asks : (error : WriteError) (line : ParsedLine) (input : List ℕ) (place : Place) (moment : ℤ) (old new : ObservedMail) (noted : List Given) (mail : ℕ) (failed : Bool)
+    → HasCause (outcome_of error) line input (before_at place) place.writer.shown moment noted mail failed → (IsSome (refused_unasked line input place.writer.closed) → AsksNothing old new noted)
+    → (fault : ℕ) → error ≡ errors.Closed fault → noted ≡ []
+closed-asks error line input place moment old new noted mail failed cause unasked fault is =
+    let why : refused_unasked line input place.writer.closed ≡ Some (outcomes.Closed fault) =
+    (subst (λ (e : WriteError). HasCause (outcome_of e) line input (before_at place) place.writer.shown moment noted mail failed) is cause).0 in
+    (unasked (subst (λ (r : Option Outcome). IsSome r) (sym why) refl)).given_is
+
+makes-first : (error : WriteError) (moment : ℤ) (tree : Option Tree) (index : Base) (line : ScriptLine) (noted : List Given) (count : ℕ) (made in_flight : List Commit) → is_fault error ≡ false → ((fault : ℕ) → error ≡ errors.Closed fault → noted ≡ [])
     → Makes (outcome_of error) moment tree index line noted count made in_flight → Makes outcomes.NoMemory moment tree index line noted count made in_flight
-makes-first errors.MailFault moment tree index line noted count made in_flight sound h = absurd (cc)
-makes-first errors.DiskFault moment tree index line noted count made in_flight sound h = absurd (cc)
-makes-first (errors.Closed fault) moment tree index line noted count made in_flight sound h = (inl h.made_are, h.in_flight_is)
-makes-first (errors.Limit limit) moment tree index line noted count made in_flight sound (inl passes, h) = (inl passes.0, h)
-makes-first (errors.Limit limit) moment tree index line noted count made in_flight sound (inr (commit, stops, passed), h) = (inr (stops.left, stops.due, commit ∷ stops.more, stops.are_due, stops.order), h)
-makes-first errors.NoMemory moment tree index line noted count made in_flight sound h = h
+makes-first errors.MailFault moment tree index line noted count made in_flight sound shut h = absurd (cc)
+makes-first errors.DiskFault moment tree index line noted count made in_flight sound shut h = absurd (cc)
+makes-first (errors.Closed fault) moment tree index line noted count made in_flight sound shut h = (inl (h.made_are, inl (shut fault refl)), h.in_flight_is)
+makes-first (errors.Limit limit) moment tree index line noted count made in_flight sound shut (inl passes, h) = (inl (passes.0, unmade-limit tree line noted limit passes.1), h)
+makes-first (errors.Limit limit) moment tree index line noted count made in_flight sound shut (inr (commit, stops, passed), h) = (inr (stops.left, stops.due, commit ∷ stops.more, stops.are_due, stops.order), h)
+makes-first errors.NoMemory moment tree index line noted count made in_flight sound shut h = h
 
 well-then-none : (moment : ℤ) (tree : Option Tree) (index : Base) (line : ScriptLine) (noted : List Given) (count : ℕ) (made in_flight : List Commit)
     → Makes outcomes.Ok moment tree index line noted count made in_flight → Makes outcomes.NoMemory moment tree index line noted count made in_flight
@@ -227,7 +255,8 @@ pub write-refused : (moment : ℤ) (old new : Place) (line : ScriptLine) (noted 
     → Ends moment old line noted result new
 write-refused moment old new line noted error (Err wanted) h asks said =
     without moment old new line noted (outcome_of error) (newly_closed old.writer new.writer) h
-    (makes-first error moment old.mail.tree old.writer.shown line noted (length old.writer.acked + length h.made) h.made h.in_flight said h.makes)
+    (makes-first error moment old.mail.tree old.writer.shown line noted (length old.writer.acked + length h.made) h.made h.in_flight said
+    (closed-asks error (parse_line line) line.input old moment old.mail new.mail noted new.mail.faults (newly_closed old.writer new.writer) h.cause h.unasked) h.makes)
     (cause-well error (parse_line line) line.input old moment noted new.mail.faults (newly_closed old.writer new.writer) said h.cause) asks
 write-refused moment old new line noted error (Ok done) h asks said =
     subst (λ (d : LineAnswer). Ends moment old line noted (Ok d) new) (sym said) (h, refused-said moment old new line noted (outcome_of error) (error-ill error))

@@ -83,7 +83,7 @@ module _ (moment : ℤ) (old new : Place) (line : ScriptLine) (noted : List Give
       let alive : old.writer.closed ≡ None = alive-by {T = NewReport} old.writer.closed (Err errors.MailFault) P Q shut refl in
       answered-with moment old new line noted requests.New is left (λ outcome. asks) tree unasked outcomes.MailFault due [] false (still made.closed)
       (made-some old.writer new.writer due made alive even are.fit)
-      (inr (record { path = path; left = rest; due = due; are_due = are-due (path ∷ rest) due are; makes = (refl, refl) })) refl made.closed mail.0 disk
+      (inr (record { left = path ∷ rest; due = due; are_due = are-due (path ∷ rest) due are; may_fail = (path, rest, refl); makes = (refl, refl) })) refl made.closed mail.0 disk
       (alive-asks old.writer.closed alive, refl, mail, λ (failed : false ≡ true). absurd (cc))
   new-answered P Q (Err errors.DiskFault) after shut mail disk even =
       let alive : old.writer.closed ≡ None = alive-by {T = NewReport} old.writer.closed (Err errors.DiskFault) P Q shut refl in
@@ -99,7 +99,7 @@ module _ (moment : ℤ) (old new : Place) (line : ScriptLine) (noted : List Give
   new-answered P Q (Err (errors.Limit limit)) (inl (none, passes, same)) shut mail disk even =
       let alive : old.writer.closed ≡ None = alive-by {T = NewReport} old.writer.closed (Err (errors.Limit limit)) P Q shut refl in
       answered-with moment old new line noted requests.New is left (λ outcome. asks) tree unasked (outcomes.Limit limit) [] [] false (still (ap (λ (w : WriterState). w.closed) same))
-      (made-none old.writer new.writer same) (inl (refl, inr (inl (none, passes))), refl) refl (ap (λ (w : WriterState). w.closed) same) (omega (arith, mail)) disk
+      (made-none old.writer new.writer same) (inl (refl, inr (inl (none, is, passes))), refl) refl (ap (λ (w : WriterState). w.closed) same) (omega (arith, mail)) disk
       (inr (inr (alive-asks old.writer.closed alive, refl)), none-failed mail)
   new-answered P Q (Err (errors.Limit limit)) (inr after) shut mail disk even =
       let alive : old.writer.closed ≡ None = alive-by {T = NewReport} old.writer.closed (Err (errors.Limit limit)) P Q shut refl in
@@ -116,7 +116,7 @@ module _ (moment : ℤ) (old new : Place) (line : ScriptLine) (noted : List Give
       refl passes.made.closed (omega (arith, mail)) disk (inr (inr (alive-asks old.writer.closed alive, refl)), none-failed mail)
   new-answered P Q (Err errors.NoMemory) (inl same) shut mail disk even =
       answered-with moment old new line noted requests.New is left (λ outcome. asks) tree unasked outcomes.NoMemory [] [] false (still (ap (λ (w : WriterState). w.closed) same))
-      (made-none old.writer new.writer same) (inl refl, refl) refl (ap (λ (w : WriterState). w.closed) same) (omega (arith, mail)) disk refl
+      (made-none old.writer new.writer same) (inl (refl, inr no-tag), refl) refl (ap (λ (w : WriterState). w.closed) same) (omega (arith, mail)) disk refl
   new-answered P Q (Err errors.NoMemory) (inr after) shut mail disk even =
       let alive : old.writer.closed ≡ None = alive-by {T = NewReport} old.writer.closed (Err errors.NoMemory) P Q shut refl in
       let stops : StopsWithin old.writer after.1 new.writer = after.3 in

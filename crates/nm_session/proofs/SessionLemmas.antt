@@ -11,6 +11,7 @@ use Rattle.nm_disk.specs.declared.disk.FileNo.TheVariants.{Head}
 use Rattle.nm_faults.specs.Faults.{Counts}
 use Rattle.nm_history.specs.CrashPrefix.{CrashPrefix, KeepsCommits, appends}
 use Rattle.nm_history.specs.Lines.{begun}
+use Rattle.nm_history.specs.OpeningIndex.{IsUnwritten}
 use Rattle.nm_index.specs.declared.base.Base.{Base}
 use Rattle.nm_journal.specs.Journal.{IfTold}
 use Rattle.nm_journal.specs.Moments.{GoesThrough, IsSynced, SyncsOrFails}
@@ -21,6 +22,14 @@ use Rattle.nm_writer.specs.Opening.{HasOpenFault, IsOfHead, is_disk_fault}
 use Rattle.nm_writer.specs.StoredIndex.{HoldsIndex, HoldsNoIndex, HoldsWithin, PassesLimit}
 use Rattle.nm_writer.specs.declared.open_error.OpenError.{OpenError}
 use Rattle.nm_writer.specs.declared.open_error.OpenError.TheVariants as errors
+
+-- a disk that was not asked was not written
+unwritten-told : (told : Option Moments) → GoesOn SyncsOrFails told told
+unwritten-told None = tt
+unwritten-told (Some m) = inl (inl refl)
+
+pub unasked-unwritten : (disk : ObservedDisk) → IsUnwritten disk disk
+unasked-unwritten disk = unwritten-told disk.told
 
 module _ (stays : (before now : Moments) → IsImage before.present before.present.now → SyncsOrFails before now → GoesThrough Head (MayLeave before.present Head) before now → KeepsCommits [] [] before now) where
   unasked-told : (told : Option Moments) → IfSome told (λ moments. IsImage moments.present moments.present.now) → IfTold told told (KeepsCommits [] [])

@@ -168,7 +168,7 @@ module _ (moment : ℤ) (writer : WriterState) (old_mail new_mail : ObservedMail
 
   -- a line that found no memory, wherever
   wanted : AsksSome old_mail new_mail left (lead_paths writer.shown ids) noted → old_mail.faults ≤ new_mail.faults → IsLineAnswer moment old line noted outcomes.NoMemory (newly_closed writer writer) new
-  wanted asks grows = answered outcomes.NoMemory (inl refl, refl) asks (some-tree old_mail new_mail left (lead_paths writer.shown ids) noted asks) grows refl
+  wanted asks grows = answered outcomes.NoMemory (inl (refl, inr (ap asks_to_tag is)), refl) asks (some-tree old_mail new_mail left (lead_paths writer.shown ids) noted asks) grows refl
 
   show-well : (text : List ℕ) → IsAfterShow ask writer.shown moment query left old_mail new_mail noted (Ok text) → new_mail.faults ≡ old_mail.faults
       → Ends moment old line noted (Ok (replied_with (requests.Show ask) text)) new

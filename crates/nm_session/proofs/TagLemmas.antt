@@ -15,7 +15,7 @@ use Rattle.nm_faults.specs.Faults.{Counts, HasCauseOf}
 use Rattle.nm_flags.specs.declared.renames.Rename.{Rename}
 use Rattle.nm_history.specs.Given.{AsksMail, AsksNothing}
 use Rattle.nm_history.specs.LineAnswers.{NoneFailed}
-use Rattle.nm_history.specs.LineCommits.{AreDue, FindsFor, FindsRenames, MakesBefore, MakesTags, renames_left}
+use Rattle.nm_history.specs.LineCommits.{AreDue, FindsFor, FindsRenames, MakesBefore, MakesTags, MayFailWith, renames_left}
 use Rattle.nm_history.specs.LineResult.{Place, before_at}
 use Rattle.nm_history.specs.Lines.{given_in, tree_after_line}
 use Rattle.nm_history.specs.Requests.{first_refusal, is_asking, is_tagging, is_writing, refused_closed, refused_reading, refused_text_of, refused_unasked}
@@ -65,11 +65,6 @@ tree-is : (old new : Option Tree) (more noted : List Given) → noted ≡ [] ++ 
 tree-is old new more noted same h = subst (λ (l : List Given). new ≡ option_map (λ t. fold given_in t l) old) (sym same) (trees-along old new more h)
 
 -- the renames that are left
-
-first-left : (n : ℕ) (renames : List Rename) → n < length renames → (path : List ℕ) × (left : List (List ℕ)) × (map (λ rename. rename.from) (drop n renames) ≡ path ∷ left)
-first-left n [] within = absurd (omega (arith, within))
-first-left zero (rename ∷ more) within = (rename.from, map (λ r. r.from) more, refl)
-first-left (suc n) (rename ∷ more) within = first-left n more (omega (arith, within))
 
 none-left : (index wanted : Base) (noted : List Given) → HasDoneAll index wanted noted → [] ≡ renames_left index wanted noted
 none-left index wanted noted all =
@@ -156,6 +151,16 @@ makes-in (requests.Dump ask) tags input moment index noted due made in_flight h 
 makes-in (requests.Show ask) tags input moment index noted due made in_flight h = absurd (cc)
 makes-in (requests.Tag ask) tags input moment index noted due made in_flight h = h
 makes-in (requests.Restore ask) tags input moment index noted due made in_flight h = h
+
+-- the folder may fail in it with any paths left
+may-fail-in : (request : Request) → is_tagging request ≡ true → (left : List (List ℕ)) → MayFailWith request left
+may-fail-in requests.New tags left = absurd (cc)
+may-fail-in (requests.Count ask) tags left = absurd (cc)
+may-fail-in (requests.Search ask) tags left = absurd (cc)
+may-fail-in (requests.Dump ask) tags left = absurd (cc)
+may-fail-in (requests.Show ask) tags left = absurd (cc)
+may-fail-in (requests.Tag ask) tags left = tt
+may-fail-in (requests.Restore ask) tags left = tt
 
 -- it asks the folder for renames
 asks-in : (request : Request) → is_tagging request ≡ true → (outcome : Outcome) (index : Base) (moment : ℤ) (left : ℕ) (old new : ObservedMail) (noted : List Given)
@@ -287,11 +292,8 @@ module _ (moment : ℤ) (old new : Place) (line : ScriptLine) (noted : List Give
   rises-by (Some fault) faults shut h = h
 
   -- behind a fault of the folder, by what became of the commit of the moves
-  module _ (alive : old.writer.closed ≡ None) (even : IsEven old.writer) (tried : HasTried index wanted noted) (short : length (renames_done index wanted noted) < length (renames_for index wanted))
+  module _ (alive : old.writer.closed ≡ None) (even : IsEven old.writer) (tried : HasTried index wanted noted)
       (mid : WriterState) (tags : HasCommitted old.writer (tag_commit index wanted) mid) (mail : Counts true old.mail.faults new.mail.faults) (disk : Counts (is_some new.writer.closed) old.disk_faults new.disk_faults) where
-    abbrev front : (path : List ℕ) × (rest : List (List ℕ)) × (renames_left index wanted noted ≡ path ∷ rest)
-    front = first-left (length (renames_done index wanted noted)) (renames_for index wanted) short
-
     faulted : (moves more : List Commit) → move_commit noted ≡ moves ++ more → HasCommitted mid moves new.writer → IsLineAnswer moment old line noted outcomes.MailFault (newly_closed old.writer new.writer) new
     faulted moves more order made =
         let all : HasCommitted old.writer (tag_commit index wanted ++ moves) new.writer = committed-then old.writer mid new.writer (tag_commit index wanted) moves tags made in
@@ -299,10 +301,10 @@ module _ (moment : ℤ) (old new : Place) (line : ScriptLine) (noted : List Give
         answered-with moment old new line noted request is left asks-so tree unasked outcomes.MailFault (tag_commit index wanted ++ moves) [] false (still all.closed)
         (made-some old.writer new.writer (tag_commit index wanted ++ moves) all alive even (fit-front index (tag_commit index wanted ++ moves) more (subst (FitInTurn index) whole (fits tried))))
         (inr (record {
-          path = front.0;
-          left = front.1;
+          left = renames_left index wanted noted;
           due = due;
-          are_due = are-due (front.0 ∷ front.1) tried (sym front.2);
+          are_due = are-due (renames_left index wanted noted) tried refl;
+          may_fail = may-fail-in request kind (renames_left index wanted noted);
           makes = makes-in request kind line.input moment index noted due (tag_commit index wanted ++ moves) [] (record { moves = moves; more = more; made_are = refl; order = sym order });
         })) refl all.closed mail.0 (stands-by new.writer.closed (all.closed ∙ alive) disk)
         (may-ask old.writer.closed (alive-asks old.writer.closed alive), asking-in request kind, mail, λ (failed : false ≡ true). absurd (cc))
@@ -313,10 +315,10 @@ module _ (moment : ℤ) (old new : Place) (line : ScriptLine) (noted : List Give
         answered-with moment old new line noted request is left asks-so tree unasked outcomes.MailFault all.done (all.commit ∷ []) true (gets-closed old.writer new.writer new.disk_faults alive all.closed)
         (made-failing old.writer new.writer due new.disk_faults all alive even (fits tried))
         (inr (record {
-          path = front.0;
-          left = front.1;
+          left = renames_left index wanted noted;
           due = due;
-          are_due = are-due (front.0 ∷ front.1) tried (sym front.2);
+          are_due = are-due (renames_left index wanted noted) tried refl;
+          may_fail = may-fail-in request kind (renames_left index wanted noted);
           makes = makes-in request kind line.input moment index noted due all.done (all.commit ∷ []) (record { moves = h.done; more = h.more; made_are = refl; order = sym h.due_are });
         })) refl all.closed mail.0 (rises-by new.writer.closed new.disk_faults all.closed disk)
         (may-ask old.writer.closed (alive-asks old.writer.closed alive), asking-in request kind, mail, λ (failed : true ≡ true). kind)
@@ -347,7 +349,7 @@ module _ (moment : ℤ) (old new : Place) (line : ScriptLine) (noted : List Give
       (may-ask old.writer.closed (alive-asks old.writer.closed alive), reads-in request kind index moment old.left noted, none-failed mail)
   tag-answered P Q (Err errors.MailFault) after shut mail disk idle even =
       let alive : old.writer.closed ≡ None = alive-by {T = SyncReport} old.writer.closed (Err errors.MailFault) P Q shut refl in
-      by-moves alive even after.0 after.1 after.2.0 after.2.1 mail (disk alive) after.2.2.outcome after.2.2.after
+      by-moves alive even after.0 after.1.0 after.1.1 mail (disk alive) after.1.2.outcome after.1.2.after
   tag-answered P Q (Err errors.DiskFault) after shut mail disk idle even =
       let alive : old.writer.closed ≡ None = alive-by {T = SyncReport} old.writer.closed (Err errors.DiskFault) P Q shut refl in
       let fails : FailsWithin old.writer due new.disk_faults new.writer = after.1 in

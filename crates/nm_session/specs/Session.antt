@@ -6,7 +6,7 @@ use Rattle.nm_disk.specs.declared.disk.FileNo.TheVariants.{Head}
 use Rattle.nm_faults.specs.Faults.{HasRisen}
 use Rattle.nm_history.specs.Call.{Devices, Ran}
 use Rattle.nm_history.specs.CrashPrefix.{CrashPrefix}
-use Rattle.nm_history.specs.OpeningIndex.{OpeningIndex}
+use Rattle.nm_history.specs.OpeningIndex.{IsUnwritten, OpeningIndex}
 use Rattle.nm_index.specs.declared.base.Base.{Base}
 use Rattle.nm_io.specs.Observed.{ObservedStream}
 use Rattle.nm_lanes.specs.declared.script.Phase.{Phase}
@@ -24,7 +24,7 @@ use Rattle.nm_writer.specs.declared.open_error.OpenError.TheVariants as errors
 -- acknowledged.
 pub record IsSession (moment : ℤ) (entry : Devices) (phases : List Phase) (session : Bool) (mail : ObservedMail) (disk : ObservedDisk) (out : ObservedStream) (failed : Bool) (log : SessionLog) : Type 0 where
   pub opening : Base
-  pub opening_index : OpeningIndex Ran entry.disk opening
+  pub opening_index : OpeningIndex Ran entry.disk disk opening
   pub run : HasRun moment opening entry phases session mail disk.faults out failed log
   pub crash_prefix : CrashPrefix entry.disk disk log.steps log.acked
 
@@ -35,10 +35,11 @@ HasOpenCause old new (errors.BadIndex file at) = (file ≡ Head) × IfSome old.t
 HasOpenCause old new (errors.Limit limit) = IfSome old.told (λ moments. PassesLimit (bytes_now moments Head) limit)
 HasOpenCause old new errors.NoMemory = Unit {0}
 
--- No index was opened: no line was run, and every moment leaves the index that the disk held.
+-- No index was opened: no line was run, nothing was written, and every moment leaves the index that the disk held.
 pub record IsUnopened (old_mail new_mail : ObservedMail) (old new : ObservedDisk) (error : OpenError) : Type 0 where
   pub mail : new_mail ≡ old_mail
   pub cause : HasOpenCause old new error
+  pub unwritten : IsUnwritten old new
   pub crash_prefix : CrashPrefix old new [] []
 
 -- ---- before the opening

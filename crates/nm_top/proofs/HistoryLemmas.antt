@@ -5,6 +5,7 @@ use Rattle.nm_command.specs.Requests.{request_of}
 use Rattle.nm_command.specs.declared.command_error.CommandError.{CommandError}
 use Rattle.nm_command.specs.declared.command_error.CommandError.TheVariants as command_errors
 use Rattle.nm_command.specs.declared.request.Request as asks
+use Rattle.nm_disk.specs.Calls.{GoesOn}
 use Rattle.nm_disk.specs.Images.{IsImage}
 use Rattle.nm_disk.specs.Observed.{Moments, ObservedDisk}
 use Rattle.nm_history.specs.Call.{Devices, PlacedLine, Ran, Refused, call_fault, call_lines, call_of, call_phases, call_reads, devices, fault_by, fault_of_session, input_fault, input_fault_by, is_session, phases_by, reads_by}
@@ -15,6 +16,7 @@ use Rattle.nm_history.specs.LineAnswers.{LaneAnswers, LineAnswers}
 use Rattle.nm_history.specs.LineCommits.{LineCommits}
 use Rattle.nm_history.specs.Lines.{RunLine, at_first, lane_zero_lines, other_lane_lines, run_lines}
 use Rattle.nm_history.specs.MachineRun.{MachineRun}
+use Rattle.nm_history.specs.OpeningIndex.{IsUnwritten}
 use Rattle.nm_history.specs.PrintedOut.{Prints, final_message}
 use Rattle.nm_history.specs.Refusals.{IsRead, IsRefusedFor, RefusesLine, TakesInput}
 use Rattle.nm_history.specs.Status.{status_by}
@@ -26,6 +28,7 @@ use Rattle.nm_io.specs.Taking.{HasTakeCause}
 use Rattle.nm_io.specs.declared.taking.TakeError.{TakeError}
 use Rattle.nm_io.specs.declared.taking.TakeError.TheVariants as takes
 use Rattle.nm_journal.specs.Journal.{IfTold}
+use Rattle.nm_journal.specs.Moments.{SyncsOrFails}
 use Rattle.nm_lanes.specs.declared.script.Phase.{Phase}
 use Rattle.nm_log.specs.Refusals.{refused_line, refused_status}
 use Rattle.nm_log.specs.declared.log.Done.{Done}
@@ -56,13 +59,18 @@ unasked-told : RefusalLaws → (told : Option Moments) → IfSome told (λ momen
 unasked-told laws None image = tt
 unasked-told laws (Some m) image = laws.stays m m image (inl (inl refl)) (record { states = []; each = tt; are = refl })
 
+-- a disk that was not asked was not written
+unwritten-told : (told : Option Moments) → GoesOn SyncsOrFails told told
+unwritten-told None = tt
+unwritten-told (Some m) = inl (inl refl)
+
 -- a disk that was not asked
 pub unasked : RefusalLaws → (disk : ObservedDisk) → IfSome disk.told (λ moments. IsImage moments.present moments.present.now) → CrashPrefix disk disk [] []
 unasked laws disk image = record { every_moment = unasked-told laws disk.told image; one_each = refl; clocks = omega arith }
 
 module _ (laws : RefusalLaws) (refusal : Refusal) (input : List ℕ) (words : List (List ℕ)) (setting : Setting) (entry after : Devices)
     (cause : (done : Done) → IsRefusedFor refusal input (call_of words setting entry after done)) (kept : CrashPrefix entry.disk after.disk [] [])
-    (same_mail : after.mail ≡ entry.mail) (same_out : after.out ≡ entry.out) where
+    (unwritten : IsUnwritten entry.disk after.disk) (same_mail : after.mail ≡ entry.mail) (same_out : after.out ≡ entry.out) where
   given-none : GivenAlong empty_index setting.moment [] (at_first empty_index entry) (lane_zero_lines (run_lines (call_lines words input) no_logs)) entry.mail after.mail
   given-none = subst (λ (m : ObservedMail). GivenAlong empty_index setting.moment [] (at_first empty_index entry) (lane_zero_lines (run_lines (call_lines words input) no_logs)) entry.mail m) (sym same_mail)
       (subst (λ (l : List RunLine). GivenAlong empty_index setting.moment [] (at_first empty_index entry) (lane_zero_lines l) entry.mail entry.mail) (sym (none-run (call_lines words input))) (laws.given empty_index setting.moment entry))
@@ -76,7 +84,7 @@ module _ (laws : RefusalLaws) (refusal : Refusal) (input : List ℕ) (words : Li
       phases_run = 0;
       out_failed = false;
       acknowledged = [];
-      opening_index = tt;
+      opening_index = unwritten;
       machine_run = subst (λ (l : List RunLine). MachineRun empty_index setting.moment (at_first empty_index entry) [] l [] 0) (sym (none-run (call_lines words input))) (laws.run empty_index setting.moment entry);
       line_commits = subst (λ (l : List RunLine). LineCommits empty_index setting.moment entry.mail.tree [] (lane_zero_lines l) []) (sym (none-run (call_lines words input))) (laws.commits empty_index setting.moment entry);
       line_answers = subst (λ (l : List RunLine). LineAnswers empty_index setting.moment (at_first empty_index entry) [] (lane_zero_lines l)) (sym (none-run (call_lines words input))) (laws.answers empty_index setting.moment entry);
@@ -98,7 +106,7 @@ pub unasked-history : RefusalLaws → (refusal : Refusal) (input : List ℕ) (wo
     → ((done : Done) → IsRefusedFor refusal input (call_of words setting (devices mail disk old out err) (devices mail disk new out said) done))
     → (done : Done) → Refuses refusal err said done → History (call_of words setting (devices mail disk old out err) (devices mail disk new out said) done)
 unasked-history laws refusal input words setting mail disk old new out err said image cause done ends =
-    refused-history laws refusal input words setting (devices mail disk old out err) (devices mail disk new out said) cause (unasked laws disk image) refl refl done ends
+    refused-history laws refusal input words setting (devices mail disk old out err) (devices mail disk new out said) cause (unasked laws disk image) (unwritten-told disk.told) refl refl done ends
 
 -- a single command that is refused before the mail folder and the disk are asked
 pub line-history : RefusalLaws → (why : Outcome) (input : List ℕ) (words : List (List ℕ)) (setting : Setting) (mail : ObservedMail) (disk : ObservedDisk) (old new out err said : ObservedStream)
@@ -160,7 +168,7 @@ pub unopened-history : RefusalLaws → (error : OpenError) (refusal : Refusal) (
 unopened-history laws error refusal input words setting mail new_mail disk new_disk old new out new_out err said is sound takes right unopened still done ends =
     refused-history laws (refusal_of error) input words setting (devices mail disk old out err) (devices new_mail new_disk new new_out said)
     (λ d. open-cause error input words setting (devices mail disk old out err) (devices new_mail new_disk new new_out said) d sound takes right unopened.cause)
-    unopened.crash_prefix unopened.mail still done (subst (λ (r : Refusal). Refuses r err said done) is ends)
+    unopened.crash_prefix unopened.unwritten unopened.mail still done (subst (λ (r : Refusal). Refuses r err said done) is ends)
 
 -- a call that runs its phases
 pub ran-history : (input : List ℕ) (words : List (List ℕ)) (setting : Setting) (entry after : Devices) (phases : List Phase) (status : ℕ) (log : SessionLog) (out_failed : Bool)

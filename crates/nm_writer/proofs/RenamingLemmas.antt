@@ -25,7 +25,7 @@ use Rattle.nm_maildir.specs.declared.given.Given.TheVariants as givens
 use Rattle.nm_answer.specs.Renaming.{IsFree, IsLong, IsTaken, Outcome, Target, WasLong, WasTaken, WasTried, answer_given, files_moved, note_of, outcomes, target_of, unmoved_in}
 use Rattle.nm_plan.specs.Moving.{move_given, move_if}
 use Rattle.nm_answer.specs.declared.sync_report.Unmoved.{Unmoved}
-use Rattle.nm_writer.specs.Renamed.{AnswersAlong, AreTried, AsksRenames, HasPlaces, IsDone, IsKept, IsLeft, TreesAlong, files_given, outcomes_given}
+use Rattle.nm_writer.specs.Renamed.{AnswersAlong, AreTried, AsksRenames, HasPlaces, IsDone, IsKept, TreesAlong, files_given, outcomes_given}
 use Rattle.nm_writer.specs.declared.renaming.Renaming.{Renaming}
 use Rattle.nm_base.specs.SetLaws.{bytes_same}
 
@@ -116,14 +116,6 @@ all-count files plan given kept h = omega (arith, ap (λ (l : List Outcome). len
 pub all-kept : (files : List File) (plan : List Rename) (given : List Given) (kept : List (List ℕ × Unmoved)) → InRenames files plan [] given kept → kept ≡ flat_map unmoved_in (outcomes_given files plan given)
 all-kept files plan given kept h = h.kept_are ∙ ap (flat_map unmoved_in) (sym (all-done files plan given kept h))
 
--- where one is left to be tried, not all are
-pub left-count : (files : List File) (plan : List Rename) (rename : Rename) (rest : List Rename) (given : List Given) (kept : List (List ℕ × Unmoved)) → InRenames files plan (rename ∷ rest) given kept → IsLeft (files_given files given) rename
-    → length (outcomes_given files plan given) < length plan
-left-count files plan rename rest given kept h left =
-    let are : outcomes_given files plan given ≡ h.done =
-    ap (outcomes files plan) (sym (append-nil (flat_map answer_given given))) ∙ (h.goes [] ∙ (ap (λ (l : List Outcome). h.done ++ l) (left rest) ∙ append-nil h.done)) in
-    omega (arith, ap (λ (l : List Outcome). length l) are, h.count)
-
 -- what a rename becomes
 abbrev pub long-done : (files : List File) (rename : Rename) (old new : List Given) → rename.to ≡ None → new ≡ old → IsDone files rename old new
 long-done files rename old new is same = record {
@@ -154,10 +146,6 @@ tried-done files rename to answer old new is free given = record {
       ∙ ap (λ (f : List File). WasTried rename.from to answer ∷ outcomes f more told) (sym (moved-given files rename.from to answer)));
   given_is = given;
 }
-
-pub still-left : (files : List File) (rename : Rename) (to : List ℕ) → rename.to ≡ Some to → has_path files to ≡ false → IsLeft files rename
-still-left files rename to is free = λ more.
-    ap (λ (o : Option (List ℕ)). at_target files rename.from more [] (target_of files o)) is ∙ ap (λ (b : Bool). at_target files rename.from more [] (cond b IsTaken (IsFree to))) free
 
 -- what is kept after an answer
 pub kept-more : (files : List File) (given now : List Given) (from to : List ℕ) (answer : Renamed) (done new : Renaming) → IsKept files given done → now ≡ given ++ givens.Renamed from to answer ∷ [] → new.moves ≡ done.moves ++ move_if from to answer

@@ -128,7 +128,7 @@ nothing-set old wanted given faults none = (none-tried old.shown wanted given no
 module _ (old mid new : WriterState) (wanted : Base) (given : List Given) (faults : ℕ) (made : HasCommitted old (tag_commit old.shown wanted) mid) where
   renames-then : (result : Result SyncReport WriteError) → HasTried old.shown wanted given → IsAfterRenames old.shown.files (renames_for old.shown wanted) given mid faults result new → IsAfterTags wanted given old faults result new
   renames-then (Ok report) tried h = (tried, h.0, made-made old mid new (tag_commit old.shown wanted) (move_commit given) made h.1, ap (λ (l : List (List ℕ × Unmoved)). report_of l) h.2)
-  renames-then (Err errors.MailFault) tried h = (tried, h.0, (mid, made, h.1))
+  renames-then (Err errors.MailFault) tried h = (tried, (mid, made, h))
   renames-then (Err errors.DiskFault) tried h = (tried, then-made {T = Unit {0}} old mid new (tag_commit old.shown wanted) (move_commit given) faults (Err errors.DiskFault) made h)
   renames-then (Err (errors.Closed fault)) tried h = absurd h
   renames-then (Err (errors.Limit limit)) tried h = (tried, then-made {T = Unit {0}} old mid new (tag_commit old.shown wanted) (move_commit given) faults (Err (errors.Limit limit)) made h)

@@ -36,10 +36,6 @@ pub record IsDone (files : List (List ℕ × Facts)) (rename : Rename) (old new 
   pub first : (more : List Rename) (told : List Renamed) → outcomes files (rename ∷ more) (flat_map answer_given (note_of outcome) ++ told) ≡ outcome ∷ outcomes (files_given files (note_of outcome)) more told
   pub given_is : new ≡ old ++ note_of outcome
 
--- the rename is to be tried
-abbrev pub IsLeft : List (List ℕ × Facts) → Rename → Type 0
-IsLeft files rename = (more : List Rename) → outcomes files (rename ∷ more) [] ≡ []
-
 -- whether a file lies there, as it is kept of the paths that moves freed and took, and else as it was before them
 abbrev pub HasPlaces : List (List ℕ × Facts) → List (List ℕ × Facts) → BTreeMap (List ℕ) Bool → Type 0
 HasPlaces before files places = (path : List ℕ) → has_path files path ≡ unwrap_or (get (slice_cmp nat_cmp) places path) (has_path before path)

@@ -10,7 +10,7 @@ ghost use Rattle.nm_commit.specs.Files.{has_path, with_moved};
 ghost use Rattle.nm_maildir.specs.Observed.{HasMailCause};
 ghost use Rattle.nm_answer.specs.Renaming.{files_moved, unmoved_by, unmoved_in};
 ghost use Rattle.nm_plan.specs.Moving.{move_given, move_if};
-ghost use Rattle.nm_writer.specs.Renamed.{AreTried, AsksRenames, HasPlaces, IsDone, IsKept, IsLeft, files_given, outcomes_given};
+ghost use Rattle.nm_writer.specs.Renamed.{AreTried, AsksRenames, HasPlaces, IsDone, IsKept, files_given, outcomes_given};
 
 use nm_answer::Unmoved;
 use nm_base::{Copies, MailPath, Many, NoMemory};
@@ -47,7 +47,7 @@ impl Renaming {
 }
 
 /// Tries the renames in order, and notes what the folder answers. After a fault no further one is tried.
-pub(crate) fn rename_all<M: Maildir>(
+fn rename_all<M: Maildir>(
     alloc: Global,
     mail: &mut M,
     shown: &Snapshot,
@@ -61,7 +61,6 @@ pub(crate) fn rename_all<M: Maildir>(
     ensures tried { AreTried shown.now.files plan given.new }
     ensures all { OnOk result (length (outcomes_given shown.now.files plan given.new) ≡ length plan) }
     ensures unmoved { OnOk result (done.new.unmoved ≡ flat_map unmoved_in (outcomes_given shown.now.files plan given.new)) }
-    ensures failed { result ≡ Err MailError.Failed → length (outcomes_given shown.now.files plan given.new) < length plan }
     ensures moves { OnOk result (done.new.moves ≡ flat_map move_given given.new) }
     ensures moves_failed { result ≡ Err MailError.Failed → done.new.moves ≡ flat_map move_given given.new }
     ensures asks { AsksRenames (M.observed mail.old) (M.observed mail.new) given.old given.new }
@@ -76,6 +75,37 @@ pub(crate) fn rename_all<M: Maildir>(
     Ok(())
 }
 
+/// Tries the renames in order, and then syncs the folders in which files were renamed: were a name lost with the power after the commit
+/// of the moves, the next `new` would take the file for another one.
+pub(crate) fn rename_and_sync<M: Maildir>(
+    alloc: Global,
+    mail: &mut M,
+    shown: &Snapshot,
+    plan: Many<Rename>,
+    done: &mut Renaming,
+    given: &mut Many<Given>,
+) -> Result<(), MailError>
+    requires fresh { given.old ≡ [] }
+    requires none { done.old.unmoved ≡ [] }
+    requires kept { IsKept shown.now.files given.old done.old }
+    ensures tried { AreTried shown.now.files plan given.new }
+    ensures all { OnOk result (length (outcomes_given shown.now.files plan given.new) ≡ length plan) }
+    ensures unmoved { OnOk result (done.new.unmoved ≡ flat_map unmoved_in (outcomes_given shown.now.files plan given.new)) }
+    ensures moves { OnOk result (done.new.moves ≡ flat_map move_given given.new) }
+    ensures moves_failed { result ≡ Err MailError.Failed → done.new.moves ≡ flat_map move_given given.new }
+    ensures asks { AsksRenames (M.observed mail.old) (M.observed mail.new) given.old given.new }
+    ensures cause { HasMailCause (M.observed mail.old).faults (M.observed mail.new).faults result }
+{
+    match rename_all(alloc, mail, shown, plan, done, given) {
+        Ok(()) => {}
+        Err(error) => return Err(error),
+    }
+    if done.moves.is_empty() {
+        return Ok(());
+    }
+    mail.sync()
+}
+
 /// Tries a rename, unless its target is too long or a path of the index.
 fn rename_one<M: Maildir>(
     alloc: Global,
@@ -88,7 +118,7 @@ fn rename_one<M: Maildir>(
     requires kept { IsKept shown.now.files given.old done.old }
     ensures kept { OnOk result (IsKept shown.now.files given.new done.new) }
     ensures done { OnOk result ((step : IsDone (files_given shown.now.files given.old) rename given.old given.new) × (done.new.unmoved ≡ done.old.unmoved ++ unmoved_in step.outcome)) }
-    ensures failed { result ≡ Err MailError.Failed → (given.new ≡ given.old) × (done.new.moves ≡ done.old.moves) × IsLeft (files_given shown.now.files given.old) rename }
+    ensures failed { result ≡ Err MailError.Failed → (given.new ≡ given.old) × (done.new.moves ≡ done.old.moves) }
     ensures stops { OnErr result ((given.new ≡ given.old) ⊎ IsDone (files_given shown.now.files given.old) rename given.old given.new) }
     ensures asks { AsksRenames (M.observed mail.old) (M.observed mail.new) given.old given.new }
     ensures cause { HasMailCause (M.observed mail.old).faults (M.observed mail.new).faults result }

@@ -16,7 +16,7 @@ ghost use Rattle.nm_writer.specs.Wanting.{AreTouched};
 ghost use Rattle.nm_writer.specs.Writer.{StandsOnIndex};
 ghost use Rattle.nm_writer.specs.Writing.{is_read_fault};
 
-use crate::renaming::{Renaming, rename_all};
+use crate::renaming::{Renaming, rename_and_sync};
 use crate::tagging::{Planned, plan_tags};
 use crate::wanting::{Wanted, wanted_by};
 use crate::{WriteError, Writer};
@@ -128,7 +128,7 @@ impl Writer {
         }
     }
 
-    /// Tries the renames, and makes a commit of the files that moved, also where the folder failed in one.
+    /// Tries the renames, and makes a commit of the files that moved, also where the folder failed.
     fn rename_files<R: Threads + Wait + Sync, M: Maildir, D: Disk>(
         &mut self,
         rt: &R,
@@ -151,7 +151,7 @@ impl Writer {
             → IsDurable entry opening (D.observed disk.new) self.new }
     {
         let mut done = Renaming::new(self.alloc);
-        match rename_all(self.alloc, mail, self.snapshot(), plan, &mut done, given) {
+        match rename_and_sync(self.alloc, mail, self.snapshot(), plan, &mut done, given) {
             Ok(()) => {
                 let Renaming { unmoved, moves, .. } = done;
                 match self.commit_changes(rt, disk, moves) {

@@ -31,6 +31,7 @@ returns-in-Err-clause-refused g c =
     record {
       mail = refl;
       cause = open-caused old new c.in-Err.error c.in-Err.ensures.cause c.in-Err.ensures.bad c.in-Err.ensures.file;
+      unwritten = c.in-Err.ensures.syncs;
       crash_prefix = unopened-prefix c.a_refused_opening_keeps_the_index.ensures old new (g.D.Disk.reads_an_image c.args.disk.now) c.in-Err.ensures.syncs c.in-Err.ensures.any_moment;
     }
 

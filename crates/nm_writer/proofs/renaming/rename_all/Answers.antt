@@ -1,9 +1,7 @@
-use Rattle.std.proofs.Common.{rules, ◌≡◌, ◌<◌, List, [], ◌∷◌, length, arith, refl, ap, sym, ◌∙◌, subst}
+use Rattle.std.proofs.Common.{rules, ◌≡◌, List, [], ◌∷◌, length, arith, refl, ap, ◌∙◌, subst}
 use Rattle.std.proofs.lemmas.List.{nil_from_length}
 use Rattle.nm_flags.specs.declared.renames.Rename.{Rename}
-use Rattle.nm_maildir.specs.declared.given.Given.{Given}
-use Rattle.nm_writer.specs.Renamed.{outcomes_given}
-use Rattle.nm_writer.proofs.RenamingLemmas.{InRenames, all-count, all-kept, asks-nothing, asks-then, left-count, next-rename, no-rename, so-far-tried, stopped-tried}
+use Rattle.nm_writer.proofs.RenamingLemmas.{InRenames, all-count, all-kept, asks-nothing, asks-then, next-rename, no-rename, so-far-tried, stopped-tried}
 use Rattle.nm_writer.proofs.renaming.rename_all.Goals as goal
 
 pub renames-init : goal.renames-init
@@ -39,15 +37,6 @@ returns-in-Err-clause-tried g c =
     let cut : c.renames.rename-iterator.rest.items ≡ c.in-Some.rename ∷ rest = search rules in
     let so_far = subst (λ (l : List Rename). InRenames c.args.shown.now.files c.args.plan l c.renames.given c.renames.done.unmoved) cut c.renames.invariant.renames in
     stopped-tried c.args.shown.now.files c.args.plan c.in-Some.rename rest c.renames.given c.rename_one.new.given c.renames.done.unmoved so_far c.in-Err.ensures.stops
-
-pub returns-in-Err-clause-failed : goal.returns-in-Err-clause-failed
-returns-in-Err-clause-failed g c = λ is.
-    let rest = c.next.new.self.rest.items in
-    let cut : c.renames.rename-iterator.rest.items ≡ c.in-Some.rename ∷ rest = search rules in
-    let so_far = subst (λ (l : List Rename). InRenames c.args.shown.now.files c.args.plan l c.renames.given c.renames.done.unmoved) cut c.renames.invariant.renames in
-    let failed = c.in-Err.ensures.failed is in
-    subst (λ (n : List Given). length (outcomes_given c.args.shown.now.files c.args.plan n) < length c.args.plan) (sym failed.0)
-    (left-count c.args.shown.now.files c.args.plan c.in-Some.rename rest c.renames.given c.renames.done.unmoved so_far failed.2)
 
 pub returns-in-Err-clause-asks : goal.returns-in-Err-clause-asks
 returns-in-Err-clause-asks g c =
