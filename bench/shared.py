@@ -17,6 +17,8 @@ import tempfile
 import time
 
 BUILT = f"{os.path.dirname(os.path.abspath(__file__))}/../crates/notmuch/out/notmuch"
+# The program of the rows on the index, which does the works that are measured of parts of it.
+TEST_INDEX = os.path.abspath(f"{os.path.dirname(os.path.abspath(__file__))}/../crates/test_index/out/test_index")
 SEED = 7
 WORD = "word"
 HOST = "bench.example"
@@ -295,6 +297,14 @@ def measured(words, folder, given=os.devnull, output=os.devnull, more=()):
     with open(told, encoding="ascii") as file:
         user, system, peak = file.read().split()[-3:]
     return Run(seconds, float(user) + float(system), int(peak), ran.returncode)
+
+
+def work(folder, words):
+    """One run of the program of the rows on the index for the work of these words, and what it printed."""
+    said = f"{folder}/said"
+    run = measured([TEST_INDEX, *words.split()], folder, output=said)
+    with open(said, encoding="ascii") as file:
+        return run, file.read()
 
 
 def setting(above):

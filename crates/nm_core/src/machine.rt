@@ -1,4 +1,4 @@
-//! The machine's state and its steps: `rows_session` steps it, and learns whether the step is lawful.
+//! The machine's state and its steps: `test_session` steps it, and learns whether the step is lawful.
 
 ghost use Rattle.std.specs.Prelude.{◌≡◌, ◌↔◌, ◌≤◌, ◌≤ℤ◌, ◌++◌, [], ◌∷◌, length, pos, replicate, true, IfOk, IsTrue, OnErr, OnOk};
 ghost use Rattle.nm_base.specs.Limits.{max_date};

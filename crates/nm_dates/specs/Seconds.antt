@@ -1,5 +1,5 @@
 -- Which seconds an end stands for, counted from 1970-01-01 00:00:00 UTC.
--- Cited by `days`, `reading`, `rows_query` and others.
+-- Cited by `days`, `reading`, `test_query` and others.
 use Rattle.std.specs.Prelude.{ℕ, ◌*◌, Bool, true, ◌&&◌, nat_le, ℤ, pos, negsuc, ◌+ℤ◌, ◌-ℤ◌, ◌*ℤ◌, ◌≤ℤ◌, int_le, int_lt, if◌then◌else◌}
 use Rattle.std.specs.Int.{int_div_euclid}
 use Rattle.nm_base.specs.Limits.{max_date, min_date}

@@ -1,4 +1,4 @@
-//! The script of a drill, which `rows_command` prints.
+//! The script of a drill, which `test_query` prints.
 
 ghost use Rattle.std.specs.Prelude.{◌≡◌, IfOk};
 ghost use Rattle.nm_drill.specs.Drill.{drill_script};

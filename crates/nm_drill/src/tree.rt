@@ -1,4 +1,4 @@
-//! The store of a drill, of which `rows_command` tells the files.
+//! The store of a drill, of which `test_query` tells the files.
 
 ghost use Rattle.std.specs.Prelude.{◌≡◌, ◌∷◌, [], ◌≤◌, codes, IfOk};
 ghost use Rattle.nm_drill.specs.Drill.{drill_file, drill_files, drill_path, drill_tree};

@@ -1,5 +1,5 @@
 -- When data is an index. The bounds of ids, paths, tags and words are those of their types.
--- Cited by `nm_answer`, `nm_state`, `rows_index` and others.
+-- Cited by `nm_answer`, `nm_state`, `test_index` and others.
 use Rattle.std.specs.Prelude.{◌↔◌, ℕ, ◌<◌, ◌≤◌, IsTrue, List, map}
 use Rattle.std.specs.List.{AllByRecursion, IsDistinct}
 use Rattle.std.specs.List.Sorted.{IsStrictlySortedBy}

@@ -1,4 +1,4 @@
-//! A sink in memory, which tells what it took: `rows_session` reads from it what a session printed.
+//! A sink in memory, which tells what it took: `test_session` reads from it what a session printed.
 
 ghost use Rattle.std.specs.Prelude.{◌≡◌, [], ◌&&◌, not, is_err, IsErr, IsOk, IsTrue, OnErr, if◌then◌else◌};
 ghost use Rattle.nm_base.specs.Limits.{one_more};

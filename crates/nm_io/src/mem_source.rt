@@ -1,4 +1,4 @@
-//! A source in memory, which tells what is left: `rows_session` gives a script by it.
+//! A source in memory, which tells what is left: `test_session` gives a script by it.
 
 ghost use Rattle.std.specs.Prelude.{◌≡◌, [], length, min, take, is_err, IfOk, IsOk};
 ghost use Rattle.nm_faults.specs.Calls.{counted, is_next_listed};

@@ -1,4 +1,4 @@
--- A journal on a disk, and what a call makes of it. Cited by `append`, `journal`, `rows_index` and others.
+-- A journal on a disk, and what a call makes of it. Cited by `append`, `journal`, `test_index` and others.
 use Rattle.std.specs.Prelude.{◌≡◌, ◌⊎◌, ℕ, ◌+◌, Bool, true, false, List, [], ◌∷◌, ◌++◌, length, Option, IfSome}
 use Rattle.nm_disk.specs.declared.disk.FileNo.{FileNo}
 use Rattle.nm_disk.specs.declared.state.DiskState.{DiskState}

@@ -1,4 +1,4 @@
-//! The phases and lines of a script, as `rows_command` reads one.
+//! The phases and lines of a script, as `test_query` reads one.
 
 ghost use Rattle.nm_base.specs.Limits.{max_lines};
 ghost use Rattle.std.specs.Prelude.{◌≡◌, ◌<◌, ◌≤◌, [], ◌∷◌, length, IfErr, IfOk, MatchOption};

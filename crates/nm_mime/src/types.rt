@@ -1,4 +1,4 @@
-//! Content types: `reading` reads that of each part, and a row of `rows_mail` may read one alone.
+//! Content types: `reading` reads that of each part, and a row of `test_mail` may read one alone.
 
 ghost use Rattle.std.specs.Prelude.{◌≡◌, IfOk, IsUtf8, map, position, true};
 ghost use Rattle.std.specs.Char.{to_ascii_lowercase};

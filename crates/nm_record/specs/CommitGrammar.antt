@@ -1,4 +1,4 @@
--- The grammar of a commit: a list of changes, at least one. Cited by `changes`, `commits`, `measured` and others.
+-- The grammar of a commit: a list of changes, at least one. Cited by `changes`, `commits`, `test_index` and others.
 use Rattle.std.specs.Prelude.{List, refl, length, nat_lt}
 use Rattle.nm_commit.specs.declared.change.Change.{Change}
 use Rattle.nm_commit.specs.declared.change.Commit.{Commit}

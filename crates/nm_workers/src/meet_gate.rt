@@ -1,4 +1,4 @@
-//! The gate by which `rows_index` and `rows_session` tell that two seats worked at once: of the two, the one that comes first
+//! The gate by which `test_index` and `test_session` tell that two seats worked at once: of the two, the one that comes first
 //! waits for the other, for a number of turns.
 
 ghost use Rattle.std.specs.Prelude.{◌≢◌};

@@ -1,9 +1,9 @@
-//! A row is a paragraph of a table: a head, and marked lines. `run_table` reads it, and programs as `rows_mail` ask
+//! A row is a paragraph of a table: a head, and marked lines. `run_table` reads it, and programs as `test_mail` ask
 //! it for its words.
 
 use crate::{Lines, Paragraph, RowError, unescaped};
 use nm_text::{after_first, before_first};
-use std::alloc::{AllocError, Global};
+use std::alloc::Global;
 
 /// A row: its head `KIND: NAME`, and its marked lines.
 #[derive(Drop)]
@@ -51,14 +51,14 @@ pub fn cut(line: &[u8], byte: u8) -> (&[u8], &[u8]) {
 
 impl Row<'_> {
     /// The texts of the lines with this mark, joined by LF.
-    pub fn text(&self, alloc: Global, mark: &[u8]) -> Result<Vec<u8>, AllocError> {
+    pub fn text(&self, alloc: Global, mark: &[u8]) -> Result<Vec<u8>, RowError> {
         let mut lines = Lines::new(alloc);
         'lines: for line in self.lines.as_slice() {
             if line.mark == mark {
-                lines.line(line.bytes.as_slice())?;
+                lines.line(line.bytes.as_slice());
             }
         }
-        Ok(lines.into_bytes())
+        lines.into_bytes()
     }
 
     /// Whether there is a line with this mark.

@@ -1,4 +1,4 @@
-//! Why a row has no answer: `row` finds it, programs as `rows_mail` pass it on, and `report` tells it.
+//! Why a row has no answer: `row` finds it, programs as `test_mail` pass it on, and `report` tells it.
 
 use nm_base::NoMemory;
 use std::alloc::{AllocError, AllocFailed};

@@ -1,4 +1,4 @@
-//! A table is run row by row: the program of `rows_mail`, and each like it, says what comes of each.
+//! A table is run row by row: the program of `test_mail`, and each like it, says what comes of each.
 
 ghost use Rattle.std.specs.Prelude.{◌≡◌, ⊤, IfOk, OnOk};
 ghost use Rattle.rows.specs.Report.{Reported, TellsOneMore, told, whole};
@@ -56,7 +56,9 @@ fn run_row<P: Program>(
     requires { P.ready program.now }
     ensures { OnOk result (TellsOneMore report.old report.new) }
 {
-    let wanted = row.text(alloc, b"=")?;
+    let Ok(wanted) = row.text(alloc, b"=") else {
+        return Err(NoMemory);
+    };
     let got = program.answer(alloc, row);
     report.compare(row.name, row.number, wanted.as_slice(), &got)
 }

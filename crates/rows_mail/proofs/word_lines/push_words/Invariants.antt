@@ -1,8 +1,0 @@
-use Rattle.std.proofs.Common.{length}
-use Rattle.rows_mail.proofs.word_lines.push_words.Given as goal
-
-abbrev pub invariant-words : goal.invariant-words
-invariant-words l = Unit {0}
-
-abbrev pub decreases-words : goal.decreases-words
-decreases-words l = length l.words
