@@ -62,6 +62,29 @@ def edits_of(crate):
     return {os.path.basename(it)[: -len(".edit")] for it in files_below(f"crates/{crate}/must-fail", ".edit")}
 
 
+def edits_can_be_applied():
+    """Each `old:` of an edit stands once in its file, after the changes before it in the edit."""
+    for crate in crates():
+        for path in files_below(f"crates/{crate}/must-fail", ".edit"):
+            file, old, texts, pairs = None, None, {}, 0
+            for line in read(f"{ROOT}/{path}").splitlines():
+                mark, _, text = line.partition(": ")
+                if mark == "file":
+                    file = text.strip()
+                    if not os.path.isfile(f"{ROOT}/crates/{crate}/{file}"):
+                        yield f"{path}: there is no {file}"
+                        break
+                    texts.setdefault(file, read(f"{ROOT}/crates/{crate}/{file}"))
+                elif mark == "old":
+                    old = text
+                elif mark.rstrip(":") == "new" and file and old:
+                    if texts[file].count(old) != 1:
+                        yield f"{path}: an `old:` stands {texts[file].count(old)} times in {file}"
+                    texts[file], old, pairs = texts[file].replace(old, text, 1), None, pairs + 1
+            if not pairs:
+                yield f"{path}: it changes nothing"
+
+
 @functools.lru_cache(maxsize=None)
 def code_of(crate):
     """The words of a crate's sources and definitions, without their comments."""
@@ -269,28 +292,28 @@ def tour_is_true():
 
 
 def kit_is_told():
-    """The README names the kit with which all is proved, where `rt` is there to say which it is."""
-    found = re.search(r"`(rattle-kit-[^`]+)`", read(f"{ROOT}/README.md"))
+    """The README names the logic by which all is proved, where `rt` is there to say which it is. Kits of one logic prove alike."""
+    found = re.search(r"`rattle-kit-\w+ (logic \w+)`", read(f"{ROOT}/README.md"))
     if not found:
         yield "README.md: it has no line of the kit"
     elif shutil.which("rt"):
         ran = subprocess.run(["rt", "version"], capture_output=True, timeout=SECONDS, check=False)
         said = ran.stdout.decode(errors="replace").strip()
-        if said != found[1]:
-            yield f"README.md: its kit is {found[1]}, and rt version says {said}"
+        if not said.endswith(found[1]):
+            yield f"README.md: its logic is {found[1]}, and rt version says {said}"
 
 
-# The sections of docs/TESTING.md on rows, and the programs that run them.
+# The sections of docs/ROWS.md, and the programs that run their rows.
 ROWS = {
-    "the system": "rows_outside",
-    "reading one mail": "rows_mail",
-    "queries and dates": "rows_query",
-    "what queries find": "rows_eval",
-    "sessions": "rows_session",
-    "the index": "rows_index",
-    "names, flags, lines of tag changes and dumps": "rows_names",
-    "words of commands": "rows_command",
-    "replies and on the lines of an input": "rows_render",
+    "the system": "test_system",
+    "reading one mail": "test_mail",
+    "queries and dates": "test_query",
+    "what queries find": "test_query",
+    "sessions": "test_session",
+    "the index": "test_index",
+    "names, flags, lines of tag changes and dumps": "test_query",
+    "words of commands": "test_query",
+    "replies and on the lines of an input": "test_query",
 }
 
 
@@ -309,27 +332,27 @@ def example_rows(part):
 
 
 def rows_of_documents_are_right():
-    """Each kind of row has an example in docs/TESTING.md, and the examples are right, by the programs that run rows."""
-    text = read(f"{ROOT}/docs/TESTING.md")
+    """Each kind of row has an example in docs/ROWS.md, and the examples are right, by the programs that run rows."""
+    text = read(f"{ROOT}/docs/ROWS.md")
     # The example behind the head of all rows is one on reading mail.
-    front = text.partition("\n## Rows\n")[2].partition("\n### ")[0]
+    front = text.partition("\n## ")[0]
     for title, crate in ROWS.items():
-        part = text.partition(f"\n### Rows on {title}\n")[2].partition("\n### ")[0]
+        part = text.partition(f"\n## Rows on {title}\n")[2].partition("\n## ")[0]
         if not part:
-            yield f"docs/TESTING.md: it has no section 'Rows on {title}'"
+            yield f"docs/ROWS.md: it has no section 'Rows on {title}'"
             continue
-        table, kinds = example_rows(front + part if crate == "rows_mail" else part)
-        yield from (f"docs/TESTING.md: it has no example of the kind '{it}' of {crate}" for it in kinds_of(part) if it not in kinds)
-        yield from (f"docs/TESTING.md: the table of {crate} does not tell of the kind '{it}'" for it in set(kinds) - {*kinds_of(part)})
+        table, kinds = example_rows(front + part if crate == "test_mail" else part)
+        yield from (f"docs/ROWS.md: it has no example of the kind '{it}' of {crate}" for it in kinds_of(part) if it not in kinds)
+        yield from (f"docs/ROWS.md: the table of {crate} does not tell of the kind '{it}'" for it in set(kinds) - {*kinds_of(part)})
         program = f"{ROOT}/crates/{crate}/out/{crate}"
         if not os.path.isfile(program):
-            yield f"docs/TESTING.md: its rows were not run: {crate} is not built"
+            yield f"docs/ROWS.md: its rows were not run: {crate} is not built"
             continue
         how = {"input": table.encode(), "capture_output": True, "timeout": SECONDS, "check": False}
         lines = subprocess.run([program], **how).stdout.decode(errors="replace").splitlines()
-        yield from (f"docs/TESTING.md: {it}" for it in lines if it.startswith(("WRONG", "BROKEN")))
+        yield from (f"docs/ROWS.md: {it}" for it in lines if it.startswith(("WRONG", "BROKEN")))
         if sum(it.startswith("ok ") for it in lines) != len(kinds):
-            yield f"docs/TESTING.md: not all of its rows are run by {crate}"
+            yield f"docs/ROWS.md: not all of its rows are run by {crate}"
 
 
 def readme_names_all_crates():
@@ -418,6 +441,7 @@ def files_name_no_machine():
 CHECKS = [
     definitions_are_told,
     promises_are_there,
+    edits_can_be_applied,
     layers_agree,
     proofs_stay_inside,
     heads_say_where,
