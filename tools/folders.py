@@ -197,6 +197,20 @@ def a_missing_index_is_made(place):
     place.wants_that(there == ["a", "b", "head"], f"the index has the files {there}")
 
 
+def modes(place):
+    """The rights to an index and its files."""
+    return [os.stat(place.path(it)).st_mode & 0o777 for it in ("index", "index/head", "index/a", "index/b")]
+
+
+def a_new_index_is_its_owners_alone(place):
+    place.wants(0, "0\n", "", "count")
+    place.wants_that(modes(place) == [0o700, 0o600, 0o600, 0o600], f"a new index has the modes {[oct(it) for it in modes(place)]}")
+    os.chmod(place.path("index"), 0o750)
+    os.chmod(place.path("index/head"), 0o640)
+    place.wants(0, "0\n", "", "count")
+    place.wants_that(modes(place) == [0o750, 0o640, 0o600, 0o600], "an opening changed the modes of an index")
+
+
 def an_index_below_a_missing_folder_is_told(place):
     place.wants(4, "", CANNOT_OPEN, "new", index="absent/index")
     place.wants_that(not os.path.exists(place.path("absent")), "the folder above the index was made")
@@ -550,6 +564,17 @@ def an_output_that_is_full_is_a_write_fault(place):
         place.wants(6, "", "notmuch: write fault\n", "count", streams={"stdout": full})
 
 
+def a_session_without_an_output_is_a_write_fault(place):
+    if not os.path.exists("/dev/full"):
+        raise Skipped("there is no device that is full")
+    with open("/dev/full", "wb") as full:
+        place.wants(6, "", "notmuch: write fault\n", "session", streams={"stdout": full}, given="0 count\n")
+    reader, writer = os.pipe()
+    os.close(reader)
+    place.wants(6, "", "notmuch: write fault\n", "session", streams={"stdout": writer}, given="0 count\n---\n0 count\n")
+    os.close(writer)
+
+
 def an_input_that_cannot_be_read_is_a_read_fault(place):
     folder = os.open(place.folder, os.O_RDONLY)
     place.wants(5, "", "notmuch: read fault\n", "session", streams={"stdin": folder})
@@ -564,6 +589,7 @@ CASES = [
     a_mail_folder_that_may_not_be_read_is_told,
     a_mail_that_may_not_be_read_is_a_mail_fault,
     a_missing_index_is_made,
+    a_new_index_is_its_owners_alone,
     an_index_below_a_missing_folder_is_told,
     a_file_is_no_index,
     an_index_that_may_not_be_made_is_told,
@@ -589,6 +615,7 @@ CASES = [
     a_rename_that_fails_keeps_the_tags,
     a_reader_that_leaves_is_a_write_fault,
     an_output_that_is_full_is_a_write_fault,
+    a_session_without_an_output_is_a_write_fault,
     an_input_that_cannot_be_read_is_a_read_fault,
 ]
 
