@@ -49,6 +49,12 @@ pub record Looks {T : Type 0} (old new : ObservedDisk) (result : Result T Failed
   pub clock : new.clock ≡ old.clock
   pub cause : HasCause old.faults new.faults result
 
+-- An opening: the disk is then what lies at the path, or after a failure what it was. No moment passes.
+pub record OpensDisk {T : Type 0} (old : ObservedDisk) (there : Option Moments) (new : ObservedDisk) (result : Result T Failed) : Type 0 where
+  pub told : MatchResult result (λ _. new.told ≡ there) (λ _. new.told ≡ old.told)
+  pub clock : new.clock ≡ old.clock
+  pub cause : HasCause old.faults new.faults result
+
 pub record Writes {T : Type 0} (old new : ObservedDisk) (result : Result T Failed) (file : FileNo) (at : ℕ) (bytes : List ℕ) : Type 0 where
   pub told : GoesOn
       (λ old new. MatchResult result

@@ -1,11 +1,11 @@
 //! What every disk is to the code above: three files that are read and written at places, a sync for all of them, and
 //! a clock of the moments at which it may stop. `nm_journal` calls it.
 
-ghost use Rattle.std.specs.Prelude.{◌≡◌, ◌≤◌, ◌+◌, IfOk, IfSome, OnOk, length, min, take};
+ghost use Rattle.std.specs.Prelude.{◌≡◌, ◌≤◌, ◌+◌, ℕ, List, Option, IfOk, IfSome, OnOk, length, min, take};
 ghost use Rattle.nm_base.specs.Limits.{max_count};
-ghost use Rattle.nm_disk.specs.Calls.{Looks, Syncs, Writes};
+ghost use Rattle.nm_disk.specs.Calls.{Looks, OpensDisk, Syncs, Writes};
 ghost use Rattle.nm_disk.specs.Images.{IsImage};
-ghost use Rattle.nm_disk.specs.Observed.{ObservedDisk, bytes_now, front_from};
+ghost use Rattle.nm_disk.specs.Observed.{Moments, ObservedDisk, bytes_now, front_from};
 
 use nm_base::{Failed, Text};
 use thiserror::Error;
@@ -67,7 +67,10 @@ pub trait Disk {
 
 /// A disk over the files of a folder, which is opened by its path.
 pub trait DiskFolder: Disk {
-    /// Opens the folder at this path, whose files are the disk's from then on. Nothing that it tells changes.
+    /// What lies at a path, where it tells it.
+    ghost moments_at: { Self → List ℕ → Option Moments };
+
+    /// Opens the folder at this path, whose files are the disk's from then on.
     fn open(&mut self, dir: &Text) -> Result<(), Failed>
-        ensures { Looks (Self.observed self.old) (Self.observed self.new) result };
+        ensures { OpensDisk (Self.observed self.old) (moments_at self.old dir.now) (Self.observed self.new) result };
 }

@@ -166,6 +166,8 @@ impl Disk for FileDisk {
 }
 
 impl DiskFolder for FileDisk {
+    ghost moments_at = { λ d dir. None };
+
     /// Makes what is missing: the folder, a fresh `head`, and empty banks. Where the folder is held, by another process or
     /// by this one, it fails and touches nothing; where it fails, the folder that was opened stays.
     fn open(&mut self, dir: &Text) -> Result<(), Failed> {

@@ -4,7 +4,7 @@
 ghost use Rattle.std.specs.Prelude.{◌≡◌, ◌≤◌, ◌+◌, ◌/◌, ℕ, [], Some, is_err, IfOk, OnOk, OnErr, length, min, replicate, take};
 ghost use Rattle.nm_base.specs.Limits.{max_count};
 ghost use Rattle.nm_disk.specs.declared.event.Deed.TheVariants.{FailedSync, FailedWrite, Sync, Write};
-ghost use Rattle.nm_disk.specs.Calls.{Looks, Syncs, Writes};
+ghost use Rattle.nm_disk.specs.Calls.{Looks, OpensDisk, Syncs, Writes};
 ghost use Rattle.nm_disk.specs.Images.{bytes_of};
 ghost use Rattle.nm_disk.specs.Memory.{IsNoted, KeepsFiles, LeavesFiles, called, fresh_disk, moments_of, noted, observed_mem, starved};
 ghost use Rattle.nm_disk.specs.MemoryLaws.{mem_reads_an_image};
@@ -288,9 +288,12 @@ impl Disk for MemDisk {
 }
 
 impl DiskFolder for MemDisk {
-    /// Counts a call; a disk in memory has no path.
+    /// The disk in memory lies at each path.
+    ghost moments_at = { λ d dir. (observed_mem d).told };
+
+    /// Counts a call.
     fn open(&mut self, _: &Text) -> Result<(), Failed>
-        ensures looks { Looks (observed_mem self.old) (observed_mem self.new) result }
+        ensures opens { OpensDisk (observed_mem self.old) (observed_mem self.old).told (observed_mem self.new) result }
         ensures called { self.new ≡ called self.old }
         ensures listed { is_err result ≡ is_next_listed self.old.calls }
     {

@@ -1,6 +1,6 @@
 -- What is observed of a mail folder at a moment, and what each call makes of it.
 -- Cited by `folder_mail`, `maildir`, `nm_scan` and others.
-use Rattle.std.specs.Prelude.{◌≡◌, ℕ, Bool, true, false, List, [], ◌∷◌, ◌++◌, Option, Result, Ok, Err}
+use Rattle.std.specs.Prelude.{◌≡◌, ℕ, Bool, true, false, List, [], ◌∷◌, ◌++◌, Option, Result, Ok, Err, MatchResult}
 use Rattle.std.specs.Option.{option_map}
 use Rattle.nm_base.specs.declared.memory.Failed as memory
 use Rattle.nm_faults.specs.Faults.{HasCause, HasCauseOf}
@@ -31,9 +31,9 @@ pub record KeepsMail {T : Type 0} (expected new : ObservedMail) (result : Result
   pub reads : new.reads ≡ expected.reads
   pub cause : HasMailCause expected.faults new.faults result
 
--- What an opening keeps: the tree and the reads stay, and only a failure raised the count.
-pub record OpensMail {T : Type 0} (old new : ObservedMail) (result : Result T memory.Failed) : Type 0 where
-  pub tree : new.tree ≡ old.tree
+-- What an opening makes: the tree that lies at the path is the folder's, or after a failure the one before. The reads stay, and only a failure raised the count.
+pub record OpensMail {T : Type 0} (old : ObservedMail) (there : Option Tree) (new : ObservedMail) (result : Result T memory.Failed) : Type 0 where
+  pub tree : MatchResult result (λ _. new.tree ≡ there) (λ _. new.tree ≡ old.tree)
   pub reads : new.reads ≡ old.reads
   pub cause : HasCause old.faults new.faults result
 

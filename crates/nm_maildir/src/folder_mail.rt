@@ -162,6 +162,8 @@ impl<R: Files + AllocGlobal + Clone + Drop> Maildir for FolderMail<R> {
 }
 
 impl<R: Files + AllocGlobal + Clone + Drop> MailFolder for FolderMail<R> {
+    ghost tree_at = { λ s dir. None };
+
     /// Fails where no folder is there or it may not be read, and the one that was opened stays.
     fn open(&mut self, dir: &Text) -> Result<(), Failed> {
         if !can_be_listed(&self.rt, dir) {

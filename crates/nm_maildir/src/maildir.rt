@@ -1,10 +1,10 @@
 //! What every mail folder is to the code above: it is opened, lists, reads, renames, and counts its failures.
 //! `nm_scan` and `nm_writer` call it.
 
-ghost use Rattle.std.specs.Prelude.{◌≡◌, IfOk, IfSome};
+ghost use Rattle.std.specs.Prelude.{◌≡◌, ℕ, List, Option, IfOk, IfSome};
 ghost use Rattle.nm_maildir.specs.Observed.{KeepsMail, ObservedMail, OpensMail, after_read, after_rename};
 ghost use Rattle.nm_maildir.specs.Order.{AreInOrder};
-ghost use Rattle.nm_maildir.specs.Tree.{got_of, listing_of, renamed_of};
+ghost use Rattle.nm_maildir.specs.Tree.{Tree, got_of, listing_of, renamed_of};
 
 use crate::{Got, Listing, MailError, Renamed};
 use nm_base::{Failed, MailPath, Text};
@@ -42,7 +42,10 @@ pub trait Maildir {
 
 /// A folder of mail that is opened by its path.
 pub trait MailFolder: Maildir {
-    /// Opens the folder at this path, which is its root from then on. Nothing that it tells changes.
+    /// The tree that lies at a path, where it tells it.
+    ghost tree_at: { Self → List ℕ → Option Tree };
+
+    /// Opens the folder at this path, which is its root from then on.
     fn open(&mut self, dir: &Text) -> Result<(), Failed>
-        ensures { OpensMail (Self.observed self.old) (Self.observed self.new) result };
+        ensures { OpensMail (Self.observed self.old) (tree_at self.old dir.now) (Self.observed self.new) result };
 }

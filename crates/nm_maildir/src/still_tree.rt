@@ -135,9 +135,12 @@ impl Maildir for StillTree {
 }
 
 impl MailFolder for StillTree {
-    /// Counts a call; a tree in memory has no path.
+    /// The tree in memory lies at each path.
+    ghost tree_at = { λ s dir. (observed_still s).tree };
+
+    /// Counts a call.
     fn open(&mut self, _: &Text) -> Result<(), Failed>
-        ensures opens { OpensMail (observed_still self.old) (observed_still self.new) result }
+        ensures opens { OpensMail (observed_still self.old) (observed_still self.old).tree (observed_still self.new) result }
         ensures counted { self.new ≡ record self.old { calls = counted self.old.calls } }
         ensures listed { is_err result ≡ is_next_listed self.old.calls }
     {

@@ -1,4 +1,4 @@
--- How the program ends: what a folder that was opened tells is what it told before.
+-- How the program ends: what is observed of a folder that was opened, by its fields.
 -- For the proofs of `open_and_call` and `open_index_and_call`.
 use Rattle.std.proofs.Common.{◌≡◌, ◌⊎◌, inl, inr, ℕ, List, Option, Err, ap, sym, ◌∙◌}
 use Rattle.nm_command.specs.Leading.{leading_of}

@@ -1,17 +1,19 @@
 -- The statement of the program: its leading options, the folders that they name, and the call of the words behind them.
 -- Cited by `starting`.
-use Rattle.std.specs.Prelude.{◌≡◌, ℕ, List, drop, codes, Some, Ok, Err}
+use Rattle.std.specs.Prelude.{◌≡◌, ℕ, List, drop, codes, Option, Some, Ok, Err}
 use Rattle.nm_command.specs.Leading.{leading_of}
 use Rattle.nm_command.specs.Settings.{or_default}
 use Rattle.nm_command.specs.declared.leading.HeadError.TheVariants as faults
 use Rattle.nm_command.specs.declared.leading.Leading.{Leading}
+use Rattle.nm_disk.specs.Observed.{Moments, ObservedDisk}
 use Rattle.nm_faults.specs.Faults.{HasRisen}
-use Rattle.nm_history.specs.Call.{Devices, call_of}
+use Rattle.nm_history.specs.Call.{Devices, call_of, devices}
 use Rattle.nm_history.specs.Complete.{IsComplete}
 use Rattle.nm_history.specs.PrintedOut.{Prints}
 use Rattle.nm_log.specs.declared.log.Done.{Done}
 use Rattle.nm_log.specs.declared.log.Setting.{Setting}
 use Rattle.nm_maildir.specs.Observed.{ObservedMail}
+use Rattle.nm_maildir.specs.Tree.{Tree}
 use Rattle.nm_top.specs.Drill.{CallHistory}
 use Rattle.nm_top.specs.Ending.{ended_with}
 use Rattle.nm_top.specs.declared.starting.Start.{Start}
@@ -36,17 +38,48 @@ pub record StaysUnread (entry after : ObservedMail) : Type 0 where
   pub tree : after.tree ≡ entry.tree
   pub reads : after.reads ≡ entry.reads
 
--- How the program ends: its leading words are no options; there is no memory for them; the mail folder is not opened; it is, and the index
--- is not; or both are, and it is the call of the words behind the options.
-pub data IsProgram (start : Start) (words : List (List ℕ)) (entry after : Devices) (done : Done) : Type 0 where
+-- What lies at each path before the program opens anything, where that is told: trees of mail, and disks.
+pub record Paths : Type 0 where
+  pub mail : List ℕ → Option Tree
+  pub index : List ℕ → Option Moments
+
+-- what lies at each path, by what the two devices tell of it
+abbrev pub paths : (List ℕ → Option Tree) → (List ℕ → Option Moments) → Paths
+paths trees disks = record { mail = trees; index = disks }
+
+-- the mail folder once this tree was opened
+abbrev pub opened_mail : Option Tree → ObservedMail → ObservedMail
+opened_mail there entry = record { tree = there; reads = entry.reads; faults = entry.faults }
+
+-- the disk once this one was opened
+abbrev pub opened_disk : Option Moments → ObservedDisk → ObservedDisk
+opened_disk there entry = record { told = there; clock = entry.clock; faults = entry.faults }
+
+-- the devices once the mail folder was opened
+abbrev pub with_mail : Option Tree → Devices → Devices
+with_mail there entry = devices (opened_mail there entry.mail) entry.disk entry.input entry.out entry.err
+
+-- the devices once the disk was opened
+abbrev pub with_disk : Option Moments → Devices → Devices
+with_disk there entry = devices entry.mail (opened_disk there entry.disk) entry.input entry.out entry.err
+
+-- How the program goes on once the mail folder is open: the index is not opened; or it is what lies at the path, and the call of the words
+-- behind the options is made over it.
+pub data GoesOnWith (start : Start) (words : List (List ℕ)) (leading : Leading) (there : Option Moments) (entry after : Devices) (done : Done) : Type 0 where
+  no_index : after.mail ≡ entry.mail → HasRisen entry.disk.faults after.disk.faults → after.disk.told ≡ entry.disk.told →
+      EndsBefore 4 (codes "notmuch: cannot open\n") entry after done → GoesOnWith start words leading there entry after done
+  called :
+      CallHistory (call_of (command_words words leading) (setting_by start leading) (with_disk there entry) after done) →
+      IsComplete (call_of (command_words words leading) (setting_by start leading) (with_disk there entry) after done) → GoesOnWith start words leading there entry after done
+
+-- How the program ends: its leading words are no options; there is no memory for them; the mail folder that they name is not opened, and the
+-- disk is not asked; or it is, and the program goes on with the index that they name.
+pub data IsProgram (start : Start) (words : List (List ℕ)) (at : Paths) (entry after : Devices) (done : Done) : Type 0 where
   wrong_options : leading_of words ≡ Err faults.Usage → after.mail ≡ entry.mail → after.disk ≡ entry.disk →
-      EndsBefore 2 (codes "notmuch: usage\n") entry after done → IsProgram start words entry after done
+      EndsBefore 2 (codes "notmuch: usage\n") entry after done → IsProgram start words at entry after done
   no_memory : after.mail ≡ entry.mail → after.disk ≡ entry.disk →
-      EndsBefore 7 (codes "notmuch: no memory\n") entry after done → IsProgram start words entry after done
+      EndsBefore 7 (codes "notmuch: no memory\n") entry after done → IsProgram start words at entry after done
   no_mail : (leading : Leading) → leading_of words ≡ Ok leading → HasRisen entry.mail.faults after.mail.faults → StaysUnread entry.mail after.mail → after.disk ≡ entry.disk →
-      EndsBefore 3 (codes "notmuch: cannot open\n") entry after done → IsProgram start words entry after done
-  no_index : (leading : Leading) → leading_of words ≡ Ok leading → after.mail ≡ entry.mail → HasRisen entry.disk.faults after.disk.faults → after.disk.told ≡ entry.disk.told →
-      EndsBefore 4 (codes "notmuch: cannot open\n") entry after done → IsProgram start words entry after done
-  called : (leading : Leading) → leading_of words ≡ Ok leading →
-      CallHistory (call_of (command_words words leading) (setting_by start leading) entry after done) →
-      IsComplete (call_of (command_words words leading) (setting_by start leading) entry after done) → IsProgram start words entry after done
+      EndsBefore 3 (codes "notmuch: cannot open\n") entry after done → IsProgram start words at entry after done
+  opened : (leading : Leading) → leading_of words ≡ Ok leading →
+      GoesOnWith start words leading (at.index leading.index) (with_mail (at.mail leading.mail) entry) after done → IsProgram start words at entry after done

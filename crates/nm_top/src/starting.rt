@@ -6,7 +6,7 @@ ghost use Rattle.nm_command.specs.Leading.{leading_of};
 ghost use Rattle.nm_history.specs.Call.{devices};
 ghost use Rattle.nm_history.specs.PrintedOut.{Prints};
 ghost use Rattle.nm_top.specs.Ending.{ended_with};
-ghost use Rattle.nm_top.specs.Program.{IsProgram, command_words, setting_by};
+ghost use Rattle.nm_top.specs.Program.{GoesOnWith, IsProgram, command_words, paths, setting_by};
 
 use crate::ending::ended_early;
 use crate::top_call::notmuch;
@@ -45,7 +45,7 @@ pub fn program<R: Threads + Wait + Sync, M: MailFolder, D: DiskFolder, I: Source
 ) -> Done
     requires from_1970 { pos 0 ≤ℤ start.now.moment }
     requires moment { start.now.moment ≤ℤ pos max_date }
-    ensures { IsProgram start.now words.now
+    ensures { IsProgram start.now words.now (paths (M.tree_at mail.old) (D.moments_at disk.old))
         (devices (M.observed mail.old) (D.observed disk.old) (I.observed input.old) (O.observed out.old) (E.observed err.old))
         (devices (M.observed mail.new) (D.observed disk.new) (I.observed input.new) (O.observed out.new) (E.observed err.new)) result }
 {
@@ -85,7 +85,7 @@ fn open_and_call<
     requires named { IfSome leading.now.moment (λ second. (pos 0 ≤ℤ second) × (second ≤ℤ pos max_date)) }
     requires from_1970 { pos 0 ≤ℤ start.now.moment }
     requires moment { start.now.moment ≤ℤ pos max_date }
-    ensures { IsProgram start.now words.now
+    ensures { IsProgram start.now words.now (paths (M.tree_at mail.old) (D.moments_at disk.old))
         (devices (M.observed mail.old) (D.observed disk.old) (I.observed input.old) (O.observed out.old) (E.observed err.old))
         (devices (M.observed mail.new) (D.observed disk.new) (I.observed input.new) (O.observed out.new) (E.observed err.new)) result }
 {
@@ -124,7 +124,7 @@ fn open_index_and_call<
     requires named { IfSome leading.now.moment (λ second. (pos 0 ≤ℤ second) × (second ≤ℤ pos max_date)) }
     requires from_1970 { pos 0 ≤ℤ start.now.moment }
     requires moment { start.now.moment ≤ℤ pos max_date }
-    ensures { IsProgram start.now words.now
+    ensures { GoesOnWith start.now words.now leading.now (D.moments_at disk.old leading.now.index)
         (devices (M.observed mail.old) (D.observed disk.old) (I.observed input.old) (O.observed out.old) (E.observed err.old))
         (devices (M.observed mail.new) (D.observed disk.new) (I.observed input.new) (O.observed out.new) (E.observed err.new)) result }
 {
