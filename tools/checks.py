@@ -184,6 +184,18 @@ def layers_agree():
             yield f"{crate}: its first line does not begin with its layer, '{layer}'"
 
 
+def uses_are_direct():
+    """A line of crates.txt lists what the crate's own text names, and nothing that only a crate below it uses."""
+    for line in read(f"{ROOT}/crates.txt").splitlines():
+        front, _, uses = line.partition("#")[0].partition(":")
+        if not uses:
+            continue
+        crate = front.split()[0]
+        texts = [read(f"{ROOT}/{it}") for part in ("src", "specs", "proofs") for it in files_below(f"crates/{crate}/{part}", (".rt", ".antt"))]
+        named = set(re.findall(r"\w+", "\n".join(texts)))
+        yield from (f"crates.txt: {crate} does not name {it}" for it in uses.split() if it not in named)
+
+
 def proofs_stay_inside():
     """No crate cites the proofs of another one."""
     known = set(crates())
@@ -443,6 +455,7 @@ CHECKS = [
     promises_are_there,
     edits_can_be_applied,
     layers_agree,
+    uses_are_direct,
     proofs_stay_inside,
     heads_say_where,
     readme_names_all_crates,

@@ -1,5 +1,5 @@
 -- The live messages as they come, each with its files. For the proof of `all_matches`.
-use Rattle.std.proofs.Common.{◌≡◌, refl, ap, subst, ℕ, suc, List, [], ◌∷◌, map, filter, length}
+use Rattle.std.proofs.Common.{◌≡◌, refl, ap, subst, ℕ, List, [], ◌∷◌, map, filter}
 use Rattle.std.specs.List.{AllByRecursion}
 use Rattle.nm_base.specs.Order.{same_text}
 use Rattle.nm_base.specs.declared.facts.Facts.{Facts}
@@ -18,10 +18,6 @@ ids_in messages = map (λ message. message.0) messages
 pub ids_told : (files : List (List ℕ × Facts)) (ids : List (List ℕ)) → ids_in (map (with_files files) ids) ≡ ids
 ids_told files [] = refl
 ids_told files (id ∷ ids) = ap (λ more. id ∷ more) (ids_told files ids)
-
-pub number_told : (files : List (List ℕ × Facts)) (ids : List (List ℕ)) → length (map (with_files files) ids) ≡ length ids
-number_told files [] = refl
-number_told files (id ∷ ids) = ap suc (number_told files ids)
 
 pub files_told : (files : List (List ℕ × Facts)) (ids : List (List ℕ)) → AllByRecursion (HasItsFiles files) (map (with_files files) ids)
 files_told files [] = tt

@@ -1,11 +1,7 @@
 -- The ids that a query names: no message with another id passes it, so of such a query no other is tested.
 -- Cited by `laws`, `matching` and `naming`.
-use Rattle.std.specs.Prelude.{ℕ, List, [], ◌∷◌, ◌++◌, length, Option, Some, None, if◌then◌else◌}
-use Rattle.std.specs.List.{filter}
+use Rattle.std.specs.Prelude.{ℕ, List, [], ◌∷◌, ◌++◌, Option, Some, None, if◌then◌else◌}
 use Rattle.nm_base.specs.MessageId.{is_message_id}
-use Rattle.nm_base.specs.Order.{has_text}
-use Rattle.nm_index.specs.Index.{live_ids}
-use Rattle.nm_index.specs.declared.base.Base.{Base}
 use Rattle.nm_query.specs.declared.query.Query.{Query}
 use Rattle.nm_query.specs.declared.query.Query.TheOpen.{Query-F}
 use Rattle.nm_query.specs.declared.query.Query.TheFolds.{fold-Query}
@@ -42,12 +38,3 @@ node_named _ = None
 -- the ids that the query names: those of its terms `id:`, where no message with another id can pass it
 abbrev pub named_ids : Query → Option (List (List ℕ))
 named_ids query = fold-Query (Option (List (List ℕ))) node_named query
-
--- of these messages the named ones, or all where no ids are named
-abbrev pub among_named : Option (List (List ℕ)) → List (List ℕ) → List (List ℕ)
-among_named None live = live
-among_named (Some ids) live = filter (has_text ids) live
-
--- how many messages are tested: the live ones that the query names, or all live ones
-abbrev pub tests : Base → Query → ℕ
-tests index query = length (among_named (named_ids query) (live_ids index.files index.entries))

@@ -1,17 +1,16 @@
 //! What the ids say that a query names, and what stands at numbers. These functions run no code: their clauses are the
 //! laws, which `matches` and `nm_writer` call.
 
-ghost use Rattle.std.specs.Prelude.{◌≡◌, ◌≤◌, [], ℕ, ℤ, List, Some, IsTrue, length};
+ghost use Rattle.std.specs.Prelude.{◌≡◌, [], ℕ, ℤ, List, Some, IsTrue};
 ghost use Rattle.std.specs.List.{filter};
 ghost use Rattle.std.specs.Map.{values_of};
 ghost use Rattle.nm_base.specs.Order.{has_text};
 ghost use Rattle.nm_index.specs.Index.{live_ids};
-ghost use Rattle.nm_index.specs.Valid.{IsValid};
 ghost use Rattle.nm_index.specs.declared.base.Base.{Base};
 ghost use Rattle.nm_query.specs.declared.query.Query.{Query};
 ghost use Rattle.nm_answer.specs.Test.{passes};
 ghost use Rattle.nm_answer.specs.View.{View};
-ghost use Rattle.nm_eval.specs.Naming.{named_ids, tests};
+ghost use Rattle.nm_eval.specs.Naming.{named_ids};
 ghost use Rattle.nm_eval.specs.Numbers.{live_at_numbers};
 
 use nm_answer::a_tree_passes_as_its_queries_do;
@@ -23,11 +22,6 @@ pub fn what_passes_is_named()
 {
     a_tree_passes_as_its_queries_do();
 }
-
-/// Of a query that names ids no more messages are tested than it names.
-pub fn no_more_is_tested_than_named()
-    ensures { (index : Base) (query : Query) (ids : List (List ℕ)) → IsValid index → named_ids query ≡ Some ids → tests index query ≤ length ids }
-{}
 
 /// Of no messages none stands at a number, and those that do are the live ones, by their numbers.
 pub fn the_live_ones_stand_at_their_numbers()

@@ -14,8 +14,6 @@ mod quick;
 mod testing;
 mod words;
 
-pub use laws::{
-    no_more_is_tested_than_named, the_live_ones_stand_at_their_numbers, what_passes_is_named,
-};
+pub use laws::{the_live_ones_stand_at_their_numbers, what_passes_is_named};
 pub use matching::matches;
 pub use numbers::{add_numbered, by_numbers};

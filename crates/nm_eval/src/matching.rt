@@ -1,15 +1,13 @@
 //! The call `matches`: the messages of a snapshot that a query finds. `nm_render`, `nm_writer` and `nm_dump` ask it.
 
-ghost use Rattle.std.specs.Prelude.{◌≡◌, ◌+◌, ◌∷◌, ◌++◌, ◌&&◌, [], not, length, IfOk, OnOk};
+ghost use Rattle.std.specs.Prelude.{◌≡◌, ◌∷◌, ◌++◌, ◌&&◌, [], not, IfOk, OnOk};
 ghost use Rattle.std.specs.List.{filter};
 ghost use Rattle.nm_base.specs.Order.{has_text};
 ghost use Rattle.nm_dates.specs.Seconds.{IsMoment};
 ghost use Rattle.nm_answer.specs.Matches.{is_match, matches_of};
 ghost use Rattle.nm_answer.specs.Test.{passes};
 ghost use Rattle.nm_answer.specs.View.{view_of};
-ghost use Rattle.nm_index.specs.Index.{live_ids};
 ghost use Rattle.nm_eval.specs.Excluding.{leaves_out};
-ghost use Rattle.nm_eval.specs.Naming.{tests};
 
 use crate::exclusion::{Exclusion, find_exclusion, leaves_out, left_out};
 use crate::laws::what_passes_is_named;
@@ -18,68 +16,54 @@ use crate::naming::named_ids;
 use crate::numbers::by_numbers;
 use crate::preparing::prepared;
 use crate::testing::passes;
-use nm_base::{Copies, Many, MessageId, NoMemory, Steps, TextSet};
+use nm_base::{Copies, Many, MessageId, NoMemory, TextSet};
 use nm_query::Query;
 use nm_state::Snapshot;
 use std::alloc::Global;
-use std::sync::ledger::Ledger;
 
 /// The ids of the live messages that pass the query at a moment, by their numbers. Where `exclude` is set, a message that
-/// has one of the tags `deleted` and `spam` is left out, unless the query names that tag. A step is the test of a message:
-/// of a query that names ids only the messages of these are tested. What takes memory is the ids; those that the query
-/// names, with their numbers; or else those that are left out, and the query as it is prepared once for all messages.
-pub fn matches<L: Ledger>(
+/// has one of the tags `deleted` and `spam` is left out, unless the query names that tag. Of a query that names ids only the
+/// messages of these are tested. What takes memory is the ids; those that the query names, with their numbers; or else those that are left out,
+/// and the query as it is prepared once for all messages.
+pub fn matches(
     alloc: Global,
     snapshot: &Snapshot,
     query: &Query,
     moment: i64,
     exclude: bool,
-    steps: &mut Steps<L>,
 ) -> Result<Many<MessageId>, NoMemory>
     requires { IsMoment moment }
-    ensures ids { IfOk result (λ ids. ids ≡ matches_of snapshot.now query.now moment exclude) }
-    ensures steps { OnOk result (steps.new ≡ steps.old + tests snapshot.now query.now) }
+    ensures { IfOk result (λ ids. ids ≡ matches_of snapshot.now query.now moment exclude) }
 {
     match named_ids(alloc, query)? {
         Some(ids) => {
             what_passes_is_named();
             let live = by_numbers(alloc, snapshot, ids.as_slice())?;
-            let found = matches_among(
-                alloc,
-                snapshot,
-                live.as_slice(),
-                query,
-                moment,
-                exclude,
-                steps,
-            )?;
+            let found = matches_among(alloc, snapshot, live.as_slice(), query, moment, exclude)?;
             Ok(found)
         }
         None => {
-            let found = all_matches(alloc, snapshot, query, moment, exclude, steps)?;
+            let found = all_matches(alloc, snapshot, query, moment, exclude)?;
             Ok(found)
         }
     }
 }
 
 /// The matches among these messages, each of which is tested.
-fn matches_among<L: Ledger>(
+fn matches_among(
     alloc: Global,
     snapshot: &Snapshot,
     live: &[MessageId],
     query: &Query,
     moment: i64,
     exclude: bool,
-    steps: &mut Steps<L>,
 ) -> Result<Many<MessageId>, NoMemory>
     requires { IsMoment moment }
-    ensures ids { IfOk result (λ ids. ids ≡ filter (λ id. is_match query.now moment exclude (view_of snapshot.now id)) live.now) }
-    ensures steps { OnOk result (steps.new ≡ steps.old + length live.now) }
+    ensures { IfOk result (λ ids. ids ≡ filter (λ id. is_match query.now moment exclude (view_of snapshot.now id)) live.now) }
 {
     let mut found = Many::new(alloc);
     let excluding = find_exclusion(query, exclude);
     'ids: for id in live {
-        steps.tick();
         let message = Message::of(snapshot, id);
         if !is_match(query, moment, excluding, &message) {
             continue;
@@ -90,24 +74,21 @@ fn matches_among<L: Ledger>(
 }
 
 /// The matches among all live messages, by the query as it is prepared for many.
-fn all_matches<L: Ledger>(
+fn all_matches(
     alloc: Global,
     snapshot: &Snapshot,
     query: &Query,
     moment: i64,
     exclude: bool,
-    steps: &mut Steps<L>,
 ) -> Result<Many<MessageId>, NoMemory>
     requires { IsMoment moment }
-    ensures ids { IfOk result (λ ids. ids ≡ matches_of snapshot.now query.now moment exclude) }
-    ensures steps { OnOk result (steps.new ≡ steps.old + length (live_ids snapshot.now.files snapshot.now.entries)) }
+    ensures { IfOk result (λ ids. ids ≡ matches_of snapshot.now query.now moment exclude) }
 {
     let mut found = Many::new(alloc);
     let out = left_out(alloc, snapshot, find_exclusion(query, exclude))?;
     let asked = prepared(alloc, query, moment)?;
     let mut rest = snapshot.messages();
     'messages: while let Some((id, files)) = rest.next() {
-        steps.tick();
         let message = Message::with_files(snapshot, id, files, rest.near());
         if passes_within(&message, &asked, moment, &out) {
             add(&mut found, id)?;

@@ -143,7 +143,7 @@ pub(crate) fn rename_in<R: Files + AllocGlobal>(
     Ok(Renamed::Moved)
 }
 
-/// Has the names in a folder on the device. Some file systems, as those over a network, offer no
+/// Has the names in a folder on the device. A folder that is gone has none. Some file systems, as those over a network, offer no
 /// sync of a folder; that is no failure, since nothing more can be asked.
 pub(crate) fn sync_names<R: Files + AllocGlobal>(
     rt: &R,
@@ -151,7 +151,10 @@ pub(crate) fn sync_names<R: Files + AllocGlobal>(
     dir: &Text,
 ) -> Result<(), FolderError> {
     let place = full_path(rt.alloc(), root.as_str(), dir.as_str())?;
-    match fs::open(rt, place.as_str())?.sync_all() {
+    let Some(folder) = if_exists(fs::open(rt, place.as_str()))? else {
+        return Ok(());
+    };
+    match folder.sync_all() {
         Ok(()) => Ok(()),
         Err(error) if is_not_offered(&error) => Ok(()),
         Err(error) => Err(FolderError::from(error)),

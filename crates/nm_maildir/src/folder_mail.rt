@@ -27,8 +27,8 @@ pub struct FolderMail<R> {
 #[derive(Drop)]
 struct OpenFolder {
     root: Text,
-    /// The folders below it in which a file was renamed since they were synced.
-    renamed_in: BTreeSet<Text>,
+    /// The folders below it whose names changed since they were synced.
+    unsynced: BTreeSet<Text>,
 }
 
 impl<R> FolderMail<R> {
@@ -92,8 +92,8 @@ fn rename_below<R: Files + AllocGlobal>(
     let Some(folder) = opened else {
         return Err(FolderError::Io);
     };
-    note_folder(rt.alloc(), &mut folder.renamed_in, from)?;
-    note_folder(rt.alloc(), &mut folder.renamed_in, to)?;
+    note_folder(rt.alloc(), &mut folder.unsynced, from)?;
+    note_folder(rt.alloc(), &mut folder.unsynced, to)?;
     rename_in(rt, &folder.root, from, to)
 }
 
@@ -110,18 +110,34 @@ fn note_folder(
     Ok(())
 }
 
-/// Syncs the folders that were noted. Where one fails all are noted as before.
+/// Notes the folders that the files lie in.
+fn note_folders(
+    alloc: Global,
+    folders: &mut BTreeSet<Text>,
+    files: &[MailPath],
+) -> Result<(), FolderError> {
+    'files: for file in files {
+        note_folder(alloc, folders, file)?;
+    }
+    Ok(())
+}
+
+/// Syncs the folders that were noted, and those of these files. Where one fails all are noted as before.
 fn sync_below<R: Files + AllocGlobal>(
     rt: &R,
     opened: &mut Option<OpenFolder>,
+    came: &[MailPath],
+    went: &[MailPath],
 ) -> Result<(), FolderError> {
     let Some(folder) = opened else {
         return Err(FolderError::Io);
     };
-    'folders: for dir in folder.renamed_in.iter() {
+    note_folders(rt.alloc(), &mut folder.unsynced, came)?;
+    note_folders(rt.alloc(), &mut folder.unsynced, went)?;
+    'folders: for dir in folder.unsynced.iter() {
         sync_names(rt, &folder.root, dir)?;
     }
-    folder.renamed_in.clear();
+    folder.unsynced.clear();
     Ok(())
 }
 
@@ -149,8 +165,8 @@ impl<R: Files + AllocGlobal + Clone + Drop> Maildir for FolderMail<R> {
         }
     }
 
-    fn sync(&mut self) -> Result<(), MailError> {
-        match sync_below(&self.rt, &mut self.opened) {
+    fn sync(&mut self, came: &[MailPath], went: &[MailPath]) -> Result<(), MailError> {
+        match sync_below(&self.rt, &mut self.opened, came, went) {
             Ok(()) => Ok(()),
             Err(error) => Err(count_fault(&mut self.faults, error)),
         }
@@ -172,8 +188,8 @@ impl<R: Files + AllocGlobal + Clone + Drop> MailFolder for FolderMail<R> {
         let Ok(root) = dir.copy() else {
             return Err(self.faults.failed());
         };
-        let renamed_in = BTreeSet::new(self.rt.alloc());
-        self.opened = Some(OpenFolder { root, renamed_in });
+        let unsynced = BTreeSet::new(self.rt.alloc());
+        self.opened = Some(OpenFolder { root, unsynced });
         Ok(())
     }
 }

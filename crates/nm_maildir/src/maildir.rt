@@ -31,8 +31,9 @@ pub trait Maildir {
         ensures renamed { IfOk result (λ renamed. IfSome (observed self.old).tree (λ tree. renamed ≡ renamed_of tree from.now to.now)) }
         ensures keeps { KeepsMail (after_rename (observed self.old) from.now to.now result) (observed self.new) result };
 
-    /// Has the renames so far outlast a loss of power, where the folder lies on a device. Nothing that it tells changes.
-    fn sync(&mut self) -> Result<(), MailError>
+    /// Has names outlast a loss of power, where the folder lies on a device: those of its own renames so far, and those of the files
+    /// that came and went by other hands. Nothing that it tells changes.
+    fn sync(&mut self, came: &[MailPath], went: &[MailPath]) -> Result<(), MailError>
         ensures keeps { KeepsMail (observed self.old) (observed self.new) result };
 
     /// How often it has failed, up to 2^64 - 1.

@@ -120,7 +120,7 @@ impl Maildir for ShiftTree {
     }
 
     /// It has no device, so it finds no next tree.
-    fn sync(&mut self) -> Result<(), MailError>
+    fn sync(&mut self, _: &[MailPath], _: &[MailPath]) -> Result<(), MailError>
         ensures keeps { KeepsMail (observed_shift self.old) (observed_shift self.new) result }
         ensures ok { IsOk result }
         ensures same { self.new ≡ self.old }

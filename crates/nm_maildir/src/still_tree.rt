@@ -121,7 +121,7 @@ impl Maildir for StillTree {
     }
 
     /// What lies in memory has no device, so this is no call that is counted.
-    fn sync(&mut self) -> Result<(), MailError>
+    fn sync(&mut self, _: &[MailPath], _: &[MailPath]) -> Result<(), MailError>
         ensures keeps { KeepsMail (observed_still self.old) (observed_still self.new) result }
         ensures ok { IsOk result }
         ensures same { self.new ≡ self.old }

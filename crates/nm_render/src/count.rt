@@ -11,10 +11,10 @@ ghost use Rattle.nm_dates.specs.Seconds.{IsMoment};
 ghost use Rattle.nm_index.specs.Index.{rows_of};
 ghost use Rattle.nm_threads.specs.Name.{thread_name};
 
-use crate::matching::found;
 use crate::trail::Trail;
 use itoa::Buffer;
 use nm_base::{CountAsk, Many, MessageId, NoMemory, Output};
+use nm_eval::matches;
 use nm_query::Query;
 use nm_state::Snapshot;
 use std::alloc::Global;
@@ -32,7 +32,7 @@ pub fn count_reply(
     ensures { IfOk result (λ text. text ≡ count_found ask.now snapshot.now moment query.now) }
 {
     let exclude = ask.exclude;
-    let ids = found(alloc, snapshot, query, moment, exclude)?;
+    let ids = matches(alloc, snapshot, query, moment, exclude)?;
     count_text(alloc, snapshot, ids.as_slice(), ask.output)
 }
 

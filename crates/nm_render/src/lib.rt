@@ -8,7 +8,6 @@ mod groups;
 mod items;
 mod lists;
 mod mailboxes;
-mod matching;
 mod message;
 mod order;
 mod printing;

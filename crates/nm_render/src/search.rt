@@ -8,11 +8,11 @@ ghost use Rattle.nm_base.specs.declared.forms.Output.TheVariants.{Summary};
 ghost use Rattle.nm_render.specs.ReadBack.{ReadsBack, found_data};
 
 use crate::items::{files_text, messages_text, tags_text, threads_text};
-use crate::matching::found;
 use crate::order::ordered;
 use crate::summary::summary_lines;
 use crate::summary_json::summaries_json;
 use nm_base::{Many, MessageId, NoMemory, Output, SearchAsk};
+use nm_eval::matches;
 use nm_query::Query;
 use nm_state::Snapshot;
 use std::alloc::Global;
@@ -30,7 +30,7 @@ pub fn search_reply(
     ensures text { IfOk result (λ text. text ≡ search_found ask.now snapshot.now moment query.now) }
     ensures reads_back { ask.now.json ≡ true → IfOk result (λ text. ReadsBack (found_data ask.now.output ask.now snapshot.now (found_in_order ask.now snapshot.now moment query.now)) text) }
 {
-    let ids = found(alloc, snapshot, query, moment, ask.exclude)?;
+    let ids = matches(alloc, snapshot, query, moment, ask.exclude)?;
     // The tags are the same in any order.
     if let Output::Tags = ask.output {
         return tags_text(alloc, snapshot, ask, ids.as_slice());

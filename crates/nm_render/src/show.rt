@@ -7,10 +7,10 @@ ghost use Rattle.nm_answer.specs.View.{files_of};
 ghost use Rattle.nm_dates.specs.Seconds.{IsMoment};
 ghost use Rattle.nm_render.specs.Show.{IsGone, IsIdsFault, IsRawFault, IsTextFault};
 
-use crate::matching::found;
 use crate::message::messages_text;
 use crate::order::ordered;
 use nm_base::{Copies, MailPath, Many, MessageId, NoMemory, ShowAsk};
+use nm_eval::matches;
 use nm_maildir::{Given, ReadAnswer};
 use nm_query::Query;
 use nm_state::Snapshot;
@@ -77,7 +77,7 @@ fn found_oldest_first(
     requires moment { IsMoment moment }
     ensures { IfOk result (λ ids. ids ≡ shown_ids ask.now snapshot.now moment query.now) }
 {
-    let ids = found(alloc, snapshot, query, moment, ask.exclude)?;
+    let ids = matches(alloc, snapshot, query, moment, ask.exclude)?;
     ordered(alloc, snapshot, true, ids, 0)
 }
 

@@ -202,6 +202,7 @@ module _ (m0 m1 : ObservedMail) (n0 n1 : List Given) (paths rest : List (List �
       };
       tree = ap (λ (m : ObservedMail). m.tree) h.all.mail;
     };
+    few = omega (arith, batch_len, h.batch.was_open.few);
     is_open = subst (IsOpen m0.tree) (sym (paths_front ∙ before_front)) (open_take m0.tree h.batch.before k.answered h.batch.was_open);
   }
 
@@ -227,6 +228,7 @@ module _ (m0 m1 : ObservedMail) (n0 n1 : List Given) (paths : List (List ℕ)) (
           };
           tree = h.tree;
         };
+        few = h.last.1;
         is_open = subst (IsOpen m0.tree) (sym front) (open_take m0.tree (paths_found found) answered h.is_open);
       }
 

@@ -125,6 +125,7 @@ finished m0 m1 n0 n1 paths batches left h =
         };
         tree = ap (λ (m : ObservedMail). m.tree) h.all.mail;
       };
+      few = omega (arith, ap length h.paths_are ∙ length-append h.read left);
     }
 
 pub unfinished : (m0 m1 m2 : ObservedMail) (n0 n1 n2 : List Given) (paths : List (List ℕ)) (batches : Batches) (left : List (List ℕ)) → HasReadBatches m0 m1 n0 n1 paths batches left → StopsInBatch m1 m2 n1 n2 left
@@ -158,4 +159,5 @@ unfinished m0 m1 m2 n0 n1 n2 paths batches left h k =
         };
         tree = k.first.tree ∙ tree;
       };
+      few = omega (arith, k.few, ap length h.paths_are ∙ length-append h.read left);
     }

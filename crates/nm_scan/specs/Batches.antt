@@ -64,9 +64,10 @@ pub record HasReadBatch (old new : ObservedMail) (old_given new_given : List Giv
   pub batch : IsBatch old.tree read rest
   pub all : HasReadAll old new old_given new_given read added
 
--- The reading stopped in a batch: of its paths the first were read, which is noted behind what was noted before.
+-- The reading stopped in a batch: of its paths the first were read, no more than a batch has, which is noted behind what was noted before.
 pub record StopsInBatch (old new : ObservedMail) (old_given new_given : List Given) (paths : List (List ℕ)) : Type 0 where
   pub first : HasRead old new old_given new_given paths
+  pub few : first.reading.asked ≤ full_answers
   pub is_open : IsOpen old.tree (take first.reading.answered paths)
 
 -- The first of the paths were read in batches, and nothing else was asked; that is noted behind what was noted before.
@@ -77,7 +78,7 @@ pub record HasReadBatches (old new : ObservedMail) (old_given new_given : List G
   pub all : HasReadAll old new old_given new_given read (all_added batches)
   pub reading : ReadsBatches old.tree all.given paths batches left
 
--- The same, and of the next batch the first paths were read perhaps, where it stopped.
+-- The same, and of the next batch the first paths were read perhaps, where it stopped: no more than one batch has.
 pub record HasReadSome (old new : ObservedMail) (old_given new_given : List Given) (paths : List (List ℕ)) (batches : List (List (List ℕ × Facts)))
     (left : List (List ℕ)) : Type 0 where
   pub answers : List Given
@@ -86,3 +87,4 @@ pub record HasReadSome (old new : ObservedMail) (old_given new_given : List Give
   pub reading : ReadsBatches old.tree answers paths batches left
   pub unfinished : IsUnfinished old.tree further left
   pub first : HasRead old new old_given new_given paths
+  pub few : first.reading.asked + length left ≤ length paths + full_answers

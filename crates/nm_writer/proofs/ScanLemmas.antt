@@ -1,9 +1,10 @@
 -- What a scan asks, notes and finds, from its parts. For the proofs of `compare`, `gone_ids`, `side_by_side` and others.
-use Rattle.std.proofs.Common.{◌≡◌, inr, ℕ, Bool, true, false, ◌||◌, ◌&&◌, ◌==◌, not, cond, length, List, [], ◌∷◌, ◌++◌, Option, None, Some, Ok, IfSome, filter, take, refl, sym, ap, ◌∙◌, subst, append-nil, arith}
+use Rattle.std.proofs.Common.{◌≡◌, inr, ℕ, ◌<◌, Bool, true, false, ◌||◌, ◌&&◌, ◌==◌, not, cond, length, List, [], ◌∷◌, ◌++◌, Option, None, Some, Ok, IfSome, filter, take, refl, sym, ap, ◌∙◌, subst, append-nil, arith}
 use Rattle.nm_answer.specs.NewText.{gone}
 use Rattle.std.specs.Cmp.Lexicographic.{nat_list_eq_equiv}
 use Rattle.std.proofs.Math.Bool.{or-true}
 use Rattle.std.proofs.lemmas.Bool.{eqb-true}
+use Rattle.nm_base.specs.Limits.{full_bytes}
 use Rattle.nm_base.specs.Order.{IsSorted, has_text, same_text, sorted}
 use Rattle.nm_base.specs.SetLaws.{has_text-filter, has_text-sorted}
 use Rattle.nm_base.specs.declared.facts.Facts.{Facts}
@@ -14,7 +15,8 @@ use Rattle.nm_maildir.specs.declared.given.Given.{Given}
 use Rattle.nm_maildir.specs.declared.given.Given.TheVariants as givens
 use Rattle.nm_plan.specs.Plan.{message_ids, removed_files, to_read}
 use Rattle.nm_scan.specs.Walking.{scanned}
-use Rattle.nm_scan.specs.Reading.{HasRead, NotesReads, answers_at, read_with}
+use Rattle.nm_scan.specs.Batches.{HasReadSome, IsUnfinished, ReadsBatches}
+use Rattle.nm_scan.specs.Reading.{NotesReads, answers_at, read_with}
 use Rattle.nm_scan.specs.Scanning.{AsksNew}
 use Rattle.nm_writer.proofs.SameLemmas.{paths-are}
 use Rattle.nm_writer.specs.New.{HasListed}
@@ -35,21 +37,28 @@ none_more : (reads : Option (List (List ℕ))) → reads ≡ read_with reads []
 none_more None = refl
 none_more (Some paths) = ap Some (sym (append-nil paths))
 
+no_bytes : (tree : Option Tree) → IfSome tree (λ t. 0 < full_bytes)
+no_bytes None = tt
+no_bytes (Some t) = omega arith
+
 -- nothing is read and nothing more is noted
-read_none : (mail : ObservedMail) (given : List Given) (paths : List (List ℕ)) → HasRead mail mail given given paths
-read_none mail given paths = record {
-  given = [];
-  given_is = sym (append-nil given);
-  reading = record {
-    answered = 0;
-    asked = 0;
-    within = omega arith;
-    last = (omega arith, omega arith);
-    notes = record { reads = []; given_is = refl; each = refl; told = no_answers mail.tree };
-    read = none_more mail.reads;
-  };
-  tree = refl;
-}
+read_none : (mail : ObservedMail) (given : List Given) (paths : List (List ℕ)) → HasReadSome mail mail given given paths [] paths
+read_none mail given paths =
+    let notes : NotesReads mail.tree [] [] = record { reads = []; given_is = refl; each = refl; told = no_answers mail.tree } in
+    record {
+      answers = [];
+      further = [];
+      given_is = sym (append-nil given);
+      reading = (refl, refl);
+      unfinished = record { answered = 0; notes = notes; is_open = record { few = omega arith; small = no_bytes mail.tree } };
+      first = record {
+        given = [];
+        given_is = sym (append-nil given);
+        reading = record { answered = 0; asked = 0; within = omega arith; last = (omega arith, omega arith); notes = notes; read = none_more mail.reads };
+        tree = refl;
+      };
+      few = omega arith;
+    }
 
 -- the paths of the index, once none is left to look at
 pub known-end : (files : List (List ℕ × Facts)) (paths start rest known : List (List ℕ)) → IsSorted paths → ((path : List ℕ) → has_text paths path ≡ has_path files path) → start ≡ paths → rest ≡ []
@@ -118,31 +127,44 @@ none-removed files listed away ids is none empty =
     empty ∙ sym (ap message_ids (unremoved files files listed (listed-at files listed (sym is ∙ none-of away none)) (λ path there. there)))
 
 -- the listing and the first of the paths were asked
-pub asked_reading : (old mid new : ObservedMail) (files : List (List ℕ × Facts)) (before noted0 given : List Given) (listed paths : List (List ℕ)) → mid.tree ≡ old.tree → mid.reads ≡ old.reads → before ≡ [] → noted0 ≡ before ++ givens.Listed listed ∷ []
-    → IsSorted listed → IfSome old.tree (λ t. scanned t ≡ Ok listed) → paths ≡ to_read files listed → HasRead mid new noted0 given paths → AsksNew old new files given
-asked_reading old mid new files before noted0 given listed paths same_tree same none is rising told paths_are h' =
-    let h : HasRead mid new noted0 given (to_read files listed) = subst (λ (l : List (List ℕ)). HasRead mid new noted0 given l) paths_are h' in
-    let reading = h.reading in
+pub asked_reading : (old mid new : ObservedMail) (files : List (List ℕ × Facts)) (before noted0 given : List Given) (listed paths : List (List ℕ)) (batches : List (List (List ℕ × Facts))) (left : List (List ℕ))
+    → mid.tree ≡ old.tree → mid.reads ≡ old.reads → before ≡ [] → noted0 ≡ before ++ givens.Listed listed ∷ []
+    → IsSorted listed → IfSome old.tree (λ t. scanned t ≡ Ok listed) → paths ≡ to_read files listed → HasReadSome mid new noted0 given paths batches left → AsksNew old new files given
+asked_reading old mid new files before noted0 given listed paths batches left same_tree same none is rising told paths_are h' =
+    let h : HasReadSome mid new noted0 given (to_read files listed) batches left = subst (λ (l : List (List ℕ)). HasReadSome mid new noted0 given l batches left) paths_are h' in
+    let first = h.first in
+    let reading = first.reading in
+    let listing_is : noted0 ≡ givens.Listed listed ∷ [] = is ∙ ap (λ l. l ++ givens.Listed listed ∷ []) none in
     inr (record {
-      listed = listed;
-      listing = record { rising = rising; told = told };
-      answers = h.given;
-      given_is = h.given_is ∙ ap (λ l. l ++ h.given) (is ∙ ap (λ l. l ++ givens.Listed listed ∷ []) none);
+      batches = batches;
+      left = left;
+      found = record {
+        listed = listed;
+        listing = record { rising = rising; told = told };
+        answers = h.answers;
+        further = h.further;
+        given_is = h.given_is ∙ ap (λ l. l ++ (h.answers ++ h.further)) listing_is;
+        reading = subst (λ (t : Option Tree). ReadsBatches t h.answers (to_read files listed) batches left) same_tree h.reading;
+        unfinished = subst (λ (t : Option Tree). IsUnfinished t h.further left) same_tree h.unfinished;
+      };
+      answers = first.given;
+      given_is = first.given_is ∙ ap (λ l. l ++ first.given) listing_is;
       reading = record {
         answered = reading.answered;
         asked = reading.asked;
         within = reading.within;
         last = reading.last;
-        notes = subst (λ (t : Option Tree). NotesReads t h.given (take reading.answered (to_read files listed))) same_tree reading.notes;
+        notes = subst (λ (t : Option Tree). NotesReads t first.given (take reading.answered (to_read files listed))) same_tree reading.notes;
         read = reading.read ∙ ap (λ (r : Option (List (List ℕ))). read_with r (take reading.asked (to_read files listed))) same;
       };
+      few = h.few;
     })
 
 -- the listing alone was asked
 pub asked_listing : (old mid : ObservedMail) (files : List (List ℕ × Facts)) (before given : List Given) (listed : List (List ℕ)) → mid.tree ≡ old.tree → mid.reads ≡ old.reads → before ≡ [] → given ≡ before ++ givens.Listed listed ∷ []
     → IsSorted listed → IfSome old.tree (λ t. scanned t ≡ Ok listed) → AsksNew old mid files given
 asked_listing old mid files before given listed same_tree same none is rising told =
-    asked_reading old mid mid files before given given listed (to_read files listed) same_tree same none is rising told refl (read_none mid given (to_read files listed))
+    asked_reading old mid mid files before given given listed (to_read files listed) [] (to_read files listed) same_tree same none is rising told refl (read_none mid given (to_read files listed))
 
 -- what was listed is compared with the index
 pub has_listed : (tree : Option Tree) (files : List (List ℕ × Facts)) (before given : List Given) (listed unknown away ids : List (List ℕ)) → before ≡ [] → given ≡ before ++ givens.Listed listed ∷ [] → IsSorted listed
@@ -158,6 +180,7 @@ has_listed tree files before given listed unknown away ids none is rising told u
 }
 
 -- and of what is unknown the first paths were read
-pub asks-some : (old new : ObservedMail) (files : List (List ℕ × Facts)) (noted0 given : List Given) (compared : Compared) → HasListed old.tree files noted0 compared → HasRead old new noted0 given compared.unknown → AsksNew old new files given
-asks-some old new files noted0 given compared h read =
-    asked_reading old old new files [] noted0 given h.listed compared.unknown refl refl refl h.given_is h.listing.rising h.listing.told h.unknown_are read
+pub asks-some : (old new : ObservedMail) (files : List (List ℕ × Facts)) (noted0 given : List Given) (compared : Compared) (batches : List (List (List ℕ × Facts))) (left : List (List ℕ)) → HasListed old.tree files noted0 compared
+    → HasReadSome old new noted0 given compared.unknown batches left → AsksNew old new files given
+asks-some old new files noted0 given compared batches left h read =
+    asked_reading old old new files [] noted0 given h.listed compared.unknown batches left refl refl refl h.given_is h.listing.rising h.listing.told h.unknown_are read

@@ -103,7 +103,7 @@ pub(crate) fn rename_and_sync<M: Maildir>(
     if done.moves.is_empty() {
         return Ok(());
     }
-    mail.sync()
+    mail.sync(&[], &[])
 }
 
 /// Tries a rename, unless its target is too long or a path of the index.

@@ -28,7 +28,8 @@ pub(crate) struct Compared {
     pub gone_ids: Many<MessageId>,
 }
 
-/// Lists the mail, notes the listing, and compares it with the index.
+/// Lists the mail, compares it with the index, and notes the listing. The names that came and went are synced first, since an index that has
+/// a name which a loss of power takes back would follow the older one.
 pub(crate) fn compare<M: Maildir>(
     alloc: Global,
     shown: &Snapshot,
@@ -48,8 +49,9 @@ pub(crate) fn compare<M: Maildir>(
         Ok(listed) => listed,
         Err(error) => return Err(error),
     };
-    note_listed(alloc, &listed, given)?;
     let compared = side_by_side(alloc, shown, &listed)?;
+    mail.sync(compared.unknown.as_slice(), compared.gone.as_slice())?;
+    note_listed(alloc, &listed, given)?;
     Ok(compared)
 }
 

@@ -1,7 +1,6 @@
 //! The tags that lines want, line by line, for `tag`: they stand in a snapshot in the place of the tags.
 
-ghost use Rattle.std.specs.Prelude.{◌≡◌, ◌++◌, ◌<◌, ℕ, List, false, IfOk, OnOk, map};
-ghost use Rattle.nm_answer.specs.Matches.{matches_of};
+ghost use Rattle.std.specs.Prelude.{◌≡◌, ◌++◌, ℕ, List, IfOk, OnOk, map};
 ghost use Rattle.nm_dates.specs.Seconds.{IsMoment};
 ghost use Rattle.nm_answer.specs.View.{tags_of};
 ghost use Rattle.nm_answer.specs.Tagging.{asked_tags, found_by, wanted_after, wanted_by};
@@ -9,16 +8,13 @@ ghost use Rattle.nm_eval.specs.Numbers.{live_at_numbers};
 ghost use Rattle.nm_writer.specs.Wanting.{AreTouched};
 
 use nm_answer::Tagging;
-use nm_base::{Copies, Many, MessageId, NoMemory, Steps, Tags};
+use nm_base::{Copies, Many, MessageId, NoMemory, Tags};
 use nm_eval::{add_numbered, matches, the_live_ones_stand_at_their_numbers};
 use nm_plan::a_line_tags_what_it_finds;
-use nm_query::Query;
 use nm_state::Snapshot;
 use nm_tags::apply_ops;
 use std::alloc::Global;
 use std::collections::BTreeMap;
-use std::marker::Brand;
-use std::sync::ledger::{Blank, Ledger};
 
 /// The snapshot in which the tags that are wanted stand, and the messages that a line found, by their numbers.
 #[derive(Drop)]
@@ -66,7 +62,7 @@ fn want_line(
         → numbered.new.entries ≡ live_at_numbers before (ids ++ found_by moment before line.now)) }
 {
     a_line_tags_what_it_finds();
-    let found = found(alloc, &before, &line.query, moment)?;
+    let found = matches(alloc, &before, &line.query, moment, false)?;
     let sets = line_sets(alloc, &before, found.as_slice(), line)?;
     add_all_numbered(&before, found.as_slice(), numbered)?;
     before.with_tags(&sets)
@@ -116,34 +112,4 @@ fn asked_tags(
         Some(tags) => apply_ops(alloc, tags, line.clear, &line.ops),
         None => apply_ops(alloc, &Tags::new(alloc), line.clear, &line.ops),
     }
-}
-
-/// The messages that a query finds, in steps that nobody counts; no tag keeps one out.
-fn found(
-    alloc: Global,
-    before: &Snapshot,
-    query: &Query,
-    moment: i64,
-) -> Result<Many<MessageId>, NoMemory>
-    requires moment { IsMoment moment }
-    ensures { IfOk result (λ ids. ids ≡ matches_of before.now query.now moment false) }
-{
-    in_steps::<Brand>(alloc, before, query, moment, Blank::new(1))
-}
-
-fn in_steps<L: Ledger>(
-    alloc: Global,
-    before: &Snapshot,
-    query: &Query,
-    moment: i64,
-    blank: Blank,
-) -> Result<Many<MessageId>, NoMemory>
-    requires name { blank.name ≡ L.name }
-    requires parts { blank.parts ≡ L.parts }
-    requires whole { 0 < L.parts }
-    requires moment { IsMoment moment }
-    ensures { IfOk result (λ ids. ids ≡ matches_of before.now query.now moment false) }
-{
-    let mut steps = Steps::<L>::begin(blank);
-    matches(alloc, before, query, moment, false, &mut steps)
 }

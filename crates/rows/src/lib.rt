@@ -17,5 +17,5 @@ pub use paragraph::{Paragraph, paragraphs};
 pub use report::Report;
 pub use row::{Row, RowLine, cut, number_of, read_row, signed_of, text_of};
 pub use row_error::RowError;
-pub use table::{Program, run_table};
+pub use table::{Program, run_program, run_table};
 pub use values::{id_of, named, path_of, tag_of, tags_of, value_of, words_of};

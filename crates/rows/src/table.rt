@@ -7,6 +7,7 @@ ghost use Rattle.rows.specs.Table.{paragraph_count};
 use crate::{Paragraph, Report, Row, RowError, paragraphs, read_row};
 use nm_base::{Many, NoMemory};
 use std::alloc::Global;
+use std::io::{self, ErrorKind, Read, Write};
 
 /// A program that runs rows.
 pub trait Program {
@@ -16,6 +17,18 @@ pub trait Program {
     /// What comes of the row.
     fn answer(&self, alloc: Global, row: &Row<'_>) -> Result<Vec<u8>, RowError>
         requires { ready self.now };
+}
+
+/// Runs the table of the standard input, and prints the report on it.
+pub fn run_program<P: Program>(rt: &HostRuntime, program: &P) -> io::Result<()>
+    requires { P.ready program.now }
+{
+    let mut table = Vec::new(rt.alloc());
+    rt.stdin().read_to_end(&mut table)?;
+    match run_table(rt.alloc(), program, table.as_slice()) {
+        Ok(report) => rt.stdout().write_all(report.as_slice()),
+        Err(NoMemory) => Err(io::Error::from(ErrorKind::OutOfMemory)),
+    }
 }
 
 /// Runs the rows of the table, and gives the report on them, which tells each row once. The lines `=` of a row are what it wants.

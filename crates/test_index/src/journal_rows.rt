@@ -96,7 +96,7 @@ fn append<D: Disk>(alloc: Global, disk: &mut D, body: &[u8]) -> Result<bool, Row
 }
 
 /// The journal of `Head`.
-pub fn open_head<D: Disk>(alloc: Global, disk: &mut D) -> Result<Journal, RowError>
+fn open_head<D: Disk>(alloc: Global, disk: &mut D) -> Result<Journal, RowError>
     ensures open { IfOk result (λ journal. journal.failed ≡ false) }
     ensures stands { IfOk result (λ journal. IfSome (D.observed disk.new).told (λ moments. (bodies : List (List ℕ)) × StandsOn moments.present journal bodies)) }
 {

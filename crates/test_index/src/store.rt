@@ -1,4 +1,4 @@
-//! A store whose commits are lines of text, for `snapshot_rows` and `store_measures`.
+//! A store whose commits are lines of text, for `snapshot_rows`.
 
 use crate::commit_lines::commit_of;
 use nm_commit::Commit;

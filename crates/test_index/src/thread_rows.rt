@@ -201,7 +201,7 @@ fn add<L: Ledger>(labels: &mut Labels, row: &LinkRow, steps: &mut Steps<L>) {
 }
 
 /// Whether the ids of a row find numbers from this one on.
-pub fn has_room(next: u64, row: &LinkRow) -> bool
+fn has_room(next: u64, row: &LinkRow) -> bool
     ensures { IsTrue result → next + length (ids_of row.now) ≤ 2 ^ 63 }
 {
     let len = row.links.len() as u64;
@@ -209,7 +209,7 @@ pub fn has_room(next: u64, row: &LinkRow) -> bool
 }
 
 /// The row of the words of a line.
-pub fn row_of_line(alloc: Global, line: Lines) -> Result<LinkRow, RowError> {
+fn row_of_line(alloc: Global, line: Lines) -> Result<LinkRow, RowError> {
     let line = line.into_bytes()?;
     let words = words_of(alloc, line.as_slice())?;
     row_of(alloc, words.as_slice())
@@ -222,7 +222,7 @@ fn row_of(alloc: Global, words: &[Text]) -> Result<LinkRow, RowError> {
     Ok(LinkRow { id, links })
 }
 
-pub fn first_id(alloc: Global, words: &[Text]) -> Result<MessageId, RowError> {
+fn first_id(alloc: Global, words: &[Text]) -> Result<MessageId, RowError> {
     match words {
         [id, ..] => id_of(alloc, id.as_bytes()),
         [] => Err(RowError::Broken("no id")),

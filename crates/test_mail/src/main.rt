@@ -12,14 +12,9 @@ mod text_rows;
 mod value_rows;
 
 use answers::Reading;
-use rows::run_table;
-use std::io::{self, ErrorKind, Read, Write};
+use rows::run_program;
+use std::io;
 
 fn main(rt: HostRuntime) -> io::Result<()> {
-    let mut table = Vec::new(rt.alloc());
-    rt.stdin().read_to_end(&mut table)?;
-    let Ok(report) = run_table(rt.alloc(), &Reading, table.as_slice()) else {
-        return Err(io::Error::from(ErrorKind::OutOfMemory));
-    };
-    rt.stdout().write_all(report.as_slice())
+    run_program(&rt, &Reading)
 }

@@ -5,12 +5,12 @@ use crate::found_rows::push_ids;
 use crate::show_rows::push_shown;
 use crate::values::{query_of, words_of};
 use nm_answer::Tagging;
-use nm_base::{Boxed, CountAsk, DumpForm, Many, MessageId, SearchAsk, ShowAsk, Text};
+use nm_base::{Boxed, CountAsk, DumpForm, SearchAsk};
 use nm_batch::{read_queries, read_taggings};
 use nm_command::{Request, command};
 use nm_dump::dump;
-use nm_query::Query;
-use nm_render::{ShowError, counts_reply, search_reply, shown_ids};
+use nm_eval::matches;
+use nm_render::{counts_reply, search_reply};
 use nm_state::Snapshot;
 use rows::{Lines, Row, RowError, named};
 use std::alloc::Global;
@@ -152,26 +152,12 @@ fn push_tagging(
     index: &Snapshot,
     tagging: &Tagging,
 ) -> Result<(), RowError> {
-    let ids = all_found(alloc, index, &tagging.query)?;
+    let ids = matches(alloc, index, &tagging.query, 0, false)?;
     lines.begin();
     push_ops(lines, tagging.ops.as_slice());
     lines.push(b"for ");
     push_ids(lines, ids.as_slice(), b"nothing");
     Ok(())
-}
-
-/// The messages that the query finds, the oldest first; no tag keeps one out.
-fn all_found(alloc: Global, index: &Snapshot, query: &Query) -> Result<Many<MessageId>, RowError> {
-    let ask = ShowAsk {
-        raw: false,
-        exclude: false,
-        query: Text::new(alloc),
-    };
-    match shown_ids(alloc, index, &ask, query, 0) {
-        Ok(ids) => Ok(ids),
-        Err(ShowError::NoMemory) => Err(RowError::NoMemory),
-        Err(_) => Err(RowError::Broken("a query finds no list of messages")),
-    }
 }
 
 /// The dump of all messages, in the form behind `?`.
@@ -183,7 +169,7 @@ pub fn push_dump(
 ) -> Result<(), RowError> {
     let form = form_of(alloc, row)?;
     let all = query_of(alloc, "*")?;
-    let ids = all_found(alloc, index, all.get())?;
+    let ids = matches(alloc, index, all.get(), 0, false)?;
     let text = dump(alloc, index, &ids, form)?;
     lines.text(text.as_slice());
     Ok(())

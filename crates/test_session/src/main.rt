@@ -18,20 +18,9 @@ mod stop_rows;
 mod transcripts;
 
 use answers::Sessions;
-use nm_base::{Many, NoMemory};
-use rows::run_table;
-use std::io::{self, ErrorKind, Read, Write};
+use rows::run_program;
+use std::io;
 
 fn main(rt: HostRuntime) -> io::Result<()> {
-    let mut table = Vec::new(rt.alloc());
-    rt.stdin().read_to_end(&mut table)?;
-    let report = run_table(rt.alloc(), &Sessions { rt: &rt }, table.as_slice());
-    print(&rt, report)
-}
-
-fn print(rt: &HostRuntime, report: Result<Many<u8>, NoMemory>) -> io::Result<()> {
-    match report {
-        Ok(report) => rt.stdout().write_all(report.as_slice()),
-        Err(NoMemory) => Err(io::Error::from(ErrorKind::OutOfMemory)),
-    }
+    run_program(&rt, &Sessions { rt: &rt })
 }

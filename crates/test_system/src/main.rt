@@ -12,14 +12,9 @@ mod script;
 mod stream_rows;
 
 use answers::Outside;
-use rows::run_table;
-use std::io::{self, ErrorKind, Read, Write};
+use rows::run_program;
+use std::io;
 
 fn main(rt: HostRuntime) -> io::Result<()> {
-    let mut table = Vec::new(rt.alloc());
-    rt.stdin().read_to_end(&mut table)?;
-    let Ok(report) = run_table(rt.alloc(), &Outside { rt: &rt }, table.as_slice()) else {
-        return Err(io::Error::from(ErrorKind::OutOfMemory));
-    };
-    rt.stdout().write_all(report.as_slice())
+    run_program(&rt, &Outside { rt: &rt })
 }

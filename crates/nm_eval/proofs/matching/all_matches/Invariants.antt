@@ -1,20 +1,17 @@
-use Rattle.std.proofs.Common.{◌≡◌, ◌+◌, ◌++◌, length}
+use Rattle.std.proofs.Common.{◌≡◌, ◌++◌, length}
 use Rattle.std.specs.List.{AllByRecursion, filter}
-use Rattle.nm_index.specs.Index.{live_ids}
 use Rattle.nm_answer.specs.Matches.{is_match, matches_of}
 use Rattle.nm_answer.specs.Test.{passes}
 use Rattle.nm_answer.specs.View.{View, view_of}
 use Rattle.nm_eval.proofs.LiveLemmas.{HasItsFiles, ids_in}
 use Rattle.nm_eval.proofs.matching.all_matches.Given as goal
 
--- what is found, and what matches of what is left, is all; the steps that were taken, with one for each that is left, are all;
--- what is asked passes as the query does; and what is left comes with its files
+-- what is found, and what matches of what is left, is all; what is asked passes as the query does; and what is left comes with its files
 abbrev pub invariant-messages : goal.invariant-messages
-invariant-messages g l =
+invariant-messages l =
     (l.found ++ filter (λ id. is_match l.query l.moment l.exclude (view_of l.snapshot id)) (ids_in l.rest) ≡ matches_of l.snapshot l.query l.moment l.exclude)
-    × (l.steps + length l.rest ≡ l.initial.steps + length (live_ids l.snapshot.files l.snapshot.entries))
     × ((message : View) → passes l.asked message l.moment ≡ passes l.query message l.moment)
     × AllByRecursion (HasItsFiles l.snapshot.files) l.rest
 
 abbrev pub decreases-messages : goal.decreases-messages
-decreases-messages g l = length l.rest
+decreases-messages l = length l.rest

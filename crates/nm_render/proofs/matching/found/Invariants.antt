@@ -1,4 +1,0 @@
-use Rattle.nm_render.proofs.matching.found.Given as goal
-
-abbrev pub ghosts-in_steps : goal.ghosts-in_steps
-ghosts-in_steps a = record { name = a.blank.name; parts = a.blank.parts }
