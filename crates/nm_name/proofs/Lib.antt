@@ -2,3 +2,4 @@ mod CutLemmas
 mod LawLemmas
 mod OwnLemmas
 pub mod PathLemmas
+mod StemLemmas

@@ -80,19 +80,19 @@ module _ (stem letters : List ℕ) (are : AreLetters letters) where
   abbrev name : List ℕ
   name = stem ++ codes ":2," ++ letters
 
-  cut_mark : cut_last 58 name ≡ Some (stem, 50 ∷ 44 ∷ letters)
+  pub cut_mark : cut_last 58 name ≡ Some (stem, 50 ∷ 44 ∷ letters)
   cut_mark = ap (cut_last 58) (append_assoc stem (codes ":2,") letters) ∙ cut_again 58 stem (50 ∷ 44 ∷ letters) (lacks_other 58 refl letters are)
 
-  its_letters : letters_of name ≡ letters
+  pub its_letters : letters_of name ≡ letters
   its_letters = ap letters_at cut_mark ∙ ap (λ (b : Bool). if b then letters else []) are
 
-  may : may_be_renamed name ≡ true
+  pub may : may_be_renamed name ≡ true
   may = ap may_be_cut cut_mark ∙ are
 
   marked_again : marked name letters ≡ name
   marked_again = ap (λ (s : List ℕ). s ++ codes ":2," ++ letters) (ap (stem_at name) cut_mark)
 
-  colon : (front : List ℕ) → holds 58 (front ++ codes ":2," ++ letters) ≡ true
+  pub colon : (front : List ℕ) → holds 58 (front ++ codes ":2," ++ letters) ≡ true
   colon [] = refl
   colon (x ∷ front) = ap (λ (b : Bool). (x == 58) || b) (colon front) ∙ or-true (x == 58)
 
