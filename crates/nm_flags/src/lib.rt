@@ -5,6 +5,9 @@ mod laws;
 mod renames;
 mod tags;
 
-pub use laws::{only_the_five_tags_follow_the_names, unread_is_what_no_file_has_seen};
+pub use laws::{
+    each_letter_follows_its_tag, each_tag_follows_its_letter, only_the_five_tags_follow_the_names,
+    unread_is_what_no_file_has_seen,
+};
 pub use renames::{Rename, rename_plan};
 pub use tags::tags_from_names;
