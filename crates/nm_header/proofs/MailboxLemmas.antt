@@ -116,7 +116,7 @@ split_after p [] y ys none e = slice_split-cons_yes p y ys e
 split_after p (x ∷ xs) y ys none e =
     slice_split-cons_no p x (xs ++ y ∷ ys) (or_parts (p x) (list_any p xs) none).0 ∙ ap (onto_first x) (split_after p xs y ys (or_parts (p x) (list_any p xs) none).1 e)
 
-split_front : (p : List ℕ → Bool) (xs ys part : List (List ℕ)) (parts : List (List (List ℕ))) → list_any p xs ≡ false → slice_split p ys ≡ part ∷ parts → slice_split p (xs ++ ys) ≡ (xs ++ part) ∷ parts
+pub split_front : (p : List ℕ → Bool) (xs ys part : List (List ℕ)) (parts : List (List (List ℕ))) → list_any p xs ≡ false → slice_split p ys ≡ part ∷ parts → slice_split p (xs ++ ys) ≡ (xs ++ part) ∷ parts
 split_front p [] ys part parts none e = e
 split_front p (x ∷ xs) ys part parts none e =
     slice_split-cons_no p x (xs ++ ys) (or_parts (p x) (list_any p xs) none).0 ∙ ap (onto_first x) (split_front p xs ys part parts (or_parts (p x) (list_any p xs) none).1 e)
@@ -125,10 +125,10 @@ first_of_some : (l : List (List (List ℕ))) → 0 < length l → (part : List (
 first_of_some [] h = absurd (omega arith)
 first_of_some (part ∷ parts) h = (part, parts, refl)
 
-split_some : (p : List ℕ → Bool) (ys : List (List ℕ)) → (part : List (List ℕ)) × (parts : List (List (List ℕ))) × (slice_split p ys ≡ part ∷ parts)
+pub split_some : (p : List ℕ → Bool) (ys : List (List ℕ)) → (part : List (List ℕ)) × (parts : List (List (List ℕ))) × (slice_split p ys ≡ part ∷ parts)
 split_some p ys = let one = length-slice_split p ys in first_of_some (slice_split p ys) (omega arith)
 
-colon_none : (part : List (List ℕ)) → list_any is_colon part ≡ false → after_colon part ≡ part
+pub colon_none : (part : List (List ℕ)) → list_any is_colon part ≡ false → after_colon part ≡ part
 colon_none [] e = refl
 colon_none (t ∷ part) e =
     ap (λ v. cond v (after_colon part) (cond (is_colon t) part (t ∷ part))) (or_parts (is_colon t) (list_any is_colon part) e).1 ∙ ap (λ v. cond v part (t ∷ part)) (or_parts (is_colon t) (list_any is_colon part) e).0
@@ -158,7 +158,7 @@ pub in_separator : (lexemes : List (List ℕ)) (t : List ℕ) (rest : List (List
 in_separator lexemes t rest none e =
     ap (flat_map (λ part. mailbox_in (after_colon part))) (split_after is_separator lexemes t rest (none_of is_separator (begins_with_any part_ends) no_separator lexemes none) e) ∙ ap (λ x. mailbox_in x ++ mailboxes_in rest) (colon_none lexemes (none_of is_colon (begins_with_any part_ends) no_colon lexemes none))
 
-in_colon : (lexemes : List (List ℕ)) (c : List ℕ) (rest : List (List ℕ)) → list_any (begins_with_any part_ends) lexemes ≡ false → is_colon c ≡ true → is_separator c ≡ false → mailboxes_in (lexemes ++ c ∷ rest) ≡ mailboxes_in rest
+pub in_colon : (lexemes : List (List ℕ)) (c : List ℕ) (rest : List (List ℕ)) → list_any (begins_with_any part_ends) lexemes ≡ false → is_colon c ≡ true → is_separator c ≡ false → mailboxes_in (lexemes ++ c ∷ rest) ≡ mailboxes_in rest
 in_colon lexemes c rest none e f =
     let s = split_some is_separator rest in
     let part : List (List ℕ) = s.0 in

@@ -21,22 +21,22 @@ use Rattle.nm_header.proofs.LexemeLemmas.{before_is}
 use Rattle.nm_header.proofs.MailboxLemmas.{drop_before, in_end, in_nil, in_separator, no_angle, no_part_end, none_of}
 
 -- ---- bytes
-abbrev IsFree : ℕ → Type 0
+abbrev pub IsFree : ℕ → Type 0
 IsFree b = ((b == 34) ≡ false) × ((b == 40) ≡ false) × ((b == 92) ≡ false)
 
-unquoted_free : (b : ℕ) → is_unquoted_byte b ≡ true → IsFree b
+pub unquoted_free : (b : ℕ) → is_unquoted_byte b ≡ true → IsFree b
 unquoted_free b e = (grind (arith, nat_tests), grind (arith, nat_tests), grind (arith, nat_tests))
 
-unquoted_angle : (b : ℕ) → is_unquoted_byte b ≡ true → (b == 60) ≡ false
+pub unquoted_angle : (b : ℕ) → is_unquoted_byte b ≡ true → (b == 60) ≡ false
 unquoted_angle b e = grind (arith, nat_tests)
 
-unquoted_ends : (b : ℕ) → is_unquoted_byte b ≡ true → begins_with_any name_ends (b ∷ []) ≡ false
+pub unquoted_ends : (b : ℕ) → is_unquoted_byte b ≡ true → begins_with_any name_ends (b ∷ []) ≡ false
 unquoted_ends b e = grind (arith, nat_tests)
 
-address_free : (b : ℕ) → is_address_byte b ≡ true → IsFree b
+pub address_free : (b : ℕ) → is_address_byte b ≡ true → IsFree b
 address_free b e = (grind (arith, nat_tests), grind (arith, nat_tests), grind (arith, nat_tests))
 
-address_dense : (b : ℕ) → is_address_byte b ≡ true → is_white_space b ≡ false
+pub address_dense : (b : ℕ) → is_address_byte b ≡ true → is_white_space b ≡ false
 address_dense b e = grind (arith, nat_tests)
 
 address_open : (b : ℕ) → is_address_byte b ≡ true → is_byte 62 b ≡ false
@@ -83,7 +83,7 @@ unquoted_pairs [] pairs = refl
 unquoted_pairs (b ∷ name) pairs = ap (λ l. l ++ flat_map unquoted_pair (map escaped name ++ pairs)) (unquoted_pair-escaped b) ∙ ap (λ l. b ∷ l) (unquoted_pairs name pairs)
 
 -- ---- texts without quotes
-unquoted-byte : (b : ℕ) (rest : List ℕ) → (b == 34) ≡ false → (b == 92) ≡ false → unquoted (b ∷ rest) ≡ b ∷ unquoted rest
+pub unquoted-byte : (b : ℕ) (rest : List ℕ) → (b == 34) ≡ false → (b == 92) ≡ false → unquoted (b ∷ rest) ≡ b ∷ unquoted rest
 unquoted-byte b rest quote pair =
     ap (flat_map unquoted_pair) (cut-cons pair_more b rest ∙ ap (λ v. (b ∷ take (cond v 1 0) rest) ∷ pairs_of (drop (cond v 1 0) rest)) pair) ∙ ap (λ v. cond v [] (b ∷ []) ++ unquoted rest) quote
 
@@ -173,11 +173,11 @@ spaced_back : (name : List ℕ) → spaced_of (name ++ 32 ∷ []) ≡ spaced_of 
 spaced_back name =
     ap (λ l. join_with_byte 32 (filter is_some_text l)) (split_back name) ∙ ap (join_with_byte 32) (filter-append is_some_text (slice_split is_white_space name) ([] ∷ []) ∙ append-nil (filter is_some_text (slice_split is_white_space name)))
 
-spaced_front : (name : List ℕ) → spaced_of (32 ∷ name) ≡ spaced_of name
+pub spaced_front : (name : List ℕ) → spaced_of (32 ∷ name) ≡ spaced_of name
 spaced_front name = ap (λ l. join_with_byte 32 (filter is_some_text l)) (slice_split-cons_yes is_white_space 32 name refl)
 
 -- ---- addresses
-address_kept : (address : List ℕ) → list_all is_address_byte address ≡ true → without_white_space address ≡ address
+pub address_kept : (address : List ℕ) → list_all is_address_byte address ≡ true → without_white_space address ≡ address
 address_kept [] e = refl
 address_kept (b ∷ address) e =
     let both = and_parts (is_address_byte b) (list_all is_address_byte address) e in
@@ -206,12 +206,12 @@ closed_drop text rest b n e =
     ap (drop n) (sym (append_assoc text (b ∷ []) rest)) ∙ drop_at (text ++ b ∷ []) rest n (long ∙ sym e)
 
 -- ---- without comments
-plain-byte : (b : ℕ) (rest : List ℕ) → IsFree b → plain_of (b ∷ rest) ≡ b ∷ plain_of rest
+pub plain-byte : (b : ℕ) (rest : List ℕ) → IsFree b → plain_of (b ∷ rest) ≡ b ∷ plain_of rest
 plain-byte b rest free =
     let more : lexeme_more b rest ≡ 0 = ap (λ v. cond v (comment_len rest) (cond (b == 34) (quoted_len rest) (pair_more b rest))) free.1 ∙ ap (λ v. cond v (quoted_len rest) (pair_more b rest)) free.0 ∙ ap (λ v. cond v 1 0) free.2 in
     ap (flat_map shown) (cut-cons lexeme_more b rest ∙ ap (λ n. (b ∷ take n rest) ∷ lexemes_of (drop n rest)) more) ∙ ap (λ v. cond v (32 ∷ []) (b ∷ []) ++ plain_of rest) free.1
 
-plain-bytes : (p : ℕ → Bool) → ((b : ℕ) → p b ≡ true → IsFree b) → (text rest : List ℕ) → list_all p text ≡ true → plain_of (text ++ rest) ≡ text ++ plain_of rest
+pub plain-bytes : (p : ℕ → Bool) → ((b : ℕ) → p b ≡ true → IsFree b) → (text rest : List ℕ) → list_all p text ≡ true → plain_of (text ++ rest) ≡ text ++ plain_of rest
 plain-bytes p free [] rest e = refl
 plain-bytes p free (b ∷ text) rest e =
     let both = and_parts (p b) (list_all p text) e in
@@ -224,36 +224,36 @@ plain-quoted name rest =
     let long : n ≡ length text + 1 = quoted_len-escaped name rest in
     ap (flat_map shown) (cut-cons lexeme_more 34 (text ++ 34 ∷ rest)) ∙ ap (λ l. (34 ∷ l) ++ plain_of (drop n (text ++ 34 ∷ rest))) (closed_take text rest 34 n long) ∙ ap (λ l. (34 ∷ (text ++ 34 ∷ [])) ++ plain_of l) (closed_drop text rest 34 n long) ∙ ap (λ l. 34 ∷ l) (append_assoc text (34 ∷ []) (plain_of rest))
 
-plain-name : (is_quoted : Bool) (name rest : List ℕ) → (is_quoted || list_all is_unquoted_byte name) ≡ true → plain_of (written_name is_quoted name ++ rest) ≡ written_name is_quoted name ++ plain_of rest
+pub plain-name : (is_quoted : Bool) (name rest : List ℕ) → (is_quoted || list_all is_unquoted_byte name) ≡ true → plain_of (written_name is_quoted name ++ rest) ≡ written_name is_quoted name ++ plain_of rest
 plain-name true name rest e =
     ap (λ l. plain_of (34 ∷ l)) (append_assoc (flat_map escaped name) (34 ∷ []) rest) ∙ plain-quoted name rest ∙ ap (λ l. 34 ∷ l) (sym (append_assoc (flat_map escaped name) (34 ∷ []) (plain_of rest)))
 plain-name false name rest e = plain-bytes is_unquoted_byte unquoted_free name rest e
 
 -- a written mailbox, and what follows it
-abbrev followed : WrittenMailbox → List ℕ → List ℕ
+abbrev pub followed : WrittenMailbox → List ℕ → List ℕ
 followed written rest = written_name written.is_quoted written.mailbox.name ++ 32 ∷ 60 ∷ (written.mailbox.address ++ 62 ∷ rest)
 
-followed_same : (written : WrittenMailbox) (rest : List ℕ) → written_mailbox written ++ rest ≡ followed written rest
+pub followed_same : (written : WrittenMailbox) (rest : List ℕ) → written_mailbox written ++ rest ≡ followed written rest
 followed_same written rest =
     append_assoc (written_name written.is_quoted written.mailbox.name) (32 ∷ 60 ∷ (written.mailbox.address ++ 62 ∷ [])) rest ∙ ap (λ l. written_name written.is_quoted written.mailbox.name ++ 32 ∷ 60 ∷ l) (append_assoc written.mailbox.address (62 ∷ []) rest)
 
-abbrev IsWritable : WrittenMailbox → Type 0
+abbrev pub IsWritable : WrittenMailbox → Type 0
 IsWritable written = (is_spaced written.mailbox.name ≡ true) × ((written.is_quoted || list_all is_unquoted_byte written.mailbox.name) ≡ true) × (list_all is_address_byte written.mailbox.address ≡ true)
 
-writable : (written : WrittenMailbox) → is_writable written ≡ true → IsWritable written
+pub writable : (written : WrittenMailbox) → is_writable written ≡ true → IsWritable written
 writable written e =
     let name : Bool = written.is_quoted || list_all is_unquoted_byte written.mailbox.name in
     let both = and_parts (is_spaced written.mailbox.name) (name && list_all is_address_byte written.mailbox.address) e in
     let rest = and_parts name (list_all is_address_byte written.mailbox.address) both.1 in
     (both.0, rest.0, rest.1)
 
-plain-followed : (written : WrittenMailbox) (rest : List ℕ) → IsWritable written → plain_of (followed written rest) ≡ followed written (plain_of rest)
+pub plain-followed : (written : WrittenMailbox) (rest : List ℕ) → IsWritable written → plain_of (followed written rest) ≡ followed written (plain_of rest)
 plain-followed written rest w =
     let name : List ℕ = written_name written.is_quoted written.mailbox.name in
     let address : List ℕ = written.mailbox.address in
     plain-name written.is_quoted written.mailbox.name (32 ∷ 60 ∷ (address ++ 62 ∷ rest)) w.1 ∙ ap (λ l. name ++ l) (plain-byte 32 (60 ∷ (address ++ 62 ∷ rest)) (refl, refl, refl) ∙ ap (λ l. 32 ∷ l) (plain-byte 60 (address ++ 62 ∷ rest) (refl, refl, refl) ∙ ap (λ l. 60 ∷ l) (plain-bytes is_address_byte address_free address (62 ∷ rest) w.2 ∙ ap (λ l. address ++ l) (plain-byte 62 rest (refl, refl, refl)))))
 
-plain-nil : plain_of [] ≡ []
+pub plain-nil : plain_of [] ≡ []
 plain-nil = ap (flat_map shown) (cut-nil lexeme_more)
 
 plain-written : (all : List WrittenMailbox) → list_all is_writable all ≡ true → plain_of (written_mailboxes all) ≡ written_mailboxes all
@@ -267,23 +267,23 @@ plain-written (written ∷ next ∷ more) e =
     ap plain_of (followed_same written (44 ∷ 32 ∷ rest)) ∙ plain-followed written (44 ∷ 32 ∷ rest) (writable written both.0) ∙ ap (followed written) (plain-byte 44 (32 ∷ rest) (refl, refl, refl) ∙ ap (λ l. 44 ∷ l) (plain-byte 32 rest (refl, refl, refl) ∙ ap (λ l. 32 ∷ l) (plain-written (next ∷ more) both.1))) ∙ sym (followed_same written (44 ∷ 32 ∷ rest))
 
 -- ---- lexemes
-lexeme-byte : (b : ℕ) (rest : List ℕ) → (b == 34) ≡ false → (b == 60) ≡ false → (b == 92) ≡ false → mailbox_lexemes_of (b ∷ rest) ≡ (b ∷ []) ∷ mailbox_lexemes_of rest
+pub lexeme-byte : (b : ℕ) (rest : List ℕ) → (b == 34) ≡ false → (b == 60) ≡ false → (b == 92) ≡ false → mailbox_lexemes_of (b ∷ rest) ≡ (b ∷ []) ∷ mailbox_lexemes_of rest
 lexeme-byte b rest quote angle pair =
     let more : mailbox_lexeme_more b rest ≡ 0 = ap (λ v. cond v (quoted_len rest) (cond (b == 60) (position_or_len (is_byte 62) rest + 1) (pair_more b rest))) quote ∙ ap (λ v. cond v (position_or_len (is_byte 62) rest + 1) (pair_more b rest)) angle ∙ ap (λ v. cond v 1 0) pair in
     cut-cons mailbox_lexeme_more b rest ∙ ap (λ n. (b ∷ take n rest) ∷ mailbox_lexemes_of (drop n rest)) more
 
 -- the lexemes of a written name
-abbrev name_lexemes : Bool → List ℕ → List (List ℕ)
+abbrev pub name_lexemes : Bool → List ℕ → List (List ℕ)
 name_lexemes is_quoted name = cond is_quoted (written_name true name ∷ []) (map (λ b. b ∷ []) name)
 
-lexemes-bytes : (name rest : List ℕ) → list_all is_unquoted_byte name ≡ true → mailbox_lexemes_of (name ++ rest) ≡ map (λ b. b ∷ []) name ++ mailbox_lexemes_of rest
+pub lexemes-bytes : (name rest : List ℕ) → list_all is_unquoted_byte name ≡ true → mailbox_lexemes_of (name ++ rest) ≡ map (λ b. b ∷ []) name ++ mailbox_lexemes_of rest
 lexemes-bytes [] rest e = refl
 lexemes-bytes (b ∷ name) rest e =
     let both = and_parts (is_unquoted_byte b) (list_all is_unquoted_byte name) e in
     let free = unquoted_free b both.0 in
     lexeme-byte b (name ++ rest) free.0 (unquoted_angle b both.0) free.2 ∙ ap (λ l. (b ∷ []) ∷ l) (lexemes-bytes name rest both.1)
 
-lexemes-name : (is_quoted : Bool) (name rest : List ℕ) → (is_quoted || list_all is_unquoted_byte name) ≡ true → mailbox_lexemes_of (written_name is_quoted name ++ rest) ≡ name_lexemes is_quoted name ++ mailbox_lexemes_of rest
+pub lexemes-name : (is_quoted : Bool) (name rest : List ℕ) → (is_quoted || list_all is_unquoted_byte name) ≡ true → mailbox_lexemes_of (written_name is_quoted name ++ rest) ≡ name_lexemes is_quoted name ++ mailbox_lexemes_of rest
 lexemes-name true name rest e =
     let text : List ℕ = flat_map escaped name in
     let n : ℕ = quoted_len (text ++ 34 ∷ rest) in
@@ -292,7 +292,7 @@ lexemes-name true name rest e =
 lexemes-name false name rest e = lexemes-bytes name rest e
 
 -- the lexeme of a written address
-abbrev angled : List ℕ → List ℕ
+abbrev pub angled : List ℕ → List ℕ
 angled address = 60 ∷ (address ++ 62 ∷ [])
 
 lexeme-address : (address rest : List ℕ) → list_all is_address_byte address ≡ true → mailbox_lexemes_of (60 ∷ (address ++ 62 ∷ rest)) ≡ angled address ∷ mailbox_lexemes_of rest
@@ -302,13 +302,13 @@ lexeme-address address rest e =
     cut-cons mailbox_lexeme_more 60 (address ++ 62 ∷ rest) ∙ ap (λ l. (60 ∷ l) ∷ mailbox_lexemes_of (drop n (address ++ 62 ∷ rest))) (closed_take address rest 62 n long) ∙ ap (λ l. angled address ∷ mailbox_lexemes_of l) (closed_drop address rest 62 n long)
 
 -- what stands before the address: the space after a comma, the name, and a space
-abbrev front_lexemes : List (List ℕ) → WrittenMailbox → List (List ℕ)
+abbrev pub front_lexemes : List (List ℕ) → WrittenMailbox → List (List ℕ)
 front_lexemes blank written = blank ++ (name_lexemes written.is_quoted written.mailbox.name ++ (32 ∷ []) ∷ [])
 
-abbrev part_lexemes : List (List ℕ) → WrittenMailbox → List (List ℕ)
+abbrev pub part_lexemes : List (List ℕ) → WrittenMailbox → List (List ℕ)
 part_lexemes blank written = front_lexemes blank written ++ angled written.mailbox.address ∷ []
 
-lexemes-followed : (blank : List (List ℕ)) (written : WrittenMailbox) (rest : List ℕ) → IsWritable written → blank ++ mailbox_lexemes_of (followed written rest) ≡ part_lexemes blank written ++ mailbox_lexemes_of rest
+pub lexemes-followed : (blank : List (List ℕ)) (written : WrittenMailbox) (rest : List ℕ) → IsWritable written → blank ++ mailbox_lexemes_of (followed written rest) ≡ part_lexemes blank written ++ mailbox_lexemes_of rest
 lexemes-followed blank written rest w =
     let name : List (List ℕ) = name_lexemes written.is_quoted written.mailbox.name in
     let address : List ℕ = written.mailbox.address in
@@ -317,13 +317,13 @@ lexemes-followed blank written rest w =
     ap (λ l. blank ++ l) (front ∙ sym (append_assoc name ((32 ∷ []) ∷ []) (angled address ∷ others))) ∙ sym (append_assoc blank (name ++ (32 ∷ []) ∷ []) (angled address ∷ others)) ∙ sym (append_assoc (front_lexemes blank written) (angled address ∷ []) others)
 
 -- ---- one mailbox
-none_ends : (name : List ℕ) → list_all is_unquoted_byte name ≡ true → list_any (begins_with_any name_ends) (map (λ b. b ∷ []) name) ≡ false
+pub none_ends : (name : List ℕ) → list_all is_unquoted_byte name ≡ true → list_any (begins_with_any name_ends) (map (λ b. b ∷ []) name) ≡ false
 none_ends [] e = refl
 none_ends (b ∷ name) e =
     let both = and_parts (is_unquoted_byte b) (list_all is_unquoted_byte name) e in
     ap (λ v. v || list_any (begins_with_any name_ends) (map (λ x. x ∷ []) name)) (unquoted_ends b both.0) ∙ none_ends name both.1
 
-name_inside : (is_quoted : Bool) (name : List ℕ) → (is_quoted || list_all is_unquoted_byte name) ≡ true → list_any (begins_with_any name_ends) (name_lexemes is_quoted name) ≡ false
+pub name_inside : (is_quoted : Bool) (name : List ℕ) → (is_quoted || list_all is_unquoted_byte name) ≡ true → list_any (begins_with_any name_ends) (name_lexemes is_quoted name) ≡ false
 name_inside true name e = refl
 name_inside false name e = none_ends name e
 
@@ -332,7 +332,7 @@ front_inside blank written none w =
     let name : List (List ℕ) = name_lexemes written.is_quoted written.mailbox.name in
     list_any-append (begins_with_any name_ends) blank (name ++ (32 ∷ []) ∷ []) ∙ ap (λ v. v || list_any (begins_with_any name_ends) (name ++ (32 ∷ []) ∷ [])) none ∙ list_any-append (begins_with_any name_ends) name ((32 ∷ []) ∷ []) ∙ ap (λ v. v || false) (name_inside written.is_quoted written.mailbox.name w.1)
 
-concat-singles : (name : List ℕ) → concat (map (λ b. b ∷ []) name) ≡ name
+pub concat-singles : (name : List ℕ) → concat (map (λ b. b ∷ []) name) ≡ name
 concat-singles [] = refl
 concat-singles (b ∷ name) = ap (λ l. b ∷ l) (concat-singles name)
 
@@ -346,7 +346,7 @@ concat-front blank written =
     concat-append blank (name ++ (32 ∷ []) ∷ []) ∙ ap (λ l. concat blank ++ l) (concat-append name ((32 ∷ []) ∷ []) ∙ ap (λ l. l ++ 32 ∷ []) (concat-name written.is_quoted written.mailbox.name))
 
 -- nothing, or the space after a comma
-abbrev blank_of : Bool → List (List ℕ)
+abbrev pub blank_of : Bool → List (List ℕ)
 blank_of is_next = cond is_next ((32 ∷ []) ∷ []) []
 
 name_read : (is_next : Bool) (written : WrittenMailbox) → IsWritable written → spaced_of (unquoted (concat (front_lexemes (blank_of is_next) written))) ≡ written.mailbox.name
@@ -366,7 +366,7 @@ not_blank : (front address : List ℕ) → is_all_white_space (front ++ angled a
 not_blank [] address = refl
 not_blank (b ∷ front) address = elim (is_white_space b) as (λ v. (v && is_all_white_space (front ++ angled address)) ≡ false) [ true ↦ not_blank front address | false ↦ refl ]
 
-mailbox_read : (is_next : Bool) (written : WrittenMailbox) → IsWritable written → mailbox_in (part_lexemes (blank_of is_next) written) ≡ written.mailbox ∷ []
+pub mailbox_read : (is_next : Bool) (written : WrittenMailbox) → IsWritable written → mailbox_in (part_lexemes (blank_of is_next) written) ≡ written.mailbox ∷ []
 mailbox_read is_next written w =
     let front : List (List ℕ) = front_lexemes (blank_of is_next) written in
     let angle : List ℕ = angled written.mailbox.address in
@@ -379,14 +379,14 @@ mailbox_read is_next written w =
     let some : is_all_white_space (concat (front ++ angle ∷ [])) ≡ false = ap is_all_white_space (concat-append front (angle ∷ []) ∙ ap (λ l. concat front ++ l) (append-nil angle)) ∙ not_blank (concat front) written.mailbox.address in
     ap (λ v. cond v [] (mailbox_of (front ++ angle ∷ []) ∷ [])) some ∙ ap (λ m. m ∷ []) read
 
-part_inside : (is_next : Bool) (written : WrittenMailbox) → IsWritable written → list_any (begins_with_any part_ends) (part_lexemes (blank_of is_next) written) ≡ false
+pub part_inside : (is_next : Bool) (written : WrittenMailbox) → IsWritable written → list_any (begins_with_any part_ends) (part_lexemes (blank_of is_next) written) ≡ false
 part_inside is_next written w =
     let front : List (List ℕ) = front_lexemes (blank_of is_next) written in
     let none : list_any (begins_with_any part_ends) front ≡ false = none_of (begins_with_any part_ends) (begins_with_any name_ends) no_part_end front (front_inside (blank_of is_next) written (blank_inside is_next) w) in
     list_any-append (begins_with_any part_ends) front (angled written.mailbox.address ∷ []) ∙ ap (λ v. v || false) none
 
 -- ---- one mailbox after the other
-lexemes-nil : mailbox_lexemes_of [] ≡ []
+pub lexemes-nil : mailbox_lexemes_of [] ≡ []
 lexemes-nil = cut-nil mailbox_lexeme_more
 
 read-written : (is_next : Bool) (written : WrittenMailbox) (more : List WrittenMailbox) → list_all is_writable (written ∷ more) ≡ true → mailboxes_in (blank_of is_next ++ mailbox_lexemes_of (written_mailboxes (written ∷ more))) ≡ map (λ one. one.mailbox) (written ∷ more)

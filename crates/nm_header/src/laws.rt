@@ -1,13 +1,14 @@
 //! What follows from the definitions. No code calls these functions: their clauses are the laws.
-ghost use Rattle.std.specs.Prelude.{◌≡◌, [], ◌∷◌, ◌++◌, List, ℕ, false, map, true};
+ghost use Rattle.std.specs.Prelude.{◌≡◌, [], ◌∷◌, ◌++◌, ◌||◌, Bool, List, ℕ, false, map, true};
 ghost use Rattle.std.specs.Char.{to_ascii_lowercase};
 ghost use Rattle.std.specs.List.{concat, list_all, list_any};
 ghost use Rattle.nm_base.specs.MessageId.{is_message_id};
+ghost use Rattle.nm_header.specs.Addresses.{ends_mailbox, is_bare, nameless};
 ghost use Rattle.nm_header.specs.Fields.{continues, header_of, is_name};
 ghost use Rattle.nm_header.specs.Ids.{ids_of};
 ghost use Rattle.nm_header.specs.Laws.{folded, is_line_end, put_together, written};
 ghost use Rattle.nm_header.specs.Mailboxes.{mailbox_lexemes_of, mailboxes_of};
-ghost use Rattle.nm_header.specs.WrittenMailboxes.{WrittenMailbox, is_writable, written_mailboxes};
+ghost use Rattle.nm_header.specs.WrittenMailboxes.{WrittenMailbox, is_unquoted_byte, is_writable, written_mailbox, written_mailboxes, written_name};
 ghost use Rattle.nm_header.specs.Comments.{lexemes_of};
 ghost use Rattle.nm_text.specs.Cuts.{is_byte};
 ghost use Rattle.nm_text.specs.Lines.{is_one_line};
@@ -38,6 +39,27 @@ pub fn written_ids_are_read()
 /// Mailboxes that are written `name <address>`, with `, ` between, are read again in their order, the names in quotes or as they stand.
 pub fn written_mailboxes_are_read()
     ensures { (written : List WrittenMailbox) → list_all is_writable written ≡ true → mailboxes_of (written_mailboxes written) ≡ map (λ one. one.mailbox) written }
+{}
+
+/// An address that stands alone, without `<..>`, is a mailbox without a name.
+pub fn an_address_alone_is_a_mailbox()
+    ensures { (address : List ℕ) → is_bare address ≡ true → mailboxes_of address ≡ nameless address ∷ [] }
+{}
+
+/// A mailbox ends at a `,` or a `;`, and what stands after that is read as if it stood alone. Between two of them nothing may stand,
+/// and a space before a mailbox counts for nothing.
+pub fn mailboxes_end_at_separators()
+    ensures named { (written : WrittenMailbox) (end : ℕ) (rest : List ℕ) → is_writable written ≡ true → ends_mailbox end ≡ true → mailboxes_of (written_mailbox written ++ end ∷ rest) ≡ written.mailbox ∷ mailboxes_of rest }
+    ensures alone { (address : List ℕ) (end : ℕ) (rest : List ℕ) → is_bare address ≡ true → ends_mailbox end ≡ true → mailboxes_of (address ++ end ∷ rest) ≡ nameless address ∷ mailboxes_of rest }
+    ensures nothing { (end : ℕ) (rest : List ℕ) → ends_mailbox end ≡ true → mailboxes_of (end ∷ rest) ≡ mailboxes_of rest }
+    ensures space { (rest : List ℕ) → mailboxes_of (32 ∷ rest) ≡ mailboxes_of rest }
+{}
+
+/// The name of a group, up to its `:`, is no mailbox: a group `name: a, b;` has the mailboxes of its members.
+pub fn a_group_is_its_mailboxes()
+    ensures name { (is_quoted : Bool) (name rest : List ℕ) → (is_quoted || list_all is_unquoted_byte name) ≡ true → mailboxes_of (written_name is_quoted name ++ 58 ∷ rest) ≡ mailboxes_of rest }
+    ensures members { (is_quoted : Bool) (name rest : List ℕ) (members : List WrittenMailbox) → (is_quoted || list_all is_unquoted_byte name) ≡ true → list_all is_writable members ≡ true
+        → mailboxes_of (written_name is_quoted name ++ 58 ∷ 32 ∷ (written_mailboxes members ++ 59 ∷ rest)) ≡ map (λ one. one.mailbox) members ++ mailboxes_of rest }
 {}
 
 /// No body of a field has an LF, however many lines the field had.

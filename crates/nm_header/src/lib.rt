@@ -17,7 +17,8 @@ mod texts;
 pub use header::{HeaderField, HeaderList, fields};
 pub use id_list::ids;
 pub use laws::{
-    a_body_has_no_line_feed, a_folded_body_is_read_whole, a_mail_is_its_header_and_its_body,
+    a_body_has_no_line_feed, a_folded_body_is_read_whole, a_group_is_its_mailboxes,
+    a_mail_is_its_header_and_its_body, an_address_alone_is_a_mailbox, mailboxes_end_at_separators,
     nothing_is_lost, written_ids_are_read, written_mailboxes_are_read,
 };
 pub use mailbox_list::mailboxes;
