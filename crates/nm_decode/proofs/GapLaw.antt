@@ -37,7 +37,7 @@ framed-written charset encoding encoded rest = simp append_assoc
 length-written : (charset encoding encoded : List ℕ) → length (word_written charset encoding encoded) ≡ length charset + length encoding + length encoded + 6
 length-written charset encoding encoded = simp length-append (omega arith)
 
-abbrev word_in : {word text : List ℕ} → IsWordOf word text → EncodedWord
+abbrev pub word_in : {word text : List ℕ} → IsWordOf word text → EncodedWord
 word_in {word} {text} w = record { len = length w.charset + length w.encoding + length w.encoded + 6; text = text }
 
 framed-word : {word text : List ℕ} (w : IsWordOf word text) (rest : List ℕ)
@@ -49,13 +49,13 @@ framed-word w rest =
     ∙ ap (option_and_then word_of_fields) (framed-fields w.charset w.encoding w.encoded (segments_of rest))
     ∙ ap (option_map (λ t. record { len = length w.charset + length w.encoding + length w.encoded + 6; text = t })) w.decoded
 
-whole-front : {word text : List ℕ} (w : IsWordOf word text) (rest : List ℕ) → word ++ rest ≡ framed w.charset w.encoding w.encoded rest
+pub whole-front : {word text : List ℕ} (w : IsWordOf word text) (rest : List ℕ) → word ++ rest ≡ framed w.charset w.encoding w.encoded rest
 whole-front w rest = ap (λ x. x ++ rest) w.written ∙ framed-written w.charset w.encoding w.encoded rest
 
-length-word : {word text : List ℕ} (w : IsWordOf word text) → length word ≡ (word_in w).len
+pub length-word : {word text : List ℕ} (w : IsWordOf word text) → length word ≡ (word_in w).len
 length-word w = ap length w.written ∙ length-written w.charset w.encoding w.encoded
 
-first-here : {word text : List ℕ} (w : IsWordOf word text) (rest : List ℕ) → first_word (word ++ rest) ≡ Some (record { at = 0; word = word_in w })
+pub first-here : {word text : List ℕ} (w : IsWordOf word text) (rest : List ℕ) → first_word (word ++ rest) ≡ Some (record { at = 0; word = word_in w })
 first-here w rest =
     ap first_word (whole-front w rest)
     ∙ ap (λ o. or_later o (first_word (63 ∷ (w.charset ++ (63 ∷ (w.encoding ++ (63 ∷ (w.encoded ++ (63 ∷ 61 ∷ rest))))))))) (framed-word w rest)
@@ -91,11 +91,11 @@ cut-word {word} {text} w n gap rest h =
     ∙ ap (λ front. and_then_cut front text (cut_words n (drop end all))) (take_at gap (word ++ rest) (length gap) refl)
     ∙ ap (λ xs. and_then_cut gap text (cut_words n xs)) d
 
-cut-none : (n : ℕ) (text : List ℕ) → first_word text ≡ None → cut_words n text ≡ record { words = []; last = text }
+pub cut-none : (n : ℕ) (text : List ℕ) → first_word text ≡ None → cut_words n text ≡ record { words = []; last = text }
 cut-none zero text h = refl
 cut-none (suc n) text h = ap (cut_found (cut_words n) text) h
 
-abbrev shown : Cut → List ℕ
+abbrev pub shown : Cut → List ℕ
 shown cut = joined cut.words cut.last
 
 beside-from : {word text : List ℕ} (w : IsWordOf word text) (n : ℕ) (after : List ℕ) → has_mark after ≡ false
@@ -113,7 +113,7 @@ between-from {first} {second} {a} {b} v w n gap after h m =
     ∙ ap (λ xs. a ++ (xs ++ after)) (append-nil b)
 
 -- a text that begins with a word has more than two bytes
-long : {word text : List ℕ} (w : IsWordOf word text) (rest : List ℕ) → (n : ℕ) × (length (word ++ rest) ≡ suc (suc n))
+pub long : {word text : List ℕ} (w : IsWordOf word text) (rest : List ℕ) → (n : ℕ) × (length (word ++ rest) ≡ suc (suc n))
 long w rest = (_, ap length (whole-front w rest))
 
 pub words-joined : (first second a b gap after : List ℕ) → IsWordOf first a → IsWordOf second b → is_all_white_space gap ≡ true → has_mark after ≡ false

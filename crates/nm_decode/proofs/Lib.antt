@@ -1,3 +1,4 @@
+pub mod AroundLaw
 pub mod Base64Law
 pub mod Escapes
 pub mod GapLaw

@@ -5,10 +5,10 @@ use Rattle.nm_decode.specs.EncodedWords.{cut_found, cut_words, fields_of, first_
 use Rattle.nm_decode.specs.Laws.{has_mark}
 use Rattle.nm_decode.proofs.Segments.{not_opened, too_short}
 
-none-here : (text : List ℕ) → fields_of (segments_of text) ≡ None → word_of text ≡ None
+pub none-here : (text : List ℕ) → fields_of (segments_of text) ≡ None → word_of text ≡ None
 none-here text e = ap (option_and_then word_of_fields) e
 
-parts : (s t r : Bool) → (s && t || r) ≡ false → (s ≡ true → t ≡ false) × (r ≡ false)
+pub parts : (s t r : Bool) → (s && t || r) ≡ false → (s ≡ true → t ≡ false) × (r ≡ false)
 parts true true r e = (cc)
 parts true false r e = (λ _. refl, e)
 parts false t r e = (λ k. (cc), e)

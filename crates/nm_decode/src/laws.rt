@@ -55,3 +55,11 @@ pub fn white_space_between_words_goes()
     ensures beside_text { (word text after : List ℕ) → IsWordOf word text → has_mark after ≡ false
         → words_decoded (word ++ after) ≡ text ++ after }
 {}
+
+/// Text beside encoded words stays where it is: before them, after them, and between two where it isn't white space alone.
+pub fn text_around_words_stays()
+    ensures before { (before word text after : List ℕ) → IsWordOf word text → has_mark before ≡ false → has_mark after ≡ false
+        → words_decoded (before ++ (word ++ after)) ≡ before ++ (text ++ after) }
+    ensures between { (before first second a b gap after : List ℕ) → IsWordOf first a → IsWordOf second b → has_mark before ≡ false → has_mark gap ≡ false → is_all_white_space gap ≡ false
+        → has_mark after ≡ false → words_decoded (before ++ (first ++ (gap ++ (second ++ after)))) ≡ before ++ (a ++ (gap ++ (b ++ after))) }
+{}
