@@ -9,5 +9,6 @@ pub mod QuotedLemmas
 pub mod RoundLemmas
 pub mod TreeLemmas
 pub mod TypeLemmas
+pub mod UnquotedLemmas
 pub mod Utf8Lemmas
 pub mod WrittenLemmas

@@ -1,4 +1,4 @@
--- Parameters that are written are read again. For the proof of `written_params_are_read`.
+-- Parameters that are written are read again. For the proofs of `unquoted_params_are_read` and `written_params_are_read`.
 use Rattle.std.proofs.Common.{◌≡◌, ℕ, ◌+◌, ◌-◌, ◌<◌, Bool, true, false, cond, not, ◌||◌, ◌==◌, List, [], ◌∷◌, ◌++◌, length, map, take, drop, get_or, refl, sym, ap, ◌∙◌, arith, append_assoc, length-append}
 use Rattle.std.specs.Char.{to_ascii_lowercase}
 use Rattle.std.specs.List.{after_first, before_first, list_all, list_any, position_or_len, prefix_len, suffix_len}
@@ -17,7 +17,7 @@ use Rattle.nm_mime.proofs.QuotedLemmas.{quoted-byte, quoted-close, unquoted-byte
 use Rattle.nm_text.specs.Cuts.{is_byte}
 
 -- the first item that passes stands after those that don't
-first_at : (p : ℕ → Bool) (front : List ℕ) (b : ℕ) (rest : List ℕ) → list_any p front ≡ false → p b ≡ true → position_or_len p (front ++ b ∷ rest) ≡ length front
+pub first_at : (p : ℕ → Bool) (front : List ℕ) (b : ℕ) (rest : List ℕ) → list_any p front ≡ false → p b ≡ true → position_or_len p (front ++ b ∷ rest) ≡ length front
 first_at p [] b rest e passes = ap (λ v. cond (not v) (1 + position_or_len p rest) 0) passes
 first_at p (x ∷ front) b rest e passes =
     let both = or_parts (p x) (list_any p front) e in
@@ -35,7 +35,7 @@ four false false false true e = (refl, refl, refl, refl)
 name_byte : (b : ℕ) → is_name_byte b ≡ true → (is_white_space b ≡ false) × (ends_name b ≡ false) × (is_byte 42 b ≡ false) × ((to_ascii_lowercase b == b) ≡ true)
 name_byte b e = four (is_white_space b) (ends_name b) (is_byte 42 b) (to_ascii_lowercase b == b) e
 
-no_end : (name : List ℕ) → list_all is_name_byte name ≡ true → list_any ends_name name ≡ false
+pub no_end : (name : List ℕ) → list_all is_name_byte name ≡ true → list_any ends_name name ≡ false
 no_end [] e = refl
 no_end (b ∷ name) e =
     let both = and_parts (is_name_byte b) (list_all is_name_byte name) e in
@@ -83,7 +83,7 @@ blank_trimmed name e = ap (λ n. trimmed_end (drop (1 + n) (32 ∷ name))) (no_s
 abbrev made : List ℕ → List ℕ → Param
 made name value = record { name = name; value = value }
 
-kept : (name value : List ℕ) → list_all is_name_byte name ≡ true → kept_param (32 ∷ name) value ≡ made name value ∷ []
+pub kept : (name value : List ℕ) → list_all is_name_byte name ≡ true → kept_param (32 ∷ name) value ≡ made name value ∷ []
 kept name value e =
     ap (λ v. cond v [] (made (map to_ascii_lowercase (trimmed (32 ∷ name))) value ∷ [])) (no_star name e) ∙ ap (λ n. made n value ∷ []) (ap (map to_ascii_lowercase) (blank_trimmed name e) ∙ lower_same name e)
 
@@ -108,7 +108,7 @@ unquoted_value (b ∷ value) e =
     let no = two (b == 34) (b == 92) both.0 in
     unquoted-byte b (value ++ 34 ∷ []) no.0 no.1 ∙ ap (λ l. b ∷ l) (unquoted_value value both.1)
 
-value_said : (value rest : List ℕ) → list_all is_quoted_byte value ≡ true → (quoted_text (value ++ 34 ∷ rest) ≡ value) × (after_quoted (value ++ 34 ∷ rest) ≡ rest)
+pub value_said : (value rest : List ℕ) → list_all is_quoted_byte value ≡ true → (quoted_text (value ++ 34 ∷ rest) ≡ value) × (after_quoted (value ++ 34 ∷ rest) ≡ rest)
 value_said value rest e =
     let n : ℕ = quoted_len (value ++ 34 ∷ rest) in
     let long : length (value ++ 34 ∷ []) ≡ length value + 1 = length-append value (34 ∷ []) in

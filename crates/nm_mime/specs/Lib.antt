@@ -7,3 +7,4 @@ pub mod Parts
 pub mod Pending
 pub mod Roles
 pub mod Types
+pub mod WrittenParams

@@ -1,7 +1,8 @@
 //! What follows from the definitions of the tree. No code calls these functions: their clauses are the laws.
 
-ghost use Rattle.std.specs.Prelude.{◌≡◌, List, ℕ, ◌∷◌, length, suc, true};
-ghost use Rattle.std.specs.List.{flat_map, list_all};
+ghost use Rattle.std.specs.Prelude.{◌≡◌, List, ℕ, ◌∷◌, ◌++◌, false, length, map, suc, true};
+ghost use Rattle.std.specs.List.{flat_map, list_all, list_any};
+ghost use Rattle.nm_text.specs.Cuts.{is_byte};
 ghost use Rattle.nm_text.specs.Lines.{is_one_line, lines_of};
 ghost use Rattle.nm_mime.specs.Children.{delimiters_of};
 ghost use Rattle.nm_mime.specs.Laws.{AreApart, GoDown, is_kept, is_writable, parts_between, read_parts, written_params, written_parts};
@@ -10,6 +11,7 @@ ghost use Rattle.nm_mime.specs.declared.param_list.Param.{Param};
 ghost use Rattle.nm_mime.specs.Parts.{IsInside, children_of, inside, opening_of, parts_of, parts_upto};
 ghost use Rattle.nm_mime.specs.declared.entity.Entity.{Entity};
 ghost use Rattle.nm_mime.specs.declared.entity.Opening.{Opening};
+ghost use Rattle.nm_mime.specs.WrittenParams.{WrittenParam, is_written, params_as_written};
 
 /// The parts in a part stand one after the other, inside its content.
 pub fn parts_in_a_part_stand_apart()
@@ -40,4 +42,10 @@ pub fn written_parts_are_read()
 /// Parameters that are written, each as `; name="value"`, are read again in their order.
 pub fn written_params_are_read()
     ensures { (params : List Param) → list_all is_writable params ≡ true → params_of (written_params params) ≡ params }
+{}
+
+/// Parameters that are written as `; name=value` after a text without `;` are read again in their order, the values in quotes or as
+/// they stand. A value without quotes ends at a `;` or at white space, and what follows a value up to the next `;` counts for nothing.
+pub fn unquoted_params_are_read()
+    ensures { (front : List ℕ) → (params : List WrittenParam) → list_any (is_byte 59) front ≡ false → list_all is_written params ≡ true → params_of (front ++ params_as_written params) ≡ map (λ one. one.param) params }
 {}

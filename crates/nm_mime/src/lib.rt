@@ -16,7 +16,8 @@ mod types;
 pub use entity::Part;
 pub use laws::{
     a_part_stands_before_those_in_it, elder_siblings_come_first, parts_in_a_part_stand_apart,
-    parts_stand_between_delimiters, written_params_are_read, written_parts_are_read,
+    parts_stand_between_delimiters, unquoted_params_are_read, written_params_are_read,
+    written_parts_are_read,
 };
 pub use param_list::Param;
 pub use part_reader::PartReader;
