@@ -160,7 +160,7 @@ impl Labels {
         ensures work { OnOk result ((f : ℕ → ℕ) → Doubles f → steps.new + potential f self.old.labels ≤ steps.old + length (ids_of row.now) + potential f self.new.labels) }
         ensures err { OnErr result (self.new ≡ self.old) }
     {
-        let mut maps = self.maps.share()?;
+        let mut maps = self.maps.share(self.alloc)?;
         add(self.alloc, &mut maps, row, steps)?;
         self.maps = maps;
         Ok(())
@@ -197,7 +197,7 @@ impl Labels {
         ensures work { OnOk result ((f : ℕ → ℕ) → Doubles f → steps.new + potential f self.old.labels ≤ steps.old + length (flat_map ids_of rows.now) + potential f self.new.labels) }
         ensures err { OnErr result (self.new ≡ self.old) }
     {
-        let mut maps = self.maps.share()?;
+        let mut maps = self.maps.share(self.alloc)?;
         add_all(self.alloc, &mut maps, rows, steps)?;
         self.maps = maps;
         Ok(())
@@ -213,7 +213,7 @@ impl Labels {
         let Some(name) = self.name_of(id) else {
             return Ok(());
         };
-        let mut maps = self.maps.share()?;
+        let mut maps = self.maps.share(self.alloc)?;
         remove_named(self.alloc, &mut maps, name)?;
         self.maps = maps;
         Ok(())
@@ -243,7 +243,7 @@ impl Labels {
         ensures labels { OnOk result ((rows : List LinkRow) → AreLabelsOf rows self.old.labels → AreLabelsOf (filter (λ row. is_held rows live.now row.id) rows) self.new.labels) }
         ensures err { OnErr result (self.new ≡ self.old) }
     {
-        let mut maps = self.maps.share()?;
+        let mut maps = self.maps.share(self.alloc)?;
         remove_dead(self.alloc, &mut maps, live.as_slice())?;
         self.maps = maps;
         Ok(())
@@ -255,7 +255,7 @@ impl Copies for Labels {
     fn copy(&self) -> Result<Labels, NoMemory> {
         Ok(Labels {
             alloc: self.alloc,
-            maps: self.maps.share()?,
+            maps: self.maps.share(self.alloc)?,
         })
     }
 }

@@ -1,6 +1,6 @@
 //! The maps that `labels` are kept in: each step of the work, as `joining` or `removing`, changes some of them.
 
-ghost use Rattle.std.specs.Prelude.{◌≡◌, [], IfOk};
+ghost use Rattle.std.specs.Prelude.{◌≡◌, [], IfOk, OnOk};
 
 use nm_base::{Copies, MessageId, NoMemory};
 use nm_shared::{HashedMap, SharedMap};
@@ -30,7 +30,6 @@ impl Copies for Member {
 }
 
 /// Ids by number, numbers by id, and the threads: groups of numbers.
-#[derive(Drop)]
 pub struct Maps {
     pub ids: SharedMap<u64, MessageId>,
     pub numbers: HashedMap<MessageId, u64>,
@@ -41,6 +40,20 @@ pub struct Maps {
     /// The groups with their numbers.
     pub members: SharedMap<(u64, u64), Member>,
     pub next: u64,
+}
+
+// By hand, so that letting go of maps is one call where it is proved.
+impl Drop for Maps {
+    fn drop(self) {
+        let Maps {
+            ids: _,
+            numbers: _,
+            groups: _,
+            threads: _,
+            members: _,
+            next: _,
+        } = self;
+    }
 }
 
 impl Maps {
@@ -63,16 +76,27 @@ impl Maps {
     }
 
     /// Second handles on all maps.
-    pub fn share(&self) -> Result<Maps, NoMemory>
+    pub fn share(&self, alloc: Global) -> Result<Maps, NoMemory>
         ensures { IfOk result (λ maps. maps ≡ self.now) }
     {
-        Ok(Maps {
-            ids: self.ids.share()?,
-            numbers: self.numbers.share()?,
-            groups: self.groups.share()?,
-            threads: self.threads.share()?,
-            members: self.members.share()?,
-            next: self.next,
-        })
+        let mut maps = Maps::new(alloc);
+        share_into(&mut maps.ids, &self.ids)?;
+        maps.numbers = self.numbers.share()?;
+        share_into(&mut maps.groups, &self.groups)?;
+        share_into(&mut maps.threads, &self.threads)?;
+        share_into(&mut maps.members, &self.members)?;
+        maps.next = self.next;
+        Ok(maps)
     }
+}
+
+/// Makes `map` a second handle on `other`.
+fn share_into<K: Ord + Drop, V: Drop>(
+    map: &mut SharedMap<K, V>,
+    other: &SharedMap<K, V>,
+) -> Result<(), NoMemory>
+    ensures { OnOk result (map.new ≡ other.now) }
+{
+    *map = other.share()?;
+    Ok(())
 }
