@@ -1,23 +1,31 @@
--- How many ids the thread of an id has, as a row comes. For the proof of `add_link`.
-use Rattle.std.proofs.Common.{◌≡◌, ◌≢◌, refl, sym, ap, subst, ◌∙◌, ℕ, ◌+◌, ◌≤◌, Bool, true, false, ◌||◌, cond, min, List, [], ◌∷◌, ◌++◌, length, map, arith, inl, inr, eq-eqb, ne_eqb, nat_eq}
+-- How many ids the thread of an id has, as a row comes.
+-- For the proofs of `add`, `add_all` and `add_link`.
+use Rattle.std.proofs.Common.{◌≡◌, ◌≢◌, refl, sym, ap, subst, ◌∙◌, ℕ, ◌+◌, ◌-◌, ◌<◌, ◌≤◌, Bool, true, false, ◌||◌, cond, min, List, [], ◌∷◌, ◌++◌, length, map, take, drop, get_or, arith, inl, inr, eq-eqb, ne_eqb, nat_eq}
 use Rattle.std.specs.Prelude.{Contains, Some}
+use Rattle.std.specs.List.{filter, flat_map}
 use Rattle.std.proofs.lemmas.Bool.{cases_eq}
-use Rattle.std.proofs.lemmas.List.{append-nil}
+use Rattle.std.proofs.lemmas.List.{append-nil, drop_more, length-map, take_more}
 use Rattle.std.proofs.lemmas.List.Elements.{filter-append, Contains-append_left}
 use Rattle.std.proofs.lemmas.Option.{same_Some}
-use Rattle.nm_threads.specs.Labels.{Label, entries_of, has_entry, is_named, named, thread_len}
+use Rattle.nm_threads.specs.Labels.{Label, entries_of, has_entry, is_named, named, numbered, thread_len}
+use Rattle.nm_threads.specs.Fits.{Fits, Links}
 use Rattle.nm_threads.specs.Maps.{at, labelling_of, AreMaps, given, relabelled}
+use Rattle.nm_threads.specs.Name.{thread_numbers}
+use Rattle.nm_threads.specs.Same.{ids_of, is_same}
+use Rattle.nm_threads.specs.Work.{len_with, link_steps, row_steps, rows_steps}
+use Rattle.nm_base.specs.declared.facts.LinkRow.{LinkRow}
 use Rattle.nm_threads.specs.declared.maps.Maps.{Maps}
 use Rattle.nm_threads.specs.declared.maps.Thread.{Thread}
 use Rattle.nm_threads.proofs.DeadLemmas.{named_is}
 use Rattle.nm_threads.proofs.FilterLemmas.{filter_among, filter_no}
 use Rattle.nm_threads.proofs.JoinLemmas.{joined_of}
+use Rattle.nm_threads.proofs.KeepLemmas.{ids_named}
 use Rattle.nm_threads.proofs.LabelLemmas.{has_of, has_from}
 use Rattle.nm_threads.proofs.ListLemmas.{Contains_map}
 use Rattle.nm_threads.proofs.MergeLemmas.{count_joined, join_itself, name_found}
-use Rattle.nm_threads.proofs.NumberLemmas.{label_from}
+use Rattle.nm_threads.proofs.NumberLemmas.{label_at, label_from, label_of}
 use Rattle.nm_threads.proofs.PlaceLemmas.{label_at_place}
-use Rattle.nm_threads.proofs.RowLemmas.{either, given_has, given_is, maps_labelling}
+use Rattle.nm_threads.proofs.RowLemmas.{Numbers, either, more_labels, more_numbers, given_has, given_is, maps_labelling}
 
 or_none : (x : Bool) → (x || false) ≡ x
 or_none true = refl
@@ -110,6 +118,13 @@ module _ (mid new : Maps) (are : AreMaps mid) (are_new : AreMaps new) (id : List
       ∙ count_joined s.name t.name (labelling_of mid).labels (λ is. apart (are.apart g h s t thread other is))
       ∙ omega (arith, are.counted g s thread, are.counted h t other)
 
+  -- of the ids that the thread had and those that come to it the fewer are relabelled
+  pub join_is : (before after : ℕ) → after ≡ before + cond (nat_eq g h) 0 (min s.len t.len) → after ≡ before + min s.len (thread_len id (labelling_of new).labels - s.len)
+  join_is before after cost = elim (cases_eq g h) [
+    | inl same ↦ omega (arith, cost, ap (λ test. cond test 0 (min s.len t.len)) (eq-eqb g h same), same_len same)
+    | inr apart ↦ omega (arith, cost, ap (λ test. cond test 0 (min s.len t.len)) (ne_eqb g h apart), both_len apart)
+  ]
+
   -- what a join costs is won in the size of the thread
   pub join_pays : (before after : ℕ) → after ≡ before + cond (nat_eq g h) 0 (min s.len t.len) → after + s.len ≤ before + thread_len id (labelling_of new).labels
   join_pays before after cost = elim (cases_eq g h) [
@@ -120,3 +135,62 @@ module _ (mid new : Maps) (are : AreMaps mid) (are_new : AreMaps new) (id : List
 pub given_known : (old mid : Maps) (id : List ℕ) → labelling_of mid ≡ given (labelling_of old) id → has_entry (entries_of (labelling_of mid).labels) id ≡ true
 given_known old mid id is =
     let one = given_has (labelling_of old) id in subst (λ l. has_entry (entries_of l.labels) id ≡ true) (sym is) (has_of (given (labelling_of old) id).labels id one.0 one.1 one.2)
+
+-- ---- the thread of an id, by the rows
+
+module _ (old now : Maps) (are : AreMaps now) (rows : List LinkRow) (id : List ℕ) (number : ℕ) (links : List (List ℕ)) (own : Contains now.ids (number, id))
+    (fits : Fits ((record { id = id; links = links }) ∷ rows) (labelling_of now).labels) (numbers : Numbers old now (id ∷ links)) where
+  pub len_is : thread_len id (labelling_of now).labels ≡ len_with rows (entries_of (labelling_of old).labels, old.next) id links
+  len_is =
+      let all : List LinkRow = (record { id = id; links = links }) ∷ rows in
+      let test : List ℕ × ℕ → Bool = λ entry. is_same all id entry.0 in
+      let label = label_of now number id own in
+      let among : List (List ℕ × ℕ) = filter test (entries_of (labelling_of now).labels) in
+      let there : List Label = named (label_at now (number, id)).name (labelling_of now).labels in
+      thread_named now are (label_at now (number, id)) label
+      ∙ sym (length-map there (λ one. one.id))
+      ∙ ap length (ids_named all id (labelling_of now).labels fits (label_at now (number, id)) label refl)
+      ∙ length-map among (λ entry. entry.0)
+      ∙ sym (length-map among (λ entry. entry.1))
+      ∙ ap (λ entries. length (thread_numbers all entries.0 id)) numbers
+
+module _ (old now next : Maps) (are : AreMaps now) (are_next : AreMaps next) (rows : List LinkRow) (id : List ℕ) (number : ℕ) (items : List (List ℕ)) (i : ℕ) (lt : i < length items) (item : List ℕ) (item_is : get_or items i item ≡ item) where
+  abbrev start : List (List ℕ × ℕ) × ℕ
+  start = (entries_of (labelling_of old).labels, old.next)
+
+  taken : take (i + 1) items ≡ take i items ++ item ∷ []
+  taken = take_more items i item lt ∙ ap (λ x. take i items ++ x ∷ []) item_is
+
+  -- the steps of the links from here
+  rest_steps : link_steps rows start id (take i items) (drop i items)
+      ≡ 1 + min (len_with rows start id (take i items)) (len_with rows start id (take (i + 1) items) - len_with rows start id (take i items)) + link_steps rows start id (take (i + 1) items) (drop (i + 1) items)
+  rest_steps =
+      ap (link_steps rows start id (take i items)) (drop_more items i item lt ∙ ap (λ x. x ∷ drop (i + 1) items) item_is)
+      ∙ ap (λ links. 1 + min (len_with rows start id (take i items)) (len_with rows start id links - len_with rows start id (take i items)) + link_steps rows start id links (drop (i + 1) items)) (sym taken)
+
+  -- what was counted, and what is left, is all
+  pub exact_more : Contains now.ids (number, id) → Contains next.ids (number, id) → Links (labelling_of now) (labelling_of next) id item → Numbers old now (id ∷ take i items) → Fits ((record { id = id; links = take i items }) ∷ rows) (labelling_of now).labels
+      → (before after : ℕ) → after ≡ before + 1 + min (thread_len id (labelling_of now).labels) (thread_len id (labelling_of next).labels - thread_len id (labelling_of now).labels)
+      → (all : ℕ) → before + link_steps rows start id (take i items) (drop i items) ≡ all → after + link_steps rows start id (take (i + 1) items) (drop (i + 1) items) ≡ all
+  exact_more own own_next links numbers fits before after cost all so_far =
+      let had = len_is old now are rows id number (take i items) own fits numbers in
+      let has =
+      len_is old next are_next rows id number (take (i + 1) items) own_next (more_labels old now id items i lt item item_is next links rows fits)
+      (more_numbers old now id items i lt item item_is next links numbers) in
+      let moved = ap (λ n. min n (thread_len id (labelling_of next).labels - n)) had ∙ ap (λ n. min (len_with rows start id (take i items)) (n - len_with rows start id (take i items))) has in
+      omega (arith, cost, so_far, rest_steps, moved)
+
+module _ (old now : Maps) (rows : List LinkRow) (i : ℕ) (lt : i < length rows) (row : LinkRow) (row_is : get_or rows i row ≡ row) (others : List LinkRow) where
+  abbrev begun : List (List ℕ × ℕ) × ℕ
+  begun = (entries_of (labelling_of old).labels, old.next)
+
+  rest_rows : rows_steps others begun (take i rows) (drop i rows)
+      ≡ row_steps (take i rows ++ others) (numbered begun.0 begun.1 (flat_map ids_of (take i rows))) row + rows_steps others begun (take (i + 1) rows) (drop (i + 1) rows)
+  rest_rows =
+      ap (rows_steps others begun (take i rows)) (drop_more rows i row lt ∙ ap (λ x. x ∷ drop (i + 1) rows) row_is)
+      ∙ ap (λ before. row_steps (take i rows ++ others) (numbered begun.0 begun.1 (flat_map ids_of (take i rows))) row + rows_steps others begun before (drop (i + 1) rows)) (sym (take_more rows i row lt ∙ ap (λ x. take i rows ++ x ∷ []) row_is))
+
+  -- of rows too
+  pub exact_rows : Numbers old now (flat_map ids_of (take i rows)) → (before after : ℕ) → after ≡ before + row_steps (take i rows ++ others) (entries_of (labelling_of now).labels, now.next) row
+      → (all : ℕ) → before + rows_steps others begun (take i rows) (drop i rows) ≡ all → after + rows_steps others begun (take (i + 1) rows) (drop (i + 1) rows) ≡ all
+  exact_rows numbers before after cost all so_far = omega (arith, cost, so_far, rest_rows, ap (λ entries. row_steps (take i rows ++ others) entries row) numbers)

@@ -9,7 +9,7 @@ ghost use Rattle.nm_threads.specs.Labels.{AreLabelsOf, IsLabelling, entries_of, 
 ghost use Rattle.nm_threads.specs.Maps.{AreMaps, labelling_of};
 ghost use Rattle.nm_threads.specs.Name.{thread_name};
 ghost use Rattle.nm_threads.specs.Same.{ids_of, is_held, is_same};
-ghost use Rattle.nm_threads.specs.Work.{Doubles, potential};
+ghost use Rattle.nm_threads.specs.Work.{Doubles, potential, row_steps, rows_steps};
 
 use crate::dead::remove_dead;
 use crate::entries::Entries;
@@ -157,6 +157,8 @@ impl Labels {
         ensures numbers { OnOk result ((entries_of self.new.labels, self.new.next) ≡ numbered (entries_of self.old.labels) self.old.next (ids_of row.now)) }
         ensures labels { OnOk result ((rows : List LinkRow) → AreLabelsOf rows self.old.labels → AreLabelsOf (row.now ∷ rows) self.new.labels) }
         ensures steps { OnOk result (steps.new ≤ steps.old + length (ids_of row.now) + thread_len row.now.id self.new.labels) }
+        ensures looked { OnOk result (steps.old + length (ids_of row.now) ≤ steps.new) }
+        ensures exact { OnOk result ((rows : List LinkRow) → AreLabelsOf rows self.old.labels → steps.new ≡ steps.old + row_steps rows (entries_of self.old.labels, self.old.next) row.now) }
         ensures work { OnOk result ((f : ℕ → ℕ) → Doubles f → steps.new + potential f self.old.labels ≤ steps.old + length (ids_of row.now) + potential f self.new.labels) }
         ensures err { OnErr result (self.new ≡ self.old) }
     {
@@ -177,6 +179,8 @@ impl Labels {
         ensures numbers { OnOk result ((entries_of self.new.labels, self.new.next) ≡ numbered (entries_of self.old.labels) self.old.next (ids_of row.now)) }
         ensures labels { OnOk result ((rows : List LinkRow) → AreLabelsOf rows self.old.labels → AreLabelsOf (row.now ∷ rows) self.new.labels) }
         ensures steps { OnOk result (steps.new ≤ steps.old + length (ids_of row.now) + thread_len row.now.id self.new.labels) }
+        ensures looked { OnOk result (steps.old + length (ids_of row.now) ≤ steps.new) }
+        ensures exact { OnOk result ((rows : List LinkRow) → AreLabelsOf rows self.old.labels → steps.new ≡ steps.old + row_steps rows (entries_of self.old.labels, self.old.next) row.now) }
         ensures err { OnErr result (self.new.labels ≡ []) }
     {
         let mut maps = mem::replace(&mut self.maps, Maps::new(self.alloc));
@@ -194,6 +198,8 @@ impl Labels {
         requires { (numbered (entries_of self.old.labels) self.old.next (flat_map ids_of rows.now)).1 ≤ 2 ^ 63 }
         ensures numbers { OnOk result ((entries_of self.new.labels, self.new.next) ≡ numbered (entries_of self.old.labels) self.old.next (flat_map ids_of rows.now)) }
         ensures labels { OnOk result ((others : List LinkRow) → AreLabelsOf others self.old.labels → AreLabelsOf (rows.now ++ others) self.new.labels) }
+        ensures looked { OnOk result (steps.old + length (flat_map ids_of rows.now) ≤ steps.new) }
+        ensures exact { OnOk result ((others : List LinkRow) → AreLabelsOf others self.old.labels → steps.new ≡ steps.old + rows_steps others (entries_of self.old.labels, self.old.next) [] rows.now) }
         ensures work { OnOk result ((f : ℕ → ℕ) → Doubles f → steps.new + potential f self.old.labels ≤ steps.old + length (flat_map ids_of rows.now) + potential f self.new.labels) }
         ensures err { OnErr result (self.new ≡ self.old) }
     {

@@ -1,13 +1,13 @@
 //! A row that comes: its ids get numbers, and their threads become one. `Labels` calls it.
 
-ghost use Rattle.std.specs.Prelude.{◌≡◌, ◌+◌, ◌<◌, ◌≤◌, ◌^◌, ◌∷◌, ◌++◌, [], ℕ, List, length, false, Contains, OnOk};
+ghost use Rattle.std.specs.Prelude.{◌≡◌, ◌+◌, ◌-◌, ◌<◌, ◌≤◌, ◌^◌, ◌∷◌, ◌++◌, [], ℕ, List, length, min, false, Contains, OnOk};
 ghost use Rattle.std.specs.List.{flat_map};
 ghost use Rattle.nm_base.specs.declared.facts.LinkRow.{LinkRow};
 ghost use Rattle.nm_threads.specs.Fits.{Fits, Links};
 ghost use Rattle.nm_threads.specs.Labels.{AreLabelsOf, entries_of, has_entry, numbered, thread_len};
 ghost use Rattle.nm_threads.specs.Maps.{AreMaps, labelling_of};
 ghost use Rattle.nm_threads.specs.Same.{ids_of};
-ghost use Rattle.nm_threads.specs.Work.{Doubles, potential};
+ghost use Rattle.nm_threads.specs.Work.{Doubles, potential, row_steps, rows_steps};
 
 use crate::joining::{join, place_at};
 use crate::maps::Maps;
@@ -32,6 +32,7 @@ fn add_link<L: Ledger>(
     ensures own { OnOk result (Contains maps.new.ids (number, own.now)) }
     ensures links { OnOk result (Links (labelling_of maps.old) (labelling_of maps.new) own.now link.now) }
     ensures steps { OnOk result (steps.new + thread_len own.now (labelling_of maps.old).labels ≤ steps.old + 1 + thread_len own.now (labelling_of maps.new).labels) }
+    ensures exact { OnOk result (steps.new ≡ steps.old + 1 + min (thread_len own.now (labelling_of maps.old).labels) (thread_len own.now (labelling_of maps.new).labels - thread_len own.now (labelling_of maps.old).labels)) }
     ensures work { OnOk result ((f : ℕ → ℕ) → Doubles f → steps.new + potential f (labelling_of maps.old).labels ≤ steps.old + 1 + potential f (labelling_of maps.new).labels) }
 {
     steps.tick();
@@ -55,6 +56,8 @@ pub fn add<L: Ledger>(
     ensures numbers { OnOk result ((entries_of (labelling_of maps.new).labels, maps.new.next) ≡ numbered (entries_of (labelling_of maps.old).labels) maps.old.next (ids_of row.now)) }
     ensures labels { OnOk result ((rows : List LinkRow) → AreLabelsOf rows (labelling_of maps.old).labels → AreLabelsOf (row.now ∷ rows) (labelling_of maps.new).labels) }
     ensures steps { OnOk result (steps.new ≤ steps.old + length (ids_of row.now) + thread_len row.now.id (labelling_of maps.new).labels) }
+    ensures looked { OnOk result (steps.old + length (ids_of row.now) ≤ steps.new) }
+    ensures exact { OnOk result ((rows : List LinkRow) → AreLabelsOf rows (labelling_of maps.old).labels → steps.new ≡ steps.old + row_steps rows (entries_of (labelling_of maps.old).labels, maps.old.next) row.now) }
     ensures work { OnOk result ((f : ℕ → ℕ) → Doubles f → steps.new + potential f (labelling_of maps.old).labels ≤ steps.old + length (ids_of row.now) + potential f (labelling_of maps.new).labels) }
 {
     steps.tick();
@@ -77,6 +80,8 @@ pub fn add_all<L: Ledger>(
     ensures maps { OnOk result (AreMaps maps.new) }
     ensures numbers { OnOk result ((entries_of (labelling_of maps.new).labels, maps.new.next) ≡ numbered (entries_of (labelling_of maps.old).labels) maps.old.next (flat_map ids_of rows.now)) }
     ensures labels { OnOk result ((others : List LinkRow) → AreLabelsOf others (labelling_of maps.old).labels → AreLabelsOf (rows.now ++ others) (labelling_of maps.new).labels) }
+    ensures looked { OnOk result (steps.old + length (flat_map ids_of rows.now) ≤ steps.new) }
+    ensures exact { OnOk result ((others : List LinkRow) → AreLabelsOf others (labelling_of maps.old).labels → steps.new ≡ steps.old + rows_steps others (entries_of (labelling_of maps.old).labels, maps.old.next) [] rows.now) }
     ensures work { OnOk result ((f : ℕ → ℕ) → Doubles f → steps.new + potential f (labelling_of maps.old).labels ≤ steps.old + length (flat_map ids_of rows.now) + potential f (labelling_of maps.new).labels) }
 {
     'rows: for row in rows {
