@@ -1,8 +1,11 @@
 pub mod AnswerLemmas
 pub mod BlankLemmas
 pub mod CutLemmas
+pub mod DepthLemmas
 pub mod DescentLemmas
 pub mod DotLemmas
+pub mod FaultLemmas
+pub mod GapLemmas
 pub mod GrammarLemmas
 pub mod HexLemmas
 pub mod KindLemmas
@@ -15,6 +18,7 @@ pub mod PlaceLemmas
 pub mod PrefixLemmas
 pub mod PrintLemmas
 pub mod QuoteLemmas
+pub mod QuotedLemmas
 pub mod RunLemmas
 pub mod StructureLemmas
 pub mod TokenLemmas

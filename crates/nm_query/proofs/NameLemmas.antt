@@ -46,13 +46,13 @@ undoubled-doubled (b ∷ text) =
       | false ↦ λ plain. undoubled_one (b ∷ doubled text) (omega arith) (λ same. absurd (other b plain same)) ∙ ap (λ x. b ∷ x) rest
     ] refl
 
-abbrev said : List ℕ → Value
+abbrev pub said : List ℕ → Value
 said text = record { said = text; quoted = true; len = length (doubled text) + 2 }
 
 before_end : (n m : ℕ) → m ≡ n + 1 → (n == m) ≡ false
 before_end n m h = grind (arith, nat_tests)
 
-quoted-said : (at : ℕ) (text : List ℕ) → quoted_value at (doubled text ++ 34 ∷ []) ≡ Ok (said text)
+pub quoted-said : (at : ℕ) (text : List ℕ) → quoted_value at (doubled text ++ 34 ∷ []) ≡ Ok (said text)
 quoted-said at text =
     let all : List ℕ = doubled text ++ 34 ∷ [] in
     let ends = closing-doubled text in
@@ -62,7 +62,7 @@ quoted-said at text =
     ∙ ap (λ x. Ok (record { said = x; quoted = true; len = length (doubled text) + 2 })) (ap undoubled (take_at (doubled text) (34 ∷ []) (length (doubled text)) refl) ∙ undoubled-doubled text)
 
 -- a text that is one lexeme is one term
-whole-term : (text : List ℕ) (item : Item) → 0 < length text → lexeme_at 0 text ≡ Ok (token_of (Term item) (length text)) → IsTerm text item
+pub whole-term : (text : List ℕ) (item : Item) → 0 < length text → lexeme_at 0 text ≡ Ok (token_of (Term item) (length text)) → IsTerm text item
 whole-term text item some read = record {
   at = 0;
   cut = lexeme_first 0 text (token_of (Term item) (length text)) some read some (omega arith)

@@ -11,11 +11,11 @@ use Rattle.nm_query.specs.declared.token.Placed.{Placed}
 use Rattle.nm_query.specs.declared.token.Token.TheVariants.{Binary, Close, Negation, Open, Term}
 
 -- these tokens are an operand: what is told of them and others after them is told of the others alone
-record Fine (tokens : List Placed) : Type 0 where
-  closes : (opened : ℕ) (rest : List Placed) → is_closed opened (tokens ++ rest) ≡ is_closed opened rest
-  matches : (opened : ℕ) (rest : List Placed) → unmatched_from opened (tokens ++ rest) ≡ unmatched_from opened rest
-  lacks : (before : Bool) (rest : List Placed) → lacking_from before (tokens ++ rest) ≡ lacking_from true rest
-  begins : (rest : List Placed) → begin_operand (tokens ++ rest) ≡ true
+pub record Fine (tokens : List Placed) : Type 0 where
+  pub closes : (opened : ℕ) (rest : List Placed) → is_closed opened (tokens ++ rest) ≡ is_closed opened rest
+  pub matches : (opened : ℕ) (rest : List Placed) → unmatched_from opened (tokens ++ rest) ≡ unmatched_from opened rest
+  pub lacks : (before : Bool) (rest : List Placed) → lacking_from before (tokens ++ rest) ≡ lacking_from true rest
+  pub begins : (rest : List Placed) → begin_operand (tokens ++ rest) ≡ true
 
 -- a token that needs an operand after it, and has one
 needed : (at : ℕ) (rest : List Placed) (before : Bool) → begin_operand rest ≡ true → cond (not (begin_operand rest)) (Some at) (lacking_from before rest) ≡ lacking_from before rest
@@ -90,7 +90,7 @@ mutual
   fine-xor tokens queries (one_and tokens' ands is) = fine-and tokens' ands is
   fine-xor tokens queries (more_ands at first rest some ands xors is) = fine_joined at _ first rest (fine-xor first some xors) (fine-and rest ands is)
 
-  fine-or : (tokens : List Placed) (queries : List Query) → IsOr tokens queries → Fine tokens
+  pub fine-or : (tokens : List Placed) (queries : List Query) → IsOr tokens queries → Fine tokens
   fine-or tokens queries (one_xor tokens' xors is) = fine-xor tokens' xors is
   fine-or tokens queries (more_xors at first rest some xors ors is) = fine_joined at _ first rest (fine-or first some ors) (fine-xor rest xors is)
 

@@ -8,6 +8,7 @@ pub mod Nesting
 pub mod Parting
 pub mod Prefixes
 pub mod Printing
+pub mod Samples
 pub mod Terms
 pub mod Tokens
 pub mod Values

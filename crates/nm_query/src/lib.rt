@@ -17,6 +17,7 @@ mod reading;
 mod stack;
 mod terms;
 mod token;
+mod token_laws;
 mod tokens;
 mod values;
 
@@ -28,3 +29,9 @@ pub use laws::{
 pub use parsing::parse;
 pub use query::Query;
 pub use query_error::{QueryError, QueryKind};
+pub use token_laws::{
+    a_fault_of_structure_is_told_at_its_place, a_prefix_names_what_is_asked,
+    a_refusal_is_told_at_its_cause, a_sign_is_read_at_the_start_of_a_token,
+    a_text_in_quotes_is_asked_for_its_words, a_value_ends_where_its_sort_ends,
+    an_operator_is_a_word_in_any_case, depth_ends_at_64_levels, white_space_parts_tokens,
+};
