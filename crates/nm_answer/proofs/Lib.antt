@@ -1,5 +1,7 @@
+mod DateLemmas
 mod ListLemmas
 mod MatchLemmas
+mod OnceLemmas
 mod OrderLemmas
 mod PartLemmas
 mod TreeLemmas

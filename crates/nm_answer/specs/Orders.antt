@@ -7,6 +7,11 @@ abbrev pub Rises : {X : Type 0} → (X → ℤ) → List X → Type 0
 Rises rank [] = Unit {0}
 Rises rank (item ∷ items) = AllByRecursion (λ later. int_lt (rank later) (rank item) ≡ false) items × Rises rank items
 
+-- no item has a higher rank than one before it
+abbrev pub Falls : {X : Type 0} → (X → ℤ) → List X → Type 0
+Falls rank [] = Unit {0}
+Falls rank (item ∷ items) = AllByRecursion (λ later. int_lt (rank item) (rank later) ≡ false) items × Falls rank items
+
 -- the item is of that rank
 abbrev pub is_ranked : {X : Type 0} → (X → ℤ) → ℤ → X → Bool
 is_ranked rank r item = not (int_lt (rank item) r) && not (int_lt r (rank item))

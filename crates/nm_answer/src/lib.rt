@@ -18,7 +18,8 @@ pub use report::NewReport;
 pub use request::Request;
 pub use search_laws::{
     an_offset_and_a_limit_cut_a_part, each_thread_is_told_once,
-    items_of_one_rank_stay_in_their_order,
+    items_of_one_rank_stay_in_their_order, messages_are_told_by_date,
+    threads_stand_where_their_first_messages_do,
 };
 pub use summary::ThreadSummary;
 pub use sync_report::{SyncReport, Unmoved};
