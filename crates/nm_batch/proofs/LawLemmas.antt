@@ -8,7 +8,7 @@ use Rattle.nm_tags.specs.declared.line_error.LineKind.{LineKind}
 
 module _ {T : Type 0} where
   -- where all is read, the first line is, and what the others ask for stands behind it
-  first_read : (first : Result (Option T) LineKind) (more : Result (List T) (ℕ × LineKind)) (number : ℕ) (items : List T) → then_read number first more ≡ Ok items
+  pub first_read : (first : Result (Option T) LineKind) (more : Result (List T) (ℕ × LineKind)) (number : ℕ) (items : List T) → then_read number first more ≡ Ok items
       → (is_ok first ≡ true) × (rest : List T) × (more ≡ Ok rest) × (items ≡ cons_option (asked_of first) rest)
   first_read (Ok None) (Ok rest) number items e = (refl, rest, refl, cc)
   first_read (Ok None) (Err fault) number items e = absurd (cc)

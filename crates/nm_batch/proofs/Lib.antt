@@ -1,2 +1,3 @@
+pub mod BeforeLemmas
 pub mod LawLemmas
 pub mod LineLemmas
