@@ -14,9 +14,10 @@ use Rattle.nm_plan.specs.NameTags.{commit_of}
 use Rattle.nm_plan.specs.Plan.{AreAdded, all_added, batch_commits, commits_so_far, drop_of, message_ids, new_commits, removed_commit, removed_files}
 use Rattle.nm_scan.specs.Batches.{HasReadSome, ReadsBatches}
 use Rattle.nm_scan.specs.Reading.{Reads}
-use Rattle.nm_scan.specs.Scanning.{FindsBatches}
+use Rattle.nm_scan.specs.Scanning.{AsksNew, FindsBatches}
 use Rattle.nm_writer.proofs.ArrivalLemmas.{are-added, are-unknown}
 use Rattle.nm_writer.proofs.DoneLemmas.{fit-first, fit-second, refused-more, then-made}
+use Rattle.nm_writer.proofs.ScanLemmas.{asks-some}
 use Rattle.nm_writer.specs.Batch.{AreUnknown, IsAfterBatches, Reading}
 use Rattle.nm_writer.specs.New.{AreNewCommits, HasListed, IsAfterNew}
 use Rattle.nm_writer.specs.Report.{report_with}
@@ -38,6 +39,15 @@ pub record Laws : Type 0 where
 -- what is unknown was listed
 pub unknown-listed : (tree : Option Tree) (files : List (List ℕ × Facts)) (given : List Given) (compared : Compared) → HasListed tree files given compared → AreUnknown files compared.unknown
 unknown-listed tree files given compared h = subst (AreUnknown files) (sym h.unknown_are) (are-unknown files h.listed h.listing.rising)
+
+-- what was asked where the batches were not all read, or not all their commits made
+pub asks-refused : (before now : Reading) (compared : Compared) (old : WriterState) → HasListed before.mail.tree old.shown.files before.given compared → (new : WriterState) (faults : ℕ) (error : WriteError)
+    → IsAfterBatches {T = Unit {0}} before now compared.unknown old faults (Err error) new → AsksNew before.mail now.mail old.shown.files now.given
+asks-refused before now compared old h new faults errors.MailFault (batches, path, left, some, made) = asks-some before.mail now.mail old.shown.files before.given now.given compared batches (path ∷ left) h some
+asks-refused before now compared old h new faults errors.DiskFault (batches, left, some, fails) = asks-some before.mail now.mail old.shown.files before.given now.given compared batches left h some
+asks-refused before now compared old h new faults (errors.Closed fault) after = absurd after
+asks-refused before now compared old h new faults (errors.Limit limit) (batches, left, some, passes) = asks-some before.mail now.mail old.shown.files before.given now.given compared batches left h some
+asks-refused before now compared old h new faults errors.NoMemory (batches, left, some, stops) = asks-some before.mail now.mail old.shown.files before.given now.given compared batches left h some
 
 module _ (laws : Laws) (before now : Reading) (compared : Compared) (old : WriterState) (h : HasListed before.mail.tree old.shown.files before.given compared) where
   -- what was found so far

@@ -10,6 +10,7 @@ use nm_batch::{read_queries, read_taggings};
 use nm_command::{Request, command};
 use nm_dump::dump;
 use nm_eval::matches;
+use nm_query::Query;
 use nm_render::{counts_reply, search_reply};
 use nm_state::Snapshot;
 use rows::{Lines, Row, RowError, named};

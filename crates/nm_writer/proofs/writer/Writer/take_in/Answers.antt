@@ -2,8 +2,8 @@ use Rattle.std.proofs.Common.{rules, List, [], refl, sym, ◌∙◌, subst}
 use Rattle.nm_commit.specs.declared.change.Change.{Change}
 use Rattle.nm_index.specs.Fits.{FitInTurn}
 use Rattle.nm_plan.specs.NameTags.{commit_of}
-use Rattle.nm_writer.proofs.NewLemmas.{after-let_go, after-refused, gone-fit, unknown-listed}
-use Rattle.nm_writer.proofs.ScanLemmas.{asked_listing}
+use Rattle.nm_writer.proofs.NewLemmas.{after-let_go, after-refused, asks-refused, gone-fit, unknown-listed}
+use Rattle.nm_writer.proofs.ScanLemmas.{asked_listing, asks-some}
 use Rattle.nm_writer.specs.Writing.{IsAfterCommits}
 use Rattle.nm_writer.proofs.writer.Writer.take_in.Goals as goal
 
@@ -48,4 +48,16 @@ returns-clause-after g c =
     let mail = g.M.Maildir in
     after-refused (record { fits = c.new_commits_fit.ensures; in_one = c.batches_are_what_was_read.ensures })
     (record { mail = mail.observed c.args.mail.now; given = c.args.given.now }) (record { mail = mail.observed c.take_in_batches.new.mail; given = c.take_in_batches.new.given })
+    c.args.compared c.args.self.now c.requires.listed c.take_in_batches.new.self (g.D.Disk.observed c.take_in_batches.new.disk).faults c.in-Err.error c.in-Err.ensures.after
+
+pub returns-in-Ok-clause-asks : goal.returns-in-Ok-clause-asks
+returns-in-Ok-clause-asks g c =
+    let mail = g.M.Maildir in
+    let made = c.in-Ok.ensures.after in
+    asks-some (mail.observed c.args.mail.now) (mail.observed c.take_in_batches.new.mail) c.args.self.now.shown.files c.args.given.now c.take_in_batches.new.given c.args.compared made.0 [] c.requires.listed made.1
+
+pub returns-clause-asks : goal.returns-clause-asks
+returns-clause-asks g c =
+    let mail = g.M.Maildir in
+    asks-refused (record { mail = mail.observed c.args.mail.now; given = c.args.given.now }) (record { mail = mail.observed c.take_in_batches.new.mail; given = c.take_in_batches.new.given })
     c.args.compared c.args.self.now c.requires.listed c.take_in_batches.new.self (g.D.Disk.observed c.take_in_batches.new.disk).faults c.in-Err.error c.in-Err.ensures.after
