@@ -1,4 +1,4 @@
-//! What names and flags come to. No code calls these functions: their clauses are the laws.
+//! What names and flags come to. These functions run no code: their clauses are the laws, of which `nm_flags` calls one.
 
 ghost use Rattle.std.specs.Prelude.{◌≡◌, ◌≢◌, ℕ, List, ◌++◌, ◌∷◌, [], false, codes};
 ghost use Rattle.nm_name.specs.Cuts.{holds};
