@@ -1,6 +1,6 @@
-//! A sink in memory, which tells what it took: `test_session` reads from it what a session printed.
+//! A sink in memory, which tells what it took and how much of that it has handed on: `test_session` reads from it what a session printed.
 
-ghost use Rattle.std.specs.Prelude.{◌≡◌, [], ◌&&◌, not, is_err, IsErr, IsOk, IsTrue, OnErr, if◌then◌else◌};
+ghost use Rattle.std.specs.Prelude.{◌≡◌, [], ◌&&◌, length, not, is_err, IsErr, IsOk, IsTrue, OnErr, if◌then◌else◌};
 ghost use Rattle.nm_base.specs.Limits.{one_more};
 ghost use Rattle.nm_faults.specs.Calls.{counted, is_next_listed};
 ghost use Rattle.nm_io.specs.Memory.{observed_sink};
@@ -12,10 +12,11 @@ use nm_faults::{Calls, Faults};
 use std::alloc::Global;
 use std::marker::Model;
 
-/// A sink in memory, which tells its bytes. It fails at the listed calls, and where it can't grow.
+/// A sink in memory, which tells its bytes. It fails at the listed calls, and where it can't grow. A put hands on nothing, and a flush all.
 #[derive(Drop)]
 pub struct MemSink {
     bytes: Many<u8>,
+    handed: usize,
     calls: Calls,
     out_of_memory: Faults,
 }
@@ -25,16 +26,17 @@ impl Model for MemSink {
 
     ghost Value = { SinkState };
 
-    ghost view = { λ s. record { bytes = s.bytes; calls = s.calls; out_of_memory = s.out_of_memory } };
+    ghost view = { λ s. record { bytes = s.bytes; handed = s.handed; calls = s.calls; out_of_memory = s.out_of_memory } };
 }
 
 impl MemSink {
     /// Empty. `failing` are the numbers of the calls that are to fail, the first call being 1.
     pub fn new(alloc: Global, failing: Many<u64>) -> MemSink
-        ensures { result ≡ record { bytes = []; calls = record { failing = failing; made = 0; faults = 0 }; out_of_memory = 0 } }
+        ensures { result ≡ record { bytes = []; handed = 0; calls = record { failing = failing; made = 0; faults = 0 }; out_of_memory = 0 } }
     {
         MemSink {
             bytes: Many::new(alloc),
+            handed: 0,
             calls: Calls::new(failing),
             out_of_memory: Faults::new(),
         }
@@ -45,6 +47,13 @@ impl MemSink {
         ensures { result.now ≡ self.now.bytes }
     {
         self.bytes.as_slice()
+    }
+
+    /// How many of them it has handed on.
+    pub fn handed(&self) -> usize
+        ensures { result ≡ self.now.handed }
+    {
+        self.handed
     }
 
     /// How many calls answered `Failed` because there was no memory.
@@ -63,6 +72,7 @@ impl Sink for MemSink {
         ensures put { Puts (observed_sink self.old) (observed_sink self.new) result bytes.now }
         ensures err { OnErr result (self.new.bytes ≡ self.old.bytes) }
         ensures calls { self.new.calls ≡ counted self.old.calls }
+        ensures kept_back { self.new.handed ≡ self.old.handed }
 
         // It fails at a listed call, or because there was no memory.
         ensures out_of_memory { self.new.out_of_memory ≡ (if is_err result && not (is_next_listed self.old.calls) then one_more self.old.out_of_memory else self.old.out_of_memory) }
@@ -78,12 +88,13 @@ impl Sink for MemSink {
         Ok(())
     }
 
-    /// It keeps nothing back, so this is no call that is counted, and never fails.
+    /// This is no call that is counted, and never fails.
     fn flush(&mut self) -> Result<(), Failed>
         ensures flush { Flushes (observed_sink self.old) (observed_sink self.new) result }
         ensures ok { IsOk result }
-        ensures same { self.new ≡ self.old }
+        ensures handed { self.new ≡ record { bytes = self.old.bytes; handed = length self.old.bytes; calls = self.old.calls; out_of_memory = self.old.out_of_memory } }
     {
+        self.handed = self.bytes.len();
         Ok(())
     }
 }

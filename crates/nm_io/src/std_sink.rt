@@ -10,11 +10,14 @@ use nm_faults::Faults;
 use std::io::{ErrorKind, Write};
 use std::marker::Model;
 
-/// A sink over a writer of std: it tells the bytes that the writer tells.
-/// A write that takes no byte of a piece that has some is a fault.
+/// A sink over a writer of std: it tells the bytes that the writer tells, and has handed on what was put before the last flush of the
+/// writer that went well. A piece that was taken in part doesn't count as put.
+/// A write that takes no byte of a piece that has some is a fault, and so is a piece with which the count of bytes passes its type's end.
 #[derive(Drop)]
 pub struct StdSink<W: Write> {
     writer: W,
+    put: usize,
+    handed: usize,
     faults: Faults,
 }
 
@@ -22,19 +25,21 @@ impl<W: Write> Model for StdSink<W> {
     ghost use Rattle.std.specs.Prelude.{ℕ};
     ghost use Rattle.std.specs.Coded.{coded_ℕ, coded×};
 
-    ghost Value = { W × ℕ };
+    ghost Value = { W × (ℕ × (ℕ × ℕ)) };
 
-    ghost coded = { coded× W.code coded_ℕ };
+    ghost coded = { coded× W.code (coded× coded_ℕ (coded× coded_ℕ coded_ℕ)) };
 
-    ghost view = { λ s. (s.writer, s.faults) };
+    ghost view = { λ s. (s.writer, (s.put, (s.handed, s.faults))) };
 }
 
 impl<W: Write> StdSink<W> {
     pub fn new(writer: W) -> StdSink<W>
-        ensures { result ≡ (writer, 0) }
+        ensures { result ≡ (writer, (0, (0, 0))) }
     {
         StdSink {
             writer,
+            put: 0,
+            handed: 0,
             faults: Faults::new(),
         }
     }
@@ -43,24 +48,38 @@ impl<W: Write> StdSink<W> {
     pub fn into_inner(self) -> W
         ensures { result ≡ self.0 }
     {
-        let StdSink { writer, faults: _ } = self;
+        let StdSink {
+            writer,
+            put: _,
+            handed: _,
+            faults: _,
+        } = self;
         writer
     }
 }
 
 impl<W: Write> Sink for StdSink<W> {
-    ghost observed = { λ s. record { bytes = W.contents s.0; faults = s.1 } };
+    ghost observed = { λ s. record { bytes = W.contents s.0; put = s.1.0; handed = s.1.1.0; faults = s.1.1.1 } };
 
     fn put(&mut self, bytes: &[u8]) -> Result<(), Failed> {
+        let Some(put) = self.put.checked_add(bytes.len()) else {
+            return Err(self.faults.failed());
+        };
         match write_whole(&mut self.writer, bytes) {
-            Ok(()) => Ok(()),
+            Ok(()) => {
+                self.put = put;
+                Ok(())
+            }
             Err(Failed) => Err(self.faults.failed()),
         }
     }
 
     fn flush(&mut self) -> Result<(), Failed> {
         match self.writer.flush() {
-            Ok(()) => Ok(()),
+            Ok(()) => {
+                self.handed = self.put;
+                Ok(())
+            }
             Err(_) => Err(self.faults.failed()),
         }
     }
