@@ -1,8 +1,7 @@
 //! Why a whole call is refused, and how that is printed: `nm_top` ends with it.
 
-ghost use Rattle.std.specs.Prelude.{◌≡◌, ◌++◌, codes};
-ghost use Rattle.nm_faults.specs.Faults.{HasCause};
-ghost use Rattle.nm_io.specs.Observed.{PutAppends};
+ghost use Rattle.std.specs.Prelude.{◌≡◌, ◌++◌, codes, is_err};
+ghost use Rattle.nm_io.specs.Observed.{Puts, StreamAppends};
 ghost use Rattle.nm_log.specs.Refusals.{bad_index_line, file_name, refused_line, refused_status};
 ghost use Rattle.nm_log.specs.Replies.{limit_line};
 
@@ -43,8 +42,7 @@ pub fn refused_status(refusal: &Refusal) -> u8
 
 /// Prints the line of the refusal, and flushes. It takes no memory.
 pub fn print_refusal<E: Sink>(err: &mut E, refusal: &Refusal) -> Result<(), Failed>
-    ensures bytes { PutAppends (E.observed err.old).bytes (E.observed err.new).bytes result (refused_line refusal.now) }
-    ensures cause { HasCause (E.observed err.old).faults (E.observed err.new).faults result }
+    ensures { StreamAppends (is_err result) (E.observed err.old) (E.observed err.new) (refused_line refusal.now) }
 {
     match refusal {
         Refusal::Usage { word, kind } => print_usage(err, *kind, word.as_str()),
@@ -58,16 +56,14 @@ pub fn print_refusal<E: Sink>(err: &mut E, refusal: &Refusal) -> Result<(), Fail
 
 #[tactic(auto, using(crate::proofs::Puts::puts))]
 fn print_bad_index<E: Sink>(err: &mut E, file: FileNo, at: u64) -> Result<(), Failed>
-    ensures bytes { PutAppends (E.observed err.old).bytes (E.observed err.new).bytes result (bad_index_line file at) }
-    ensures cause { HasCause (E.observed err.old).faults (E.observed err.new).faults result }
+    ensures { StreamAppends (is_err result) (E.observed err.old) (E.observed err.new) (bad_index_line file at) }
 {
     put_bad_index(err, file, at)?;
     err.flush()
 }
 
 fn put_bad_index<E: Sink>(err: &mut E, file: FileNo, at: u64) -> Result<(), Failed>
-    ensures bytes { PutAppends (E.observed err.old).bytes (E.observed err.new).bytes result (bad_index_line file at) }
-    ensures cause { HasCause (E.observed err.old).faults (E.observed err.new).faults result }
+    ensures { Puts (E.observed err.old) (E.observed err.new) result (bad_index_line file at) }
 {
     let mut buffer = Buffer::new();
     let name = file_name(file);
@@ -77,8 +73,7 @@ fn put_bad_index<E: Sink>(err: &mut E, file: FileNo, at: u64) -> Result<(), Fail
 
 /// One put for each piece.
 fn put_place<E: Sink>(err: &mut E, name: &str, place: &str) -> Result<(), Failed>
-    ensures bytes { PutAppends (E.observed err.old).bytes (E.observed err.new).bytes result (codes "notmuch: bad index: file " ++ (name.now ++ (codes " at " ++ (place.now ++ codes "\n")))) }
-    ensures cause { HasCause (E.observed err.old).faults (E.observed err.new).faults result }
+    ensures { Puts (E.observed err.old) (E.observed err.new) result (codes "notmuch: bad index: file " ++ (name.now ++ (codes " at " ++ (place.now ++ codes "\n")))) }
 {
     put_five(
         err,
@@ -102,16 +97,14 @@ fn file_name(file: FileNo) -> &'static str
 
 #[tactic(auto, using(crate::proofs::Puts::puts))]
 fn print_limit<E: Sink>(err: &mut E, limit: Limit) -> Result<(), Failed>
-    ensures bytes { PutAppends (E.observed err.old).bytes (E.observed err.new).bytes result (limit_line limit) }
-    ensures cause { HasCause (E.observed err.old).faults (E.observed err.new).faults result }
+    ensures { StreamAppends (is_err result) (E.observed err.old) (E.observed err.new) (limit_line limit) }
 {
     put_limit(err, limit)?;
     err.flush()
 }
 
 fn put_limit<E: Sink>(err: &mut E, limit: Limit) -> Result<(), Failed>
-    ensures bytes { PutAppends (E.observed err.old).bytes (E.observed err.new).bytes result (limit_line limit) }
-    ensures cause { HasCause (E.observed err.old).faults (E.observed err.new).faults result }
+    ensures { Puts (E.observed err.old) (E.observed err.new) result (limit_line limit) }
 {
     let name = limit_name(limit);
     put_three(err, b"notmuch: limit: ", name.as_bytes(), b"\n")

@@ -1,11 +1,8 @@
-use Rattle.std.proofs.Common.{◌≡◌, take}
-use Rattle.std.specs.Io.KnownBytes.{Appends}
+use Rattle.std.proofs.Common.{Ok, take}
+use Rattle.nm_io.specs.Observed.{Puts}
 use Rattle.nm_log.specs.Replies.{printed}
 use Rattle.nm_log.proofs.print.put_lines.Given as goal
 
--- the lines so far are printed, and nothing failed
+-- the lines so far are put, and nothing failed
 abbrev pub invariant-lines : goal.invariant-lines
-invariant-lines g l = record {
-  bytes : Appends (g.O.Sink.observed l.initial.out).bytes (g.O.Sink.observed l.out).bytes (printed (take l.log-index l.lines));
-  cause : (g.O.Sink.observed l.out).faults ≡ (g.O.Sink.observed l.initial.out).faults;
-}
+invariant-lines g l = Puts (g.O.Sink.observed l.initial.out) (g.O.Sink.observed l.out) (Ok (tt {0})) (printed (take l.log-index l.lines))

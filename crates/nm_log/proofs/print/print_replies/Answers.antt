@@ -1,0 +1,5 @@
+use Rattle.nm_log.proofs.Puts.{StreamAppends-flushed}
+use Rattle.nm_log.proofs.print.print_replies.Goals as goal
+
+pub returns : goal.returns
+returns g c = StreamAppends-flushed (g.O.Sink.observed c.args.out.now) (g.O.Sink.observed c.put_replies.new.out) (g.O.Sink.observed c.flush.new.self) c.flush.result _ _ c.in_ok-put_replies.ensures c.flush.ensures
