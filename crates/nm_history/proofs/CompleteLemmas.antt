@@ -11,7 +11,7 @@ use Rattle.nm_base.specs.declared.limit.Limit.TheVariants as limits
 use Rattle.nm_disk.specs.Observed.{Moments, bytes_now}
 use Rattle.nm_disk.specs.declared.disk.FileNo.TheVariants.{Head}
 use Rattle.nm_index.specs.declared.base.Base.{Base}
-use Rattle.nm_io.specs.Observed.{ObservedStream}
+use Rattle.nm_io.specs.Observed.{ObservedSink}
 use Rattle.nm_lanes.specs.declared.script.Phase.{Phase}
 use Rattle.nm_log.specs.ParsedLine.{parse_line, parse_single, reads_input}
 use Rattle.nm_log.specs.declared.line_parser.ParsedLine.{ParsedLine}
@@ -156,7 +156,7 @@ read-is (Some bytes) (Some rest) input read told h end =
     sym (append-nil read) ∙ (ap (λ l. read ++ l) (sym end) ∙ (sym h ∙ same))
 
 -- an output that did not fail, so that all phases were run
-quiet-out : (failed session : Bool) (phases : List Phase) (ran : ℕ) (logs : List LineLog) (old new : ObservedStream) → new.faults ≡ old.faults → old.faults < max_count
+quiet-out : (failed session : Bool) (phases : List Phase) (ran : ℕ) (logs : List LineLog) (old new : ObservedSink) → new.faults ≡ old.faults → old.faults < max_count
     → GainsReplies failed session phases ran logs old new → (failed ≡ false) × (ran ≡ length phases)
 quiet-out false session phases ran logs old new stands room h = (refl, h.0)
 quiet-out true session phases ran logs old new stands room h = let rose = h.fault.1 room in absurd (omega arith)

@@ -11,7 +11,7 @@ use Rattle.nm_disk.specs.Observed.{Moments, ObservedDisk}
 use Rattle.nm_disk.specs.declared.disk.FileNo.TheVariants.{Head}
 use Rattle.nm_index.specs.Index.{empty_index}
 use Rattle.nm_index.specs.declared.base.Base.{Base}
-use Rattle.nm_io.specs.Observed.{ObservedStream}
+use Rattle.nm_io.specs.Observed.{ObservedSink, ObservedStream}
 use Rattle.nm_journal.specs.Journal.{IfTold}
 use Rattle.nm_lanes.specs.Lines.{in_lane}
 use Rattle.nm_lanes.specs.declared.script.ScriptLine.{ScriptLine}
@@ -255,7 +255,7 @@ unasked-told : (told : Option Moments) → IfSome told (λ moments. IsImage mome
 unasked-told None image = tt
 unasked-told (Some m) image = refused-keeps m m image (inl (inl refl)) (record { states = []; each = tt; are = refl })
 
-module _ (why : Outcome) (input : List ℕ) (words : List (List ℕ)) (setting : Setting) (mail : ObservedMail) (disk : ObservedDisk) (old new out err said : ObservedStream)
+module _ (why : Outcome) (input : List ℕ) (words : List (List ℕ)) (setting : Setting) (mail : ObservedMail) (disk : ObservedDisk) (old new : ObservedStream) (out err said : ObservedSink)
     (single : is_session words ≡ false) (unasked : is_unasked why ≡ true) (refuses : refused_unasked (fed input (parse_single words)) input None ≡ Some why) where
   abbrev entry : Devices
   entry = devices mail disk old out err
@@ -391,7 +391,7 @@ single-reads session words single e = sym (ap (λ (b : Bool). reads_by b words) 
 single-input : (session : Bool) (words : List (List ℕ)) (input : List ℕ) (fault : Option Outcome) → session ≡ false → input_fault_by session words input ≡ fault → fault_of_input (parse_single words) input ≡ fault
 single-input session words input fault single e = sym (ap (λ (b : Bool). input_fault_by b words input) single) ∙ e
 
-pub line-history : (why : Outcome) (input : List ℕ) (words : List (List ℕ)) (setting : Setting) (mail : ObservedMail) (disk : ObservedDisk) (old new out err said : ObservedStream)
+pub line-history : (why : Outcome) (input : List ℕ) (words : List (List ℕ)) (setting : Setting) (mail : ObservedMail) (disk : ObservedDisk) (old new : ObservedStream) (out err said : ObservedSink)
     → is_session words ≡ false → RefusesLine why input words old new → Prints (Some (refusal_line why)) err said → IfSome disk.told (λ moments. IsImage moments.present moments.present.now)
     → History (call_of words setting (devices mail disk old out err) (devices mail disk new out said) (refused_done why mail.faults disk.faults))
 line-history why input words setting mail disk old new out err said single (inl cause) says image =

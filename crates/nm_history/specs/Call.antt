@@ -8,7 +8,7 @@ use Rattle.nm_command.specs.declared.command_error.CommandError.{CommandError}
 use Rattle.nm_command.specs.declared.command_error.CommandError.TheVariants as faults
 use Rattle.nm_command.specs.declared.request.Request as asks
 use Rattle.nm_disk.specs.Observed.{ObservedDisk}
-use Rattle.nm_io.specs.Observed.{ObservedStream}
+use Rattle.nm_io.specs.Observed.{ObservedSink, ObservedStream}
 use Rattle.nm_lanes.specs.Lines.{in_lane}
 use Rattle.nm_lanes.specs.Script.{script_of}
 use Rattle.nm_lanes.specs.declared.script.Phase.{Phase}
@@ -29,11 +29,11 @@ pub record Devices : Type 0 where
   pub mail : ObservedMail
   pub disk : ObservedDisk
   pub input : ObservedStream
-  pub out : ObservedStream
-  pub err : ObservedStream
+  pub out : ObservedSink
+  pub err : ObservedSink
 
 -- the devices, by what is observed of each
-abbrev pub devices : ObservedMail → ObservedDisk → ObservedStream → ObservedStream → ObservedStream → Devices
+abbrev pub devices : ObservedMail → ObservedDisk → ObservedStream → ObservedSink → ObservedSink → Devices
 devices folder held source sink errors = record { mail = folder; disk = held; input = source; out = sink; err = errors }
 
 -- A call: its words and its setting, the devices at its entry and at its return, and what it answers.

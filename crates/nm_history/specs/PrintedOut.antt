@@ -1,10 +1,11 @@
 -- What is printed: the replies of the lines of a script behind their headers, by phase, lane and line, those of a phase at its end, or that of a single
--- command alone; and at most one line to the user besides.
+-- command alone; and at most one line to the user besides. What is printed is handed on, and where the output fails in a phase
+-- so are the replies of the phases before.
 -- Cited by `going_on`, `nm_top` and `nm_session`.
-use Rattle.std.specs.Prelude.{◌≡◌, ℕ, ◌+◌, Bool, true, false, List, [], ◌∷◌, ◌++◌, length, map, take, codes, Option, None, Some, if◌then◌else◌}
+use Rattle.std.specs.Prelude.{◌≡◌, ℕ, ◌+◌, ◌<◌, ◌≤◌, Bool, true, false, List, [], ◌∷◌, ◌++◌, length, map, take, codes, Option, None, Some, if◌then◌else◌}
 use Rattle.std.specs.Io.KnownBytes.{Appends}
 use Rattle.nm_faults.specs.Faults.{HasRisen}
-use Rattle.nm_io.specs.Observed.{ObservedStream}
+use Rattle.nm_io.specs.Observed.{ObservedSink, StreamAppends}
 use Rattle.nm_lanes.specs.declared.script.Phase.{Phase}
 use Rattle.nm_log.specs.Refusals.{refused_line}
 use Rattle.nm_log.specs.Replies.{is_well, printed, refusal_line, replies_alone}
@@ -13,13 +14,8 @@ use Rattle.nm_log.specs.declared.outcome.Outcome.{Outcome}
 use Rattle.nm_history.specs.Call.{Call, Ending, PlacedLine, Ran, Refused, Unasked, call_lines, call_phases, is_session, lines_of_first}
 use Rattle.nm_history.specs.Refusals.{IsLineRefused, IsRefusedFor, ReadsScript}
 
--- an output gained the bytes, or where it failed the first of them
-abbrev pub StreamAppends : Bool → ObservedStream → ObservedStream → List ℕ → Type 0
-StreamAppends false old new bytes = Appends old.bytes new.bytes bytes × (new.faults ≡ old.faults)
-StreamAppends true old new bytes = ((n : ℕ) × Appends old.bytes new.bytes (take n bytes)) × HasRisen old.faults new.faults
-
 -- one line was said, or none
-abbrev pub Prints : Option (List ℕ) → ObservedStream → ObservedStream → Type 0
+abbrev pub Prints : Option (List ℕ) → ObservedSink → ObservedSink → Type 0
 Prints None old new = new ≡ old
 Prints (Some line) old new = (failed : Bool) × StreamAppends failed old new line
 
@@ -80,9 +76,9 @@ pub record PrintsLine (outcome : Outcome) (input : List ℕ) (call : Call) : Typ
   pub out : call.after.out ≡ call.entry.out
   pub says : Prints (Some (refusal_line outcome)) call.entry.err call.after.err
 
--- The output failed in the replies of the last phase that was run: it gained those of all phases before it, and the first bytes of those of
--- that one.
-pub record FailsInLast (session : Bool) (phases : List Phase) (ran : ℕ) (logs : List LineLog) (old new : ObservedStream) : Type 0 where
+-- The output failed in the replies of the last phase that was run: it gained those of all phases before it and has handed them on, and it gained
+-- the first bytes of those of that one.
+pub record FailsInLast (session : Bool) (phases : List Phase) (ran : ℕ) (logs : List LineLog) (old new : ObservedSink) : Type 0 where
   pub before : ℕ
   pub last : ran ≡ before + 1
   pub earlier : List LineLog
@@ -90,11 +86,19 @@ pub record FailsInLast (session : Bool) (phases : List Phase) (ran : ℕ) (logs 
   pub both : logs ≡ earlier ++ later
   pub lines : AreLogsOf (lines_of_first before phases) earlier
   pub bytes : (n : ℕ) × Appends old.bytes new.bytes (printed_by session earlier ++ take n (printed_by session later))
+  pub handed : 0 < before → old.put + length (printed_by session earlier) ≤ new.handed
   pub fault : HasRisen old.faults new.faults
 
--- All phases were run and the output gained all replies; or it failed at the end of a phase, and no further one was run.
-abbrev pub GainsReplies : Bool → Bool → List Phase → ℕ → List LineLog → ObservedStream → ObservedStream → Type 0
-GainsReplies false session phases ran logs old new = (ran ≡ length phases) × Appends old.bytes new.bytes (printed_by session logs) × (new.faults ≡ old.faults)
+-- The output gained the replies of so many phases, and where a phase was run it has handed on all that was put into it.
+pub record HandsOnReplies (session : Bool) (ran : ℕ) (logs : List LineLog) (old new : ObservedSink) : Type 0 where
+  pub bytes : Appends old.bytes new.bytes (printed_by session logs)
+  pub put : new.put ≡ old.put + length (printed_by session logs)
+  pub handed : 0 < ran → new.handed ≡ new.put
+  pub no_fault : new.faults ≡ old.faults
+
+-- All phases were run and the output gained and handed on all replies; or it failed at the end of a phase, and no further one was run.
+abbrev pub GainsReplies : Bool → Bool → List Phase → ℕ → List LineLog → ObservedSink → ObservedSink → Type 0
+GainsReplies false session phases ran logs old new = (ran ≡ length phases) × HandsOnReplies session ran logs old new
 GainsReplies true session phases ran logs old new = FailsInLast session phases ran logs old new
 
 -- The lines of so many phases were run, their replies were printed, and what else was said.

@@ -11,7 +11,7 @@ ghost use Rattle.nm_log.specs.Replies.{refusal_line};
 ghost use Rattle.nm_log.specs.declared.log.LineLog.{LineLog};
 ghost use Rattle.nm_log.specs.declared.log.Setting.{Setting};
 ghost use Rattle.nm_log.specs.declared.outcome.Outcome.{Outcome};
-ghost use Rattle.nm_io.specs.Observed.{ObservedStream};
+ghost use Rattle.nm_io.specs.Observed.{ObservedSink, ObservedStream};
 ghost use Rattle.nm_maildir.specs.Observed.{ObservedMail};
 ghost use Rattle.nm_maildir.specs.Tree.{moved, Tree};
 ghost use Rattle.nm_maildir.specs.declared.answers.Renamed.{Renamed};
@@ -97,7 +97,7 @@ pub fn a_refused_opening_keeps_the_index()
 /// A single command that is refused before the mail folder and the disk are asked has such a history, where its one line is in the log and its
 /// text is said.
 pub fn a_refused_line_is_a_history()
-    ensures { (why : Outcome) (input : List ℕ) (words : List (List ℕ)) (setting : Setting) (mail : ObservedMail) (disk : ObservedDisk) (old new out err said : ObservedStream)
+    ensures { (why : Outcome) (input : List ℕ) (words : List (List ℕ)) (setting : Setting) (mail : ObservedMail) (disk : ObservedDisk) (old new : ObservedStream) (out err said : ObservedSink)
         → is_session words ≡ false → RefusesLine why input words old new → Prints (Some (refusal_line why)) err said → IfSome disk.told (λ moments. IsImage moments.present moments.present.now)
         → History (call_of words setting (devices mail disk old out err) (devices mail disk new out said) (refused_done why mail.faults disk.faults)) }
 {}
