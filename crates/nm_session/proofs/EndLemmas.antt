@@ -5,7 +5,7 @@ use Rattle.nm_commit.specs.declared.change.Commit.{Commit}
 use Rattle.nm_disk.specs.Calls.{GoesOn}
 use Rattle.nm_disk.specs.Observed.{ObservedDisk}
 use Rattle.nm_history.specs.Call.{Devices, PlacedLine, lines_of_first, placed_from}
-use Rattle.nm_io.specs.Observed.{ObservedStream}
+use Rattle.nm_io.specs.Observed.{ObservedSink}
 use Rattle.nm_history.specs.CrashPrefix.{appends}
 use Rattle.nm_history.specs.Given.{GivenAlong}
 use Rattle.nm_history.specs.LineAnswers.{LaneAnswers, LineAnswers}
@@ -74,7 +74,7 @@ run-front [] back (log ∷ logs) h = absurd h
 run-front (line ∷ front) back [] h = absurd h
 run-front (line ∷ front) back (log ∷ logs) h = ap (λ (l : List RunLine). (line.1, log) ∷ l) (run-front front back logs h.1)
 
-module _ (moment : ℤ) (session failed : Bool) (opening : Base) (entry : Devices) (phases : List Phase) (rooms : Rooms) (place : Place) (mail : ObservedMail) (disk_faults : ℕ) (old out : ObservedStream) (log : SessionLog)
+module _ (moment : ℤ) (session failed : Bool) (opening : Base) (entry : Devices) (phases : List Phase) (rooms : Rooms) (place : Place) (mail : ObservedMail) (disk_faults : ℕ) (old out : ObservedSink) (log : SessionLog)
     (h : HasRunPhases moment session failed opening mail disk_faults phases rooms place old out) (mail_is : entry.mail ≡ mail) (disk_is : entry.disk.faults ≡ disk_faults) (out_is : entry.out ≡ old)
     (is : log ≡ record { steps = steps_at rooms place; lines = rooms.logs.0; acked = place.writer.acked }) where
   abbrev taken : List Planned
@@ -109,7 +109,7 @@ module _ (moment : ℤ) (session failed : Bool) (opening : Base) (entry : Device
         given = subst (λ (l : List RunLine). GivenAlong opening moment (steps_at rooms place) (at_first opening entry) (lane_zero_lines l) entry.mail place.mail) runs-are some.given;
         faults = subst (λ (l : List RunLine). (after_lines (at_first opening entry) (lane_zero_lines l)).disk_faults ≡ place.disk_faults) runs-are (ap (λ (b : Before). b.disk_faults) some.at.before);
         clocks = some.clocks;
-        printed = subst (λ (o : ObservedStream). GainsReplies failed session phases h.count rooms.logs.0 o out) (sym out_is) h.out;
+        printed = subst (λ (o : ObservedSink). GainsReplies failed session phases h.count rooms.logs.0 o out) (sym out_is) h.out;
       })
 
 pub is-kept : (entry now : ObservedDisk) (opening : Base) (planned : List Planned) (rooms : Rooms) (place : Place) (log : SessionLog) → HasNoted planned rooms place → IsDurable entry opening now place.writer

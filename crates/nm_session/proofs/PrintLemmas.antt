@@ -1,11 +1,12 @@
 -- What is printed with the phases of a session. For the proof of `run_phases`.
-use Rattle.std.proofs.Common.{◌≡◌, ℕ, ◌+◌, Bool, true, false, List, [], ◌∷◌, ◌++◌, Option, None, Some, drop, length, take, suc, refl, sym, ap, ◌∙◌, subst, append-nil, append_assoc}
+use Rattle.std.proofs.Common.{◌≡◌, ℕ, ◌+◌, Bool, true, false, List, [], ◌∷◌, ◌++◌, Option, None, Some, drop, length, take, suc, refl, sym, ap, ◌∙◌, subst, append-nil, append_assoc, arith}
 use Rattle.std.specs.Io.KnownBytes.{Appends}
 use Rattle.std.proofs.lemmas.Grind.{flat_map-append}
+use Rattle.std.proofs.lemmas.List.{length-append}
 use Rattle.nm_faults.specs.Faults.{HasRisen}
 use Rattle.nm_history.specs.Call.{PlacedLine, lines_of_first}
-use Rattle.nm_history.specs.PrintedOut.{AreLogsOf, GainsReplies, StreamAppends, printed_by}
-use Rattle.nm_io.specs.Observed.{ObservedStream}
+use Rattle.nm_history.specs.PrintedOut.{AreLogsOf, GainsReplies, HandsOnReplies, printed_by}
+use Rattle.nm_io.specs.Observed.{ObservedSink}
 use Rattle.nm_lanes.specs.declared.script.Phase.{Phase}
 use Rattle.nm_log.specs.Replies.{printed_line, reply_of}
 use Rattle.nm_log.specs.declared.log.LineLog.{LineLog}
@@ -43,23 +44,36 @@ logs-length (line ∷ lines) (log ∷ logs) h = ap suc (logs-length lines logs h
 
 -- ---- phases
 
-pub printed-none : (session : Bool) (out : ObservedStream) → StreamAppends false out out (printed_by session [])
-printed-none session out = subst (λ (l : List ℕ). StreamAppends false out out l) (sym (none-printed session)) (appends-none out.bytes, refl)
+pub printed-none : (session : Bool) (out : ObservedSink) → HandsOnReplies session 0 [] out out
+printed-none session out = record {
+  bytes = subst (λ (l : List ℕ). Appends out.bytes out.bytes l) (sym (none-printed session)) (appends-none out.bytes);
+  put = omega (arith, ap length (none-printed session));
+  handed = λ some. absurd (omega (arith, some));
+  no_fault = refl;
+}
 
 -- of these logs the replies of the first ones were printed
-module _ (session : Bool) (earlier later logs : List LineLog) (both : logs ≡ earlier ++ later) (printed : ℕ) (count : printed ≡ length earlier) (old mid new : ObservedStream)
-    (so_far : StreamAppends false old mid (printed_by session earlier)) where
+module _ (session : Bool) (earlier later logs : List LineLog) (both : logs ≡ earlier ++ later) (printed : ℕ) (count : printed ≡ length earlier) (old mid new : ObservedSink)
+    (number : ℕ) (so_far : HandsOnReplies session number earlier old mid) where
   rest-is : printed_by session (drop printed logs) ≡ printed_by session later
   rest-is = ap (printed_by session) (ap (λ (n : ℕ). drop n logs) count ∙ (ap (λ (l : List LineLog). drop (length earlier) l) both ∙ drop-front earlier later))
 
-  pub printed-more : (now : ℕ) → PrintsRest session logs printed mid new (Some now) → (now ≡ length logs) × StreamAppends false old new (printed_by session logs)
-  printed-more now h =
-      let all : printed_by session earlier ++ printed_by session (drop printed logs) ≡ printed_by session logs =
-      ap (λ (l : List ℕ). printed_by session earlier ++ l) rest-is ∙ (sym (printed-append session earlier later) ∙ ap (printed_by session) (sym both)) in
-      (h.0, (subst (Appends old.bytes new.bytes) all (appends-more old.bytes mid.bytes new.bytes (printed_by session earlier) (printed_by session (drop printed logs)) so_far.0 h.1.0), h.1.1 ∙ so_far.1))
+  all-is : printed_by session earlier ++ printed_by session (drop printed logs) ≡ printed_by session logs
+  all-is = ap (λ (l : List ℕ). printed_by session earlier ++ l) rest-is ∙ (sym (printed-append session earlier later) ∙ ap (printed_by session) (sym both))
 
-  pub printed-failed : (phases : List Phase) (number : ℕ) → AreLogsOf (lines_of_first number phases) earlier → PrintsRest session logs printed mid new None → GainsReplies true session phases (number + 1) logs old new
-  printed-failed phases number lines h = record {
+  pub printed-more : (now : ℕ) → PrintsRest session logs printed mid new (Some now) → (now ≡ length logs) × HandsOnReplies session (number + 1) logs old new
+  printed-more now h = (
+    h.0,
+    record {
+      bytes = subst (Appends old.bytes new.bytes) all-is (appends-more old.bytes mid.bytes new.bytes (printed_by session earlier) (printed_by session (drop printed logs)) so_far.bytes h.1.bytes);
+      put = omega (arith, so_far.put, h.1.put, ap length all-is, length-append (printed_by session earlier) (printed_by session (drop printed logs)));
+      handed = λ some. h.1.handed;
+      no_fault = h.1.no_fault ∙ so_far.no_fault;
+    },
+  )
+
+  pub printed-failed : (phases : List Phase) → AreLogsOf (lines_of_first number phases) earlier → PrintsRest session logs printed mid new None → GainsReplies true session phases (number + 1) logs old new
+  printed-failed phases lines h = record {
     before = number;
     last = refl;
     earlier = earlier;
@@ -67,9 +81,10 @@ module _ (session : Bool) (earlier later logs : List LineLog) (both : logs ≡ e
     both = both;
     lines = lines;
     bytes = (
-      h.0.0,
-      appends-more old.bytes mid.bytes new.bytes (printed_by session earlier) (take h.0.0 (printed_by session later)) so_far.0
-          (subst (λ (l : List ℕ). Appends mid.bytes new.bytes (take h.0.0 l)) rest-is h.0.1),
+      h.bytes.0,
+      appends-more old.bytes mid.bytes new.bytes (printed_by session earlier) (take h.bytes.0 (printed_by session later)) so_far.bytes
+          (subst (λ (l : List ℕ). Appends mid.bytes new.bytes (take h.bytes.0 l)) rest-is h.bytes.1),
     );
-    fault = subst (λ (n : ℕ). HasRisen n new.faults) so_far.1 h.1;
+    handed = λ some. omega (arith, so_far.put, so_far.handed some, h.handed);
+    fault = subst (λ (n : ℕ). HasRisen n new.faults) so_far.no_fault h.fault;
   }

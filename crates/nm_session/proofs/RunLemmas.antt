@@ -1,13 +1,13 @@
 -- One phase more of a session. For the proofs of `run_phases` and `run_one`.
-use Rattle.std.proofs.Common.{◌≡◌, ℕ, ℤ, ◌+◌, ◌<◌, ◌≤◌, Bool, true, false, List, [], ◌∷◌, ◌++◌, None, Some, drop, get_or, length, map, take, refl, sym, ap, ◌∙◌, subst, arith}
+use Rattle.std.proofs.Common.{◌≡◌, ℕ, ℤ, ◌+◌, ◌<◌, ◌≤◌, Bool, true, List, [], ◌∷◌, ◌++◌, None, Some, drop, get_or, length, map, take, refl, sym, ap, ◌∙◌, subst, arith}
 use Rattle.std.specs.List.{flat_map}
 use Rattle.std.proofs.lemmas.List.{length-append}
 use Rattle.nm_base.specs.Limits.{max_commits}
 use Rattle.nm_history.specs.Call.{Devices, PlacedLine, lines_of_lane}
 use Rattle.nm_history.specs.LineResult.{Place}
-use Rattle.nm_history.specs.PrintedOut.{AreLogsOf, GainsReplies, StreamAppends, printed_by}
+use Rattle.nm_history.specs.PrintedOut.{AreLogsOf, GainsReplies, HandsOnReplies}
 use Rattle.nm_index.specs.declared.base.Base.{Base}
-use Rattle.nm_io.specs.Observed.{ObservedStream}
+use Rattle.nm_io.specs.Observed.{ObservedSink}
 use Rattle.nm_lanes.specs.declared.script.Phase.{Phase}
 use Rattle.nm_log.specs.declared.log.LineLog.{LineLog}
 use Rattle.nm_session.specs.Loop.{AreTaken, HasNoted, HasRunSome, IsMeetingNoted}
@@ -54,19 +54,19 @@ module _ (moment : ℤ) (phases : List Phase) (number : ℕ) (phase : Phase) (wi
           subst (λ (l : List Planned). HasRunSome moment opening entry l after new) longer-is
           (some-all laws moment opening entry front turns old new before after noted (subst (AreInPlace 0) (sym longer-is) (in-place 0 (take (number + 1) phases))) taken some)
 
-      module _ (session : Bool) (printed : ℕ) (count : printed ≡ length before.logs.0) (first mid last : ObservedStream) (so_far : StreamAppends false first mid (printed_by session before.logs.0)) where
+      module _ (session : Bool) (printed : ℕ) (count : printed ≡ length before.logs.0) (first mid last : ObservedSink) (so_far : HandsOnReplies session number before.logs.0 first mid) where
         abbrev more : (later : List LineLog) × (after.logs.0 ≡ before.logs.0 ++ later)
         more = logs-all moment turns old new before after taken
 
         pub printed-within : printed ≤ length after.logs.0
         printed-within = omega (arith, count, ap length more.1, length-append before.logs.0 more.0)
 
-        pub printed-there : (now : ℕ) → PrintsRest session after.logs.0 printed mid last (Some now) → (now ≡ length after.logs.0) × StreamAppends false first last (printed_by session after.logs.0)
-        printed-there now h = printed-more session before.logs.0 more.0 after.logs.0 more.1 printed count first mid last so_far now h
+        pub printed-there : (now : ℕ) → PrintsRest session after.logs.0 printed mid last (Some now) → (now ≡ length after.logs.0) × HandsOnReplies session (number + 1) after.logs.0 first last
+        printed-there now h = printed-more session before.logs.0 more.0 after.logs.0 more.1 printed count first mid last number so_far now h
 
         pub failed-there : PrintsRest session after.logs.0 printed mid last None → GainsReplies true session phases (number + 1) after.logs.0 first last
         failed-there h =
-            printed-failed session before.logs.0 more.0 after.logs.0 more.1 printed count first mid last so_far phases number
+            printed-failed session before.logs.0 more.0 after.logs.0 more.1 printed count first mid last number so_far phases
             (subst (λ (l : List PlacedLine). AreLogsOf l before.logs.0) (lines-planned 0 (take number phases)) noted.logs) h
 
 -- ---- the parts of a phase

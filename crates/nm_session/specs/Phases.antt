@@ -7,7 +7,7 @@ use Rattle.nm_history.specs.Call.{Devices, lines_of_lane}
 use Rattle.nm_history.specs.LineResult.{Place}
 use Rattle.nm_history.specs.PrintedOut.{GainsReplies}
 use Rattle.nm_index.specs.declared.base.Base.{Base}
-use Rattle.nm_io.specs.Observed.{ObservedStream}
+use Rattle.nm_io.specs.Observed.{ObservedSink}
 use Rattle.nm_lanes.specs.declared.script.Phase.{Phase}
 use Rattle.nm_lanes.specs.declared.script.ScriptLine.{ScriptLine}
 use Rattle.nm_log.specs.declared.log.Setting.{Setting}
@@ -43,7 +43,7 @@ pub record HasWorked (moment : ℤ) (phase : ℕ) (lines : List ScriptLine) (bef
 
 -- The first of these phases were run and noted, all of them or, where the output failed, up to the one whose replies failed.
 pub record HasRunPhases (moment : ℤ) (session failed : Bool) (opening : Base) (mail : ObservedMail) (disk_faults : ℕ) (phases : List Phase) (rooms : Rooms) (place : Place)
-    (old new : ObservedStream) : Type 0 where
+    (old new : ObservedSink) : Type 0 where
   pub count : ℕ
   pub within : count ≤ length phases
   pub noted : HasNoted (planned_from 0 (take count phases)) rooms place

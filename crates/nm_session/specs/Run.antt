@@ -12,7 +12,7 @@ use Rattle.nm_history.specs.Lines.{RunLine, after_lines, at_first, begun, lane_z
 use Rattle.nm_history.specs.MachineRun.{MachineRun}
 use Rattle.nm_history.specs.PrintedOut.{AreLogsOf, GainsReplies}
 use Rattle.nm_index.specs.declared.base.Base.{Base}
-use Rattle.nm_io.specs.Observed.{ObservedStream}
+use Rattle.nm_io.specs.Observed.{ObservedSink}
 use Rattle.nm_lanes.specs.declared.script.Phase.{Phase}
 use Rattle.nm_log.specs.declared.log.SessionLog.{SessionLog}
 use Rattle.nm_maildir.specs.Observed.{ObservedMail}
@@ -24,7 +24,7 @@ ran_in phases log = run_lines (placed_from 0 phases) log.lines
 
 -- The lines of the first of these phases were run, from this opening index on, of all of them where the output did not fail; and what each did is
 -- what the statement of a session says.
-pub record HasRun (moment : ℤ) (opening : Base) (entry : Devices) (phases : List Phase) (session : Bool) (mail : ObservedMail) (disk_faults : ℕ) (out : ObservedStream) (failed : Bool) (log : SessionLog) : Type 0 where
+pub record HasRun (moment : ℤ) (opening : Base) (entry : Devices) (phases : List Phase) (session : Bool) (mail : ObservedMail) (disk_faults : ℕ) (out : ObservedSink) (failed : Bool) (log : SessionLog) : Type 0 where
   pub acknowledged : List Commit
   pub phases_run : ℕ
   pub logs : AreLogsOf (lines_of_first phases_run phases) log.lines

@@ -8,7 +8,7 @@ use Rattle.nm_history.specs.Call.{Devices, Ran}
 use Rattle.nm_history.specs.CrashPrefix.{CrashPrefix}
 use Rattle.nm_history.specs.OpeningIndex.{IsUnwritten, OpeningIndex}
 use Rattle.nm_index.specs.declared.base.Base.{Base}
-use Rattle.nm_io.specs.Observed.{ObservedStream}
+use Rattle.nm_io.specs.Observed.{ObservedSink}
 use Rattle.nm_lanes.specs.declared.script.Phase.{Phase}
 use Rattle.nm_log.specs.declared.log.SessionLog.{SessionLog}
 use Rattle.nm_maildir.specs.Observed.{ObservedMail}
@@ -22,7 +22,7 @@ use Rattle.nm_writer.specs.declared.open_error.OpenError.TheVariants as errors
 
 -- The phases were run from the index that the disk held, all of them unless the output failed, and every moment since leaves the commits that were
 -- acknowledged.
-pub record IsSession (moment : ℤ) (entry : Devices) (phases : List Phase) (session : Bool) (mail : ObservedMail) (disk : ObservedDisk) (out : ObservedStream) (failed : Bool) (log : SessionLog) : Type 0 where
+pub record IsSession (moment : ℤ) (entry : Devices) (phases : List Phase) (session : Bool) (mail : ObservedMail) (disk : ObservedDisk) (out : ObservedSink) (failed : Bool) (log : SessionLog) : Type 0 where
   pub opening : Base
   pub opening_index : OpeningIndex Ran entry.disk disk opening
   pub run : HasRun moment opening entry phases session mail disk.faults out failed log

@@ -1,7 +1,8 @@
 //! What is printed at the end of a phase: the replies of its lines. `running` calls it.
 
 ghost use Rattle.std.specs.Prelude.{◌≤◌, length};
-ghost use Rattle.nm_history.specs.PrintedOut.{StreamAppends, printed_by};
+ghost use Rattle.nm_history.specs.PrintedOut.{printed_by};
+ghost use Rattle.nm_io.specs.Observed.{StreamAppends};
 ghost use Rattle.nm_session.specs.Printing.{PrintsRest};
 
 use nm_io::Sink;

@@ -3,7 +3,7 @@
 ghost use Rattle.std.specs.Prelude.{◌≡◌, ◌<◌, ◌≤◌, IfErr, IfOk};
 ghost use Rattle.nm_dates.specs.Seconds.{IsMoment};
 ghost use Rattle.nm_history.specs.Call.{devices};
-ghost use Rattle.nm_io.specs.Observed.{ObservedStream};
+ghost use Rattle.nm_io.specs.Observed.{ObservedSink, ObservedStream};
 ghost use Rattle.nm_session.specs.Session.{IsPlanned, IsSession, IsUnopened};
 
 use crate::planning::{Plan, lanes_with, prepare};
@@ -39,7 +39,7 @@ pub fn run_session<R: Threads + Wait + Sync, M: Maildir, D: Disk, O: Sink, G: Ga
 ) -> Result<(SessionLog, bool), OpenError>
     requires moment { IsMoment setting.now.moment }
     requires workers { (0 < setting.now.workers) × (setting.now.workers ≤ 16) }
-    ensures ran { IfOk result (λ ran. (input err : ObservedStream) → IsSession setting.now.moment (devices (M.observed mail.old) (D.observed disk.old) input (O.observed out.old) err)
+    ensures ran { IfOk result (λ ran. (input : ObservedStream) (err : ObservedSink) → IsSession setting.now.moment (devices (M.observed mail.old) (D.observed disk.old) input (O.observed out.old) err)
         phases.now session (M.observed mail.new) (D.observed disk.new) (O.observed out.new) ran.1 ran.0) }
     ensures refused { IfErr result (IsUnopened (M.observed mail.old) (M.observed mail.new) (D.observed disk.old) (D.observed disk.new)) }
     ensures unprinted { IfErr result (λ _. O.observed out.new ≡ O.observed out.old) }
@@ -69,7 +69,7 @@ fn open_and_run<R: Threads + Wait + Sync, M: Maildir, D: Disk, O: Sink, G: Gate 
     requires moment { IsMoment setting.now.moment }
     requires workers { (0 < setting.now.workers) × (setting.now.workers ≤ 16) }
     requires plan { IsPlanned phases.now plan }
-    ensures ran { IfOk result (λ ran. (input err : ObservedStream) → IsSession setting.now.moment (devices (M.observed mail.old) (D.observed disk.old) input (O.observed out.old) err)
+    ensures ran { IfOk result (λ ran. (input : ObservedStream) (err : ObservedSink) → IsSession setting.now.moment (devices (M.observed mail.old) (D.observed disk.old) input (O.observed out.old) err)
         phases.now session (M.observed mail.new) (D.observed disk.new) (O.observed out.new) ran.1 ran.0) }
     ensures refused { IfErr result (IsUnopened (M.observed mail.old) (M.observed mail.new) (D.observed disk.old) (D.observed disk.new)) }
     ensures unprinted { IfErr result (λ _. O.observed out.new ≡ O.observed out.old) }

@@ -1,6 +1,6 @@
 use Rattle.std.proofs.Common.{rules, ◌≡◌, ℕ, ◌+◌, ◌<◌, ◌≤◌, false, Some, None, List, sym, length, refl, ◌∙◌, ap, subst, arith, slice_get}
 use Rattle.nm_base.specs.Limits.{max_mail_bytes}
-use Rattle.nm_history.specs.PrintedOut.{StreamAppends, printed_by}
+use Rattle.nm_history.specs.PrintedOut.{HandsOnReplies}
 use Rattle.nm_lanes.specs.declared.script.Phase.{Phase}
 use Rattle.nm_log.specs.declared.log.LineLog.{LineLog}
 use Rattle.nm_session.specs.Line.{place_at}
@@ -32,7 +32,7 @@ phases-init g c =
       stands = λ alive. c.requires.stands;
       durable = λ entry opening h. h;
       printed = sym (ap length rooms.logs);
-      gained = subst (λ (l : List LineLog). StreamAppends false (sink.observed c.args.out.now) (sink.observed c.args.out.now) (printed_by c.args.session l)) (sym rooms.logs)
+      gained = subst (λ (l : List LineLog). HandsOnReplies c.args.session 0 l (sink.observed c.args.out.now) (sink.observed c.args.out.now)) (sym rooms.logs)
           (printed-none c.args.session (sink.observed c.args.out.now));
     }
 
@@ -116,7 +116,7 @@ returns g c =
         within = omega (arith, whole);
         noted = so_far.noted;
         ran = so_far.ran;
-        out = (whole, so_far.gained.0, so_far.gained.1);
+        out = (whole, so_far.gained);
       };
       steps = so_far.steps;
       durable = so_far.durable;

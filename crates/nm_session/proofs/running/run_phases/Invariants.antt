@@ -1,8 +1,8 @@
-use Rattle.std.proofs.Common.{◌≡◌, false, length, take}
+use Rattle.std.proofs.Common.{◌≡◌, length, take}
 use Rattle.std.specs.List.{All}
 use Rattle.nm_disk.specs.Observed.{ObservedDisk}
 use Rattle.nm_history.specs.Call.{Devices}
-use Rattle.nm_history.specs.PrintedOut.{StreamAppends, printed_by}
+use Rattle.nm_history.specs.PrintedOut.{HandsOnReplies}
 use Rattle.nm_index.specs.declared.base.Base.{Base}
 use Rattle.nm_session.specs.Line.{place_at}
 use Rattle.nm_session.specs.Loop.{HasNoted, HasRunSome}
@@ -14,7 +14,7 @@ use Rattle.nm_session.proofs.running.run_phases.Given as goal
 use Rattle.nm_writer.specs.Durable.{IsDurable}
 use Rattle.std.proofs.Common.{drop}
 
--- the phases so far were run and noted, and their replies printed
+-- the phases so far were run and noted, and their replies printed and handed on
 abbrev pub invariant-phases : goal.invariant-phases
 invariant-phases g l =
     let mail = g.M.Maildir in
@@ -31,5 +31,5 @@ invariant-phases g l =
       stands : Stands l.writer (disk.observed l.disk);
       durable : (entry : ObservedDisk) (opening : Base) → IsDurable entry opening (disk.observed l.initial.disk) l.initial.writer → IsDurable entry opening (disk.observed l.disk) l.writer;
       printed : l.printed ≡ length l.rooms.logs.0;
-      gained : StreamAppends false (sink.observed l.initial.out) (sink.observed l.out) (printed_by l.session l.rooms.logs.0);
+      gained : HandsOnReplies l.session l.number l.rooms.logs.0 (sink.observed l.initial.out) (sink.observed l.out);
     }
