@@ -34,7 +34,7 @@ abbrev pub source_of : List ℕ → List ℕ → SourceState
 source_of held failing = record { bytes = held; calls = record { failing = failing; made = 0; faults = 0 } }
 
 abbrev pub sink_of : List ℕ → SinkState
-sink_of failing = record { bytes = []; calls = record { failing = failing; made = 0; faults = 0 }; out_of_memory = 0 }
+sink_of failing = record { bytes = []; handed = 0; calls = record { failing = failing; made = 0; faults = 0 }; out_of_memory = 0 }
 
 module _ (count : ℕ) (setting : Setting) (mail : Still) (disk : MemState) (input : SourceState) (out err : SinkState) (after : Devices) (done : Done)
     (mail_is : mail ≡ drill_tree count) (disk_is : disk ≡ fresh_disk (record { head = replicate 128 0; bank_a = []; bank_b = [] }))

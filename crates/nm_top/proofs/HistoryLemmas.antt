@@ -39,7 +39,7 @@ use Rattle.nm_log.specs.declared.outcome.Outcome.{Outcome}
 use Rattle.nm_log.specs.declared.outcome.Outcome.TheVariants as outcomes
 use Rattle.nm_log.specs.declared.refusal.Refusal.{Refusal}
 use Rattle.nm_log.specs.declared.refusal.Refusal.TheVariants as refusals
-use Rattle.nm_io.specs.Observed.{ObservedStream}
+use Rattle.nm_io.specs.Observed.{ObservedSink, ObservedStream}
 use Rattle.nm_maildir.specs.Observed.{ObservedMail}
 use Rattle.nm_session.specs.Run.{HasRun}
 use Rattle.nm_session.specs.Session.{HasOpenCause, IsSession, IsUnopened}
@@ -101,7 +101,7 @@ module _ (laws : RefusalLaws) (refusal : Refusal) (input : List ℕ) (words : Li
   refused-history done ends = subst (λ (d : Done). History (call_of words setting entry after d)) (sym ends.ended) (ended-history ends.says)
 
 -- a call that is refused before any device but the input is asked
-pub unasked-history : RefusalLaws → (refusal : Refusal) (input : List ℕ) (words : List (List ℕ)) (setting : Setting) (mail : ObservedMail) (disk : ObservedDisk) (old new out err said : ObservedStream)
+pub unasked-history : RefusalLaws → (refusal : Refusal) (input : List ℕ) (words : List (List ℕ)) (setting : Setting) (mail : ObservedMail) (disk : ObservedDisk) (old new : ObservedStream) (out err said : ObservedSink)
     → IfSome disk.told (λ moments. IsImage moments.present moments.present.now)
     → ((done : Done) → IsRefusedFor refusal input (call_of words setting (devices mail disk old out err) (devices mail disk new out said) done))
     → (done : Done) → Refuses refusal err said done → History (call_of words setting (devices mail disk old out err) (devices mail disk new out said) done)
@@ -109,7 +109,7 @@ unasked-history laws refusal input words setting mail disk old new out err said 
     refused-history laws refusal input words setting (devices mail disk old out err) (devices mail disk new out said) cause (unasked laws disk image) (unwritten-told disk.told) refl refl done ends
 
 -- a single command that is refused before the mail folder and the disk are asked
-pub line-history : RefusalLaws → (why : Outcome) (input : List ℕ) (words : List (List ℕ)) (setting : Setting) (mail : ObservedMail) (disk : ObservedDisk) (old new out err said : ObservedStream)
+pub line-history : RefusalLaws → (why : Outcome) (input : List ℕ) (words : List (List ℕ)) (setting : Setting) (mail : ObservedMail) (disk : ObservedDisk) (old new : ObservedStream) (out err said : ObservedSink)
     → IfSome disk.told (λ moments. IsImage moments.present moments.present.now) → is_session words ≡ false → RefusesLine why input words old new
     → (done : Done) → RefusesAlone why mail.faults disk.faults err said done → History (call_of words setting (devices mail disk old out err) (devices mail disk new out said) done)
 line-history laws why input words setting mail disk old new out err said image single cause done (inl line) =
@@ -130,14 +130,14 @@ pub session-right : (words : List (List ℕ)) (request : asks.Request) → is_se
 session-right words request is read = ap (λ (b : Bool). fault_by b words) is ∙ ap fault_of_session read
 
 -- a session that is refused for its words
-pub session-history : RefusalLaws → (word : List ℕ) (kind : UsageKind) (words : List (List ℕ)) (setting : Setting) (mail : ObservedMail) (disk : ObservedDisk) (old out err said : ObservedStream)
+pub session-history : RefusalLaws → (word : List ℕ) (kind : UsageKind) (words : List (List ℕ)) (setting : Setting) (mail : ObservedMail) (disk : ObservedDisk) (old : ObservedStream) (out err said : ObservedSink)
     → IfSome disk.told (λ moments. IsImage moments.present moments.present.now) → is_session words ≡ true → call_fault words ≡ Some (outcomes.Usage word kind)
     → (done : Done) → Refuses (refusals.Usage word kind) err said done → History (call_of words setting (devices mail disk old out err) (devices mail disk old out said) done)
 session-history laws word kind words setting mail disk old out err said image is fault done ends =
     unasked-history laws (refusals.Usage word kind) [] words setting mail disk old old out err said image (λ d. (is, fault, (refl, refl))) done ends
 
 -- the cause of a refusal for an error of reading the input
-take-cause : (error : TakeError) (words : List (List ℕ)) (setting : Setting) (mail : ObservedMail) (disk : ObservedDisk) (old new out err said : ObservedStream) (done : Done) → call_fault words ≡ None → call_reads words ≡ true
+take-cause : (error : TakeError) (words : List (List ℕ)) (setting : Setting) (mail : ObservedMail) (disk : ObservedDisk) (old new : ObservedStream) (out err said : ObservedSink) (done : Done) → call_fault words ≡ None → call_reads words ≡ true
     → HasTakeCause {T = List ℕ} old.faults new.faults (Err error) → (error ≡ takes.TooLong → IfSome old.bytes (λ bytes. max_input_bytes < length bytes))
     → IsRefusedFor (take_refusal error) [] (call_of words setting (devices mail disk old out err) (devices mail disk new out said) done)
 take-cause takes.ReadFault words setting mail disk old new out err said done sound reads cause long = (sound, reads, cause, refl)
@@ -145,7 +145,7 @@ take-cause takes.TooLong words setting mail disk old new out err said done sound
 take-cause takes.NoMemory words setting mail disk old new out err said done sound reads cause long = tt
 
 -- a call whose input is not read
-pub take-history : RefusalLaws → (error : TakeError) (refusal : Refusal) (words : List (List ℕ)) (setting : Setting) (mail : ObservedMail) (disk : ObservedDisk) (old new out err said : ObservedStream)
+pub take-history : RefusalLaws → (error : TakeError) (refusal : Refusal) (words : List (List ℕ)) (setting : Setting) (mail : ObservedMail) (disk : ObservedDisk) (old new : ObservedStream) (out err said : ObservedSink)
     → IfSome disk.told (λ moments. IsImage moments.present moments.present.now) → refusal ≡ take_refusal error → call_fault words ≡ None → call_reads words ≡ true
     → HasTakeCause {T = List ℕ} old.faults new.faults (Err error) → (error ≡ takes.TooLong → IfSome old.bytes (λ bytes. max_input_bytes < length bytes))
     → (done : Done) → Refuses refusal err said done → History (call_of words setting (devices mail disk old out err) (devices mail disk new out said) done)
@@ -162,7 +162,7 @@ open-cause (errors.Limit limit) input words setting entry after done sound takes
 open-cause errors.NoMemory input words setting entry after done sound takes right cause = tt
 
 -- a call for which no index is opened
-pub unopened-history : RefusalLaws → (error : OpenError) (refusal : Refusal) (input : List ℕ) (words : List (List ℕ)) (setting : Setting) (mail new_mail : ObservedMail) (disk new_disk : ObservedDisk) (old new out new_out err said : ObservedStream)
+pub unopened-history : RefusalLaws → (error : OpenError) (refusal : Refusal) (input : List ℕ) (words : List (List ℕ)) (setting : Setting) (mail new_mail : ObservedMail) (disk new_disk : ObservedDisk) (old new : ObservedStream) (out new_out err said : ObservedSink)
     → refusal ≡ refusal_of error → call_fault words ≡ None → TakesInput (call_reads words) (is_session words) input old new → input_fault words input ≡ None → IsUnopened mail new_mail disk new_disk error → new_out ≡ out
     → (done : Done) → Refuses refusal err said done → History (call_of words setting (devices mail disk old out err) (devices new_mail new_disk new new_out said) done)
 unopened-history laws error refusal input words setting mail new_mail disk new_disk old new out new_out err said is sound takes right unopened still done ends =

@@ -11,8 +11,8 @@ use Rattle.nm_disk.specs.Memory.{fresh_disk, observed_mem}
 use Rattle.nm_drill.specs.Drill.{drill_script, drill_tree}
 use Rattle.nm_history.specs.Call.{Call, Devices, call_of, devices, is_first}
 use Rattle.nm_history.specs.History.{History}
-use Rattle.nm_history.specs.PrintedOut.{Prints, StreamAppends}
-use Rattle.nm_io.specs.Observed.{ObservedStream}
+use Rattle.nm_history.specs.PrintedOut.{Prints}
+use Rattle.nm_io.specs.Observed.{ObservedSink, ObservedStream, StreamAppends}
 use Rattle.nm_log.specs.Replies.{is_well}
 use Rattle.nm_log.specs.declared.log.Done.{Done}
 use Rattle.nm_log.specs.declared.log.LineLog.{LineLog}
@@ -28,15 +28,19 @@ is_drill words = is_first (codes "drill") words
 
 -- ---- its session
 
--- a stream in memory that has not failed
+-- a source in memory that has not failed
 abbrev pub in_memory : List ℕ → ObservedStream
 in_memory held = record { bytes = Some held; faults = 0 }
+
+-- a sink in memory that nothing was put into
+abbrev pub empty_sink : ObservedSink
+empty_sink = record { bytes = Some []; put = 0; handed = 0; faults = 0 }
 
 -- the devices of its session: the store of so many mails, a disk that holds nothing, the script, and two outputs
 abbrev pub drill_devices : ℕ → Devices
 drill_devices count =
     devices (observed_still (drill_tree count)) (observed_mem (fresh_disk (record { head = replicate 128 0; bank_a = []; bank_b = [] }))) (in_memory drill_script)
-    (in_memory []) (in_memory [])
+    empty_sink empty_sink
 
 -- the session is a call of its own, of the word `session` alone
 abbrev pub drill_session : ℕ → Setting → Devices → Done → Call
@@ -89,14 +93,14 @@ pub record AnswersAll (logs : List LineLog) : Type 0 where
 
 -- How a drill ends whose session was run: its summary was printed; the output failed in that; or memory was wanting, in the session, in its
 -- devices or for the summary, and nothing was printed.
-pub data EndsAfterRun (count : ℕ) (logs : List LineLog) (status : ℕ) (out printed err said : ObservedStream) : Type 0 where
+pub data EndsAfterRun (count : ℕ) (logs : List LineLog) (status : ℕ) (out printed err said : ObservedSink) : Type 0 where
   well : status ≡ 0 → AnswersAll logs → StreamAppends false out printed (summary_of count logs) → said ≡ err → EndsAfterRun count logs status out printed err said
   unprinted : status ≡ 6 → AnswersAll logs → StreamAppends true out printed (summary_of count logs) →
       Prints (Some (codes "notmuch: write fault\n")) err said → EndsAfterRun count logs status out printed err said
   no_memory : status ≡ 7 → printed ≡ out → Prints (Some (codes "notmuch: no memory\n")) err said → EndsAfterRun count logs status out printed err said
 
 -- How a drill ends: its words are wrong; there is no memory to begin with; or its session was run.
-pub data DrillEnds (words : List (List ℕ)) (setting : Setting) (done : Done) (out printed err said : ObservedStream) : Type 0 where
+pub data DrillEnds (words : List (List ℕ)) (setting : Setting) (done : Done) (out printed err said : ObservedSink) : Type 0 where
   wrong_words : (word : List ℕ) (kind : UsageKind) → request_of words ≡ Err (Usage word kind) → printed ≡ out → Refuses (refusals.Usage word kind) err said done →
       DrillEnds words setting done out printed err said
   not_begun : printed ≡ out → Refuses refusals.NoMemory err said done → DrillEnds words setting done out printed err said

@@ -3,7 +3,7 @@ use Rattle.std.specs.Prelude.{◌≡◌, ◌⊎◌, ℕ, List, [], Some}
 use Rattle.nm_history.specs.PrintedOut.{Prints}
 use Rattle.nm_history.specs.UnaskedLine.{refused_done}
 use Rattle.nm_base.specs.declared.limit.Limit.TheVariants.{InputBytes}
-use Rattle.nm_io.specs.Observed.{ObservedStream}
+use Rattle.nm_io.specs.Observed.{ObservedSink}
 use Rattle.nm_io.specs.declared.taking.TakeError.{TakeError}
 use Rattle.nm_io.specs.declared.taking.TakeError.TheVariants as takes
 use Rattle.nm_log.specs.Refusals.{refused_line, refused_status}
@@ -25,17 +25,17 @@ abbrev pub ended_with : ℕ → Done
 ended_with code = ended_on code []
 
 -- The call has the status of the refusal and an empty log, and its line was said.
-pub record Refuses (refusal : Refusal) (old new : ObservedStream) (done : Done) : Type 0 where
+pub record Refuses (refusal : Refusal) (old new : ObservedSink) (done : Done) : Type 0 where
   pub ended : done ≡ ended_with (refused_status refusal)
   pub says : Prints (Some (refused_line refusal)) old new
 
 -- A single command has the status of its outcome and its one line in the log, with these counts of faults, and its text was said.
-pub record EndsWithLine (why : Outcome) (mail disk : ℕ) (old new : ObservedStream) (done : Done) : Type 0 where
+pub record EndsWithLine (why : Outcome) (mail disk : ℕ) (old new : ObservedSink) (done : Done) : Type 0 where
   pub ended : done ≡ refused_done why mail disk
   pub says : Prints (Some (refusal_line why)) old new
 
 -- so it ends where it is refused before the mail folder and the disk are asked, or memory ran out for it
-abbrev pub RefusesAlone : Outcome → ℕ → ℕ → ObservedStream → ObservedStream → Done → Type 0
+abbrev pub RefusesAlone : Outcome → ℕ → ℕ → ObservedSink → ObservedSink → Done → Type 0
 RefusesAlone why mail disk old new done = EndsWithLine why mail disk old new done ⊎ Refuses refusals.NoMemory old new done
 
 -- an error of opening, as the session is refused for it

@@ -15,7 +15,7 @@ use Rattle.nm_history.specs.PrintedOut.{Prints}
 use Rattle.nm_history.specs.Refusals.{RefusesLine}
 use Rattle.nm_history.specs.UnaskedLine.{refused_done}
 use Rattle.nm_index.specs.declared.base.Base.{Base}
-use Rattle.nm_io.specs.Observed.{ObservedStream}
+use Rattle.nm_io.specs.Observed.{ObservedSink, ObservedStream}
 use Rattle.nm_journal.specs.Moments.{GoesThrough, SyncsOrFails}
 use Rattle.nm_log.specs.Replies.{refusal_line}
 use Rattle.nm_log.specs.declared.log.Setting.{Setting}
@@ -30,6 +30,6 @@ pub record RefusalLaws : Type 0 where
   pub stays : (before now : Moments) → IsImage before.present before.present.now → SyncsOrFails before now
       → GoesThrough Head (MayLeave before.present Head) before now → KeepsCommits [] [] before now
   pub unread : (words : List (List ℕ)) (input : List ℕ) → call_reads words ≡ false → input_fault words input ≡ None
-  pub line : (why : Outcome) (input : List ℕ) (words : List (List ℕ)) (setting : Setting) (mail : ObservedMail) (disk : ObservedDisk) (old new out err said : ObservedStream)
+  pub line : (why : Outcome) (input : List ℕ) (words : List (List ℕ)) (setting : Setting) (mail : ObservedMail) (disk : ObservedDisk) (old new : ObservedStream) (out err said : ObservedSink)
       → is_session words ≡ false → RefusesLine why input words old new → Prints (Some (refusal_line why)) err said → IfSome disk.told (λ moments. IsImage moments.present moments.present.now)
       → History (call_of words setting (devices mail disk old out err) (devices mail disk new out said) (refused_done why mail.faults disk.faults))
