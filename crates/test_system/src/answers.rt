@@ -16,6 +16,7 @@ pub struct Outside<'a> {
 enum Kind {
     Source,
     Sink,
+    Memory,
     In(InFolder),
 }
 
@@ -27,9 +28,10 @@ enum InFolder {
     File,
 }
 
-const KINDS: [(&[u8], Kind); 5] = [
+const KINDS: [(&[u8], Kind); 6] = [
     (b"source", Kind::Source),
     (b"sink", Kind::Sink),
+    (b"memory", Kind::Memory),
     (b"folder", Kind::In(InFolder::Mail)),
     (b"disk", Kind::In(InFolder::Disk)),
     (b"file", Kind::In(InFolder::File)),
@@ -54,6 +56,7 @@ fn push_row(rt: &HostRuntime, row: &Row<'_>, lines: &mut Lines) -> Result<(), Ro
     match named(&KINDS, row.kind)? {
         Kind::Source => stream_rows::push_source(rt.alloc(), row, lines),
         Kind::Sink => stream_rows::push_sink(rt.alloc(), row, lines),
+        Kind::Memory => stream_rows::push_memory(rt.alloc(), row, lines),
         Kind::In(kind) => push_in_new(rt, kind, row, lines),
     }
 }

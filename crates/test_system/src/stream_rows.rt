@@ -1,10 +1,10 @@
-//! Rows on sources and sinks over a real file, and over streams that are interrupted or fail, for `answers`.
+//! Rows on sources and sinks over a real file, over streams that are interrupted or fail, and in memory, for `answers`.
 
 use crate::calls::{Called, Fault, Shown, call_all, push_answer};
 use crate::real_folder::{RealFolder, refused};
 use crate::script::Script;
 use nm_base::{Failed, Many, Text};
-use nm_io::{Sink, Source, StdSink, StdSource, TakeError, take_all};
+use nm_io::{MemSink, Sink, Source, StdSink, StdSource, TakeError, take_all};
 use rows::{Lines, Row, RowError, cut, named, number_of};
 use std::alloc::Global;
 use std::fs::File;
@@ -65,6 +65,22 @@ pub fn push_sink(alloc: Global, row: &Row<'_>, lines: &mut Lines) -> Result<(), 
 }
 
 impl Called for StdSink<Script<'_>> {
+    fn call(&mut self, call: &[u8], lines: &mut Lines) -> Result<(), RowError> {
+        let (name, text) = cut(call, b' ');
+        call_sink(self, named(&CALLS, name)?, text, lines)
+    }
+}
+
+/// `put TEXT` and `flush`, of a sink in memory; at the end how many bytes it has handed on.
+pub fn push_memory(alloc: Global, row: &Row<'_>, lines: &mut Lines) -> Result<(), RowError> {
+    let mut sink = MemSink::new(alloc, Many::new(alloc));
+    let called = call_all(&mut sink, row, lines);
+    lines.line(b"handed ");
+    lines.push_number(sink.handed() as u64);
+    called
+}
+
+impl Called for MemSink {
     fn call(&mut self, call: &[u8], lines: &mut Lines) -> Result<(), RowError> {
         let (name, text) = cut(call, b' ');
         call_sink(self, named(&CALLS, name)?, text, lines)
