@@ -1,4 +1,4 @@
-//! How many bytes the parts of an index take as data, without these being made: snapshots of `nm_state` keep the sums.
+//! How many bytes the parts of an index take as data, without these being made: `nm_tables` keeps the sums.
 
 ghost use Rattle.std.specs.Prelude.{◌≡◌, length, min};
 ghost use Rattle.nm_base.specs.Limits.{max_count};

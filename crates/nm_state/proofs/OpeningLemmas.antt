@@ -23,11 +23,11 @@ use Rattle.nm_index.specs.Valid.{IsValid}
 use Rattle.nm_index.specs.declared.base.Base.{Base}
 use Rattle.nm_threads.specs.Entries.{AreEntriesOf}
 use Rattle.nm_threads.specs.Labels.{AreLabelsOf, entries_of}
-use Rattle.nm_state.specs.Filing.{AreFiled, files_in}
-use Rattle.nm_state.specs.Kept.{AreKept}
-use Rattle.nm_state.specs.Parts.{AreHeld, AreParts, AreTagged, base_of}
-use Rattle.nm_state.specs.declared.parts.Parts.{Parts}
-use Rattle.nm_state.proofs.KeyLemmas.{Contains_map, all_at, text_other, text_same}
+use Rattle.nm_tables.specs.Filing.{AreFiled, files_in}
+use Rattle.nm_tables.specs.Kept.{AreKept}
+use Rattle.nm_parts.specs.Parts.{AreHeld, AreParts, AreTagged, base_of}
+use Rattle.nm_parts.specs.declared.parts.Parts.{Parts}
+use Rattle.nm_tables.specs.KeyLaws.{Contains_map, all_at, text_other, text_same}
 use Rattle.nm_state.proofs.TagLemmas.{opened_tagged}
 
 -- ---- files

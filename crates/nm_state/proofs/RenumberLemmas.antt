@@ -24,14 +24,14 @@ use Rattle.nm_record.specs.Commits.{arrival_grammar, tagging_grammar}
 use Rattle.nm_threads.specs.Labels.{has_entry, numbered}
 use Rattle.nm_threads.specs.Same.{ids_of, is_same}
 use Rattle.nm_state.specs.Counts.{AreCounts}
-use Rattle.nm_state.specs.Measures.{entries_len, ids_len}
-use Rattle.nm_state.specs.Parts.{tags_after, without_file}
+use Rattle.nm_tables.specs.Measures.{entries_len, ids_len}
+use Rattle.nm_parts.specs.Parts.{tags_after, without_file}
 use Rattle.nm_state.specs.Renumbered.{counted, renumbered}
 use Rattle.nm_state.specs.declared.room.Counts.{Counts}
-use Rattle.nm_state.proofs.AddLemmas.{mailed, mailed_is}
-use Rattle.nm_state.proofs.KeyLemmas.{less_is}
-use Rattle.nm_state.proofs.MeasureLemmas.{entries_ids}
-use Rattle.nm_state.proofs.TakeLemmas.{dropped_is}
+use Rattle.nm_parts.specs.MailLaws.{mailed, mailed_is}
+use Rattle.nm_tables.specs.KeyLaws.{less_is}
+use Rattle.nm_tables.specs.MeasureLaws.{entries_ids}
+use Rattle.nm_parts.specs.MailLaws.{dropped_is}
 
 abbrev Entries : Type 0
 Entries = List (List ℕ × ℕ)

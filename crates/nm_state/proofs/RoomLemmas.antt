@@ -21,17 +21,23 @@ use Rattle.nm_record.specs.Room.{limit_passed, max_number}
 use Rattle.nm_record.specs.Tags.{tags_grammar}
 use Rattle.nm_threads.specs.Labels.{entries_of}
 use Rattle.nm_state.specs.Counts.{AreCounts}
-use Rattle.nm_state.specs.Kept.{AreKept}
-use Rattle.nm_state.specs.Measures.{entries_len, pairs_len}
-use Rattle.nm_state.specs.Parts.{base_of}
-use Rattle.nm_state.specs.declared.parts.Parts.{Parts}
+use Rattle.nm_tables.specs.Kept.{AreKept}
+use Rattle.nm_tables.specs.Measures.{entries_len, pairs_len}
+use Rattle.nm_parts.specs.Parts.{base_of}
+use Rattle.nm_parts.specs.declared.parts.Parts.{Parts}
 use Rattle.nm_state.specs.declared.room.Counts.{Counts}
 use Rattle.nm_state.specs.declared.room.RoomError.{RoomError}
 use Rattle.nm_state.specs.declared.room.RoomError.TheVariants.{Limit as Passes, NoMemory as OutOfMemory}
-use Rattle.nm_state.proofs.KeyLemmas.{Contains_first, Contains_there}
-use Rattle.nm_state.proofs.MeasureLemmas.{values_len}
+use Rattle.nm_tables.specs.KeyLaws.{Contains_first, Contains_there}
 
 -- ---- the bytes of the parts
+
+files_len : (files : List (ℕ × (List ℕ × Facts))) → pairs_len (λ (place : ℕ). 0) (λ (file : List ℕ × Facts). length (arrival_grammar.bytes (file.0, file.1))) files ≡ sum_by (λ file. length (arrival_grammar.bytes file)) (values_of files)
+files_len [] = refl
+files_len (f ∷ files) =
+    let all = sum_by-cons (λ (pair : ℕ × (List ℕ × Facts)). 0 + length (arrival_grammar.bytes (pair.1.0, pair.1.1))) f files in
+    let arrived = sum_by-cons (λ (file : List ℕ × Facts). length (arrival_grammar.bytes file)) f.1 (values_of files) in
+    omega (arith, files_len files, all, arrived)
 
 kept_len : (kept : List (List ℕ × LinkRow)) → ((entry : List ℕ × LinkRow) → Contains kept entry → entry.0 ≡ row_bytes entry.1)
     → pairs_len (λ (bytes : List ℕ). length bytes) (λ (row : LinkRow). 0) kept ≡ sum_by (λ row. length (row_bytes row)) (values_of kept)
@@ -62,7 +68,7 @@ pub parts_len : (parts : Parts) → AreKept parts.kept
     → 32 + files + kept + entries + tags ≡ base_len (base_of parts)
 parts_len parts are law files kept entries tags files_is kept_is entries_is tags_is =
     let all = law (base_of parts) in
-    let of_files = files_is ∙ values_len (λ (file : List ℕ × Facts). length (arrival_grammar.bytes file)) parts.filing.files in
+    let of_files = files_is ∙ files_len parts.filing.files in
     let of_kept = kept_is ∙ kept_len parts.kept are.keyed in
     let of_tags = tags_is ∙ tagged_len parts.tags in
     omega (arith, all, of_files, of_kept, entries_is, of_tags)

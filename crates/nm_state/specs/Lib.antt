@@ -1,12 +1,6 @@
 pub mod Additions
 pub mod Counts
-pub mod Filing
-pub mod Kept
-pub mod Measures
 pub mod Messages
-pub mod Parts
 pub mod Renumbered
-pub mod Sides
 pub mod Snapshot
-pub mod Sorted
-pub mod ThreadLaws
+pub mod Taken

@@ -6,11 +6,11 @@ ghost use Rattle.nm_base.specs.Order.{has_text};
 ghost use Rattle.nm_commit.specs.Files.{FitChanges, has_id, has_path};
 ghost use Rattle.nm_commit.specs.declared.change.Change.TheVariants.{Add};
 ghost use Rattle.nm_state.specs.Additions.{IsTried};
-ghost use Rattle.nm_state.specs.Filing.{AreFiled, files_in};
+ghost use Rattle.nm_tables.specs.Filing.{AreFiled, files_in};
 
-use crate::filing::{Filing, has_file, is_live};
 use nm_base::{Copies, Facts, MailPath, MessageId, NoMemory, TextSet, is_date};
 use nm_commit::Change;
+use nm_tables::{Filing, has_file, is_live};
 use std::alloc::Global;
 
 /// What the changes so far have brought: the paths of mails and the ids of their messages.

@@ -3,21 +3,16 @@
 ghost use Rattle.std.specs.Prelude.{◌≡◌, IfOk, OnOk};
 ghost use Rattle.std.specs.Map.{values_of};
 ghost use Rattle.nm_threads.specs.Labels.{entries_of};
-ghost use Rattle.nm_state.specs.Filing.{files_in};
+ghost use Rattle.nm_tables.specs.Filing.{files_in};
 ghost use Rattle.nm_index.specs.Valid.{IsValid};
-ghost use Rattle.nm_state.specs.Parts.{AreParts, AreTagged, base_of};
-ghost use Rattle.nm_state.specs.Sorted.{TakesFrom};
+ghost use Rattle.nm_parts.specs.Parts.{AreParts, AreTagged, base_of};
+ghost use Rattle.nm_state.specs.Taken.{TakesFrom};
 
-use crate::filing::Filing;
-use crate::measured_labels::MeasuredLabels;
-use crate::measured_map::MeasuredMap;
-use crate::message_tags::MessageTags;
-use crate::parts::Parts;
-use crate::reading::Files;
-use crate::row_bytes::RowBytes;
 use nm_base::{Copies, Facts, LinkRow, MailPath, Many, MessageId, NoMemory, Tags};
 use nm_index::Base;
+use nm_parts::Parts;
 use nm_shared::{Shared, SharedMap};
+use nm_tables::{Files, Filing, MeasuredLabels, MeasuredMap, MessageTags, RowBytes};
 use std::alloc::Global;
 
 fn files_of(alloc: Global, filing: &Filing) -> Result<Many<(MailPath, Facts)>, NoMemory>

@@ -2,12 +2,12 @@
 
 ghost use Rattle.std.specs.Prelude.{◌≡◌, ◌↔◌, false, IfOk, IsTrue, OnOk};
 ghost use Rattle.nm_commit.specs.Files.{FitChanges, FitsChange, changed, has_path};
-ghost use Rattle.nm_state.specs.Filing.{AreFiled, files_in};
+ghost use Rattle.nm_tables.specs.Filing.{AreFiled, files_in};
 
 use crate::additions::additions_fit;
-use crate::filing::{Filing, add_file, has_file, is_live, move_file, remove_file};
 use nm_base::{MailPath, NoMemory, is_date};
 use nm_commit::Change;
+use nm_tables::{Filing, add_file, has_file, is_live, move_file, remove_file};
 use std::alloc::Global;
 
 /// Whether the changes fit the files.

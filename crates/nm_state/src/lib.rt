@@ -3,33 +3,18 @@
 #![tactic(auto)]
 
 mod additions;
-mod applying;
-mod changes;
-mod dropping;
 mod exporting;
-mod filing;
 mod fitting;
-mod kept;
-mod labelling;
 mod live_messages;
-mod measured_labels;
-mod measured_map;
-mod measures;
-mod message_tags;
 mod messages;
 mod numbers;
 mod opening;
-mod parts;
-mod places;
-mod reading;
 mod renumbering;
+mod retagging;
 mod room;
-mod row_bytes;
-mod sides;
 mod snapshot;
-mod tagging;
 
 pub use live_messages::LiveMessages;
-pub use reading::{Files, MessageFiles, Paths, Tagged};
+pub use nm_tables::{Files, MessageFiles, Paths, Tagged};
 pub use room::RoomError;
 pub use snapshot::{Snapshot, a_snapshot_is_a_valid_index};

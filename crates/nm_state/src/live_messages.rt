@@ -3,12 +3,11 @@
 ghost use Rattle.std.specs.Prelude.{◌≡◌, length};
 ghost use Rattle.std.specs.Iterator.{at_most};
 ghost use Rattle.std.specs.Map.Iter.{TakesFirst};
-ghost use Rattle.nm_state.specs.Filing.{AreFiled, files_in};
+ghost use Rattle.nm_tables.specs.Filing.{AreFiled, files_in};
 ghost use Rattle.nm_state.specs.Messages.{id_and_files, live_messages};
 
-use crate::filing::{Filing, files_near};
-use crate::reading::MessageFiles;
 use nm_base::MessageId;
+use nm_tables::{Filing, MessageFiles, files_near};
 use nm_threads::Entries;
 use std::marker::Model;
 
@@ -24,7 +23,7 @@ pub struct LiveMessages<'a> {
 impl<'a> Model for LiveMessages<'a> {
     ghost use Rattle.std.specs.Prelude.{List, ℕ};
     ghost use Rattle.nm_base.specs.declared.facts.Facts.{Facts};
-    ghost use Rattle.nm_state.specs.Filing.{AreFiled, files_in};
+    ghost use Rattle.nm_tables.specs.Filing.{AreFiled, files_in};
     ghost use Rattle.nm_state.specs.Messages.{live_messages};
 
     ghost Value = { List (List ℕ × List (List ℕ × Facts)) };

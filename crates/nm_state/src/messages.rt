@@ -3,13 +3,13 @@
 ghost use Rattle.std.specs.Prelude.{◌≡◌, IfOk};
 ghost use Rattle.std.specs.List.{filter};
 ghost use Rattle.nm_commit.specs.Files.{has_id};
-ghost use Rattle.nm_state.specs.Filing.{AreFiled, files_in};
-ghost use Rattle.nm_state.specs.Parts.{AreParts, base_of};
+ghost use Rattle.nm_tables.specs.Filing.{AreFiled, files_in};
+ghost use Rattle.nm_parts.specs.Parts.{AreParts, base_of};
 ghost use Rattle.nm_state.specs.Snapshot.{thread_messages};
 
-use crate::filing::{Filing, files_near};
-use crate::parts::Parts;
 use nm_base::{Many, MessageId, NoMemory};
+use nm_parts::Parts;
+use nm_tables::{Filing, files_near};
 use std::alloc::Global;
 
 /// The messages of the thread of a name that have a file, by their numbers.

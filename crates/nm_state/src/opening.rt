@@ -9,22 +9,15 @@ ghost use Rattle.nm_base.specs.Order.{IsSorted, same_text};
 ghost use Rattle.nm_commit.specs.Files.{paths_of};
 ghost use Rattle.nm_index.specs.Index.{row_cmp, row_of};
 ghost use Rattle.nm_index.specs.Valid.{IsValid};
-ghost use Rattle.nm_state.specs.Filing.{AreFiled, files_in};
-ghost use Rattle.nm_state.specs.Kept.{AreKept};
-ghost use Rattle.nm_state.specs.Parts.{AreParts, base_of};
+ghost use Rattle.nm_tables.specs.Filing.{AreFiled, files_in};
+ghost use Rattle.nm_tables.specs.Kept.{AreKept};
+ghost use Rattle.nm_parts.specs.Parts.{AreParts, base_of};
 
-use crate::filing::{Filing, add_file};
-use crate::kept::keep_row;
-use crate::labelling::row_of;
-use crate::measured_labels::MeasuredLabels;
-use crate::measured_map::MeasuredMap;
-use crate::message_tags::MessageTags;
-use crate::parts::Parts;
-use crate::row_bytes::RowBytes;
-use crate::tagging::set_tags;
 use nm_base::{Copies, Facts, LinkRow, MailPath, Many, MessageId, NoMemory, Tags};
 use nm_index::Base;
+use nm_parts::{Parts, row_of, set_tags};
 use nm_shared::Shared;
+use nm_tables::{Filing, MeasuredLabels, MeasuredMap, MessageTags, RowBytes, add_file, keep_row};
 use std::alloc::Global;
 
 /// The files in their maps.

@@ -2,13 +2,13 @@
 //! many bytes as what it makes of the index itself, for which there may be no numbers left.
 
 ghost use Rattle.std.specs.Prelude.{◌≡◌, IfOk};
-ghost use Rattle.nm_state.specs.Parts.{AreParts, base_of};
+ghost use Rattle.nm_parts.specs.Parts.{AreParts, base_of};
 ghost use Rattle.nm_state.specs.Renumbered.{counted, renumbered};
 
 use crate::exporting::base_of;
 use crate::opening::parts_of;
-use crate::parts::Parts;
 use nm_base::{Copies, Many, MessageId, NoMemory};
+use nm_parts::Parts;
 use std::alloc::Global;
 
 /// The ids with the numbers from 1 on.

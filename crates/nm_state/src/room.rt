@@ -8,15 +8,14 @@ ghost use Rattle.nm_index.specs.declared.base.Base.{Base};
 ghost use Rattle.nm_record.specs.BaseBytes.{base_len};
 ghost use Rattle.nm_record.specs.Room.{limit_passed};
 ghost use Rattle.nm_state.specs.Counts.{AreCounts};
-ghost use Rattle.nm_state.specs.Parts.{AreParts, base_of};
+ghost use Rattle.nm_parts.specs.Parts.{AreParts, base_of};
 
-use crate::applying::apply_changes;
 use crate::numbers::has_ids;
-use crate::parts::Parts;
 use crate::renumbering::renumbered;
 use nm_base::{Limit, NoMemory};
 use nm_commit::Commit;
 use nm_index::numbers_never_fall;
+use nm_parts::{Parts, apply_changes};
 use nm_record::a_base_takes_what_its_parts_take;
 use std::alloc::Global;
 use thiserror::Error;

@@ -19,21 +19,21 @@ ghost use Rattle.nm_threads.specs.Name.{thread_name};
 ghost use Rattle.nm_state.specs.Messages.{live_messages};
 ghost use Rattle.nm_state.specs.Snapshot.{retagged, thread_messages};
 
-use crate::applying::{apply_changes, retag};
 use crate::exporting::base_of;
-use crate::filing::{files_near, files_of, has_file, is_live, paths_of};
 use crate::fitting::fit;
 use crate::live_messages::LiveMessages;
 use crate::messages::messages_of;
 use crate::numbers::has_ids;
 use crate::opening::parts_of;
-use crate::parts::Parts;
-use crate::reading::{Files, MessageFiles, Paths, Tagged};
+use crate::retagging::retag;
 use crate::room::{RoomError, counts_after, counts_of, limit_passed};
-use crate::sides::{apply_by_sides, take_none_out};
 use nm_base::{Copies, Limit, MailPath, Many, MessageId, NoMemory, Tags};
 use nm_commit::Commit;
 use nm_index::Base;
+use nm_parts::{Parts, apply_by_sides, apply_changes, take_none_out};
+use nm_tables::{
+    Files, MessageFiles, Paths, Tagged, files_near, files_of, has_file, is_live, paths_of,
+};
 use std::alloc::Global;
 use std::marker::Model;
 use std::thread::Threads;
@@ -49,7 +49,7 @@ pub struct Snapshot {
 
 impl Model for Snapshot {
     ghost use Rattle.nm_index.specs.declared.base.Base.{Base};
-    ghost use Rattle.nm_state.specs.Parts.{AreParts, base_of};
+    ghost use Rattle.nm_parts.specs.Parts.{AreParts, base_of};
 
     ghost Value = { Base };
 

@@ -1,4 +1,4 @@
-//! The labels of a mail store's ids: each id's number and the name of its thread. Snapshots of `nm_state` hold them.
+//! The labels of a mail store's ids: each id's number and the name of its thread. A table of `nm_tables` holds them.
 
 ghost use Rattle.std.specs.Prelude.{◌≡◌, ◌≤◌, ◌+◌, ◌^◌, ◌∷◌, ◌++◌, [], ℕ, List, false, length, map, not, IfOk, OnOk, OnErr, MatchOption, Contains};
 ghost use Rattle.std.specs.List.{IsDistinct, filter, flat_map};

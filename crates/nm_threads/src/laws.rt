@@ -1,4 +1,4 @@
-//! What follows from the definitions. These functions run no code: their clauses are the laws, which `nm_state` calls.
+//! What follows from the definitions. These functions run no code: their clauses are the laws, which `nm_parts` calls.
 
 ghost use Rattle.std.specs.Prelude.{◌≡◌, ◌+◌, ◌*◌, ◌≤◌, ◌↔◌, ◌⊎◌, ◌∷◌, ℕ, List, length, Some, IsTrue, IsSome, Contains};
 ghost use Rattle.nm_base.specs.declared.facts.LinkRow.{LinkRow};

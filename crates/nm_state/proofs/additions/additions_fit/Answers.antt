@@ -6,9 +6,9 @@ use Rattle.nm_base.specs.declared.facts.Facts.{Facts}
 use Rattle.nm_commit.specs.Files.{changed}
 use Rattle.nm_commit.specs.declared.change.Change.{Change}
 use Rattle.nm_state.specs.Additions.{AreWith, IsTried}
-use Rattle.nm_state.specs.Filing.{files_in}
+use Rattle.nm_tables.specs.Filing.{files_in}
 use Rattle.nm_state.specs.declared.additions.Added.{Added}
-use Rattle.nm_state.proofs.ChangeLemmas.{fit_at, fit_more}
+use Rattle.nm_parts.specs.ChangeLaws.{fit_at, fit_more}
 use Rattle.nm_state.proofs.additions.additions_fit.Goals as goal
 
 -- what was told of a change

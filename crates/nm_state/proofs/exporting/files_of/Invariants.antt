@@ -1,5 +1,5 @@
 use Rattle.std.proofs.Common.{◌≡◌, ◌++◌, length}
-use Rattle.nm_state.specs.Filing.{files_in}
+use Rattle.nm_tables.specs.Filing.{files_in}
 use Rattle.nm_state.proofs.exporting.files_of.Given as goal
 
 -- what is copied, and what is left, is all

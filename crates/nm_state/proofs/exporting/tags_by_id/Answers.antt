@@ -1,8 +1,8 @@
 use Rattle.std.proofs.Common.{◌≡◌, ℕ, List, ap, false, subst}
 use Rattle.nm_base.specs.declared.facts.Facts.{Facts}
 use Rattle.nm_commit.specs.Files.{has_id}
-use Rattle.nm_state.specs.Filing.{at_text}
-use Rattle.nm_state.proofs.SortedLemmas.{same_pairs}
+use Rattle.nm_tables.specs.Filing.{at_text}
+use Rattle.nm_tables.specs.SortedLaws.{same_pairs}
 use Rattle.nm_state.proofs.TagLemmas.{taken_more}
 use Rattle.nm_state.proofs.exporting.tags_by_id.Goals as goal
 

@@ -1,6 +1,6 @@
 use Rattle.std.proofs.Common.{◌≡◌, ℕ, List, false, length}
 use Rattle.nm_commit.specs.Files.{has_id}
-use Rattle.nm_state.specs.Filing.{at_text}
+use Rattle.nm_tables.specs.Filing.{at_text}
 use Rattle.nm_state.proofs.exporting.tags_by_id.Given as goal
 
 -- of what no file that is left is of, the map has what the tags have

@@ -1,7 +1,7 @@
 use Rattle.std.proofs.Common.{subst, IsTrue, arith, rules}
 use Rattle.std.proofs.lemmas.List.Sums.{fold_more}
-use Rattle.nm_state.specs.Filing.{files_in}
-use Rattle.nm_state.proofs.ChangeLemmas.{fit_more, fit_at}
+use Rattle.nm_tables.specs.Filing.{files_in}
+use Rattle.nm_parts.specs.ChangeLaws.{fit_more, fit_at}
 use Rattle.nm_state.proofs.fitting.changes_fit.Goals as goal
 
 pub returns-then-not-change_fits : goal.returns-then-not-change_fits

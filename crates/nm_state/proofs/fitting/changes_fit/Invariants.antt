@@ -1,7 +1,7 @@
 use Rattle.std.proofs.Common.{◌≡◌, take}
 use Rattle.std.specs.List.{fold}
 use Rattle.nm_commit.specs.Files.{FitChanges, changed}
-use Rattle.nm_state.specs.Filing.{AreFiled, files_in}
+use Rattle.nm_tables.specs.Filing.{AreFiled, files_in}
 use Rattle.nm_state.proofs.fitting.changes_fit.Given as goal
 
 abbrev pub invariant-changes : goal.invariant-changes

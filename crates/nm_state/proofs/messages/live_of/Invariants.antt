@@ -1,6 +1,6 @@
 use Rattle.std.proofs.Common.{◌≡◌, filter}
 use Rattle.nm_commit.specs.Files.{has_id}
-use Rattle.nm_state.specs.Filing.{files_in}
+use Rattle.nm_tables.specs.Filing.{files_in}
 use Rattle.nm_state.proofs.messages.live_of.Given as goal
 
 abbrev pub invariant-ids : goal.invariant-ids

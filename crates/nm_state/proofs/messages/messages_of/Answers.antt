@@ -1,7 +1,7 @@
 use Rattle.std.proofs.Common.{refl, ap, ◌∙◌, filter}
 use Rattle.nm_commit.specs.Files.{has_id}
-use Rattle.nm_state.specs.Filing.{files_in}
-use Rattle.nm_state.specs.Parts.{base_of}
+use Rattle.nm_tables.specs.Filing.{files_in}
+use Rattle.nm_parts.specs.Parts.{base_of}
 use Rattle.nm_state.proofs.ThreadLemmas.{live_members}
 use Rattle.nm_state.proofs.messages.messages_of.Goals as goal
 

@@ -1,4 +1,4 @@
-use Rattle.nm_state.specs.Filing.{files_in}
+use Rattle.nm_tables.specs.Filing.{files_in}
 use Rattle.nm_state.proofs.OpeningLemmas.{next_is_free}
 use Rattle.nm_state.proofs.opening.file_all.Goals as goal
 

@@ -1,5 +1,5 @@
 use Rattle.std.proofs.Common.{◌≡◌, take}
-use Rattle.nm_state.specs.Filing.{AreFiled, files_in}
+use Rattle.nm_tables.specs.Filing.{AreFiled, files_in}
 use Rattle.nm_state.proofs.opening.file_all.Given as goal
 
 abbrev pub invariant-files : goal.invariant-files

@@ -1,6 +1,6 @@
 use Rattle.std.proofs.Common.{◌≡◌, take}
 use Rattle.std.specs.Map.{values_of}
-use Rattle.nm_state.specs.Kept.{AreKept}
+use Rattle.nm_tables.specs.Kept.{AreKept}
 use Rattle.nm_state.proofs.opening.keep_all.Given as goal
 
 abbrev pub invariant-rows : goal.invariant-rows

@@ -3,9 +3,9 @@ use Rattle.std.specs.Prelude.{fold}
 use Rattle.nm_index.specs.Index.{applied, committed}
 use Rattle.nm_index.specs.declared.base.Base.{Base}
 use Rattle.nm_state.specs.Counts.{AreCounts}
-use Rattle.nm_state.specs.Parts.{base_of}
+use Rattle.nm_parts.specs.Parts.{base_of}
 use Rattle.nm_state.specs.Renumbered.{renumbered}
-use Rattle.nm_state.proofs.ChangeLemmas.{rises}
+use Rattle.nm_parts.specs.ChangeLaws.{rises}
 use Rattle.nm_state.proofs.RenumberLemmas.{counts_alike}
 use Rattle.nm_state.proofs.room.counts_anew.Goals as goal
 

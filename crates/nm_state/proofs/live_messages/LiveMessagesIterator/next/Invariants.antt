@@ -1,5 +1,5 @@
 use Rattle.std.proofs.Common.{◌≡◌, length}
-use Rattle.nm_state.specs.Filing.{AreFiled, files_in}
+use Rattle.nm_tables.specs.Filing.{AreFiled, files_in}
 use Rattle.nm_state.specs.Messages.{live_messages}
 use Rattle.nm_state.proofs.live_messages.LiveMessagesIterator.next.Given as goal
 

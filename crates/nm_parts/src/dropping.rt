@@ -1,0 +1,88 @@
+//! A mail that goes, for `applying`: its row is kept, and then what no live message holds goes. Only the thread of
+//! the mail can have lost its last live message, so nothing else is looked at.
+
+ghost use Rattle.std.specs.Prelude.{◌≡◌, ◌≢◌, ◌∷◌, [], ℕ, List, true, IfOk, OnOk};
+ghost use Rattle.std.specs.List.{list_any};
+ghost use Rattle.nm_commit.specs.Files.{has_id, has_path};
+ghost use Rattle.nm_base.specs.declared.facts.Facts.{Facts};
+ghost use Rattle.nm_index.specs.Index.{files_at, pruned, without_first};
+ghost use Rattle.nm_tables.specs.Filing.{AreFiled, files_in};
+ghost use Rattle.nm_parts.specs.Parts.{AreLoose, AreParts, AreTagged, base_of, tags_after, without_file};
+
+use crate::labelling::{row_of, thread_laws};
+use crate::parts::Parts;
+use nm_base::{Facts, MailPath, MessageId, NoMemory};
+use nm_shared::Shared;
+use nm_tables::{Filing, MessageTags, forget_rows, is_live, keep_row, remove_file};
+use std::alloc::Global;
+
+/// Says whether one of the messages has a file.
+fn any_live(filing: &Filing, ids: &[MessageId]) -> bool
+    requires { AreFiled filing.now }
+    ensures { result ≡ list_any (has_id (files_in filing.now)) ids.now }
+{
+    'ids: for id in ids {
+        if is_live(filing, id) {
+            return true;
+        }
+    }
+    false
+}
+
+/// Lets go the tags of a message that has no file.
+fn untag(filing: &Filing, tags: &mut MessageTags, message: &MessageId) -> Result<(), NoMemory>
+    requires { AreFiled filing.now }
+    ensures tags { OnOk result (tags.new ≡ tags_after (files_in filing.now) tags.old message.now) }
+    ensures tagged { OnOk result ((files : List (List ℕ × Facts)) → AreTagged files tags.old → has_id files message.now ≡ true
+        → ((other : List ℕ) → other ≢ message.now → has_id (files_in filing.now) other ≡ has_id files other) → AreTagged (files_in filing.now) tags.new) }
+{
+    if is_live(filing, message) {
+        return Ok(());
+    }
+    tags.remove(message)?;
+    Ok(())
+}
+
+/// Takes the file out, and keeps its row; the tags go with the last file of a message.
+fn take_out(alloc: Global, parts: &mut Parts, path: &MailPath) -> Result<Shared<Facts>, NoMemory>
+    requires parts { AreParts parts.old }
+    requires there { has_path (base_of parts.old).files path.now ≡ true }
+    ensures parts { IfOk result (λ facts. AreLoose parts.new facts.id) }
+    ensures facts { IfOk result (λ facts. files_at (base_of parts.old) path.now ≡ (path.now, facts) ∷ []) }
+    ensures base { IfOk result (λ facts. base_of parts.new ≡ without_file (base_of parts.old) path.now facts) }
+{
+    thread_laws();
+    let facts = remove_file(alloc, &mut parts.filing, path)?;
+    let row = row_of(facts.get())?;
+    keep_row(alloc, &mut parts.kept, row)?;
+    untag(&parts.filing, &mut parts.tags, &facts.get().id)?;
+    Ok(facts)
+}
+
+/// Lets go what is of the thread of the id, if no message of the thread is live.
+fn prune(alloc: Global, parts: &mut Parts, id: &MessageId) -> Result<(), NoMemory>
+    requires { AreLoose parts.old id.now }
+    ensures parts { OnOk result (AreParts parts.new) }
+    ensures base { OnOk result (base_of parts.new ≡ pruned (base_of parts.old)) }
+{
+    thread_laws();
+    let members = parts.labels.thread_of(id)?;
+    if any_live(&parts.filing, members.as_slice()) {
+        return Ok(());
+    }
+    parts.labels.drop_thread(id, members.as_slice())?;
+    forget_rows(alloc, &mut parts.kept, members.as_slice())?;
+    Ok(())
+}
+
+/// A mail is gone.
+pub fn drop_mail(alloc: Global, parts: &mut Parts, path: &MailPath) -> Result<(), NoMemory>
+    requires parts { AreParts parts.old }
+    requires there { has_path (base_of parts.old).files path.now ≡ true }
+    ensures parts { OnOk result (AreParts parts.new) }
+    ensures base { OnOk result (base_of parts.new ≡ without_first (base_of parts.old) path.now (files_at (base_of parts.old) path.now)) }
+{
+    let facts = take_out(alloc, parts, path)?;
+    prune(alloc, parts, &facts.get().id)?;
+    Ok(())
+}

@@ -1,4 +1,0 @@
-use Rattle.nm_state.proofs.measured_labels.MeasuredLabels.thread_of.Given as goal
-
-abbrev pub ghosts-thread_uncounted : goal.ghosts-thread_uncounted
-ghosts-thread_uncounted a = record { name = a.blank.name; parts = a.blank.parts }

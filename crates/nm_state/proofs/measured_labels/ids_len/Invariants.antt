@@ -1,6 +1,0 @@
-use Rattle.std.proofs.Common.{◌≡◌, take}
-use Rattle.nm_state.specs.Measures.{ids_len}
-use Rattle.nm_state.proofs.measured_labels.ids_len.Given as goal
-
-abbrev pub invariant-ids : goal.invariant-ids
-invariant-ids l = l.bytes ≡ ids_len (take l.id-index l.ids)

@@ -1,7 +1,0 @@
-use Rattle.std.proofs.Common.{◌∙◌, ap, sym}
-use Rattle.nm_state.specs.Filing.{at_text}
-use Rattle.nm_state.proofs.SortedLemmas.{found_sorted}
-use Rattle.nm_state.proofs.message_tags.MessageTags.get.Goals as goal
-
-pub returns : goal.returns
-returns c = c.get.ensures ∙ sym (found_sorted c.self.inside.map c.args.id.now) ∙ ap (at_text c.args.id.now) c.self.view_is

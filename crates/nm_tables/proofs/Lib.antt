@@ -1,0 +1,7 @@
+pub mod FilingLemmas
+pub mod KeptLemmas
+pub mod MailRowLemmas
+pub mod MeasureLemmas
+pub mod OrderLemmas
+pub mod ReadingLemmas
+pub mod SortedLemmas

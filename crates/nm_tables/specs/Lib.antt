@@ -1,0 +1,9 @@
+pub mod Filing
+pub mod FilterLaws
+pub mod FoundLaws
+pub mod Kept
+pub mod KeyLaws
+pub mod MeasureLaws
+pub mod Measures
+pub mod Sorted
+pub mod SortedLaws
