@@ -32,7 +32,7 @@ use Rattle.nm_query.specs.declared.query.Query.{Query}
 use Rattle.nm_query.specs.declared.query_error.QueryError.{QueryError}
 use Rattle.nm_query.specs.declared.query_error.QueryError.TheVariants as query_errors
 use Rattle.nm_tags.specs.declared.line_error.LineKind.{LineKind}
-use Rattle.nm_writer.specs.StoredIndex.{HoldsIndex, HoldsNoIndex, HoldsWithin, PassesLimit}
+use Rattle.nm_replay.specs.StoredIndex.{HoldsIndex, HoldsNoIndex, HoldsWithin, PassesLimit}
 use Rattle.nm_history.specs.Call.{Call, Ending, PlacedLine, Ran, Refused, Unasked, call_fault, call_lines, call_phases, call_reads, command_reads, fault_of_input, input_fault, input_fault_by, is_session, lines_of_first, placed_from, reads_by}
 use Rattle.nm_history.specs.Complete.{EndsWell, IsComplete, IsFinished, IsWithin, MayRead, NoFault, Opens}
 use Rattle.nm_history.specs.Given.{GivenAlong, IsGiven}

@@ -12,7 +12,7 @@ use Rattle.nm_disk.specs.declared.state.Range.{Range}
 use Rattle.nm_index.specs.declared.base.Base.{Base}
 use Rattle.nm_journal.specs.Moments.{GoesThrough, LeavesOnly}
 use Rattle.nm_writer.specs.Durable.{EachKeeps, HoldsPrefix, KeepsAcknowledged, KeptSince, acked_by}
-use Rattle.nm_writer.specs.StoredIndex.{HoldsIndex}
+use Rattle.nm_replay.specs.StoredIndex.{HoldsIndex}
 use Rattle.nm_history.specs.CrashPrefix.{HasSettled, KeepsCommits}
 
 -- where no write is pending, a stop leaves what was synced

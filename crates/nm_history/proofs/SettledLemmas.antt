@@ -13,7 +13,7 @@ use Rattle.nm_disk.specs.declared.state.Range.{Range}
 use Rattle.nm_index.specs.declared.base.Base.{Base}
 use Rattle.nm_journal.specs.Moments.{GoesThrough, IsSynced, SyncsOrFails, all_moments}
 use Rattle.nm_writer.specs.Durable.{HoldsPrefix, KeptSince, acked_by}
-use Rattle.nm_writer.specs.StoredIndex.{HoldsIndex}
+use Rattle.nm_replay.specs.StoredIndex.{HoldsIndex}
 use Rattle.nm_history.specs.CrashPrefix.{HasSettled, KeepsCommits}
 use Rattle.nm_history.proofs.CrashLemmas.{durable-keeps, each-at, left-quiet, opening-keeps}
 

@@ -30,7 +30,7 @@ use Rattle.nm_query.specs.declared.query.Query.{Query}
 use Rattle.nm_query.specs.declared.query_error.QueryError.{QueryError}
 use Rattle.nm_query.specs.declared.query_error.QueryError.TheVariants as errors
 use Rattle.nm_tags.specs.declared.line_error.LineKind.{LineKind}
-use Rattle.nm_writer.specs.Renamed.{TreesAlong}
+use Rattle.nm_sync.specs.Renamed.{TreesAlong}
 use Rattle.nm_history.specs.Call.{Devices, Unasked, call_lines, call_of, command_reads, devices, fault_by, fault_of_command, fault_of_input, input_fault_by, is_session, phases_by, placed_from, reads_by}
 use Rattle.nm_history.specs.CrashPrefix.{KeepsCommits}
 use Rattle.nm_history.specs.Given.{AsksMail, AsksNothing, AsksShow, GivenAlong}

@@ -14,7 +14,7 @@ use Rattle.nm_journal.specs.Moments.{all_moments}
 use Rattle.nm_machine.specs.declared.step.Step.{Step}
 use Rattle.nm_machine.specs.declared.step.Step.TheVariants.{Begin, Append, Show, See, Meet, Reply, Crash, Reopen}
 use Rattle.nm_writer.specs.Durable.{HoldsPrefix, NeverFall, acked_by}
-use Rattle.nm_writer.specs.StoredIndex.{HoldsIndex}
+use Rattle.nm_replay.specs.StoredIndex.{HoldsIndex}
 use Rattle.nm_history.specs.Lines.{begun}
 
 -- a commit is acknowledged

@@ -16,7 +16,7 @@ use Rattle.nm_scan.specs.Bodies.{HasReadBodies, StopsInBodies}
 use Rattle.nm_scan.specs.Scanning.{AsksNew}
 use Rattle.nm_scan.specs.declared.bodies_error.BodiesError.{BodiesError}
 use Rattle.nm_scan.specs.declared.bodies_error.BodiesError.TheVariants as stops
-use Rattle.nm_writer.specs.Renamed.{AsksRenames}
+use Rattle.nm_sync.specs.Renamed.{AsksRenames}
 use Rattle.nm_history.specs.Call.{Devices, Ending, Ran, Refused, Unasked}
 use Rattle.nm_history.specs.Lines.{Before, IsIndexAt, RunLine, after_line, after_lines, tree_after}
 use Rattle.nm_history.specs.Requests.{paths_to_show, refused_unasked}

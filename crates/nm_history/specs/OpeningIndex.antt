@@ -7,7 +7,7 @@ use Rattle.nm_disk.specs.declared.disk.FileNo.TheVariants.{Head}
 use Rattle.nm_index.specs.Index.{empty_index}
 use Rattle.nm_index.specs.declared.base.Base.{Base}
 use Rattle.nm_journal.specs.Moments.{SyncsOrFails}
-use Rattle.nm_writer.specs.StoredIndex.{HoldsWithin}
+use Rattle.nm_replay.specs.StoredIndex.{HoldsWithin}
 use Rattle.nm_history.specs.Call.{Ending, Ran, Refused, Unasked}
 
 -- Nothing was written: what the disk tells is as it was, or it was synced, or a sync failed.

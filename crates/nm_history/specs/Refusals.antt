@@ -14,7 +14,7 @@ use Rattle.nm_log.specs.declared.outcome.Outcome.{Outcome}
 use Rattle.nm_log.specs.declared.outcome.Outcome.TheVariants as outcomes
 use Rattle.nm_log.specs.declared.refusal.Refusal.{Refusal}
 use Rattle.nm_log.specs.declared.refusal.Refusal.TheVariants as refusals
-use Rattle.nm_writer.specs.StoredIndex.{HoldsNoIndex, PassesLimit}
+use Rattle.nm_replay.specs.StoredIndex.{HoldsNoIndex, PassesLimit}
 use Rattle.nm_history.specs.Call.{Call, call_fault, call_reads, input_fault, is_session}
 
 -- the input was read to its end, and these are its bytes

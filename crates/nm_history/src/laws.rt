@@ -21,7 +21,7 @@ ghost use Rattle.nm_disk.specs.Observed.{Moments, ObservedDisk, bytes_now};
 ghost use Rattle.nm_disk.specs.declared.disk.FileNo.TheVariants as heads;
 ghost use Rattle.nm_journal.specs.Moments.{GoesThrough, IsSynced, SyncsOrFails};
 ghost use Rattle.nm_writer.specs.Durable.{KeptSince};
-ghost use Rattle.nm_writer.specs.StoredIndex.{HoldsIndex};
+ghost use Rattle.nm_replay.specs.StoredIndex.{HoldsIndex};
 ghost use Rattle.nm_history.specs.Call.{Call, call_of, call_reads, devices, input_fault, is_session};
 ghost use Rattle.nm_history.specs.Complete.{IsComplete};
 ghost use Rattle.nm_history.specs.CrashPrefix.{KeepsCommits};
@@ -34,7 +34,7 @@ ghost use Rattle.nm_history.specs.Requests.{asks_to_tag, asks_to_write, refused_
 ghost use Rattle.nm_history.specs.Status.{first_fault, session_status};
 ghost use Rattle.nm_history.specs.UnaskedLine.{refused_done};
 
-use nm_writer::{
+use nm_replay::{
     an_index_is_held_once, what_holds_an_index_is_not_bad, what_keeps_the_limits_passes_none,
 };
 

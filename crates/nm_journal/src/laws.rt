@@ -1,4 +1,4 @@
-//! Laws of the format of records, which `nm_writer` calls.
+//! Laws of the format of records, which `nm_replay` calls.
 
 ghost use Rattle.std.specs.Prelude.{◌≡◌, ℕ, List};
 ghost use Rattle.nm_journal.specs.Records.{HasRecords, IsBroken};

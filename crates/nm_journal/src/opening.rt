@@ -1,4 +1,4 @@
-//! Opening a journal, for `nm_writer`: its records are read from the disk, up to the first closed gate.
+//! Opening a journal, for `nm_replay`: its records are read from the disk, up to the first closed gate.
 
 ghost use Rattle.std.specs.Prelude.{◌≡◌, ℕ, ◌+◌, ◌<◌, ◌≤◌, ◌^◌, List, ◌∷◌, length, take, drop, false, IfErr, IfOk, IfSome};
 ghost use Rattle.std.specs.Int.{to_be_bytes, w32};

@@ -1,4 +1,4 @@
-//! The walk through a tree of Maildirs, with which `new` of `nm_writer` begins. A listing is let go once its names
+//! The walk through a tree of Maildirs, with which `new` begins, for `nm_sync`. A listing is let go once its names
 //! are taken; of a folder that is walked through the names of files go before its mail is listed.
 
 ghost use Rattle.std.specs.Prelude.{IsTrue, ◌≡◌, ◌-◌, ◌<◌, ◌≤◌, ◌++◌, ◌∷◌, [], false, IfErr, IfOk, IfSome, OnErr, OnOk, filter, map, Ok, Err, reverse};

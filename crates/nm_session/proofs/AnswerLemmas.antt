@@ -38,7 +38,7 @@ use Rattle.nm_session.specs.Marks.{said_of}
 use Rattle.nm_session.specs.declared.answering.LineAnswer.{LineAnswer}
 use Rattle.nm_session.specs.declared.marks.Said.{Said}
 use Rattle.nm_tags.specs.declared.line_error.LineKind.{LineKind}
-use Rattle.nm_writer.specs.Renamed.{TreesAlong}
+use Rattle.nm_sync.specs.Renamed.{TreesAlong}
 use Rattle.nm_writer.specs.Writer.{WriterState}
 
 -- where nothing was asked

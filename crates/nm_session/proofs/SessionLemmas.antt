@@ -18,10 +18,10 @@ use Rattle.nm_journal.specs.Moments.{GoesThrough, IsSynced, SyncsOrFails}
 use Rattle.nm_machine.specs.declared.step.Step.{Step}
 use Rattle.nm_session.specs.Session.{HasOpenCause}
 use Rattle.nm_writer.specs.Durable.{KeptSince, NeverFall}
-use Rattle.nm_writer.specs.Opening.{HasOpenFault, IsOfHead, is_disk_fault}
-use Rattle.nm_writer.specs.StoredIndex.{HoldsIndex, HoldsNoIndex, HoldsWithin, PassesLimit}
-use Rattle.nm_writer.specs.declared.open_error.OpenError.{OpenError}
-use Rattle.nm_writer.specs.declared.open_error.OpenError.TheVariants as errors
+use Rattle.nm_replay.specs.Opening.{HasOpenFault, IsOfHead, is_disk_fault}
+use Rattle.nm_replay.specs.StoredIndex.{HoldsIndex, HoldsNoIndex, HoldsWithin, PassesLimit}
+use Rattle.nm_replay.specs.declared.open_error.OpenError.{OpenError}
+use Rattle.nm_replay.specs.declared.open_error.OpenError.TheVariants as errors
 
 -- a disk that was not asked was not written
 unwritten-told : (told : Option Moments) → GoesOn SyncsOrFails told told

@@ -42,7 +42,7 @@ use Rattle.nm_session.specs.Outcomes.{outcome_of}
 use Rattle.nm_session.specs.declared.answering.LineAnswer.{LineAnswer}
 use Rattle.nm_session.proofs.AnswerLemmas.{replied-said}
 use Rattle.nm_session.proofs.ChangeLemmas.{alive-asks, alive-by, answered-with, closed-by, fit-front, folded-append, gets-closed, made-failing, made-none, made-some, passed-by, stays-open, write-no-memory}
-use Rattle.nm_writer.specs.Renamed.{AnswersAlong, AsksRenames, TreesAlong}
+use Rattle.nm_sync.specs.Renamed.{AnswersAlong, AsksRenames, TreesAlong}
 use Rattle.nm_writer.specs.Tagged.{IsAfterTags}
 use Rattle.nm_writer.specs.Writer.{WriterState}
 use Rattle.nm_writer.specs.Writing.{AreWithin, FailsWithin, HasCommitted, IsAfterCommits, PassesWithin, StopsWithin, is_read_fault, with_commits}

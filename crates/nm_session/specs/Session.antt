@@ -16,9 +16,9 @@ use Rattle.nm_session.specs.Rooms.{HasRooms}
 use Rattle.nm_session.specs.Run.{HasRun}
 use Rattle.nm_session.specs.Turns.{places_in}
 use Rattle.nm_session.specs.declared.planning.Plan.{Plan}
-use Rattle.nm_writer.specs.StoredIndex.{HoldsNoIndex, PassesLimit}
-use Rattle.nm_writer.specs.declared.open_error.OpenError.{OpenError}
-use Rattle.nm_writer.specs.declared.open_error.OpenError.TheVariants as errors
+use Rattle.nm_replay.specs.StoredIndex.{HoldsNoIndex, PassesLimit}
+use Rattle.nm_replay.specs.declared.open_error.OpenError.{OpenError}
+use Rattle.nm_replay.specs.declared.open_error.OpenError.TheVariants as errors
 
 -- The phases were run from the index that the disk held, all of them unless the output failed, and every moment since leaves the commits that were
 -- acknowledged.

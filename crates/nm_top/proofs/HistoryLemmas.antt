@@ -45,8 +45,8 @@ use Rattle.nm_session.specs.Run.{HasRun}
 use Rattle.nm_session.specs.Session.{HasOpenCause, IsSession, IsUnopened}
 use Rattle.nm_top.specs.Ending.{Refuses, RefusesAlone, ended_with, refusal_of, take_refusal}
 use Rattle.nm_top.specs.RefusalLaws.{RefusalLaws}
-use Rattle.nm_writer.specs.declared.open_error.OpenError.{OpenError}
-use Rattle.nm_writer.specs.declared.open_error.OpenError.TheVariants as errors
+use Rattle.nm_replay.specs.declared.open_error.OpenError.{OpenError}
+use Rattle.nm_replay.specs.declared.open_error.OpenError.TheVariants as errors
 
 abbrev no_logs : List LineLog
 no_logs = []

@@ -13,8 +13,8 @@ use Rattle.nm_log.specs.declared.log.LineLog.{LineLog}
 use Rattle.nm_log.specs.declared.outcome.Outcome.{Outcome}
 use Rattle.nm_log.specs.declared.refusal.Refusal.{Refusal}
 use Rattle.nm_log.specs.declared.refusal.Refusal.TheVariants as refusals
-use Rattle.nm_writer.specs.declared.open_error.OpenError.{OpenError}
-use Rattle.nm_writer.specs.declared.open_error.OpenError.TheVariants as errors
+use Rattle.nm_replay.specs.declared.open_error.OpenError.{OpenError}
+use Rattle.nm_replay.specs.declared.open_error.OpenError.TheVariants as errors
 
 -- these lines are the log, and no step was taken
 abbrev pub ended_on : ℕ → List LineLog → Done

@@ -20,13 +20,12 @@ use Rattle.nm_journal.specs.Moments.{GoesThrough, LeavesOnly, NeverFalls, all_mo
 use Rattle.nm_journal.specs.Records.{HasRecords}
 use Rattle.nm_publish.specs.Published.{Published, with_commit}
 use Rattle.nm_writer.specs.Durable.{EachKeeps, HoldsPrefix, IsDurable, KeptSince, NeverFall, acked_by}
-use Rattle.nm_writer.specs.StoredIndex.{HoldsIndex}
+use Rattle.nm_replay.specs.StoredIndex.{HoldsIndex}
 use Rattle.nm_writer.specs.Writer.{StandsOnIndex, WriterState}
 use Rattle.nm_writer.specs.Writing.{HoldsEither, IsAfterCommit, is_write_fault}
 use Rattle.nm_writer.specs.declared.write_error.WriteError.{WriteError}
 use Rattle.nm_writer.specs.declared.write_error.WriteError.TheVariants as errors
-use Rattle.nm_writer.proofs.CommitLemmas.{holds}
-use Rattle.nm_writer.proofs.ReplayLemmas.{folded-more}
+use Rattle.nm_writer.proofs.CommitLemmas.{folded-more, holds}
 
 -- clocks that are counted are some of the clocks
 counted_by : (own : ℕ) (rest : List ℕ) (b : Bool) (kept : List ℕ) → length kept ≤ length rest → length (cond b (own ∷ kept) kept) ≤ length (own ∷ rest)

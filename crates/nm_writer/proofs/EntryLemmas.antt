@@ -15,14 +15,12 @@ use Rattle.nm_index.specs.Index.{folded}
 use Rattle.nm_index.specs.declared.base.Base.{Base}
 use Rattle.nm_journal.specs.Journal.{StandsOn}
 use Rattle.nm_journal.specs.Moments.{GoesThrough, LeavesOnly}
-use Rattle.nm_journal.specs.Records.{HasRecords}
 use Rattle.nm_writer.specs.Durable.{EachKeeps, HoldsPrefix, IsDurable, KeptSince, NeverFall}
-use Rattle.nm_writer.specs.StoredIndex.{HoldsIndex, HoldsWithin}
-use Rattle.nm_writer.specs.declared.open_error.OpenError.{OpenError}
+use Rattle.nm_replay.specs.StoredIndex.{HasCommits, HoldsIndex, HoldsWithin}
+use Rattle.nm_replay.specs.declared.open_error.OpenError.{OpenError}
 use Rattle.nm_writer.specs.declared.opening.Opened.{Opened}
 use Rattle.nm_writer.specs.Writer.{StandsOnIndex, WriterState}
 use Rattle.nm_writer.proofs.DurableLemmas.{stands-holds}
-use Rattle.nm_writer.proofs.ReplayLemmas.{Replayed}
 
 -- before any commit the index is that of no commit
 prefix-none : (index : Base) (clock : ℕ) (bytes : List ℕ) → HoldsIndex bytes index → HoldsPrefix index [] clock 0 bytes
@@ -116,26 +114,10 @@ durable-entry old new (Ok opened) image fresh published clock index through none
     durable-none old new w fresh.0 fresh.1 published clock (kept-entry old.told new.told w.shown none image index through)
 durable-entry old new (Err error) image fresh published clock index through none = tt
 
--- the index that the records which were read leave
-pub opened-index : (old new : Option Moments) (bodies : List (List ℕ)) (shown : Base) → GoesOn (λ o n. HasRecords 0 bodies (bytes_now o Head)) old new → Replayed bodies shown → GoesOn (λ o n. HoldsWithin (bytes_now o Head) shown) old new
-opened-index None None bodies shown records h = tt
-opened-index None (Some n) bodies shown records h = absurd records
-opened-index (Some o) None bodies shown records h = absurd records
-opened-index (Some o) (Some n) bodies shown records h = record {
-  held = record {
-    commits = h.0;
-    records = subst (λ (l : List (List ℕ)). HasRecords 0 l (bytes_now o Head)) h.1.bodies_are records;
-    values = h.1.values;
-    fit = h.1.fit;
-    index_is = h.1.index_is;
-  };
-  within = h.2;
-}
-
--- a writer whose index they leave stands on the disk
-pub opened-stands : (old new : Option Moments) (bodies : List (List ℕ)) (writer : WriterState) → GoesOn (λ o n. StandsOn n.present writer.journal bodies) old new → writer.journal.file ≡ Head → writer.journal.start ≡ 0 → Replayed bodies writer.shown
-    → GoesOn (λ o n. StandsOnIndex n.present writer) old new
-opened-stands None None bodies writer stands file start h = tt
-opened-stands None (Some n) bodies writer stands file start h = absurd stands
-opened-stands (Some o) None bodies writer stands file start h = absurd stands
-opened-stands (Some o) (Some n) bodies writer stands file start h = record { bodies = bodies; commits = h.0; file = file; start = start; journal = stands; holds = h.1 }
+-- a writer whose index the records leave stands on the disk
+pub opened-stands : (old new : Option Moments) (writer : WriterState) → writer.journal.file ≡ Head → writer.journal.start ≡ 0
+    → GoesOn (λ o n. (bodies : List (List ℕ)) × (commits : List Commit) × StandsOn n.present writer.journal bodies × HasCommits bodies commits writer.shown) old new → GoesOn (λ o n. StandsOnIndex n.present writer) old new
+opened-stands None None writer file start h = tt
+opened-stands None (Some n) writer file start h = absurd h
+opened-stands (Some o) None writer file start h = absurd h
+opened-stands (Some o) (Some n) writer file start h = record { bodies = h.0; commits = h.1; file = file; start = start; journal = h.2; holds = h.3 }

@@ -4,16 +4,7 @@ pub mod CommitLemmas
 pub mod DoneLemmas
 pub mod DurableLemmas
 pub mod EntryLemmas
-pub mod LawLemmas
 pub mod MailLemmas
-pub mod MergeLemmas
 pub mod NamingLemmas
 pub mod NewLemmas
-pub mod RenamingLemmas
-pub mod ReplayLemmas
-pub mod ReportLemmas
-pub mod SameLemmas
-pub mod ScanLemmas
-pub mod SpellingLemmas
 pub mod TaggingLemmas
-pub mod WantingLemmas

@@ -1,18 +1,17 @@
--- The tags that follow the changes of a commit, and the paths of a message. For the proofs of `message_paths`,
--- `with_names` and `follow`.
-use Rattle.std.proofs.Common.{◌≡◌, Bool, true, false, ◌||◌, cond, ℕ, ◌+◌, List, [], ◌∷◌, ◌++◌, filter, map, refl, sym, subst, ap, ◌∙◌}
+-- The tags that follow the changes of a commit. For the proofs of `with_names` and `follow`.
+use Rattle.std.proofs.Common.{◌≡◌, Bool, true, false, cond, ℕ, ◌+◌, List, [], ◌∷◌, ◌++◌, filter, map, refl, sym, subst, ap, ◌∙◌}
 use Rattle.std.specs.Prelude.{IsTrue, fold}
 use Rattle.std.specs.Cmp.Lexicographic.{pointwise}
 use Rattle.std.specs.List.{AllByRecursion, flat_map}
 use Rattle.std.proofs.lemmas.List.Sums.{fold-append}
 use Rattle.nm_base.specs.Order.{has_text, same_text}
 use Rattle.nm_base.specs.declared.facts.Facts.{Facts}
-use Rattle.nm_commit.specs.Files.{has_id, paths_of}
+use Rattle.nm_commit.specs.Files.{has_id}
 use Rattle.nm_commit.specs.declared.change.Change.{Change}
 use Rattle.nm_commit.specs.declared.change.Change.TheVariants.{SetTags}
 use Rattle.nm_index.specs.Index.{applied, committed, with_revision, with_tags}
 use Rattle.nm_index.specs.declared.base.Base.{Base}
-use Rattle.nm_answer.specs.View.{message_paths, tags_of}
+use Rattle.nm_answer.specs.View.{tags_of}
 use Rattle.nm_plan.specs.NameTags.{follow_names, live_of, named_tags, set_tags, with_names}
 use Rattle.nm_state.specs.Snapshot.{retagged}
 use Rattle.nm_writer.specs.Naming.{set_of}
@@ -98,12 +97,3 @@ pub sets-live : (after : Base) (ids : List (List ℕ)) (sets : Sets) → map set
 sets-live after ids sets is =
     live_sets after.files sets (subst (AllByRecursion (SetsLive after.files)) (sym is) (set_all after (live_of after ids)
     (kept_all (λ id. IsTrue (has_id after.files id)) (has_text ids) (map (λ e. e.0) (filter (λ e. has_id after.files e.0) after.entries)) (live_all after.files after.entries))))
-
--- a message without a file has no paths
-none-left : (b : Bool) (file : List ℕ × Facts) (rest : List (List ℕ × Facts)) (more : Bool) → (b || more) ≡ false → (more ≡ false → paths_of rest ≡ []) → paths_of (cond b (file ∷ rest) rest) ≡ []
-none-left true file rest more h k = absurd (cc)
-none-left false file rest more h k = k h
-
-pub no-paths : (files : List (List ℕ × Facts)) (id : List ℕ) → has_id files id ≡ false → message_paths files id ≡ []
-no-paths [] id h = refl
-no-paths (file ∷ files) id h = none-left (same_text id file.1.id) file (filter (λ other. same_text id other.1.id) files) (has_id files id) h (no-paths files id)

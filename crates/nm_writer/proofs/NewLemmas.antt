@@ -7,6 +7,7 @@ use Rattle.nm_base.specs.declared.facts.Facts.{Facts}
 use Rattle.nm_commit.specs.declared.change.Commit.{Commit}
 use Rattle.nm_index.specs.Fits.{FitInTurn}
 use Rattle.nm_index.specs.declared.base.Base.{Base}
+use Rattle.nm_maildir.specs.Observed.{ObservedMail}
 use Rattle.nm_maildir.specs.Tree.{Tree}
 use Rattle.nm_maildir.specs.declared.given.Given.{Given}
 use Rattle.nm_index.specs.Index.{folded}
@@ -17,13 +18,13 @@ use Rattle.nm_scan.specs.Reading.{Reads}
 use Rattle.nm_scan.specs.Scanning.{AsksNew, FindsBatches}
 use Rattle.nm_writer.proofs.ArrivalLemmas.{are-added, are-unknown}
 use Rattle.nm_writer.proofs.DoneLemmas.{fit-first, fit-second, refused-more, then-made}
-use Rattle.nm_writer.proofs.ScanLemmas.{asks-some}
 use Rattle.nm_writer.specs.Batch.{AreUnknown, IsAfterBatches, Reading}
-use Rattle.nm_writer.specs.New.{AreNewCommits, HasListed, IsAfterNew}
-use Rattle.nm_writer.specs.Report.{report_with}
+use Rattle.nm_sync.specs.Listed.{HasListed}
+use Rattle.nm_sync.specs.Report.{report_with}
+use Rattle.nm_writer.specs.New.{AreNewCommits, IsAfterNew}
 use Rattle.nm_writer.specs.Writer.{WriterState}
 use Rattle.nm_writer.specs.Writing.{HasCommitted, IsAfterCommits}
-use Rattle.nm_writer.specs.declared.scanning.Compared.{Compared}
+use Rattle.nm_sync.specs.declared.scanning.Compared.{Compared}
 use Rattle.nm_writer.specs.declared.write_error.WriteError.{WriteError}
 use Rattle.nm_writer.specs.declared.write_error.WriteError.TheVariants as errors
 
@@ -40,14 +41,20 @@ pub record Laws : Type 0 where
 pub unknown-listed : (tree : Option Tree) (files : List (List ℕ × Facts)) (given : List Given) (compared : Compared) → HasListed tree files given compared → AreUnknown files compared.unknown
 unknown-listed tree files given compared h = subst (AreUnknown files) (sym h.unknown_are) (are-unknown files h.listed h.listing.rising)
 
+-- the law on what a `new` asks
+abbrev pub AsksSome : Type 0
+AsksSome =
+    (old new : ObservedMail) (files : List (List ℕ × Facts)) (before given : List Given) (compared : Compared) (batches : Batches) (left : List (List ℕ)) → HasListed old.tree files before compared
+    → HasReadSome old new before given compared.unknown batches left → AsksNew old new files given
+
 -- what was asked where the batches were not all read, or not all their commits made
-pub asks-refused : (before now : Reading) (compared : Compared) (old : WriterState) → HasListed before.mail.tree old.shown.files before.given compared → (new : WriterState) (faults : ℕ) (error : WriteError)
+pub asks-refused : (law : AsksSome) (before now : Reading) (compared : Compared) (old : WriterState) → HasListed before.mail.tree old.shown.files before.given compared → (new : WriterState) (faults : ℕ) (error : WriteError)
     → IsAfterBatches {T = Unit {0}} before now compared.unknown old faults (Err error) new → AsksNew before.mail now.mail old.shown.files now.given
-asks-refused before now compared old h new faults errors.MailFault (batches, path, left, some, made) = asks-some before.mail now.mail old.shown.files before.given now.given compared batches (path ∷ left) h some
-asks-refused before now compared old h new faults errors.DiskFault (batches, left, some, fails) = asks-some before.mail now.mail old.shown.files before.given now.given compared batches left h some
-asks-refused before now compared old h new faults (errors.Closed fault) after = absurd after
-asks-refused before now compared old h new faults (errors.Limit limit) (batches, left, some, passes) = asks-some before.mail now.mail old.shown.files before.given now.given compared batches left h some
-asks-refused before now compared old h new faults errors.NoMemory (batches, left, some, stops) = asks-some before.mail now.mail old.shown.files before.given now.given compared batches left h some
+asks-refused law before now compared old h new faults errors.MailFault (batches, path, left, some, made) = law before.mail now.mail old.shown.files before.given now.given compared batches (path ∷ left) h some
+asks-refused law before now compared old h new faults errors.DiskFault (batches, left, some, fails) = law before.mail now.mail old.shown.files before.given now.given compared batches left h some
+asks-refused law before now compared old h new faults (errors.Closed fault) after = absurd after
+asks-refused law before now compared old h new faults (errors.Limit limit) (batches, left, some, passes) = law before.mail now.mail old.shown.files before.given now.given compared batches left h some
+asks-refused law before now compared old h new faults errors.NoMemory (batches, left, some, stops) = law before.mail now.mail old.shown.files before.given now.given compared batches left h some
 
 module _ (laws : Laws) (before now : Reading) (compared : Compared) (old : WriterState) (h : HasListed before.mail.tree old.shown.files before.given compared) where
   -- what was found so far

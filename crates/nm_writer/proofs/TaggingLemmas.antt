@@ -1,87 +1,29 @@
--- The changes of tags: those of the messages that may have other tags are those of all.
--- For the proofs of `plan_tags`, `Writer::commit_changes`, `Writer::set_tags` and others.
-use Rattle.std.proofs.Common.{◌≡◌, ℕ, Bool, true, false, ◌&&◌, cond, not, List, [], ◌∷◌, ◌++◌, filter, length, refl, sym, ap, ◌∙◌, arith, subst, Result, Ok, Err, append-nil}
-use Rattle.std.specs.Cmp.Lexicographic.{nat_list_eq_equiv, pointwise}
+-- What the commit of tags and the renames behind it leave. For the proofs of `Writer::commit_changes`, `Writer::set_tags` and
+-- `Writer::want_and_set`.
+use Rattle.std.proofs.Common.{◌≡◌, ℕ, List, [], ◌∷◌, length, refl, sym, ap, ◌∙◌, arith, subst, Result, Ok, Err, append-nil}
 use Rattle.std.specs.List.{flat_map}
-use Rattle.std.proofs.lemmas.Bool.{cond-true}
-use Rattle.nm_base.specs.Order.{has_text, same_text}
 use Rattle.nm_commit.specs.Files.{Fits}
 use Rattle.nm_commit.specs.declared.change.Change.{Change}
-use Rattle.nm_commit.specs.declared.change.Change.TheVariants.{SetTags}
 use Rattle.nm_commit.specs.declared.change.Commit.{Commit}
-use Rattle.nm_flags.specs.Renames.{renames}
 use Rattle.nm_flags.specs.declared.renames.Rename.{Rename}
 use Rattle.nm_index.specs.Fits.{FitInTurn}
-use Rattle.nm_index.specs.Index.{live_ids}
 use Rattle.nm_index.specs.declared.base.Base.{Base}
 use Rattle.nm_maildir.specs.declared.given.Given.{Given}
 use Rattle.nm_plan.specs.Apart.{AreApart}
 use Rattle.nm_answer.specs.Renaming.{note_of, renames_done, renames_for}
 use Rattle.nm_plan.specs.Moving.{HasTried, move_commit, tag_commits}
-use Rattle.nm_answer.specs.View.{message_paths, tags_of}
-use Rattle.nm_plan.specs.NameTags.{set_tags}
 use Rattle.nm_plan.specs.Numbering.{AreNumbered}
-use Rattle.nm_plan.specs.Tagging.{commit_with, tag_changes, tag_commit}
+use Rattle.nm_plan.specs.Tagging.{commit_with, tag_commit}
 use Rattle.nm_answer.specs.declared.sync_report.SyncReport.{SyncReport}
 use Rattle.nm_answer.specs.declared.sync_report.Unmoved.{Unmoved}
-use Rattle.nm_writer.specs.Renamed.{AreTried}
+use Rattle.nm_sync.specs.Renamed.{AreTried}
 use Rattle.nm_writer.specs.Tagged.{IsAfterRenames, IsAfterTags}
 use Rattle.nm_writer.specs.Writer.{WriterState}
 use Rattle.nm_writer.specs.Writing.{FailsWithin, HasCommitted, IsAfterCommits, PassesWithin, StopsWithin}
 use Rattle.nm_writer.specs.declared.write_error.WriteError.{WriteError}
 use Rattle.nm_writer.specs.declared.write_error.WriteError.TheVariants as errors
-use Rattle.nm_writer.specs.Wanting.{AreTouched, renames_of}
 use Rattle.nm_base.specs.declared.facts.Facts.{Facts}
 use Rattle.nm_writer.proofs.DoneLemmas.{fit-second, made-made, none-stopped, then-made}
-use Rattle.nm_writer.proofs.RenamingLemmas.{silent}
-
-abbrev Texts : Type 0
-Texts = List (List ℕ)
-
--- what gives nothing may be left out
-drop-by : {X : Type 0} (f : List ℕ → List X) (id : List ℕ) (b : Bool) (rest : Texts) → (b ≡ false → f id ≡ []) → flat_map f (cond b (id ∷ rest) rest) ≡ f id ++ flat_map f rest
-drop-by f id true rest silent = refl
-drop-by {X} f id false rest silent = ap (λ (l : List X). l ++ flat_map f rest) (sym (silent refl))
-
-filter-silent : {X : Type 0} (f : List ℕ → List X) (keep : List ℕ → Bool) (ids : Texts) → ((id : List ℕ) → keep id ≡ false → f id ≡ []) → flat_map f (filter keep ids) ≡ flat_map f ids
-filter-silent f keep [] silent = refl
-filter-silent {X} f keep (id ∷ ids) silent = drop-by f id (keep id) (filter keep ids) (silent id) ∙ ap (λ (l : List X). f id ++ l) (filter-silent f keep ids silent)
-
-texts-alike : (texts : Texts) → pointwise same_text texts texts ≡ true
-texts-alike [] = refl
-texts-alike (text ∷ texts) = ap (λ (b : Bool). b && pointwise same_text texts texts) (nat_list_eq_equiv.refl text) ∙ texts-alike texts
-
-alike : (old new : Texts) → new ≡ old → pointwise same_text old new ≡ true
-alike old new same = ap (pointwise same_text old) same ∙ texts-alike old
-
-module _ (index wanted : Base) (ids : Texts) (touched : AreTouched index wanted ids) where
-  pub changes-are : (changes : List Change) → changes ≡ flat_map (λ id. set_tags id (tags_of index id) (tags_of wanted id)) ids → changes ≡ tag_changes index wanted
-  changes-are changes are =
-      let change_of : List ℕ → List Change = λ id. set_tags id (tags_of index id) (tags_of wanted id) in
-      are
-      ∙ (ap (flat_map change_of) touched.ids_are
-      ∙ filter-silent change_of (has_text touched.among) (live_ids index.files index.entries)
-      (λ id apart. cond-true (pointwise same_text (tags_of index id) (tags_of wanted id)) [] (SetTags id (tags_of wanted id) ∷ []) (alike (tags_of index id) (tags_of wanted id) (touched.others id apart))))
-
-  changed-by : (id : List ℕ) (b : Bool) (rest : Texts) → flat_map (λ other. renames (tags_of wanted other) (message_paths index.files other)) (cond (not b) (id ∷ rest) rest)
-      ≡ cond b [] (renames (tags_of wanted id) (message_paths index.files id)) ++ flat_map (λ other. renames (tags_of wanted other) (message_paths index.files other)) rest
-  changed-by id true rest = refl
-  changed-by id false rest = refl
-
-  changed-all : (all : Texts) → flat_map (renames_of index wanted) all
-      ≡ flat_map (λ id. renames (tags_of wanted id) (message_paths index.files id)) (filter (λ id. not (pointwise same_text (tags_of index id) (tags_of wanted id))) all)
-  changed-all [] = refl
-  changed-all (id ∷ all) =
-      ap (λ (l : List Rename). renames_of index wanted id ++ l) (changed-all all)
-      ∙ sym (changed-by id (pointwise same_text (tags_of index id) (tags_of wanted id)) (filter (λ other. not (pointwise same_text (tags_of index other) (tags_of wanted other))) all))
-
-  pub renames-are : (list : List Rename) → list ≡ flat_map (renames_of index wanted) ids → list ≡ renames_for index wanted
-  renames-are list are =
-      are
-      ∙ (ap (flat_map (renames_of index wanted)) touched.ids_are
-      ∙ (filter-silent (renames_of index wanted) (has_text touched.among) (live_ids index.files index.entries)
-      (λ id apart. cond-true (pointwise same_text (tags_of index id) (tags_of wanted id)) [] (renames (tags_of wanted id) (message_paths index.files id)) (alike (tags_of index id) (tags_of wanted id) (touched.others id apart)))
-      ∙ changed-all (live_ids index.files index.entries)))
 
 -- some changes make one commit, and none make none
 pub commit-of-some : (changes : List Change) → (length changes ≡ 0 → ⊥) → commit_with changes ≡ record { changes = changes } ∷ []
@@ -99,30 +41,34 @@ fits-alone index (change ∷ changes) some fit = fit.0
 abbrev report_of : List (List ℕ × Unmoved) → SyncReport
 report_of list = record { unmoved = list }
 
+-- the law on renames of which none is noted
+abbrev pub AreUntried : Type 0
+AreUntried = (files : List (List ℕ × Facts)) (plan : List Rename) → AreTried files plan []
+
 -- nothing is tried while nothing is noted
-pub none-tried : (index wanted : Base) (given : List Given) → given ≡ [] → HasTried index wanted given
-none-tried index wanted given none =
-    none ∙ sym (ap (λ (n : List Given). flat_map note_of (renames_done index wanted n)) none ∙ silent (renames_for index wanted) index.files)
+pub none-tried : (law : AreUntried) (index wanted : Base) (given : List Given) → given ≡ [] → HasTried index wanted given
+none-tried law index wanted given none =
+    none ∙ (law index.files (renames_for index wanted) ∙ sym (ap (λ (n : List Given). flat_map note_of (renames_done index wanted n)) none))
 
 -- and no move is due
 pub no-moves : (index wanted : Base) (given : List Given) → given ≡ [] → tag_commits index wanted given ≡ tag_commit index wanted
 no-moves index wanted given none = ap (tag_commits index wanted) none ∙ append-nil (tag_commit index wanted)
 
 -- the commit of tags was refused, before any rename
-pub tags-refused : (old new : WriterState) (wanted : Base) (given : List Given) (faults : ℕ) (error : WriteError) → given ≡ [] → IsAfterCommits {T = Unit {0}} old (tag_commit old.shown wanted) faults (Err error) new
+pub tags-refused : (law : AreUntried) (old new : WriterState) (wanted : Base) (given : List Given) (faults : ℕ) (error : WriteError) → given ≡ [] → IsAfterCommits {T = Unit {0}} old (tag_commit old.shown wanted) faults (Err error) new
     → IsAfterTags wanted given old faults (Err error) new
-tags-refused old new wanted given faults errors.MailFault none h = absurd h
-tags-refused old new wanted given faults errors.DiskFault none h =
-    (none-tried old.shown wanted given none, subst (λ (due : List Commit). FailsWithin old due faults new) (sym (no-moves old.shown wanted given none)) h)
-tags-refused old new wanted given faults (errors.Closed fault) none h = absurd h
-tags-refused old new wanted given faults (errors.Limit limit) none h =
-    (none-tried old.shown wanted given none, subst (λ (due : List Commit). PassesWithin old due limit new) (sym (no-moves old.shown wanted given none)) h)
-tags-refused old new wanted given faults errors.NoMemory none h =
-    (none-tried old.shown wanted given none, subst (λ (due : List Commit). StopsWithin old due new) (sym (no-moves old.shown wanted given none)) h)
+tags-refused law old new wanted given faults errors.MailFault none h = absurd h
+tags-refused law old new wanted given faults errors.DiskFault none h =
+    (none-tried law old.shown wanted given none, subst (λ (due : List Commit). FailsWithin old due faults new) (sym (no-moves old.shown wanted given none)) h)
+tags-refused law old new wanted given faults (errors.Closed fault) none h = absurd h
+tags-refused law old new wanted given faults (errors.Limit limit) none h =
+    (none-tried law old.shown wanted given none, subst (λ (due : List Commit). PassesWithin old due limit new) (sym (no-moves old.shown wanted given none)) h)
+tags-refused law old new wanted given faults errors.NoMemory none h =
+    (none-tried law old.shown wanted given none, subst (λ (due : List Commit). StopsWithin old due new) (sym (no-moves old.shown wanted given none)) h)
 
 -- memory was wanting before anything was done
-pub nothing-set : (old : WriterState) (wanted : Base) (given : List Given) (faults : ℕ) → given ≡ [] → IsAfterTags wanted given old faults (Err errors.NoMemory) old
-nothing-set old wanted given faults none = (none-tried old.shown wanted given none, none-stopped old (tag_commits old.shown wanted given))
+pub nothing-set : (law : AreUntried) (old : WriterState) (wanted : Base) (given : List Given) (faults : ℕ) → given ≡ [] → IsAfterTags wanted given old faults (Err errors.NoMemory) old
+nothing-set law old wanted given faults none = (none-tried law old.shown wanted given none, none-stopped old (tag_commits old.shown wanted given))
 
 -- The commit of tags was made, and then the renames were tried.
 module _ (old mid new : WriterState) (wanted : Base) (given : List Given) (faults : ℕ) (made : HasCommitted old (tag_commit old.shown wanted) mid) where

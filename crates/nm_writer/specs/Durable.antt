@@ -12,7 +12,7 @@ use Rattle.nm_disk.specs.declared.state.DiskState.{DiskState}
 use Rattle.nm_index.specs.Index.{folded}
 use Rattle.nm_index.specs.declared.base.Base.{Base}
 use Rattle.nm_journal.specs.Moments.{LeavesOnly, all_moments}
-use Rattle.nm_writer.specs.StoredIndex.{HoldsIndex}
+use Rattle.nm_replay.specs.StoredIndex.{HoldsIndex}
 use Rattle.nm_writer.specs.Writer.{WriterState}
 
 -- how many of these clocks are at most that of a moment; a clock that stands at the end of its type tells nothing

@@ -1,14 +1,7 @@
 pub mod Batch
 pub mod Durable
-pub mod Errors
-pub mod Merging
 pub mod Naming
 pub mod New
-pub mod Opening
-pub mod Renamed
-pub mod Report
-pub mod StoredIndex
 pub mod Tagged
-pub mod Wanting
 pub mod Writer
 pub mod Writing

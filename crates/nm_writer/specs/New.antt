@@ -1,7 +1,7 @@
 -- What a `new` leaves of the writer.
 use Rattle.std.specs.Prelude.{◌≡◌, ◌⊎◌, ◌&&◌, ℕ, true, false, List, [], ◌∷◌, Option, Some, is_some, Result, Ok, Err}
 use Rattle.std.specs.List.{AllByRecursion, Contains}
-use Rattle.nm_answer.specs.NewText.{gone, listed_in, report_of}
+use Rattle.nm_answer.specs.NewText.{listed_in, report_of}
 use Rattle.nm_answer.specs.declared.report.NewReport.{NewReport}
 use Rattle.nm_base.specs.Limits.{max_mail_bytes}
 use Rattle.nm_base.specs.Order.{has_text}
@@ -12,26 +12,14 @@ use Rattle.nm_index.specs.Fits.{FitInTurn}
 use Rattle.nm_index.specs.declared.base.Base.{Base}
 use Rattle.nm_maildir.specs.Tree.{Tree, got_of}
 use Rattle.nm_maildir.specs.declared.given.Given.{Given}
-use Rattle.nm_maildir.specs.declared.given.Given.TheVariants.{Listed}
-use Rattle.nm_plan.specs.Plan.{commits_so_far, message_ids, removed_files, to_read}
-use Rattle.nm_scan.specs.Listing.{IsListing, PassesListing}
+use Rattle.nm_plan.specs.Plan.{commits_so_far}
+use Rattle.nm_scan.specs.Listing.{PassesListing}
 use Rattle.nm_scan.specs.Reading.{found_in}
 use Rattle.nm_scan.specs.Scanning.{FindsBatches}
 use Rattle.nm_writer.specs.Writer.{WriterState}
 use Rattle.nm_writer.specs.Writing.{FailsWithin, HasCommitted, PassesWithin, StopsWithin}
-use Rattle.nm_writer.specs.declared.scanning.Compared.{Compared}
 use Rattle.nm_writer.specs.declared.write_error.WriteError.{WriteError}
 use Rattle.nm_writer.specs.declared.write_error.WriteError.TheVariants as errors
-
--- The folder was listed, which is noted: these of the listed paths the index lacks, these of its own are gone, and those are of
--- these messages.
-pub record HasListed (tree : Option Tree) (files : List (List ℕ × Facts)) (given : List Given) (compared : Compared) : Type 0 where
-  pub listed : List (List ℕ)
-  pub listing : IsListing tree listed
-  pub given_is : given ≡ Listed listed ∷ []
-  pub unknown_are : compared.unknown ≡ to_read files listed
-  pub gone_are : compared.gone ≡ gone files listed
-  pub ids_are : compared.gone_ids ≡ message_ids (removed_files files listed)
 
 -- The commits that are due while these paths are left to read; they fit the index one after the other.
 pub record AreNewCommits (tree : Option Tree) (shown : Base) (given : List Given) (left : List (List ℕ)) (due : List Commit) : Type 0 where

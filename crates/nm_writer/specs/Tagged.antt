@@ -10,7 +10,7 @@ use Rattle.nm_answer.specs.Renaming.{sync_report, unmoved_in}
 use Rattle.nm_plan.specs.Moving.{HasDoneAll, HasTried, move_commit, tag_commits}
 use Rattle.nm_plan.specs.Tagging.{tag_commit}
 use Rattle.nm_answer.specs.declared.sync_report.SyncReport.{SyncReport}
-use Rattle.nm_writer.specs.Renamed.{outcomes_given}
+use Rattle.nm_sync.specs.Renamed.{outcomes_given}
 use Rattle.nm_writer.specs.Writer.{WriterState}
 use Rattle.nm_writer.specs.Writing.{FailsWithin, HasCommitted, IsAfterCommits, PassesWithin, StopsWithin}
 use Rattle.nm_writer.specs.declared.write_error.WriteError.{WriteError}

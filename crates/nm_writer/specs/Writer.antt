@@ -6,7 +6,7 @@ use Rattle.nm_disk.specs.declared.state.DiskState.{DiskState}
 use Rattle.nm_index.specs.declared.base.Base.{Base}
 use Rattle.nm_journal.specs.Journal.{JournalState, StandsOn}
 use Rattle.nm_publish.specs.Published.{Published}
-use Rattle.nm_writer.specs.StoredIndex.{HasCommits}
+use Rattle.nm_replay.specs.StoredIndex.{HasCommits}
 
 -- the journal, what was published since the opening, the index after it, which is shown, the commits begun, the clocks of those
 -- acknowledged, and the faults of the disk when it closed

@@ -10,7 +10,7 @@ use Rattle.nm_index.specs.declared.base.Base.{Base}
 use Rattle.nm_publish.specs.Published.{Published, with_commit}
 use Rattle.nm_record.specs.CommitGrammar.{commit_grammar}
 use Rattle.nm_record.specs.Room.{limit_passed}
-use Rattle.nm_writer.specs.StoredIndex.{HoldsIndex}
+use Rattle.nm_replay.specs.StoredIndex.{HoldsIndex}
 use Rattle.nm_writer.specs.Writer.{WriterState}
 use Rattle.nm_writer.specs.declared.write_error.WriteError.{WriteError}
 use Rattle.nm_writer.specs.declared.write_error.WriteError.TheVariants as errors

@@ -17,15 +17,15 @@ ghost use Rattle.nm_writer.specs.Durable.{IsDurable};
 ghost use Rattle.nm_writer.specs.Writer.{StandsOnIndex};
 ghost use Rattle.nm_writer.specs.Writing.{HoldsEither, IsAfterCommit, IsFull, IsPreparing, IsWithin, is_write_fault};
 
-use crate::applying::next_snapshot;
-use crate::spelling::{framed, spell_beside};
 use crate::{WriteError, Writer};
 use nm_base::{Limit, Many, NoMemory};
+use nm_changes::{framed, spell_beside};
 use nm_commit::Commit;
 use nm_disk::{Disk, DiskFault, FileNo};
 use nm_journal::Frame;
 use nm_plan::{files_stay_apart, numbers_stay_in_order};
 use nm_record::commit_len;
+use nm_replay::{next_snapshot, one_commit_more_is_held};
 use nm_state::{RoomError, Snapshot};
 use std::alloc::Global;
 use std::sync::{Arc, Wait};
@@ -102,6 +102,7 @@ impl Writer {
     {
         numbers_stay_in_order();
         files_stay_apart();
+        one_commit_more_is_held();
         let made = self.begun.as_slice().len();
         let (frame, next) = prepared(
             rt,

@@ -6,14 +6,13 @@ ghost use Rattle.std.specs.List.{flat_map};
 ghost use Rattle.nm_commit.specs.Files.{Fits};
 ghost use Rattle.nm_flags.specs.Following.{tags_by_names};
 ghost use Rattle.nm_index.specs.Index.{committed};
-ghost use Rattle.nm_answer.specs.View.{message_paths, tags_of};
+ghost use Rattle.nm_answer.specs.View.{tags_of};
 ghost use Rattle.nm_plan.specs.NameTags.{named_tags, set_tags, with_names};
 ghost use Rattle.nm_record.specs.Commits.{change_bytes};
 ghost use Rattle.nm_writer.specs.Naming.{IsFollowed, set_of};
 
-use crate::applying::applied;
-use crate::spelling::{spell_beside, spell_rest};
 use nm_base::{Copies, MailPath, Many, MessageId, NoMemory, Tags};
+use nm_changes::{message_paths, spell_beside, spell_rest};
 use nm_commit::{Change, Commit};
 use nm_eval::by_numbers;
 use nm_flags::tags_from_names;
@@ -63,7 +62,7 @@ pub(crate) fn with_names<R: Threads + Wait + Sync>(
         &mut || -> Result<Followed, NoMemory>
             requires { Fits shown.now.files files }
             ensures { IfOk result (IsFollowed shown.entry.now files ids.entry.now) }
-        { follow(rt, alloc, shown, &files, ids) },
+        { follow(alloc, shown, &files, ids) },
     );
     let Followed { sets, next } = followed?;
     let pieces = pieces?;
@@ -81,8 +80,7 @@ pub(crate) fn with_names<R: Threads + Wait + Sync>(
 
 /// The tags that follow the changes of a commit, and the snapshot after both. It is made by one thread, since the others have
 /// something to do.
-fn follow<R: Threads>(
-    rt: &R,
+fn follow(
     alloc: Global,
     shown: &Snapshot,
     files: &Commit,
@@ -91,11 +89,22 @@ fn follow<R: Threads>(
     requires { Fits shown.now.files files.now }
     ensures { IfOk result (IsFollowed shown.now files.now ids.now) }
 {
-    let after = applied(rt, 1, shown, files)?;
+    let after = applied(shown, files)?;
     let ids = by_numbers(alloc, &after, ids)?;
     let sets = sets_by_names(alloc, &after, ids.as_slice())?;
     let next = after.with_tags(&sets)?;
     Ok(Followed { sets, next })
+}
+
+/// The snapshot after a commit that fits, whatever limit it passes. Numbers that would pass 2^63 are told as no memory.
+fn applied(shown: &Snapshot, commit: &Commit) -> Result<Snapshot, NoMemory>
+    requires fits { Fits shown.now.files commit.now }
+    ensures { IfOk result (λ next. next ≡ committed shown.now commit.now) }
+{
+    if !shown.has_numbers(commit) {
+        return Err(NoMemory);
+    }
+    shown.apply(commit)
 }
 
 /// The tags of the messages by the names of their files, where they have others.
@@ -153,22 +162,4 @@ fn with_sets(files: Commit, sets: Many<(MessageId, Tags)>) -> Result<Commit, NoM
         changes.push(Change::SetTags { id, tags })?;
     }
     Ok(Commit { changes })
-}
-
-/// The paths of a message's files, in the order of their arrival.
-pub(crate) fn message_paths(
-    alloc: Global,
-    after: &Snapshot,
-    id: &MessageId,
-) -> Result<Many<MailPath>, NoMemory>
-    ensures { IfOk result (λ paths. paths ≡ message_paths after.now.files id.now) }
-{
-    let mut paths = Many::new(alloc);
-    let Some(files) = after.files(id) else {
-        return Ok(paths);
-    };
-    'files: for file in files {
-        paths.push(file.0.copy()?)?;
-    }
-    Ok(paths)
 }

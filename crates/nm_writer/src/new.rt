@@ -13,19 +13,19 @@ ghost use Rattle.nm_index.specs.declared.base.Base.{Base};
 ghost use Rattle.nm_plan.specs.NameTags.{commit_of};
 ghost use Rattle.nm_plan.specs.Plan.{add_of, batch_commit, drop_of, message_ids};
 ghost use Rattle.nm_scan.specs.Scanning.{AsksNew};
+ghost use Rattle.nm_sync.specs.Listed.{HasListed};
+ghost use Rattle.nm_sync.specs.Report.{report_with};
 ghost use Rattle.nm_writer.specs.Batch.{AreUnknown, BatchFits, IsAfterBatch, IsAfterBatches};
 ghost use Rattle.nm_writer.specs.Durable.{IsDurable};
-ghost use Rattle.nm_writer.specs.New.{HasListed, HoldsTheMail, IsAfterNew};
-ghost use Rattle.nm_writer.specs.Report.{report_with};
+ghost use Rattle.nm_writer.specs.New.{HoldsTheMail, IsAfterNew};
 ghost use Rattle.nm_writer.specs.Writer.{StandsOnIndex};
 ghost use Rattle.nm_writer.specs.Writing.{IsAfterCommits, is_read_fault, is_write_fault};
 
 use crate::naming::with_names;
-use crate::reporting::report;
-use crate::scanning::{Compared, compare};
 use crate::{WriteError, Writer};
 use nm_answer::NewReport;
-use nm_base::{Copies, MailPath, Many, MessageId, NoMemory};
+use nm_base::{Copies, MailPath, Many, MessageId};
+use nm_changes::{adds, drops, ids_of};
 use nm_commit::Change;
 use nm_disk::Disk;
 use nm_maildir::{Given, MailError, Maildir};
@@ -34,8 +34,8 @@ use nm_scan::{
     Mail, ScanError, a_batch_more_is_read, a_batch_that_stops_is_unfinished, batches_are_finished,
     batches_are_what_was_read, no_batch_is_read_at_first, read_batch,
 };
-use nm_shared::Shared;
 use nm_state::Snapshot;
+use nm_sync::{Compared, a_new_asks_what_it_notes, compare, report};
 use nm_workers::Gate;
 use std::alloc::Global;
 use std::sync::Wait;
@@ -153,6 +153,7 @@ impl Writer {
     {
         new_commits_fit();
         batches_are_what_was_read();
+        a_new_asks_what_it_notes();
         let before = self.snapshot().copy()?;
         let Compared {
             unknown,
@@ -329,37 +330,4 @@ impl Writer {
         )?;
         self.commit(rt, disk, named.commit, Some(named.next), named.pieces)
     }
-}
-
-/// The ids of the mails, in order.
-fn ids_of(alloc: Global, added: &[Mail]) -> Result<Many<MessageId>, NoMemory>
-    ensures { IfOk result (λ ids. ids ≡ message_ids added.now) }
-{
-    let mut ids = Many::new(alloc);
-    'added: for arrival in added {
-        ids.push(arrival.1.id.copy()?)?;
-    }
-    Ok(ids)
-}
-
-fn adds(alloc: Global, added: Many<Mail>) -> Result<Many<Change>, NoMemory>
-    ensures { IfOk result (λ changes. changes ≡ map add_of added) }
-{
-    let mut changes = Many::new(alloc);
-    'added: for (path, facts) in added.into_vec() {
-        let facts = Shared::new(alloc, facts)?;
-        changes.push(Change::Add { path, facts })?;
-    }
-    Ok(changes)
-}
-
-fn drops(alloc: Global, gone: Many<MailPath>) -> Result<Many<Change>, NoMemory>
-    ensures { IfOk result (λ changes. changes ≡ map drop_of gone) }
-{
-    let changes = gone
-        .into_vec()
-        .into_iter()
-        .map(|path| Change::Drop { path })
-        .collect(alloc)?;
-    Ok(Many::from_vec(changes))
 }

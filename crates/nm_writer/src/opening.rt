@@ -9,18 +9,16 @@ ghost use Rattle.nm_faults.specs.Faults.{HasCauseOf};
 ghost use Rattle.nm_journal.specs.Moments.{GoesThrough, IsSynced, SyncsOrFails};
 ghost use Rattle.nm_publish.specs.Published.{index_of};
 ghost use Rattle.nm_writer.specs.Durable.{IsDurable};
-ghost use Rattle.nm_writer.specs.Opening.{HasOpenFault, IsOfHead, is_disk_fault};
-ghost use Rattle.nm_writer.specs.StoredIndex.{HoldsWithin};
+ghost use Rattle.nm_replay.specs.Opening.{HasOpenFault, IsOfHead, is_disk_fault};
+ghost use Rattle.nm_replay.specs.StoredIndex.{HoldsWithin};
 ghost use Rattle.nm_writer.specs.Writer.{StandsOnIndex};
 
-use crate::bodies::read_bodies;
-use crate::replaying::replayed;
-use crate::{OpenError, Writer};
+use crate::Writer;
 use nm_base::{Many, NoMemory, Room};
 use nm_disk::{Disk, FileNo};
-use nm_journal::Journal;
 use nm_plan::{files_stay_apart, numbers_stay_in_order};
 use nm_publish::{Reader, Started, start};
+use nm_replay::{OpenError, Replayed, replay_head};
 use nm_state::Snapshot;
 use std::alloc::Global;
 use std::sync::{Arc, Wait};
@@ -110,14 +108,12 @@ impl Writer {
             (D.observed disk.old).told (D.observed disk.new).told }
         ensures cause { HasCauseOf is_disk_fault (D.observed disk.old).faults (D.observed disk.new).faults result }
     {
-        let (journal, bodies) = Journal::open(alloc, disk, FileNo::Head, 0)?;
         numbers_stay_in_order();
         files_stay_apart();
-        let read = read_bodies(rt, alloc, workers, &bodies)?;
-        let shown = replayed(rt, alloc, workers, bodies.as_slice(), read.as_slice())?;
+        let Replayed { journal, index } = replay_head(rt, alloc, disk, workers)?;
         // A clock is a number of 64 bits, which the contract tells of the disk as well.
         let _ = disk.clock();
-        let started = show_first(rt, alloc, shown, readers)?;
+        let started = show_first(rt, alloc, index, readers)?;
         // What is shown is let go by `finish` alone, so no call from here on can fail.
         let Started { shower, readers } = started;
         Ok(Opened {

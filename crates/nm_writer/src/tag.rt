@@ -8,24 +8,25 @@ ghost use Rattle.nm_index.specs.Fits.{FitInTurn};
 ghost use Rattle.nm_index.specs.declared.base.Base.{Base};
 ghost use Rattle.nm_maildir.specs.declared.given.Given.{Given};
 ghost use Rattle.nm_plan.specs.Moving.{move_commit};
+ghost use Rattle.nm_plan.specs.Tagging.{commit_with};
 ghost use Rattle.nm_answer.specs.Tagging.{wanted_by};
+ghost use Rattle.nm_changes.specs.Wanting.{AreTouched};
+ghost use Rattle.nm_sync.specs.Renamed.{AreTried, AsksRenames};
 ghost use Rattle.nm_writer.specs.Durable.{IsDurable};
-ghost use Rattle.nm_writer.specs.Renamed.{AreTried, AsksRenames};
 ghost use Rattle.nm_writer.specs.Tagged.{IsAfterRenames, IsAfterTags};
-ghost use Rattle.nm_writer.specs.Wanting.{AreTouched};
 ghost use Rattle.nm_writer.specs.Writer.{StandsOnIndex};
-ghost use Rattle.nm_writer.specs.Writing.{is_read_fault};
+ghost use Rattle.nm_writer.specs.Writing.{IsAfterCommits, is_read_fault, is_write_fault};
 
-use crate::renaming::{Renaming, rename_and_sync};
-use crate::tagging::{Planned, plan_tags};
-use crate::wanting::{Wanted, wanted_by};
 use crate::{WriteError, Writer};
 use nm_answer::{SyncReport, Tagging};
 use nm_base::Many;
+use nm_changes::{Planned, Wanted, plan_tags, wanted_by};
+use nm_commit::{Change, Commit};
 use nm_disk::Disk;
 use nm_flags::Rename;
 use nm_maildir::{Given, MailError, Maildir};
 use nm_plan::{tag_commits_fit, the_commit_of_tags_leaves_what_is_wanted};
+use nm_sync::{Renaming, no_rename_is_noted_at_first, rename_and_sync};
 use std::sync::Wait;
 use std::thread::Threads;
 
@@ -91,6 +92,7 @@ impl Writer {
         ensures durable { (entry : ObservedDisk) (opening : Base) → IsDurable entry opening (D.observed disk.old) self.old
             → IsDurable entry opening (D.observed disk.new) self.new }
     {
+        no_rename_is_noted_at_first();
         match wanted_by(self.alloc, self.snapshot(), lines.as_slice(), moment) {
             Ok(wanted) => self.set_tags(rt, mail, disk, &wanted, given),
             Err(error) => Err(error.into()),
@@ -120,6 +122,7 @@ impl Writer {
     {
         tag_commits_fit();
         the_commit_of_tags_leaves_what_is_wanted();
+        no_rename_is_noted_at_first();
         let planned = plan_tags(self.alloc, self.snapshot(), wanted)?;
         let Planned { changes, renames } = planned;
         match self.commit_changes(rt, disk, changes) {
@@ -166,5 +169,27 @@ impl Writer {
             }
             Err(MailError::NoMemory) => Err(WriteError::NoMemory),
         }
+    }
+
+    /// Makes a commit of the changes, where there are some.
+    fn commit_changes<R: Threads + Wait + Sync, D: Disk>(
+        &mut self,
+        rt: &R,
+        disk: &mut D,
+        changes: Many<Change>,
+    ) -> Result<(), WriteError>
+        requires alive { self.old.closed ≡ None }
+        requires fit { FitInTurn self.old.shown (commit_with changes) }
+        requires stands { IfSome (D.observed disk.old).told (λ moments. StandsOnIndex moments.present self.old) }
+        ensures after { IsAfterCommits self.old (commit_with changes) (D.observed disk.new).faults result self.new }
+        ensures cause { HasCauseOf is_write_fault (D.observed disk.old).faults (D.observed disk.new).faults result }
+        ensures stands { self.new.closed ≡ None → IfSome (D.observed disk.new).told (λ moments. StandsOnIndex moments.present self.new) }
+        ensures durable { (entry : ObservedDisk) (opening : Base) → IsDurable entry opening (D.observed disk.old) self.old
+            → IsDurable entry opening (D.observed disk.new) self.new }
+    {
+        if changes.is_empty() {
+            return Ok(());
+        }
+        self.commit(rt, disk, Commit { changes }, None, None)
     }
 }

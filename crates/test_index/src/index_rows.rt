@@ -3,8 +3,9 @@
 use crate::journal_rows::bad_at;
 use crate::snapshot_rows::told;
 use nm_disk::Disk;
+use nm_replay::OpenError;
 use nm_state::Snapshot;
-use nm_writer::{OpenError, Opened, Writer};
+use nm_writer::{Opened, Writer};
 use rows::{Row, RowError};
 use std::alloc::Global;
 use std::sync::Wait;

@@ -14,7 +14,7 @@ use Rattle.nm_session.specs.Line.{place_at}
 use Rattle.nm_session.proofs.AnswerLemmas.{failed-ends}
 use Rattle.nm_session.proofs.ChangeLemmas.{write-refused}
 use Rattle.nm_session.proofs.TagLemmas.{asks-as, tag-answered, tag-ends, tag-unasked}
-use Rattle.nm_writer.specs.Renamed.{AsksRenames}
+use Rattle.nm_sync.specs.Renamed.{AsksRenames}
 use Rattle.nm_writer.specs.Tagged.{IsAfterTags}
 use Rattle.nm_session.proofs.changing.change_tags.Goals as goal
 

@@ -7,13 +7,13 @@ use Rattle.nm_writer.proofs.NamingLemmas.{follow-is, sets-live}
 use Rattle.nm_writer.proofs.naming.follow.Goals as goal
 
 pub with_tags-requires : goal.with_tags-requires
-with_tags-requires g c =
+with_tags-requires c =
     let live : c.as_slice.result.now ≡ live_of c.in_ok-after.after c.args.ids.now = search rules in
     let sets = follow-is c.in_ok-after.after c.args.ids.now c.as_slice.result.now c.in_ok-sets.sets live c.in_ok-sets.ensures in
     record { live = sets-live c.in_ok-after.after c.args.ids.now c.in_ok-sets.sets sets }
 
 pub returns : goal.returns
-returns g c =
+returns c =
     let live : c.as_slice.result.now ≡ live_of c.in_ok-after.after c.args.ids.now = search rules in
     let sets = follow-is c.in_ok-after.after c.args.ids.now c.as_slice.result.now c.in_ok-sets.sets live c.in_ok-sets.ensures in
     record {

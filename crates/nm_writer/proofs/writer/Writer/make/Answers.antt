@@ -47,7 +47,7 @@ returns-in-Ok-clause-stands g c =
     let published : c.show.new.self.shown ≡ with_commit c.self.inside.shower.shown c.args.commit =
     staged-published c.self.inside.shower c.stage.new.self c.show.new.self c.args.commit c.in_ok-stage.ensures c.show.ensures.shown in
     let is : index_of c.show.new.self.shown ≡ committed (index_of c.self.inside.shower.shown) c.args.commit = index-more c.self.inside.shower.shown c.show.new.self.shown c.args.commit published in
-    stands-after (disk.observed c.args.disk.now).told (disk.observed c.append.new.disk).told c.args.self.now _ c.self.inside.journal c.args.commit c.in_ok-frame.frame
+    stands-after c.one_commit_more_is_held.ensures (disk.observed c.args.disk.now).told (disk.observed c.append.new.disk).told c.args.self.now _ c.self.inside.journal c.args.commit c.in_ok-frame.frame
     (ap (λ (w : WriterState). w.journal) (sym c.self.view_is)) c.requires.stands c.in_ok-frame.ensures.frame c.in_ok-frame.ensures.value c.requires.fits
     (is ∙ ap (λ (w : WriterState). committed w.shown c.args.commit) c.self.view_is)
     (ap (λ (j : JournalState). j.file) c.in-Ok.ensures.ok) (ap (λ (j : JournalState). j.start) c.in-Ok.ensures.ok) c.in-Ok.ensures.stands
@@ -55,13 +55,13 @@ returns-in-Ok-clause-stands g c =
 pub returns-in-Ok-clause-any_moment : goal.returns-in-Ok-clause-any_moment
 returns-in-Ok-clause-any_moment g c =
     let disk = g.D.Disk in
-    any-moment (disk.observed c.args.disk.now).told (disk.observed c.append.new.disk).told c.args.self.now c.self.inside.journal c.args.commit c.in_ok-frame.frame
+    any-moment c.one_commit_more_is_held.ensures (disk.observed c.args.disk.now).told (disk.observed c.append.new.disk).told c.args.self.now c.self.inside.journal c.args.commit c.in_ok-frame.frame
     (ap (λ (w : WriterState). w.journal) (sym c.self.view_is)) c.requires.stands c.in_ok-frame.ensures.frame c.in_ok-frame.ensures.value c.requires.fits c.append.ensures.any_moment
 
 pub returns-clause-any_moment : goal.returns-clause-any_moment
 returns-clause-any_moment g c =
     let disk = g.D.Disk in
-    any-moment (disk.observed c.args.disk.now).told (disk.observed c.append.new.disk).told c.args.self.now c.self.inside.journal c.args.commit c.in_ok-frame.frame
+    any-moment c.one_commit_more_is_held.ensures (disk.observed c.args.disk.now).told (disk.observed c.append.new.disk).told c.args.self.now c.self.inside.journal c.args.commit c.in_ok-frame.frame
     (ap (λ (w : WriterState). w.journal) (sym c.self.view_is)) c.requires.stands c.in_ok-frame.ensures.frame c.in_ok-frame.ensures.value c.requires.fits c.append.ensures.any_moment
 
 pub returns-in-Ok-clause-after : goal.returns-in-Ok-clause-after

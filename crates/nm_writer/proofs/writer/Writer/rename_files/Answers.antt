@@ -1,7 +1,7 @@
 use Rattle.std.proofs.Common.{List, sym, subst}
 use Rattle.nm_maildir.specs.declared.given.Given.{Given}
 use Rattle.nm_plan.specs.Moving.{move_commit}
-use Rattle.nm_writer.specs.Renamed.{IsKept}
+use Rattle.nm_sync.specs.Renamed.{IsKept}
 use Rattle.nm_writer.proofs.DoneLemmas.{none-stopped}
 use Rattle.nm_writer.proofs.writer.Writer.rename_files.Goals as goal
 

@@ -18,7 +18,7 @@ returns-in_err-planned-clause-after g c =
     let faults = (g.D.Disk.observed c.args.disk.now).faults in
     let is : c.from_residual.result ≡ Err errors.NoMemory = search rules in
     subst (λ result. IsAfterTags c.args.wanted.now.after c.args.given.now c.args.self.now faults result c.args.self.now) (sym is)
-    (nothing-set c.args.self.now c.args.wanted.now.after c.args.given.now faults c.requires.fresh)
+    (nothing-set c.no_rename_is_noted_at_first.ensures c.args.self.now c.args.wanted.now.after c.args.given.now faults c.requires.fresh)
 
 pub commit_changes-requires-clause-fit : goal.commit_changes-requires-clause-fit
 commit_changes-requires-clause-fit g c =
@@ -56,5 +56,5 @@ returns-in-Err-clause-after g c =
     let old = c.args.self.now in
     let faults = (g.D.Disk.observed c.commit_changes.new.disk).faults in
     let changes : c.in_ok-planned.planned.changes ≡ tag_changes old.shown wanted = subst (λ (b : Base). c.in_ok-planned.planned.changes ≡ tag_changes b wanted) c.snapshot.ensures c.in_ok-planned.ensures.changes in
-    tags-refused old c.commit_changes.new.self wanted c.args.given.now faults c.in-Err.error c.requires.fresh
+    tags-refused c.no_rename_is_noted_at_first.ensures old c.commit_changes.new.self wanted c.args.given.now faults c.in-Err.error c.requires.fresh
     (subst (λ (l : List Change). IsAfterCommits {T = Unit {0}} old (commit_with l) faults (Err c.in-Err.error) c.commit_changes.new.self) changes c.in-Err.ensures.after)

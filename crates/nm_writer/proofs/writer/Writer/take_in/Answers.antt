@@ -1,21 +1,18 @@
-use Rattle.std.proofs.Common.{rules, List, [], refl, sym, ◌∙◌, subst}
+use Rattle.std.proofs.Common.{rules, List, [], sym, ◌∙◌, subst}
 use Rattle.nm_commit.specs.declared.change.Change.{Change}
 use Rattle.nm_index.specs.Fits.{FitInTurn}
 use Rattle.nm_plan.specs.NameTags.{commit_of}
 use Rattle.nm_writer.proofs.NewLemmas.{after-let_go, after-refused, asks-refused, gone-fit, unknown-listed}
-use Rattle.nm_writer.proofs.ScanLemmas.{asked_listing, asks-some}
 use Rattle.nm_writer.specs.Writing.{IsAfterCommits}
 use Rattle.nm_writer.proofs.writer.Writer.take_in.Goals as goal
 
 pub returns-in_err-before-clause-asks : goal.returns-in_err-before-clause-asks
 returns-in_err-before-clause-asks g c =
-    let h = c.requires.listed in
-    asked_listing _ (g.M.Maildir.observed c.args.mail.now) c.args.self.now.shown.files [] c.args.given.now h.listed refl refl refl h.given_is h.listing.rising h.listing.told
+    c.a_new_asks_what_it_notes.ensures.listing (g.M.Maildir.observed c.args.mail.now) c.args.self.now.shown.files c.args.given.now c.args.compared c.requires.listed
 
 pub returns-in_err-went-clause-asks : goal.returns-in_err-went-clause-asks
 returns-in_err-went-clause-asks g c =
-    let h = c.requires.listed in
-    asked_listing _ (g.M.Maildir.observed c.args.mail.now) c.args.self.now.shown.files [] c.args.given.now h.listed refl refl refl h.given_is h.listing.rising h.listing.told
+    c.a_new_asks_what_it_notes.ensures.listing (g.M.Maildir.observed c.args.mail.now) c.args.self.now.shown.files c.args.given.now c.args.compared c.requires.listed
 
 pub take_in_batches-requires-clause-unknown : goal.take_in_batches-requires-clause-unknown
 take_in_batches-requires-clause-unknown g c =
@@ -54,10 +51,10 @@ pub returns-in-Ok-clause-asks : goal.returns-in-Ok-clause-asks
 returns-in-Ok-clause-asks g c =
     let mail = g.M.Maildir in
     let made = c.in-Ok.ensures.after in
-    asks-some (mail.observed c.args.mail.now) (mail.observed c.take_in_batches.new.mail) c.args.self.now.shown.files c.args.given.now c.take_in_batches.new.given c.args.compared made.0 [] c.requires.listed made.1
+    c.a_new_asks_what_it_notes.ensures.reading (mail.observed c.args.mail.now) (mail.observed c.take_in_batches.new.mail) c.args.self.now.shown.files c.args.given.now c.take_in_batches.new.given c.args.compared made.0 [] c.requires.listed made.1
 
 pub returns-clause-asks : goal.returns-clause-asks
 returns-clause-asks g c =
     let mail = g.M.Maildir in
-    asks-refused (record { mail = mail.observed c.args.mail.now; given = c.args.given.now }) (record { mail = mail.observed c.take_in_batches.new.mail; given = c.take_in_batches.new.given })
+    asks-refused c.a_new_asks_what_it_notes.ensures.reading (record { mail = mail.observed c.args.mail.now; given = c.args.given.now }) (record { mail = mail.observed c.take_in_batches.new.mail; given = c.take_in_batches.new.given })
     c.args.compared c.args.self.now c.requires.listed c.take_in_batches.new.self (g.D.Disk.observed c.take_in_batches.new.disk).faults c.in-Err.error c.in-Err.ensures.after

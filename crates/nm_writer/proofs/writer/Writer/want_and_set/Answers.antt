@@ -10,4 +10,4 @@ returns-in-Err-clause-after g c =
     let faults = (g.D.Disk.observed c.args.disk.now).faults in
     let wanted = wanted_by c.args.moment c.args.self.now.shown c.args.lines.now in
     let is : c.into.result ≡ errors.NoMemory = search rules in
-    subst (λ error. IsAfterTags wanted c.args.given.now c.args.self.now faults (Err error) c.args.self.now) (sym is) (nothing-set c.args.self.now wanted c.args.given.now faults c.requires.fresh)
+    subst (λ error. IsAfterTags wanted c.args.given.now c.args.self.now faults (Err error) c.args.self.now) (sym is) (nothing-set c.no_rename_is_noted_at_first.ensures c.args.self.now wanted c.args.given.now faults c.requires.fresh)

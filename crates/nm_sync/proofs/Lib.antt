@@ -1,0 +1,5 @@
+pub mod MergeLemmas
+pub mod RenamingLemmas
+pub mod ReportLemmas
+pub mod SameLemmas
+pub mod ScanLemmas

@@ -1,0 +1,6 @@
+use Rattle.std.proofs.Common.{sym}
+use Rattle.nm_sync.proofs.RenamingLemmas.{silent}
+use Rattle.nm_sync.proofs.laws.no_rename_is_noted_at_first.Goals as goal
+
+pub returns : goal.returns
+returns c = λ files plan. sym (silent plan files)

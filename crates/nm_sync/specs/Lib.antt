@@ -1,0 +1,4 @@
+pub mod Listed
+pub mod Merging
+pub mod Renamed
+pub mod Report

@@ -1,5 +1,0 @@
-use Rattle.nm_writer.proofs.LawLemmas.{held-once}
-use Rattle.nm_writer.proofs.laws.an_index_is_held_once.Goals as goal
-
-pub returns : goal.returns
-returns c = held-once c.records_are_read_in_one_way.ensures

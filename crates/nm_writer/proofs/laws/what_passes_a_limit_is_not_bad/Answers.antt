@@ -1,5 +1,0 @@
-use Rattle.nm_writer.proofs.LawLemmas.{passed-not-bad}
-use Rattle.nm_writer.proofs.laws.what_passes_a_limit_is_not_bad.Goals as goal
-
-pub returns : goal.returns
-returns c = passed-not-bad c.records_are_read_in_one_way.ensures c.records_are_not_broken.ensures
