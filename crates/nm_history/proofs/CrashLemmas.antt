@@ -1,4 +1,4 @@
--- What a stop leaves before the first commit. For `SettledLemmas`.
+-- What a stop leaves before the first commit. For `BankLemmas` and `SettledLemmas`.
 use Rattle.std.proofs.Common.{◌≡◌, ℕ, ◌+◌, ◌≤◌, min, List, [], ◌∷◌, ◌++◌, length, sym, ap, ◌∙◌, subst, arith, length-append}
 use Rattle.std.specs.List.{AllByRecursion}
 use Rattle.nm_base.specs.Limits.{max_count}
@@ -6,27 +6,28 @@ use Rattle.nm_commit.specs.declared.change.Commit.{Commit}
 use Rattle.nm_disk.specs.ImageLaws.{left_when_synced}
 use Rattle.nm_disk.specs.Images.{IsImage, IsLeft, MayLeave, bytes_of, is_written, reach}
 use Rattle.nm_disk.specs.Observed.{Moments, bytes_now}
+use Rattle.nm_disk.specs.declared.disk.FileNo.{FileNo}
 use Rattle.nm_disk.specs.declared.disk.FileNo.TheVariants.{Head}
 use Rattle.nm_disk.specs.declared.state.DiskState.{DiskState}
 use Rattle.nm_disk.specs.declared.state.Range.{Range}
 use Rattle.nm_index.specs.declared.base.Base.{Base}
-use Rattle.nm_journal.specs.Moments.{GoesThrough, LeavesOnly}
+use Rattle.nm_journal.specs.Moments.{LeavesNothingNew, LeavesOnly}
 use Rattle.nm_writer.specs.Durable.{EachKeeps, HoldsPrefix, KeepsAcknowledged, KeptSince, acked_by}
 use Rattle.nm_replay.specs.StoredIndex.{HoldsIndex}
-use Rattle.nm_history.specs.CrashPrefix.{HasSettled, KeepsCommits}
+use Rattle.nm_history.specs.CrashPrefix.{HasSettled, IsMoment, KeepsCommits}
 
 -- where no write is pending, a stop leaves what was synced
-pub left-quiet : (state : DiskState) (bytes : List ℕ) → state.written ≡ [] → MayLeave state Head bytes → bytes ≡ bytes_of Head state.synced
-left-quiet state bytes quiet left =
-    let synced : List ℕ = bytes_of Head state.synced in
-    left_when_synced synced bytes (subst (λ (written : List Range). IsLeft synced (is_written written Head) (reach written Head (length synced)) bytes) quiet left)
+pub left-quiet : (file : FileNo) (state : DiskState) (bytes : List ℕ) → state.written ≡ [] → MayLeave state file bytes → bytes ≡ bytes_of file state.synced
+left-quiet file state bytes quiet left =
+    let synced : List ℕ = bytes_of file state.synced in
+    left_when_synced synced bytes (subst (λ (written : List Range). IsLeft synced (is_written written file) (reach written file (length synced)) bytes) quiet left)
 
 -- and that is what a read gives
-left-is-now : (state : DiskState) (bytes : List ℕ) → state.written ≡ [] → IsImage state state.now → MayLeave state Head bytes → bytes ≡ bytes_of Head state.now
-left-is-now state bytes quiet image left = left-quiet state bytes quiet left ∙ sym (left-quiet state (bytes_of Head state.now) quiet (image Head))
+left-is-now : (file : FileNo) (state : DiskState) (bytes : List ℕ) → state.written ≡ [] → IsImage state state.now → MayLeave state file bytes → bytes ≡ bytes_of file state.now
+left-is-now file state bytes quiet image left = left-quiet file state bytes quiet left ∙ sym (left-quiet file state (bytes_of file state.now) quiet (image file))
 
 -- a state that is no older than this one is this one or one of the new ones
-is-new : (P : DiskState → Type 0) (states : List DiskState) (present : DiskState) (past newer : List DiskState) (state : DiskState) (older : List DiskState)
+pub is-new : (P : DiskState → Type 0) (states : List DiskState) (present : DiskState) (past newer : List DiskState) (state : DiskState) (older : List DiskState)
     → states ++ present ∷ past ≡ newer ++ state ∷ older → length past ≤ length older → AllByRecursion P states → P present → P state
 is-new P [] present past [] state older e n all p = let same : present ≡ state = cc in subst P same p
 is-new P [] present past (other ∷ newer) state older e n all p =
@@ -39,14 +40,20 @@ no-older : (entered : ℕ) (state : DiskState) (older : List DiskState) → HasS
 no-older entered state older h =
     omega (arith, h.in_call, ap length h.order, length-append h.later (h.settled ∷ h.earlier))
 
-pub opening-keeps : (before now : Moments) → before.present.written ≡ [] → IsImage before.present before.present.now
-    → GoesThrough Head (MayLeave before.present Head) before now → KeepsCommits [] [] before now
-opening-keeps before now quiet image through opening state number bytes holds moment left =
+-- where none was pending when the call began, each of its moments leaves what a read gave then, of a file of which nothing new is left
+pub quiet-settled : (file : FileNo) (before now : Moments) → before.present.written ≡ [] → IsImage before.present before.present.now → LeavesNothingNew file before now
+    → (state : DiskState) (number : ℕ) (bytes : List ℕ) → IsMoment before now state number → MayLeave state file bytes → bytes ≡ bytes_now before file
+quiet-settled file before now quiet image through state number bytes moment left =
     let entry : DiskState = before.present in
-    let may : LeavesOnly Head (MayLeave entry Head) state =
-    is-new (LeavesOnly Head (MayLeave entry Head)) through.states entry before.past moment.newer state moment.older
+    let may : LeavesOnly file (MayLeave entry file) state =
+    is-new (LeavesOnly file (MayLeave entry file)) through.states entry before.past moment.newer state moment.older
     (sym through.are ∙ moment.order) (no-older (length before.past) state moment.older moment.since) through.each (λ bytes left. left) in
-    let same : bytes ≡ bytes_now before Head = left-is-now entry bytes quiet image (may bytes left) in
+    left-is-now file entry bytes quiet image (may bytes left)
+
+pub opening-keeps : (before now : Moments) → before.present.written ≡ [] → IsImage before.present before.present.now
+    → LeavesNothingNew Head before now → KeepsCommits [] [] before now
+opening-keeps before now quiet image through opening state number bytes holds moment left =
+    let same : bytes ≡ bytes_now before Head = quiet-settled Head before now quiet image through state number bytes moment left in
     record {
       count = 0;
       within = omega arith;

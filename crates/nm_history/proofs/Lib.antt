@@ -1,4 +1,5 @@
 mod AloneLemmas
+mod BankLemmas
 mod ClockLemmas
 mod CompleteLemmas
 mod CrashLemmas

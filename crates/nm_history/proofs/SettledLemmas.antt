@@ -1,5 +1,5 @@
 -- What a stop leaves where writes were pending when the call began: its settled moments come behind the sync of the opening.
--- For the proofs of `a_refused_opening_keeps_the_index` and `a_session_keeps_its_commits`.
+-- For `BankLemmas`.
 use Rattle.std.proofs.Common.{◌≡◌, ◌⊎◌, inl, inr, ℕ, ◌<◌, ◌≤◌, suc, min, List, [], ◌∷◌, ◌++◌, length, refl, sym, ap, ◌∙◌, subst, append_assoc, arith, length-append}
 use Rattle.std.proofs.Math.Nat.{eq-or-lt_of_le}
 use Rattle.nm_base.specs.Limits.{max_count}
@@ -11,10 +11,10 @@ use Rattle.nm_disk.specs.declared.disk.FileNo.TheVariants.{Head}
 use Rattle.nm_disk.specs.declared.state.DiskState.{DiskState}
 use Rattle.nm_disk.specs.declared.state.Range.{Range}
 use Rattle.nm_index.specs.declared.base.Base.{Base}
-use Rattle.nm_journal.specs.Moments.{GoesThrough, IsSynced, SyncsOrFails, all_moments}
+use Rattle.nm_journal.specs.Moments.{IsSynced, LeavesNothingNew, SyncsOrFails, all_moments}
 use Rattle.nm_writer.specs.Durable.{HoldsPrefix, KeptSince, acked_by}
 use Rattle.nm_replay.specs.StoredIndex.{HoldsIndex}
-use Rattle.nm_history.specs.CrashPrefix.{HasSettled, KeepsCommits}
+use Rattle.nm_history.specs.CrashPrefix.{HasSettled, IsMoment, KeepsCommits}
 use Rattle.nm_history.proofs.CrashLemmas.{durable-keeps, each-at, left-quiet, opening-keeps}
 
 -- two places of one list with as much behind them are one
@@ -50,14 +50,19 @@ module _ (entry : DiskState) (past : List DiskState) (range : Range) (ranges : L
 -- a session whose opening synced the disk
 module _ (once : (bytes : List ℕ) (one other : Base) → HoldsIndex bytes one → HoldsIndex bytes other → one ≡ other)
     (opening : Base) (commits : List Commit) (acked : List ℕ) (before opened now : Moments) (held : HoldsIndex (bytes_now before Head) opening) where
-  synced-keeps : (range : Range) (ranges : List Range) → before.present.written ≡ range ∷ ranges → IsSynced before opened → KeptSince opening commits acked opened now → KeepsCommits commits acked before now
-  synced-keeps range ranges pending is kept other state number bytes holds moment left =
-      let same : opening ≡ other = once (bytes_now before Head) opening other held holds in
+  -- where writes were pending at its entry, its moments come behind the sync
+  pub since-opened : (range : Range) (ranges : List Range) → before.present.written ≡ range ∷ ranges → IsSynced before opened → KeptSince opening commits acked opened now
+      → (state : DiskState) (number : ℕ) (moment : IsMoment before now state number) → length opened.past ≤ length moment.older
+  since-opened range ranges pending is kept state number moment =
       let past : opened.past ≡ before.present ∷ before.past = ap (λ (m : Moments). m.past) is in
       let order : moment.newer ++ state ∷ moment.older ≡ kept.states ++ before.present ∷ before.past =
       sym moment.order ∙ (kept.are ∙ ap (λ (l : List DiskState). kept.states ++ l) past) in
-      let young : length opened.past ≤ length moment.older =
-      omega (arith, ap length past, moment-later before.present before.past range ranges pending moment.newer kept.states moment.older state order moment.since) in
+      omega (arith, ap length past, moment-later before.present before.past range ranges pending moment.newer kept.states moment.older state order moment.since)
+
+  synced-keeps : (range : Range) (ranges : List Range) → before.present.written ≡ range ∷ ranges → IsSynced before opened → KeptSince opening commits acked opened now → KeepsCommits commits acked before now
+  synced-keeps range ranges pending is kept other state number bytes holds moment left =
+      let same : opening ≡ other = once (bytes_now before Head) opening other held holds in
+      let young = since-opened range ranges pending is kept state number moment in
       let keeps = each-at opening commits acked kept.states opened.past moment.newer state moment.older (sym kept.are ∙ moment.order) young kept.each bytes left in
       subst (λ (index : Base). HoldsPrefix index commits (min number max_count) (acked_by (min number max_count) acked) bytes) same
       (subst (λ n. HoldsPrefix opening commits (min n max_count) (acked_by (min n max_count) acked) bytes) (sym moment.number_is) keeps)
@@ -73,19 +78,19 @@ module _ (once : (bytes : List ℕ) (one other : Base) → HoldsIndex bytes one 
 -- the index from before, which a stop leaves of a synced disk
 index-stays : (opening : Base) (entry state : DiskState) (bytes acked : List ℕ) (number : ℕ) → state ≡ synced entry → HoldsIndex (bytes_of Head entry.now) opening → MayLeave state Head bytes → HoldsPrefix opening [] number (acked_by number []) bytes
 index-stays opening entry state bytes acked number is holds left =
-    let same : bytes ≡ bytes_of Head entry.now = left-quiet (synced entry) bytes refl (subst (λ (s : DiskState). MayLeave s Head bytes) is left) in
+    let same : bytes ≡ bytes_of Head entry.now = left-quiet Head (synced entry) bytes refl (subst (λ (s : DiskState). MayLeave s Head bytes) is left) in
     record { count = 0; within = omega arith; least = omega arith; most = λ small. omega arith; holds = subst (λ (b : List ℕ). HoldsIndex b opening) (sym same) holds }
 
--- an opening that ends with a settled disk, or with none that is settled
-module _ (before now : Moments) (range : Range) (ranges : List Range) (pending : before.present.written ≡ range ∷ ranges) where
-  unsynced-keeps : now ≡ before → KeepsCommits [] [] before now
-  unsynced-keeps same other state number bytes holds moment left =
+-- a moment of an opening that ends with a settled disk is that of its sync; none is where it ends with none that is settled
+module _ (before now : Moments) (range : Range) (ranges : List Range) (pending : before.present.written ≡ range ∷ ranges) (state : DiskState) (number : ℕ) (moment : IsMoment before now state number) where
+  unsynced : now ≡ before → state ≡ synced before.present
+  unsynced same =
       let order : moment.newer ++ state ∷ moment.older ≡ [] ++ before.present ∷ before.past = sym moment.order ∙ ap all_moments same in
       let young = moment-later before.present before.past range ranges pending moment.newer [] moment.older state order moment.since in
       absurd (omega (arith, young, ap length order, length-append moment.newer (state ∷ moment.older)))
 
-  failed-keeps : (failed : DiskState) → now ≡ later before failed → failed.written ≡ before.present.written → KeepsCommits [] [] before now
-  failed-keeps failed is written other state number bytes holds moment left =
+  failed-sync : (failed : DiskState) → now ≡ later before failed → failed.written ≡ before.present.written → state ≡ synced before.present
+  failed-sync failed is written =
       let order : moment.newer ++ state ∷ moment.older ≡ (failed ∷ []) ++ before.present ∷ before.past = sym moment.order ∙ ap all_moments is in
       let h : HasSettled (length before.past) (state ∷ moment.older) = moment.since in
       let young = settled-later before.present before.past range ranges pending moment.newer (failed ∷ []) (state ∷ moment.older) order h in
@@ -95,25 +100,25 @@ module _ (before now : Moments) (range : Range) (ranges : List Range) (pending :
       let one : h.settled ≡ failed = same-place (moment.newer ++ h.later) h.settled h.earlier [] failed (before.present ∷ before.past) all last in
       absurd (none-pending before.present range ranges pending (sym written ∙ (ap (λ (s : DiskState). s.written) (sym one) ∙ h.quiet)))
 
-  settled-keeps : IsSynced before now → KeepsCommits [] [] before now
-  settled-keeps is other state number bytes holds moment left =
+  settled-sync : IsSynced before now → state ≡ synced before.present
+  settled-sync is =
       let order : moment.newer ++ state ∷ moment.older ≡ (synced before.present ∷ []) ++ before.present ∷ before.past = sym moment.order ∙ ap all_moments is in
       let young = moment-later before.present before.past range ranges pending moment.newer (synced before.present ∷ []) moment.older state order moment.since in
       let last : length moment.older ≡ length (before.present ∷ before.past) =
       omega (arith, young, ap length order, length-append moment.newer (state ∷ moment.older)) in
-      let one : state ≡ synced before.present = same-place moment.newer state moment.older [] (synced before.present) (before.present ∷ before.past) order last in
-      index-stays other before.present state bytes [] (min number max_count) one holds left
+      same-place moment.newer state moment.older [] (synced before.present) (before.present ∷ before.past) order last
 
-  pending-keeps : SyncsOrFails before now → KeepsCommits [] [] before now
-  pending-keeps (inl (inl same)) = unsynced-keeps same
-  pending-keeps (inl (inr failed)) = failed-keeps failed.0 failed.1 failed.3
-  pending-keeps (inr is) = settled-keeps is
+  pub pending-moment : SyncsOrFails before now → state ≡ synced before.present
+  pending-moment (inl (inl same)) = unsynced same
+  pending-moment (inl (inr failed)) = failed-sync failed.0 failed.1 failed.3
+  pending-moment (inr is) = settled-sync is
 
 refused-by : (before now : Moments) (written : List Range) → before.present.written ≡ written → IsImage before.present before.present.now → SyncsOrFails before now
-    → GoesThrough Head (MayLeave before.present Head) before now → KeepsCommits [] [] before now
+    → LeavesNothingNew Head before now → KeepsCommits [] [] before now
 refused-by before now [] quiet image syncs through = opening-keeps before now quiet image through
-refused-by before now (range ∷ ranges) pending image syncs through = pending-keeps before now range ranges pending syncs
+refused-by before now (range ∷ ranges) pending image syncs through = λ other state number bytes holds moment left.
+    index-stays other before.present state bytes [] (min number max_count) (pending-moment before now range ranges pending state number moment syncs) holds left
 
 pub refused-keeps : (before now : Moments) → IsImage before.present before.present.now → SyncsOrFails before now
-    → GoesThrough Head (MayLeave before.present Head) before now → KeepsCommits [] [] before now
+    → LeavesNothingNew Head before now → KeepsCommits [] [] before now
 refused-keeps before now image syncs through = refused-by before now before.present.written refl image syncs through

@@ -32,7 +32,7 @@ use Rattle.nm_query.specs.declared.query_error.QueryError.TheVariants as errors
 use Rattle.nm_tags.specs.declared.line_error.LineKind.{LineKind}
 use Rattle.nm_sync.specs.Renamed.{TreesAlong}
 use Rattle.nm_history.specs.Call.{Devices, Unasked, call_lines, call_of, command_reads, devices, fault_by, fault_of_command, fault_of_input, input_fault_by, is_session, phases_by, placed_from, reads_by}
-use Rattle.nm_history.specs.CrashPrefix.{KeepsCommits}
+use Rattle.nm_history.specs.CrashPrefix.{KeepsDisk}
 use Rattle.nm_history.specs.Given.{AsksMail, AsksNothing, AsksShow, GivenAlong}
 use Rattle.nm_history.specs.History.{History}
 use Rattle.nm_history.specs.LineAnswers.{HasCause, LaneAnswers, LineAnswers, line_text}
@@ -44,10 +44,10 @@ use Rattle.nm_history.specs.PrintedOut.{AreLogsOf, Prints}
 use Rattle.nm_history.specs.Refusals.{RefusesLine}
 use Rattle.nm_history.specs.Requests.{first_bad_line, first_refusal, is_writing, own_query, refused_closed, refused_line, refused_query, refused_text, refused_unasked}
 use Rattle.nm_history.specs.UnaskedLine.{refused_done, refused_log}
+use Rattle.nm_history.proofs.BankLemmas.{refused-disk}
 use Rattle.nm_history.proofs.CompleteLemmas.{unread-lines}
 use Rattle.nm_history.proofs.LineLemmas.{commits-more, given-more, line-answers-more}
 use Rattle.nm_history.proofs.MachineLemmas.{run-more, run-none}
-use Rattle.nm_history.proofs.SettledLemmas.{refused-keeps}
 
 -- ---- what refuses the words or the input refuses the line
 
@@ -251,9 +251,9 @@ tree-stays (asked.Request (requests.Restore ask)) tree = renamed-none tree
 -- ---- the history of the call
 
 -- a disk that was not asked
-unasked-told : (told : Option Moments) → IfSome told (λ moments. IsImage moments.present moments.present.now) → IfTold told told (KeepsCommits [] [])
+unasked-told : (told : Option Moments) → IfSome told (λ moments. IsImage moments.present moments.present.now) → IfTold told told (KeepsDisk [] [])
 unasked-told None image = tt
-unasked-told (Some m) image = refused-keeps m m image (inl (inl refl)) (record { states = []; each = tt; are = refl })
+unasked-told (Some m) image = refused-disk m m image image (inl (inl refl)) (λ file. record { states = []; each = tt; are = refl })
 
 module _ (why : Outcome) (input : List ℕ) (words : List (List ℕ)) (setting : Setting) (mail : ObservedMail) (disk : ObservedDisk) (old new : ObservedStream) (out err said : ObservedSink)
     (single : is_session words ≡ false) (unasked : is_unasked why ≡ true) (refuses : refused_unasked (fed input (parse_single words)) input None ≡ Some why) where

@@ -16,15 +16,15 @@ ghost use Rattle.nm_maildir.specs.Observed.{ObservedMail};
 ghost use Rattle.nm_maildir.specs.Tree.{moved, Tree};
 ghost use Rattle.nm_maildir.specs.declared.answers.Renamed.{Renamed};
 ghost use Rattle.nm_maildir.specs.declared.given.Given.{Given};
-ghost use Rattle.nm_disk.specs.Images.{IsImage, MayLeave};
+ghost use Rattle.nm_disk.specs.Images.{IsImage};
 ghost use Rattle.nm_disk.specs.Observed.{Moments, ObservedDisk, bytes_now};
 ghost use Rattle.nm_disk.specs.declared.disk.FileNo.TheVariants as heads;
-ghost use Rattle.nm_journal.specs.Moments.{GoesThrough, IsSynced, SyncsOrFails};
+ghost use Rattle.nm_journal.specs.Moments.{IsSynced, SyncsOrFails};
 ghost use Rattle.nm_writer.specs.Durable.{KeptSince};
 ghost use Rattle.nm_replay.specs.StoredIndex.{HoldsIndex};
 ghost use Rattle.nm_history.specs.Call.{Call, call_of, call_reads, devices, input_fault, is_session};
 ghost use Rattle.nm_history.specs.Complete.{IsComplete};
-ghost use Rattle.nm_history.specs.CrashPrefix.{KeepsCommits};
+ghost use Rattle.nm_history.specs.CrashPrefix.{KeepsDisk};
 ghost use Rattle.nm_history.specs.History.{History};
 ghost use Rattle.nm_history.specs.LineAnswers.{HasCause};
 ghost use Rattle.nm_history.specs.Lines.{Before, IsIndexAt, tree_after_line};
@@ -34,6 +34,7 @@ ghost use Rattle.nm_history.specs.Requests.{asks_to_tag, asks_to_write, refused_
 ghost use Rattle.nm_history.specs.Status.{first_fault, session_status};
 ghost use Rattle.nm_history.specs.UnaskedLine.{refused_done};
 
+use nm_journal::{a_sync_leaves_nothing_new, nothing_new_twice_is_nothing_new};
 use nm_replay::{
     an_index_is_held_once, what_holds_an_index_is_not_bad, what_keeps_the_limits_passes_none,
 };
@@ -79,20 +80,25 @@ pub fn a_history_is_complete()
 }
 
 /// A writer whose commits are kept since the opening, and since the entry where no write was pending then, leaves them on the
-/// disk at every moment of the call.
+/// disk at every moment of the call, and the banks as they were.
 pub fn a_session_keeps_its_commits()
-    ensures { (opening : Base) (commits : List Commit) (acked : List ℕ) (before opened now : Moments) → HoldsIndex (bytes_now before heads.Head) opening
+    ensures { (opening : Base) (commits : List Commit) (acked : List ℕ) (before opened now : Moments) → IsImage before.present before.present.now
+        → IsImage now.present now.present.now → HoldsIndex (bytes_now before heads.Head) opening
         → IsSynced before opened → (before.present.written ≡ [] → KeptSince opening commits acked before now) → KeptSince opening commits acked opened now
-        → KeepsCommits commits acked before now }
+        → KeepsDisk commits acked before now }
 {
     an_index_is_held_once();
+    nothing_new_twice_is_nothing_new();
+    a_sync_leaves_nothing_new();
 }
 
-/// Where no index is opened, a stop leaves the one that the disk held.
+/// Where no index is opened, a stop leaves the one that the disk held, and the banks as they were.
 pub fn a_refused_opening_keeps_the_index()
-    ensures { (before now : Moments) → IsImage before.present before.present.now → SyncsOrFails before now
-        → GoesThrough heads.Head (MayLeave before.present heads.Head) before now → KeepsCommits [] [] before now }
-{}
+    ensures { (before now : Moments) → IsImage before.present before.present.now → IsImage now.present now.present.now → SyncsOrFails before now
+        → KeepsDisk [] [] before now }
+{
+    a_sync_leaves_nothing_new();
+}
 
 /// A single command that is refused before the mail folder and the disk are asked has such a history, where its one line is in the log and its
 /// text is said.

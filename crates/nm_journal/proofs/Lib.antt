@@ -3,6 +3,7 @@ pub mod ClockLemmas
 pub mod FrameLemmas
 pub mod MomentLemmas
 pub mod OpenLemmas
+pub mod OtherLemmas
 pub mod RecordLemmas
 pub mod SyncLemmas
 pub mod UniqueLemmas

@@ -6,35 +6,21 @@ use Rattle.nm_disk.specs.ImageLaws.{when_synced}
 use Rattle.nm_disk.specs.Images.{MayLeave, bytes_of}
 use Rattle.nm_disk.specs.Observed.{Moments, bytes_now, later}
 use Rattle.nm_journal.proofs.AppendLemmas.{ReadsAnImage}
-use Rattle.nm_journal.proofs.MomentLemmas.{through_failed, through_one}
-use Rattle.nm_journal.proofs.WriteLemmas.{by_parts}
+use Rattle.nm_journal.proofs.MomentLemmas.{goes_from, goes_map}
+use Rattle.nm_journal.proofs.OtherLemmas.{failed_sync, sync_went}
 use Rattle.nm_journal.specs.Journal.{StandsOn}
-use Rattle.nm_journal.specs.Moments.{GoesThrough, IsSynced, SyncsOrFails}
+use Rattle.nm_journal.specs.Moments.{IsSynced, LeavesNothingNew, SyncsOrFails}
 use Rattle.nm_journal.specs.Records.{HasRecords, records_of}
 
--- only what might have been left before
-abbrev pub NothingNew : FileNo → Moments → Moments → Type 0
-NothingNew file old new = GoesThrough file (MayLeave old.present file) old new
-
 -- a sync that failed
-pub sync_failed : (file : FileNo) (x y : Option Moments) → GoesOn (λ old new. MayFail old new old.present.written) x y → GoesOn (NothingNew file) x y
-sync_failed file None None fails = tt
-sync_failed file None (Some new) fails = absurd fails
-sync_failed file (Some old) None fails = absurd fails
-sync_failed file (Some old) (Some new) fails =
-    through_failed file (MayLeave old.present file) old new old.present.written fails
-    (λ state e f bytes left. by_parts state file bytes old.present.synced old.present.written e f left)
+pub sync_failed : (file : FileNo) (x y : Option Moments) → GoesOn (λ old new. MayFail old new old.present.written) x y → GoesOn (LeavesNothingNew file) x y
+sync_failed file x y fails = goes_map {Q = LeavesNothingNew file} (failed_sync file) x y fails
 
 -- a sync that went well, and looks at the disk after it
-pub sync_goes : (file : FileNo) (x y z : Option Moments) → IfSome x ReadsAnImage → GoesOn (λ old new. new ≡ later old (synced old.present)) x y → z ≡ y → GoesOn (NothingNew file) x z
-sync_goes file None None z reads syncs e = subst (λ (o : Option Moments). GoesOn (NothingNew file) None o) (sym e) tt
-sync_goes file None (Some new) z reads syncs e = absurd syncs
-sync_goes file (Some old) None z reads syncs e = absurd syncs
-sync_goes file (Some old) (Some new) z reads syncs e =
-    let through : NothingNew file old new =
-    through_one file (MayLeave old.present file) old new (synced old.present) syncs
-    (λ bytes left. subst (MayLeave old.present file) (sym (when_synced old.present file bytes left)) (reads file)) in
-    subst (λ (o : Option Moments). GoesOn (NothingNew file) (Some old) o) (sym e) through
+pub sync_goes : (file : FileNo) (x y z : Option Moments) → IfSome x ReadsAnImage → GoesOn IsSynced x y → z ≡ y → GoesOn (LeavesNothingNew file) x z
+sync_goes file x y z reads syncs e =
+    subst (λ (o : Option Moments). GoesOn (LeavesNothingNew file) x o) (sym e)
+    (goes_map {Q = LeavesNothingNew file} (λ (old new : Moments) (both : ReadsAnImage old × IsSynced old new). sync_went file old new both.0 both.1) x y (goes_from ReadsAnImage IsSynced x y reads syncs))
 
 -- the journal that is opened stands on the disk
 pub sync_stands : (file : FileNo) (x y z : Option Moments) (at gate count : ℕ) (bodies : List (List ℕ)) → GoesOn (λ old new. new ≡ later old (synced old.present)) x y → z ≡ y

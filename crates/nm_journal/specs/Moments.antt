@@ -1,12 +1,12 @@
 -- What a stop leaves of a file at the moments that a call goes through.
 -- Cited by `append`, `journal`, `nm_writer` and others.
-use Rattle.std.specs.Prelude.{◌≡◌, ◌⊎◌, ℕ, ◌≤◌, List, ◌∷◌, ◌++◌}
+use Rattle.std.specs.Prelude.{◌≡◌, ◌⊎◌, ℕ, ◌≤◌, false, List, ◌∷◌, ◌++◌}
 use Rattle.std.specs.List.{AllByRecursion}
 use Rattle.nm_base.specs.Limits.{max_count}
 use Rattle.nm_disk.specs.declared.disk.FileNo.{FileNo}
 use Rattle.nm_disk.specs.declared.state.DiskState.{DiskState}
 use Rattle.nm_disk.specs.Calls.{MayFail, synced}
-use Rattle.nm_disk.specs.Images.{MayLeave}
+use Rattle.nm_disk.specs.Images.{MayLeave, same_file}
 use Rattle.nm_disk.specs.Observed.{Moments, later}
 
 -- the states at all moments so far, the present one first
@@ -22,6 +22,14 @@ pub record GoesThrough (file : FileNo) (holds : List ℕ → Type 0) (old new : 
   pub states : List DiskState
   pub each : AllByRecursion (LeavesOnly file holds) states
   pub are : all_moments new ≡ states ++ all_moments old
+
+-- at every moment from old to new a stop leaves of the file only what it might have left before
+abbrev pub LeavesNothingNew : FileNo → Moments → Moments → Type 0
+LeavesNothingNew file old new = GoesThrough file (MayLeave old.present file) old new
+
+-- no file but this one was written
+abbrev pub TouchesOnly : FileNo → Moments → Moments → Type 0
+TouchesOnly file old new = (other : FileNo) → same_file file other ≡ false → LeavesNothingNew other old new
 
 -- one moment has passed, in which the disk was synced
 abbrev pub IsSynced : Moments → Moments → Type 0

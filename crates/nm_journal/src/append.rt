@@ -5,7 +5,7 @@ ghost use Rattle.nm_base.specs.Limits.{max_count};
 ghost use Rattle.nm_disk.specs.Calls.{GoesOn};
 ghost use Rattle.nm_faults.specs.Faults.{HasCause, HasCauseOf};
 ghost use Rattle.nm_journal.specs.Journal.{IsBeforeOrAfter, StandsOn, with_record};
-ghost use Rattle.nm_journal.specs.Moments.{GoesThrough, NeverFalls};
+ghost use Rattle.nm_journal.specs.Moments.{GoesThrough, NeverFalls, TouchesOnly};
 ghost use Rattle.nm_journal.specs.Records.{HasRecords};
 ghost use Rattle.nm_journal.specs.Staged.{EndsAt, StagedAt};
 
@@ -39,6 +39,9 @@ impl Journal {
             → GoesThrough self.old.file (IsBeforeOrAfter self.old.start bodies frame.now) old new)
             (D.observed disk.old).told (D.observed disk.new).told }
 
+        // And of the other files only what it might have left before.
+        ensures others { GoesOn (TouchesOnly self.old.file) (D.observed disk.old).told (D.observed disk.new).told }
+
         ensures cause { HasCauseOf (λ _. true) (D.observed disk.old).faults (D.observed disk.new).faults result }
     {
         let file = self.file;
@@ -70,6 +73,7 @@ fn write_record<D: Disk>(disk: &mut D, file: FileNo, gate: u64, frame: &Frame) -
         (λ old new. (start : ℕ) (bodies : List (List ℕ)) → EndsAt old.present file start gate bodies
         → GoesThrough file (IsBeforeOrAfter start bodies frame.now) old new)
         (D.observed disk.old).told (D.observed disk.new).told }
+    ensures others { GoesOn (TouchesOnly file) (D.observed disk.old).told (D.observed disk.new).told }
     ensures clock { NeverFalls (D.observed disk.old).clock (D.observed disk.new).clock }
     ensures cause { HasCause (D.observed disk.old).faults (D.observed disk.new).faults result }
 {
@@ -90,6 +94,7 @@ fn stage<D: Disk>(disk: &mut D, file: FileNo, gate: u64, frame: &Frame) -> Resul
         (λ old new. (start : ℕ) (bodies : List (List ℕ)) → EndsAt old.present file start gate bodies
         → GoesThrough file (HasRecords start bodies) old new)
         (D.observed disk.old).told (D.observed disk.new).told }
+    ensures others { GoesOn (TouchesOnly file) (D.observed disk.old).told (D.observed disk.new).told }
     ensures clock { NeverFalls (D.observed disk.old).clock (D.observed disk.new).clock }
     ensures cause { HasCause (D.observed disk.old).faults (D.observed disk.new).faults result }
 {
@@ -109,6 +114,7 @@ fn open_gate<D: Disk>(disk: &mut D, file: FileNo, gate: u64, frame: &Frame) -> R
         (λ old new. (start : ℕ) (bodies : List (List ℕ)) → StagedAt old.present file start gate bodies frame.now
         → GoesThrough file (IsBeforeOrAfter start bodies frame.now) old new)
         (D.observed disk.old).told (D.observed disk.new).told }
+    ensures others { GoesOn (TouchesOnly file) (D.observed disk.old).told (D.observed disk.new).told }
     ensures clock { NeverFalls (D.observed disk.old).clock (D.observed disk.new).clock }
     ensures cause { HasCause (D.observed disk.old).faults (D.observed disk.new).faults result }
 {

@@ -10,5 +10,8 @@ mod receipt;
 
 pub use frame::Frame;
 pub use journal::{Journal, JournalError};
-pub use laws::{records_are_not_broken, records_are_read_in_one_way};
+pub use laws::{
+    a_sync_leaves_nothing_new, nothing_new_twice_is_nothing_new, records_are_not_broken,
+    records_are_read_in_one_way,
+};
 pub use receipt::Receipt;

@@ -4,17 +4,17 @@ use Rattle.std.proofs.Common.{◌≡◌, inl, ℕ, List, [], Option, None, Some,
 use Rattle.nm_base.specs.declared.limit.Limit.{Limit}
 use Rattle.nm_commit.specs.declared.change.Commit.{Commit}
 use Rattle.nm_disk.specs.Calls.{GoesOn}
-use Rattle.nm_disk.specs.Images.{IsImage, MayLeave}
+use Rattle.nm_disk.specs.Images.{IsImage}
 use Rattle.nm_disk.specs.Observed.{Moments, ObservedDisk, bytes_now}
 use Rattle.nm_disk.specs.declared.disk.FileNo.{FileNo}
 use Rattle.nm_disk.specs.declared.disk.FileNo.TheVariants.{Head}
 use Rattle.nm_faults.specs.Faults.{Counts}
-use Rattle.nm_history.specs.CrashPrefix.{CrashPrefix, KeepsCommits, appends}
+use Rattle.nm_history.specs.CrashPrefix.{CrashPrefix, KeepsDisk, appends}
 use Rattle.nm_history.specs.Lines.{begun}
 use Rattle.nm_history.specs.OpeningIndex.{IsUnwritten}
 use Rattle.nm_index.specs.declared.base.Base.{Base}
 use Rattle.nm_journal.specs.Journal.{IfTold}
-use Rattle.nm_journal.specs.Moments.{GoesThrough, IsSynced, SyncsOrFails}
+use Rattle.nm_journal.specs.Moments.{IsSynced, SyncsOrFails}
 use Rattle.nm_machine.specs.declared.step.Step.{Step}
 use Rattle.nm_session.specs.Session.{HasOpenCause}
 use Rattle.nm_writer.specs.Durable.{KeptSince, NeverFall}
@@ -22,6 +22,10 @@ use Rattle.nm_replay.specs.Opening.{HasOpenFault, IsOfHead, is_disk_fault}
 use Rattle.nm_replay.specs.StoredIndex.{HoldsIndex, HoldsNoIndex, HoldsWithin, PassesLimit}
 use Rattle.nm_replay.specs.declared.open_error.OpenError.{OpenError}
 use Rattle.nm_replay.specs.declared.open_error.OpenError.TheVariants as errors
+
+-- what a read gives is an image
+abbrev ReadsAnImage : Option Moments → Type 0
+ReadsAnImage told = IfSome told (λ moments. IsImage moments.present moments.present.now)
 
 -- a disk that was not asked was not written
 unwritten-told : (told : Option Moments) → GoesOn SyncsOrFails told told
@@ -31,42 +35,40 @@ unwritten-told (Some m) = inl (inl refl)
 pub unasked-unwritten : (disk : ObservedDisk) → IsUnwritten disk disk
 unasked-unwritten disk = unwritten-told disk.told
 
-module _ (stays : (before now : Moments) → IsImage before.present before.present.now → SyncsOrFails before now → GoesThrough Head (MayLeave before.present Head) before now → KeepsCommits [] [] before now) where
-  unasked-told : (told : Option Moments) → IfSome told (λ moments. IsImage moments.present moments.present.now) → IfTold told told (KeepsCommits [] [])
+module _ (stays : (before now : Moments) → IsImage before.present before.present.now → IsImage now.present now.present.now → SyncsOrFails before now → KeepsDisk [] [] before now) where
+  unasked-told : (told : Option Moments) → ReadsAnImage told → IfTold told told (KeepsDisk [] [])
   unasked-told None image = tt
-  unasked-told (Some m) image = stays m m image (inl (inl refl)) (record { states = []; each = tt; are = refl })
+  unasked-told (Some m) image = stays m m image image (inl (inl refl))
 
   -- a disk that was not asked
-  pub unasked-prefix : (disk : ObservedDisk) → IfSome disk.told (λ moments. IsImage moments.present moments.present.now) → CrashPrefix disk disk [] []
+  pub unasked-prefix : (disk : ObservedDisk) → ReadsAnImage disk.told → CrashPrefix disk disk [] []
   unasked-prefix disk image = record { every_moment = unasked-told disk.told image; one_each = refl; clocks = omega arith }
 
-  unopened-told : (old new : Option Moments) → IfSome old (λ moments. IsImage moments.present moments.present.now) → GoesOn SyncsOrFails old new → GoesOn (λ before now. GoesThrough Head (MayLeave before.present Head) before now) old new
-      → IfTold old new (KeepsCommits [] [])
-  unopened-told None new image syncs through = tt
-  unopened-told (Some before) None image syncs through = tt
-  unopened-told (Some before) (Some now) image syncs through = stays before now image syncs through
+  unopened-told : (old new : Option Moments) → ReadsAnImage old → ReadsAnImage new → GoesOn SyncsOrFails old new → IfTold old new (KeepsDisk [] [])
+  unopened-told None new image image_new syncs = tt
+  unopened-told (Some before) None image image_new syncs = tt
+  unopened-told (Some before) (Some now) image image_new syncs = stays before now image image_new syncs
 
   -- a disk on which no index was opened
-  pub unopened-prefix : (old new : ObservedDisk) → IfSome old.told (λ moments. IsImage moments.present moments.present.now) → GoesOn SyncsOrFails old.told new.told
-      → GoesOn (λ before now. GoesThrough Head (MayLeave before.present Head) before now) old.told new.told → CrashPrefix old new [] []
-  unopened-prefix old new image syncs through = record { every_moment = unopened-told old.told new.told image syncs through; one_each = refl; clocks = omega arith }
+  pub unopened-prefix : (old new : ObservedDisk) → ReadsAnImage old.told → ReadsAnImage new.told → GoesOn SyncsOrFails old.told new.told → CrashPrefix old new [] []
+  unopened-prefix old new image image_new syncs = record { every_moment = unopened-told old.told new.told image image_new syncs; one_each = refl; clocks = omega arith }
 
-module _ (keeps : (opening : Base) (commits : List Commit) (acked : List ℕ) (before opened now : Moments) → HoldsIndex (bytes_now before Head) opening → IsSynced before opened
-    → (before.present.written ≡ [] → KeptSince opening commits acked before now) → KeptSince opening commits acked opened now → KeepsCommits commits acked before now) where
-  ran-told : (opening : Base) (commits : List Commit) (acked : List ℕ) (old mid new : Option Moments) → GoesOn (λ before opened. HoldsWithin (bytes_now before Head) opening) old mid → GoesOn IsSynced old mid
-      → (IfSome old (λ moments. moments.present.written ≡ []) → GoesOn (KeptSince opening commits acked) old new) → GoesOn (KeptSince opening commits acked) mid new → IfTold old new (KeepsCommits commits acked)
-  ran-told opening commits acked None mid new index syncs from_entry kept = tt
-  ran-told opening commits acked (Some before) mid None index syncs from_entry kept = tt
-  ran-told opening commits acked (Some before) None (Some now) index syncs from_entry kept = absurd syncs
-  ran-told opening commits acked (Some before) (Some opened) (Some now) index syncs from_entry kept =
-      keeps opening commits acked before opened now index.held syncs from_entry kept
+module _ (keeps : (opening : Base) (commits : List Commit) (acked : List ℕ) (before opened now : Moments) → IsImage before.present before.present.now → IsImage now.present now.present.now → HoldsIndex (bytes_now before Head) opening → IsSynced before opened
+    → (before.present.written ≡ [] → KeptSince opening commits acked before now) → KeptSince opening commits acked opened now → KeepsDisk commits acked before now) where
+  ran-told : (opening : Base) (commits : List Commit) (acked : List ℕ) (old mid new : Option Moments) → ReadsAnImage old → ReadsAnImage new → GoesOn (λ before opened. HoldsWithin (bytes_now before Head) opening) old mid → GoesOn IsSynced old mid
+      → (IfSome old (λ moments. moments.present.written ≡ []) → GoesOn (KeptSince opening commits acked) old new) → GoesOn (KeptSince opening commits acked) mid new → IfTold old new (KeepsDisk commits acked)
+  ran-told opening commits acked None mid new image image_new index syncs from_entry kept = tt
+  ran-told opening commits acked (Some before) mid None image image_new index syncs from_entry kept = tt
+  ran-told opening commits acked (Some before) None (Some now) image image_new index syncs from_entry kept = absurd syncs
+  ran-told opening commits acked (Some before) (Some opened) (Some now) image image_new index syncs from_entry kept =
+      keeps opening commits acked before opened now image image_new index.held syncs from_entry kept
 
   -- a disk on which a session ran
-  pub ran-prefix : (opening : Base) (steps : List Step) (acked : List ℕ) (old mid new : ObservedDisk) → GoesOn (λ before opened. HoldsWithin (bytes_now before Head) opening) old.told mid.told → GoesOn IsSynced old.told mid.told
+  pub ran-prefix : (opening : Base) (steps : List Step) (acked : List ℕ) (old mid new : ObservedDisk) → ReadsAnImage old.told → ReadsAnImage new.told → GoesOn (λ before opened. HoldsWithin (bytes_now before Head) opening) old.told mid.told → GoesOn IsSynced old.told mid.told
       → (IfSome old.told (λ moments. moments.present.written ≡ []) → GoesOn (KeptSince opening (begun steps) acked) old.told new.told) → GoesOn (KeptSince opening (begun steps) acked) mid.told new.told
       → length acked ≡ appends steps → NeverFall 0 acked new.clock → CrashPrefix old new steps acked
-  ran-prefix opening steps acked old mid new index syncs from_entry kept each clocks = record {
-    every_moment = ran-told opening (begun steps) acked old.told mid.told new.told index syncs from_entry kept;
+  ran-prefix opening steps acked old mid new image image_new index syncs from_entry kept each clocks = record {
+    every_moment = ran-told opening (begun steps) acked old.told mid.told new.told image image_new index syncs from_entry kept;
     one_each = each;
     clocks = clocks;
   }

@@ -9,7 +9,7 @@ use Rattle.nm_disk.specs.Calls.{GoesOn}
 use Rattle.nm_disk.specs.Images.{IsImage}
 use Rattle.nm_disk.specs.Observed.{Moments, ObservedDisk}
 use Rattle.nm_history.specs.Call.{Devices, PlacedLine, Ran, Refused, call_fault, call_lines, call_of, call_phases, call_reads, devices, fault_by, fault_of_session, input_fault, input_fault_by, is_session, phases_by, reads_by}
-use Rattle.nm_history.specs.CrashPrefix.{CrashPrefix, KeepsCommits}
+use Rattle.nm_history.specs.CrashPrefix.{CrashPrefix, KeepsDisk}
 use Rattle.nm_history.specs.Given.{GivenAlong}
 use Rattle.nm_history.specs.History.{History}
 use Rattle.nm_history.specs.LineAnswers.{LaneAnswers, LineAnswers}
@@ -55,9 +55,9 @@ none-run : (placed : List PlacedLine) → run_lines placed no_logs ≡ []
 none-run [] = refl
 none-run (line ∷ placed) = refl
 
-unasked-told : RefusalLaws → (told : Option Moments) → IfSome told (λ moments. IsImage moments.present moments.present.now) → IfTold told told (KeepsCommits [] [])
+unasked-told : RefusalLaws → (told : Option Moments) → IfSome told (λ moments. IsImage moments.present moments.present.now) → IfTold told told (KeepsDisk [] [])
 unasked-told laws None image = tt
-unasked-told laws (Some m) image = laws.stays m m image (inl (inl refl)) (record { states = []; each = tt; are = refl })
+unasked-told laws (Some m) image = laws.stays m m image image (inl (inl refl))
 
 -- a disk that was not asked was not written
 unwritten-told : (told : Option Moments) → GoesOn SyncsOrFails told told

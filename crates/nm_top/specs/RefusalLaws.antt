@@ -1,10 +1,9 @@
 -- The laws on which a call rests that opens no index. Cited by `laws`.
 use Rattle.std.specs.Prelude.{◌≡◌, ℕ, ℤ, List, [], None, Some, IfSome, false}
-use Rattle.nm_disk.specs.Images.{IsImage, MayLeave}
+use Rattle.nm_disk.specs.Images.{IsImage}
 use Rattle.nm_disk.specs.Observed.{Moments, ObservedDisk}
-use Rattle.nm_disk.specs.declared.disk.FileNo.TheVariants.{Head}
 use Rattle.nm_history.specs.Call.{Devices, call_of, call_reads, devices, input_fault, is_session}
-use Rattle.nm_history.specs.CrashPrefix.{KeepsCommits}
+use Rattle.nm_history.specs.CrashPrefix.{KeepsDisk}
 use Rattle.nm_history.specs.Given.{GivenAlong}
 use Rattle.nm_history.specs.History.{History}
 use Rattle.nm_history.specs.LineAnswers.{LineAnswers}
@@ -16,7 +15,7 @@ use Rattle.nm_history.specs.Refusals.{RefusesLine}
 use Rattle.nm_history.specs.UnaskedLine.{refused_done}
 use Rattle.nm_index.specs.declared.base.Base.{Base}
 use Rattle.nm_io.specs.Observed.{ObservedSink, ObservedStream}
-use Rattle.nm_journal.specs.Moments.{GoesThrough, SyncsOrFails}
+use Rattle.nm_journal.specs.Moments.{SyncsOrFails}
 use Rattle.nm_log.specs.Replies.{refusal_line}
 use Rattle.nm_log.specs.declared.log.Setting.{Setting}
 use Rattle.nm_log.specs.declared.outcome.Outcome.{Outcome}
@@ -27,8 +26,8 @@ pub record RefusalLaws : Type 0 where
   pub commits : (opening : Base) (moment : ℤ) (entry : Devices) → LineCommits opening moment entry.mail.tree [] [] []
   pub answers : (opening : Base) (moment : ℤ) (entry : Devices) → LineAnswers opening moment (at_first opening entry) [] []
   pub given : (opening : Base) (moment : ℤ) (entry : Devices) → GivenAlong opening moment [] (at_first opening entry) [] entry.mail entry.mail
-  pub stays : (before now : Moments) → IsImage before.present before.present.now → SyncsOrFails before now
-      → GoesThrough Head (MayLeave before.present Head) before now → KeepsCommits [] [] before now
+  pub stays : (before now : Moments) → IsImage before.present before.present.now → IsImage now.present now.present.now → SyncsOrFails before now
+      → KeepsDisk [] [] before now
   pub unread : (words : List (List ℕ)) (input : List ℕ) → call_reads words ≡ false → input_fault words input ≡ None
   pub line : (why : Outcome) (input : List ℕ) (words : List (List ℕ)) (setting : Setting) (mail : ObservedMail) (disk : ObservedDisk) (old new : ObservedStream) (out err said : ObservedSink)
       → is_session words ≡ false → RefusesLine why input words old new → Prints (Some (refusal_line why)) err said → IfSome disk.told (λ moments. IsImage moments.present moments.present.now)

@@ -12,7 +12,7 @@ use Rattle.nm_disk.specs.declared.state.DiskState.{DiskState}
 use Rattle.nm_index.specs.Index.{committed, folded}
 use Rattle.nm_index.specs.declared.base.Base.{Base}
 use Rattle.nm_journal.specs.Journal.{IsBeforeOrAfter, JournalState, StandsOn}
-use Rattle.nm_journal.specs.Moments.{GoesThrough, LeavesOnly}
+use Rattle.nm_journal.specs.Moments.{GoesThrough, LeavesOnly, TouchesOnly}
 use Rattle.nm_journal.specs.Records.{HasRecords}
 use Rattle.nm_publish.specs.Published.{Published, ShowerState, index_of, with_commit}
 use Rattle.nm_record.specs.CommitGrammar.{commit_grammar}
@@ -72,6 +72,13 @@ any-moment law (Some o) (Some n) writer journal commit frame same stands is valu
     let start : journal.start ≡ 0 = ap (λ (j : JournalState). j.start) (sym same) ∙ stands.start in
     through-map Head (IsBeforeOrAfter 0 stands.bodies frame) (HoldsEither writer.shown commit) o n (λ bytes found. either law stands.bodies stands.commits writer.shown commit frame bytes stands.holds is value fits found)
     (subst (λ (k : ℕ). GoesThrough Head (IsBeforeOrAfter k stands.bodies frame) o n) start (subst (λ (f : FileNo). GoesThrough f (IsBeforeOrAfter journal.start stands.bodies frame) o n) file through))
+
+-- an append writes the head alone
+pub others : (old new : Option Moments) (writer : WriterState) (journal : JournalState) → writer.journal ≡ journal → IfSome old (λ m. StandsOnIndex m.present writer) → GoesOn (TouchesOnly journal.file) old new → GoesOn (TouchesOnly Head) old new
+others None None writer journal same stands h = tt
+others None (Some n) writer journal same stands h = h
+others (Some o) None writer journal same stands h = h
+others (Some o) (Some n) writer journal same stands h = subst (λ (f : FileNo). TouchesOnly f o n) (ap (λ (j : JournalState). j.file) (sym same) ∙ stands.file) h
 
 -- after an append the writer stands on the disk with the commit
 pub stands-after : (law : HoldsMore) (old new : Option Moments) (writer after : WriterState) (journal : JournalState) (commit : Commit) (frame : List ℕ) → writer.journal ≡ journal → IfSome old (λ m. StandsOnIndex m.present writer)

@@ -16,7 +16,7 @@ use Rattle.nm_disk.specs.declared.disk.FileNo.TheVariants.{Head}
 use Rattle.nm_disk.specs.declared.state.DiskState.{DiskState}
 use Rattle.nm_index.specs.Index.{committed, folded}
 use Rattle.nm_index.specs.declared.base.Base.{Base}
-use Rattle.nm_journal.specs.Moments.{GoesThrough, LeavesOnly, NeverFalls, all_moments}
+use Rattle.nm_journal.specs.Moments.{GoesThrough, LeavesNothingNew, LeavesOnly, NeverFalls, TouchesOnly, all_moments}
 use Rattle.nm_journal.specs.Records.{HasRecords}
 use Rattle.nm_publish.specs.Published.{Published, with_commit}
 use Rattle.nm_writer.specs.Durable.{EachKeeps, HoldsPrefix, IsDurable, KeptSince, NeverFall, acked_by}
@@ -143,17 +143,25 @@ each-now opening begun acked own before (state ∷ states) past now are long is 
       each-acked opening begun acked own before (before + length states) states (is ∙ ap (λ n. min n max_count) length_is) (omega arith) h.1,
     )
 
-module _ (opening shown : Base) (begun : List Commit) (commit : Commit) (acked : List ℕ) (is : shown ≡ folded opening begun) where
+-- what leaves nothing new twice leaves nothing new
+abbrev pub TwiceLaw : Type 0
+TwiceLaw = (file : FileNo) (old mid new : Moments) → LeavesNothingNew file old mid → LeavesNothingNew file mid new → LeavesNothingNew file old new
+
+module _ (twice : TwiceLaw) (opening shown : Base) (begun : List Commit) (commit : Commit) (acked : List ℕ) (is : shown ≡ folded opening begun) where
   later-past : (old new : Moments) → GoesThrough Head (HoldsEither shown commit) old new → length old.past ≤ length new.past
   later-past old new through = omega (arith, ap (λ (l : List DiskState). length l) through.are, length-append through.states (all_moments old))
 
   old-late : (entry old : Moments) → (h : KeptSince opening begun acked entry old) → length old.past ≤ length entry.past + length h.states
   old-late entry old h = omega (arith, ap (λ (l : List DiskState). length l) h.are, length-append h.states entry.past)
 
+  -- no other file is written since the entry
+  others-then : (entry old new : Moments) → TouchesOnly Head old new → KeptSince opening begun acked entry old → TouchesOnly Head entry new
+  others-then entry old new touches h = λ other apart. twice other entry old new (h.others other apart) (touches other apart)
+
   -- the moments of a commit that was made
-  kept-made : (own : ℕ) (entry old new : Moments) → length begun ≡ length acked → own ≡ min (length new.past) max_count → GoesThrough Head (HoldsEither shown commit) old new
+  kept-made : (own : ℕ) (entry old new : Moments) → length begun ≡ length acked → own ≡ min (length new.past) max_count → GoesThrough Head (HoldsEither shown commit) old new → TouchesOnly Head old new
       → LeavesOnly Head (λ bytes. HoldsIndex bytes (committed shown commit)) new.present → KeptSince opening begun acked entry old → KeptSince opening (begun ++ commit ∷ []) (acked ++ own ∷ []) entry new
-  kept-made own entry old new same own_is through stands h =
+  kept-made own entry old new same own_is through touches stands h =
       let are : all_moments new ≡ (through.states ++ h.states) ++ entry.past =
       through.are ∙ (ap (λ (l : List DiskState). through.states ++ l) h.are ∙ sym (append_assoc through.states h.states entry.past)) in
       let later : length old.past ≤ length new.past = later-past old new through in
@@ -165,34 +173,36 @@ module _ (opening shown : Base) (begun : List Commit) (commit : Commit) (acked :
             (λ bytes left. subst (HoldsIndex bytes) (ap (λ (b : Base). committed b commit) is ∙ sym (folded-more opening begun commit)) (stands bytes left))
             (each-joined opening shown begun commit acked (length entry.past) (length old.past) through.states h.states is same h.so_far (old-late entry old h) through.each h.each);
         so_far = all-push (length new.past) acked own so_far (omega (arith, own_is));
+        others = others-then entry old new touches h;
       }
 
   -- the moments of a commit at which the disk failed
-  kept-begun : (entry old new : Moments) → length begun ≡ length acked → GoesThrough Head (HoldsEither shown commit) old new → KeptSince opening begun acked entry old → KeptSince opening (begun ++ commit ∷ []) acked entry new
-  kept-begun entry old new same through h = record {
+  kept-begun : (entry old new : Moments) → length begun ≡ length acked → GoesThrough Head (HoldsEither shown commit) old new → TouchesOnly Head old new → KeptSince opening begun acked entry old → KeptSince opening (begun ++ commit ∷ []) acked entry new
+  kept-begun entry old new same through touches h = record {
     states = through.states ++ h.states;
     are = through.are ∙ (ap (λ (l : List DiskState). through.states ++ l) h.are ∙ sym (append_assoc through.states h.states entry.past));
     each = each-joined opening shown begun commit acked (length entry.past) (length old.past) through.states h.states is same h.so_far (old-late entry old h) through.each h.each;
     so_far = all-later (length old.past) (length new.past) acked (later-past old new through) h.so_far;
+    others = others-then entry old new touches h;
   }
 
-  told-made : (own : ℕ) (entry old new : Option Moments) → length begun ≡ length acked → IfSome new (λ m. own ≡ min (length m.past) max_count) → GoesOn (λ o n. GoesThrough Head (HoldsEither shown commit) o n) old new
+  told-made : (own : ℕ) (entry old new : Option Moments) → length begun ≡ length acked → IfSome new (λ m. own ≡ min (length m.past) max_count) → GoesOn (λ o n. GoesThrough Head (HoldsEither shown commit) o n) old new → GoesOn (TouchesOnly Head) old new
       → IfSome new (λ m. LeavesOnly Head (λ bytes. HoldsIndex bytes (committed shown commit)) m.present) → GoesOn (KeptSince opening begun acked) entry old → GoesOn (KeptSince opening (begun ++ commit ∷ []) (acked ++ own ∷ [])) entry new
-  told-made own None None None same own_is through stands h = tt
-  told-made own None None (Some n) same own_is through stands h = absurd through
-  told-made own None (Some o) new same own_is through stands h = absurd h
-  told-made own (Some e) None new same own_is through stands h = absurd h
-  told-made own (Some e) (Some o) None same own_is through stands h = absurd through
-  told-made own (Some e) (Some o) (Some n) same own_is through stands h = kept-made own e o n same own_is through stands h
+  told-made own None None None same own_is through touches stands h = tt
+  told-made own None None (Some n) same own_is through touches stands h = absurd through
+  told-made own None (Some o) new same own_is through touches stands h = absurd h
+  told-made own (Some e) None new same own_is through touches stands h = absurd h
+  told-made own (Some e) (Some o) None same own_is through touches stands h = absurd through
+  told-made own (Some e) (Some o) (Some n) same own_is through touches stands h = kept-made own e o n same own_is through touches stands h
 
-  told-begun : (entry old new : Option Moments) → length begun ≡ length acked → GoesOn (λ o n. GoesThrough Head (HoldsEither shown commit) o n) old new
+  told-begun : (entry old new : Option Moments) → length begun ≡ length acked → GoesOn (λ o n. GoesThrough Head (HoldsEither shown commit) o n) old new → GoesOn (TouchesOnly Head) old new
       → GoesOn (KeptSince opening begun acked) entry old → GoesOn (KeptSince opening (begun ++ commit ∷ []) acked) entry new
-  told-begun None None None same through h = tt
-  told-begun None None (Some n) same through h = absurd through
-  told-begun None (Some o) new same through h = absurd h
-  told-begun (Some e) None new same through h = absurd h
-  told-begun (Some e) (Some o) None same through h = absurd through
-  told-begun (Some e) (Some o) (Some n) same through h = kept-begun e o n same through h
+  told-begun None None None same through touches h = tt
+  told-begun None None (Some n) same through touches h = absurd through
+  told-begun None (Some o) new same through touches h = absurd h
+  told-begun (Some e) None new same through touches h = absurd h
+  told-begun (Some e) (Some o) None same through touches h = absurd through
+  told-begun (Some e) (Some o) (Some n) same through touches h = kept-begun e o n same through touches h
 
 never-push : (from mid own to : ℕ) (acked : List ℕ) → NeverFall from acked mid → mid ≤ own → own ≤ to → NeverFall from (acked ++ own ∷ []) to
 never-push from mid own to [] h le ge = (omega (arith, h, le), ge)
@@ -230,9 +240,9 @@ clocks-length xs ys e = ap (λ (l : List ℕ). length l) e
 all-shown : (opening : Base) (w : WriterState) → length w.begun ≡ length w.acked → w.shown ≡ folded opening (take (length w.acked) w.begun) → w.shown ≡ folded opening w.begun
 all-shown opening w same is = is ∙ ap (folded opening) (take_all (length w.acked) w.begun (omega (arith, same)))
 
-module _ (entry old new : ObservedDisk) (opening : Base) (w after : WriterState) (commit : Commit) (h : IsDurable entry opening old w) (alive : w.closed ≡ None)
+module _ (twice : TwiceLaw) (entry old new : ObservedDisk) (opening : Base) (w after : WriterState) (commit : Commit) (h : IsDurable entry opening old w) (alive : w.closed ≡ None)
     (rises : old.clock ≤ max_count → (old.clock ≤ new.clock) × (new.clock ≤ max_count)) (through : GoesOn (λ o n. GoesThrough Head (HoldsEither w.shown commit) o n) old.told new.told)
-    (begun : after.begun ≡ w.begun ++ commit ∷ []) where
+    (touches : GoesOn (TouchesOnly Head) old.told new.told) (begun : after.begun ≡ w.begun ++ commit ∷ []) where
   -- a commit that was made is as durable as those before it
   pub durable-made : (own : ℕ) → own ≡ new.clock → IfSome new.told (λ m. own ≡ min (length m.past) max_count) → after.acked ≡ w.acked ++ own ∷ [] → after.shown ≡ committed w.shown commit → after.published ≡ with_commit w.published commit
       → GoesOn (λ o n. StandsOnIndex n.present after) old.told new.told → IsDurable entry opening new after
@@ -244,7 +254,7 @@ module _ (entry old new : ObservedDisk) (opening : Base) (w after : WriterState)
       let both : length after.begun ≡ length after.acked = omega (arith, same, long, clocks, length_push w.begun commit, length_push w.acked own) in
       let whole : after.shown ≡ folded opening after.begun = shown ∙ (ap (λ (b : Base). committed b commit) is ∙ (sym (folded-more opening w.begun commit) ∙ ap (folded opening) (sym begun))) in
       let kept : GoesOn (KeptSince opening (w.begun ++ commit ∷ []) (w.acked ++ own ∷ [])) entry.told new.told =
-      told-made opening w.shown w.begun commit w.acked is own entry.told old.told new.told same number through (stands-told old.told new.told after (committed w.shown commit) shown stands) h.kept in
+      told-made twice opening w.shown w.begun commit w.acked is own entry.told old.told new.told same number through touches (stands-told old.told new.told after (committed w.shown commit) shown stands) h.kept in
       record {
         within = omega (arith, both);
         few = omega (arith, both);
@@ -266,7 +276,7 @@ module _ (entry old new : ObservedDisk) (opening : Base) (w after : WriterState)
       let is = all-shown opening w same h.shown in
       let long = commits-length after.begun (w.begun ++ commit ∷ []) begun in
       let clocks = clocks-length after.acked w.acked acked in
-      let kept : GoesOn (KeptSince opening (w.begun ++ commit ∷ []) w.acked) entry.told new.told = told-begun opening w.shown w.begun commit w.acked is entry.told old.told new.told same through h.kept in
+      let kept : GoesOn (KeptSince opening (w.begun ++ commit ∷ []) w.acked) entry.told new.told = told-begun twice opening w.shown w.begun commit w.acked is entry.told old.told new.told same through touches h.kept in
       let front : take (length after.acked) after.begun ≡ w.begun =
       ap (λ (l : List Commit). take (length after.acked) l) begun ∙ (take-append-le (length after.acked) w.begun (commit ∷ []) (omega (arith, same, clocks)) ∙ take_all (length after.acked) w.begun (omega (arith, same, clocks))) in
       record {
@@ -282,19 +292,19 @@ module _ (entry old new : ObservedDisk) (opening : Base) (w after : WriterState)
       }
 
 -- whatever a commit answers
-pub durable-after : {T : Type 0} (entry old new : ObservedDisk) (opening : Base) (w after : WriterState) (commit : Commit) (result : Result T WriteError) → w.closed ≡ None → IsDurable entry opening old w
-    → IsAfterCommit w commit new.clock new.faults result after → NeverFalls old.clock new.clock → GoesOn (λ o n. GoesThrough Head (HoldsEither w.shown commit) o n) old.told new.told
+pub durable-after : {T : Type 0} → TwiceLaw → (entry old new : ObservedDisk) (opening : Base) (w after : WriterState) (commit : Commit) (result : Result T WriteError) → w.closed ≡ None → IsDurable entry opening old w
+    → IsAfterCommit w commit new.clock new.faults result after → NeverFalls old.clock new.clock → GoesOn (λ o n. GoesThrough Head (HoldsEither w.shown commit) o n) old.told new.told → GoesOn (TouchesOnly Head) old.told new.told
     → IfOk result (λ done. IfSome new.told (λ m. new.clock ≡ min (length m.past) max_count)) → GoesOn (λ o n. OnOk result (StandsOnIndex n.present after)) old.told new.told
     → IfErr result (λ e. is_write_fault e ≡ false → new ≡ old) → IsDurable entry opening new after
-durable-after entry old new opening w after commit (Ok done) alive h made rises through number stands waits =
-    durable-made entry old new opening w after commit h alive rises through made.1 new.clock refl number made.2 made.0 made.5 stands
-durable-after entry old new opening w after commit (Err errors.MailFault) alive h made rises through number stands waits = absurd made
-durable-after entry old new opening w after commit (Err errors.DiskFault) alive h made rises through number stands waits =
-    durable-begun entry old new opening w after commit h alive rises through made.1 new.faults made.2 made.0 made.3 made.5
-durable-after entry old new opening w after commit (Err (errors.Closed fault)) alive h made rises through number stands waits = absurd made
-durable-after entry old new opening w after commit (Err (errors.Limit limit)) alive h made rises through number stands waits =
+durable-after twice entry old new opening w after commit (Ok done) alive h made rises through touches number stands waits =
+    durable-made twice entry old new opening w after commit h alive rises through touches made.1 new.clock refl number made.2 made.0 made.5 stands
+durable-after twice entry old new opening w after commit (Err errors.MailFault) alive h made rises through touches number stands waits = absurd made
+durable-after twice entry old new opening w after commit (Err errors.DiskFault) alive h made rises through touches number stands waits =
+    durable-begun twice entry old new opening w after commit h alive rises through touches made.1 new.faults made.2 made.0 made.3 made.5
+durable-after twice entry old new opening w after commit (Err (errors.Closed fault)) alive h made rises through touches number stands waits = absurd made
+durable-after twice entry old new opening w after commit (Err (errors.Limit limit)) alive h made rises through touches number stands waits =
     subst (λ (d : ObservedDisk). IsDurable entry opening d after) (sym (waits refl)) (subst (IsDurable entry opening old) (sym made.1) h)
-durable-after entry old new opening w after commit (Err errors.NoMemory) alive h made rises through number stands waits =
+durable-after twice entry old new opening w after commit (Err errors.NoMemory) alive h made rises through touches number stands waits =
     subst (λ (d : ObservedDisk). IsDurable entry opening d after) (sym (waits refl)) (subst (IsDurable entry opening old) (sym made) h)
 
 stands-same : (old new : ObservedDisk) (w after : WriterState) → new ≡ old → after ≡ w → IfSome old.told (λ m. StandsOnIndex m.present w) → IfSome new.told (λ m. StandsOnIndex m.present after)

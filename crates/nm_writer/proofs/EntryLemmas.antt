@@ -8,13 +8,14 @@ use Rattle.nm_commit.specs.declared.change.Commit.{Commit}
 use Rattle.nm_disk.specs.Calls.{GoesOn}
 use Rattle.nm_disk.specs.Images.{IsImage, IsLeft, MayLeave, bytes_of, is_written, reach}
 use Rattle.nm_disk.specs.Observed.{Moments, ObservedDisk, bytes_now}
+use Rattle.nm_disk.specs.declared.disk.FileNo.{FileNo}
 use Rattle.nm_disk.specs.declared.disk.FileNo.TheVariants.{Head}
 use Rattle.nm_disk.specs.declared.state.DiskState.{DiskState}
 use Rattle.nm_disk.specs.declared.state.Range.{Range}
 use Rattle.nm_index.specs.Index.{folded}
 use Rattle.nm_index.specs.declared.base.Base.{Base}
 use Rattle.nm_journal.specs.Journal.{StandsOn}
-use Rattle.nm_journal.specs.Moments.{GoesThrough, LeavesOnly}
+use Rattle.nm_journal.specs.Moments.{GoesThrough, LeavesNothingNew, LeavesOnly, SyncsOrFails}
 use Rattle.nm_writer.specs.Durable.{EachKeeps, HoldsPrefix, IsDurable, KeptSince, NeverFall}
 use Rattle.nm_replay.specs.StoredIndex.{HasCommits, HoldsIndex, HoldsWithin}
 use Rattle.nm_replay.specs.declared.open_error.OpenError.{OpenError}
@@ -32,7 +33,13 @@ each-none index before (state ∷ states) h = (λ bytes left. prefix-none index 
 
 pub kept-here : (told : Option Moments) (writer : WriterState) → IfSome told (λ m. StandsOnIndex m.present writer) → GoesOn (KeptSince writer.shown [] []) told told
 kept-here None writer h = tt
-kept-here (Some m) writer h = record { states = m.present ∷ []; are = refl; each = each-none writer.shown (length m.past) (m.present ∷ []) (stands-holds m.present writer h, tt); so_far = tt }
+kept-here (Some m) writer h = record {
+  states = m.present ∷ [];
+  are = refl;
+  each = each-none writer.shown (length m.past) (m.present ∷ []) (stands-holds m.present writer h, tt);
+  so_far = tt;
+  others = λ other apart. record { states = []; each = tt; are = refl };
+}
 
 -- where nothing is pending a stop leaves what a read gives
 left-synced : (synced bytes : List ℕ) (written : List Range) → written ≡ [] → IsLeft synced (is_written written Head) (reach written Head (length synced)) bytes → bytes ≡ synced
@@ -51,16 +58,21 @@ each-settled entry index [] none image held h = (λ bytes left. subst (λ (b : L
 each-settled entry index (state ∷ states) none image held h =
     (λ bytes left. subst (λ (b : List ℕ). HoldsIndex b index) (sym (settled entry bytes none image (h.0 bytes left))) held, each-settled entry index states none image held h.1)
 
-pub kept-entry : (old new : Option Moments) (index : Base) → IfSome old (λ m. m.present.written ≡ []) → IfSome old (λ m. IsImage m.present m.present.now) → GoesOn (λ o n. HoldsWithin (bytes_now o Head) index) old new
-    → GoesOn (λ o n. GoesThrough Head (MayLeave o.present Head) o n) old new → GoesOn (KeptSince index [] []) old new
-kept-entry None None index none image held through = tt
-kept-entry None (Some n) index none image held through = absurd through
-kept-entry (Some o) None index none image held through = absurd through
-kept-entry (Some o) (Some n) index none image held through = record {
+-- a sync leaves nothing new
+abbrev pub SyncLaw : Type 0
+SyncLaw = (file : FileNo) (old new : Moments) → IsImage old.present old.present.now → SyncsOrFails old new → LeavesNothingNew file old new
+
+pub kept-entry : SyncLaw → (old new : Option Moments) (index : Base) → IfSome old (λ m. m.present.written ≡ []) → IfSome old (λ m. IsImage m.present m.present.now) → GoesOn (λ o n. HoldsWithin (bytes_now o Head) index) old new
+    → GoesOn (λ o n. GoesThrough Head (MayLeave o.present Head) o n) old new → GoesOn SyncsOrFails old new → GoesOn (KeptSince index [] []) old new
+kept-entry law None None index none image held through syncs = tt
+kept-entry law None (Some n) index none image held through syncs = absurd through
+kept-entry law (Some o) None index none image held through syncs = absurd through
+kept-entry law (Some o) (Some n) index none image held through syncs = record {
   states = through.states ++ o.present ∷ [];
   are = through.are ∙ sym (append_assoc through.states (o.present ∷ []) o.past);
   each = each-none index (length o.past) (through.states ++ o.present ∷ []) (each-settled o.present index through.states none image held.held through.each);
   so_far = tt;
+  others = λ other apart. law other o n image syncs;
 }
 
 abbrev none_begun : List Commit
@@ -106,13 +118,13 @@ durable-here old new (Ok opened) fresh published clock stands =
 durable-here old new (Err error) fresh published clock stands = tt
 
 -- and from its entry on
-pub durable-entry : (old new : ObservedDisk) (result : Result Opened OpenError) → IfSome old.told (λ m. IsImage m.present m.present.now) → IfOk result (λ opened. IsFresh opened.writer) → IfOk result (λ opened. PublishesShown opened.writer)
-    → IfOk result (λ opened. new.clock ≤ max_count) → GoesOn (λ o n. IfOk result (λ opened. HoldsWithin (bytes_now o Head) opened.writer.shown)) old.told new.told → GoesOn (λ o n. GoesThrough Head (MayLeave o.present Head) o n) old.told new.told
+pub durable-entry : SyncLaw → (old new : ObservedDisk) (result : Result Opened OpenError) → IfSome old.told (λ m. IsImage m.present m.present.now) → IfOk result (λ opened. IsFresh opened.writer) → IfOk result (λ opened. PublishesShown opened.writer)
+    → IfOk result (λ opened. new.clock ≤ max_count) → GoesOn (λ o n. IfOk result (λ opened. HoldsWithin (bytes_now o Head) opened.writer.shown)) old.told new.told → GoesOn (λ o n. GoesThrough Head (MayLeave o.present Head) o n) old.told new.told → GoesOn SyncsOrFails old.told new.told
     → IfSome old.told (λ m. m.present.written ≡ []) → IfOk result (λ opened. IsDurable old opened.writer.shown new opened.writer)
-durable-entry old new (Ok opened) image fresh published clock index through none =
+durable-entry law old new (Ok opened) image fresh published clock index through syncs none =
     let w = opened.writer in
-    durable-none old new w fresh.0 fresh.1 published clock (kept-entry old.told new.told w.shown none image index through)
-durable-entry old new (Err error) image fresh published clock index through none = tt
+    durable-none old new w fresh.0 fresh.1 published clock (kept-entry law old.told new.told w.shown none image index through syncs)
+durable-entry law old new (Err error) image fresh published clock index through syncs none = tt
 
 -- a writer whose index the records leave stands on the disk
 pub opened-stands : (old new : Option Moments) (writer : WriterState) → writer.journal.file ≡ Head → writer.journal.start ≡ 0

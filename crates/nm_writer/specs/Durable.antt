@@ -1,5 +1,5 @@
 -- What is never lost: whatever a stop leaves, at each moment since an entry, holds the commits begun since then that were acknowledged by
--- that moment, with or without the one that comes next.
+-- that moment, with or without the one that comes next. No file but the head is written.
 -- Cited by `committing`, `new`, `nm_history` and others.
 use Rattle.std.specs.Prelude.{◌≡◌, ℕ, ◌+◌, ◌<◌, ◌≤◌, min, ◌&&◌, nat_le, nat_lt, List, [], ◌∷◌, ◌++◌, filter, length, take, None}
 use Rattle.std.specs.List.{AllByRecursion}
@@ -11,7 +11,7 @@ use Rattle.nm_disk.specs.declared.disk.FileNo.TheVariants.{Head}
 use Rattle.nm_disk.specs.declared.state.DiskState.{DiskState}
 use Rattle.nm_index.specs.Index.{folded}
 use Rattle.nm_index.specs.declared.base.Base.{Base}
-use Rattle.nm_journal.specs.Moments.{LeavesOnly, all_moments}
+use Rattle.nm_journal.specs.Moments.{LeavesOnly, TouchesOnly, all_moments}
 use Rattle.nm_replay.specs.StoredIndex.{HoldsIndex}
 use Rattle.nm_writer.specs.Writer.{WriterState}
 
@@ -38,12 +38,13 @@ EachKeeps opening begun acked before [] = Unit {0}
 EachKeeps opening begun acked before (state ∷ states) =
     KeepsAcknowledged opening begun acked (min (before + length states) max_count) state × EachKeeps opening begun acked before states
 
--- so it is at each moment since the entry, which is one of them; no clock is of a later moment
+-- so it is at each moment since the entry, which is one of them; no clock is of a later moment; of the other files nothing new is left
 pub record KeptSince (opening : Base) (begun : List Commit) (acked : List ℕ) (entry now : Moments) : Type 0 where
   pub states : List DiskState
   pub are : all_moments now ≡ states ++ entry.past
   pub each : EachKeeps opening begun acked (length entry.past) states
   pub so_far : AllByRecursion (λ own. own ≤ length now.past) acked
+  pub others : TouchesOnly Head entry now
 
 -- the numbers never fall, from the first one on up to the last one
 abbrev pub NeverFall : ℕ → List ℕ → ℕ → Type 0

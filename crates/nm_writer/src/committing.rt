@@ -9,7 +9,7 @@ ghost use Rattle.nm_disk.specs.Observed.{ObservedDisk};
 ghost use Rattle.nm_faults.specs.Faults.{HasCauseOf};
 ghost use Rattle.nm_index.specs.Index.{committed};
 ghost use Rattle.nm_index.specs.declared.base.Base.{Base};
-ghost use Rattle.nm_journal.specs.Moments.{GoesThrough, NeverFalls};
+ghost use Rattle.nm_journal.specs.Moments.{GoesThrough, NeverFalls, TouchesOnly};
 ghost use Rattle.nm_record.specs.CommitGrammar.{commit_grammar};
 ghost use Rattle.nm_record.specs.Commits.{change_bytes};
 ghost use Rattle.nm_record.specs.Room.{limit_passed};
@@ -22,7 +22,7 @@ use nm_base::{Limit, Many, NoMemory};
 use nm_changes::{framed, spell_beside};
 use nm_commit::Commit;
 use nm_disk::{Disk, DiskFault, FileNo};
-use nm_journal::Frame;
+use nm_journal::{Frame, nothing_new_twice_is_nothing_new};
 use nm_plan::{files_stay_apart, numbers_stay_in_order};
 use nm_record::commit_len;
 use nm_replay::{next_snapshot, one_commit_more_is_held};
@@ -73,6 +73,7 @@ impl Writer {
 
         ensures cause { HasCauseOf is_write_fault (D.observed disk.old).faults (D.observed disk.new).faults result }
     {
+        nothing_new_twice_is_nothing_new();
         self.make(rt, disk, commit, next, pieces)
     }
 
@@ -95,6 +96,7 @@ impl Writer {
             (D.observed disk.old).told (D.observed disk.new).told }
         ensures any_moment { GoesOn (λ old new. GoesThrough FileNo.Head (HoldsEither self.old.shown commit) old new)
             (D.observed disk.old).told (D.observed disk.new).told }
+        ensures others { GoesOn (TouchesOnly FileNo.Head) (D.observed disk.old).told (D.observed disk.new).told }
         ensures rises { NeverFalls (D.observed disk.old).clock (D.observed disk.new).clock }
         ensures number { IfOk result (λ _. IfSome (D.observed disk.new).told (λ moments. (D.observed disk.new).clock ≡ min (length moments.past) max_count)) }
         ensures waits { IfErr result (λ error. is_write_fault error ≡ false → D.observed disk.new ≡ D.observed disk.old) }

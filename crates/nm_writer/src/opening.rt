@@ -16,6 +16,7 @@ ghost use Rattle.nm_writer.specs.Writer.{StandsOnIndex};
 use crate::Writer;
 use nm_base::{Many, NoMemory, Room};
 use nm_disk::{Disk, FileNo};
+use nm_journal::a_sync_leaves_nothing_new;
 use nm_plan::{files_stay_apart, numbers_stay_in_order};
 use nm_publish::{Reader, Started, start};
 use nm_replay::{OpenError, Replayed, replay_head};
@@ -79,6 +80,7 @@ impl Writer {
 
         ensures cause { HasCauseOf is_disk_fault (D.observed disk.old).faults (D.observed disk.new).faults result }
     {
+        a_sync_leaves_nothing_new();
         Writer::open_head(rt, alloc, disk, readers, workers)
     }
 

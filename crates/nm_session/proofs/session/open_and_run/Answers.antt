@@ -20,7 +20,8 @@ returns-in-Ok-clause-ran g c = λ input err.
       opening = opening;
       opening_index = opening-held opening old.told opened.told c.in-Ok.ensures.index;
       run = run;
-      crash_prefix = ran-prefix c.a_session_keeps_its_commits.ensures opening log.steps log.acked old opened new c.in-Ok.ensures.index c.in-Ok.ensures.synced
+      crash_prefix = ran-prefix c.a_session_keeps_its_commits.ensures opening log.steps log.acked old opened new
+          (g.D.Disk.reads_an_image c.args.disk.now) (g.D.Disk.reads_an_image c.run_all-ran.new.disk) c.in-Ok.ensures.index c.in-Ok.ensures.synced
           (λ quiet. (c.run_all-ran.ensures.durable old (c.in-Ok.ensures.durable_from_entry quiet)).kept) kept.kept run.clocks kept.clocks;
     }
 
@@ -32,7 +33,8 @@ returns-in-Err-clause-refused g c =
       mail = refl;
       cause = open-caused old new c.in-Err.error c.in-Err.ensures.cause c.in-Err.ensures.bad c.in-Err.ensures.file;
       unwritten = c.in-Err.ensures.syncs;
-      crash_prefix = unopened-prefix c.a_refused_opening_keeps_the_index.ensures old new (g.D.Disk.reads_an_image c.args.disk.now) c.in-Err.ensures.syncs c.in-Err.ensures.any_moment;
+      crash_prefix = unopened-prefix c.a_refused_opening_keeps_the_index.ensures old new
+          (g.D.Disk.reads_an_image c.args.disk.now) (g.D.Disk.reads_an_image c.open.new.disk) c.in-Err.ensures.syncs;
     }
 
 pub run_all-ran-requires-clause-lanes : goal.run_all-ran-requires-clause-lanes

@@ -11,7 +11,7 @@ use Rattle.nm_journal.specs.Journal.{JournalState, ReceiptState}
 use Rattle.nm_publish.specs.Published.{index_of, with_commit}
 use Rattle.nm_writer.specs.Writer.{WriterState}
 use Rattle.nm_writer.specs.Writing.{IsWithin}
-use Rattle.nm_writer.proofs.CommitLemmas.{any-moment, index-more, journal-stands, staged-published, stands-after}
+use Rattle.nm_writer.proofs.CommitLemmas.{any-moment, index-more, journal-stands, others, staged-published, stands-after}
 use Rattle.nm_writer.proofs.writer.Writer.make.Goals as goal
 
 pub append-requires-clause-stands : goal.append-requires-clause-stands
@@ -63,6 +63,16 @@ returns-clause-any_moment g c =
     let disk = g.D.Disk in
     any-moment c.one_commit_more_is_held.ensures (disk.observed c.args.disk.now).told (disk.observed c.append.new.disk).told c.args.self.now c.self.inside.journal c.args.commit c.in_ok-frame.frame
     (ap (λ (w : WriterState). w.journal) (sym c.self.view_is)) c.requires.stands c.in_ok-frame.ensures.frame c.in_ok-frame.ensures.value c.requires.fits c.append.ensures.any_moment
+
+pub returns-in-Ok-clause-others : goal.returns-in-Ok-clause-others
+returns-in-Ok-clause-others g c =
+    let disk = g.D.Disk in
+    others (disk.observed c.args.disk.now).told (disk.observed c.append.new.disk).told c.args.self.now c.self.inside.journal (ap (λ (w : WriterState). w.journal) (sym c.self.view_is)) c.requires.stands c.append.ensures.others
+
+pub returns-clause-others : goal.returns-clause-others
+returns-clause-others g c =
+    let disk = g.D.Disk in
+    others (disk.observed c.args.disk.now).told (disk.observed c.append.new.disk).told c.args.self.now c.self.inside.journal (ap (λ (w : WriterState). w.journal) (sym c.self.view_is)) c.requires.stands c.append.ensures.others
 
 pub returns-in-Ok-clause-after : goal.returns-in-Ok-clause-after
 returns-in-Ok-clause-after g c =
