@@ -9,6 +9,7 @@ use Rattle.nm_index.specs.Index.{folded}
 use Rattle.nm_index.specs.declared.base.Base.{Base}
 use Rattle.nm_log.specs.ParsedLine.{parse_line}
 use Rattle.nm_log.specs.Replies.{status_of}
+use Rattle.nm_log.specs.declared.log.Said.{Said}
 use Rattle.nm_log.specs.declared.outcome.Outcome.TheVariants as outcomes
 use Rattle.nm_machine.specs.declared.step.Step.{Step}
 use Rattle.nm_machine.specs.declared.step.Step.TheVariants.{Begin, Append, Show, See, Meet, Reply, Crash, Reopen}
@@ -53,6 +54,10 @@ begin_step commit = Begin commit
 
 abbrev pub reply_step : Replied → Step
 reply_step replied = Reply replied.lane replied.request replied.text
+
+-- what was replied, as it is kept until the steps are made
+abbrev pub said_of : Replied → Said
+said_of replied = record { request = replied.request; text = replied.text }
 
 -- the commits of a line one after the other, the one that it leaves on its way, and its reply
 abbrev pub line_steps : List Commit → List Commit → List Replied → List Step

@@ -1,6 +1,7 @@
 //! The log of a session, which `nm_session` keeps and `nm_top` hands back, and what a run is given.
 
 use crate::Outcome;
+use nm_answer::Request;
 use nm_base::Many;
 use nm_machine::Step;
 use nm_maildir::Given;
@@ -38,6 +39,13 @@ pub struct LineLog {
     pub disk_faults: u64,
     /// Whether the disk failed in the line, so that the index is closed to all later ones.
     pub disk_failed: bool,
+}
+
+/// What was replied to a line, and to what.
+#[derive(Drop)]
+pub struct Said {
+    pub request: Request,
+    pub text: Many<u8>,
 }
 
 /// What a session did.

@@ -21,16 +21,16 @@ use Rattle.nm_log.specs.ParsedLine.{parse_line}
 use Rattle.nm_log.specs.declared.log.LineLog.{LineLog}
 use Rattle.nm_machine.specs.declared.step.Step.{Step}
 use Rattle.nm_machine.specs.declared.step.Step.TheVariants.{Meet}
-use Rattle.nm_session.specs.Line.{IsNoted}
-use Rattle.nm_session.specs.Look.{IsLookNoted}
+use Rattle.nm_session.specs.LineLog.{IsNoted}
+use Rattle.nm_session.specs.LaneLog.{IsLookNoted}
 use Rattle.nm_session.specs.Loop.{HasNoted, HasRunSome, IsMeetingNoted, IsTurn, StandFor, lines_at, steps_at}
-use Rattle.nm_session.specs.Marks.{line_marks, look_marks, steps_of}
-use Rattle.nm_session.specs.Rooms.{AreSpares, HasSpare}
+use Rattle.nm_trace.specs.Marks.{line_marks, look_marks, steps_of}
+use Rattle.nm_trace.specs.ReservedLog.{AreFallbacks, HasSpare}
 use Rattle.nm_session.specs.TurnLaws.{TurnLaws}
 use Rattle.nm_session.specs.Turns.{Meets, Planned, Runs, ends_in, line_in, lines_in}
-use Rattle.nm_session.specs.declared.marks.Mark.{Mark}
-use Rattle.nm_session.specs.declared.marks.Mark.TheVariants as marks
-use Rattle.nm_session.specs.declared.rooms.Rooms.{Rooms}
+use Rattle.nm_trace.specs.declared.trace.Mark.{Mark}
+use Rattle.nm_trace.specs.declared.trace.Mark.TheVariants as marks
+use Rattle.nm_trace.specs.declared.reserved_log.ReservedLog.{ReservedLog}
 use Rattle.nm_session.proofs.LineLemmas.{reply-few, still-even}
 use Rattle.nm_session.proofs.MarkLemmas.{line-length, line-stands, line-steps, look-stands, look-steps-are, mapped, stand-append, steps-append}
 use Rattle.nm_session.proofs.PlaceLemmas.{IsCut, others-alone, shows-made, stand-between, stand-cut, steps-between, steps-cut}
@@ -86,7 +86,7 @@ not-zero lane h = grind (arith, nat_tests)
 
 -- ---- a line of lane 0
 
-module _ (moment : ℤ) (planned : List Planned) (phase : ℕ) (line : ScriptLine) (before after : Rooms) (old new : Place) (noted : HasNoted planned before old) (first : line.lane ≡ 0) (h : IsNoted moment phase old line before after new) where
+module _ (moment : ℤ) (planned : List Planned) (phase : ℕ) (line : ScriptLine) (before after : ReservedLog) (old new : Place) (noted : HasNoted planned before old) (first : line.lane ≡ 0) (h : IsNoted moment phase old line before after new) where
   abbrev taken : List Step
   taken = line_steps h.run.answered.made h.run.answered.in_flight (reply_to (line, h.log))
 
@@ -202,7 +202,7 @@ module _ (moment : ℤ) (planned : List Planned) (phase : ℕ) (line : ScriptLin
 
 -- ---- a line of another lane
 
-module _ (moment : ℤ) (planned : List Planned) (phase : ℕ) (line : ScriptLine) (before after : Rooms) (place : Place) (noted : HasNoted planned before place) (another : 1 ≤ line.lane)
+module _ (moment : ℤ) (planned : List Planned) (phase : ℕ) (line : ScriptLine) (before after : ReservedLog) (place : Place) (noted : HasNoted planned before place) (another : 1 ≤ line.lane)
     (h : IsLookNoted moment phase place.writer line before after) where
   abbrev log : LineLog
   log = h.noted.log
@@ -337,7 +337,7 @@ module _ (moment : ℤ) (planned : List Planned) (phase : ℕ) (line : ScriptLin
 
 -- ---- the end of a phase
 
-module _ (moment : ℤ) (planned : List Planned) (before after : Rooms) (place : Place) (noted : HasNoted planned before place) (h : IsMeetingNoted before after) where
+module _ (moment : ℤ) (planned : List Planned) (before after : ReservedLog) (place : Place) (noted : HasNoted planned before place) (h : IsMeetingNoted before after) where
   logs-are : after.logs.0 ≡ before.logs.0
   logs-are = ap (λ (l : List LineLog × ℕ). l.0) h.logs
 
@@ -384,13 +384,13 @@ module _ (moment : ℤ) (planned : List Planned) (before after : Rooms) (place :
 
 -- ---- any turn
 
-pub noted-more : (moment : ℤ) (planned : List Planned) (turn : Planned) (before after : Rooms) (old new : Place) → HasNoted planned before old → IsTurn moment turn old before after new → HasNoted (planned ++ turn ∷ []) after new
+pub noted-more : (moment : ℤ) (planned : List Planned) (turn : Planned) (before after : ReservedLog) (old new : Place) → HasNoted planned before old → IsTurn moment turn old before after new → HasNoted (planned ++ turn ∷ []) after new
 noted-more moment planned (Runs phase line) before after old new noted (inl h) = line-noted moment planned phase line before after old new noted h.0 h.1
 noted-more moment planned (Runs phase line) before after old new noted (inr h) =
     subst (λ (place : Place). HasNoted (planned ++ Runs phase line ∷ []) after place) (sym h.2) (look-noted moment planned phase line before after old noted h.0 h.1)
 noted-more moment planned Meets before after old new noted h = subst (λ (place : Place). HasNoted (planned ++ Meets ∷ []) after place) (sym h.1) (meet-noted moment planned before after old noted h.0)
 
-pub some-more : (laws : TurnLaws) (moment : ℤ) (opening : Base) (entry : Devices) (planned : List Planned) (turn : Planned) (before after : Rooms) (old new : Place) → HasNoted planned before old → IsTurn moment turn old before after new
+pub some-more : (laws : TurnLaws) (moment : ℤ) (opening : Base) (entry : Devices) (planned : List Planned) (turn : Planned) (before after : ReservedLog) (old new : Place) → HasNoted planned before old → IsTurn moment turn old before after new
     → IsNext 0 planned turn → HasRunSome moment opening entry planned before old → HasRunSome moment opening entry (planned ++ turn ∷ []) after new
 some-more laws moment opening entry planned (Runs phase line) before after old new noted (inl h) next some =
     let here : phase ≡ ends_in planned = omega (arith, next.0) in
@@ -404,33 +404,33 @@ some-more laws moment opening entry planned Meets before after old new noted h n
 
 -- ---- places
 
-pub spare-fewer : (turns fewer begun : ℕ) (rooms : Rooms) → fewer ≤ turns → HasSpare turns begun rooms → HasSpare fewer begun rooms
-spare-fewer turns fewer begun rooms few h =
-    record { logs = omega (arith, h.logs, few); marks = omega (arith, h.marks, few); spares = omega (arith, h.spares, few); texts = h.texts }
+pub spare-fewer : (turns fewer begun : ℕ) (reserved : ReservedLog) → fewer ≤ turns → HasSpare turns begun reserved → HasSpare fewer begun reserved
+spare-fewer turns fewer begun reserved few h =
+    record { logs = omega (arith, h.logs, few); marks = omega (arith, h.marks, few); fallbacks = omega (arith, h.fallbacks, few); texts = h.texts }
 
-pub spare-turn : (moment : ℤ) (turns : ℕ) (turn : Planned) (before after : Rooms) (old new : Place) → HasSpare (turns + 1) (length old.writer.begun) before → IsTurn moment turn old before after new
+pub spare-turn : (moment : ℤ) (turns : ℕ) (turn : Planned) (before after : ReservedLog) (old new : Place) → HasSpare (turns + 1) (length old.writer.begun) before → IsTurn moment turn old before after new
     → HasSpare turns (length new.writer.begun) after
 spare-turn moment turns (Runs phase line) before after old new h (inl turn) = record {
   logs = omega (arith, h.logs, turn.1.logs_spare);
   marks = omega (arith, h.marks, turn.1.marks_spare);
-  spares = omega (arith, h.spares, turn.1.spares);
+  fallbacks = omega (arith, h.fallbacks, turn.1.fallbacks);
   texts = turn.1.texts;
 }
 spare-turn moment turns (Runs phase line) before after old new h (inr turn) = record {
   logs = omega (arith, h.logs, turn.1.noted.logs_spare);
   marks = omega (arith, h.marks, turn.1.noted.marks_spare, ap (λ (place : Place). length place.writer.begun) turn.2);
-  spares = omega (arith, h.spares, turn.1.noted.spares);
+  fallbacks = omega (arith, h.fallbacks, turn.1.noted.fallbacks);
   texts = turn.1.noted.texts;
 }
 spare-turn moment turns Meets before after old new h turn = record {
   logs = omega (arith, h.logs, ap (λ (l : List LineLog × ℕ). l.1) turn.0.logs);
   marks = omega (arith, h.marks, turn.0.marks_spare, ap (λ (place : Place). length place.writer.begun) turn.1);
-  spares = omega (arith, h.spares, ap (λ (l : List (List ℕ)). length l) turn.0.spares);
-  texts = subst AreSpares (sym turn.0.spares) h.texts;
+  fallbacks = omega (arith, h.fallbacks, ap (λ (l : List (List ℕ)). length l) turn.0.fallbacks);
+  texts = subst AreFallbacks (sym turn.0.fallbacks) h.texts;
 }
 
 -- the steps that were made so far
-pub steps-same : (moment : ℤ) (turn : Planned) (before after : Rooms) (old new : Place) → IsTurn moment turn old before after new → after.steps ≡ before.steps
+pub steps-same : (moment : ℤ) (turn : Planned) (before after : ReservedLog) (old new : Place) → IsTurn moment turn old before after new → after.steps ≡ before.steps
 steps-same moment (Runs phase line) before after old new (inl turn) = turn.1.steps
 steps-same moment (Runs phase line) before after old new (inr turn) = turn.1.noted.steps
 steps-same moment Meets before after old new turn = turn.0.steps

@@ -3,7 +3,7 @@ use Rattle.std.proofs.Common.{◌≡◌, ℕ, ◌+◌, ◌*◌, suc, List, [], �
 use Rattle.std.proofs.lemmas.List.{length-append}
 use Rattle.std.specs.List.{AllByRecursion, flat_map}
 use Rattle.nm_commit.specs.declared.change.Commit.{Commit}
-use Rattle.nm_history.specs.LineResult.{begin_step, commit_steps, line_steps, look_steps, reply_step}
+use Rattle.nm_history.specs.LineResult.{begin_step, commit_steps, line_steps, look_steps, reply_step, said_of}
 use Rattle.nm_history.specs.Lines.{RunLine, begun}
 use Rattle.nm_history.specs.MachineRun.{Replied, replied_where, reply_to}
 use Rattle.nm_log.specs.ParsedLine.{parse_line}
@@ -14,10 +14,10 @@ use Rattle.nm_log.specs.declared.outcome.Outcome.TheVariants as outcomes
 use Rattle.nm_machine.specs.declared.step.Step.{Step}
 use Rattle.nm_machine.specs.declared.step.Step.TheVariants as steps
 use Rattle.nm_session.specs.Loop.{StandFor}
-use Rattle.nm_session.specs.Marks.{begun_mark, line_marks, look_marks, reply_mark, said_mark, said_marks, said_of, steps_of}
-use Rattle.nm_session.specs.declared.marks.Mark.{Mark}
-use Rattle.nm_session.specs.declared.marks.Mark.TheVariants as marks
-use Rattle.nm_session.specs.declared.marks.Said.{Said}
+use Rattle.nm_trace.specs.Marks.{begun_mark, line_marks, look_marks, reply_mark, said_mark, said_marks, steps_of}
+use Rattle.nm_trace.specs.declared.trace.Mark.{Mark}
+use Rattle.nm_trace.specs.declared.trace.Mark.TheVariants as marks
+use Rattle.nm_log.specs.declared.log.Said.{Said}
 
 pub stand-append : (ms ns : List Mark) (xs ys : List Commit) → StandFor ms xs → StandFor ns ys → StandFor (ms ++ ns) (xs ++ ys)
 stand-append [] ns [] ys h more = more

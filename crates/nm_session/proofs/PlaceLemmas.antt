@@ -4,9 +4,9 @@ use Rattle.nm_commit.specs.declared.change.Commit.{Commit}
 use Rattle.nm_history.specs.LineResult.{LeaveAlone, shows}
 use Rattle.nm_machine.specs.declared.step.Step.{Step}
 use Rattle.nm_session.specs.Loop.{StandFor}
-use Rattle.nm_session.specs.Marks.{AreOfOthers, made_in, steps_of}
-use Rattle.nm_session.specs.declared.marks.Mark.{Mark}
-use Rattle.nm_session.specs.declared.marks.Mark.TheVariants as marks
+use Rattle.nm_trace.specs.Marks.{AreOfOthers, made_in, steps_of}
+use Rattle.nm_trace.specs.declared.trace.Mark.{Mark}
+use Rattle.nm_trace.specs.declared.trace.Mark.TheVariants as marks
 use Rattle.nm_session.proofs.MarkLemmas.{stand-append, steps-append}
 
 -- the commits for which the marks in front stand, and those behind

@@ -6,7 +6,7 @@ use Rattle.std.proofs.lemmas.List.{length-append}
 use Rattle.nm_faults.specs.Faults.{HasRisen}
 use Rattle.nm_history.specs.Call.{PlacedLine, lines_of_first}
 use Rattle.nm_history.specs.PrintedOut.{AreLogsOf, GainsReplies, HandsOnReplies, printed_by}
-use Rattle.nm_io.specs.Observed.{ObservedSink}
+use Rattle.nm_io.specs.Observed.{ObservedSink, StreamAppends}
 use Rattle.nm_lanes.specs.declared.script.Phase.{Phase}
 use Rattle.nm_log.specs.Replies.{printed_line, reply_of}
 use Rattle.nm_log.specs.declared.log.LineLog.{LineLog}
@@ -88,3 +88,9 @@ module _ (session : Bool) (earlier later logs : List LineLog) (both : logs ≡ e
     handed = λ some. omega (arith, so_far.put, so_far.handed some, h.handed);
     fault = subst (λ (n : ℕ). HasRisen n new.faults) so_far.no_fault h.fault;
   }
+
+-- ---- one phase
+
+pub printed-once : (failed : Bool) (phases : List Phase) (logs : List LineLog) (old new : ObservedSink) → length phases ≡ 1 → StreamAppends failed old new (printed_by false logs) → GainsReplies failed false phases 1 logs old new
+printed-once false phases logs old new one h = (sym one, (printed-more false [] logs logs refl 0 refl old old new 0 (printed-none false old) (length logs) (refl, h)).1)
+printed-once true phases logs old new one h = printed-failed false [] logs logs refl 0 refl old old new 0 (printed-none false old) phases tt h

@@ -12,16 +12,16 @@ use Rattle.nm_lanes.specs.declared.script.Phase.{Phase}
 use Rattle.nm_log.specs.declared.log.LineLog.{LineLog}
 use Rattle.nm_session.specs.Loop.{AreTaken, HasNoted, HasRunSome, IsMeetingNoted}
 use Rattle.nm_session.specs.Printing.{PrintsRest}
-use Rattle.nm_session.specs.Rooms.{HasSpare}
+use Rattle.nm_trace.specs.ReservedLog.{HasSpare}
 use Rattle.nm_session.specs.TurnLaws.{TurnLaws}
 use Rattle.nm_session.specs.Turns.{AreInPlace, Meets, Planned, other_lanes, places_in, planned_from, planned_line, planned_phase}
-use Rattle.nm_session.specs.declared.rooms.Rooms.{Rooms}
+use Rattle.nm_trace.specs.declared.reserved_log.ReservedLog.{ReservedLog}
 use Rattle.nm_session.proofs.LoopLemmas.{spare-fewer}
 use Rattle.nm_session.proofs.PhaseLemmas.{logs-all, noted-all, some-all, spare-all, taken-append, taken-one}
 use Rattle.nm_session.proofs.PrintLemmas.{printed-failed, printed-more}
 use Rattle.nm_session.proofs.TurnLemmas.{in-place, lines-planned, mapped-length, phase-cut, phase-more, phase-within, places-left}
 
-module _ (moment : ℤ) (phases : List Phase) (number : ℕ) (phase : Phase) (within : number < length phases) (is : phase ≡ get_or phases number phase) (old new : Place) (before after : Rooms) where
+module _ (moment : ℤ) (phases : List Phase) (number : ℕ) (phase : Phase) (within : number < length phases) (is : phase ≡ get_or phases number phase) (old new : Place) (before after : ReservedLog) where
   abbrev front : List Planned
   front = planned_from 0 (take number phases)
 
@@ -71,7 +71,7 @@ module _ (moment : ℤ) (phases : List Phase) (number : ℕ) (phase : Phase) (wi
 
 -- ---- the parts of a phase
 
-module _ (moment : ℤ) (number : ℕ) (phase : Phase) (old mid : Place) (rooms worked : Rooms) where
+module _ (moment : ℤ) (number : ℕ) (phase : Phase) (old mid : Place) (reserved worked : ReservedLog) where
   abbrev zeros : List Planned
   zeros = map (planned_line number) (lines_of_lane phase.lines 0)
 
@@ -81,26 +81,26 @@ module _ (moment : ℤ) (number : ℕ) (phase : Phase) (old mid : Place) (rooms 
   parts-length : length (planned_phase number phase) ≡ length zeros + (length others + 1)
   parts-length = omega (arith, ap length (phase-cut number phase) ∙ length-append zeros (others ++ Meets ∷ []), length-append others (Meets ∷ []))
 
-  pub spare-zeros : (begun : ℕ) → HasSpare (length (planned_phase number phase)) begun rooms → HasSpare (length (lines_of_lane phase.lines 0)) begun rooms
+  pub spare-zeros : (begun : ℕ) → HasSpare (length (planned_phase number phase)) begun reserved → HasSpare (length (lines_of_lane phase.lines 0)) begun reserved
   spare-zeros begun spare =
-      spare-fewer (length (planned_phase number phase)) (length (lines_of_lane phase.lines 0)) begun rooms
+      spare-fewer (length (planned_phase number phase)) (length (lines_of_lane phase.lines 0)) begun reserved
       (omega (arith, parts-length, mapped-length (planned_line number) (lines_of_lane phase.lines 0))) spare
 
-  module _ (taken : AreTaken moment zeros old rooms worked mid) (spare : HasSpare (length (planned_phase number phase)) (length old.writer.begun) rooms) where
+  module _ (taken : AreTaken moment zeros old reserved worked mid) (spare : HasSpare (length (planned_phase number phase)) (length old.writer.begun) reserved) where
     swapped : length zeros + (length others + 1) ≡ length others + 1 + length zeros
     swapped = omega arith
 
     after-zeros : HasSpare (length others + 1) (length mid.writer.begun) worked
     after-zeros =
-        spare-all moment (length others + 1) zeros old mid rooms worked
-        (subst (λ (n : ℕ). HasSpare n (length old.writer.begun) rooms) (parts-length ∙ swapped) spare) taken
+        spare-all moment (length others + 1) zeros old mid reserved worked
+        (subst (λ (n : ℕ). HasSpare n (length old.writer.begun) reserved) (parts-length ∙ swapped) spare) taken
 
     pub spare-others : HasSpare (length (flat_map (lines_of_lane phase.lines) other_lanes)) (length mid.writer.begun) worked
     spare-others =
         spare-fewer (length others + 1) (length (flat_map (lines_of_lane phase.lines) other_lanes)) (length mid.writer.begun) worked
         (omega (arith, mapped-length (planned_line number) (flat_map (lines_of_lane phase.lines) other_lanes))) after-zeros
 
-    module _ (settled : Rooms) (looked : AreTaken moment others mid worked settled mid) where
+    module _ (settled : ReservedLog) (looked : AreTaken moment others mid worked settled mid) where
       one-left : HasSpare 1 (length mid.writer.begun) settled
       one-left =
           let more : length others + 1 ≡ 1 + length others = omega arith in
@@ -109,8 +109,8 @@ module _ (moment : ℤ) (number : ℕ) (phase : Phase) (old mid : Place) (rooms 
       pub room-to-meet : length mid.writer.begun ≤ max_commits → 0 < settled.marks.1
       room-to-meet few = omega (arith, one-left.marks, few)
 
-      pub phase-taken : (met : Rooms) → IsMeetingNoted settled met → AreTaken moment (planned_phase number phase) old rooms met mid
+      pub phase-taken : (met : ReservedLog) → IsMeetingNoted settled met → AreTaken moment (planned_phase number phase) old reserved met mid
       phase-taken met meeting =
-          subst (λ (l : List Planned). AreTaken moment l old rooms met mid) (sym (phase-cut number phase))
-          (taken-append moment zeros (others ++ Meets ∷ []) old mid mid rooms worked met taken
+          subst (λ (l : List Planned). AreTaken moment l old reserved met mid) (sym (phase-cut number phase))
+          (taken-append moment zeros (others ++ Meets ∷ []) old mid mid reserved worked met taken
           (taken-append moment others (Meets ∷ []) mid mid mid worked settled met looked (taken-one moment Meets mid mid settled met (meeting, refl))))

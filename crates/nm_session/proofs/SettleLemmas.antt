@@ -6,35 +6,35 @@ use Rattle.std.proofs.lemmas.List.{length-append, map-append}
 use Rattle.nm_history.specs.Call.{lines_of_lane}
 use Rattle.nm_history.specs.LineResult.{Place}
 use Rattle.nm_lanes.specs.declared.script.ScriptLine.{ScriptLine}
-use Rattle.nm_session.specs.Look.{IsLookNoted}
+use Rattle.nm_session.specs.LaneLog.{IsLookNoted}
 use Rattle.nm_session.specs.Loop.{AreTaken}
-use Rattle.nm_session.specs.Rooms.{HasSpare}
+use Rattle.nm_trace.specs.ReservedLog.{HasSpare}
 use Rattle.nm_session.specs.Turns.{Planned, Runs, planned_line}
-use Rattle.nm_session.specs.declared.rooms.Rooms.{Rooms}
+use Rattle.nm_trace.specs.declared.reserved_log.ReservedLog.{ReservedLog}
 use Rattle.nm_session.proofs.LoopLemmas.{spare-fewer}
 use Rattle.nm_session.proofs.PhaseLemmas.{spare-all, taken-append, taken-one}
 use Rattle.nm_session.proofs.TurnLemmas.{mapped-length, own-left, own-more, range-more}
 use Rattle.nm_writer.specs.Writer.{WriterState}
 
-pub look-spare : (begun lane : ℕ) (lines : List ScriptLine) (at : ℕ) (line : ScriptLine) (rooms : Rooms) → at < length lines → line ≡ get_or lines at line → (line.lane == lane) ≡ true
-    → HasSpare (length (lines_of_lane (drop at lines) lane)) begun rooms → HasSpare 1 begun rooms
-look-spare begun lane lines at line rooms within is own spare =
-    spare-fewer (length (lines_of_lane (drop at lines) lane)) 1 begun rooms (omega (arith, own-left lane lines at line within is own)) spare
+pub look-spare : (begun lane : ℕ) (lines : List ScriptLine) (at : ℕ) (line : ScriptLine) (reserved : ReservedLog) → at < length lines → line ≡ get_or lines at line → (line.lane == lane) ≡ true
+    → HasSpare (length (lines_of_lane (drop at lines) lane)) begun reserved → HasSpare 1 begun reserved
+look-spare begun lane lines at line reserved within is own spare =
+    spare-fewer (length (lines_of_lane (drop at lines) lane)) 1 begun reserved (omega (arith, own-left lane lines at line within is own)) spare
 
 -- a line more of a lane
-pub record LookTaken (moment : ℤ) (phase : ℕ) (writer : WriterState) (lane : ℕ) (lines : List ScriptLine) (at : ℕ) (first after : Rooms) : Type 0 where
+pub record LookTaken (moment : ℤ) (phase : ℕ) (writer : WriterState) (lane : ℕ) (lines : List ScriptLine) (at : ℕ) (first after : ReservedLog) : Type 0 where
   pub spare : HasSpare (length (lines_of_lane (drop (at + 1) lines) lane)) (length writer.begun) after
   pub taken : (place : Place) → place.writer ≡ writer → AreTaken moment (map (planned_line phase) (lines_of_lane (take (at + 1) lines) lane)) place first after place
 
-spare-look : (moment : ℤ) (phase turns begun : ℕ) (writer : WriterState) (line : ScriptLine) (before after : Rooms) → HasSpare (turns + 1) begun before → IsLookNoted moment phase writer line before after → HasSpare turns begun after
+spare-look : (moment : ℤ) (phase turns begun : ℕ) (writer : WriterState) (line : ScriptLine) (before after : ReservedLog) → HasSpare (turns + 1) begun before → IsLookNoted moment phase writer line before after → HasSpare turns begun after
 spare-look moment phase turns begun writer line before after h look = record {
   logs = omega (arith, h.logs, look.noted.logs_spare);
   marks = omega (arith, h.marks, look.noted.marks_spare);
-  spares = omega (arith, h.spares, look.noted.spares);
+  fallbacks = omega (arith, h.fallbacks, look.noted.fallbacks);
   texts = look.noted.texts;
 }
 
-pub look-taken : (moment : ℤ) (phase : ℕ) (writer : WriterState) (lane : ℕ) (lines : List ScriptLine) (at : ℕ) (line : ScriptLine) (first before after : Rooms) → at < length lines → line ≡ get_or lines at line
+pub look-taken : (moment : ℤ) (phase : ℕ) (writer : WriterState) (lane : ℕ) (lines : List ScriptLine) (at : ℕ) (line : ScriptLine) (first before after : ReservedLog) → at < length lines → line ≡ get_or lines at line
     → (line.lane == lane) ≡ true → 1 ≤ line.lane → IsLookNoted moment phase writer line before after → HasSpare (length (lines_of_lane (drop at lines) lane)) (length writer.begun) before
     → ((place : Place) → place.writer ≡ writer → AreTaken moment (map (planned_line phase) (lines_of_lane (take at lines) lane)) place first before place) → LookTaken moment phase writer lane lines at first after
 look-taken moment phase writer lane lines at line first before after within is own another look spare taken = record {
@@ -57,12 +57,12 @@ next-lane lines lane within =
     let one : 16 - lane ≡ suc (16 - (lane + 1)) = omega (arith, within) in
     ap (λ (n : ℕ). flat_map (lines_of_lane lines) (range_with_len lane n)) one
 
-pub lane-spare : (begun : ℕ) (lines : List ScriptLine) (lane : ℕ) (rooms : Rooms) → lane < 16 → HasSpare (length (from-lane lines lane)) begun rooms → HasSpare (length (lines_of_lane lines lane)) begun rooms
-lane-spare begun lines lane rooms within spare =
-    spare-fewer (length (from-lane lines lane)) (length (lines_of_lane lines lane)) begun rooms
+pub lane-spare : (begun : ℕ) (lines : List ScriptLine) (lane : ℕ) (reserved : ReservedLog) → lane < 16 → HasSpare (length (from-lane lines lane)) begun reserved → HasSpare (length (lines_of_lane lines lane)) begun reserved
+lane-spare begun lines lane reserved within spare =
+    spare-fewer (length (from-lane lines lane)) (length (lines_of_lane lines lane)) begun reserved
     (omega (arith, ap length (next-lane lines lane within), length-append (lines_of_lane lines lane) (from-lane lines (lane + 1)))) spare
 
-pub lane-left : (moment : ℤ) (phase : ℕ) (lines : List ScriptLine) (lane : ℕ) (place : Place) (before after : Rooms) → lane < 16 → HasSpare (length (from-lane lines lane)) (length place.writer.begun) before
+pub lane-left : (moment : ℤ) (phase : ℕ) (lines : List ScriptLine) (lane : ℕ) (place : Place) (before after : ReservedLog) → lane < 16 → HasSpare (length (from-lane lines lane)) (length place.writer.begun) before
     → AreTaken moment (map (planned_line phase) (lines_of_lane lines lane)) place before after place → HasSpare (length (from-lane lines (lane + 1))) (length place.writer.begun) after
 lane-left moment phase lines lane place before after within spare taken =
     let own : List ScriptLine = lines_of_lane lines lane in
@@ -71,7 +71,7 @@ lane-left moment phase lines lane place before after within spare taken =
     (spare-fewer (length (from-lane lines lane)) (length rest + length (map (planned_line phase) own)) (length place.writer.begun) before
     (omega (arith, ap length (next-lane lines lane within), length-append own rest, mapped-length (planned_line phase) own)) spare) taken
 
-pub lane-taken : (moment : ℤ) (phase : ℕ) (lines : List ScriptLine) (lane : ℕ) (place : Place) (first before after : Rooms) → 1 ≤ lane
+pub lane-taken : (moment : ℤ) (phase : ℕ) (lines : List ScriptLine) (lane : ℕ) (place : Place) (first before after : ReservedLog) → 1 ≤ lane
     → AreTaken moment (map (planned_line phase) (flat_map (lines_of_lane lines) (range_with_len 1 (lane - 1)))) place first before place
     → AreTaken moment (map (planned_line phase) (lines_of_lane lines lane)) place before after place
     → AreTaken moment (map (planned_line phase) (flat_map (lines_of_lane lines) (range_with_len 1 (lane + 1 - 1)))) place first after place

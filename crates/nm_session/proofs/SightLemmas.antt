@@ -11,11 +11,12 @@ use Rattle.nm_index.specs.declared.base.Base.{Base}
 use Rattle.nm_lanes.specs.declared.script.Phase.{Phase}
 use Rattle.nm_lanes.specs.declared.script.ScriptLine.{ScriptLine}
 use Rattle.nm_publish.specs.Published.{GoesOn, Published, index_of}
-use Rattle.nm_session.specs.Look.{IsAnswerNoted, IsAnswerOn, IsLookNoted, IsPlaceOf}
-use Rattle.nm_session.specs.Marks.{AreOfOthers, is_of_others, made_by, made_in}
+use Rattle.nm_session.specs.LaneLog.{IsAnswerNoted, IsLookNoted, IsPlaceOf}
+use Rattle.nm_line.specs.Look.{IsAnswerOn}
+use Rattle.nm_trace.specs.Marks.{AreOfOthers, is_of_others, made_by, made_in}
 use Rattle.nm_session.specs.Sights.{AreKnown, AreSights, HasLooked, HasSeen, IsLaneAt, IsSeen, IsSeenAt, IsSight, KeepsLane, MayBeOf}
-use Rattle.nm_session.specs.declared.marks.Mark.{Mark}
-use Rattle.nm_session.specs.declared.rooms.Rooms.{Rooms}
+use Rattle.nm_trace.specs.declared.trace.Mark.{Mark}
+use Rattle.nm_trace.specs.declared.reserved_log.ReservedLog.{ReservedLog}
 use Rattle.nm_session.specs.declared.reader_lane.ReaderLane.{ReaderLane}
 use Rattle.nm_session.specs.declared.reader_lane.Sight.{Sight}
 use Rattle.nm_writer.specs.Writer.{WriterState}
@@ -119,7 +120,7 @@ may-be moment lines at line shown sight rest is h = record {
       subst (λ (l : ScriptLine). IsSeen moment l h.sights_are.0.saw sight) same h.sights_are.0.seen;
 }
 
-module _ (moment : ℤ) (phase at : ℕ) (line : ScriptLine) (writer : WriterState) (sight : Sight) (before after : Rooms) (now place : ℕ)
+module _ (moment : ℤ) (phase at : ℕ) (line : ScriptLine) (writer : WriterState) (sight : Sight) (before after : ReservedLog) (now place : ℕ)
     (counts : (index : Base) (commits : List Commit) → (folded index commits).revision ≡ index.revision + length commits) (shown_is : index_of writer.published ≡ writer.shown) (now_is : now ≡ writer.shown.revision)
     (may : MayBeOf moment at line writer.published sight) (seen : IsSeenAt at line.lane before.marks.0 now sight place)
     (noted : (index : Base) → sight.revision ≡ index.revision → IsAnswerOn moment index line sight.answered → IsAnswerNoted moment phase index line place before after) where
@@ -163,7 +164,7 @@ at-end lane ms n is =
     let none : [] ≡ drop n ms = sym (ap (λ (k : ℕ). drop k ms) is ∙ drop-all ms) in
     record { within = omega (arith, is); others = subst (AreOfOthers lane) none tt; made = ap made_in (sym none) }
 
-pub anew-noted : (moment : ℤ) (phase : ℕ) (line : ScriptLine) (writer : WriterState) (before after : Rooms) (end : ℕ) → index_of writer.published ≡ writer.shown → end ≡ length before.marks.0
+pub anew-noted : (moment : ℤ) (phase : ℕ) (line : ScriptLine) (writer : WriterState) (before after : ReservedLog) (end : ℕ) → index_of writer.published ≡ writer.shown → end ≡ length before.marks.0
     → IsAnswerNoted moment phase writer.shown line end before after → IsLookNoted moment phase writer line before after
 anew-noted moment phase line writer before after end shown_is end_is noted = record {
   index = writer.shown;

@@ -13,13 +13,14 @@ use Rattle.nm_history.specs.MachineRun.{MachineRun}
 use Rattle.nm_history.specs.PrintedOut.{AreLogsOf}
 use Rattle.nm_index.specs.declared.base.Base.{Base}
 use Rattle.nm_machine.specs.declared.step.Step.{Step}
-use Rattle.nm_session.specs.Line.{IsEven, IsNoted}
-use Rattle.nm_session.specs.Look.{IsLookNoted}
-use Rattle.nm_session.specs.Marks.{steps_of}
+use Rattle.nm_line.specs.Line.{IsEven}
+use Rattle.nm_session.specs.LineLog.{IsNoted}
+use Rattle.nm_session.specs.LaneLog.{IsLookNoted}
+use Rattle.nm_trace.specs.Marks.{steps_of}
 use Rattle.nm_session.specs.Turns.{Meets, Planned, Runs, ends_in, lines_in}
-use Rattle.nm_session.specs.declared.marks.Mark.{Mark}
-use Rattle.nm_session.specs.declared.marks.Mark.TheVariants as marks
-use Rattle.nm_session.specs.declared.rooms.Rooms.{Rooms}
+use Rattle.nm_trace.specs.declared.trace.Mark.{Mark}
+use Rattle.nm_trace.specs.declared.trace.Mark.TheVariants as marks
+use Rattle.nm_trace.specs.declared.reserved_log.ReservedLog.{ReservedLog}
 
 -- the marks stand for these commits, no more and no fewer
 abbrev pub StandFor : List Mark → List Commit → Type 0
@@ -34,49 +35,49 @@ StandFor (marks.Reply lane said ∷ more) commits = StandFor more commits
 StandFor (marks.Met ∷ more) commits = StandFor more commits
 
 -- the steps so far
-abbrev pub steps_at : Rooms → Place → List Step
-steps_at rooms place = steps_of rooms.marks.0 place.writer.begun
+abbrev pub steps_at : ReservedLog → Place → List Step
+steps_at reserved place = steps_of reserved.marks.0 place.writer.begun
 
 -- the lines so far with their logs
-abbrev pub lines_at : List Planned → Rooms → List RunLine
-lines_at planned rooms = run_lines (lines_in planned) rooms.logs.0
+abbrev pub lines_at : List Planned → ReservedLog → List RunLine
+lines_at planned reserved = run_lines (lines_in planned) reserved.logs.0
 
 -- These turns were taken and noted.
-pub record HasNoted (planned : List Planned) (rooms : Rooms) (place : Place) : Type 0 where
-  pub logs : AreLogsOf (lines_in planned) rooms.logs.0
-  pub stand : StandFor rooms.marks.0 place.writer.begun
-  pub few : length (steps_at rooms place) ≤ 2 * length planned + 3 * length place.writer.begun
+pub record HasNoted (planned : List Planned) (reserved : ReservedLog) (place : Place) : Type 0 where
+  pub logs : AreLogsOf (lines_in planned) reserved.logs.0
+  pub stand : StandFor reserved.marks.0 place.writer.begun
+  pub few : length (steps_at reserved place) ≤ 2 * length planned + 3 * length place.writer.begun
   pub within : length place.writer.begun ≤ max_commits
   pub even : IsEven place.writer
 
 -- What the statement of a session says is so of the lines of these turns.
-pub record HasRunSome (moment : ℤ) (opening : Base) (entry : Devices) (planned : List Planned) (rooms : Rooms) (place : Place) : Type 0 where
+pub record HasRunSome (moment : ℤ) (opening : Base) (entry : Devices) (planned : List Planned) (reserved : ReservedLog) (place : Place) : Type 0 where
   pub acknowledged : List Commit
-  pub at : StandsAt opening entry (steps_at rooms place) (lane_zero_lines (lines_at planned rooms)) acknowledged place
-  pub machine_run : MachineRun opening moment (at_first opening entry) (steps_at rooms place) (lines_at planned rooms) acknowledged (ends_in planned)
-  pub line_commits : LineCommits opening moment entry.mail.tree (steps_at rooms place) (lane_zero_lines (lines_at planned rooms)) acknowledged
-  pub line_answers : LineAnswers opening moment (at_first opening entry) (steps_at rooms place) (lane_zero_lines (lines_at planned rooms))
-  pub lane_answers : LaneAnswers opening moment (steps_at rooms place) (other_lane_lines (lines_at planned rooms))
-  pub given : GivenAlong opening moment (steps_at rooms place) (at_first opening entry) (lane_zero_lines (lines_at planned rooms)) entry.mail place.mail
-  pub clocks : length place.writer.acked ≡ appends (steps_at rooms place)
+  pub at : StandsAt opening entry (steps_at reserved place) (lane_zero_lines (lines_at planned reserved)) acknowledged place
+  pub machine_run : MachineRun opening moment (at_first opening entry) (steps_at reserved place) (lines_at planned reserved) acknowledged (ends_in planned)
+  pub line_commits : LineCommits opening moment entry.mail.tree (steps_at reserved place) (lane_zero_lines (lines_at planned reserved)) acknowledged
+  pub line_answers : LineAnswers opening moment (at_first opening entry) (steps_at reserved place) (lane_zero_lines (lines_at planned reserved))
+  pub lane_answers : LaneAnswers opening moment (steps_at reserved place) (other_lane_lines (lines_at planned reserved))
+  pub given : GivenAlong opening moment (steps_at reserved place) (at_first opening entry) (lane_zero_lines (lines_at planned reserved)) entry.mail place.mail
+  pub clocks : length place.writer.acked ≡ appends (steps_at reserved place)
 
 -- A phase ended, and nothing else did.
-pub record IsMeetingNoted (before after : Rooms) : Type 0 where
+pub record IsMeetingNoted (before after : ReservedLog) : Type 0 where
   pub marks : after.marks.0 ≡ before.marks.0 ++ marks.Met ∷ []
   pub marks_spare : after.marks.1 + 1 ≡ before.marks.1
   pub logs : after.logs ≡ before.logs
   pub steps : after.steps ≡ before.steps
-  pub spares : after.spares ≡ before.spares
+  pub fallbacks : after.fallbacks ≡ before.fallbacks
 
 -- A turn was taken: a line of lane 0 was run, or one of another lane over what the writer has shown, or a phase ended.
-abbrev pub IsTurn : ℤ → Planned → Place → Rooms → Rooms → Place → Type 0
+abbrev pub IsTurn : ℤ → Planned → Place → ReservedLog → ReservedLog → Place → Type 0
 IsTurn moment (Runs phase line) old before after new =
     ((line.lane ≡ 0) × IsNoted moment phase old line before after new)
     ⊎ ((1 ≤ line.lane) × IsLookNoted moment phase old.writer line before after × (new ≡ old))
 IsTurn moment Meets old before after new = IsMeetingNoted before after × (new ≡ old)
 
 -- these turns were taken, one after the other
-abbrev pub AreTaken : ℤ → List Planned → Place → Rooms → Rooms → Place → Type 0
+abbrev pub AreTaken : ℤ → List Planned → Place → ReservedLog → ReservedLog → Place → Type 0
 AreTaken moment [] old before after new = (after ≡ before) × (new ≡ old)
 AreTaken moment (turn ∷ more) old before after new =
-    (mid : Place) × (between : Rooms) × IsTurn moment turn old before between mid × AreTaken moment more mid between after new
+    (mid : Place) × (between : ReservedLog) × IsTurn moment turn old before between mid × AreTaken moment more mid between after new

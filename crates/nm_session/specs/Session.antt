@@ -12,10 +12,10 @@ use Rattle.nm_io.specs.Observed.{ObservedSink}
 use Rattle.nm_lanes.specs.declared.script.Phase.{Phase}
 use Rattle.nm_log.specs.declared.log.SessionLog.{SessionLog}
 use Rattle.nm_maildir.specs.Observed.{ObservedMail}
-use Rattle.nm_session.specs.Rooms.{HasRooms}
+use Rattle.nm_trace.specs.ReservedLog.{HasRoom}
 use Rattle.nm_session.specs.Run.{HasRun}
 use Rattle.nm_session.specs.Turns.{places_in}
-use Rattle.nm_session.specs.declared.planning.Plan.{Plan}
+use Rattle.nm_session.specs.declared.plan.Plan.{Plan}
 use Rattle.nm_replay.specs.StoredIndex.{HoldsNoIndex, PassesLimit}
 use Rattle.nm_replay.specs.declared.open_error.OpenError.{OpenError}
 use Rattle.nm_replay.specs.declared.open_error.OpenError.TheVariants as errors
@@ -49,4 +49,4 @@ pub record IsPlanned (phases : List Phase) (plan : Plan) : Type 0 where
   pub count : plan.count ≡ length phases
   pub none : plan.lanes.0 ≡ []
   pub spare : 15 ≤ plan.lanes.1
-  pub rooms : HasRooms (places_in phases) plan.rooms
+  pub reserved : HasRoom (places_in phases) plan.reserved

@@ -5,8 +5,9 @@ use Rattle.logbook.specs.Pages.{Book}
 use Rattle.nm_lanes.specs.declared.script.Phase.{Phase}
 use Rattle.nm_lanes.specs.declared.script.ScriptLine.{ScriptLine}
 use Rattle.nm_publish.specs.Published.{GoesOn, Published, index_of}
-use Rattle.nm_session.specs.Look.{IsAnswerOn, IsPlaceOf}
-use Rattle.nm_session.specs.declared.marks.Mark.{Mark}
+use Rattle.nm_line.specs.Look.{IsAnswerOn}
+use Rattle.nm_session.specs.LaneLog.{IsPlaceOf}
+use Rattle.nm_trace.specs.declared.trace.Mark.{Mark}
 use Rattle.nm_session.specs.declared.reader_lane.ReaderLane.{ReaderLane}
 use Rattle.nm_session.specs.declared.reader_lane.Sight.{Sight}
 

@@ -1,4 +1,4 @@
-//! The laws on which the turns of a session rest, in two; `running` goes on by them. No code runs.
+//! The laws on which the turns of a session rest, in two; `phases` goes on by them. No code runs.
 
 ghost use Rattle.nm_session.specs.TurnLaws.{FirstLaws, TurnLaws};
 

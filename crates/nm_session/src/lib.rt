@@ -2,22 +2,18 @@
 //! lanes of a phase at once, prints the replies of each, and tells what each line did.
 #![tactic(auto)]
 
-mod answering;
-mod changing;
+mod barrier;
+mod command;
 mod first_lane;
+mod lane_log;
 mod laws;
 mod line;
-mod looking;
-mod machine_steps;
-mod marks;
-mod planning;
-mod printing;
+mod phases;
+mod plan;
+mod print;
 mod reader_lane;
-mod rooms;
-mod running;
+mod reads;
 mod session;
-mod settling;
-mod showing;
-mod sights;
 
+pub use command::run_command;
 pub use session::run_session;

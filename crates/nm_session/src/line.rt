@@ -1,61 +1,46 @@
-//! One line of lane 0: it is run, and its log is put into the rooms. `first_lane` calls it for each.
+//! One line of lane 0: it is answered, and noted in the log. `first_lane` calls it for each.
 
-ghost use Rattle.std.specs.Prelude.{◌≡◌, ◌&&◌, ◌-◌, ◌<◌, ◌≤◌, ◌∷◌, [], None, IfSome, MatchResult, codes, length, not};
+ghost use Rattle.std.specs.Prelude.{◌≡◌, ◌&&◌, ◌-◌, ◌≤◌, None, MatchResult, codes, length, not};
 ghost use Rattle.nm_base.specs.Limits.{max_commits};
-ghost use Rattle.nm_dates.specs.Seconds.{IsMoment};
-ghost use Rattle.nm_disk.specs.Observed.{ObservedDisk};
-ghost use Rattle.nm_index.specs.declared.base.Base.{Base};
+ghost use Rattle.nm_line.specs.Desk.{IsReady, KeepsLoans, Stands, StaysDurable, place_of};
 ghost use Rattle.nm_scan.specs.Bodies.{left_after};
-ghost use Rattle.nm_session.specs.Line.{Ends, IsEven, IsNoted, IsRun, place_at};
-ghost use Rattle.nm_session.specs.Rooms.{HasSpare};
-ghost use Rattle.nm_writer.specs.Durable.{IsDurable};
-ghost use Rattle.nm_writer.specs.Writer.{StandsOnIndex};
+ghost use Rattle.nm_session.specs.LineLog.{IsNoted, IsRun};
+ghost use Rattle.nm_trace.specs.ReservedLog.{HasSpare};
 
-use crate::answering::{LineAnswer, answer};
-use crate::marks::Said;
-use crate::rooms::{Rooms, note, take_spare};
 use nm_base::{Many, NoMemory};
 use nm_disk::Disk;
 use nm_lanes::ScriptLine;
-use nm_log::{LineLog, Outcome, Setting, line_status};
+use nm_line::{Desk, LineAnswer, answer};
+use nm_log::{Crew, LineLog, Outcome, Said, line_status};
 use nm_maildir::Maildir;
 use nm_scan::left_after;
+use nm_trace::{ReservedLog, take_fallback};
 use nm_writer::Writer;
-use std::alloc::Global;
 use std::sync::Wait;
 use std::thread::Threads;
 
-/// Runs one line, and notes it in places that are spare. `left` is how many bytes may still be shown; it says how many may behind the line.
+/// Runs one line, and notes it in places that are spare. `left` is how many bytes may still be shown; it answers how many may after the line.
 pub(crate) fn run_line<R: Threads + Wait + Sync, M: Maildir, D: Disk>(
-    rt: &R,
-    alloc: Global,
-    setting: &Setting,
+    crew: &Crew<'_, R>,
     phase: u32,
     line: &ScriptLine,
-    rooms: &mut Rooms,
-    writer: &mut Writer,
-    mail: &mut M,
-    disk: &mut D,
     left: u64,
+    reserved: &mut ReservedLog,
+    desk: &mut Desk<'_, '_, '_, M, D>,
 ) -> u64
-    requires moment { IsMoment setting.now.moment }
-    requires workers { (0 < setting.now.workers) × (setting.now.workers ≤ 16) }
-    requires spare { HasSpare 1 (length writer.old.begun) rooms.old }
-    requires even { IsEven writer.old }
-    requires stands { writer.old.closed ≡ None → IfSome (D.observed disk.old).told (λ moments. StandsOnIndex moments.present writer.old) }
-    ensures noted { IsNoted setting.now.moment phase (place_at writer.old (M.observed mail.old) (D.observed disk.old) left) line.now rooms.old rooms.new (place_at writer.new (M.observed mail.new) (D.observed disk.new) result) }
-    ensures stands { writer.new.closed ≡ None → IfSome (D.observed disk.new).told (λ moments. StandsOnIndex moments.present writer.new) }
-    ensures durable { (entry : ObservedDisk) (opening : Base) → IsDurable entry opening (D.observed disk.old) writer.old
-        → IsDurable entry opening (D.observed disk.new) writer.new }
+    requires spare { HasSpare 1 (length desk.old.writer.now.begun) reserved.old }
+    requires ready { IsReady desk.old.writer.now (D.observed desk.old.disk.now) }
+    ensures noted { IsNoted crew.now.setting.now.moment phase (place_of M.observed D.observed desk.old left) line.now reserved.old reserved.new (place_of M.observed D.observed desk.new result) }
+    ensures stands { Stands desk.new.writer.now (D.observed desk.new.disk.now) }
+    ensures durable { StaysDurable D.observed desk.old desk.new }
+    ensures loans { KeepsLoans desk.old desk.new }
 {
-    let spare = take_spare(&mut rooms.spares);
-    let before = writer.acked().len();
-    let (log, reply) = line_log(
-        rt, alloc, setting, phase, line, writer, mail, disk, left, spare,
-    );
-    let made = made_since(before, writer);
+    let fallback = take_fallback(&mut reserved.fallbacks);
+    let before = desk.writer.acked().len();
+    let (log, reply) = line_log(crew, phase, line, left, fallback, desk);
+    let made = made_since(before, desk.writer);
     let left = left_after(left, log.given.as_slice());
-    note(rooms, log, made, reply);
+    reserved.note(log, made, reply);
     left
 }
 
@@ -67,51 +52,43 @@ fn made_since(before: usize, writer: &Writer) -> usize
     writer.acked().len().saturating_sub(before)
 }
 
-/// Runs the line. `spare` is its text where it finds no memory.
+/// Runs the line. `fallback` is its text where it runs out of memory.
 fn line_log<R: Threads + Wait + Sync, M: Maildir, D: Disk>(
-    rt: &R,
-    alloc: Global,
-    setting: &Setting,
+    crew: &Crew<'_, R>,
     phase: u32,
     line: &ScriptLine,
-    writer: &mut Writer,
-    mail: &mut M,
-    disk: &mut D,
     left: u64,
-    spare: Many<u8>,
+    fallback: Many<u8>,
+    desk: &mut Desk<'_, '_, '_, M, D>,
 ) -> (LineLog, Option<Said>)
-    requires moment { IsMoment setting.now.moment }
-    requires workers { (0 < setting.now.workers) × (setting.now.workers ≤ 16) }
-    requires spare { spare ≡ codes "notmuch: no memory\n" }
-    requires even { IsEven writer.old }
-    requires stands { writer.old.closed ≡ None → IfSome (D.observed disk.old).told (λ moments. StandsOnIndex moments.present writer.old) }
-    ensures run { IsRun setting.now.moment phase (place_at writer.old (M.observed mail.old) (D.observed disk.old) left) (line.now, result.0) result.1 (place_at writer.new (M.observed mail.new) (D.observed disk.new) (left_after left result.0.given)) }
-    ensures stands { writer.new.closed ≡ None → IfSome (D.observed disk.new).told (λ moments. StandsOnIndex moments.present writer.new) }
-    ensures durable { (entry : ObservedDisk) (opening : Base) → IsDurable entry opening (D.observed disk.old) writer.old
-        → IsDurable entry opening (D.observed disk.new) writer.new }
+    requires fallback { fallback ≡ codes "notmuch: no memory\n" }
+    requires ready { IsReady desk.old.writer.now (D.observed desk.old.disk.now) }
+    ensures run { IsRun crew.now.setting.now.moment phase (place_of M.observed D.observed desk.old left) (line.now, result.0) result.1
+        (place_of M.observed D.observed desk.new (left_after left result.0.given)) }
+    ensures stands { Stands desk.new.writer.now (D.observed desk.new.disk.now) }
+    ensures durable { StaysDurable D.observed desk.old desk.new }
+    ensures loans { KeepsLoans desk.old desk.new }
 {
-    let mut given = Many::new(alloc);
-    let was_closed = writer.is_closed();
-    let answered = answer(
-        rt, alloc, setting, line, writer, mail, disk, left, &mut given,
-    );
+    let mut given = Many::new(crew.alloc);
+    let was_closed = desk.writer.is_closed();
+    let answered = answer(crew, line, left, desk, &mut given);
     let LineAnswer {
         outcome,
         text,
         reply,
-    } = answered_or(answered, spare);
+    } = answered_or(answered, fallback);
     let log = LineLog {
         phase,
         lane: line.lane,
         line: line.number,
-        revision: writer.snapshot().revision(),
+        revision: desk.writer.snapshot().revision(),
         status: line_status(&outcome),
         outcome,
         text,
         given,
-        mail_faults: mail.faults(),
-        disk_faults: disk.faults(),
-        disk_failed: newly_closed(was_closed, writer.is_closed()),
+        mail_faults: desk.mail.faults(),
+        disk_faults: desk.disk.faults(),
+        disk_failed: newly_closed(was_closed, desk.writer.is_closed()),
     };
     (log, reply)
 }
@@ -123,15 +100,15 @@ fn newly_closed(before: bool, now: bool) -> bool
     now && !before
 }
 
-/// The answer, or that of a line that finds no memory.
-pub(crate) fn answered_or(answered: Result<LineAnswer, NoMemory>, spare: Many<u8>) -> LineAnswer
-    ensures { MatchResult answered (λ done. result ≡ done) (λ _. result ≡ record { outcome = Outcome.NoMemory; text = spare; reply = None }) }
+/// The answer, or that of a line that runs out of memory.
+pub(crate) fn answered_or(answered: Result<LineAnswer, NoMemory>, fallback: Many<u8>) -> LineAnswer
+    ensures { MatchResult answered (λ done. result ≡ done) (λ _. result ≡ record { outcome = Outcome.NoMemory; text = fallback; reply = None }) }
 {
     match answered {
         Ok(done) => done,
         Err(_) => LineAnswer {
             outcome: Outcome::NoMemory,
-            text: spare,
+            text: fallback,
             reply: None,
         },
     }

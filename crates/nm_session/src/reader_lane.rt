@@ -1,10 +1,10 @@
-//! A lane other than 0 and what it saw of a phase, for `planning`, `sights` and `settling`.
+//! A lane other than 0 and what it saw of a phase, for `plan`, `reads` and `barrier`.
 
 ghost use Rattle.std.specs.Prelude.{◌≤◌};
 
-use crate::answering::LineAnswer;
 use nm_base::{Many, NoMemory};
 use nm_lanes::Phase;
+use nm_line::LineAnswer;
 use nm_log::Setting;
 use nm_publish::Reader;
 use std::alloc::Global;

@@ -1,24 +1,22 @@
 //! A session, for `nm_top`: the index is opened, and the phases of the script are run over it.
 
-ghost use Rattle.std.specs.Prelude.{◌≡◌, ◌<◌, ◌≤◌, IfErr, IfOk};
-ghost use Rattle.nm_dates.specs.Seconds.{IsMoment};
+ghost use Rattle.std.specs.Prelude.{◌≡◌, IfErr, IfOk};
 ghost use Rattle.nm_history.specs.Call.{devices};
 ghost use Rattle.nm_io.specs.Observed.{ObservedSink, ObservedStream};
 ghost use Rattle.nm_session.specs.Session.{IsPlanned, IsSession, IsUnopened};
 
-use crate::planning::{Plan, lanes_with, prepare};
-use crate::running::run_all;
+use crate::phases::{Asked, finish, run_all};
+use crate::plan::{Plan, lanes_with, prepare};
 use nm_base::NoMemory;
 use nm_disk::Disk;
 use nm_history::{a_refused_opening_keeps_the_index, a_session_keeps_its_commits};
 use nm_io::Sink;
 use nm_lanes::Phase;
-use nm_log::{SessionLog, Setting};
+use nm_log::{Crew, SessionLog};
 use nm_maildir::Maildir;
-use nm_replay::OpenError;
 use nm_workers::Gate;
+use nm_replay::OpenError;
 use nm_writer::{Opened, Writer};
-use std::alloc::Global;
 use std::sync::Wait;
 use std::thread::Threads;
 
@@ -28,49 +26,15 @@ use std::thread::Threads;
 /// memory of the log is taken before the index is opened; a line that runs out of memory says so, and the next one runs. No reader
 /// ever waits; a commit may wait until readers have left the snapshot from before.
 pub fn run_session<R: Threads + Wait + Sync, M: Maildir, D: Disk, O: Sink, G: Gate + Sync>(
-    rt: &R,
-    alloc: Global,
-    setting: &Setting,
+    crew: &Crew<'_, R>,
+    gate: &G,
     session: bool,
     phases: &[Phase],
     mail: &mut M,
     disk: &mut D,
     out: &mut O,
-    gate: &G,
 ) -> Result<(SessionLog, bool), OpenError>
-    requires moment { IsMoment setting.now.moment }
-    requires workers { (0 < setting.now.workers) × (setting.now.workers ≤ 16) }
-    ensures ran { IfOk result (λ ran. (input : ObservedStream) (err : ObservedSink) → IsSession setting.now.moment (devices (M.observed mail.old) (D.observed disk.old) input (O.observed out.old) err)
-        phases.now session (M.observed mail.new) (D.observed disk.new) (O.observed out.new) ran.1 ran.0) }
-    ensures refused { IfErr result (IsUnopened (M.observed mail.old) (M.observed mail.new) (D.observed disk.old) (D.observed disk.new)) }
-    ensures unprinted { IfErr result (λ _. O.observed out.new ≡ O.observed out.old) }
-{
-    a_refused_opening_keeps_the_index();
-    match prepare(alloc, phases) {
-        Ok(plan) => open_and_run(
-            rt, alloc, setting, session, phases, plan, mail, disk, out, gate,
-        ),
-        Err(NoMemory) => Err(OpenError::NoMemory),
-    }
-}
-
-/// Opens the index, and runs the phases.
-fn open_and_run<R: Threads + Wait + Sync, M: Maildir, D: Disk, O: Sink, G: Gate + Sync>(
-    rt: &R,
-    alloc: Global,
-    setting: &Setting,
-    session: bool,
-    phases: &[Phase],
-    plan: Plan<'_>,
-    mail: &mut M,
-    disk: &mut D,
-    out: &mut O,
-    gate: &G,
-) -> Result<(SessionLog, bool), OpenError>
-    requires moment { IsMoment setting.now.moment }
-    requires workers { (0 < setting.now.workers) × (setting.now.workers ≤ 16) }
-    requires plan { IsPlanned phases.now plan }
-    ensures ran { IfOk result (λ ran. (input : ObservedStream) (err : ObservedSink) → IsSession setting.now.moment (devices (M.observed mail.old) (D.observed disk.old) input (O.observed out.old) err)
+    ensures ran { IfOk result (λ ran. (input : ObservedStream) (err : ObservedSink) → IsSession crew.now.setting.now.moment (devices (M.observed mail.old) (D.observed disk.old) input (O.observed out.old) err)
         phases.now session (M.observed mail.new) (D.observed disk.new) (O.observed out.new) ran.1 ran.0) }
     ensures refused { IfErr result (IsUnopened (M.observed mail.old) (M.observed mail.new) (D.observed disk.old) (D.observed disk.new)) }
     ensures unprinted { IfErr result (λ _. O.observed out.new ≡ O.observed out.old) }
@@ -81,28 +45,33 @@ fn open_and_run<R: Threads + Wait + Sync, M: Maildir, D: Disk, O: Sink, G: Gate 
         count,
         named,
         lanes,
-        rooms,
-    } = plan;
-    match Writer::open(rt, alloc, disk, named, setting.workers) {
-        Ok(opened) => {
-            let Opened { writer, readers } = opened;
-            let mut lanes = lanes_with(alloc, setting, phases, readers, lanes);
-            let ran = run_all(
-                rt,
-                alloc,
-                setting,
+        reserved,
+    } = match prepare(crew.alloc, phases) {
+        Ok(plan) => plan,
+        Err(NoMemory) => return Err(OpenError::NoMemory),
+    };
+    match Writer::open(crew.rt, crew.alloc, disk, named, crew.setting.workers) {
+        Ok(Opened { writer, readers }) => {
+            let asked = Asked {
+                crew,
+                gate,
                 session,
                 phases,
                 count,
+            };
+            let mut reserved = reserved;
+            let mut writer = writer;
+            let mut lanes = lanes_with(crew.alloc, crew.setting, phases, readers, lanes);
+            let (_, failed) = run_all(
+                &asked,
                 lanes.as_mut_slice(),
-                rooms,
-                writer,
+                &mut reserved,
+                &mut writer,
                 mail,
                 disk,
                 out,
-                gate,
             );
-            Ok(ran)
+            Ok((finish(crew.rt, reserved, writer), failed))
         }
         Err(error) => Err(error),
     }

@@ -1,8 +1,7 @@
 use Rattle.std.proofs.Common.{◌≡◌, ◌&&◌, Bool, is_some, not, ap, ◌∙◌}
 use Rattle.nm_writer.specs.Writer.{WriterState}
-use Rattle.nm_session.specs.Line.{newly_closed}
+use Rattle.nm_line.specs.Line.{newly_closed, place_at}
 use Rattle.nm_scan.specs.Bodies.{left_after}
-use Rattle.nm_session.specs.Line.{place_at}
 use Rattle.nm_session.proofs.LineLemmas.{is-run}
 use Rattle.nm_session.proofs.line.line_log.Goals as goal
 
@@ -12,12 +11,13 @@ closed-is new old failed was now is before after =
 
 pub returns : goal.returns
 returns g c =
-    let old = place_at c.args.writer.now (g.M.Maildir.observed c.args.mail.now) (g.D.Disk.observed c.args.disk.now) c.args.left in
+    let old = place_at c.args.desk.now.writer.now (g.M.Maildir.observed c.args.desk.now.mail.now) (g.D.Disk.observed c.args.desk.now.disk.now) c.args.left in
     let done = c.answer-answered in
-    let new = place_at done.new.writer (g.M.Maildir.observed done.new.mail) (g.D.Disk.observed done.new.disk) (left_after c.args.left done.new.given) in
+    let new = place_at done.new.desk.writer.now (g.M.Maildir.observed done.new.desk.mail.now) (g.D.Disk.observed done.new.desk.disk.now) (left_after c.args.left done.new.given) in
     record {
-      run = is-run c.args.setting.now.moment c.args.phase old new c.args.line.now done.new.given done.result c.answered_or-outcome.result c.args.spare c.snapshot.result.now c.revision.result c.line_status.result c.faults.result c.faults-2.result c.newly_closed.result
-          c.requires.spare c.answered_or-outcome.ensures done.ensures.ends c.revision.ensures c.snapshot.ensures c.line_status.ensures c.faults.ensures c.faults-2.ensures (closed-is done.new.writer c.args.writer.now c.newly_closed.result c.is_closed-was_closed.result c.is_closed.result c.newly_closed.ensures c.is_closed-was_closed.ensures c.is_closed.ensures);
+      run = is-run c.args.crew.now.setting.now.moment c.args.phase old new c.args.line.now done.new.given done.result c.answered_or-outcome.result c.args.fallback c.snapshot.result.now c.revision.result c.line_status.result c.faults.result c.faults-2.result c.newly_closed.result
+          c.requires.fallback c.answered_or-outcome.ensures done.ensures.ends c.revision.ensures c.snapshot.ensures c.line_status.ensures c.faults.ensures c.faults-2.ensures (closed-is done.new.desk.writer.now c.args.desk.now.writer.now c.newly_closed.result c.is_closed-was_closed.result c.is_closed.result c.newly_closed.ensures c.is_closed-was_closed.ensures c.is_closed.ensures);
       stands = done.ensures.stands;
       durable = done.ensures.durable;
+      loans = done.ensures.loans;
     }

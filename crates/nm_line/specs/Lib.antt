@@ -1,0 +1,6 @@
+pub mod Changing
+pub mod Desk
+pub mod Line
+pub mod Look
+pub mod Outcomes
+pub mod Showing

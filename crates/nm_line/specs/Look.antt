@@ -1,0 +1,33 @@
+-- What a line of another lane is answered, which asks no device. Cited by `other_lane` and `nm_session`.
+use Rattle.std.specs.Prelude.{◌≡◌, ◌⊎◌, ℕ, ℤ, List, [], map, Result, Ok, Err}
+use Rattle.std.specs.Option.{option_to_list}
+use Rattle.nm_answer.specs.Answer.{answer}
+use Rattle.nm_base.specs.declared.memory.NoMemory.{NoMemory}
+use Rattle.nm_history.specs.LineAnswers.{ends_by, line_text, refused_look}
+use Rattle.nm_history.specs.LineResult.{said_of}
+use Rattle.nm_history.specs.MachineRun.{replied_where}
+use Rattle.nm_history.specs.Requests.{refused_text_of}
+use Rattle.nm_index.specs.declared.base.Base.{Base}
+use Rattle.nm_lanes.specs.declared.script.ScriptLine.{ScriptLine}
+use Rattle.nm_line.specs.Line.{refused_or, refused_with}
+use Rattle.nm_line.specs.declared.line_answer.LineAnswer.{LineAnswer}
+use Rattle.nm_log.specs.ParsedLine.{parse_line}
+use Rattle.nm_log.specs.declared.line_parser.ParsedLine.{ParsedLine}
+use Rattle.nm_log.specs.declared.line_parser.ParsedLine.TheVariants as asked
+use Rattle.nm_log.specs.declared.outcome.Outcome.TheVariants as outcomes
+
+-- what a line is answered on this index, by what it asks for and its input
+abbrev pub looked : ℤ → Base → ParsedLine → List ℕ → LineAnswer
+looked moment index (asked.Usage word kind) input = refused_with (outcomes.Usage word kind)
+looked moment index (asked.Request request) input = refused_or request (answer request input index index moment []) (refused_text_of request input)
+
+-- what a line may be answered on this index, or no memory was found for it
+abbrev pub IsAnswerOn : ℤ → Base → ScriptLine → Result LineAnswer NoMemory → Type 0
+IsAnswerOn moment index line (Ok done) = done ≡ looked moment index (parse_line line) line.input
+IsAnswerOn moment index line (Err error) = Unit {0}
+
+-- what is said of a line, by its outcome
+pub record IsSaidOn (moment : ℤ) (index : Base) (line : ParsedLine) (input : List ℕ) (done : LineAnswer) : Type 0 where
+  pub cause : (done.outcome ≡ ends_by (refused_look line input)) ⊎ (done.outcome ≡ outcomes.NoMemory)
+  pub text : done.text ≡ line_text done.outcome line input index index moment []
+  pub reply : (lane revision : ℕ) → option_to_list done.reply ≡ map said_of (replied_where done.outcome line lane revision done.text)

@@ -1,0 +1,60 @@
+//! What comes of a line: a reply, or the line of its refusal. Each command makes one.
+
+ghost use Rattle.std.specs.Prelude.{◌≡◌, ◌≢◌, IfOk};
+ghost use Rattle.nm_history.specs.Requests.{query_outcome};
+ghost use Rattle.nm_line.specs.Line.{refused_with, replied_with};
+
+use nm_answer::Request;
+use nm_base::{Copies, Many, NoMemory};
+use nm_log::{Outcome, Said, refusal_line};
+use nm_query::QueryError;
+use std::alloc::Global;
+
+/// What came of a line beside its commits.
+#[derive(Drop)]
+pub struct LineAnswer {
+    pub outcome: Outcome,
+    pub text: Many<u8>,
+    /// What was replied, where it went well.
+    pub reply: Option<Said>,
+}
+
+/// The line went well.
+pub(crate) fn replied(request: Request, text: Many<u8>) -> Result<LineAnswer, NoMemory>
+    ensures { IfOk result (λ done. done ≡ replied_with request text) }
+{
+    let copied = text.copy()?;
+    Ok(LineAnswer {
+        outcome: Outcome::Ok,
+        text,
+        reply: Some(Said {
+            request,
+            text: copied,
+        }),
+    })
+}
+
+/// The line is refused.
+pub(crate) fn refuse(alloc: Global, outcome: Outcome) -> Result<LineAnswer, NoMemory>
+    ensures { IfOk result (λ done. done ≡ refused_with outcome) }
+{
+    let text = refusal_line(alloc, &outcome)?;
+    Ok(LineAnswer {
+        outcome,
+        text,
+        reply: None,
+    })
+}
+
+/// The refusal of a text that is no query.
+pub(crate) fn refuse_query(alloc: Global, error: QueryError) -> Result<LineAnswer, NoMemory>
+    ensures some { IfOk result (λ _. error ≢ QueryError.NoMemory) }
+    ensures refused { IfOk result (λ done. done ≡ refused_with (query_outcome error)) }
+{
+    match error {
+        QueryError::BadQuery { at, kind } => refuse(alloc, Outcome::BadQuery { at, kind }),
+        QueryError::BadDate { at } => refuse(alloc, Outcome::BadDate { at }),
+        QueryError::Limit(limit) => refuse(alloc, Outcome::Limit(limit)),
+        QueryError::NoMemory => Err(NoMemory),
+    }
+}

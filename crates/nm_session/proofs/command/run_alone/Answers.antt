@@ -1,0 +1,34 @@
+use Rattle.std.proofs.Common.{rules, arith, length}
+use Rattle.nm_line.specs.Line.{place_at}
+use Rattle.nm_session.specs.Alone.{HasRunAlone}
+use Rattle.nm_session.proofs.command.run_alone.Goals as goal
+use Rattle.nm_trace.specs.ReservedLog.{HasSpare}
+
+pub run_line-requires-clause-spare : goal.run_line-requires-clause-spare
+run_line-requires-clause-spare g c =
+    let spare : HasSpare 1 (length c.args.writer.now.begun) c.args.reserved.now = record {
+      logs = omega (arith, c.requires.spare.logs);
+      marks = omega (arith, c.requires.spare.marks);
+      fallbacks = omega (arith, c.requires.spare.fallbacks);
+      texts = c.requires.spare.texts;
+    } in
+    search (rules, spare)
+
+pub note_meeting-requires : goal.note_meeting-requires
+note_meeting-requires g c =
+    let noted = c.run_line.ensures.noted in
+    omega (arith, noted.marks_spare, noted.within, c.requires.spare.marks, c.requires.few)
+
+pub returns-clause-ran : goal.returns-clause-ran
+returns-clause-ran g c =
+    let done = c.run_line in
+    let met = c.note_meeting in
+    let desk = done.new.desk in
+    let all : HasRunAlone c.args.crew.now.setting.now.moment (place_at c.args.writer.now (g.M.Maildir.observed c.args.mail.now) (g.D.Disk.observed c.args.disk.now) _) c.args.line.now c.args.reserved.now met.new.self
+    desk.writer.now (g.M.Maildir.observed desk.mail.now) (g.D.Disk.observed desk.disk.now) = record {
+      left = done.result;
+      between = done.new.reserved;
+      noted = done.ensures.noted;
+      ended = record { marks = met.ensures.marks; marks_spare = met.ensures.marks_spare; logs = met.ensures.logs; steps = met.ensures.steps; fallbacks = met.ensures.fallbacks };
+    } in
+    search (rules, all)

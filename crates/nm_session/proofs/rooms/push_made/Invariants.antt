@@ -1,9 +1,0 @@
-use Rattle.std.proofs.Common.{◌≡◌, ◌+◌, ◌++◌, replicate}
-use Rattle.nm_session.specs.declared.marks.Mark.TheVariants.{Made}
-use Rattle.nm_session.proofs.rooms.push_made.Given as goal
-
-abbrev pub invariant-made : goal.invariant-made
-invariant-made l = record {
-  list : l.marks.0 ≡ l.fn.marks.0 ++ replicate l._mark Made;
-  spare : l.marks.1 + l._mark ≡ l.fn.marks.1;
-}

@@ -1,0 +1,249 @@
+//! What the lanes other than 0 saw of a phase goes into the log at its end, once all of them are back, lane by lane. `phases` calls it.
+
+ghost use Rattle.std.specs.Prelude.{◌≡◌, ◌+◌, ◌≤◌, ℕ, ℤ, List, [], IfSome, length, map};
+ghost use Rattle.std.specs.List.{All, AllZip, flat_map};
+ghost use Rattle.nm_base.specs.Limits.{max_commits};
+ghost use Rattle.nm_dates.specs.Seconds.{IsMoment};
+ghost use Rattle.nm_history.specs.Call.{lines_of_lane};
+ghost use Rattle.nm_history.specs.LineResult.{Place};
+ghost use Rattle.nm_lanes.specs.declared.script.ScriptLine.{ScriptLine};
+ghost use Rattle.nm_publish.specs.Published.{GoesOn, index_of};
+ghost use Rattle.nm_session.specs.LaneLog.{IsLookNoted, IsPlaceOf};
+ghost use Rattle.nm_session.specs.Loop.{AreTaken};
+ghost use Rattle.nm_trace.specs.Marks.{is_of_others, made_by};
+ghost use Rattle.nm_trace.specs.ReservedLog.{HasSpare};
+ghost use Rattle.nm_session.specs.Sights.{AreKnown, HasLooked, IsSeenAt, KeepsLane, MayBeOf};
+ghost use Rattle.nm_session.specs.Turns.{other_lanes, planned_line};
+
+use crate::lane_log::note_answer;
+use crate::plan::LANES;
+use crate::reader_lane::{ReaderLane, Sight};
+use core::mem;
+use nm_base::Many;
+use nm_index::the_revision_counts_the_commits;
+use nm_lanes::ScriptLine;
+use nm_line::look;
+use nm_log::Setting;
+use nm_publish::Shown;
+use nm_trace::{Mark, ReservedLog};
+use nm_writer::Writer;
+use std::alloc::Global;
+
+/// Notes the lines of all other lanes, each where its lane saw what it saw; the readers learn what is shown. A line of which
+/// nothing was seen is answered on what the writer shows.
+pub(crate) fn settle(
+    alloc: Global,
+    setting: &Setting,
+    phase: u32,
+    lines: &[ScriptLine],
+    lanes: &mut [ReaderLane<'_>],
+    reserved: &mut ReservedLog,
+    writer: &mut Writer,
+)
+    requires moment { IsMoment setting.now.moment }
+    requires looked { All (HasLooked setting.now.moment lines.now writer.old.published.book) lanes.old }
+    requires spare { HasSpare (length (flat_map (lines_of_lane lines.now) other_lanes)) (length writer.old.begun) reserved.old }
+    requires few { length writer.old.begun ≤ max_commits }
+    ensures writer { writer.new ≡ writer.old }
+    ensures lanes { AllZip KeepsLane lanes.old lanes.new }
+    ensures taken { (place : Place) → place.writer ≡ writer.old
+        → AreTaken setting.now.moment (map (planned_line phase) (flat_map (lines_of_lane lines.now) other_lanes)) place reserved.old reserved.new place }
+{
+    'lanes: for lane in 1..LANES {
+        let sights = sights_of(alloc, lane, lanes, writer);
+        settle_lane(alloc, setting, phase, lane, lines, sights, reserved, writer);
+    }
+}
+
+/// What this lane saw, if it is there; its reader learns what is shown.
+fn sights_of(
+    alloc: Global,
+    lane: u32,
+    lanes: &mut [ReaderLane<'_>],
+    writer: &mut Writer,
+) -> Many<Sight>
+    requires books { All (λ each. each.reader.book ≡ writer.old.published.book) lanes.old }
+    ensures writer { writer.new ≡ writer.old }
+    ensures shown { index_of writer.old.published ≡ writer.old.shown }
+    ensures lanes { AllZip KeepsLane lanes.old lanes.new }
+    ensures looked { (moment : ℤ) (lines : List ScriptLine) → All (HasLooked moment lines writer.old.published.book) lanes.old
+        → All (HasLooked moment lines writer.old.published.book) lanes.new × AreKnown moment lines writer.old.published result }
+{
+    let shown = writer.tell();
+    'lanes: for at in 0..lanes.len() {
+        if lanes[at].lane == lane {
+            return hand_over(alloc, &mut lanes[at], shown);
+        }
+    }
+    Many::new(alloc)
+}
+
+fn hand_over(alloc: Global, lane: &mut ReaderLane<'_>, shown: Shown) -> Many<Sight>
+    requires book { shown.book ≡ lane.old.reader.book }
+    ensures kept { KeepsLane lane.old lane.new }
+    ensures looked { (moment : ℤ) (lines : List ScriptLine) → HasLooked moment lines shown.book lane.old
+        → HasLooked moment lines shown.book lane.new × AreKnown moment lines shown result }
+{
+    lane.reader.learn(shown);
+    mem::replace(&mut lane.sights, Many::new(alloc))
+}
+
+/// Notes the lines of one lane, of which it saw these in their order.
+fn settle_lane(
+    alloc: Global,
+    setting: &Setting,
+    phase: u32,
+    lane: u32,
+    lines: &[ScriptLine],
+    sights: Many<Sight>,
+    reserved: &mut ReservedLog,
+    writer: &Writer,
+)
+    requires moment { IsMoment setting.now.moment }
+    requires another { 1 ≤ lane }
+    requires sights { AreKnown setting.now.moment lines.now writer.now.published sights }
+    requires spare { HasSpare (length (lines_of_lane lines.now lane)) (length writer.now.begun) reserved.old }
+    requires few { length writer.now.begun ≤ max_commits }
+    requires shown { index_of writer.now.published ≡ writer.now.shown }
+    ensures taken { (place : Place) → place.writer ≡ writer.now
+        → AreTaken setting.now.moment (map (planned_line phase) (lines_of_lane lines.now lane)) place reserved.old reserved.new place }
+{
+    let mut rest = sights.into_vec().into_iter();
+    'lines: for (at, line) in lines.iter().enumerate() {
+        if line.lane != lane {
+            continue;
+        }
+        settle_line(
+            alloc,
+            setting,
+            phase,
+            at,
+            line,
+            rest.next(),
+            reserved,
+            writer,
+        );
+    }
+}
+
+/// Notes one line, of which the lane saw this.
+fn settle_line(
+    alloc: Global,
+    setting: &Setting,
+    phase: u32,
+    at: usize,
+    line: &ScriptLine,
+    sight: Option<Sight>,
+    reserved: &mut ReservedLog,
+    writer: &Writer,
+)
+    requires moment { IsMoment setting.now.moment }
+    requires another { 1 ≤ line.now.lane }
+    requires spare { HasSpare 1 (length writer.now.begun) reserved.old }
+    requires few { length writer.now.begun ≤ max_commits }
+    requires shown { index_of writer.now.published ≡ writer.now.shown }
+    requires sight { IfSome sight (λ sight. MayBeOf setting.now.moment at line.now writer.now.published sight) }
+    ensures { IsLookNoted setting.now.moment phase writer.now line.now reserved.old reserved.new }
+{
+    the_revision_counts_the_commits();
+    let Some(sight) = sight else {
+        return answer_anew(alloc, setting, phase, line, reserved, writer);
+    };
+    let now = writer.snapshot().revision();
+    match seen_at(at, &sight, line.lane, reserved.marks.as_slice(), now) {
+        Some(place) => note_answer(
+            alloc,
+            phase,
+            line,
+            sight.revision,
+            sight.answered,
+            reserved,
+            place,
+        ),
+        None => answer_anew(alloc, setting, phase, line, reserved, writer),
+    }
+}
+
+/// Answers the line on what the writer shows, behind all that was noted.
+fn answer_anew(
+    alloc: Global,
+    setting: &Setting,
+    phase: u32,
+    line: &ScriptLine,
+    reserved: &mut ReservedLog,
+    writer: &Writer,
+)
+    requires moment { IsMoment setting.now.moment }
+    requires another { 1 ≤ line.now.lane }
+    requires spare { HasSpare 1 (length writer.now.begun) reserved.old }
+    requires few { length writer.now.begun ≤ max_commits }
+    requires shown { index_of writer.now.published ≡ writer.now.shown }
+    ensures { IsLookNoted setting.now.moment phase writer.now line.now reserved.old reserved.new }
+{
+    let snapshot = writer.snapshot();
+    let answered = look(alloc, setting, line, snapshot);
+    let end = reserved.marks.as_slice().len();
+    note_answer(
+        alloc,
+        phase,
+        line,
+        snapshot.revision(),
+        answered,
+        reserved,
+        end,
+    );
+}
+
+/// Where in the marks the lane saw this, where it is of the line at this place and no more than was shown at this revision.
+fn seen_at(at: usize, sight: &Sight, lane: u32, marks: &[Mark], now: u64) -> Option<usize>
+    ensures { IfSome result (λ place. IsSeenAt at lane marks.now now sight.now place) }
+{
+    if sight.at != at {
+        return None;
+    }
+    let behind = now.checked_sub(sight.revision)?;
+    place_of(marks, lane, behind)
+}
+
+/// Where in the marks a look of this lane stands that saw all commits but the last ones, so many.
+fn place_of(marks: &[Mark], lane: u32, behind: u64) -> Option<usize>
+    ensures { IfSome result (IsPlaceOf lane behind marks.now) }
+{
+    let mut left = behind;
+    let count = marks.len();
+    'marks: for passed in 0..count {
+        if left == 0 {
+            return Some(count - passed);
+        }
+        let mark = &marks[count - passed - 1];
+        if !is_of_others(lane, mark) {
+            return None;
+        }
+        left -= made_by(mark);
+    }
+    if left == 0 { Some(0) } else { None }
+}
+
+/// Says whether no phase ends with the mark, and it is none of this lane.
+fn is_of_others(lane: u32, mark: &Mark) -> bool
+    ensures { result ≡ is_of_others lane mark.now }
+{
+    match mark {
+        Mark::Made => true,
+        Mark::Begun => true,
+        Mark::Look { lane: other } => *other != lane,
+        Mark::Reply { lane: other, .. } => *other != lane,
+        Mark::Met => false,
+    }
+}
+
+/// How many commits were made with the mark.
+fn made_by(mark: &Mark) -> u64
+    ensures value { result ≡ made_by mark.now }
+    ensures one { result ≤ 1 }
+{
+    match mark {
+        Mark::Made => 1,
+        _ => 0,
+    }
+}

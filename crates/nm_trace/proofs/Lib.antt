@@ -1,0 +1,2 @@
+pub mod FallbackLemmas
+pub mod PutLemmas
