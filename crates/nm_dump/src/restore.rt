@@ -1,4 +1,4 @@
-//! What a `restore` asks for, for `nm_session`: the lines of a dump as changes of tags, and the ids that no message has.
+//! What a `restore` asks for, for `nm_line`: the lines of a dump as changes of tags, and the ids that no message has.
 
 ghost use Rattle.std.specs.Prelude.{◌≡◌, ◌++◌, ℕ, ◌∷◌, List, not, IfOk, OnOk};
 ghost use Rattle.nm_answer.specs.Restore.{restoring_of, restorings_by, stranger_of, strangers};

@@ -1,6 +1,6 @@
 -- The banks stay as they were: no call writes them. With the commits of the head, that is what a session and a refused opening leave.
 -- For the proofs of `a_refused_line_is_a_history`, `a_refused_opening_keeps_the_index` and `a_session_keeps_its_commits`.
-use Rattle.std.proofs.Common.{◌≡◌, inr, ℕ, ◌≤◌, false, List, [], ◌∷◌, length, refl, sym, ◌∙◌, ap, subst}
+use Rattle.std.proofs.Common.{◌≡◌, inr, ℕ, false, List, [], ◌∷◌, length, refl, sym, ◌∙◌, ap, subst}
 use Rattle.nm_commit.specs.declared.change.Commit.{Commit}
 use Rattle.nm_disk.specs.Calls.{synced}
 use Rattle.nm_disk.specs.Images.{IsImage, MayLeave, same_file}
@@ -43,7 +43,7 @@ pub refused-disk : (before now : Moments) → IsImage before.present before.pres
     → ((file : FileNo) → LeavesNothingNew file before now) → KeepsDisk [] [] before now
 refused-disk before now image image_now syncs leaves =
     let stays : (file : FileNo) → IsUntouched file before now = λ file.
-        untouched file before now image_now (leaves file) (refused-settled file before now before.present.written refl image syncs (leaves file)) in
+    untouched file before now image_now (leaves file) (refused-settled file before now before.present.written refl image syncs (leaves file)) in
     record { head = refused-keeps before now image syncs (leaves Head); bank_a = stays BankA; bank_b = stays BankB }
 
 -- a disk over which a session ran

@@ -1,4 +1,4 @@
-//! What comes of a line: a reply, or the line of its refusal. Each command makes one.
+//! What comes of a line: a reply, or the line of its refusal. `lane_zero`, `other_lane` and each command make one.
 
 ghost use Rattle.std.specs.Prelude.{◌≡◌, ◌≢◌, IfOk};
 ghost use Rattle.nm_history.specs.Requests.{query_outcome};

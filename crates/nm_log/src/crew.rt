@@ -7,6 +7,7 @@ use crate::Setting;
 use std::alloc::Global;
 
 /// The runtime with its threads, the allocator, and the setting of the call, which is within its bounds.
+#[derive(Drop)]
 pub struct Crew<'r, R> {
     pub rt: &'r R,
     pub alloc: Global,

@@ -1,5 +1,5 @@
 //! What follows from the definition of what a command asks for. These functions run no code: their clauses are the laws, of
-//! which `looking` of `nm_session` calls one.
+//! which `other_lane` of `nm_line` calls one.
 
 ghost use Rattle.std.specs.Prelude.{◌≡◌, ◌↔◌, ◌≤◌, ℕ, List, true};
 ghost use Rattle.nm_answer.specs.declared.request.Request.{Request};

@@ -1,4 +1,4 @@
-//! What a line of a script or a single command asks for: `nm_session` reads each with it.
+//! What a line of a script or a single command asks for: `nm_line` reads each with it.
 
 ghost use Rattle.std.specs.Prelude.{◌≡◌, IfOk};
 ghost use Rattle.nm_command.specs.Requests.{request_of};

@@ -1,4 +1,4 @@
-//! What `show` tells, for `nm_session`: which messages it finds, which files it reads for them, and the text over
+//! What `show` tells, for `nm_line`: which messages it finds, which files it reads for them, and the text over
 //! what those reads gave.
 
 ghost use Rattle.std.specs.Prelude.{◌≡◌, ◌++◌, false, length, IfErr, IfOk, None, OnOk, is_ok};

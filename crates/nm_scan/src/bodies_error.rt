@@ -1,4 +1,4 @@
-//! Why the files that `show` asks for could not be read whole, for `nm_session`.
+//! Why the files that `show` asks for could not be read whole, for `nm_line`.
 
 ghost use Rattle.std.specs.Prelude.{◌≡◌};
 ghost use Rattle.nm_scan.specs.declared.bodies_error.BodiesError.TheVariants as bodies_error;

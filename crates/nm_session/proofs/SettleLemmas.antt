@@ -1,4 +1,4 @@
--- The lines of other lanes are noted, one after the other. For the proofs of `settling`.
+-- The lines of other lanes are noted, one after the other. For the proofs of `barrier`.
 use Rattle.std.proofs.Common.{◌≡◌, ℕ, ℤ, ◌+◌, ◌-◌, ◌==◌, ◌<◌, ◌≤◌, true, None, List, [], ◌∷◌, ◌++◌, drop, get_or, inr, length, map, take, suc, refl, sym, ap, ◌∙◌, subst, arith, append-nil}
 use Rattle.std.specs.List.{flat_map, range_with_len}
 use Rattle.std.proofs.lemmas.Grind.{flat_map-append}

@@ -1,4 +1,4 @@
--- What lanes saw, and where it stands in the log. For the proofs of `sights` and `settling`.
+-- What lanes saw, and where it stands in the log. For the proofs of `reads` and `barrier`.
 use Rattle.std.proofs.Common.{◌≡◌, MatchOption, OnErr, OnOk, Result, Ok, Err, replicate, ℕ, ℤ, ◌+◌, ◌<◌, ◌≤◌, true, List, [], ◌∷◌, ◌++◌, Option, None, Some, IfSome, drop, get_or, length, slice_get, slice_set, zero, suc, refl, sym, ap, ◌∙◌, subst, arith, append-nil, append_assoc}
 use Rattle.std.specs.List.{All, AllByRecursion, AllZip, slice_index_or}
 use Rattle.std.specs.Option.{option_to_list}

@@ -1,4 +1,4 @@
--- What is printed at the end of a phase. Cited by `printing`.
+-- What is printed at the end of a phase. Cited by `print`.
 use Rattle.std.specs.Prelude.{◌≡◌, ℕ, Bool, true, false, List, drop, length, Option, None, Some}
 use Rattle.nm_history.specs.PrintedOut.{printed_by}
 use Rattle.nm_io.specs.Observed.{ObservedSink, StreamAppends}

@@ -1,4 +1,4 @@
--- What running the phases of a script leaves, over the index that was opened. Cited by `running`.
+-- What running the phases of a script leaves, over the index that was opened. Cited by `Session` and `nm_top`.
 use Rattle.std.specs.Prelude.{◌≡◌, ℕ, ℤ, Bool, List, length}
 use Rattle.nm_commit.specs.declared.change.Commit.{Commit}
 use Rattle.nm_disk.specs.Calls.{GoesOn}

@@ -1,4 +1,4 @@
--- What the lanes other than 0 see of a phase. Cited by `sights`, `settling` and `running`.
+-- What the lanes other than 0 see of a phase. Cited by `reads`, `barrier` and `phases`.
 use Rattle.std.specs.Prelude.{◌≡◌, ℕ, ℤ, ◌+◌, List, Some, slice_get}
 use Rattle.std.specs.List.{AllByRecursion}
 use Rattle.logbook.specs.Pages.{Book}

@@ -1,4 +1,4 @@
--- The turns of a session: each phase has its lines, one lane after the other, and then all lanes meet. Cited by `planning`, `settling` and `running`.
+-- The turns of a session: each phase has its lines, one lane after the other, and then all lanes meet. Cited by `plan`, `barrier` and `phases`.
 use Rattle.std.specs.Prelude.{◌≡◌, ℕ, ◌+◌, ◌<◌, List, [], ◌∷◌, ◌++◌, length, map}
 use Rattle.std.specs.List.{flat_map, range_with_len}
 use Rattle.nm_history.specs.Call.{PlacedLine, lines_by_lane}

@@ -1,4 +1,3 @@
 pub mod DrillLemmas
 pub mod HistoryLemmas
-pub mod StatusLemmas
 pub mod ProgramLemmas

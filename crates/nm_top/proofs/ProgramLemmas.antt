@@ -1,9 +1,6 @@
 -- How the program ends: what is observed of a folder that was opened, by its fields.
--- For the proofs of `open_and_call` and `open_index_and_call`.
-use Rattle.std.proofs.Common.{◌≡◌, ◌⊎◌, inl, inr, ℕ, List, Option, Err, ap, sym, ◌∙◌}
-use Rattle.nm_command.specs.Leading.{leading_of}
-use Rattle.nm_command.specs.declared.leading.HeadError.{HeadError}
-use Rattle.nm_command.specs.declared.leading.HeadError.TheVariants as faults
+-- For the proof of `program`.
+use Rattle.std.proofs.Common.{◌≡◌, ℕ, List, Option, ap, ◌∙◌}
 use Rattle.nm_disk.specs.Observed.{Moments, ObservedDisk}
 use Rattle.nm_maildir.specs.Observed.{ObservedMail}
 use Rattle.nm_maildir.specs.Tree.{Tree}
@@ -23,8 +20,3 @@ pub disk-same : (old new : ObservedDisk) → new.told ≡ old.told → new.clock
 disk-same old new told clock faults =
     ap (λ (t : Option Moments). disk-of t new.clock new.faults) told
     ∙ (ap (λ (n : ℕ). disk-of old.told n new.faults) clock ∙ ap (λ (n : ℕ). disk-of old.told old.clock n) faults)
-
--- the leading words are refused where the error is not that memory ran out
-pub refused-words : (words : List (List ℕ)) (error : HeadError) → error ≡ faults.Usage → (error ≡ faults.NoMemory) ⊎ (leading_of words ≡ Err error) → leading_of words ≡ Err faults.Usage
-refused-words words error is (inl other) = let both : faults.Usage ≡ faults.NoMemory = sym is ∙ other in absurd (cc)
-refused-words words error is (inr said) = said ∙ ap Err is

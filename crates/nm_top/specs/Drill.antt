@@ -1,5 +1,5 @@
 -- The statement of a drill: a session of its own, over a store that is made by numbers, and a summary of its replies.
--- Cited by `drill`, `starting` and `top_call`.
+-- Cited by `drill` and `top_call`.
 use Rattle.std.specs.Prelude.{◌≡◌, ℕ, ◌==◌, Bool, true, false, List, [], ◌∷◌, ◌++◌, length, replicate, Option, None, Some, Ok, Err, codes, if◌then◌else◌}
 use Rattle.std.specs.Fmt.{decimal}
 use Rattle.std.specs.List.{list_all}

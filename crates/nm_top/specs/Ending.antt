@@ -1,6 +1,7 @@
--- How a call ends that opened no index. Cited by `ending`, `starting` and `top_call`.
-use Rattle.std.specs.Prelude.{◌≡◌, ◌⊎◌, ℕ, List, [], Some}
-use Rattle.nm_history.specs.PrintedOut.{Prints}
+-- How a call ends: over a run of its lines, or with none. Cited by `call_phases`, `devices`, `ending` and others.
+use Rattle.std.specs.Prelude.{◌≡◌, ◌⊎◌, ℕ, Bool, List, [], Some, Result, Ok, Err}
+use Rattle.nm_history.specs.PrintedOut.{Prints, final_message}
+use Rattle.nm_history.specs.Status.{status_by}
 use Rattle.nm_history.specs.UnaskedLine.{refused_done}
 use Rattle.nm_base.specs.declared.limit.Limit.TheVariants.{InputBytes}
 use Rattle.nm_io.specs.Observed.{ObservedSink}
@@ -10,6 +11,7 @@ use Rattle.nm_log.specs.Refusals.{refused_line, refused_status}
 use Rattle.nm_log.specs.Replies.{refusal_line}
 use Rattle.nm_log.specs.declared.log.Done.{Done}
 use Rattle.nm_log.specs.declared.log.LineLog.{LineLog}
+use Rattle.nm_log.specs.declared.log.SessionLog.{SessionLog}
 use Rattle.nm_log.specs.declared.outcome.Outcome.{Outcome}
 use Rattle.nm_log.specs.declared.refusal.Refusal.{Refusal}
 use Rattle.nm_log.specs.declared.refusal.Refusal.TheVariants as refusals
@@ -44,6 +46,12 @@ refusal_of errors.DiskFault = refusals.DiskFault
 refusal_of (errors.BadIndex file at) = refusals.BadIndex file at
 refusal_of (errors.Limit limit) = refusals.Limit limit
 refusal_of errors.NoMemory = refusals.NoMemory
+
+-- How a call ends over this run of its lines, or for this error of opening the index.
+abbrev pub EndsRun : Bool → Result (SessionLog × Bool) OpenError → ObservedSink → ObservedSink → Done → Type 0
+EndsRun session (Ok (log, out_failed)) old new done =
+    (done ≡ record { status = status_by session log.lines out_failed; log = log }) × Prints (final_message session log.lines out_failed) old new
+EndsRun session (Err error) old new done = Refuses (refusal_of error) old new done
 
 -- an error of reading the input, as the call is refused for it
 abbrev pub take_refusal : TakeError → Refusal

@@ -1,3 +1,5 @@
+pub mod CallPhases
+pub mod Devices
 pub mod Drill
 pub mod Ending
 pub mod Program

@@ -1,8 +1,8 @@
 -- The laws on which a call rests that opens no index. Cited by `laws`.
-use Rattle.std.specs.Prelude.{◌≡◌, ℕ, ℤ, List, [], None, Some, IfSome, false}
+use Rattle.std.specs.Prelude.{◌≡◌, ℕ, ℤ, List, [], Some, IfSome, false}
 use Rattle.nm_disk.specs.Images.{IsImage}
 use Rattle.nm_disk.specs.Observed.{Moments, ObservedDisk}
-use Rattle.nm_history.specs.Call.{Devices, call_of, call_reads, devices, input_fault, is_session}
+use Rattle.nm_history.specs.Call.{Devices, call_of, devices, is_session}
 use Rattle.nm_history.specs.CrashPrefix.{KeepsDisk}
 use Rattle.nm_history.specs.Given.{GivenAlong}
 use Rattle.nm_history.specs.History.{History}
@@ -28,7 +28,6 @@ pub record RefusalLaws : Type 0 where
   pub given : (opening : Base) (moment : ℤ) (entry : Devices) → GivenAlong opening moment [] (at_first opening entry) [] entry.mail entry.mail
   pub stays : (before now : Moments) → IsImage before.present before.present.now → IsImage now.present now.present.now → SyncsOrFails before now
       → KeepsDisk [] [] before now
-  pub unread : (words : List (List ℕ)) (input : List ℕ) → call_reads words ≡ false → input_fault words input ≡ None
   pub line : (why : Outcome) (input : List ℕ) (words : List (List ℕ)) (setting : Setting) (mail : ObservedMail) (disk : ObservedDisk) (old new : ObservedStream) (out err said : ObservedSink)
       → is_session words ≡ false → RefusesLine why input words old new → Prints (Some (refusal_line why)) err said → IfSome disk.told (λ moments. IsImage moments.present moments.present.now)
       → History (call_of words setting (devices mail disk old out err) (devices mail disk new out said) (refused_done why mail.faults disk.faults))

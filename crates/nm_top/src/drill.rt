@@ -5,12 +5,12 @@ ghost use Rattle.std.specs.Fmt.{decimal};
 ghost use Rattle.std.specs.List.{list_all};
 ghost use Rattle.nm_command.specs.Requests.{request_of};
 ghost use Rattle.nm_command.specs.declared.request.Request.TheVariants as asked;
-ghost use Rattle.nm_dates.specs.Seconds.{IsMoment};
 ghost use Rattle.nm_log.specs.Replies.{is_well};
 ghost use Rattle.nm_top.specs.Drill.{AnswersAll, DrillEnds, EndsAfterRun, IsLogOfDrill, is_drill, log_of_line, reply_of_line, revision_of_line, summary_of};
 
+use crate::devices::Devices;
 use crate::ending::{refuse, say};
-use crate::top_call::read_and_run;
+use crate::session_call::read_phases;
 use nm_base::{Many, NoMemory, Text};
 use nm_command::{
     CommandError, Request, a_request_that_is_written_out_is_read_back, command,
@@ -19,7 +19,7 @@ use nm_command::{
 use nm_disk::MemDisk;
 use nm_drill::{drill_script, drill_tree};
 use nm_io::{MemSink, MemSource, Sink};
-use nm_log::{Done, LineLog, Refusal, SessionLog, Setting, is_well, print_text};
+use nm_log::{Crew, Done, LineLog, Refusal, is_well, print_text};
 use nm_workers::Gate;
 use std::alloc::Global;
 use std::sync::Wait;
@@ -28,29 +28,34 @@ use std::thread::Threads;
 /// How many lines its script has, besides the one that ends a phase.
 const LINES: usize = 6;
 
-/// Runs the drill that the words ask for.
-pub(crate) fn drill<R: Threads + Wait + Sync, O: Sink, E: Sink, G: Gate + Sync>(
-    rt: &R,
-    alloc: Global,
+/// Runs the drill that the words ask for, and prints the summary.
+pub(crate) fn drill<R: Threads + Wait + Sync, G: Gate + Sync, O: Sink, E: Sink>(
+    crew: &Crew<'_, R>,
+    gate: &G,
     words: &[Text],
-    setting: &Setting,
     out: &mut O,
     err: &mut E,
-    gate: &G,
 ) -> Done
-    requires moment { IsMoment setting.now.moment }
-    requires workers { (0 < setting.now.workers) × (setting.now.workers ≤ 16) }
     requires drill { is_drill words.now ≡ true }
-    ensures { DrillEnds words.now setting.now result (O.observed out.old) (O.observed out.new) (E.observed err.old) (E.observed err.new) }
+    ensures { DrillEnds words.now crew.now.setting.now result (O.observed out.old) (O.observed out.new) (E.observed err.old) (E.observed err.new) }
 {
-    match drill_count(alloc, words) {
-        Ok(count) => run(rt, alloc, count, setting, out, err, gate),
+    match drill_count(crew.alloc, words) {
+        Ok(count) => match run_its_session(crew, gate, count) {
+            Ok(done) => {
+                let status = end(crew.alloc, count, &done, out, err);
+                Done {
+                    status,
+                    log: done.log,
+                }
+            }
+            Err(NoMemory) => refuse(crew.alloc, err, &Refusal::NoMemory),
+        },
         Err(CommandError::Usage { word, kind }) => refuse(
-            alloc,
+            crew.alloc,
             err,
             &Refusal::Usage { word, kind },
         ),
-        Err(CommandError::NoMemory) => refuse(alloc, err, &Refusal::NoMemory),
+        Err(CommandError::NoMemory) => refuse(crew.alloc, err, &Refusal::NoMemory),
     }
 }
 
@@ -70,66 +75,41 @@ fn drill_count(alloc: Global, words: &[Text]) -> Result<u32, CommandError>
     }
 }
 
-/// Runs its session, and prints the summary.
-fn run<R: Threads + Wait + Sync, O: Sink, E: Sink, G: Gate + Sync>(
-    rt: &R,
-    alloc: Global,
-    count: u32,
-    setting: &Setting,
-    out: &mut O,
-    err: &mut E,
-    gate: &G,
-) -> Done
-    requires count { (1 ≤ count) × (count ≤ 20000) }
-    requires moment { IsMoment setting.now.moment }
-    requires workers { (0 < setting.now.workers) × (setting.now.workers ≤ 16) }
-    ensures { (words : List (List ℕ)) → request_of words ≡ Ok (asked.Drill count)
-        → DrillEnds words setting.now result (O.observed out.old) (O.observed out.new) (E.observed err.old) (E.observed err.new) }
-{
-    match run_its_session(rt, alloc, count, setting, gate) {
-        Ok(done) => end(alloc, count, done, out, err),
-        Err(NoMemory) => refuse(alloc, err, &Refusal::NoMemory),
-    }
-}
-
-/// Runs the session over devices of its own, none of whose calls is to fail.
+/// Runs its session over devices of its own, none of whose calls is to fail.
 fn run_its_session<R: Threads + Wait + Sync, G: Gate + Sync>(
-    rt: &R,
-    alloc: Global,
-    count: u32,
-    setting: &Setting,
+    crew: &Crew<'_, R>,
     gate: &G,
+    count: u32,
 ) -> Result<Done, NoMemory>
-    requires count { (1 ≤ count) × (count ≤ 20000) }
-    requires moment { IsMoment setting.now.moment }
-    requires workers { (0 < setting.now.workers) × (setting.now.workers ≤ 16) }
-    ensures { IfOk result (λ done. IsLogOfDrill count setting.now done.log) }
+    requires { (1 ≤ count) × (count ≤ 20000) }
+    ensures { IfOk result (λ done. IsLogOfDrill count crew.now.setting.now done.log) }
 {
+    let alloc = crew.alloc;
     let mut mail = drill_tree(alloc, count)?;
     let mut disk = MemDisk::fresh(alloc)?;
     let script = drill_script(alloc)?;
     let mut input = MemSource::new(script, Many::new(alloc));
     let mut out = MemSink::new(alloc, Many::new(alloc));
     let mut err = MemSink::new(alloc, Many::new(alloc));
-    let done = read_and_run(
-        rt, alloc, setting, &mut mail, &mut disk, &mut input, &mut out, &mut err, gate,
-    );
-    Ok(done)
+    let call = read_phases(alloc, &mut input);
+    let mut devices = Devices {
+        mail: &mut mail,
+        disk: &mut disk,
+        out: &mut out,
+        err: &mut err,
+    };
+    Ok(devices.run(crew, gate, call))
 }
 
-/// Ends a drill whose session ended so.
-fn end<O: Sink, E: Sink>(alloc: Global, count: u32, done: Done, out: &mut O, err: &mut E) -> Done
-    ensures log { result.log ≡ done.log }
-    ensures ends { EndsAfterRun count result.log.lines result.status (O.observed out.old) (O.observed out.new) (E.observed err.old) (E.observed err.new) }
+/// Prints the summary of a session that ended so, if each line was answered, and gives the status of the drill.
+fn end<O: Sink, E: Sink>(alloc: Global, count: u32, done: &Done, out: &mut O, err: &mut E) -> u8
+    ensures { EndsAfterRun count done.now.log.lines result (O.observed out.old) (O.observed out.new) (E.observed err.old) (E.observed err.new) }
 {
-    match summary_if_well(alloc, count, &done) {
-        Some(text) => end_with(done.log, text, out, err),
+    match summary_if_well(alloc, count, done) {
+        Some(text) => print_summary(text.as_slice(), out, err),
         None => {
             say(err, b"notmuch: no memory\n");
-            Done {
-                status: 7,
-                log: done.log,
-            }
+            7
         }
     }
 }
@@ -140,16 +120,10 @@ fn summary_if_well(alloc: Global, count: u32, done: &Done) -> Option<Many<u8>>
     ensures text { IfSome result (λ text. text ≡ summary_of count done.now.log.lines) }
 {
     let logs = done.log.lines.as_slice();
-    if done.status != 0 || logs.len() != LINES {
+    if done.status != 0 || logs.len() != LINES || !are_well(logs) {
         return None;
     }
-    if !are_well(logs) {
-        return None;
-    }
-    match summary(alloc, count, logs) {
-        Ok(text) => Some(text),
-        Err(_) => None,
-    }
+    summary(alloc, count, logs).ok()
 }
 
 fn are_well(logs: &[LineLog]) -> bool
@@ -217,16 +191,15 @@ fn log_of_line(number: u32, logs: &[LineLog]) -> Option<&LineLog>
 }
 
 /// Prints the summary of a session that went well.
-fn end_with<O: Sink, E: Sink>(log: SessionLog, text: Many<u8>, out: &mut O, err: &mut E) -> Done
-    ensures log { result.log ≡ log }
-    ensures ends { (count : ℕ) → AnswersAll log.lines → text ≡ summary_of count log.lines
-        → EndsAfterRun count result.log.lines result.status (O.observed out.old) (O.observed out.new) (E.observed err.old) (E.observed err.new) }
+fn print_summary<O: Sink, E: Sink>(text: &[u8], out: &mut O, err: &mut E) -> u8
+    ensures { (count : ℕ) (logs : List LineLog) → AnswersAll logs → text.now ≡ summary_of count logs
+        → EndsAfterRun count logs result (O.observed out.old) (O.observed out.new) (E.observed err.old) (E.observed err.new) }
 {
-    match print_text(out, text.as_slice()) {
-        Ok(()) => Done { status: 0, log },
+    match print_text(out, text) {
+        Ok(()) => 0,
         Err(_) => {
             say(err, b"notmuch: write fault\n");
-            Done { status: 6, log }
+            6
         }
     }
 }

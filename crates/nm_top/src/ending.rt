@@ -1,22 +1,55 @@
 //! How the call ends, for `top_call` and `starting`: what is printed and said, and the status.
 
-ghost use Rattle.std.specs.Prelude.{◌≡◌, ◌<◌, ℕ, Bool, List, [], ◌∷◌, true, false, None, Some, IfOk, MatchOption, if◌then◌else◌};
+ghost use Rattle.std.specs.Prelude.{◌≡◌, None, Some, IfOk, MatchOption};
 ghost use Rattle.nm_history.specs.PrintedOut.{Prints, final_message, refused_text, write_message};
-ghost use Rattle.nm_history.specs.Status.{any_is_out_of_memory, fault_of, first_fault, fault_or, session_status, single_status, status_by, status_of_fault, is_out_of_memory, write_fault};
-ghost use Rattle.nm_history.specs.UnaskedLine.{refused_log};
+ghost use Rattle.nm_history.specs.Status.{any_is_out_of_memory, fault_of, first_fault, is_out_of_memory, session_status, single_status, status_by};
+ghost use Rattle.nm_history.specs.UnaskedLine.{refused_done};
 ghost use Rattle.nm_log.specs.Replies.{refusal_line};
-ghost use Rattle.nm_top.specs.Ending.{Refuses, RefusesAlone, ended_on, ended_with};
+ghost use Rattle.nm_top.specs.Ending.{EndsRun, Refuses, RefusesAlone, ended_on, ended_with, refusal_of};
 
-use nm_base::{Many, NoMemory, Room};
+use nm_base::{Many, NoMemory};
 use nm_io::Sink;
 use nm_log::{
     Done, LineLog, Outcome, Refusal, SessionLog, is_well, line_status, print_refusal, print_text,
     refusal_line, refused_status,
 };
+use nm_replay::OpenError;
 use std::alloc::Global;
 
+/// Ends a call over this run of its lines, or for this error of opening the index: what is said, the status and the log.
+pub(crate) fn end_run<E: Sink>(
+    alloc: Global,
+    session: bool,
+    run: Result<(SessionLog, bool), OpenError>,
+    err: &mut E,
+) -> Done
+    ensures { EndsRun session run (E.observed err.old) (E.observed err.new) result }
+{
+    match run {
+        Ok((log, out_failed)) => {
+            let lines = log.lines.as_slice();
+            say_last(err, session, lines, out_failed);
+            let status = status_of_run(session, lines, out_failed);
+            Done { status, log }
+        }
+        Err(error) => refuse(alloc, err, &refusal_of(error)),
+    }
+}
+
+/// An error of opening, as the call is refused for it.
+fn refusal_of(error: OpenError) -> Refusal
+    ensures { result ≡ refusal_of error }
+{
+    match error {
+        OpenError::DiskFault => Refusal::DiskFault,
+        OpenError::BadIndex { file, at } => Refusal::BadIndex { file, at },
+        OpenError::Limit(limit) => Refusal::Limit(limit),
+        OpenError::NoMemory => Refusal::NoMemory,
+    }
+}
+
 /// What a call whose lines were run says in the end besides its replies.
-pub(crate) fn say_last<E: Sink>(err: &mut E, session: bool, logs: &[LineLog], out_failed: bool)
+fn say_last<E: Sink>(err: &mut E, session: bool, logs: &[LineLog], out_failed: bool)
     ensures { Prints (final_message session logs.now out_failed) (E.observed err.old) (E.observed err.new) }
 {
     if session {
@@ -85,64 +118,40 @@ pub(crate) fn refuse_line<E: Sink>(
 ) -> Done
     ensures { RefusesAlone outcome mail_faults disk_faults (E.observed err.old) (E.observed err.new) result }
 {
-    match room_for_line(alloc, &outcome) {
-        Ok((room, text)) => {
-            say(err, text.as_slice());
-            let log = refused_log(alloc, outcome, text, mail_faults, disk_faults);
-            ended_after(alloc, room, log)
+    match refused_done(alloc, outcome, mail_faults, disk_faults) {
+        Ok(done) => {
+            say(err, done.log.lines.as_slice()[0].text.as_slice());
+            done
         }
         Err(NoMemory) => refuse(alloc, err, &Refusal::NoMemory),
     }
 }
 
-/// A place for the log of a line, and the text of its refusal.
-fn room_for_line(alloc: Global, outcome: &Outcome) -> Result<(Room<LineLog>, Many<u8>), NoMemory>
-    ensures empty { IfOk result (λ room. room.0.0 ≡ []) }
-    ensures spare { IfOk result (λ room. 0 < room.0.1) }
-    ensures text { IfOk result (λ room. room.1 ≡ refusal_line outcome.now) }
-{
-    let mut logs = Room::new(alloc);
-    logs.reserve(1)?;
-    let text = refusal_line(alloc, outcome)?;
-    Ok((logs, text))
-}
-
-/// The log of a line that is refused so, before any index is there.
-fn refused_log(
+/// The one line is refused so, before any index is there.
+fn refused_done(
     alloc: Global,
     outcome: Outcome,
-    text: Many<u8>,
     mail_faults: u64,
     disk_faults: u64,
-) -> LineLog
-    requires text { text ≡ refusal_line outcome }
-    ensures { result ≡ refused_log outcome mail_faults disk_faults }
+) -> Result<Done, NoMemory>
+    ensures { IfOk result (λ done. done ≡ refused_done outcome mail_faults disk_faults) }
 {
-    LineLog {
+    let status = line_status(&outcome);
+    let mut lines = Many::new(alloc);
+    lines.push(LineLog {
         phase: 0,
         lane: 0,
         line: 1,
         revision: 0,
-        status: line_status(&outcome),
+        status,
+        text: refusal_line(alloc, &outcome)?,
         outcome,
-        text,
         given: Many::new(alloc),
         mail_faults,
         disk_faults,
         disk_failed: false,
-    }
-}
-
-/// Ends a call with the status of its one line.
-fn ended_after(alloc: Global, room: Room<LineLog>, log: LineLog) -> Done
-    requires empty { room.0 ≡ [] }
-    requires spare { 0 < room.1 }
-    ensures { result ≡ ended_on log.status (log ∷ []) }
-{
-    let mut room = room;
-    let status = log.status;
-    room.push_spare(log);
-    ended_on(alloc, status, room.into_many())
+    })?;
+    Ok(ended_on(alloc, status, lines))
 }
 
 fn ended(alloc: Global, status: u8) -> Done
@@ -166,7 +175,7 @@ fn ended_on(alloc: Global, status: u8, lines: Many<LineLog>) -> Done
 }
 
 /// The status of a call whose lines were run.
-pub(crate) fn status_of_run(session: bool, logs: &[LineLog], out_failed: bool) -> u8
+fn status_of_run(session: bool, logs: &[LineLog], out_failed: bool) -> u8
     ensures { result ≡ status_by session logs.now out_failed }
 {
     if session {
@@ -195,12 +204,6 @@ fn session_status(logs: &[LineLog], out_failed: bool) -> u8
     if let Some(status) = first_fault(logs) {
         return status;
     }
-    status_without_fault(logs, out_failed)
-}
-
-fn status_without_fault(logs: &[LineLog], out_failed: bool) -> u8
-    ensures { result ≡ status_of_fault (write_fault out_failed) (any_is_out_of_memory logs.now) }
-{
     if out_failed {
         return 6;
     }
@@ -211,19 +214,12 @@ fn status_without_fault(logs: &[LineLog], out_failed: bool) -> u8
 fn first_fault(logs: &[LineLog]) -> Option<u8>
     ensures { result ≡ first_fault logs.now }
 {
-    let mut found = None;
-    'logs: for log in logs {
-        found = fault_or(found, fault_of(&log.outcome));
-    }
-    found
-}
-
-fn fault_or(first: Option<u8>, other: Option<u8>) -> Option<u8>
-    ensures { result ≡ fault_or first other }
-{
-    match first {
-        Some(status) => Some(status),
-        None => other,
+    match logs {
+        [] => None,
+        [log, rest @ ..] => match fault_of(&log.outcome) {
+            Some(status) => Some(status),
+            None => first_fault(rest),
+        },
     }
 }
 
@@ -255,18 +251,5 @@ fn any_is_out_of_memory(logs: &[LineLog]) -> bool
 fn is_out_of_memory(outcome: &Outcome) -> bool
     ensures { result ≡ is_out_of_memory outcome.now }
 {
-    match outcome {
-        Outcome::NoMemory => true,
-        Outcome::Ok
-        | Outcome::Usage { .. }
-        | Outcome::BadQuery { .. }
-        | Outcome::BadDate { .. }
-        | Outcome::BadLine { .. }
-        | Outcome::NotOne { .. }
-        | Outcome::Gone { .. }
-        | Outcome::MailFault
-        | Outcome::DiskFault
-        | Outcome::Closed { .. }
-        | Outcome::Limit(_) => false,
-    }
+    matches!(outcome, Outcome::NoMemory)
 }

@@ -1,11 +1,10 @@
-//! The laws on which a call rests that opens no index, in one; `top_call` ends by them. No code runs.
+//! The laws on which a call rests that opens no index, in one; `devices` ends by them. No code runs.
 
 ghost use Rattle.nm_top.specs.RefusalLaws.{RefusalLaws};
 
 use nm_history::{
-    a_call_that_reads_nothing_is_not_refused_for_its_input, a_refused_line_is_a_history,
-    a_refused_opening_keeps_the_index, no_line_is_answered, no_line_makes_no_commit,
-    no_step_is_a_run_of_the_machine, nothing_is_given_to_no_line,
+    a_refused_line_is_a_history, a_refused_opening_keeps_the_index, no_line_is_answered,
+    no_line_makes_no_commit, no_step_is_a_run_of_the_machine, nothing_is_given_to_no_line,
 };
 
 pub(crate) fn refusal_laws()
@@ -16,6 +15,5 @@ pub(crate) fn refusal_laws()
     no_line_is_answered();
     nothing_is_given_to_no_line();
     a_refused_opening_keeps_the_index();
-    a_call_that_reads_nothing_is_not_refused_for_its_input();
     a_refused_line_is_a_history();
 }

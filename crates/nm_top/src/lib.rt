@@ -2,12 +2,15 @@
 //! prints the replies, and gives the status.
 #![tactic(auto)]
 
+mod call_phases;
+mod command_call;
+mod devices;
 mod drill;
 mod ending;
 mod laws;
+mod session_call;
 mod starting;
 mod top_call;
-mod words;
 
 pub use nm_answer::Request;
 pub use nm_log::{Done, LineLog, Outcome, SessionLog, Setting};

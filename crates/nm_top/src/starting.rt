@@ -1,12 +1,9 @@
 //! The program: reads its leading options, opens the folders that they name, and makes the call of the words behind them; `main` makes it.
 
-ghost use Rattle.std.specs.Prelude.{◌≡◌, ◌≤◌, Ok, Some, pos, length, ◌≤ℤ◌, IfSome};
+ghost use Rattle.std.specs.Prelude.{◌≡◌, ◌≤◌, pos, length, ◌≤ℤ◌};
 ghost use Rattle.nm_base.specs.Limits.{max_date};
-ghost use Rattle.nm_command.specs.Leading.{leading_of};
 ghost use Rattle.nm_history.specs.Call.{devices};
-ghost use Rattle.nm_history.specs.PrintedOut.{Prints};
-ghost use Rattle.nm_top.specs.Ending.{ended_with};
-ghost use Rattle.nm_top.specs.Program.{GoesOnWith, IsProgram, command_words, paths, setting_by};
+ghost use Rattle.nm_top.specs.Program.{IsProgram, command_words, paths, setting_by};
 
 use crate::ending::ended_early;
 use crate::top_call::notmuch;
@@ -50,93 +47,21 @@ pub fn program<R: Threads + Wait + Sync, M: MailFolder, D: DiskFolder, I: Source
         (devices (M.observed mail.new) (D.observed disk.new) (I.observed input.new) (O.observed out.new) (E.observed err.new)) result }
 {
     match head(alloc, words) {
-        Ok(leading) => open_and_call(
-            rt, alloc, start, words, &leading, mail, disk, input, out, err,
-        ),
+        Ok(leading) => match mail.open(&leading.mail) {
+            Ok(()) => match disk.open(&leading.index) {
+                Ok(()) => {
+                    let setting = setting_by(start, &leading);
+                    let command = command_words(words, &leading);
+                    notmuch(
+                        rt, alloc, command, &setting, mail, disk, input, out, err, &OpenGate,
+                    )
+                }
+                Err(_) => ended_early(alloc, err, 4, b"notmuch: cannot open\n"),
+            },
+            Err(_) => ended_early(alloc, err, 3, b"notmuch: cannot open\n"),
+        },
         Err(HeadError::Usage) => ended_early(alloc, err, 2, b"notmuch: usage\n"),
         Err(HeadError::NoMemory) => ended_early(alloc, err, 7, b"notmuch: no memory\n"),
-    }
-}
-
-/// Opens the mail folder, and goes on with the index.
-fn open_and_call<
-    R: Threads + Wait + Sync,
-    M: MailFolder,
-    D: DiskFolder,
-    I: Source,
-    O: Sink,
-    E: Sink,
->(
-    rt: &R,
-    alloc: Global,
-    start: &Start,
-    words: &[Text],
-    leading: &Leading,
-    mail: &mut M,
-    disk: &mut D,
-    input: &mut I,
-    out: &mut O,
-    err: &mut E,
-) -> Done
-    requires read { leading_of words.now ≡ Ok leading.now }
-    requires rest { leading.now.rest ≤ length words.now }
-    requires some_worker { 1 ≤ leading.now.workers }
-    requires few_workers { leading.now.workers ≤ 16 }
-    requires named { IfSome leading.now.moment (λ second. (pos 0 ≤ℤ second) × (second ≤ℤ pos max_date)) }
-    requires from_1970 { pos 0 ≤ℤ start.now.moment }
-    requires moment { start.now.moment ≤ℤ pos max_date }
-    ensures { IsProgram start.now words.now (paths (M.tree_at mail.old) (D.moments_at disk.old))
-        (devices (M.observed mail.old) (D.observed disk.old) (I.observed input.old) (O.observed out.old) (E.observed err.old))
-        (devices (M.observed mail.new) (D.observed disk.new) (I.observed input.new) (O.observed out.new) (E.observed err.new)) result }
-{
-    match mail.open(&leading.mail) {
-        Ok(()) => open_index_and_call(
-            rt, alloc, start, words, leading, mail, disk, input, out, err,
-        ),
-        Err(_) => ended_early(alloc, err, 3, b"notmuch: cannot open\n"),
-    }
-}
-
-/// Opens the index, and makes the call.
-fn open_index_and_call<
-    R: Threads + Wait + Sync,
-    M: MailFolder,
-    D: DiskFolder,
-    I: Source,
-    O: Sink,
-    E: Sink,
->(
-    rt: &R,
-    alloc: Global,
-    start: &Start,
-    words: &[Text],
-    leading: &Leading,
-    mail: &mut M,
-    disk: &mut D,
-    input: &mut I,
-    out: &mut O,
-    err: &mut E,
-) -> Done
-    requires read { leading_of words.now ≡ Ok leading.now }
-    requires rest { leading.now.rest ≤ length words.now }
-    requires some_worker { 1 ≤ leading.now.workers }
-    requires few_workers { leading.now.workers ≤ 16 }
-    requires named { IfSome leading.now.moment (λ second. (pos 0 ≤ℤ second) × (second ≤ℤ pos max_date)) }
-    requires from_1970 { pos 0 ≤ℤ start.now.moment }
-    requires moment { start.now.moment ≤ℤ pos max_date }
-    ensures { GoesOnWith start.now words.now leading.now (D.moments_at disk.old leading.now.index)
-        (devices (M.observed mail.old) (D.observed disk.old) (I.observed input.old) (O.observed out.old) (E.observed err.old))
-        (devices (M.observed mail.new) (D.observed disk.new) (I.observed input.new) (O.observed out.new) (E.observed err.new)) result }
-{
-    match disk.open(&leading.index) {
-        Ok(()) => {
-            let setting = setting_by(start, leading);
-            let command = command_words(words, leading);
-            notmuch(
-                rt, alloc, command, &setting, mail, disk, input, out, err, &OpenGate,
-            )
-        }
-        Err(_) => ended_early(alloc, err, 4, b"notmuch: cannot open\n"),
     }
 }
 
@@ -148,30 +73,12 @@ fn command_words<'a>(words: &'a [Text], leading: &Leading) -> &'a [Text]
     words.split_at(leading.rest).1
 }
 
-/// What the options say, and of what they leave out the start.
+/// What the options say; where they name no present second, it is that of the start.
 fn setting_by(start: &Start, leading: &Leading) -> Setting
-    requires some_worker { 1 ≤ leading.now.workers }
-    requires few_workers { leading.now.workers ≤ 16 }
-    requires named { IfSome leading.now.moment (λ second. (pos 0 ≤ℤ second) × (second ≤ℤ pos max_date)) }
-    requires from_1970 { pos 0 ≤ℤ start.now.moment }
-    requires moment { start.now.moment ≤ℤ pos max_date }
-    ensures value { result ≡ setting_by start.now leading.now }
-    ensures some_worker { 1 ≤ result.workers }
-    ensures few_workers { result.workers ≤ 16 }
-    ensures from_1970 { pos 0 ≤ℤ result.moment }
-    ensures moment { result.moment ≤ℤ pos max_date }
-{
-    match leading.moment {
-        Some(moment) => setting_at(start, leading, moment),
-        None => setting_at(start, leading, start.moment),
-    }
-}
-
-fn setting_at(start: &Start, leading: &Leading, moment: i64) -> Setting
-    ensures { result ≡ record { moment = moment; seed = start.now.seed; workers = leading.now.workers } }
+    ensures { result ≡ setting_by start.now leading.now }
 {
     Setting {
-        moment,
+        moment: leading.moment.unwrap_or(start.moment),
         seed: start.seed,
         workers: leading.workers,
     }

@@ -1,4 +1,4 @@
-//! The command `new`, for `nm_session`: it lists the mail folder, takes in what has come, batch by batch, and lets go
+//! The command `new`, for `nm_line` and `test_index`: it lists the mail folder, takes in what has come, batch by batch, and lets go
 //! what is gone.
 
 ghost use Rattle.std.specs.Prelude.{◌≡◌, ◌<◌, ◌≤◌, List, [], Err, IfOk, IfSome, None, length, map};

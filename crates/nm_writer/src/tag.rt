@@ -1,4 +1,5 @@
-//! The command `tag`, for `nm_session`: it finds the tags that its lines want, sets them, and renames the files that follow.
+//! The command `tag` of the writer that `lib` offers, for `nm_line`: it finds the tags that its lines want, sets them, and renames the files
+//! that follow.
 
 ghost use Rattle.std.specs.Prelude.{◌≡◌, ℕ, List, [], Err, IfSome, None, is_some};
 ghost use Rattle.nm_dates.specs.Seconds.{IsMoment};

@@ -1,5 +1,7 @@
-use Rattle.std.proofs.Common.{refl, sym, ◌∙◌}
+use Rattle.std.proofs.Common.{refl, sym, ◌∙◌, subst}
 use Rattle.nm_history.specs.Call.{call_of, devices}
+use Rattle.nm_log.specs.declared.log.Setting.{Setting}
+use Rattle.nm_top.specs.Drill.{DrillEnds}
 use Rattle.nm_top.proofs.DrillLemmas.{as-drill}
 use Rattle.nm_top.proofs.top_call.notmuch.Goals as goal
 
@@ -8,10 +10,13 @@ returns-then-is_drill-clause-history g c =
     let mail = g.M.Maildir.observed c.args.mail.now in
     let disk = g.D.Disk.observed c.args.disk.now in
     let input = g.I.Source.observed c.args.input.now in
-    as-drill
-    (call_of c.args.words.now c.args.setting.now (devices mail disk input (g.O.Sink.observed c.args.out.now) (g.E.Sink.observed c.args.err.now))
-    (devices mail disk input (g.O.Sink.observed c.drill.new.out) (g.E.Sink.observed c.drill.new.err)) c.drill.result)
-    (sym c.is_drill.ensures ∙ c.if-is_drill.true) (record { mail = refl; disk = refl; input = refl; ends = c.drill.ensures })
-
-pub returns-clause-complete : goal.returns-clause-complete
-returns-clause-complete g c = c.a_history_is_complete.ensures _ c.answered.ensures
+    let out = g.O.Sink.observed c.args.out.now in
+    let printed = g.O.Sink.observed c.drill.new.out in
+    let err = g.E.Sink.observed c.args.err.now in
+    let said = g.E.Sink.observed c.drill.new.err in
+    as-drill (call_of c.args.words.now c.args.setting.now (devices mail disk input out err) (devices mail disk input printed said) c.drill.result) (sym c.is_drill.ensures ∙ c.if-is_drill.true) (record {
+      mail = refl;
+      disk = refl;
+      input = refl;
+      ends = subst (λ (setting : Setting). DrillEnds c.args.words.now setting c.drill.result out printed err said) c.new-crew.ensures c.drill.ensures;
+    })

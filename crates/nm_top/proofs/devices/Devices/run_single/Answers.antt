@@ -1,0 +1,13 @@
+use Rattle.std.proofs.Common.{refl}
+use Rattle.nm_top.proofs.HistoryLemmas.{run-history}
+use Rattle.nm_top.specs.CallPhases.{phases_of}
+use Rattle.nm_top.specs.declared.call_phases.CallPhases.TheVariants.{Command}
+use Rattle.nm_top.proofs.devices.Devices.run_single.Goals as goal
+
+pub returns-clause-history : goal.returns-clause-history
+returns-clause-history g c = λ words old new read.
+    let lent = c.args.self.now in
+    let after = c.run_command-run.new in
+    run-history c.refusal_laws.ensures (Command c.args.words c.args.input) words c.args.crew.now.setting.now (g.M.Maildir.observed lent.mail.now) (g.M.Maildir.observed after.mail)
+    (g.D.Disk.observed lent.disk.now) (g.D.Disk.observed after.disk) old new (g.O.Sink.observed lent.out.now) (g.O.Sink.observed after.out) (g.E.Sink.observed lent.err.now) (g.E.Sink.observed c.end_run.new.err)
+    (phases_of (Command c.args.words c.args.input)) c.run_command-run.result refl c.run_command-run.ensures.ran c.run_command-run.ensures.refused c.run_command-run.ensures.unprinted read c.end_run.result c.end_run.ensures

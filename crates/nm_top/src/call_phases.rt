@@ -1,0 +1,66 @@
+//! What is read of a call before another device than its input is asked, for `session_call` and `command_call`: its phases, or why it has none.
+
+ghost use Rattle.std.specs.Prelude.{◌≡◌, ℕ, List, IfErr, IfOk, true, None};
+ghost use Rattle.nm_history.specs.Call.{call_fault, call_reads};
+ghost use Rattle.nm_history.specs.Refusals.{IsRead};
+ghost use Rattle.nm_top.specs.CallPhases.{HasError};
+ghost use Rattle.nm_top.specs.Ending.{take_refusal};
+
+use nm_base::{Limit, Many, NoMemory, Text};
+use nm_io::{Source, TakeError, take_all};
+use nm_lanes::Phase;
+use nm_log::{Outcome, Refusal};
+use std::alloc::Global;
+
+/// The most bytes of an input.
+const MAX_INPUT: u64 = 67_108_864;
+
+/// The phases of a script; or the words of a single command and the lines that it reads, which are the one line of one phase.
+#[derive(Drop)]
+pub(crate) enum CallPhases {
+    Script(Many<Phase>),
+    Command(Many<Text>, Many<u8>),
+}
+
+/// Why a call runs no phase.
+#[derive(Drop)]
+pub(crate) enum CallError {
+    /// It is refused as a whole.
+    Refused(Refusal),
+    /// The one line of a single command ends so.
+    Unasked(Outcome),
+}
+
+impl From<NoMemory> for CallError {
+    ghost use Rattle.nm_log.specs.declared.refusal.Refusal.TheVariants as refusals;
+    ghost use Rattle.nm_top.specs.declared.call_phases.CallError.TheVariants as errors;
+
+    ghost from_gives = { λ _ e. e ≡ errors.Refused refusals.NoMemory };
+
+    fn from(_: NoMemory) -> CallError {
+        CallError::Refused(Refusal::NoMemory)
+    }
+}
+
+/// Reads the input to its end.
+pub(crate) fn read_input<I: Source>(alloc: Global, input: &mut I) -> Result<Many<u8>, CallError>
+    ensures ok { IfOk result (λ bytes. IsRead bytes (I.observed input.old) (I.observed input.new)) }
+    ensures err { IfErr result (λ error. (words : List (List ℕ)) → call_fault words ≡ None → call_reads words ≡ true
+        → HasError words (I.observed input.old) (I.observed input.new) error) }
+{
+    match take_all(alloc, input, MAX_INPUT) {
+        Ok(bytes) => Ok(bytes),
+        Err(error) => Err(CallError::Refused(take_refusal(error))),
+    }
+}
+
+/// An error of reading the input, as the call is refused for it.
+fn take_refusal(error: TakeError) -> Refusal
+    ensures { result ≡ take_refusal error }
+{
+    match error {
+        TakeError::ReadFault => Refusal::ReadFault,
+        TakeError::TooLong => Refusal::Limit(Limit::InputBytes),
+        TakeError::NoMemory => Refusal::NoMemory,
+    }
+}
