@@ -67,6 +67,29 @@ in_rows rows row among = any_of (λ (r : LinkRow). has_text (ids_of r) row.id) r
 
 -- ---- the thread of the id
 
+module _ (laws : ThreadLaws) (old : Parts) (id : List ℕ) (loose : AreLoose old id) where
+  -- where the thread has a file, all stays
+  module _ (file : List ℕ × Facts) (among : Contains (base_of old).files file) (same : Same (rows_of (base_of old)) id file.1.id) where
+    abbrev whole : Base
+    whole = base_of old
+
+    still_held : (x : List ℕ) → (is_held whole x ≡ true) ⊎ Same (rows_of whole) x id → is_held whole x ≡ true
+    still_held x (inl held) = held
+    still_held x (inr of_id) = held_by laws whole x file among (laws.through (rows_of whole) x id file.1.id of_id same)
+
+    all_stays : AreParts old × (whole ≡ pruned whole)
+    all_stays =
+        let kept : (row : LinkRow) → Contains whole.kept row → is_held whole row.id ≡ true = λ row there. still_held row.id (loose.rows row there) in
+        let entries : (entry : List ℕ × ℕ) → Contains whole.entries entry → is_held whole entry.0 ≡ true = λ entry there. still_held entry.0 (loose.entries entry there) in
+        let kept_is : whole.kept ≡ filter (λ row. is_held whole row.id) whole.kept = sym (filter_same (λ row. is_held whole row.id) (λ _. true) whole.kept kept ∙ all_pass whole.kept) in
+        let entries_is : whole.entries ≡ filter (λ entry. is_held whole entry.0) whole.entries = sym (filter_same (λ entry. is_held whole entry.0) (λ _. true) whole.entries entries ∙ all_pass whole.entries) in
+        (record { filed = loose.filed; kept = loose.kept; labels = loose.labels; held = record { rows = kept; entries = entries }; tagged = loose.tagged }, λ i. record whole { kept = kept_is i; entries = entries_is i })
+
+  -- where the message of the id has another file, all stays
+  pub stays_by_itself : has_id (files_in old.filing) id ≡ true → AreParts old × (base_of old ≡ pruned (base_of old))
+  stays_by_itself live =
+      let file = live_file (base_of old).files id live in all_stays file.0 file.1 (subst (Same (rows_of (base_of old)) id) file.2 (laws.itself (rows_of (base_of old)) id))
+
 module _ (laws : ThreadLaws) (old : Parts) (id : List ℕ) (loose : AreLoose old id) (ids : List (List ℕ))
     (members : (other : List ℕ) → has_text ids other ≡ (has_entry (entries_of old.labels.labels) other && is_same (rows_of (base_of old)) id other)) where
   abbrev index : Base
@@ -78,27 +101,14 @@ module _ (laws : ThreadLaws) (old : Parts) (id : List ℕ) (loose : AreLoose old
   member : (other : List ℕ) → is_in_rows rows other ≡ true → has_text ids other ≡ is_same rows id other
   member other known = members other ∙ ap (λ has. has && is_same rows id other) (loose.labels.known other known)
 
-  -- where a message of the thread is live, all stays
-  module _ (live : list_any (has_id (base_of old).files) ids ≡ true) where
-    witness : (file : List ℕ × Facts) × Contains index.files file × Same rows id file.1.id
-    witness =
-        let one = any_one (has_id index.files) ids live in
-        let there : has_text ids one.0 ≡ true = any_of (same_text one.0) ids one.0 one.1 (same_text_of one.0) in
-        let file = live_file index.files one.0 one.2 in
-        let same : is_same rows id one.0 ≡ true = (and_parts (has_entry index.entries one.0) (is_same rows id one.0) (sym (members one.0) ∙ there)).1 in
-        (file.0, file.1, subst (Same rows id) file.2 ((laws.computed rows id one.0).0 same))
-
-    still_held : (x : List ℕ) → (is_held index x ≡ true) ⊎ Same rows x id → is_held index x ≡ true
-    still_held x (inl held) = held
-    still_held x (inr same) = held_by laws index x witness.0 witness.1 (laws.through rows x id witness.0.1.id same witness.2)
-
-    pub all_stays : AreParts old × (index ≡ pruned index)
-    all_stays =
-        let kept : (row : LinkRow) → Contains index.kept row → is_held index row.id ≡ true = λ row among. still_held row.id (loose.rows row among) in
-        let entries : (entry : List ℕ × ℕ) → Contains index.entries entry → is_held index entry.0 ≡ true = λ entry among. still_held entry.0 (loose.entries entry among) in
-        let kept_is : index.kept ≡ filter (λ row. is_held index row.id) index.kept = sym (filter_same (λ row. is_held index row.id) (λ _. true) index.kept kept ∙ all_pass index.kept) in
-        let entries_is : index.entries ≡ filter (λ entry. is_held index entry.0) index.entries = sym (filter_same (λ entry. is_held index entry.0) (λ _. true) index.entries entries ∙ all_pass index.entries) in
-        (record { filed = loose.filed; kept = loose.kept; labels = loose.labels; held = record { rows = kept; entries = entries }; tagged = loose.tagged }, λ i. record index { kept = kept_is i; entries = entries_is i })
+  -- where one of the thread is live, all stays
+  pub stays_by_one : list_any (has_id (base_of old).files) ids ≡ true → AreParts old × (base_of old ≡ pruned (base_of old))
+  stays_by_one live =
+      let one = any_one (has_id index.files) ids live in
+      let there : has_text ids one.0 ≡ true = any_of (same_text one.0) ids one.0 one.1 (same_text_of one.0) in
+      let file = live_file index.files one.0 one.2 in
+      let same : is_same rows id one.0 ≡ true = (and_parts (has_entry index.entries one.0) (is_same rows id one.0) (sym (members one.0) ∙ there)).1 in
+      all_stays laws old id loose file.0 file.1 (subst (Same rows id) file.2 ((laws.computed rows id one.0).0 same))
 
   -- where none is, what is of the thread goes
   module _ (dead : list_any (has_id (base_of old).files) ids ≡ false) where

@@ -66,6 +66,10 @@ fn prune(alloc: Global, parts: &mut Parts, id: &MessageId) -> Result<(), NoMemor
     ensures base { OnOk result (base_of parts.new ≡ pruned (base_of parts.old)) }
 {
     thread_laws();
+    // Where the mail was moved, another file of the message is there.
+    if is_live(&parts.filing, id) {
+        return Ok(());
+    }
     let members = parts.labels.thread_of(id)?;
     if any_live(&parts.filing, members.as_slice()) {
         return Ok(());

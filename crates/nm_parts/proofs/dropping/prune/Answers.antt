@@ -6,17 +6,23 @@ use Rattle.nm_commit.specs.Files.{has_id}
 use Rattle.nm_index.specs.Index.{rows_of}
 use Rattle.nm_tables.specs.Filing.{files_in}
 use Rattle.nm_parts.specs.Parts.{base_of}
-use Rattle.nm_parts.proofs.PruneLemmas.{all_stays, members_are, thread_gone}
+use Rattle.nm_parts.proofs.PruneLemmas.{members_are, stays_by_itself, stays_by_one, thread_gone}
 use Rattle.nm_parts.proofs.dropping.prune.Goals as goal
+
+pub returns-then-is_live-clause-parts : goal.returns-then-is_live-clause-parts
+returns-then-is_live-clause-parts c = (stays_by_itself c.thread_laws.ensures c.args.parts.now c.args.id.now c.requires (sym c.if-is_live.ensures)).0
+
+pub returns-then-is_live-clause-base : goal.returns-then-is_live-clause-base
+returns-then-is_live-clause-base c = (stays_by_itself c.thread_laws.ensures c.args.parts.now c.args.id.now c.requires (sym c.if-is_live.ensures)).1
 
 pub returns-then-any_live-clause-parts : goal.returns-then-any_live-clause-parts
 returns-then-any_live-clause-parts c =
-    (all_stays c.thread_laws.ensures c.args.parts.now c.args.id.now c.requires c.in_ok-members.members (members_are c.args.parts.now c.args.id.now c.requires c.in_ok-members.members c.in_ok-members.ensures)
+    (stays_by_one c.thread_laws.ensures c.args.parts.now c.args.id.now c.requires c.in_ok-members.members (members_are c.args.parts.now c.args.id.now c.requires c.in_ok-members.members c.in_ok-members.ensures)
     (ap (list_any (has_id (files_in c.args.parts.now.filing))) (sym c.as_slice.ensures) ∙ sym c.if-any_live.ensures)).0
 
 pub returns-then-any_live-clause-base : goal.returns-then-any_live-clause-base
 returns-then-any_live-clause-base c =
-    (all_stays c.thread_laws.ensures c.args.parts.now c.args.id.now c.requires c.in_ok-members.members (members_are c.args.parts.now c.args.id.now c.requires c.in_ok-members.members c.in_ok-members.ensures)
+    (stays_by_one c.thread_laws.ensures c.args.parts.now c.args.id.now c.requires c.in_ok-members.members (members_are c.args.parts.now c.args.id.now c.requires c.in_ok-members.members c.in_ok-members.ensures)
     (ap (list_any (has_id (files_in c.args.parts.now.filing))) (sym c.as_slice.ensures) ∙ sym c.if-any_live.ensures)).1
 
 pub returns-clause-parts : goal.returns-clause-parts
