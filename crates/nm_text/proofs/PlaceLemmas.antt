@@ -1,15 +1,17 @@
 -- A text is cut at the first place of an ASCII character: the parts, and that each is text.
--- For the proofs of `after_first`, `before_first` and `cut_at`.
-use Rattle.std.proofs.Common.{◌≡◌, ℕ, ◌+◌, ◌<◌, false, List, [], ◌∷◌, length, take, drop, get_or, refl, sym, ap, subst, ◌∙◌, arith, inl, inr}
+-- For the proofs of `after_first`, `before_first`, `cut_at` and `first_place`.
+use Rattle.std.proofs.Common.{◌≡◌, ℕ, ◌+◌, ◌<◌, Bool, true, false, List, Option, None, Some, [], ◌∷◌, length, take, drop, get_or, refl, sym, ap, subst, ◌∙◌, arith, inl, inr}
 use Rattle.std.specs.Prelude.{IsUtf8}
 use Rattle.std.specs.Str.{IsCharBoundary}
 use Rattle.std.specs.List.{position_or_len, slice_split}
+use Rattle.std.specs.Option.{unwrap_or}
 use Rattle.std.proofs.lemmas.Bool.{cases_lt, eqb-true}
 use Rattle.std.proofs.lemmas.List.{take_all}
 use Rattle.std.proofs.lemmas.List.Elements.{All-from_get_or}
 use Rattle.std.proofs.lemmas.List.Splits.{slice_split_first, slice_split_none}
-use Rattle.std.proofs.lemmas.List.Sums.{fails_before_first, passes_at_first}
+use Rattle.std.proofs.lemmas.List.Sums.{fails_before_first, passes_at_first, position_or_len_is}
 use Rattle.std.proofs.lemmas.Str.{IsCharBoundary-after_ascii, IsCharBoundary-before_ascii, IsUtf8-drop, IsUtf8-take}
+use Rattle.bstr.specs.Find.{IsFirstByte}
 use Rattle.nm_text.specs.Cuts.{is_byte}
 
 -- the place, as a loop over the bytes of the text gives it
@@ -48,3 +50,17 @@ before_utf8 wanted bytes at place ascii u =
 
 pub after_utf8 : (wanted : ℕ) (bytes : List ℕ) (at : ℕ) → at ≡ position_or_len (is_byte wanted) bytes → at < length bytes → wanted < 128 → IsUtf8 bytes → IsUtf8 (drop (at + 1) bytes)
 after_utf8 wanted bytes at place within ascii u = IsUtf8-drop bytes (at + 1) u (after_place wanted bytes bytes at refl place ascii within u)
+
+-- what isn't true is false
+fails : (b : Bool) → ¬ (b ≡ true) → b ≡ false
+fails true not = absurd (not refl)
+fails false not = refl
+
+-- the first byte that a search finds
+pub place_found : (wanted : ℕ) (bytes : List ℕ) (found : Option ℕ) → IsFirstByte (is_byte wanted) bytes found → unwrap_or found (length bytes) ≡ position_or_len (is_byte wanted) bytes
+place_found wanted bytes None none =
+    sym (position_or_len_is (is_byte wanted) bytes (length bytes) 0 (omega arith) (λ k within. fails (is_byte wanted (get_or bytes k 0)) (none k (omega arith) within)) (λ within. absurd (omega arith)))
+place_found wanted bytes (Some at) first =
+    let none = first.0 in
+    let within = none.high in
+    sym (position_or_len_is (is_byte wanted) bytes at 0 (omega arith) (λ k before. fails (is_byte wanted (get_or bytes k 0)) (none.before k (omega arith) before)) (λ _. first.1))

@@ -4,6 +4,7 @@ ghost use Rattle.std.specs.Prelude.{◌≡◌, IfOk, IsUtf8, map};
 ghost use Rattle.std.specs.Char.{to_ascii_lowercase};
 ghost use Rattle.nm_text.specs.Case.{same_ignoring_case};
 
+use bstr::ByteSlice;
 use nm_base::NoMemory;
 use std::alloc::Global;
 
@@ -12,14 +13,7 @@ pub fn lowercase(alloc: Global, bytes: &[u8]) -> Result<Vec<u8>, NoMemory>
     ensures value { IfOk result (λ lower. lower.items ≡ map to_ascii_lowercase bytes.now) }
     ensures text { IfOk result (λ lower. IsUtf8 bytes.now → IsUtf8 lower.items) }
 {
-    let lower = lowercase_bytes(alloc, bytes)?;
-    Ok(lower)
-}
-
-fn lowercase_bytes(alloc: Global, bytes: &[u8]) -> Result<Vec<u8>, NoMemory>
-    ensures { IfOk result (λ lower. lower.items ≡ map to_ascii_lowercase bytes.now) }
-{
-    let lower: Vec<u8> = bytes.iter().map(|b| b.to_ascii_lowercase()).collect(alloc)?;
+    let lower = ByteSlice::to_ascii_lowercase(&bytes, alloc)?;
     Ok(lower)
 }
 

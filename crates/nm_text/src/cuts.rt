@@ -4,6 +4,8 @@ ghost use Rattle.std.specs.Prelude.{◌≡◌, [], ◌∷◌, ◌<◌, ◌≤◌
 ghost use Rattle.std.specs.List.{after_first, before_first, position_or_len, slice_split};
 ghost use Rattle.nm_text.specs.Cuts.{begins_with, ends_with, is_byte};
 
+use bstr::ByteSlice;
+
 /// Whether this byte stands first.
 pub fn begins_with(byte: u8, text: &[u8]) -> bool
     ensures { result ≡ begins_with byte text.now }
@@ -18,10 +20,7 @@ pub fn begins_with(byte: u8, text: &[u8]) -> bool
 pub fn ends_with(byte: u8, text: &[u8]) -> bool
     ensures { result ≡ ends_with byte text.now }
 {
-    if text.is_empty() {
-        return false;
-    }
-    text[text.len() - 1] == byte
+    text.last_byte() == Some(byte)
 }
 
 /// The first place of a byte, or the length where it isn't there.
@@ -29,12 +28,7 @@ pub fn first_place(bytes: &[u8], wanted: u8) -> usize
     ensures place { result ≡ position_or_len (is_byte wanted) bytes.now }
     ensures within { result ≤ length bytes.now }
 {
-    'places: for (at, byte) in bytes.iter().enumerate() {
-        if *byte == wanted {
-            return at;
-        }
-    }
-    bytes.len()
+    bytes.find_byte(wanted).unwrap_or(bytes.len())
 }
 
 /// What stands before the first such ASCII character and what stands after it.

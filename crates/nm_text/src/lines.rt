@@ -46,26 +46,18 @@ pub fn content(line: &[u8]) -> &[u8]
     ensures value { result.now ≡ content line.now }
     ensures within { length result.now ≤ length line.now }
 {
-    let length = line.len();
-    if length == 0 {
-        return line;
+    match line {
+        [front @ .., b'\n'] => without_carriage_return(front),
+        _ => line,
     }
-    if line[length - 1] != b'\n' {
-        return line;
-    }
-    without_carriage_return(&line[..length - 1])
 }
 
 fn without_carriage_return(line: &[u8]) -> &[u8]
     ensures value { result.now ≡ strip_carriage_return line.now }
     ensures within { length result.now ≤ length line.now }
 {
-    let length = line.len();
-    if length == 0 {
-        return line;
+    match line {
+        [front @ .., b'\r'] => front,
+        _ => line,
     }
-    if line[length - 1] != b'\r' {
-        return line;
-    }
-    &line[..length - 1]
 }
