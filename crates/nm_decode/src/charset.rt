@@ -5,7 +5,7 @@ ghost use Rattle.std.specs.Str.{IsAscii};
 ghost use Rattle.nm_decode.specs.Charsets.{charset_of, char_in, single_byte_text, text_in, text_of};
 
 use nm_base::{NoMemory, Text};
-use nm_text::{as_text, same_ignoring_case};
+use nm_text::{as_text, lossy_text, same_ignoring_case};
 use std::alloc::Global;
 
 /// The charsets that are told apart: every other label is read as ASCII.
@@ -57,7 +57,7 @@ pub(crate) fn text_in(alloc: Global, charset: Charset, bytes: &[u8]) -> Result<T
     ensures { IfOk result (λ text. text ≡ text_in charset bytes.now) }
 {
     match charset {
-        Charset::Utf8 => Ok(Text::from_string(String::from_utf8_lossy(alloc, bytes)?)?),
+        Charset::Utf8 => lossy_text(alloc, bytes),
         _ => decode_single_byte(alloc, charset, bytes),
     }
 }

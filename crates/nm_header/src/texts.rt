@@ -7,6 +7,7 @@ ghost use Rattle.nm_header.specs.Texts.{counts_all, field_text, has_field, is_na
 
 use crate::{HeaderField, HeaderList};
 use nm_base::{Many, NoMemory, Text};
+use nm_text::lossy_text;
 use std::alloc::Global;
 
 impl HeaderField {
@@ -14,8 +15,7 @@ impl HeaderField {
     pub fn text(&self, alloc: Global) -> Result<Text, NoMemory>
         ensures { IfOk result (λ text. text ≡ utf8_lossy self.now.body) }
     {
-        let text = String::from_utf8_lossy(alloc, self.body.as_slice())?;
-        Ok(Text::from_string(text)?)
+        lossy_text(alloc, self.body.as_slice())
     }
 
     fn is_named(&self, name: &str) -> bool
