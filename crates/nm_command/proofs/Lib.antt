@@ -2,8 +2,10 @@ mod AnswerLemmas
 mod DefaultLemmas
 mod LeadingLemmas
 mod NameLemmas
+mod NamedLemmas
 mod NumberLemmas
 mod OptionLemmas
+mod ParserLemmas
 mod QueryLemmas
 mod RangeLemmas
 mod ReadingLemmas

@@ -1,5 +1,6 @@
 pub mod Grammar
 pub mod Leading
+pub mod LeadingParser
 pub mod Numbers
 pub mod Options
 pub mod Requests

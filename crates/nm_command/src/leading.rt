@@ -1,10 +1,12 @@
 //! The program's leading options, which `nm_top` reads first: folders, workers and the moment, before the command.
 
-ghost use Rattle.std.specs.Prelude.{◌≡◌, ◌⊎◌, ◌≤◌, ◌≤ℤ◌, IfOk, IfSome, MatchOption, MatchResult, None, Ok, Err, Some, codes, length, map, pos};
+ghost use Rattle.std.specs.Prelude.{◌≡◌, ◌≢◌, ◌⊎◌, ◌≤◌, ◌≤ℤ◌, ℕ, List, true, false, IfOk, IfSome, MatchResult, Ok, Err, length, map, pos};
 ghost use Rattle.std.specs.List.{list_all, take_while};
-ghost use Rattle.std.specs.Option.{option_and_then};
+ghost use Rattle.std.specs.Option.{option_and_then, option_map};
+ghost use Rattle.clap.specs.Words.{app_of, first_value, found_of};
 ghost use Rattle.nm_base.specs.Limits.{max_date};
-ghost use Rattle.nm_command.specs.Leading.{are_distinct, are_options, cut_option, is_option, leading_of, may_be};
+ghost use Rattle.nm_command.specs.Leading.{cut_option, leading_of, may_be};
+ghost use Rattle.nm_command.specs.LeadingParser.{are_named, has_value, parser};
 ghost use Rattle.nm_command.specs.Numbers.{moment_in, workers_in};
 ghost use Rattle.nm_command.specs.Options.{begins_with_dashes};
 ghost use Rattle.nm_command.specs.Settings.{or_default};
@@ -13,6 +15,8 @@ ghost use Rattle.nm_command.specs.Table.{meaning_of};
 use crate::number::{moment, workers};
 use crate::options::begins_with_dashes;
 use crate::table::{LeadingForm, leading_form};
+use clap::error::ErrorKind;
+use clap::{Arg, ArgMatches, Command};
 use nm_base::{NoMemory, Text};
 use nm_text::cut_at;
 use std::alloc::Global;
@@ -74,14 +78,19 @@ pub fn head(alloc: Global, words: &[Text]) -> Result<Leading, HeadError>
     ensures moment { IfOk result (λ leading. IfSome leading.moment (λ second. (pos 0 ≤ℤ second) × (second ≤ℤ pos max_date))) }
 {
     let options = leading_words(words);
-    if !are_options(options) {
+    if !have_values(options) {
         return Err(HeadError::Usage);
     }
+    let texts = texts_of(alloc, options)?;
+    let matches = match parsed(alloc, texts.as_slice()) {
+        Ok(matches) => matches,
+        Err(error) => return Err(error),
+    };
     Ok(Leading {
-        mail: folder(alloc, options, "--mail", "mail")?,
-        index: folder(alloc, options, "--index", "index")?,
-        workers: workers_given(options),
-        moment: moment_given(options),
+        mail: folder(alloc, matches.get_str("--mail"), "mail")?,
+        index: folder(alloc, matches.get_str("--index"), "index")?,
+        workers: workers_given(matches.get_str("--workers")),
+        moment: moment_given(matches.get_str("--moment")),
         rest: options.len(),
     })
 }
@@ -98,22 +107,13 @@ fn leading_words(words: &[Text]) -> &[Text]
     words
 }
 
-/// All are options, each name once at most.
-fn are_options(words: &[Text]) -> bool
-    ensures { result ≡ are_options (map cut_option words.now) }
-{
-    if !have_values(words) {
-        return false;
-    }
-    are_distinct(words)
-}
-
+/// `clap` would take an empty value, and one in the next word: so the values are tested first.
 fn have_values(words: &[Text]) -> bool
-    ensures { result ≡ list_all is_option (map cut_option words.now) }
+    ensures { result ≡ list_all has_value (map cut_option words.now) }
 {
     let mut rest = words;
     'words: while !rest.is_empty() {
-        if !is_option(rest[0].as_str()) {
+        if !has_value(rest[0].as_str()) {
             return false;
         }
         rest = &rest[1..];
@@ -121,13 +121,13 @@ fn have_values(words: &[Text]) -> bool
     true
 }
 
-fn is_option(word: &str) -> bool
-    ensures { result ≡ is_option (cut_option word.now) }
+fn has_value(word: &str) -> bool
+    ensures { result ≡ has_value (cut_option word.now) }
 {
     let option = cut_option(word);
     match leading_form(option.name) {
         Some(form) => may_be(form, option.value),
-        None => false,
+        None => !option.value.is_empty(),
     }
 }
 
@@ -154,60 +154,80 @@ fn cut_option(word: &str) -> LeadingWord<'_>
     }
 }
 
-fn are_distinct(words: &[Text]) -> bool
-    ensures { result ≡ are_distinct (map cut_option words.now) }
+fn texts_of(alloc: Global, words: &[Text]) -> Result<Vec<&str>, NoMemory>
+    ensures { IfOk result (λ texts. map (λ text. text.now) texts.items ≡ words.now) }
 {
-    let mut rest = words;
-    'words: while !rest.is_empty() {
-        let option = cut_option(rest[0].as_str());
-        if value_given(&rest[1..], option.name).is_some() {
-            return false;
-        }
-        rest = &rest[1..];
+    let mut texts = Vec::with_capacity(alloc, words.len())?;
+    'words: for word in words {
+        texts.push(word.as_str())?;
     }
-    true
+    Ok(texts)
 }
 
-/// The value of the first option of this name.
-fn value_given<'a>(words: &'a [Text], name: &str) -> Option<&'a str>
-    ensures { MatchOption result (meaning_of name.now (map cut_option words.now) ≡ None)
-        (λ value. meaning_of name.now (map cut_option words.now) ≡ Some value.now) }
+/// What the options say, by `clap`: it refuses an unknown name, and one that stands twice.
+fn parsed<'a>(alloc: Global, words: &'a [&'a str]) -> Result<ArgMatches<'a>, HeadError>
+    requires dashes { list_all begins_with_dashes (map (λ word. word.now) words.now) ≡ true }
+    requires values { list_all has_value (map cut_option (map (λ word. word.now) words.now)) ≡ true }
+    ensures { MatchResult result
+        (λ matches. (are_named (map cut_option (map (λ word. word.now) words.now)) ≡ true)
+        × ((name : List ℕ) → first_value (found_of matches) name ≡ meaning_of name (map cut_option (map (λ word. word.now) words.now))))
+        (λ error. (error ≡ HeadError.NoMemory)
+        ⊎ ((error ≡ HeadError.Usage) × (are_named (map cut_option (map (λ word. word.now) words.now)) ≡ false))) }
 {
-    let mut rest = words;
-    'words: while !rest.is_empty() {
-        let option = cut_option(rest[0].as_str());
-        if option.name == name {
-            return Some(option.value);
-        }
-        rest = &rest[1..];
+    match parser(alloc)?.try_get_matches_from(words) {
+        Ok(matches) => Ok(matches),
+        Err(error) => Err(refusal(error.kind())),
     }
-    None
 }
 
-fn folder(alloc: Global, words: &[Text], name: &str, default: &str) -> Result<Text, NoMemory>
-    ensures { IfOk result (λ folder. folder ≡ or_default (meaning_of name.now (map cut_option words.now)) default.now) }
+fn refusal(kind: ErrorKind) -> HeadError
+    ensures memory { kind ≡ ErrorKind.OutOfMemory → result ≡ HeadError.NoMemory }
+    ensures usage { kind ≢ ErrorKind.OutOfMemory → result ≡ HeadError.Usage }
 {
-    match value_given(words, name) {
+    match kind {
+        ErrorKind::OutOfMemory => HeadError::NoMemory,
+        _ => HeadError::Usage,
+    }
+}
+
+fn parser<'a>(alloc: Global) -> Result<Command<'a>, NoMemory>
+    ensures { IfOk result (λ command. app_of command ≡ parser) }
+{
+    let bare = Command::new(alloc, "notmuch")
+        .no_binary_name(true)
+        .disable_help_flag(true);
+    let command = bare
+        .arg(Arg::new(alloc, "--mail").long("mail"))?
+        .arg(Arg::new(alloc, "--index").long("index"))?
+        .arg(Arg::new(alloc, "--workers").long("workers"))?
+        .arg(Arg::new(alloc, "--moment").long("moment"))?;
+    Ok(command)
+}
+
+fn folder(alloc: Global, given: Option<&str>, default: &str) -> Result<Text, NoMemory>
+    ensures { IfOk result (λ folder. folder ≡ or_default (option_map (λ text. text.now) given.entry) default.now) }
+{
+    match given {
         Some(folder) => Text::of(alloc, folder),
         None => Text::of(alloc, default),
     }
 }
 
-fn workers_given(words: &[Text]) -> u32
-    ensures value { result ≡ or_default (option_and_then workers_in (meaning_of (codes "--workers") (map cut_option words.now))) 4 }
+fn workers_given(given: Option<&str>) -> u32
+    ensures value { result ≡ or_default (option_and_then workers_in (option_map (λ text. text.now) given.entry)) 4 }
     ensures within { (1 ≤ result) × (result ≤ 16) }
 {
-    match value_given(words, "--workers") {
+    match given {
         Some(value) => workers(value).unwrap_or(DEFAULT_WORKERS),
         None => DEFAULT_WORKERS,
     }
 }
 
-fn moment_given(words: &[Text]) -> Option<i64>
-    ensures value { result ≡ option_and_then moment_in (meaning_of (codes "--moment") (map cut_option words.now)) }
+fn moment_given(given: Option<&str>) -> Option<i64>
+    ensures value { result ≡ option_and_then moment_in (option_map (λ text. text.now) given.entry) }
     ensures within { IfSome result (λ second. (pos 0 ≤ℤ second) × (second ≤ℤ pos max_date)) }
 {
-    match value_given(words, "--moment") {
+    match given {
         Some(value) => moment(value),
         None => None,
     }
