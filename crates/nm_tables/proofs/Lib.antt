@@ -1,4 +1,5 @@
 pub mod FilingLemmas
+pub mod HintLemmas
 pub mod KeptLemmas
 pub mod MailRowLemmas
 pub mod MeasureLemmas

@@ -1,6 +1,7 @@
 pub mod Filing
 pub mod FilterLaws
 pub mod FoundLaws
+pub mod Hints
 pub mod Kept
 pub mod KeyLaws
 pub mod MeasureLaws

@@ -3,6 +3,7 @@
 #![tactic(auto)]
 
 mod filing;
+mod hints;
 mod kept;
 mod measured_labels;
 mod measured_map;

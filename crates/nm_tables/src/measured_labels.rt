@@ -10,11 +10,16 @@ ghost use Rattle.nm_threads.specs.Entries.{AreEntriesOf};
 ghost use Rattle.nm_threads.specs.Labels.{AreLabelsOf, IsLabelling, entries_of, has_entry, named, numbered};
 ghost use Rattle.nm_threads.specs.Name.{thread_name};
 ghost use Rattle.nm_threads.specs.Same.{ids_of, is_same};
+ghost use Rattle.nm_tables.specs.Hints.{IsDeadThread};
+ghost use Rattle.nm_tables.specs.Filing.{AreFiled, files_in};
 ghost use Rattle.nm_tables.specs.Measures.{AreSeen, entries_len, ids_len};
 
+use crate::filing::Filing;
+use crate::hints::{Hints, add_hints, add_new_hint, knows_live};
 use crate::measured_map::{plus, sum};
 use nm_base::{Copies, LinkRow, Many, MessageId, NoMemory, Steps, TextSet};
 use nm_record::id_len;
+use nm_shared::SharedMap;
 use nm_threads::{Entries, Labels};
 use std::alloc::Global;
 use std::marker::{Brand, Model};
@@ -24,6 +29,7 @@ use std::sync::ledger::{Blank, Ledger};
 pub struct MeasuredLabels {
     labels: Labels,
     bytes: u64,
+    hints: Hints,
 }
 
 impl Model for MeasuredLabels {
@@ -43,6 +49,7 @@ impl Drop for MeasuredLabels {
         let MeasuredLabels {
             labels: _,
             bytes: _,
+            hints: _,
         } = self;
     }
 }
@@ -174,6 +181,7 @@ impl MeasuredLabels {
         MeasuredLabels {
             labels: Labels::new(alloc),
             bytes: 0,
+            hints: SharedMap::new(alloc),
         }
     }
 
@@ -191,7 +199,11 @@ impl MeasuredLabels {
     {
         let bytes = all_len(entries.as_slice())?;
         let labels = Labels::of(alloc, rows, entries, next)?;
-        Ok(MeasuredLabels { labels, bytes })
+        Ok(MeasuredLabels {
+            labels,
+            bytes,
+            hints: SharedMap::new(alloc),
+        })
     }
 
     /// How many bytes all ids with their numbers take.
@@ -264,7 +276,31 @@ impl MeasuredLabels {
         self.bytes = 0;
         add_uncounted::<Brand>(&mut self.labels, row, Blank::new(1))?;
         self.bytes = bytes;
+        add_new_hint(&self.labels, &mut self.hints, &row.id)?;
         Ok(())
+    }
+
+    /// The ids of the thread of an id, by their numbers, where none of them has a file. A thread that loses its messages one by
+    /// one is walked as it loses the first, and as it goes.
+    pub fn dead_thread(
+        &mut self,
+        filing: &Filing,
+        id: &MessageId,
+    ) -> Result<Option<Many<MessageId>>, NoMemory>
+        requires { AreFiled filing.now }
+        ensures labels { OnOk result (self.new ≡ self.old) }
+        ensures dead { IfOk result (IsDeadThread self.old.labels (files_in filing.now) id.now) }
+    {
+        let known = knows_live(&self.labels, &mut self.hints, filing, id)?;
+        if known {
+            return Ok(None);
+        }
+        let ids = thread_uncounted::<Brand>(&self.labels, id, Blank::new(1))?;
+        let live = add_hints(&self.labels, &mut self.hints, filing, ids.as_slice())?;
+        if live {
+            return Ok(None);
+        }
+        Ok(Some(ids))
     }
 
     /// Lets go the thread of an id, of which these are the ids. Where there was no memory all labels are lost.
@@ -290,6 +326,7 @@ impl Copies for MeasuredLabels {
         Ok(MeasuredLabels {
             labels: self.labels.copy()?,
             bytes: self.bytes,
+            hints: self.hints.share()?,
         })
     }
 }
