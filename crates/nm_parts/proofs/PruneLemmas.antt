@@ -11,9 +11,10 @@ use Rattle.nm_base.specs.declared.facts.LinkRow.{LinkRow}
 use Rattle.nm_commit.specs.Files.{has_id}
 use Rattle.nm_index.specs.Index.{is_held, pruned, row_of, rows_of}
 use Rattle.nm_index.specs.declared.base.Base.{Base}
-use Rattle.nm_threads.specs.Labels.{AreLabelsOf, entries_of, has_entry, is_in_rows}
+use Rattle.nm_threads.specs.Labels.{AreLabelsOf, Labelling, entries_of, has_entry, is_in_rows}
 use Rattle.nm_threads.specs.Same.{IsChain, Same, ids_of, is_same, stand_together}
 use Rattle.nm_tables.specs.Filing.{AreFiled, files_in}
+use Rattle.nm_tables.specs.Hints.{thread_ids}
 use Rattle.nm_tables.specs.Kept.{AreKept}
 use Rattle.nm_parts.specs.Parts.{AreLoose, AreParts, AreTagged, base_of}
 use Rattle.nm_parts.specs.ThreadLaws.{ThreadLaws}
@@ -102,7 +103,7 @@ module _ (laws : ThreadLaws) (old : Parts) (id : List ℕ) (loose : AreLoose old
   member other known = members other ∙ ap (λ has. has && is_same rows id other) (loose.labels.known other known)
 
   -- where one of the thread is live, all stays
-  pub stays_by_one : list_any (has_id (base_of old).files) ids ≡ true → AreParts old × (base_of old ≡ pruned (base_of old))
+  stays_by_one : list_any (has_id (base_of old).files) ids ≡ true → AreParts old × (base_of old ≡ pruned (base_of old))
   stays_by_one live =
       let one = any_one (has_id index.files) ids live in
       let there : has_text ids one.0 ≡ true = any_of (same_text one.0) ids one.0 one.1 (same_text_of one.0) in
@@ -177,7 +178,7 @@ module _ (laws : ThreadLaws) (old : Parts) (id : List ℕ) (loose : AreLoose old
           held_by laws after x file.0 (subst (λ fs. Contains fs file.0) (sym files_same) file.1)
           (same_stays laws rows (rows_of after) id stays x file.0.1.id (λ same. no_file file.0 file.1 (laws.through rows id x file.0.1.id same file.2)) file.2)
 
-      pub thread_gone : AreParts new × (after ≡ pruned index)
+      thread_gone : AreParts new × (after ≡ pruned index)
       thread_gone = (
         record {
           filed = subst (λ f. AreFiled f) (sym filing) loose.filed;
@@ -227,8 +228,35 @@ thread_has those id other (e ∷ entries) =
     (λ found. ap (is_same those id) (sym (same_text_from other e.0 found))) (thread_has those id other entries)
 
 -- the ids of the thread are those that have a number and are of it
-pub members_are : (old : Parts) (id : List ℕ) (loose : AreLoose old id) (ids : List (List ℕ))
-    → ((rows : List LinkRow) → AreLabelsOf rows old.labels.labels → ids ≡ map (λ entry. entry.0) (filter (λ entry. is_same rows id entry.0) (entries_of old.labels.labels)))
-    → (other : List ℕ) → has_text ids other ≡ (has_entry (entries_of old.labels.labels) other && is_same (rows_of (base_of old)) id other)
-members_are old id loose ids is other =
-    ap (λ all. has_text all other) (is (rows_of (base_of old)) loose.labels) ∙ thread_has (rows_of (base_of old)) id other (entries_of old.labels.labels)
+members_are : (old : Parts) (id other : List ℕ) → has_text (thread_ids (rows_of (base_of old)) (entries_of old.labels.labels) id) other ≡ (has_entry (entries_of old.labels.labels) other && is_same (rows_of (base_of old)) id other)
+members_are old id other = thread_has (rows_of (base_of old)) id other (entries_of old.labels.labels)
+
+-- ---- by the labels as they are handed back
+
+module _ (laws : ThreadLaws) (old : Parts) (id : List ℕ) (loose : AreLoose old id) (labels : Labelling) (same : labels ≡ old.labels) where
+  abbrev ids : List (List ℕ)
+  ids = thread_ids (rows_of (base_of old)) (entries_of old.labels.labels) id
+
+  abbrev handed : Parts
+  handed = record { revision = old.revision; filing = old.filing; kept = old.kept; labels = labels; tags = old.tags }
+
+  own : AreLabelsOf (rows_of (base_of old)) labels.labels
+  own = subst (λ (l : Labelling). AreLabelsOf (rows_of (base_of old)) l.labels) (sym same) loose.labels
+
+  -- where one of the thread is live, all stays
+  pub live_stays : list_any (has_id (files_in old.filing)) (thread_ids (rows_of (base_of old)) (entries_of old.labels.labels) id) ≡ true → AreParts handed × (base_of handed ≡ pruned (base_of old))
+  live_stays live =
+      let all = stays_by_one laws old id loose ids (members_are old id) live in
+      subst (λ (l : Labelling). AreParts (record old { labels = l }) × (base_of (record old { labels = l }) ≡ pruned (base_of old))) (sym same) all
+
+  -- where none is, the thread is dropped
+  module _ (dead : List (List ℕ)) (are : (dead ≡ thread_ids (rows_of (base_of old)) (entries_of old.labels.labels) id) × (list_any (has_id (files_in old.filing)) dead ≡ false))
+      (new : Parts) (revision : new.revision ≡ old.revision) (filing : new.filing ≡ old.filing) (tags : new.tags ≡ old.tags) (next : new.labels.next ≡ labels.next)
+      (entries : (rows : List LinkRow) → AreLabelsOf rows labels.labels → entries_of new.labels.labels ≡ filter (λ entry. not (is_same rows id entry.0)) (entries_of labels.labels))
+      (left : (rows : List LinkRow) → AreLabelsOf rows labels.labels → AreLabelsOf (filter (λ row. not (is_same rows id row.id)) rows) new.labels.labels) (kept : AreKept new.kept)
+      (kept_is : values_of new.kept ≡ filter (λ row. not (has_text dead row.id)) (values_of old.kept)) where
+    pub dead_goes : AreParts new × (base_of new ≡ pruned (base_of old))
+    dead_goes =
+        thread_gone laws old id loose ids (members_are old id) (ap (list_any (has_id (files_in old.filing))) (sym are.0) ∙ are.1) new revision filing tags (next ∙ ap (λ (l : Labelling). l.next) same)
+        (entries (rows_of (base_of old)) own ∙ ap (λ (l : Labelling). filter (λ (entry : List ℕ × ℕ). not (is_same (rows_of (base_of old)) id entry.0)) (entries_of l.labels)) same) (left (rows_of (base_of old)) own) kept
+        (kept_is ∙ ap (λ (all : List (List ℕ)). filter (λ (row : LinkRow). not (has_text all row.id)) (values_of old.kept)) are.0)

@@ -2,7 +2,6 @@
 //! the mail can have lost its last live message, so nothing else is looked at.
 
 ghost use Rattle.std.specs.Prelude.{◌≡◌, ◌≢◌, ◌∷◌, [], ℕ, List, true, IfOk, OnOk};
-ghost use Rattle.std.specs.List.{list_any};
 ghost use Rattle.nm_commit.specs.Files.{has_id, has_path};
 ghost use Rattle.nm_base.specs.declared.facts.Facts.{Facts};
 ghost use Rattle.nm_index.specs.Index.{files_at, pruned, without_first};
@@ -15,19 +14,6 @@ use nm_base::{Facts, MailPath, MessageId, NoMemory};
 use nm_shared::Shared;
 use nm_tables::{Filing, MessageTags, forget_rows, is_live, keep_row, remove_file};
 use std::alloc::Global;
-
-/// Says whether one of the messages has a file.
-fn any_live(filing: &Filing, ids: &[MessageId]) -> bool
-    requires { AreFiled filing.now }
-    ensures { result ≡ list_any (has_id (files_in filing.now)) ids.now }
-{
-    'ids: for id in ids {
-        if is_live(filing, id) {
-            return true;
-        }
-    }
-    false
-}
 
 /// Lets go the tags of a message that has no file.
 fn untag(filing: &Filing, tags: &mut MessageTags, message: &MessageId) -> Result<(), NoMemory>
@@ -70,12 +56,11 @@ fn prune(alloc: Global, parts: &mut Parts, id: &MessageId) -> Result<(), NoMemor
     if is_live(&parts.filing, id) {
         return Ok(());
     }
-    let members = parts.labels.thread_of(id)?;
-    if any_live(&parts.filing, members.as_slice()) {
+    let Some(dead) = parts.labels.dead_thread(&parts.filing, id)? else {
         return Ok(());
-    }
-    parts.labels.drop_thread(id, members.as_slice())?;
-    forget_rows(alloc, &mut parts.kept, members.as_slice())?;
+    };
+    parts.labels.drop_thread(id, dead.as_slice())?;
+    forget_rows(alloc, &mut parts.kept, dead.as_slice())?;
     Ok(())
 }
 

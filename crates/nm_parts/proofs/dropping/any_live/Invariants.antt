@@ -1,8 +1,0 @@
-use Rattle.std.proofs.Common.{◌≡◌, false, take}
-use Rattle.std.specs.List.{list_any}
-use Rattle.nm_commit.specs.Files.{has_id}
-use Rattle.nm_tables.specs.Filing.{files_in}
-use Rattle.nm_parts.proofs.dropping.any_live.Given as goal
-
-abbrev pub invariant-ids : goal.invariant-ids
-invariant-ids l = list_any (has_id (files_in l.filing)) (take l.id-index l.ids) ≡ false
