@@ -2,6 +2,7 @@
 -- For the proof of `a_refused_line_is_a_history`.
 use Rattle.std.proofs.Common.{◌≡◌, inl, inr, ℕ, ℤ, ◌||◌, ◌==◌, Bool, true, false, List, [], ◌∷◌, Option, None, Some, IfSome, if◌then◌else◌, codes, length, map, fold, Result, Ok, Err, refl, sym, ap, ◌∙◌, subst, arith}
 use Rattle.std.specs.Option.{option_map}
+use Rattle.nm_history.specs.Kind.{Kind, ReadsIndex, SetsTags, ShowsFiles, TakesMail, kind_of}
 use Rattle.nm_answer.specs.declared.request.Request.{Request}
 use Rattle.nm_answer.specs.declared.request.Request.TheVariants as requests
 use Rattle.nm_base.specs.Limits.{max_mail_bytes}
@@ -33,12 +34,12 @@ use Rattle.nm_tags.specs.declared.line_error.LineKind.{LineKind}
 use Rattle.nm_sync.specs.Renamed.{TreesAlong}
 use Rattle.nm_history.specs.Call.{Devices, Unasked, call_lines, call_of, command_reads, devices, fault_by, fault_of_command, fault_of_input, input_fault_by, is_session, phases_by, placed_from, reads_by}
 use Rattle.nm_history.specs.CrashPrefix.{KeepsDisk}
-use Rattle.nm_history.specs.Given.{AsksMail, AsksNothing, AsksShow, GivenAlong}
+use Rattle.nm_history.specs.Given.{AsksBy, AsksMail, AsksNothing, AsksShow, GivenAlong}
 use Rattle.nm_history.specs.History.{History}
 use Rattle.nm_history.specs.LineAnswers.{HasCause, LaneAnswers, LineAnswers, line_text}
 use Rattle.nm_history.specs.LineCommits.{LineCommits, Makes}
 use Rattle.nm_history.specs.LineResult.{IsLineResult, Place, StandsAt, before_at, reply_step}
-use Rattle.nm_history.specs.Lines.{RunLine, after_lines, at_first, given_in, lane_zero_lines, other_lane_lines, run_lines, tree_after_line}
+use Rattle.nm_history.specs.Lines.{RunLine, after_lines, at_first, given_in, lane_zero_lines, other_lane_lines, run_lines, tree_after_line, tree_by}
 use Rattle.nm_history.specs.MachineRun.{MachineRun, Replied, replied_where}
 use Rattle.nm_history.specs.PrintedOut.{AreLogsOf, Prints}
 use Rattle.nm_history.specs.Refusals.{RefusesLine}
@@ -224,29 +225,29 @@ shows-nothing (outcomes.Closed fault) mail left paths unasked = absurd (cc)
 shows-nothing (outcomes.Limit limit) mail left paths unasked = inl (asks-nothing mail)
 shows-nothing outcomes.NoMemory mail left paths unasked = inl (asks-nothing mail)
 
+asks-by : (kind : Kind) (why : Outcome) (index : Base) (moment : ℤ) (left : ℕ) (mail : ObservedMail) → is_unasked why ≡ true → AsksBy kind why index moment left mail mail []
+asks-by TakesMail why index moment left mail unasked = inl (refl, refl)
+asks-by ReadsIndex why index moment left mail unasked = asks-nothing mail
+asks-by (ShowsFiles ask) why index moment left mail unasked = shows-nothing why mail left _ unasked
+asks-by SetsTags why index moment left mail unasked = record { more = []; given_is = refl; tree = still-along mail.tree; reads = refl }
+
 asks-none : (why : Outcome) (line : ParsedLine) (index : Base) (moment : ℤ) (left : ℕ) (mail : ObservedMail) → is_unasked why ≡ true → AsksMail why line index moment left mail mail []
 asks-none why (asked.Usage word kind) index moment left mail unasked = asks-nothing mail
-asks-none why (asked.Request requests.New) index moment left mail unasked = inl (refl, refl)
-asks-none why (asked.Request (requests.Count ask)) index moment left mail unasked = asks-nothing mail
-asks-none why (asked.Request (requests.Search ask)) index moment left mail unasked = asks-nothing mail
-asks-none why (asked.Request (requests.Dump ask)) index moment left mail unasked = asks-nothing mail
-asks-none why (asked.Request (requests.Show ask)) index moment left mail unasked = shows-nothing why mail left _ unasked
-asks-none why (asked.Request (requests.Tag ask)) index moment left mail unasked = record { more = []; given_is = refl; tree = still-along mail.tree; reads = refl }
-asks-none why (asked.Request (requests.Restore ask)) index moment left mail unasked = record { more = []; given_is = refl; tree = still-along mail.tree; reads = refl }
+asks-none why (asked.Request request) index moment left mail unasked = asks-by (kind_of request) why index moment left mail unasked
 
 renamed-none : (tree : Option Tree) → tree ≡ option_map (λ t. fold given_in t []) tree
 renamed-none None = refl
 renamed-none (Some tree) = refl
 
+tree-by : (kind : Kind) (tree : Option Tree) → tree ≡ tree_by kind [] tree
+tree-by TakesMail tree = refl
+tree-by ReadsIndex tree = refl
+tree-by (ShowsFiles ask) tree = refl
+tree-by SetsTags tree = renamed-none tree
+
 tree-stays : (line : ParsedLine) (tree : Option Tree) → tree ≡ tree_after_line line [] tree
 tree-stays (asked.Usage word kind) tree = refl
-tree-stays (asked.Request requests.New) tree = refl
-tree-stays (asked.Request (requests.Count ask)) tree = refl
-tree-stays (asked.Request (requests.Search ask)) tree = refl
-tree-stays (asked.Request (requests.Dump ask)) tree = refl
-tree-stays (asked.Request (requests.Show ask)) tree = refl
-tree-stays (asked.Request (requests.Tag ask)) tree = renamed-none tree
-tree-stays (asked.Request (requests.Restore ask)) tree = renamed-none tree
+tree-stays (asked.Request request) tree = tree-by (kind_of request) tree
 
 -- ---- the history of the call
 

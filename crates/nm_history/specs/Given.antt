@@ -1,7 +1,7 @@
 -- What the lines asked the mail folder and what it gave, one line after the other.
 -- Cited by `going_on`, `nm_session` and `nm_top`.
 use Rattle.std.specs.Prelude.{◌≡◌, ◌⊎◌, ℕ, ℤ, ◌≤◌, List, [], ◌∷◌, IsSome}
-use Rattle.nm_answer.specs.declared.request.Request.TheVariants.{New, Count, Search, Dump, Show, Tag, Restore}
+use Rattle.nm_history.specs.Kind.{Kind, ReadsIndex, SetsTags, ShowsFiles, TakesMail, kind_of}
 use Rattle.nm_disk.specs.Observed.{ObservedDisk}
 use Rattle.nm_index.specs.declared.base.Base.{Base}
 use Rattle.nm_log.specs.ParsedLine.{parse_line}
@@ -43,16 +43,17 @@ AsksShow (outcomes.Limit limit) old new left paths given = AsksNothing old new g
 AsksShow outcomes.NoMemory old new left paths given =
     AsksNothing old new given ⊎ (HasReadBodies old new left [] given paths ⊎ ((error : BodiesError) × StopsInBodies old new left [] given paths error))
 
--- What a line asks the folder, by its outcome, the index before it, the moment, and how many bytes may still be shown: a `new` a listing and
--- reads, a show reads, a `tag` or a `restore` renames.
+-- What a request of this kind asks the folder, by the outcome of its line, the index before it, the moment, and how many bytes may still be
+-- shown: what takes mail a listing and reads, a show reads, what sets tags renames.
+abbrev pub AsksBy : Kind → Outcome → Base → ℤ → ℕ → ObservedMail → ObservedMail → List Given → Type 0
+AsksBy TakesMail outcome index moment left old new given = AsksNew old new index.files given
+AsksBy ReadsIndex outcome index moment left old new given = AsksNothing old new given
+AsksBy (ShowsFiles ask) outcome index moment left old new given = AsksShow outcome old new left (paths_to_show ask index moment) given
+AsksBy SetsTags outcome index moment left old new given = AsksRenames old new [] given
+
+-- What a line asks it.
 abbrev pub AsksMail : Outcome → ParsedLine → Base → ℤ → ℕ → ObservedMail → ObservedMail → List Given → Type 0
-AsksMail outcome (asked.Request New) index moment left old new given = AsksNew old new index.files given
-AsksMail outcome (asked.Request (Count ask)) index moment left old new given = AsksNothing old new given
-AsksMail outcome (asked.Request (Search ask)) index moment left old new given = AsksNothing old new given
-AsksMail outcome (asked.Request (Dump ask)) index moment left old new given = AsksNothing old new given
-AsksMail outcome (asked.Request (Show ask)) index moment left old new given = AsksShow outcome old new left (paths_to_show ask index moment) given
-AsksMail outcome (asked.Request (Tag ask)) index moment left old new given = AsksRenames old new [] given
-AsksMail outcome (asked.Request (Restore ask)) index moment left old new given = AsksRenames old new [] given
+AsksMail outcome (asked.Request request) index moment left old new given = AsksBy (kind_of request) outcome index moment left old new given
 AsksMail outcome (asked.Usage word kind) index moment left old new given = AsksNothing old new given
 
 -- A line asks the folder for what it needs on the index before it, and for nothing where it is refused before it asks a device; the folder's

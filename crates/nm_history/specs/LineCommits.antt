@@ -2,9 +2,10 @@
 -- Cited by `going_on`, `nm_session` and `nm_top`.
 use Rattle.std.specs.Prelude.{◌≡◌, ◌⊎◌, ℕ, ℤ, ◌+◌, Bool, false, List, [], ◌∷◌, ◌++◌, drop, length, map, Option, None, Some, ⊤, if◌then◌else◌}
 use Rattle.nm_answer.specs.Changes.{wanted_for}
+use Rattle.nm_history.specs.Kind.{Kind, ReadsIndex, SetsTags, ShowsFiles, TakesMail, kind_of}
 use Rattle.nm_answer.specs.Renaming.{renames_done, renames_for}
 use Rattle.nm_answer.specs.declared.request.Request.{Request}
-use Rattle.nm_answer.specs.declared.request.Request.TheVariants.{New, Count, Search, Dump, Show, Tag, Restore}
+use Rattle.nm_answer.specs.declared.request.Request.TheVariants.{New}
 use Rattle.nm_base.specs.declared.facts.Facts.{Facts}
 use Rattle.nm_base.specs.declared.limit.Limit.{Limit}
 use Rattle.nm_base.specs.declared.limit.Limit.TheVariants.{ShowBytes}
@@ -37,16 +38,17 @@ pub record FindsRenames (index wanted : Base) (given : List Given) (left : List 
   pub tried : HasTried index wanted given
   pub left_are : left ≡ renames_left index wanted given
 
--- What a request found in the mail folder, and the paths that are left to it: a `new` the mails of each batch and the paths left to read, a
--- `tag` or a `restore` the files that were renamed and those left to rename.
+-- What a request of this kind found in the mail folder, and the paths that are left to it: what takes mail the mails of each batch and the
+-- paths left to read, what sets tags the files that were renamed and those left to rename.
+abbrev pub FindsBy : Kind → Request → List ℕ → ℤ → Option Tree → Base → List Given → List (List (List ℕ × Facts)) → List (List ℕ) → Type 0
+FindsBy TakesMail request input moment tree index given batches left = FindsBatches tree index.files given batches left
+FindsBy ReadsIndex request input moment tree index given batches left = (batches ≡ []) × (left ≡ [])
+FindsBy (ShowsFiles ask) request input moment tree index given batches left = (batches ≡ []) × (left ≡ [])
+FindsBy SetsTags request input moment tree index given batches left = (batches ≡ []) × FindsRenames index (wanted_for request input moment index) given left
+
+-- what a request found
 abbrev pub FindsFor : Request → List ℕ → ℤ → Option Tree → Base → List Given → List (List (List ℕ × Facts)) → List (List ℕ) → Type 0
-FindsFor New input moment tree index given batches left = FindsBatches tree index.files given batches left
-FindsFor (Count ask) input moment tree index given batches left = (batches ≡ []) × (left ≡ [])
-FindsFor (Search ask) input moment tree index given batches left = (batches ≡ []) × (left ≡ [])
-FindsFor (Dump ask) input moment tree index given batches left = (batches ≡ []) × (left ≡ [])
-FindsFor (Show ask) input moment tree index given batches left = (batches ≡ []) × (left ≡ [])
-FindsFor (Tag ask) input moment tree index given batches left = (batches ≡ []) × FindsRenames index (wanted_for (Tag ask) input moment index) given left
-FindsFor (Restore ask) input moment tree index given batches left = (batches ≡ []) × FindsRenames index (wanted_for (Restore ask) input moment index) given left
+FindsFor request input moment tree index given batches left = FindsBy (kind_of request) request input moment tree index given batches left
 
 -- The commits that are due to the line while these paths are left, by its request, the moment, the index before it, and what the mail folder gave.
 pub record AreDue (moment : ℤ) (tree : Option Tree) (index : Base) (line : ScriptLine) (given : List Given) (left : List (List ℕ)) (due : List Commit) : Type 0 where
@@ -78,26 +80,28 @@ pub record MakesTags (index wanted : Base) (given : List Given) (made in_flight 
   pub made_are : made ≡ tag_commit index wanted ++ moves
   pub order : moves ++ (in_flight ++ more) ≡ move_commit given
 
--- What was made before the folder failed: by a `new` all that was due, by a `tag` or a `restore` the
--- commit of the tags.
-abbrev pub MakesBefore : Request → List ℕ → ℤ → Base → List Given → List Commit → List Commit → List Commit → Type 0
-MakesBefore New input moment index given due made in_flight = (made ≡ due) × (in_flight ≡ [])
-MakesBefore (Count ask) input moment index given due made in_flight = (made ≡ due) × (in_flight ≡ [])
-MakesBefore (Search ask) input moment index given due made in_flight = (made ≡ due) × (in_flight ≡ [])
-MakesBefore (Dump ask) input moment index given due made in_flight = (made ≡ due) × (in_flight ≡ [])
-MakesBefore (Show ask) input moment index given due made in_flight = (made ≡ due) × (in_flight ≡ [])
-MakesBefore (Tag ask) input moment index given due made in_flight = MakesTags index (wanted_for (Tag ask) input moment index) given made in_flight
-MakesBefore (Restore ask) input moment index given due made in_flight = MakesTags index (wanted_for (Restore ask) input moment index) given made in_flight
+-- What a request of this kind had made before the folder failed: what sets tags the commit of the tags, all else what was due.
+abbrev pub MakesBy : Kind → Request → List ℕ → ℤ → Base → List Given → List Commit → List Commit → List Commit → Type 0
+MakesBy TakesMail request input moment index given due made in_flight = (made ≡ due) × (in_flight ≡ [])
+MakesBy ReadsIndex request input moment index given due made in_flight = (made ≡ due) × (in_flight ≡ [])
+MakesBy (ShowsFiles ask) request input moment index given due made in_flight = (made ≡ due) × (in_flight ≡ [])
+MakesBy SetsTags request input moment index given due made in_flight = MakesTags index (wanted_for request input moment index) given made in_flight
 
--- A `new` had paths left to read. What sets tags may have done all its renames, since the folder may fail as their names are synced.
+-- what a request had made
+abbrev pub MakesBefore : Request → List ℕ → ℤ → Base → List Given → List Commit → List Commit → List Commit → Type 0
+MakesBefore request input moment index given due made in_flight = MakesBy (kind_of request) request input moment index given due made in_flight
+
+-- The folder may fail while these paths are left: what takes mail has paths left to read. What sets tags may have done all its renames, since
+-- the folder may fail as their names are synced.
+abbrev pub MayFailBy : Kind → List (List ℕ) → Type 0
+MayFailBy TakesMail left = (path : List ℕ) × (rest : List (List ℕ)) × (left ≡ path ∷ rest)
+MayFailBy ReadsIndex left = ⊥
+MayFailBy (ShowsFiles ask) left = ⊥
+MayFailBy SetsTags left = ⊤
+
+-- by the request
 abbrev pub MayFailWith : Request → List (List ℕ) → Type 0
-MayFailWith New left = (path : List ℕ) × (rest : List (List ℕ)) × (left ≡ path ∷ rest)
-MayFailWith (Count ask) left = ⊥
-MayFailWith (Search ask) left = ⊥
-MayFailWith (Dump ask) left = ⊥
-MayFailWith (Show ask) left = ⊥
-MayFailWith (Tag ask) left = ⊤
-MayFailWith (Restore ask) left = ⊤
+MayFailWith request left = MayFailBy (kind_of request) left
 
 -- The folder failed in a `new`, with paths left, or in what sets tags, in a rename or behind them.
 pub record FailsBefore (moment : ℤ) (tree : Option Tree) (index : Base) (line : ScriptLine) (given : List Given) (made in_flight : List Commit) : Type 0 where

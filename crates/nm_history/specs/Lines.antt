@@ -3,7 +3,7 @@
 use Rattle.std.specs.Prelude.{◌≡◌, ℕ, ◌+◌, ◌==◌, Bool, not, List, [], ◌∷◌, ◌++◌, length, filter, map, fold, Option, None, Some, Ok, if◌then◌else◌}
 use Rattle.std.specs.List.{flat_map, zip}
 use Rattle.std.specs.Option.{option_map}
-use Rattle.nm_answer.specs.declared.request.Request.TheVariants.{New, Count, Search, Dump, Show, Tag, Restore}
+use Rattle.nm_history.specs.Kind.{Kind, ReadsIndex, SetsTags, ShowsFiles, TakesMail, kind_of}
 use Rattle.nm_base.specs.Limits.{max_mail_bytes}
 use Rattle.nm_commit.specs.declared.change.Commit.{Commit}
 use Rattle.nm_index.specs.Index.{folded}
@@ -120,15 +120,16 @@ given_in tree (givens.Listed paths) = tree
 given_in tree (givens.Read path answer) = tree
 given_in tree (givens.Renamed from to answer) = tree_with {E = MailError} tree from to (Ok answer)
 
--- the tree, where the folder tells it, behind a line that was given this: a `tag` and a `restore` alone rename files
+-- the tree, where it is known, after a request of this kind that was given this: what sets tags alone renames files
+abbrev pub tree_by : Kind → List Given → Option Tree → Option Tree
+tree_by TakesMail given tree = tree
+tree_by ReadsIndex given tree = tree
+tree_by (ShowsFiles ask) given tree = tree
+tree_by SetsTags given tree = option_map (λ t. fold given_in t given) tree
+
+-- after a line
 abbrev pub tree_after_line : ParsedLine → List Given → Option Tree → Option Tree
-tree_after_line (asked.Request New) given tree = tree
-tree_after_line (asked.Request (Count ask)) given tree = tree
-tree_after_line (asked.Request (Search ask)) given tree = tree
-tree_after_line (asked.Request (Dump ask)) given tree = tree
-tree_after_line (asked.Request (Show ask)) given tree = tree
-tree_after_line (asked.Request (Tag ask)) given tree = option_map (λ t. fold given_in t given) tree
-tree_after_line (asked.Request (Restore ask)) given tree = option_map (λ t. fold given_in t given) tree
+tree_after_line (asked.Request request) given tree = tree_by (kind_of request) given tree
 tree_after_line (asked.Usage word kind) given tree = tree
 
 -- behind a line that was run

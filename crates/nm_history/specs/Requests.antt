@@ -3,6 +3,7 @@
 use Rattle.std.specs.Prelude.{ℕ, ℤ, ◌-◌, ◌||◌, List, [], ◌∷◌, length, Bool, true, false, Option, None, Some, Result, Ok, Err, if◌then◌else◌}
 use Rattle.nm_answer.specs.BatchLines.{queries_in, taggings_in}
 use Rattle.nm_answer.specs.DumpReading.{read_dump}
+use Rattle.nm_history.specs.Kind.{Kind, ReadsIndex, SetsTags, ShowsFiles, TakesMail, kind_of}
 use Rattle.nm_answer.specs.Show.{gone_path, is_not_one, lead_paths, shown_ids}
 use Rattle.nm_answer.specs.declared.request.Request.{Request}
 use Rattle.nm_answer.specs.declared.request.Request.TheVariants.{New, Count, Search, Dump, Show, Tag, Restore}
@@ -22,45 +23,48 @@ use Rattle.nm_query.specs.declared.query_error.QueryError.TheVariants as errors
 use Rattle.nm_scan.specs.Bodies.{body_len, is_over}
 use Rattle.nm_tags.specs.declared.line_error.LineKind.{LineKind}
 
--- the request may change the index
+-- requests of this kind may change the index
+abbrev pub writes_index : Kind → Bool
+writes_index TakesMail = true
+writes_index ReadsIndex = false
+writes_index (ShowsFiles ask) = false
+writes_index SetsTags = true
+
+-- and so may the request
 abbrev pub is_writing : Request → Bool
-is_writing New = true
-is_writing (Count ask) = false
-is_writing (Search ask) = false
-is_writing (Dump ask) = false
-is_writing (Show ask) = false
-is_writing (Tag ask) = true
-is_writing (Restore ask) = true
+is_writing request = writes_index (kind_of request)
 
 -- a line that asks for one
 abbrev pub asks_to_write : ParsedLine → Bool
 asks_to_write (asked.Request request) = is_writing request
 asks_to_write (asked.Usage word kind) = false
 
--- the request may ask the mail folder
+-- requests of this kind may ask the mail folder
+abbrev pub asks_folder : Kind → Bool
+asks_folder TakesMail = true
+asks_folder ReadsIndex = false
+asks_folder (ShowsFiles ask) = true
+asks_folder SetsTags = true
+
+-- and so may the request
 abbrev pub is_asking : Request → Bool
-is_asking New = true
-is_asking (Count ask) = false
-is_asking (Search ask) = false
-is_asking (Dump ask) = false
-is_asking (Show ask) = true
-is_asking (Tag ask) = true
-is_asking (Restore ask) = true
+is_asking request = asks_folder (kind_of request)
 
 -- a line that asks for one
 abbrev pub asks_the_folder : ParsedLine → Bool
 asks_the_folder (asked.Request request) = is_asking request
 asks_the_folder (asked.Usage word kind) = false
 
--- the request sets tags, and may go on behind a fault of the mail folder
+-- requests of this kind set tags, and may go on after a fault of the mail folder
+abbrev pub sets_tags : Kind → Bool
+sets_tags TakesMail = false
+sets_tags ReadsIndex = false
+sets_tags (ShowsFiles ask) = false
+sets_tags SetsTags = true
+
+-- and so may the request
 abbrev pub is_tagging : Request → Bool
-is_tagging New = false
-is_tagging (Count ask) = false
-is_tagging (Search ask) = false
-is_tagging (Dump ask) = false
-is_tagging (Show ask) = false
-is_tagging (Tag ask) = true
-is_tagging (Restore ask) = true
+is_tagging request = sets_tags (kind_of request)
 
 -- a line that asks for one
 abbrev pub asks_to_tag : ParsedLine → Bool
@@ -170,13 +174,14 @@ abbrev pub refused_show : ShowAsk → Base → ℤ → ℕ → List Given → Op
 refused_show ask index moment left given =
     first_refusal (refused_number ask (found_to_show ask index moment)) (first_refusal (refused_bytes left given) (refused_gone (gone_path ask given)))
 
--- How a line ends for what it found and read, where so many bytes were left to show: a show alone ends so.
+-- what a request of this kind is refused for by what it found and read: a show alone is
+abbrev pub refused_found : Kind → Base → ℤ → ℕ → List Given → Option Outcome
+refused_found TakesMail index moment left given = None
+refused_found ReadsIndex index moment left given = None
+refused_found (ShowsFiles ask) index moment left given = refused_show ask index moment left given
+refused_found SetsTags index moment left given = None
+
+-- How a line ends for what it found and read, where so many bytes were left to show.
 abbrev pub refused_reading : ParsedLine → Base → ℤ → ℕ → List Given → Option Outcome
 refused_reading (asked.Usage word kind) index moment left given = None
-refused_reading (asked.Request New) index moment left given = None
-refused_reading (asked.Request (Count ask)) index moment left given = None
-refused_reading (asked.Request (Search ask)) index moment left given = None
-refused_reading (asked.Request (Dump ask)) index moment left given = None
-refused_reading (asked.Request (Show ask)) index moment left given = refused_show ask index moment left given
-refused_reading (asked.Request (Tag ask)) index moment left given = None
-refused_reading (asked.Request (Restore ask)) index moment left given = None
+refused_reading (asked.Request request) index moment left given = refused_found (kind_of request) index moment left given

@@ -1,21 +1,22 @@
 -- How a line ends that asks no device: it finds no memory, its words are outside the grammar, its texts are refused, or it only reads the index.
 -- For the proofs of `answer`, `run_show`, `change_tags` and others.
-use Rattle.std.proofs.Common.{◌≡◌, ◌&&◌, ◌⊎◌, inl, inr, ℕ, ℤ, ◌+◌, Bool, true, false, not, List, [], Option, None, Some, IfOk, is_some, Result, Ok, Err, length, map, refl, sym, ap, ◌∙◌, subst, append-nil, arith}
-use Rattle.std.specs.Option.{option_to_list}
+use Rattle.std.proofs.Common.{◌≡◌, ◌&&◌, ◌⊎◌, inl, inr, ℕ, ℤ, ◌+◌, Bool, true, false, not, List, [], Option, None, Some, IfOk, is_some, Result, Ok, Err, fold, length, map, refl, sym, ap, ◌∙◌, subst, append-nil, arith}
+use Rattle.std.specs.Option.{option_map, option_to_list}
 use Rattle.std.specs.Result.{IsErr}
 use Rattle.nm_answer.specs.Answer.{answer}
+use Rattle.nm_history.specs.Kind.{Kind, ReadsIndex, SetsTags, ShowsFiles, TakesMail, kind_of}
 use Rattle.nm_answer.specs.declared.request.Request.{Request}
 use Rattle.nm_answer.specs.declared.request.Request.TheVariants as requests
 use Rattle.nm_base.specs.declared.memory.NoMemory.{NoMemory}
 use Rattle.nm_base.specs.declared.refusals.UsageKind.{UsageKind}
-use Rattle.nm_history.specs.Given.{AsksMail}
+use Rattle.nm_history.specs.Given.{AsksBy, AsksMail, AsksShow}
 use Rattle.nm_history.specs.LineAnswers.{HasCause, NoneFailed, line_text}
 use Rattle.nm_commit.specs.declared.change.Commit.{Commit}
-use Rattle.nm_history.specs.LineCommits.{FindsFor, Makes}
+use Rattle.nm_history.specs.LineCommits.{FindsBy, FindsFor, Makes}
 use Rattle.nm_history.specs.LineResult.{HasMade, Place, before_at, said_of}
-use Rattle.nm_history.specs.Lines.{tree_after_line}
+use Rattle.nm_history.specs.Lines.{given_in, tree_after_line, tree_by}
 use Rattle.nm_history.specs.MachineRun.{replied_where}
-use Rattle.nm_history.specs.Requests.{first_bad_line, first_refusal, is_asking, is_writing, own_query, query_outcome, refused_closed, refused_line, refused_query, refused_reading, refused_text, refused_text_of, refused_unasked}
+use Rattle.nm_history.specs.Requests.{asks_folder, first_bad_line, first_refusal, is_asking, is_writing, own_query, paths_to_show, query_outcome, refused_closed, refused_found, refused_line, refused_query, refused_reading, refused_text, refused_text_of, refused_unasked, writes_index}
 use Rattle.nm_index.specs.declared.base.Base.{Base}
 use Rattle.nm_lanes.specs.declared.script.ScriptLine.{ScriptLine}
 use Rattle.nm_log.specs.ParsedLine.{parse_line}
@@ -51,16 +52,18 @@ pub still-writer : (writer : WriterState) → newly_closed writer writer ≡ fal
 still-writer writer = not-closed writer.closed
 
 -- the tree stays where nothing was given
+renamed-none : (tree : Option Tree) → tree ≡ option_map (λ t. fold given_in t []) tree
+renamed-none None = refl
+renamed-none (Some tree) = refl
+
+tree-by : (kind : Kind) (tree : Option Tree) → tree ≡ tree_by kind [] tree
+tree-by TakesMail tree = refl
+tree-by ReadsIndex tree = refl
+tree-by (ShowsFiles ask) tree = refl
+tree-by SetsTags tree = renamed-none tree
+
 pub tree-still : (line : ParsedLine) (tree : Option Tree) → tree ≡ tree_after_line line [] tree
-tree-still (asked.Request requests.New) tree = refl
-tree-still (asked.Request (requests.Count ask)) tree = refl
-tree-still (asked.Request (requests.Search ask)) tree = refl
-tree-still (asked.Request (requests.Dump ask)) tree = refl
-tree-still (asked.Request (requests.Show ask)) tree = refl
-tree-still (asked.Request (requests.Tag ask)) None = refl
-tree-still (asked.Request (requests.Tag ask)) (Some tree) = refl
-tree-still (asked.Request (requests.Restore ask)) None = refl
-tree-still (asked.Request (requests.Restore ask)) (Some tree) = refl
+tree-still (asked.Request request) tree = tree-by (kind_of request) tree
 tree-still (asked.Usage word kind) tree = refl
 
 no-renames : (tree : Option Tree) → TreesAlong tree [] tree
@@ -83,25 +86,28 @@ is_early (outcomes.Limit limit) = true
 is_early outcomes.NoMemory = true
 
 -- such a line asks nothing
+shows-early : (outcome : Outcome) (left : ℕ) (paths : List (List ℕ)) (mail : ObservedMail) → is_early outcome ≡ true → AsksShow outcome mail mail left paths []
+shows-early outcomes.Ok left paths mail early = absurd (cc)
+shows-early (outcomes.Usage word kind) left paths mail early = record { given_is = refl; same = refl }
+shows-early (outcomes.BadQuery at kind) left paths mail early = record { given_is = refl; same = refl }
+shows-early (outcomes.BadDate at) left paths mail early = record { given_is = refl; same = refl }
+shows-early (outcomes.BadLine bad kind) left paths mail early = record { given_is = refl; same = refl }
+shows-early (outcomes.NotOne found) left paths mail early = record { given_is = refl; same = refl }
+shows-early (outcomes.Gone path) left paths mail early = absurd (cc)
+shows-early outcomes.MailFault left paths mail early = absurd (cc)
+shows-early outcomes.DiskFault left paths mail early = absurd (cc)
+shows-early (outcomes.Closed fault) left paths mail early = record { given_is = refl; same = refl }
+shows-early (outcomes.Limit limit) left paths mail early = inl (record { given_is = refl; same = refl })
+shows-early outcomes.NoMemory left paths mail early = inl (record { given_is = refl; same = refl })
+
+asks-by : (kind : Kind) (outcome : Outcome) (index : Base) (moment : ℤ) (left : ℕ) (mail : ObservedMail) → is_early outcome ≡ true → AsksBy kind outcome index moment left mail mail []
+asks-by TakesMail outcome index moment left mail early = inl (refl, refl)
+asks-by ReadsIndex outcome index moment left mail early = record { given_is = refl; same = refl }
+asks-by (ShowsFiles ask) outcome index moment left mail early = shows-early outcome left (paths_to_show ask index moment) mail early
+asks-by SetsTags outcome index moment left mail early = record { more = []; given_is = refl; tree = no-renames mail.tree; reads = refl }
+
 pub asks-early : (outcome : Outcome) (line : ParsedLine) (index : Base) (moment : ℤ) (left : ℕ) (mail : ObservedMail) → is_early outcome ≡ true → AsksMail outcome line index moment left mail mail []
-asks-early outcome (asked.Request requests.New) index moment left mail early = inl (refl, refl)
-asks-early outcome (asked.Request (requests.Count ask)) index moment left mail early = record { given_is = refl; same = refl }
-asks-early outcome (asked.Request (requests.Search ask)) index moment left mail early = record { given_is = refl; same = refl }
-asks-early outcome (asked.Request (requests.Dump ask)) index moment left mail early = record { given_is = refl; same = refl }
-asks-early outcomes.Ok (asked.Request (requests.Show ask)) index moment left mail early = absurd (cc)
-asks-early (outcomes.Usage word kind) (asked.Request (requests.Show ask)) index moment left mail early = record { given_is = refl; same = refl }
-asks-early (outcomes.BadQuery at kind) (asked.Request (requests.Show ask)) index moment left mail early = record { given_is = refl; same = refl }
-asks-early (outcomes.BadDate at) (asked.Request (requests.Show ask)) index moment left mail early = record { given_is = refl; same = refl }
-asks-early (outcomes.BadLine bad kind) (asked.Request (requests.Show ask)) index moment left mail early = record { given_is = refl; same = refl }
-asks-early (outcomes.NotOne found) (asked.Request (requests.Show ask)) index moment left mail early = record { given_is = refl; same = refl }
-asks-early (outcomes.Gone path) (asked.Request (requests.Show ask)) index moment left mail early = absurd (cc)
-asks-early outcomes.MailFault (asked.Request (requests.Show ask)) index moment left mail early = absurd (cc)
-asks-early outcomes.DiskFault (asked.Request (requests.Show ask)) index moment left mail early = absurd (cc)
-asks-early (outcomes.Closed fault) (asked.Request (requests.Show ask)) index moment left mail early = record { given_is = refl; same = refl }
-asks-early (outcomes.Limit limit) (asked.Request (requests.Show ask)) index moment left mail early = inl (record { given_is = refl; same = refl })
-asks-early outcomes.NoMemory (asked.Request (requests.Show ask)) index moment left mail early = inl (record { given_is = refl; same = refl })
-asks-early outcome (asked.Request (requests.Tag ask)) index moment left mail early = record { more = []; given_is = refl; tree = no-renames mail.tree; reads = refl }
-asks-early outcome (asked.Request (requests.Restore ask)) index moment left mail early = record { more = []; given_is = refl; tree = no-renames mail.tree; reads = refl }
+asks-early outcome (asked.Request request) index moment left mail early = asks-by (kind_of request) outcome index moment left mail early
 asks-early outcome (asked.Usage word kind) index moment left mail early = record { given_is = refl; same = refl }
 
 pub made-nothing : (writer : WriterState) → HasMade writer [] [] writer
@@ -317,24 +323,23 @@ closed-alive : (closed : Option ℕ) → refused_closed closed false ≡ None
 closed-alive None = refl
 closed-alive (Some fault) = refl
 
+-- it is of one kind
+quiet-kind : (kind : Kind) → asks_folder kind ≡ false → kind ≡ ReadsIndex
+quiet-kind TakesMail quiet = absurd (cc)
+quiet-kind ReadsIndex quiet = refl
+quiet-kind (ShowsFiles ask) quiet = absurd (cc)
+quiet-kind SetsTags quiet = absurd (cc)
+
+-- what holds of the kind holds of the request
+by-quiet : (holds : Kind → Type 0) (request : Request) → is_asking request ≡ false → holds ReadsIndex → holds (kind_of request)
+by-quiet holds request quiet h = subst holds (sym (quiet-kind (kind_of request) quiet)) h
+
 reading-only : (request : Request) → is_asking request ≡ false → is_writing request ≡ false
-reading-only requests.New quiet = absurd (cc)
-reading-only (requests.Count ask) quiet = refl
-reading-only (requests.Search ask) quiet = refl
-reading-only (requests.Dump ask) quiet = refl
-reading-only (requests.Show ask) quiet = absurd (cc)
-reading-only (requests.Tag ask) quiet = absurd (cc)
-reading-only (requests.Restore ask) quiet = absurd (cc)
+reading-only request quiet = by-quiet (λ kind. writes_index kind ≡ false) request quiet refl
 
 -- it finds no mails, and no commits are due to it
 finds-nothing : (request : Request) (input : List ℕ) (moment : ℤ) (tree : Option Tree) (index : Base) → is_asking request ≡ false → FindsFor request input moment tree index [] [] []
-finds-nothing requests.New input moment tree index quiet = absurd (cc)
-finds-nothing (requests.Count ask) input moment tree index quiet = (refl, refl)
-finds-nothing (requests.Search ask) input moment tree index quiet = (refl, refl)
-finds-nothing (requests.Dump ask) input moment tree index quiet = (refl, refl)
-finds-nothing (requests.Show ask) input moment tree index quiet = absurd (cc)
-finds-nothing (requests.Tag ask) input moment tree index quiet = absurd (cc)
-finds-nothing (requests.Restore ask) input moment tree index quiet = absurd (cc)
+finds-nothing request input moment tree index quiet = by-quiet (λ kind. FindsBy kind request input moment tree index [] [] []) request quiet (refl, refl)
 
 due-nothing : (request : Request) (input : List ℕ) (moment : ℤ) (index : Base) → is_asking request ≡ false → [] ≡ due_commits request input moment index [] [] []
 due-nothing requests.New input moment index quiet = absurd (cc)
@@ -346,22 +351,10 @@ due-nothing (requests.Tag ask) input moment index quiet = absurd (cc)
 due-nothing (requests.Restore ask) input moment index quiet = absurd (cc)
 
 reads-nothing : (request : Request) (index : Base) (moment : ℤ) (left : ℕ) → is_asking request ≡ false → refused_reading (asked.Request request) index moment left [] ≡ None
-reads-nothing requests.New index moment left quiet = absurd (cc)
-reads-nothing (requests.Count ask) index moment left quiet = refl
-reads-nothing (requests.Search ask) index moment left quiet = refl
-reads-nothing (requests.Dump ask) index moment left quiet = refl
-reads-nothing (requests.Show ask) index moment left quiet = absurd (cc)
-reads-nothing (requests.Tag ask) index moment left quiet = absurd (cc)
-reads-nothing (requests.Restore ask) index moment left quiet = absurd (cc)
+reads-nothing request index moment left quiet = by-quiet (λ kind. refused_found kind index moment left [] ≡ None) request quiet refl
 
 asks-nothing : (request : Request) (index : Base) (moment : ℤ) (left : ℕ) (mail : ObservedMail) → is_asking request ≡ false → AsksMail outcomes.Ok (asked.Request request) index moment left mail mail []
-asks-nothing requests.New index moment left mail quiet = absurd (cc)
-asks-nothing (requests.Count ask) index moment left mail quiet = record { given_is = refl; same = refl }
-asks-nothing (requests.Search ask) index moment left mail quiet = record { given_is = refl; same = refl }
-asks-nothing (requests.Dump ask) index moment left mail quiet = record { given_is = refl; same = refl }
-asks-nothing (requests.Show ask) index moment left mail quiet = absurd (cc)
-asks-nothing (requests.Tag ask) index moment left mail quiet = absurd (cc)
-asks-nothing (requests.Restore ask) index moment left mail quiet = absurd (cc)
+asks-nothing request index moment left mail quiet = by-quiet (λ kind. AsksBy kind outcomes.Ok index moment left mail mail []) request quiet (record { given_is = refl; same = refl })
 
 module _ (moment : ℤ) (place : Place) (line : ScriptLine) (request : Request) (is : parse_line line ≡ asked.Request request) (quiet : is_asking request ≡ false) where
   may-ask : refused_text_of request line.input ≡ None → refused_unasked (asked.Request request) line.input place.writer.closed ≡ None

@@ -2,8 +2,8 @@
 -- For the proofs of `change_tags` and `run_new`.
 use Rattle.std.proofs.Common.{◌≡◌, ◌&&◌, ◌⊎◌, inl, inr, ℕ, ℤ, ◌+◌, ◌≤◌, Bool, true, false, not, List, [], ◌∷◌, ◌++◌, Option, None, Some, IfSome, IsSome, MatchResult, is_some, Result, Ok, Err, length, refl, sym, ap, ◌∙◌, subst, append-nil, append_assoc, arith}
 use Rattle.std.proofs.lemmas.List.{length-append}
+use Rattle.nm_history.specs.Kind.{Kind, ReadsIndex, SetsTags, ShowsFiles, TakesMail, kind_of}
 use Rattle.nm_answer.specs.declared.request.Request.{Request}
-use Rattle.nm_answer.specs.declared.request.Request.TheVariants as requests
 use Rattle.nm_base.specs.declared.limit.Limit.{Limit}
 use Rattle.nm_base.specs.declared.memory.NoMemory.{NoMemory}
 use Rattle.nm_commit.specs.declared.change.Commit.{Commit}
@@ -13,7 +13,7 @@ use Rattle.nm_history.specs.LineAnswers.{HasCause}
 use Rattle.nm_history.specs.LineCommits.{IsOnItsWay, Makes, PassesUnmade}
 use Rattle.nm_history.specs.LineResult.{HasMade, Place, before_at}
 use Rattle.nm_history.specs.Lines.{closed_after, tree_after_line}
-use Rattle.nm_history.specs.Requests.{asks_to_tag, asks_to_write, refused_closed, refused_unasked}
+use Rattle.nm_history.specs.Requests.{asks_to_tag, asks_to_write, refused_closed, refused_unasked, sets_tags, writes_index}
 use Rattle.nm_index.specs.Fits.{FitInTurn}
 use Rattle.nm_index.specs.Index.{committed, folded}
 use Rattle.nm_index.specs.declared.base.Base.{Base}
@@ -174,14 +174,14 @@ module _ (moment : ℤ) (old new : Place) (line : ScriptLine) (noted : List Give
 -- a line that finds no memory for its text
 
 -- what writes nothing sets no tags
+sets-by : (kind : Kind) → writes_index kind ≡ false → sets_tags kind ≡ false
+sets-by TakesMail writes = refl
+sets-by ReadsIndex writes = refl
+sets-by (ShowsFiles ask) writes = refl
+sets-by SetsTags writes = absurd (cc)
+
 sets-none : (line : ParsedLine) → asks_to_write line ≡ false → asks_to_tag line ≡ false
-sets-none (asked.Request requests.New) writes = refl
-sets-none (asked.Request (requests.Count ask)) writes = refl
-sets-none (asked.Request (requests.Search ask)) writes = refl
-sets-none (asked.Request (requests.Dump ask)) writes = refl
-sets-none (asked.Request (requests.Show ask)) writes = refl
-sets-none (asked.Request (requests.Tag ask)) writes = absurd (cc)
-sets-none (asked.Request (requests.Restore ask)) writes = absurd (cc)
+sets-none (asked.Request request) writes = sets-by (kind_of request) writes
 sets-none (asked.Usage word kind) writes = refl
 
 -- a limit that is passed outside a commit is told before a rename is asked

@@ -4,6 +4,7 @@ use Rattle.std.proofs.lemmas.List.{drop_all, length-append}
 use Rattle.std.specs.Option.{option_map}
 use Rattle.nm_answer.specs.Answer.{answer}
 use Rattle.nm_answer.specs.Changes.{change_answer, strangers_for, wanted_for}
+use Rattle.nm_history.specs.Kind.{Kind, ReadsIndex, SetsTags, ShowsFiles, TakesMail, kind_of}
 use Rattle.nm_answer.specs.Renaming.{renames_for, sync_report, sync_text}
 use Rattle.nm_answer.specs.Restore.{strangers_text}
 use Rattle.nm_answer.specs.declared.request.Request.{Request}
@@ -12,12 +13,12 @@ use Rattle.nm_answer.specs.declared.sync_report.SyncReport.{SyncReport}
 use Rattle.nm_base.specs.declared.memory.NoMemory.{NoMemory}
 use Rattle.nm_commit.specs.declared.change.Commit.{Commit}
 use Rattle.nm_faults.specs.Faults.{Counts, HasCauseOf}
-use Rattle.nm_history.specs.Given.{AsksMail, AsksNothing}
+use Rattle.nm_history.specs.Given.{AsksBy, AsksMail, AsksNothing}
 use Rattle.nm_history.specs.LineAnswers.{NoneFailed}
-use Rattle.nm_history.specs.LineCommits.{AreDue, FindsFor, FindsRenames, MakesBefore, MakesTags, MayFailWith, renames_left}
+use Rattle.nm_history.specs.LineCommits.{AreDue, FindsBy, FindsFor, FindsRenames, MakesBefore, MakesBy, MakesTags, MayFailBy, MayFailWith, renames_left}
 use Rattle.nm_history.specs.LineResult.{Place, before_at}
-use Rattle.nm_history.specs.Lines.{given_in, tree_after_line}
-use Rattle.nm_history.specs.Requests.{first_refusal, is_asking, is_tagging, is_writing, refused_closed, refused_reading, refused_text_of, refused_unasked}
+use Rattle.nm_history.specs.Lines.{given_in, tree_after_line, tree_by}
+use Rattle.nm_history.specs.Requests.{asks_folder, first_refusal, is_asking, is_tagging, is_writing, refused_closed, refused_found, refused_reading, refused_text_of, refused_unasked, sets_tags, writes_index}
 use Rattle.nm_index.specs.Fits.{FitInTurn}
 use Rattle.nm_index.specs.Index.{committed, folded}
 use Rattle.nm_index.specs.declared.base.Base.{Base}
@@ -119,16 +120,21 @@ failing-then old mid new first more faults h k = record {
 
 -- what sets tags, whichever request does
 
+-- it is of one kind
+pub tags-kind : (kind : Kind) → sets_tags kind ≡ true → kind ≡ SetsTags
+tags-kind TakesMail tags = absurd (cc)
+tags-kind ReadsIndex tags = absurd (cc)
+tags-kind (ShowsFiles ask) tags = absurd (cc)
+tags-kind SetsTags tags = refl
+
+-- what holds of the kind holds of the request
+by-kind : (holds : Kind → Type 0) (request : Request) → is_tagging request ≡ true → holds SetsTags → holds (kind_of request)
+by-kind holds request tags h = subst holds (sym (tags-kind (kind_of request) tags)) h
+
 -- it finds the renames that were tried, and those that are left
 finds-in : (request : Request) → is_tagging request ≡ true → (input : List ℕ) (moment : ℤ) (tree : Option Tree) (index : Base) (noted : List Given) (left : List (List ℕ))
     → FindsRenames index (wanted_for request input moment index) noted left → FindsFor request input moment tree index noted [] left
-finds-in requests.New tags input moment tree index noted left h = absurd (cc)
-finds-in (requests.Count ask) tags input moment tree index noted left h = absurd (cc)
-finds-in (requests.Search ask) tags input moment tree index noted left h = absurd (cc)
-finds-in (requests.Dump ask) tags input moment tree index noted left h = absurd (cc)
-finds-in (requests.Show ask) tags input moment tree index noted left h = absurd (cc)
-finds-in (requests.Tag ask) tags input moment tree index noted left h = (refl, h)
-finds-in (requests.Restore ask) tags input moment tree index noted left h = (refl, h)
+finds-in request tags input moment tree index noted left h = by-kind (λ kind. FindsBy kind request input moment tree index noted [] left) request tags (refl, h)
 
 -- the commit of the tags is due to it, and that of the moves
 due-in : (request : Request) → is_tagging request ≡ true → (input : List ℕ) (moment : ℤ) (index : Base) (noted : List Given) (left : List (List ℕ)) → tag_commits index (wanted_for request input moment index) noted ≡ due_commits request input moment index noted [] left
@@ -143,73 +149,31 @@ due-in (requests.Restore ask) tags input moment index noted left = refl
 -- what it makes before the folder fails
 makes-in : (request : Request) → is_tagging request ≡ true → (input : List ℕ) (moment : ℤ) (index : Base) (noted : List Given) (due made in_flight : List Commit)
     → MakesTags index (wanted_for request input moment index) noted made in_flight → MakesBefore request input moment index noted due made in_flight
-makes-in requests.New tags input moment index noted due made in_flight h = absurd (cc)
-makes-in (requests.Count ask) tags input moment index noted due made in_flight h = absurd (cc)
-makes-in (requests.Search ask) tags input moment index noted due made in_flight h = absurd (cc)
-makes-in (requests.Dump ask) tags input moment index noted due made in_flight h = absurd (cc)
-makes-in (requests.Show ask) tags input moment index noted due made in_flight h = absurd (cc)
-makes-in (requests.Tag ask) tags input moment index noted due made in_flight h = h
-makes-in (requests.Restore ask) tags input moment index noted due made in_flight h = h
+makes-in request tags input moment index noted due made in_flight h = by-kind (λ kind. MakesBy kind request input moment index noted due made in_flight) request tags h
 
 -- the folder may fail in it with any paths left
 may-fail-in : (request : Request) → is_tagging request ≡ true → (left : List (List ℕ)) → MayFailWith request left
-may-fail-in requests.New tags left = absurd (cc)
-may-fail-in (requests.Count ask) tags left = absurd (cc)
-may-fail-in (requests.Search ask) tags left = absurd (cc)
-may-fail-in (requests.Dump ask) tags left = absurd (cc)
-may-fail-in (requests.Show ask) tags left = absurd (cc)
-may-fail-in (requests.Tag ask) tags left = tt
-may-fail-in (requests.Restore ask) tags left = tt
+may-fail-in request tags left = by-kind (λ kind. MayFailBy kind left) request tags tt
 
 -- it asks the folder for renames
 asks-in : (request : Request) → is_tagging request ≡ true → (outcome : Outcome) (index : Base) (moment : ℤ) (left : ℕ) (old new : ObservedMail) (noted : List Given)
     → AsksRenames old new [] noted → AsksMail outcome (asked.Request request) index moment left old new noted
-asks-in requests.New tags outcome index moment left old new noted h = absurd (cc)
-asks-in (requests.Count ask) tags outcome index moment left old new noted h = absurd (cc)
-asks-in (requests.Search ask) tags outcome index moment left old new noted h = absurd (cc)
-asks-in (requests.Dump ask) tags outcome index moment left old new noted h = absurd (cc)
-asks-in (requests.Show ask) tags outcome index moment left old new noted h = absurd (cc)
-asks-in (requests.Tag ask) tags outcome index moment left old new noted h = h
-asks-in (requests.Restore ask) tags outcome index moment left old new noted h = h
+asks-in request tags outcome index moment left old new noted h = by-kind (λ kind. AsksBy kind outcome index moment left old new noted) request tags h
 
--- the tree behind it is the one that the renames leave
+-- the tree after it is the one that the renames leave
 after-in : (request : Request) → is_tagging request ≡ true → (noted : List Given) (tree : Option Tree) → option_map (λ t. fold given_in t noted) tree ≡ tree_after_line (asked.Request request) noted tree
-after-in requests.New tags noted tree = absurd (cc)
-after-in (requests.Count ask) tags noted tree = absurd (cc)
-after-in (requests.Search ask) tags noted tree = absurd (cc)
-after-in (requests.Dump ask) tags noted tree = absurd (cc)
-after-in (requests.Show ask) tags noted tree = absurd (cc)
-after-in (requests.Tag ask) tags noted tree = refl
-after-in (requests.Restore ask) tags noted tree = refl
+after-in request tags noted tree = by-kind (λ kind. option_map (λ t. fold given_in t noted) tree ≡ tree_by kind noted tree) request tags refl
 
 -- it may ask the folder, and change the index
 asking-in : (request : Request) → is_tagging request ≡ true → is_asking request ≡ true
-asking-in requests.New tags = absurd (cc)
-asking-in (requests.Count ask) tags = absurd (cc)
-asking-in (requests.Search ask) tags = absurd (cc)
-asking-in (requests.Dump ask) tags = absurd (cc)
-asking-in (requests.Show ask) tags = absurd (cc)
-asking-in (requests.Tag ask) tags = refl
-asking-in (requests.Restore ask) tags = refl
+asking-in request tags = by-kind (λ kind. asks_folder kind ≡ true) request tags refl
 
 writing-in : (request : Request) → is_tagging request ≡ true → is_writing request ≡ true
-writing-in requests.New tags = absurd (cc)
-writing-in (requests.Count ask) tags = absurd (cc)
-writing-in (requests.Search ask) tags = absurd (cc)
-writing-in (requests.Dump ask) tags = absurd (cc)
-writing-in (requests.Show ask) tags = absurd (cc)
-writing-in (requests.Tag ask) tags = refl
-writing-in (requests.Restore ask) tags = refl
+writing-in request tags = by-kind (λ kind. writes_index kind ≡ true) request tags refl
 
 -- nothing that it reads refuses it
 reads-in : (request : Request) → is_tagging request ≡ true → (index : Base) (moment : ℤ) (left : ℕ) (noted : List Given) → refused_reading (asked.Request request) index moment left noted ≡ None
-reads-in requests.New tags index moment left noted = absurd (cc)
-reads-in (requests.Count ask) tags index moment left noted = absurd (cc)
-reads-in (requests.Search ask) tags index moment left noted = absurd (cc)
-reads-in (requests.Dump ask) tags index moment left noted = absurd (cc)
-reads-in (requests.Show ask) tags index moment left noted = absurd (cc)
-reads-in (requests.Tag ask) tags index moment left noted = refl
-reads-in (requests.Restore ask) tags index moment left noted = refl
+reads-in request tags index moment left noted = by-kind (λ kind. refused_found kind index moment left noted ≡ None) request tags refl
 
 -- its answer tells what is no message, and what keeps its name
 answers-in : (request : Request) → is_tagging request ≡ true → (input : List ℕ) (before index : Base) (moment : ℤ) (noted : List Given) → change_answer request input before moment noted ≡ answer request input before index moment noted
