@@ -1,4 +1,4 @@
--- Turns that were taken one after the other. For the proofs of `first_lane`, `settling` and `running`.
+-- Turns that were taken one after the other. For the proofs of `first_lane`, `barrier` and `phases`.
 use Rattle.std.proofs.Common.{◌≡◌, inl, inr, ℕ, ℤ, ◌+◌, ◌≤◌, List, [], ◌∷◌, ◌++◌, length, refl, sym, ap, ◌∙◌, subst, arith, append-nil, append_assoc}
 use Rattle.nm_history.specs.Call.{Devices}
 use Rattle.nm_history.specs.LineResult.{Place}

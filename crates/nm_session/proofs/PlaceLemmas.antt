@@ -1,4 +1,4 @@
--- The place of a look in the marks, and which steps stand before it and behind it. For `LoopLemmas` and the proofs of `settling`.
+-- The place of a look in the marks, and which steps are before it and after it. For `LoopLemmas` and the proofs of `barrier`.
 use Rattle.std.proofs.Common.{◌≡◌, ℕ, ◌≤◌, true, false, List, [], ◌∷◌, ◌++◌, drop, length, take, zero, suc, refl, sym, ap, ◌∙◌, subst, arith}
 use Rattle.nm_commit.specs.declared.change.Commit.{Commit}
 use Rattle.nm_history.specs.LineResult.{LeaveAlone, shows}

@@ -1,5 +1,5 @@
 -- The turns of phases: their lines, how many phases end with them, and where each line stands.
--- For the proofs of `first_lane`, `settling` and `running`.
+-- For the proofs of `first_lane`, `barrier` and `phases`.
 use Rattle.std.proofs.Common.{◌≡◌, ℕ, ◌+◌, ◌<◌, ◌==◌, Bool, true, false, cond, not, List, [], ◌∷◌, ◌++◌, ◌≤◌, Some, drop, filter, length, map, slice_get, take, get_or, zero, suc, refl, sym, ap, ◌∙◌, subst, arith, append-nil, append_assoc}
 use Rattle.std.proofs.lemmas.Bool.{eqb-true}
 use Rattle.std.proofs.lemmas.Bool.Decides.{nat_tests}

@@ -1,4 +1,4 @@
--- Where a session stands behind its first turns. Cited by `settling`, `first_lane` and `running`.
+-- Where a session stands after its first turns. Cited by `barrier`, `first_lane` and `phases`.
 use Rattle.std.specs.Prelude.{◌≡◌, ◌⊎◌, ℤ, ◌+◌, ◌*◌, ◌≤◌, List, [], ◌∷◌, ◌++◌, length}
 use Rattle.nm_base.specs.Limits.{max_commits}
 use Rattle.nm_commit.specs.declared.change.Commit.{Commit}

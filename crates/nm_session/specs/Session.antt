@@ -1,5 +1,5 @@
 -- What a session leaves, from the opening of the index to the last line; and what stands where no index is opened.
--- Cited by `planning` and `session`.
+-- Cited by `plan` and `session`.
 use Rattle.std.specs.Prelude.{◌≡◌, ℤ, ◌≤◌, Bool, List, [], IfSome, length}
 use Rattle.nm_disk.specs.Observed.{ObservedDisk, bytes_now}
 use Rattle.nm_disk.specs.declared.disk.FileNo.TheVariants.{Head}
