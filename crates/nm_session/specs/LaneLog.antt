@@ -1,7 +1,9 @@
 -- What a line of another lane leaves in the log. Cited by `lane_log`, `reads` and `barrier`.
 use Rattle.std.specs.Prelude.{◌≡◌, ◌⊎◌, ℕ, ℤ, ◌+◌, ◌≤◌, List, [], ◌∷◌, ◌++◌, drop, length, map, take, false, Option}
 use Rattle.std.specs.Option.{option_to_list}
+use Rattle.nm_base.specs.Limits.{max_commits}
 use Rattle.nm_commit.specs.declared.change.Commit.{Commit}
+use Rattle.nm_dates.specs.Seconds.{IsMoment}
 use Rattle.nm_history.specs.LineAnswers.{ends_by, line_text, refused_look}
 use Rattle.nm_history.specs.LineResult.{said_of}
 use Rattle.nm_history.specs.Lines.{RunLine}
@@ -15,11 +17,19 @@ use Rattle.nm_log.specs.Replies.{status_of}
 use Rattle.nm_log.specs.declared.log.LineLog.{LineLog}
 use Rattle.nm_log.specs.declared.log.Said.{Said}
 use Rattle.nm_log.specs.declared.outcome.Outcome.TheVariants as outcomes
+use Rattle.nm_publish.specs.Published.{index_of}
 use Rattle.nm_trace.specs.Marks.{AreOfOthers, look_marks, made_in}
 use Rattle.nm_trace.specs.ReservedLog.{AreFallbacks}
 use Rattle.nm_trace.specs.declared.reserved_log.ReservedLog.{ReservedLog}
 use Rattle.nm_trace.specs.declared.trace.Mark.{Mark}
 use Rattle.nm_writer.specs.Writer.{WriterState}
+use Rattle.nm_session.specs.declared.lane_log.PhaseEnd.{PhaseEnd}
+
+-- The setting is within its bounds, and the writer shows what it has published.
+pub record IsPhaseEnd (end : PhaseEnd) : Type 0 where
+  pub moment : IsMoment end.setting.now.moment
+  pub few : length end.writer.now.begun ≤ max_commits
+  pub shown : index_of end.writer.now.published ≡ end.writer.now.shown
 
 -- A line was run in this phase over this index, and its log says so.
 pub record IsLooked (moment : ℤ) (phase : ℕ) (index : Base) (ran : RunLine) (reply : Option Said) : Type 0 where

@@ -3,19 +3,18 @@
 ghost use Rattle.std.specs.Prelude.{◌≡◌, ◌+◌, ◌≤◌, ℕ, ℤ, List, [], IfSome, length, map};
 ghost use Rattle.std.specs.List.{All, AllZip, flat_map};
 ghost use Rattle.nm_base.specs.Limits.{max_commits};
-ghost use Rattle.nm_dates.specs.Seconds.{IsMoment};
 ghost use Rattle.nm_history.specs.Call.{lines_of_lane};
 ghost use Rattle.nm_history.specs.LineResult.{Place};
 ghost use Rattle.nm_lanes.specs.declared.script.ScriptLine.{ScriptLine};
 ghost use Rattle.nm_publish.specs.Published.{GoesOn, index_of};
-ghost use Rattle.nm_session.specs.LaneLog.{IsLookNoted, IsPlaceOf};
+ghost use Rattle.nm_session.specs.LaneLog.{IsLookNoted, IsPhaseEnd, IsPlaceOf};
 ghost use Rattle.nm_session.specs.Loop.{AreTaken};
 ghost use Rattle.nm_trace.specs.Marks.{is_of_others, made_by};
 ghost use Rattle.nm_trace.specs.ReservedLog.{HasSpare};
 ghost use Rattle.nm_session.specs.Sights.{AreKnown, HasLooked, IsSeenAt, KeepsLane, MayBeOf};
 ghost use Rattle.nm_session.specs.Turns.{other_lanes, planned_line};
 
-use crate::lane_log::note_answer;
+use crate::lane_log::PhaseEnd;
 use crate::plan::LANES;
 use crate::reader_lane::{ReaderLane, Sight};
 use core::mem;
@@ -23,7 +22,7 @@ use nm_base::Many;
 use nm_index::the_revision_counts_the_commits;
 use nm_lanes::ScriptLine;
 use nm_line::look;
-use nm_log::Setting;
+use nm_log::Crew;
 use nm_publish::Shown;
 use nm_trace::{Mark, ReservedLog};
 use nm_writer::Writer;
@@ -31,27 +30,31 @@ use std::alloc::Global;
 
 /// Notes the lines of all other lanes, each where its lane saw what it saw; the readers learn what is shown. A line of which
 /// nothing was seen is answered on what the writer shows.
-pub(crate) fn settle(
-    alloc: Global,
-    setting: &Setting,
+pub(crate) fn settle<R>(
+    crew: &Crew<'_, R>,
     phase: u32,
     lines: &[ScriptLine],
     lanes: &mut [ReaderLane<'_>],
     reserved: &mut ReservedLog,
     writer: &mut Writer,
 )
-    requires moment { IsMoment setting.now.moment }
-    requires looked { All (HasLooked setting.now.moment lines.now writer.old.published.book) lanes.old }
+    requires looked { All (HasLooked crew.now.setting.now.moment lines.now writer.old.published.book) lanes.old }
     requires spare { HasSpare (length (flat_map (lines_of_lane lines.now) other_lanes)) (length writer.old.begun) reserved.old }
     requires few { length writer.old.begun ≤ max_commits }
     ensures writer { writer.new ≡ writer.old }
     ensures lanes { AllZip KeepsLane lanes.old lanes.new }
     ensures taken { (place : Place) → place.writer ≡ writer.old
-        → AreTaken setting.now.moment (map (planned_line phase) (flat_map (lines_of_lane lines.now) other_lanes)) place reserved.old reserved.new place }
+        → AreTaken crew.now.setting.now.moment (map (planned_line phase) (flat_map (lines_of_lane lines.now) other_lanes)) place reserved.old reserved.new place }
 {
     'lanes: for lane in 1..LANES {
-        let sights = sights_of(alloc, lane, lanes, writer);
-        settle_lane(alloc, setting, phase, lane, lines, sights, reserved, writer);
+        let sights = sights_of(crew.alloc, lane, lanes, writer);
+        let end = PhaseEnd {
+            alloc: crew.alloc,
+            setting: crew.setting,
+            phase,
+            writer,
+        };
+        settle_lane(&end, lane, lines, sights, reserved);
     }
 }
 
@@ -90,108 +93,64 @@ fn hand_over(alloc: Global, lane: &mut ReaderLane<'_>, shown: Shown) -> Many<Sig
 
 /// Notes the lines of one lane, of which it saw these in their order.
 fn settle_lane(
-    alloc: Global,
-    setting: &Setting,
-    phase: u32,
+    end: &PhaseEnd<'_>,
     lane: u32,
     lines: &[ScriptLine],
     sights: Many<Sight>,
     reserved: &mut ReservedLog,
-    writer: &Writer,
 )
-    requires moment { IsMoment setting.now.moment }
+    requires end { IsPhaseEnd end.now }
     requires another { 1 ≤ lane }
-    requires sights { AreKnown setting.now.moment lines.now writer.now.published sights }
-    requires spare { HasSpare (length (lines_of_lane lines.now lane)) (length writer.now.begun) reserved.old }
-    requires few { length writer.now.begun ≤ max_commits }
-    requires shown { index_of writer.now.published ≡ writer.now.shown }
-    ensures taken { (place : Place) → place.writer ≡ writer.now
-        → AreTaken setting.now.moment (map (planned_line phase) (lines_of_lane lines.now lane)) place reserved.old reserved.new place }
+    requires sights { AreKnown end.now.setting.now.moment lines.now end.now.writer.now.published sights }
+    requires spare { HasSpare (length (lines_of_lane lines.now lane)) (length end.now.writer.now.begun) reserved.old }
+    ensures taken { (place : Place) → place.writer ≡ end.now.writer.now
+        → AreTaken end.now.setting.now.moment (map (planned_line end.now.phase) (lines_of_lane lines.now lane)) place reserved.old reserved.new place }
 {
     let mut rest = sights.into_vec().into_iter();
     'lines: for (at, line) in lines.iter().enumerate() {
         if line.lane != lane {
             continue;
         }
-        settle_line(
-            alloc,
-            setting,
-            phase,
-            at,
-            line,
-            rest.next(),
-            reserved,
-            writer,
-        );
+        settle_line(end, at, line, rest.next(), reserved);
     }
 }
 
 /// Notes one line, of which the lane saw this.
 fn settle_line(
-    alloc: Global,
-    setting: &Setting,
-    phase: u32,
+    end: &PhaseEnd<'_>,
     at: usize,
     line: &ScriptLine,
     sight: Option<Sight>,
     reserved: &mut ReservedLog,
-    writer: &Writer,
 )
-    requires moment { IsMoment setting.now.moment }
+    requires end { IsPhaseEnd end.now }
     requires another { 1 ≤ line.now.lane }
-    requires spare { HasSpare 1 (length writer.now.begun) reserved.old }
-    requires few { length writer.now.begun ≤ max_commits }
-    requires shown { index_of writer.now.published ≡ writer.now.shown }
-    requires sight { IfSome sight (λ sight. MayBeOf setting.now.moment at line.now writer.now.published sight) }
-    ensures { IsLookNoted setting.now.moment phase writer.now line.now reserved.old reserved.new }
+    requires spare { HasSpare 1 (length end.now.writer.now.begun) reserved.old }
+    requires sight { IfSome sight (λ sight. MayBeOf end.now.setting.now.moment at line.now end.now.writer.now.published sight) }
+    ensures { IsLookNoted end.now.setting.now.moment end.now.phase end.now.writer.now line.now reserved.old reserved.new }
 {
     the_revision_counts_the_commits();
     let Some(sight) = sight else {
-        return answer_anew(alloc, setting, phase, line, reserved, writer);
+        return answer_anew(end, line, reserved);
     };
-    let now = writer.snapshot().revision();
+    let now = end.writer.snapshot().revision();
     match seen_at(at, &sight, line.lane, reserved.marks.as_slice(), now) {
-        Some(place) => note_answer(
-            alloc,
-            phase,
-            line,
-            sight.revision,
-            sight.answered,
-            reserved,
-            place,
-        ),
-        None => answer_anew(alloc, setting, phase, line, reserved, writer),
+        Some(place) => end.note_answer(line, sight.revision, sight.answered, reserved, place),
+        None => answer_anew(end, line, reserved),
     }
 }
 
-/// Answers the line on what the writer shows, behind all that was noted.
-fn answer_anew(
-    alloc: Global,
-    setting: &Setting,
-    phase: u32,
-    line: &ScriptLine,
-    reserved: &mut ReservedLog,
-    writer: &Writer,
-)
-    requires moment { IsMoment setting.now.moment }
+/// Answers the line on what the writer shows, after all that was noted.
+fn answer_anew(end: &PhaseEnd<'_>, line: &ScriptLine, reserved: &mut ReservedLog)
+    requires end { IsPhaseEnd end.now }
     requires another { 1 ≤ line.now.lane }
-    requires spare { HasSpare 1 (length writer.now.begun) reserved.old }
-    requires few { length writer.now.begun ≤ max_commits }
-    requires shown { index_of writer.now.published ≡ writer.now.shown }
-    ensures { IsLookNoted setting.now.moment phase writer.now line.now reserved.old reserved.new }
+    requires spare { HasSpare 1 (length end.now.writer.now.begun) reserved.old }
+    ensures { IsLookNoted end.now.setting.now.moment end.now.phase end.now.writer.now line.now reserved.old reserved.new }
 {
-    let snapshot = writer.snapshot();
-    let answered = look(alloc, setting, line, snapshot);
-    let end = reserved.marks.as_slice().len();
-    note_answer(
-        alloc,
-        phase,
-        line,
-        snapshot.revision(),
-        answered,
-        reserved,
-        end,
-    );
+    let snapshot = end.writer.snapshot();
+    let answered = look(end.alloc, end.setting, line, snapshot);
+    let last = reserved.marks.as_slice().len();
+    end.note_answer(line, snapshot.revision(), answered, reserved, last);
 }
 
 /// Where in the marks the lane saw this, where it is of the line at this place and no more than was shown at this revision.

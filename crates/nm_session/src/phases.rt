@@ -157,15 +157,7 @@ impl<M: Maildir, D: Disk, O: Sink> Stage<'_, '_, '_, '_, '_, M, D, O> {
     {
         let lines = asked.phases[number as usize].lines.as_slice();
         let left = self.work(asked, number, lines, lanes, left);
-        settle(
-            asked.crew.alloc,
-            asked.crew.setting,
-            number,
-            lines,
-            lanes,
-            self.reserved,
-            self.writer,
-        );
+        settle(asked.crew, number, lines, lanes, self.reserved, self.writer);
         self.reserved.note_meeting();
         left
     }

@@ -12,17 +12,17 @@ use Rattle.nm_session.proofs.SightLemmas.{lane-far, lane-same, zip-far, zip-same
 use Rattle.nm_session.proofs.barrier.settle.Goals as goal
 
 pub lanes-init : goal.lanes-init
-lanes-init c = record { writer = refl; kept = zip-same KeepsLane lane-same c.args.lanes.now; looked = c.requires.looked; spare = c.requires.spare; taken = λ place here. (refl, refl) }
+lanes-init g c = record { writer = refl; kept = zip-same KeepsLane lane-same c.args.lanes.now; looked = c.requires.looked; spare = c.requires.spare; taken = λ place here. (refl, refl) }
 
 pub settle_lane-requires-clause-spare : goal.settle_lane-requires-clause-spare
-settle_lane-requires-clause-spare c =
+settle_lane-requires-clause-spare g c =
     let same : c.sights_of-sights.new.writer ≡ c.args.writer.now = c.sights_of-sights.ensures.writer ∙ c.lanes.invariant.writer in
     subst (λ (w : WriterState). HasSpare (length (lines_of_lane c.args.lines.now c.lanes.lane)) (length w.begun) c.lanes.reserved) (sym same)
     (lane-spare (length c.args.writer.now.begun) c.args.lines.now c.lanes.lane c.lanes.reserved c.lanes-test.true c.lanes.invariant.spare)
 
 pub lanes-preserved : goal.lanes-preserved
-lanes-preserved c =
-    let moment = c.args.setting.now.moment in
+lanes-preserved g c =
+    let moment = c.args.crew.now.setting.now.moment in
     let lines = c.args.lines.now in
     let lane = c.lanes.lane in
     let writer = c.args.writer.now in
@@ -42,7 +42,7 @@ lanes-preserved c =
     }
 
 pub returns-clause-taken : goal.returns-clause-taken
-returns-clause-taken c = λ place is.
+returns-clause-taken g c = λ place is.
     let all : c.lanes.lane - 1 ≡ 15 = omega (arith, c.lanes-test.false, c.lanes.auto.lane) in
-    subst (λ (n : ℕ). AreTaken c.args.setting.now.moment (map (planned_line c.args.phase) (flat_map (lines_of_lane c.args.lines.now) (range_with_len 1 n))) place c.args.reserved.now c.lanes.reserved place) all
+    subst (λ (n : ℕ). AreTaken c.args.crew.now.setting.now.moment (map (planned_line c.args.phase) (flat_map (lines_of_lane c.args.lines.now) (range_with_len 1 n))) place c.args.reserved.now c.lanes.reserved place) all
     (c.lanes.invariant.taken place is)

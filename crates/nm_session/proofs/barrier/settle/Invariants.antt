@@ -10,11 +10,11 @@ use Rattle.nm_session.proofs.barrier.settle.Given as goal
 
 -- the lines of the lanes so far are noted, and for the others there are places
 abbrev pub invariant-lanes : goal.invariant-lanes
-invariant-lanes l = record {
+invariant-lanes g l = record {
   writer : l.writer ≡ l.initial.writer;
   kept : AllZip KeepsLane l.initial.lanes l.lanes;
-  looked : All (HasLooked l.setting.moment l.lines l.initial.writer.published.book) l.lanes;
+  looked : All (HasLooked l.crew.setting.now.moment l.lines l.initial.writer.published.book) l.lanes;
   spare : HasSpare (length (flat_map (lines_of_lane l.lines) (range_with_len l.lane (16 - l.lane)))) (length l.initial.writer.begun) l.reserved;
   taken : (place : Place) → place.writer ≡ l.initial.writer
-      → AreTaken l.setting.moment (map (planned_line l.phase) (flat_map (lines_of_lane l.lines) (range_with_len 1 (l.lane - 1)))) place l.initial.reserved l.reserved place;
+      → AreTaken l.crew.setting.now.moment (map (planned_line l.phase) (flat_map (lines_of_lane l.lines) (range_with_len 1 (l.lane - 1)))) place l.initial.reserved l.reserved place;
 }

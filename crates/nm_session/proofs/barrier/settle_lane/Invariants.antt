@@ -11,9 +11,9 @@ use Rattle.nm_session.proofs.barrier.settle_lane.Given as goal
 -- the lines so far are noted, and for the others there are places
 abbrev pub invariant-lines : goal.invariant-lines
 invariant-lines l = record {
-  sights : AreKnown l.setting.moment l.lines l.writer.published (into_iter_items l.rest);
+  sights : AreKnown l.end.setting.now.moment l.lines l.end.writer.now.published (into_iter_items l.rest);
   whole : into_iter_len l.rest ≡ length (into_iter_items l.rest);
-  spare : HasSpare (length (lines_of_lane (drop l.at l.lines) l.lane)) (length l.writer.begun) l.reserved;
-  taken : (place : Place) → place.writer ≡ l.writer
-      → AreTaken l.setting.moment (map (planned_line l.phase) (lines_of_lane (take l.at l.lines) l.lane)) place l.initial.reserved l.reserved place;
+  spare : HasSpare (length (lines_of_lane (drop l.at l.lines) l.lane)) (length l.end.writer.now.begun) l.reserved;
+  taken : (place : Place) → place.writer ≡ l.end.writer.now
+      → AreTaken l.end.setting.now.moment (map (planned_line l.end.phase) (lines_of_lane (take l.at l.lines) l.lane)) place l.initial.reserved l.reserved place;
 }

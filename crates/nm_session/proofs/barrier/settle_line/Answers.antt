@@ -8,10 +8,10 @@ use Rattle.nm_session.proofs.barrier.settle_line.Goals as goal
 
 pub returns-in-Some-seen_at : goal.returns-in-Some-seen_at
 returns-in-Some-seen_at c =
-    let moment = c.args.setting.now.moment in
+    let moment = c.args.end.now.setting.now.moment in
     let sight = c.in-Some.sight in
-    let may = subst (λ (s : Option Sight). IfSome s (λ it. MayBeOf moment c.args.at c.args.line.now c.args.writer.now.published it)) c.in-Some.is c.requires.sight in
-    seen-noted moment c.args.phase c.args.at c.args.line.now c.args.writer.now sight c.args.reserved.now c.note_answer.new.reserved c.revision-now.result c.in-Some-seen_at.place
-    c.the_revision_counts_the_commits.ensures c.requires.shown (c.revision-now.ensures ∙ ap (λ (b : Base). b.revision) c.snapshot.ensures) may
+    let may = subst (λ (s : Option Sight). IfSome s (λ it. MayBeOf moment c.args.at c.args.line.now c.args.end.now.writer.now.published it)) c.in-Some.is c.requires.sight in
+    seen-noted moment c.args.end.now.phase c.args.at c.args.line.now c.args.end.now.writer.now sight c.args.reserved.now c.note_answer.new.reserved c.revision-now.result c.in-Some-seen_at.place
+    c.the_revision_counts_the_commits.ensures c.requires.end.shown (c.revision-now.ensures ∙ ap (λ (b : Base). b.revision) c.snapshot.ensures) may
     (subst (λ (l : List Mark). IsSeenAt c.args.at c.args.line.now.lane l c.revision-now.result sight c.in-Some-seen_at.place) c.as_slice.ensures c.in-Some-seen_at.ensures)
     (λ index at answer. c.note_answer.ensures moment index at answer)

@@ -3,7 +3,7 @@ use Rattle.nm_history.specs.Lines.{RunLine}
 use Rattle.nm_trace.specs.ReservedLog.{AreFallbacks}
 use Rattle.nm_trace.specs.declared.trace.Mark.{Mark}
 use Rattle.nm_session.proofs.LookLemmas.{look-marks}
-use Rattle.nm_session.proofs.lane_log.note_answer.Goals as goal
+use Rattle.nm_session.proofs.lane_log.PhaseEnd.note_answer.Goals as goal
 
 pub returns : goal.returns
 returns c = λ moment index at answer.
@@ -16,7 +16,7 @@ returns c = λ moment index at answer.
       look = look;
       logs = c.note_look.ensures.logs;
       marks = c.note_look.ensures.marks
-          ∙ ap (λ (l : List Mark). take c.args.at c.args.reserved.now.marks.0 ++ (l ++ drop c.args.at c.args.reserved.now.marks.0)) (look-marks moment c.args.phase index ran reply look);
+          ∙ ap (λ (l : List Mark). take c.args.at c.args.reserved.now.marks.0 ++ (l ++ drop c.args.at c.args.reserved.now.marks.0)) (look-marks moment c.args.self.now.phase index ran reply look);
       steps = c.note_look.ensures.steps;
       logs_spare = c.note_look.ensures.logs_spare;
       marks_spare = c.note_look.ensures.marks_spare;
