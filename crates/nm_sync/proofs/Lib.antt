@@ -1,4 +1,5 @@
 pub mod MergeLemmas
+pub mod NotedLemmas
 pub mod RenamingLemmas
 pub mod ReportLemmas
 pub mod SameLemmas

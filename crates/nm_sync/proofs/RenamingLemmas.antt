@@ -26,6 +26,8 @@ use Rattle.nm_maildir.specs.declared.given.Given.TheVariants as givens
 use Rattle.nm_answer.specs.Renaming.{IsFree, IsLong, IsTaken, Outcome, Target, WasLong, WasTaken, WasTried, answer_given, files_moved, note_of, outcomes, target_of, unmoved_in}
 use Rattle.nm_plan.specs.Moving.{move_given, move_if}
 use Rattle.nm_answer.specs.declared.sync_report.Unmoved.{Unmoved}
+use Rattle.nm_sync.proofs.NotedLemmas.{since-more}
+use Rattle.nm_sync.specs.Noted.{since}
 use Rattle.nm_sync.specs.Renamed.{AnswersAlong, AreTried, AsksRenames, HasPlaces, IsDone, IsKept, TreesAlong, files_given, outcomes_given}
 use Rattle.nm_sync.specs.declared.renaming.Renaming.{Renaming}
 use Rattle.nm_base.specs.SetLaws.{bytes_same}
@@ -148,18 +150,19 @@ tried-done files rename to answer old new is free given = record {
   given_is = given;
 }
 
+moved-changed : (files : List File) (from to : List ℕ) (answer : Renamed) → fold changed files (move_if from to answer) ≡ files_moved files from to answer
+moved-changed files from to answers.Moved = refl
+moved-changed files from to answers.Missing = refl
+moved-changed files from to answers.Exists = refl
+
 -- what is kept after an answer
-pub kept-more : (files : List File) (given now : List Given) (from to : List ℕ) (answer : Renamed) (done new : Renaming) → IsKept files given done → now ≡ given ++ givens.Renamed from to answer ∷ [] → new.moves ≡ done.moves ++ move_if from to answer
-    → ((mid : List File) → has_path mid to ≡ false → HasPlaces files mid done.places → HasPlaces files (files_moved mid from to answer) new.places) → has_path (files_given files given) to ≡ false → IsKept files now new
-kept-more files given now from to answer done new kept is moves places free =
-    let note : List Given = givens.Renamed from to answer ∷ [] in
-    let after : files_given files now ≡ files_moved (files_given files given) from to answer = ap (files_given files) is ∙ (given-append files given note ∙ moved-given (files_given files given) from to answer) in
-    record {
-      moves = moves
-          ∙ (ap (λ (l : List Change). l ++ move_if from to answer) kept.moves
-          ∙ (ap (λ (l : List Change). flat_map move_given given ++ l) (sym (append-nil (move_if from to answer))) ∙ (sym (flat_map-append move_given given note) ∙ ap (flat_map move_given) (sym is))));
-      places = subst (λ (f : List File). HasPlaces files f new.places) (sym after) (places (files_given files given) free kept.places);
-    }
+pub kept-more : (files : List File) (from to : List ℕ) (answer : Renamed) (done new : Renaming) → IsKept files done → new.moves ≡ done.moves ++ move_if from to answer
+    → ((mid : List File) → has_path mid to ≡ false → HasPlaces files mid done.places → HasPlaces files (files_moved mid from to answer) new.places) → has_path (fold changed files done.moves) to ≡ false → IsKept files new
+kept-more files from to answer done new kept moves places free =
+    let before : List File = fold changed files done.moves in
+    let after : fold changed files new.moves ≡ files_moved before from to answer =
+    ap (fold changed files) moves ∙ (fold-append changed files done.moves (move_if from to answer) ∙ moved-changed before from to answer) in
+    subst (λ (f : List File). HasPlaces files f new.places) (sym after) (places before free kept)
 
 -- where it stops, the rename was noted or not
 pub stopped-tried : (files : List File) (plan : List Rename) (rename : Rename) (rest : List Rename) (given now : List Given) (kept : List (List ℕ × Unmoved)) → InRenames files plan (rename ∷ rest) given kept
@@ -167,6 +170,29 @@ pub stopped-tried : (files : List File) (plan : List Rename) (rename : Rename) (
 stopped-tried files plan rename rest given now kept h (inl same) = subst (AreTried files plan) (sym same) (so-far-tried files plan (rename ∷ rest) given kept h)
 stopped-tried files plan rename rest given now kept h (inr step) =
     so-far-tried files plan rest now (kept ++ unmoved_in step.outcome) (next-rename files plan rename rest given now kept (kept ++ unmoved_in step.outcome) h step refl)
+
+-- What was noted before the renames changes nothing: they are followed by what was noted since.
+module _ (old mid new first : List Given) (is : mid ≡ old ++ first) where
+  abbrev pub done-since : (files after : List File) (rename : Rename) → files ≡ after → IsDone files rename mid new → IsDone after rename (since old mid) (since old new)
+  done-since files after rename same step = record {
+    outcome = step.outcome;
+    first = λ more told.
+        subst (λ (f : List File). outcomes f (rename ∷ more) (flat_map answer_given (note_of step.outcome) ++ told) ≡ step.outcome ∷ outcomes (files_given f (note_of step.outcome)) more told)
+        same (step.first more told);
+    given_is = since-more old mid new first (note_of step.outcome) is step.given_is;
+  }
+
+  pub moves-since : (note : List Given) (moves more : List Change) → new ≡ mid ++ note → moves ≡ flat_map move_given (since old mid) → more ≡ moves ++ flat_map move_given note → more ≡ flat_map move_given (since old new)
+  moves-since note moves more noted are is_more =
+      is_more
+      ∙ (ap (λ (l : List Change). l ++ flat_map move_given note) are
+      ∙ (sym (flat_map-append move_given (since old mid) note) ∙ ap (flat_map move_given) (sym (since-more old mid new first note is noted))))
+
+  pub stopped-since : (files : List File) (plan : List Rename) (rename : Rename) (rest : List Rename) (moves : List Change) (kept : List (List ℕ × Unmoved)) → moves ≡ flat_map move_given (since old mid)
+      → InRenames files plan (rename ∷ rest) (since old mid) kept → (new ≡ mid) ⊎ IsDone (fold changed files moves) rename mid new → AreTried files plan (since old new)
+  stopped-since files plan rename rest moves kept are h (inl same) = stopped-tried files plan rename rest (since old mid) (since old new) kept h (inl (ap (since old) same))
+  stopped-since files plan rename rest moves kept are h (inr step) =
+      stopped-tried files plan rename rest (since old mid) (since old new) kept h (inr (done-since (fold changed files moves) (files_given files (since old mid)) rename (ap (fold changed files) are) step))
 
 -- a note in the place of the last one
 pub last-set : (front : List Given) (last note : Given) → slice_set (front ++ last ∷ []) (length front) note ≡ front ++ note ∷ []

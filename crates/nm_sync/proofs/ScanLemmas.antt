@@ -18,8 +18,10 @@ use Rattle.nm_scan.specs.Walking.{scanned}
 use Rattle.nm_scan.specs.Batches.{HasReadSome, IsUnfinished, ReadsBatches}
 use Rattle.nm_scan.specs.Reading.{NotesReads, answers_at, read_with}
 use Rattle.nm_scan.specs.Scanning.{AsksNew}
+use Rattle.nm_sync.proofs.NotedLemmas.{since-then}
 use Rattle.nm_sync.proofs.SameLemmas.{paths-are}
 use Rattle.nm_sync.specs.Listed.{HasListed}
+use Rattle.nm_sync.specs.Noted.{since}
 use Rattle.nm_sync.specs.declared.scanning.Compared.{Compared}
 
 -- the mail folder that tells the same
@@ -128,13 +130,12 @@ none-removed files listed away ids is none empty =
 
 -- the listing and the first of the paths were asked
 pub asked_reading : (old mid new : ObservedMail) (files : List (List ℕ × Facts)) (before noted0 given : List Given) (listed paths : List (List ℕ)) (batches : List (List (List ℕ × Facts))) (left : List (List ℕ))
-    → mid.tree ≡ old.tree → mid.reads ≡ old.reads → before ≡ [] → noted0 ≡ before ++ givens.Listed listed ∷ []
-    → IsSorted listed → IfSome old.tree (λ t. scanned t ≡ Ok listed) → paths ≡ to_read files listed → HasReadSome mid new noted0 given paths batches left → AsksNew old new files given
-asked_reading old mid new files before noted0 given listed paths batches left same_tree same none is rising told paths_are h' =
+    → mid.tree ≡ old.tree → mid.reads ≡ old.reads → noted0 ≡ before ++ givens.Listed listed ∷ []
+    → IsSorted listed → IfSome old.tree (λ t. scanned t ≡ Ok listed) → paths ≡ to_read files listed → HasReadSome mid new noted0 given paths batches left → AsksNew old new files (since before given)
+asked_reading old mid new files before noted0 given listed paths batches left same_tree same is rising told paths_are h' =
     let h : HasReadSome mid new noted0 given (to_read files listed) batches left = subst (λ (l : List (List ℕ)). HasReadSome mid new noted0 given l batches left) paths_are h' in
     let first = h.first in
     let reading = first.reading in
-    let listing_is : noted0 ≡ givens.Listed listed ∷ [] = is ∙ ap (λ l. l ++ givens.Listed listed ∷ []) none in
     inr (record {
       batches = batches;
       left = left;
@@ -143,12 +144,12 @@ asked_reading old mid new files before noted0 given listed paths batches left sa
         listing = record { rising = rising; told = told };
         answers = h.answers;
         further = h.further;
-        given_is = h.given_is ∙ ap (λ l. l ++ (h.answers ++ h.further)) listing_is;
+        given_is = since-then before noted0 given (givens.Listed listed ∷ []) (h.answers ++ h.further) is h.given_is;
         reading = subst (λ (t : Option Tree). ReadsBatches t h.answers (to_read files listed) batches left) same_tree h.reading;
         unfinished = subst (λ (t : Option Tree). IsUnfinished t h.further left) same_tree h.unfinished;
       };
       answers = first.given;
-      given_is = first.given_is ∙ ap (λ l. l ++ first.given) listing_is;
+      given_is = since-then before noted0 given (givens.Listed listed ∷ []) first.given is first.given_is;
       reading = record {
         answered = reading.answered;
         asked = reading.asked;
@@ -161,26 +162,26 @@ asked_reading old mid new files before noted0 given listed paths batches left sa
     })
 
 -- the listing alone was asked
-pub asked_listing : (old mid : ObservedMail) (files : List (List ℕ × Facts)) (before given : List Given) (listed : List (List ℕ)) → mid.tree ≡ old.tree → mid.reads ≡ old.reads → before ≡ [] → given ≡ before ++ givens.Listed listed ∷ []
-    → IsSorted listed → IfSome old.tree (λ t. scanned t ≡ Ok listed) → AsksNew old mid files given
-asked_listing old mid files before given listed same_tree same none is rising told =
-    asked_reading old mid mid files before given given listed (to_read files listed) [] (to_read files listed) same_tree same none is rising told refl (read_none mid given (to_read files listed))
+pub asked_listing : (old mid : ObservedMail) (files : List (List ℕ × Facts)) (before given : List Given) (listed : List (List ℕ)) → mid.tree ≡ old.tree → mid.reads ≡ old.reads → given ≡ before ++ givens.Listed listed ∷ []
+    → IsSorted listed → IfSome old.tree (λ t. scanned t ≡ Ok listed) → AsksNew old mid files (since before given)
+asked_listing old mid files before given listed same_tree same is rising told =
+    asked_reading old mid mid files before given given listed (to_read files listed) [] (to_read files listed) same_tree same is rising told refl (read_none mid given (to_read files listed))
 
 -- what was listed is compared with the index
-pub has_listed : (tree : Option Tree) (files : List (List ℕ × Facts)) (before given : List Given) (listed unknown away ids : List (List ℕ)) → before ≡ [] → given ≡ before ++ givens.Listed listed ∷ [] → IsSorted listed
+pub has_listed : (tree : Option Tree) (files : List (List ℕ × Facts)) (before given : List Given) (listed unknown away ids : List (List ℕ)) → given ≡ before ++ givens.Listed listed ∷ [] → IsSorted listed
     → IfSome tree (λ t. scanned t ≡ Ok listed) → unknown ≡ to_read files listed → away ≡ gone files listed → ids ≡ message_ids (removed_files files listed)
-    → HasListed tree files given (record { unknown = unknown; gone = away; gone_ids = ids })
-has_listed tree files before given listed unknown away ids none is rising told unknown_are gone_are ids_are = record {
+    → HasListed tree files before given (record { unknown = unknown; gone = away; gone_ids = ids })
+has_listed tree files before given listed unknown away ids is rising told unknown_are gone_are ids_are = record {
   listed = listed;
   listing = record { rising = rising; told = told };
-  given_is = is ∙ ap (λ (l : List Given). l ++ givens.Listed listed ∷ []) none;
+  given_is = is;
   unknown_are = unknown_are;
   gone_are = gone_are;
   ids_are = ids_are;
 }
 
 -- and of what is unknown the first paths were read
-pub asks-some : (old new : ObservedMail) (files : List (List ℕ × Facts)) (noted0 given : List Given) (compared : Compared) (batches : List (List (List ℕ × Facts))) (left : List (List ℕ)) → HasListed old.tree files noted0 compared
-    → HasReadSome old new noted0 given compared.unknown batches left → AsksNew old new files given
-asks-some old new files noted0 given compared batches left h read =
-    asked_reading old old new files [] noted0 given h.listed compared.unknown batches left refl refl refl h.given_is h.listing.rising h.listing.told h.unknown_are read
+pub asks-some : (old new : ObservedMail) (files : List (List ℕ × Facts)) (before noted0 given : List Given) (compared : Compared) (batches : List (List (List ℕ × Facts))) (left : List (List ℕ)) → HasListed old.tree files before noted0 compared
+    → HasReadSome old new noted0 given compared.unknown batches left → AsksNew old new files (since before given)
+asks-some old new files before noted0 given compared batches left h read =
+    asked_reading old old new files before noted0 given h.listed compared.unknown batches left refl refl h.given_is h.listing.rising h.listing.told h.unknown_are read

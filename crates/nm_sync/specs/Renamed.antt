@@ -40,10 +40,9 @@ pub record IsDone (files : List (List ℕ × Facts)) (rename : Rename) (old new 
 abbrev pub HasPlaces : List (List ℕ × Facts) → List (List ℕ × Facts) → BTreeMap (List ℕ) Bool → Type 0
 HasPlaces before files places = (path : List ℕ) → has_path files path ≡ unwrap_or (get (slice_cmp nat_cmp) places path) (has_path before path)
 
--- what is kept of the renames that are done: their moves, and which paths these freed and took
-pub record IsKept (files : List (List ℕ × Facts)) (given : List Given) (done : Renaming) : Type 0 where
-  pub moves : done.moves ≡ flat_map move_given given
-  pub places : HasPlaces files (files_given files given) done.places
+-- of the renames that are done it is kept which paths their moves freed and took
+abbrev pub IsKept : List (List ℕ × Facts) → Renaming → Type 0
+IsKept files done = HasPlaces files (fold changed files done.moves) done.places
 
 -- the tree after renames, each answered as the tree then stood
 abbrev pub AnswersAlong : Tree → List Given → Tree → Type 0

@@ -8,15 +8,14 @@ ghost use Rattle.nm_maildir.specs.declared.given.Given.{Given};
 ghost use Rattle.nm_scan.specs.Batches.{HasReadSome};
 ghost use Rattle.nm_scan.specs.Scanning.{AsksNew};
 ghost use Rattle.nm_sync.specs.Listed.{HasListed};
+ghost use Rattle.nm_sync.specs.Noted.{since};
 ghost use Rattle.nm_sync.specs.Renamed.{AreTried};
 ghost use Rattle.nm_sync.specs.declared.scanning.Compared.{Compared};
 
 /// A `new` asks the folder for the listing, and for the first of the paths that the index lacks; and so much was noted.
 pub fn a_new_asks_what_it_notes()
-    ensures listing { (mail : ObservedMail) (files : List (List ℕ × Facts)) (given : List Given) (compared : Compared)
-        → HasListed mail.tree files given compared → AsksNew mail mail files given }
-    ensures reading { (old new : ObservedMail) (files : List (List ℕ × Facts)) (before given : List Given) (compared : Compared) (batches : List (List (List ℕ × Facts))) (left : List (List ℕ))
-        → HasListed old.tree files before compared → HasReadSome old new before given compared.unknown batches left → AsksNew old new files given }
+    ensures { (old new : ObservedMail) (files : List (List ℕ × Facts)) (before listed given : List Given) (compared : Compared) (batches : List (List (List ℕ × Facts))) (left : List (List ℕ))
+        → HasListed old.tree files before listed compared → HasReadSome old new listed given compared.unknown batches left → AsksNew old new files (since before given) }
 {}
 
 /// Before a rename is tried, none is noted.

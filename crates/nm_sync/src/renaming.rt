@@ -1,16 +1,17 @@
 //! The renames that follow tags, for the command `tag` of `nm_writer`: each is tried in turn, and what the folder answers is noted.
 
-ghost use Rattle.std.specs.Prelude.{◌≡◌, ◌⊎◌, ◌++◌, ◌∷◌, ◌<◌, [], ℕ, List, false, length, unwrap_or, Err, IfOk, OnErr, OnOk};
+ghost use Rattle.std.specs.Prelude.{◌≡◌, ◌⊎◌, ◌++◌, ◌∷◌, ◌<◌, [], ℕ, List, false, length, unwrap_or, Err, IfOk, OnErr, OnOk, fold};
 ghost use Rattle.std.specs.BTreeMap.{get};
 ghost use Rattle.std.specs.Cmp.Lexicographic.{slice_cmp};
 ghost use Rattle.std.specs.List.{flat_map};
 ghost use Rattle.std.specs.Ordering.{nat_cmp};
 ghost use Rattle.nm_base.specs.declared.facts.Facts.{Facts};
-ghost use Rattle.nm_commit.specs.Files.{has_path, with_moved};
+ghost use Rattle.nm_commit.specs.Files.{changed, has_path, with_moved};
 ghost use Rattle.nm_maildir.specs.Observed.{HasMailCause};
-ghost use Rattle.nm_answer.specs.Renaming.{files_moved, unmoved_by, unmoved_in};
+ghost use Rattle.nm_answer.specs.Renaming.{files_moved, note_of, unmoved_by, unmoved_in};
 ghost use Rattle.nm_plan.specs.Moving.{move_given, move_if};
-ghost use Rattle.nm_sync.specs.Renamed.{AreTried, AsksRenames, HasPlaces, IsDone, IsKept, files_given, outcomes_given};
+ghost use Rattle.nm_sync.specs.Noted.{since};
+ghost use Rattle.nm_sync.specs.Renamed.{AreTried, AsksRenames, HasPlaces, IsDone, IsKept, outcomes_given};
 
 use nm_answer::Unmoved;
 use nm_base::{Copies, MailPath, Many, NoMemory};
@@ -36,7 +37,8 @@ impl Renaming {
     /// None is done yet, which takes no memory.
     pub fn new(alloc: Global) -> Renaming
         ensures unmoved { result.unmoved ≡ [] }
-        ensures kept { (files : List (List ℕ × Facts)) → IsKept files [] result }
+        ensures moves { result.moves ≡ [] }
+        ensures kept { (files : List (List ℕ × Facts)) → IsKept files result }
     {
         Renaming {
             unmoved: Many::new(alloc),
@@ -55,14 +57,13 @@ fn rename_all<M: Maildir>(
     done: &mut Renaming,
     given: &mut Many<Given>,
 ) -> Result<(), MailError>
-    requires fresh { given.old ≡ [] }
-    requires none { done.old.unmoved ≡ [] }
-    requires kept { IsKept shown.now.files given.old done.old }
-    ensures tried { AreTried shown.now.files plan given.new }
-    ensures all { OnOk result (length (outcomes_given shown.now.files plan given.new) ≡ length plan) }
-    ensures unmoved { OnOk result (done.new.unmoved ≡ flat_map unmoved_in (outcomes_given shown.now.files plan given.new)) }
-    ensures moves { OnOk result (done.new.moves ≡ flat_map move_given given.new) }
-    ensures moves_failed { result ≡ Err MailError.Failed → done.new.moves ≡ flat_map move_given given.new }
+    requires none { (done.old.unmoved ≡ []) × (done.old.moves ≡ []) }
+    requires kept { IsKept shown.now.files done.old }
+    ensures tried { AreTried shown.now.files plan (since given.old given.new) }
+    ensures all { OnOk result (length (outcomes_given shown.now.files plan (since given.old given.new)) ≡ length plan) }
+    ensures unmoved { OnOk result (done.new.unmoved ≡ flat_map unmoved_in (outcomes_given shown.now.files plan (since given.old given.new))) }
+    ensures moves { OnOk result (done.new.moves ≡ flat_map move_given (since given.old given.new)) }
+    ensures moves_failed { result ≡ Err MailError.Failed → done.new.moves ≡ flat_map move_given (since given.old given.new) }
     ensures asks { AsksRenames (M.observed mail.old) (M.observed mail.new) given.old given.new }
     ensures cause { HasMailCause (M.observed mail.old).faults (M.observed mail.new).faults result }
 {
@@ -85,14 +86,13 @@ pub fn rename_and_sync<M: Maildir>(
     done: &mut Renaming,
     given: &mut Many<Given>,
 ) -> Result<(), MailError>
-    requires fresh { given.old ≡ [] }
-    requires none { done.old.unmoved ≡ [] }
-    requires kept { IsKept shown.now.files given.old done.old }
-    ensures tried { AreTried shown.now.files plan given.new }
-    ensures all { OnOk result (length (outcomes_given shown.now.files plan given.new) ≡ length plan) }
-    ensures unmoved { OnOk result (done.new.unmoved ≡ flat_map unmoved_in (outcomes_given shown.now.files plan given.new)) }
-    ensures moves { OnOk result (done.new.moves ≡ flat_map move_given given.new) }
-    ensures moves_failed { result ≡ Err MailError.Failed → done.new.moves ≡ flat_map move_given given.new }
+    requires none { (done.old.unmoved ≡ []) × (done.old.moves ≡ []) }
+    requires kept { IsKept shown.now.files done.old }
+    ensures tried { AreTried shown.now.files plan (since given.old given.new) }
+    ensures all { OnOk result (length (outcomes_given shown.now.files plan (since given.old given.new)) ≡ length plan) }
+    ensures unmoved { OnOk result (done.new.unmoved ≡ flat_map unmoved_in (outcomes_given shown.now.files plan (since given.old given.new))) }
+    ensures moves { OnOk result (done.new.moves ≡ flat_map move_given (since given.old given.new)) }
+    ensures moves_failed { result ≡ Err MailError.Failed → done.new.moves ≡ flat_map move_given (since given.old given.new) }
     ensures asks { AsksRenames (M.observed mail.old) (M.observed mail.new) given.old given.new }
     ensures cause { HasMailCause (M.observed mail.old).faults (M.observed mail.new).faults result }
 {
@@ -115,11 +115,12 @@ fn rename_one<M: Maildir>(
     done: &mut Renaming,
     given: &mut Many<Given>,
 ) -> Result<(), MailError>
-    requires kept { IsKept shown.now.files given.old done.old }
-    ensures kept { OnOk result (IsKept shown.now.files given.new done.new) }
-    ensures done { OnOk result ((step : IsDone (files_given shown.now.files given.old) rename given.old given.new) × (done.new.unmoved ≡ done.old.unmoved ++ unmoved_in step.outcome)) }
+    requires kept { IsKept shown.now.files done.old }
+    ensures kept { OnOk result (IsKept shown.now.files done.new) }
+    ensures done { OnOk result ((step : IsDone (fold changed shown.now.files done.old.moves) rename given.old given.new)
+        × (done.new.unmoved ≡ done.old.unmoved ++ unmoved_in step.outcome) × (done.new.moves ≡ done.old.moves ++ flat_map move_given (note_of step.outcome))) }
     ensures failed { result ≡ Err MailError.Failed → (given.new ≡ given.old) × (done.new.moves ≡ done.old.moves) }
-    ensures stops { OnErr result ((given.new ≡ given.old) ⊎ IsDone (files_given shown.now.files given.old) rename given.old given.new) }
+    ensures stops { OnErr result ((given.new ≡ given.old) ⊎ IsDone (fold changed shown.now.files done.old.moves) rename given.old given.new) }
     ensures asks { AsksRenames (M.observed mail.old) (M.observed mail.new) given.old given.new }
     ensures cause { HasMailCause (M.observed mail.old).faults (M.observed mail.new).faults result }
 {

@@ -1,6 +1,6 @@
 //! What a mail folder has that an index lacks, and what an index has that is not listed any more; `new` of `nm_writer` begins with it.
 
-ghost use Rattle.std.specs.Prelude.{◌≡◌, ◌∷◌, ◌++◌, [], Err, IfErr, IfOk, OnErr, OnOk};
+ghost use Rattle.std.specs.Prelude.{◌≡◌, ◌∷◌, ◌++◌, [], Err, IfOk, OnErr, OnOk};
 ghost use Rattle.nm_answer.specs.NewText.{gone};
 ghost use Rattle.nm_base.specs.Order.{IsSorted, sorted};
 ghost use Rattle.nm_commit.specs.Files.{paths_of};
@@ -11,6 +11,7 @@ ghost use Rattle.nm_base.specs.declared.limit.Limit.{Limit};
 ghost use Rattle.nm_faults.specs.Faults.{HasCauseOf};
 ghost use Rattle.nm_scan.specs.Scanning.{AsksNew};
 ghost use Rattle.nm_sync.specs.Listed.{HasListed};
+ghost use Rattle.nm_sync.specs.Noted.{since};
 
 use crate::merging::only_in;
 use nm_base::{Copies, MailPath, Many, MessageId, NoMemory, TextSet};
@@ -36,12 +37,11 @@ pub fn compare<M: Maildir>(
     mail: &mut M,
     given: &mut Many<Given>,
 ) -> Result<Compared, ScanError>
-    requires { given.old ≡ [] }
-    ensures ok { IfOk result (HasListed (M.observed mail.old).tree shown.now.files given.new) }
+    ensures ok { IfOk result (HasListed (M.observed mail.old).tree shown.now.files given.old given.new) }
     ensures mail { IfOk result (λ _. M.observed mail.new ≡ M.observed mail.old) }
-    ensures unlisted { IfErr result (λ error. error ≡ ScanError.MailFault → given.new ≡ []) }
-    ensures limit { (limit : Limit) → result ≡ Err (ScanError.Limit limit) → (given.new ≡ []) × PassesListing (M.observed mail.old).tree limit }
-    ensures asked { AsksNew (M.observed mail.old) (M.observed mail.new) shown.now.files given.new }
+    ensures err { OnErr result (given.new ≡ given.old) }
+    ensures limit { (limit : Limit) → result ≡ Err (ScanError.Limit limit) → PassesListing (M.observed mail.old).tree limit }
+    ensures asked { AsksNew (M.observed mail.old) (M.observed mail.new) shown.now.files (since given.old given.new) }
     ensures tree { (M.observed mail.new).tree ≡ (M.observed mail.old).tree }
     ensures cause { HasCauseOf is_scan_fault (M.observed mail.old).faults (M.observed mail.new).faults result }
 {
