@@ -7,4 +7,5 @@ pub mod EntryLemmas
 pub mod MailLemmas
 pub mod NamingLemmas
 pub mod NewLemmas
+pub mod NotedLemmas
 pub mod TaggingLemmas

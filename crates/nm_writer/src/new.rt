@@ -1,7 +1,7 @@
 //! The command `new`, for `nm_line` and `test_index`: it lists the mail folder, takes in what has come, batch by batch, and lets go
 //! what is gone.
 
-ghost use Rattle.std.specs.Prelude.{◌≡◌, ◌<◌, ◌≤◌, List, [], Err, IfOk, IfSome, None, length, map};
+ghost use Rattle.std.specs.Prelude.{◌≡◌, ◌<◌, ◌≤◌, ◌++◌, List, Err, IfOk, IfSome, None, length, map};
 ghost use Rattle.std.specs.Vec.Iter.{into_iter_items, into_iter_len};
 ghost use Rattle.nm_answer.specs.NewText.{listed_in};
 ghost use Rattle.nm_commit.specs.declared.change.Commit.{Commit};
@@ -13,7 +13,7 @@ ghost use Rattle.nm_index.specs.declared.base.Base.{Base};
 ghost use Rattle.nm_plan.specs.NameTags.{commit_of};
 ghost use Rattle.nm_plan.specs.Plan.{add_of, batch_commit, drop_of, message_ids};
 ghost use Rattle.nm_scan.specs.Scanning.{AsksNew};
-ghost use Rattle.nm_sync.specs.Listed.{HasListed};
+ghost use Rattle.nm_sync.specs.Noted.{since};
 ghost use Rattle.nm_sync.specs.Report.{report_with};
 ghost use Rattle.nm_writer.specs.Batch.{AreUnknown, BatchFits, IsAfterBatch, IsAfterBatches};
 ghost use Rattle.nm_writer.specs.Durable.{IsDurable};
@@ -63,21 +63,23 @@ impl Writer {
         given: &mut Many<Given>,
     ) -> Result<NewReport, WriteError>
         requires workers { (0 < workers) × (workers ≤ 16) }
-        requires fresh { given.old ≡ [] }
         requires stands { self.old.closed ≡ None → IfSome (D.observed disk.old).told (λ moments. StandsOnIndex moments.present self.old) }
+
+        // What was noted before stays in front. The other clauses speak of what was noted since.
+        ensures notes { given.new ≡ given.old ++ since given.old given.new }
 
         // All commits that are due are made, or by the error the first of them; the report is that of the index before and after.
         // Whatever the error, the commits of the batches before it stay.
-        ensures after { IsAfterNew (M.observed mail.old).tree given.new self.old (D.observed disk.new).faults result self.new }
+        ensures after { IsAfterNew (M.observed mail.old).tree (since given.old given.new) self.old (D.observed disk.new).faults result self.new }
 
         // After all went well over a tree that is told, the files are the listed ones that are mail, those that have come with the facts of
         // their bytes.
-        ensures mail { IfSome (M.observed mail.old).tree (λ tree. IfOk result (λ _. HoldsTheMail tree (listed_in given.new) self.old.shown.files self.new.shown.files)) }
+        ensures mail { IfSome (M.observed mail.old).tree (λ tree. IfOk result (λ _. HoldsTheMail tree (listed_in (since given.old given.new)) self.old.shown.files self.new.shown.files)) }
 
         // A writer that is closed says so, and no device is asked.
         ensures closed { IfSome self.old.closed (λ fault. (result ≡ Err (WriteError.Closed fault)) × (M.observed mail.new ≡ M.observed mail.old) × (D.observed disk.new ≡ D.observed disk.old)) }
 
-        ensures asks { AsksNew (M.observed mail.old) (M.observed mail.new) self.old.shown.files given.new }
+        ensures asks { AsksNew (M.observed mail.old) (M.observed mail.new) self.old.shown.files (since given.old given.new) }
         ensures tree { (M.observed mail.new).tree ≡ (M.observed mail.old).tree }
         ensures mail_cause { HasCauseOf is_read_fault (M.observed mail.old).faults (M.observed mail.new).faults result }
         ensures disk_cause { HasCauseOf is_write_fault (D.observed disk.old).faults (D.observed disk.new).faults result }
@@ -96,7 +98,7 @@ impl Writer {
         }
     }
 
-    /// Lists the folder, and takes in what it found.
+    /// Lists the folder, takes in what has come, lets go what is gone, and reports both.
     fn scan_and_take_in<R: Threads + Wait + Sync, M: Maildir, D: Disk, G: Gate + Sync>(
         &mut self,
         rt: &R,
@@ -108,10 +110,10 @@ impl Writer {
     ) -> Result<NewReport, WriteError>
         requires workers { (0 < workers) × (workers ≤ 16) }
         requires alive { self.old.closed ≡ None }
-        requires fresh { given.old ≡ [] }
         requires stands { IfSome (D.observed disk.old).told (λ moments. StandsOnIndex moments.present self.old) }
-        ensures after { IsAfterNew (M.observed mail.old).tree given.new self.old (D.observed disk.new).faults result self.new }
-        ensures asks { AsksNew (M.observed mail.old) (M.observed mail.new) self.old.shown.files given.new }
+        ensures notes { given.new ≡ given.old ++ since given.old given.new }
+        ensures after { IsAfterNew (M.observed mail.old).tree (since given.old given.new) self.old (D.observed disk.new).faults result self.new }
+        ensures asks { AsksNew (M.observed mail.old) (M.observed mail.new) self.old.shown.files (since given.old given.new) }
         ensures tree { (M.observed mail.new).tree ≡ (M.observed mail.old).tree }
         ensures mail_cause { HasCauseOf is_read_fault (M.observed mail.old).faults (M.observed mail.new).faults result }
         ensures disk_cause { HasCauseOf is_write_fault (D.observed disk.old).faults (D.observed disk.new).faults result }
@@ -119,38 +121,13 @@ impl Writer {
         ensures durable { (entry : ObservedDisk) (opening : Base) → IsDurable entry opening (D.observed disk.old) self.old
             → IsDurable entry opening (D.observed disk.new) self.new }
     {
-        match compare(self.alloc, self.snapshot(), mail, given) {
-            Ok(compared) => self.take_in(rt, mail, disk, workers, gate, compared, given),
-            Err(ScanError::MailFault) => Err(WriteError::MailFault),
-            Err(ScanError::Limit(limit)) => Err(WriteError::Limit(limit)),
-            Err(ScanError::NoMemory) => Err(WriteError::NoMemory),
-        }
-    }
-
-    /// Takes in what has come, lets go what is gone, and reports both.
-    fn take_in<R: Threads + Wait + Sync, M: Maildir, D: Disk, G: Gate + Sync>(
-        &mut self,
-        rt: &R,
-        mail: &mut M,
-        disk: &mut D,
-        workers: u32,
-        gate: &G,
-        compared: Compared,
-        given: &mut Many<Given>,
-    ) -> Result<NewReport, WriteError>
-        requires workers { (0 < workers) × (workers ≤ 16) }
-        requires alive { self.old.closed ≡ None }
-        requires listed { HasListed (M.observed mail.old).tree self.old.shown.files given.old compared }
-        requires stands { IfSome (D.observed disk.old).told (λ moments. StandsOnIndex moments.present self.old) }
-        ensures after { IsAfterNew (M.observed mail.old).tree given.new self.old (D.observed disk.new).faults result self.new }
-        ensures asks { AsksNew (M.observed mail.old) (M.observed mail.new) self.old.shown.files given.new }
-        ensures tree { (M.observed mail.new).tree ≡ (M.observed mail.old).tree }
-        ensures mail_cause { HasCauseOf is_read_fault (M.observed mail.old).faults (M.observed mail.new).faults result }
-        ensures disk_cause { HasCauseOf is_write_fault (D.observed disk.old).faults (D.observed disk.new).faults result }
-        ensures stands { self.new.closed ≡ None → IfSome (D.observed disk.new).told (λ moments. StandsOnIndex moments.present self.new) }
-        ensures durable { (entry : ObservedDisk) (opening : Base) → IsDurable entry opening (D.observed disk.old) self.old
-            → IsDurable entry opening (D.observed disk.new) self.new }
-    {
+        let given_before = given.len();
+        let compared = match compare(self.alloc, self.snapshot(), mail, given) {
+            Ok(compared) => compared,
+            Err(ScanError::MailFault) => return Err(WriteError::MailFault),
+            Err(ScanError::Limit(limit)) => return Err(WriteError::Limit(limit)),
+            Err(ScanError::NoMemory) => return Err(WriteError::NoMemory),
+        };
         new_commits_fit();
         batches_are_what_was_read();
         a_new_asks_what_it_notes();
@@ -168,7 +145,8 @@ impl Writer {
                     changes: went,
                     ids: gone_ids,
                 };
-                self.let_go(rt, disk, &before, gone, removed, given.as_slice())
+                let given = given.as_slice().split_at(given_before).1;
+                self.let_go(rt, disk, &before, gone, removed, given)
             },
             Err(error) => Err(error),
         }

@@ -12,6 +12,7 @@ ghost use Rattle.nm_plan.specs.Moving.{move_commit};
 ghost use Rattle.nm_plan.specs.Tagging.{commit_with};
 ghost use Rattle.nm_answer.specs.Tagging.{wanted_by};
 ghost use Rattle.nm_changes.specs.Wanting.{AreTouched};
+ghost use Rattle.nm_sync.specs.Noted.{since};
 ghost use Rattle.nm_sync.specs.Renamed.{AreTried, AsksRenames};
 ghost use Rattle.nm_writer.specs.Durable.{IsDurable};
 ghost use Rattle.nm_writer.specs.Tagged.{IsAfterRenames, IsAfterTags};
@@ -44,16 +45,15 @@ impl Writer {
         given: &mut Many<Given>,
     ) -> Result<SyncReport, WriteError>
         requires moment { IsMoment moment }
-        requires fresh { given.old ≡ [] }
         requires stands { self.old.closed ≡ None → IfSome (D.observed disk.old).told (λ moments. StandsOnIndex moments.present self.old) }
 
         // Both commits are made, or by the error the first of them; the report is of the renames that the tags ask for.
-        ensures after { IsAfterTags (wanted_by moment self.old.shown lines.now) given.new self.old (D.observed disk.new).faults result self.new }
+        ensures after { IsAfterTags (wanted_by moment self.old.shown lines.now) (since given.old given.new) self.old (D.observed disk.new).faults result self.new }
 
         // A writer that is closed says so, and no device is asked.
         ensures closed { IfSome self.old.closed (λ fault. (result ≡ Err (WriteError.Closed fault)) × (M.observed mail.new ≡ M.observed mail.old) × (D.observed disk.new ≡ D.observed disk.old)) }
 
-        // The folder is asked for the renames that are noted, and for nothing else.
+        // The folder is asked for the renames that are noted, after what was noted before, and for nothing else.
         ensures asks { AsksRenames (M.observed mail.old) (M.observed mail.new) given.old given.new }
         ensures mail_cause { HasCauseOf is_read_fault (M.observed mail.old).faults (M.observed mail.new).faults result }
 
@@ -83,9 +83,8 @@ impl Writer {
     ) -> Result<SyncReport, WriteError>
         requires moment { IsMoment moment }
         requires alive { self.old.closed ≡ None }
-        requires fresh { given.old ≡ [] }
         requires stands { IfSome (D.observed disk.old).told (λ moments. StandsOnIndex moments.present self.old) }
-        ensures after { IsAfterTags (wanted_by moment self.old.shown lines.now) given.new self.old (D.observed disk.new).faults result self.new }
+        ensures after { IsAfterTags (wanted_by moment self.old.shown lines.now) (since given.old given.new) self.old (D.observed disk.new).faults result self.new }
         ensures asks { AsksRenames (M.observed mail.old) (M.observed mail.new) given.old given.new }
         ensures mail_cause { HasCauseOf is_read_fault (M.observed mail.old).faults (M.observed mail.new).faults result }
         ensures disk_cause { Counts (is_some self.new.closed) (D.observed disk.old).faults (D.observed disk.new).faults }
@@ -111,9 +110,8 @@ impl Writer {
     ) -> Result<SyncReport, WriteError>
         requires alive { self.old.closed ≡ None }
         requires touched { AreTouched self.old.shown wanted.now.after wanted.now.ids }
-        requires fresh { given.old ≡ [] }
         requires stands { IfSome (D.observed disk.old).told (λ moments. StandsOnIndex moments.present self.old) }
-        ensures after { IsAfterTags wanted.now.after given.new self.old (D.observed disk.new).faults result self.new }
+        ensures after { IsAfterTags wanted.now.after (since given.old given.new) self.old (D.observed disk.new).faults result self.new }
         ensures asks { AsksRenames (M.observed mail.old) (M.observed mail.new) given.old given.new }
         ensures mail_cause { HasCauseOf is_read_fault (M.observed mail.old).faults (M.observed mail.new).faults result }
         ensures disk_cause { Counts (is_some self.new.closed) (D.observed disk.old).faults (D.observed disk.new).faults }
@@ -142,11 +140,10 @@ impl Writer {
         given: &mut Many<Given>,
     ) -> Result<SyncReport, WriteError>
         requires alive { self.old.closed ≡ None }
-        requires fresh { given.old ≡ [] }
         requires fit { (given : List Given) → AreTried self.old.shown.files plan given → FitInTurn self.old.shown (move_commit given) }
         requires stands { IfSome (D.observed disk.old).told (λ moments. StandsOnIndex moments.present self.old) }
-        ensures tried { AreTried self.old.shown.files plan given.new }
-        ensures after { IsAfterRenames self.old.shown.files plan given.new self.old (D.observed disk.new).faults result self.new }
+        ensures tried { AreTried self.old.shown.files plan (since given.old given.new) }
+        ensures after { IsAfterRenames self.old.shown.files plan (since given.old given.new) self.old (D.observed disk.new).faults result self.new }
         ensures asks { AsksRenames (M.observed mail.old) (M.observed mail.new) given.old given.new }
         ensures mail_cause { HasCauseOf is_read_fault (M.observed mail.old).faults (M.observed mail.new).faults result }
         ensures disk_cause { Counts (is_some self.new.closed) (D.observed disk.old).faults (D.observed disk.new).faults }

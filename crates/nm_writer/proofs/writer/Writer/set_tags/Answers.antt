@@ -1,4 +1,4 @@
-use Rattle.std.proofs.Common.{rules, ◌≡◌, List, Err, sym, ap, ◌∙◌, subst}
+use Rattle.std.proofs.Common.{rules, ◌≡◌, List, Err, refl, sym, ap, ◌∙◌, subst}
 use Rattle.nm_commit.specs.declared.change.Change.{Change}
 use Rattle.nm_index.specs.Fits.{FitInTurn}
 use Rattle.nm_index.specs.declared.base.Base.{Base}
@@ -6,10 +6,12 @@ use Rattle.nm_plan.specs.Apart.{AreApart}
 use Rattle.nm_answer.specs.Renaming.{renames_for}
 use Rattle.nm_plan.specs.Numbering.{AreNumbered}
 use Rattle.nm_plan.specs.Tagging.{commit_with, tag_changes, tag_commit}
+use Rattle.nm_sync.specs.Noted.{since}
 use Rattle.nm_writer.specs.Tagged.{IsAfterTags}
 use Rattle.nm_writer.specs.Writer.{WriterState}
 use Rattle.nm_writer.specs.Writing.{HasCommitted, IsAfterCommits}
 use Rattle.nm_writer.specs.declared.write_error.WriteError.TheVariants as errors
+use Rattle.nm_writer.proofs.NotedLemmas.{since-none}
 use Rattle.nm_writer.proofs.TaggingLemmas.{moves-fit, nothing-set, tags-refused, tags-then}
 use Rattle.nm_writer.proofs.writer.Writer.set_tags.Goals as goal
 
@@ -17,8 +19,8 @@ pub returns-in_err-planned-clause-after : goal.returns-in_err-planned-clause-aft
 returns-in_err-planned-clause-after g c =
     let faults = (g.D.Disk.observed c.args.disk.now).faults in
     let is : c.from_residual.result ≡ Err errors.NoMemory = search rules in
-    subst (λ result. IsAfterTags c.args.wanted.now.after c.args.given.now c.args.self.now faults result c.args.self.now) (sym is)
-    (nothing-set c.no_rename_is_noted_at_first.ensures c.args.self.now c.args.wanted.now.after c.args.given.now faults c.requires.fresh)
+    subst (λ result. IsAfterTags c.args.wanted.now.after (since c.args.given.now c.args.given.now) c.args.self.now faults result c.args.self.now) (sym is)
+    (nothing-set c.no_rename_is_noted_at_first.ensures c.args.self.now c.args.wanted.now.after (since c.args.given.now c.args.given.now) faults (since-none c.args.given.now c.args.given.now refl))
 
 pub commit_changes-requires-clause-fit : goal.commit_changes-requires-clause-fit
 commit_changes-requires-clause-fit g c =
@@ -47,7 +49,7 @@ returns-in-Ok-clause-after g c =
     let changes : c.in_ok-planned.planned.changes ≡ tag_changes old.shown wanted = subst (λ (b : Base). c.in_ok-planned.planned.changes ≡ tag_changes b wanted) c.snapshot.ensures c.in_ok-planned.ensures.changes in
     let are : c.in_ok-planned.planned.renames ≡ renames_for old.shown wanted = subst (λ (b : Base). c.in_ok-planned.planned.renames ≡ renames_for b wanted) c.snapshot.ensures c.in_ok-planned.ensures.renames in
     let made : HasCommitted old (tag_commit old.shown wanted) mid = subst (λ (l : List Change). HasCommitted old (commit_with l) mid) changes c.in-Ok.ensures.after in
-    tags-then old mid c.rename_files.new.self wanted c.rename_files.new.given (g.D.Disk.observed c.rename_files.new.disk).faults made c.in_ok-planned.planned.renames c.rename_files.result are
+    tags-then old mid c.rename_files.new.self wanted (since c.args.given.now c.rename_files.new.given) (g.D.Disk.observed c.rename_files.new.disk).faults made c.in_ok-planned.planned.renames c.rename_files.result are
     (ap (λ (b : Base). b.files) made.shown ∙ c.the_commit_of_tags_leaves_what_is_wanted.ensures.files old.shown wanted) c.rename_files.ensures.tried c.rename_files.ensures.after
 
 pub returns-in-Err-clause-after : goal.returns-in-Err-clause-after
@@ -56,5 +58,5 @@ returns-in-Err-clause-after g c =
     let old = c.args.self.now in
     let faults = (g.D.Disk.observed c.commit_changes.new.disk).faults in
     let changes : c.in_ok-planned.planned.changes ≡ tag_changes old.shown wanted = subst (λ (b : Base). c.in_ok-planned.planned.changes ≡ tag_changes b wanted) c.snapshot.ensures c.in_ok-planned.ensures.changes in
-    tags-refused c.no_rename_is_noted_at_first.ensures old c.commit_changes.new.self wanted c.args.given.now faults c.in-Err.error c.requires.fresh
+    tags-refused c.no_rename_is_noted_at_first.ensures old c.commit_changes.new.self wanted (since c.args.given.now c.args.given.now) faults c.in-Err.error (since-none c.args.given.now c.args.given.now refl)
     (subst (λ (l : List Change). IsAfterCommits {T = Unit {0}} old (commit_with l) faults (Err c.in-Err.error) c.commit_changes.new.self) changes c.in-Err.ensures.after)

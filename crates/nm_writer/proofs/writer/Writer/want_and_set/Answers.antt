@@ -1,7 +1,9 @@
-use Rattle.std.proofs.Common.{rules, ◌≡◌, Err, sym, subst}
+use Rattle.std.proofs.Common.{rules, ◌≡◌, Err, refl, sym, subst}
 use Rattle.nm_answer.specs.Tagging.{wanted_by}
+use Rattle.nm_sync.specs.Noted.{since}
 use Rattle.nm_writer.specs.Tagged.{IsAfterTags}
 use Rattle.nm_writer.specs.declared.write_error.WriteError.TheVariants as errors
+use Rattle.nm_writer.proofs.NotedLemmas.{since-none}
 use Rattle.nm_writer.proofs.TaggingLemmas.{nothing-set}
 use Rattle.nm_writer.proofs.writer.Writer.want_and_set.Goals as goal
 
@@ -10,4 +12,4 @@ returns-in-Err-clause-after g c =
     let faults = (g.D.Disk.observed c.args.disk.now).faults in
     let wanted = wanted_by c.args.moment c.args.self.now.shown c.args.lines.now in
     let is : c.into.result ≡ errors.NoMemory = search rules in
-    subst (λ error. IsAfterTags wanted c.args.given.now c.args.self.now faults (Err error) c.args.self.now) (sym is) (nothing-set c.no_rename_is_noted_at_first.ensures c.args.self.now wanted c.args.given.now faults c.requires.fresh)
+    subst (λ error. IsAfterTags wanted (since c.args.given.now c.args.given.now) c.args.self.now faults (Err error) c.args.self.now) (sym is) (nothing-set c.no_rename_is_noted_at_first.ensures c.args.self.now wanted (since c.args.given.now c.args.given.now) faults (since-none c.args.given.now c.args.given.now refl))
