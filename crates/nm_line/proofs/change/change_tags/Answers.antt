@@ -14,6 +14,7 @@ use Rattle.nm_line.specs.Line.{place_at}
 use Rattle.nm_line.proofs.AnswerLemmas.{failed-ends}
 use Rattle.nm_line.proofs.ChangeLemmas.{write-refused}
 use Rattle.nm_line.proofs.TagLemmas.{asks-as, tag-answered, tag-ends, tag-unasked}
+use Rattle.nm_sync.specs.Noted.{since}
 use Rattle.nm_sync.specs.Renamed.{AsksRenames}
 use Rattle.nm_writer.specs.Tagged.{IsAfterTags}
 use Rattle.nm_line.proofs.change.change_tags.Goals as goal
@@ -39,7 +40,8 @@ returns-in-Ok-clause-ends g c = λ left line is asked.
     let second : to_z w64 (of_z w64 moment) ≡ moment = search rules in
     let fits : HasTried index (wanted_for request line.input moment index) noted → FitInTurn index (tag_commits index (wanted_for request line.input moment index) noted) = λ tried. c.tag_commits_fit.ensures index (wanted_for request line.input moment index) noted c.shows_an_ordered_index.ensures.numbered c.shows_an_ordered_index.ensures.apart tried in
     let after = subst (λ (wanted : Base). IsAfterTags wanted noted c.args.desk.now.writer.now (g.D.Disk.observed c.tag.new.disk).faults (Ok c.in-Ok.report) c.tag.new.self)
-    (wanted-is request line.input c.args.changes.lines _ moment index second asked.lines) h.after in
+    (wanted-is request line.input c.args.changes.lines _ moment index second asked.lines)
+    (subst (λ (l : List Given). IsAfterTags (wanted_by (to_z w64 (of_z w64 moment)) index c.args.changes.lines) (since l noted) c.args.desk.now.writer.now (g.D.Disk.observed c.tag.new.disk).faults (Ok c.in-Ok.report) c.tag.new.self) c.requires.fresh h.after) in
     let unasked = tag-unasked _ request asked.tags line.input c.args.desk.now.writer.now.closed (wanted_for request line.input moment index) noted c.args.desk.now.writer.now c.tag.new.self (g.D.Disk.observed c.tag.new.disk).faults (Ok c.in-Ok.report)
     (g.M.Maildir.observed c.args.desk.now.mail.now) (g.M.Maildir.observed c.tag.new.mail) asked.right after h.closed in
     tag-ends moment old new line noted request asked.tags is refl asked.right asks unasked fits c.in-Ok.report c.args.changes.strangers c.reply_change.result
@@ -59,7 +61,8 @@ returns-in-Err-clause-ends g c = λ left line is asked.
     let second : to_z w64 (of_z w64 moment) ≡ moment = search rules in
     let fits : HasTried index (wanted_for request line.input moment index) noted → FitInTurn index (tag_commits index (wanted_for request line.input moment index) noted) = λ tried. c.tag_commits_fit.ensures index (wanted_for request line.input moment index) noted c.shows_an_ordered_index.ensures.numbered c.shows_an_ordered_index.ensures.apart tried in
     let after = subst (λ (wanted : Base). IsAfterTags wanted noted c.args.desk.now.writer.now (g.D.Disk.observed c.tag.new.disk).faults (Err c.in-Err.error) c.tag.new.self)
-    (wanted-is request line.input c.args.changes.lines _ moment index second asked.lines) h.after in
+    (wanted-is request line.input c.args.changes.lines _ moment index second asked.lines)
+    (subst (λ (l : List Given). IsAfterTags (wanted_by (to_z w64 (of_z w64 moment)) index c.args.changes.lines) (since l noted) c.args.desk.now.writer.now (g.D.Disk.observed c.tag.new.disk).faults (Err c.in-Err.error) c.tag.new.self) c.requires.fresh h.after) in
     let unasked = tag-unasked _ request asked.tags line.input c.args.desk.now.writer.now.closed (wanted_for request line.input moment index) noted c.args.desk.now.writer.now c.tag.new.self (g.D.Disk.observed c.tag.new.disk).faults (Err c.in-Err.error)
     (g.M.Maildir.observed c.args.desk.now.mail.now) (g.M.Maildir.observed c.tag.new.mail) asked.right after h.closed in
     write-refused moment old new line noted c.in-Err.error c.refuse_write.result
