@@ -1,6 +1,6 @@
 -- How a line ends that asks no device: it finds no memory, its words are outside the grammar, its texts are refused, or it only reads the index.
--- For the proofs of `answer`, `run_show`, `change_tags` and others.
-use Rattle.std.proofs.Common.{◌≡◌, ◌&&◌, ◌⊎◌, inl, inr, ℕ, ℤ, ◌+◌, Bool, true, false, not, List, [], Option, None, Some, IfOk, is_some, Result, Ok, Err, fold, length, map, refl, sym, ap, ◌∙◌, subst, append-nil, arith}
+-- For the proofs of `answer`, `change_tags`, `run_restore` and others.
+use Rattle.std.proofs.Common.{◌≡◌, ◌&&◌, inl, ℕ, ℤ, ◌+◌, Bool, true, false, not, List, [], Option, None, Some, IfOk, is_some, Result, Ok, Err, fold, length, map, refl, sym, ap, ◌∙◌, subst, append-nil, arith}
 use Rattle.std.specs.Option.{option_map, option_to_list}
 use Rattle.std.specs.Result.{IsErr}
 use Rattle.nm_answer.specs.Answer.{answer}
@@ -10,7 +10,7 @@ use Rattle.nm_answer.specs.declared.request.Request.TheVariants as requests
 use Rattle.nm_base.specs.declared.memory.NoMemory.{NoMemory}
 use Rattle.nm_base.specs.declared.refusals.UsageKind.{UsageKind}
 use Rattle.nm_history.specs.Given.{AsksBy, AsksMail, AsksShow}
-use Rattle.nm_history.specs.LineAnswers.{HasCause, NoneFailed, line_text}
+use Rattle.nm_history.specs.LineAnswers.{HasCause, NoneFailed, line_text, refused_look}
 use Rattle.nm_commit.specs.declared.change.Commit.{Commit}
 use Rattle.nm_history.specs.LineCommits.{FindsBy, FindsFor, Makes}
 use Rattle.nm_history.specs.LineResult.{HasMade, Place, before_at, said_of}
@@ -34,8 +34,12 @@ use Rattle.nm_query.specs.declared.query.Query.{Query}
 use Rattle.nm_query.specs.declared.query_error.QueryError.{QueryError}
 use Rattle.nm_query.specs.declared.query_error.QueryError.TheVariants as query_errors
 use Rattle.nm_scan.specs.Bodies.{left_after}
-use Rattle.nm_line.specs.Line.{Ends, IsLineAnswer, IsReadOff, IsSaid, newly_closed, refused_or, refused_with, replied_with}
+use Rattle.nm_line.specs.Line.{Ends, IsLineAnswer, IsReadOff, IsSaid, newly_closed, refused_with, replied_with}
+use Rattle.nm_line.specs.Prepared.{IsPrepared, reading_request}
 use Rattle.nm_line.specs.declared.line_answer.LineAnswer.{LineAnswer}
+use Rattle.nm_line.specs.declared.prepared.Prepared.TheVariants as ready
+use Rattle.nm_line.specs.declared.prepared.Reading.{Reading}
+use Rattle.nm_line.specs.declared.prepared.Reading.TheVariants as readings
 use Rattle.nm_log.specs.declared.log.Said.{Said}
 use Rattle.nm_tags.specs.declared.line_error.LineKind.{LineKind}
 use Rattle.nm_sync.specs.Renamed.{TreesAlong}
@@ -210,16 +214,14 @@ replied-said moment old new line noted request text is said = record {
 
 -- words outside the grammar
 
-pub usage-ends : (moment : ℤ) (place : Place) (line : ScriptLine) (noted : List Given) (word : List ℕ) (kind : UsageKind) (result : Result LineAnswer NoMemory) → noted ≡ [] → parse_line line ≡ asked.Usage word kind
-    → IfOk result (λ done. done ≡ refused_with (outcomes.Usage word kind)) → Ends moment place line noted result (stays-at place noted)
-usage-ends moment place line noted word kind (Err error) none is said = found-no-memory moment place line noted none
-usage-ends moment place line noted word kind (Ok done) none is said =
-    let outcome : Outcome = outcomes.Usage word kind in
-    subst (λ (l : List Given). Ends moment place line l (Ok done) (stays-at place l)) (sym none) (subst (λ (d : LineAnswer). Ends moment place line [] (Ok d) (stays-at place [])) (sym said) (
+usage-refused : (moment : ℤ) (place : Place) (line : ScriptLine) (word : List ℕ) (kind : UsageKind) → parse_line line ≡ asked.Usage word kind
+    → Ends moment place line [] (Ok (refused_with (outcomes.Usage word kind))) (stays-at place [])
+usage-refused moment place line word kind is =
+    let outcome : Outcome = outcomes.Usage word kind in (
       idle moment place line outcome (record { made_are = refl; in_flight_is = refl }) (asks-early outcome (parse_line line) place.writer.shown moment place.left place.mail refl)
           (subst (λ (p : ParsedLine). HasCause outcome p line.input (before_at place) place.writer.shown moment [] place.mail.faults false) (sym is) (refl, none-failed place)),
       refused-said moment place (stays-at place []) line [] outcome refl,
-    ))
+    )
 
 -- the texts of a request
 
@@ -259,7 +261,7 @@ of-lines : (bad : Option (ℕ × LineKind)) (own : Option (List ℕ)) (outcome :
 of-lines None own outcome e = of-own own outcome e
 of-lines (Some bad) own outcome e = same-outcome (outcomes.BadLine bad.0 bad.1) outcome e refl
 
-pub text-refuses : (request : Request) (input : List ℕ) (outcome : Outcome) → refused_text_of request input ≡ Some outcome → is_of_text outcome ≡ true
+text-refuses : (request : Request) (input : List ℕ) (outcome : Outcome) → refused_text_of request input ≡ Some outcome → is_of_text outcome ≡ true
 text-refuses request input outcome e = of-lines (first_bad_line request input) (own_query request) outcome e
 
 module _ (moment : ℤ) (place : Place) (line : ScriptLine) (request : Request) (is : parse_line line ≡ asked.Request request) where
@@ -294,28 +296,23 @@ module _ (moment : ℤ) (place : Place) (line : ScriptLine) (request : Request) 
       early (outcomes.Limit limit) refl refl (inl (refl, inl (refl, refused-as _ None e)), refl) (inl (refused-as _ place.writer.closed e), none-failed place)
   text-refused outcomes.NoMemory of e = early outcomes.NoMemory refl refl (inl (refl, inl refl), refl) refl
 
-  pub refused-ends : (outcome : Outcome) → refused_text_of request line.input ≡ Some outcome → Ends moment place line [] (Ok (refused_with outcome)) (stays-at place [])
+  refused-ends : (outcome : Outcome) → refused_text_of request line.input ≡ Some outcome → Ends moment place line [] (Ok (refused_with outcome)) (stays-at place [])
   refused-ends outcome e = text-refused outcome (text-refuses request line.input outcome e) e
 
--- the same, where nothing is noted
-pub refused-ends-at : (moment : ℤ) (place : Place) (line : ScriptLine) (noted : List Given) (request : Request) (outcome : Outcome) (result : Result LineAnswer NoMemory) → noted ≡ [] → parse_line line ≡ asked.Request request
-    → refused_text_of request line.input ≡ Some outcome → IfOk result (λ done. done ≡ refused_with outcome) → Ends moment place line noted result (stays-at place noted)
-refused-ends-at moment place line noted request outcome (Err error) none is e said = found-no-memory moment place line noted none
-refused-ends-at moment place line noted request outcome (Ok done) none is e said =
-    subst (λ (l : List Given). Ends moment place line l (Ok done) (stays-at place l)) (sym none)
-    (subst (λ (d : LineAnswer). Ends moment place line [] (Ok d) (stays-at place [])) (sym said) (refused-ends moment place line request is outcome e))
+-- the words of a line are refused, or its texts
+look-refused : (moment : ℤ) (place : Place) (line : ScriptLine) (parsed : ParsedLine) (outcome : Outcome) → parse_line line ≡ parsed → refused_look parsed line.input ≡ Some outcome
+    → Ends moment place line [] (Ok (refused_with outcome)) (stays-at place [])
+look-refused moment place line (asked.Usage word kind) outcome is e =
+    let same : outcomes.Usage word kind ≡ outcome = cc in
+    subst (λ (o : Outcome). Ends moment place line [] (Ok (refused_with o)) (stays-at place [])) same (usage-refused moment place line word kind is)
+look-refused moment place line (asked.Request request) outcome is e = refused-ends moment place line request is outcome e
 
--- the query of a request is refused
-pub query-refused-ends : (moment : ℤ) (place : Place) (line : ScriptLine) (noted : List Given) (request : Request) (error : QueryError) (text : List ℕ) (result : Result LineAnswer NoMemory) → noted ≡ [] → parse_line line ≡ asked.Request request
-    → first_bad_line request line.input ≡ None → own_query request ≡ Some text → (error ≡ query_errors.NoMemory) ⊎ (answer_of text ≡ Err error) → IfOk result (λ _. error ≡ query_errors.NoMemory → ⊥)
-    → IfOk result (λ done. done ≡ refused_with (query_outcome error)) → Ends moment place line noted result (stays-at place noted)
-query-refused-ends moment place line noted request error text (Err wanted) none is lines own said some done = found-no-memory moment place line noted none
-query-refused-ends moment place line noted request error text (Ok answered) none is lines own (inl out) some done = absurd (some out)
-query-refused-ends moment place line noted request error text (Ok answered) none is lines own (inr refused) some done =
-    let e : refused_text_of request line.input ≡ Some (query_outcome error) =
-    ap (λ (b : Option (ℕ × LineKind)). first_refusal (refused_line b) (refused_query (own_query request))) lines
-    ∙ (ap refused_query own ∙ ap refused_text refused) in
-    refused-ends-at moment place line noted request (query_outcome error) (Ok answered) none is e done
+pub refused-ends-at : (moment : ℤ) (place : Place) (line : ScriptLine) (noted : List Given) (outcome : Outcome) (result : Result LineAnswer NoMemory) → noted ≡ []
+    → refused_look (parse_line line) line.input ≡ Some outcome → IfOk result (λ done. done ≡ refused_with outcome) → Ends moment place line noted result (stays-at place noted)
+refused-ends-at moment place line noted outcome (Err error) none e said = found-no-memory moment place line noted none
+refused-ends-at moment place line noted outcome (Ok done) none e said =
+    subst (λ (l : List Given). Ends moment place line l (Ok done) (stays-at place l)) (sym none)
+    (subst (λ (d : LineAnswer). Ends moment place line [] (Ok d) (stays-at place [])) (sym said) (look-refused moment place line (parse_line line) outcome refl e))
 
 -- a request that asks no device
 
@@ -380,15 +377,18 @@ module _ (moment : ℤ) (place : Place) (line : ScriptLine) (request : Request) 
     replied-said moment place (stays-at place []) line [] request (answer request line.input place.writer.shown place.writer.shown moment []) is refl,
   )
 
-  read-by : (refused : Option Outcome) → refused_text_of request line.input ≡ refused
-      → Ends moment place line [] (Ok (refused_or request (answer request line.input place.writer.shown place.writer.shown moment []) refused)) (stays-at place [])
-  read-by None e = read-well e
-  read-by (Some outcome) e = refused-ends moment place line request is outcome e
+-- what is read off the index is no request that asks a device
+quiet-reading : (reading : Reading) → is_asking (reading_request reading) ≡ false
+quiet-reading (readings.Count ask query) = refl
+quiet-reading (readings.Counts ask texts) = refl
+quiet-reading (readings.Search ask query) = refl
+quiet-reading (readings.Dump ask query) = refl
 
-pub reading-ends : (moment : ℤ) (place : Place) (line : ScriptLine) (noted : List Given) (request : Request) (shown : Base) (result : Result LineAnswer NoMemory) → noted ≡ [] → parse_line line ≡ asked.Request request
-    → is_asking request ≡ false → shown ≡ place.writer.shown → IfOk result (IsReadOff moment shown request line.input) → Ends moment place line noted result (stays-at place noted)
-reading-ends moment place line noted request shown (Err error) none is quiet same said = found-no-memory moment place line noted none
-reading-ends moment place line noted request shown (Ok done) none is quiet same said =
-    let done_is : IsReadOff moment place.writer.shown request line.input done = subst (λ (b : Base). IsReadOff moment b request line.input done) same said in
+pub reading-ends : (moment : ℤ) (place : Place) (line : ScriptLine) (noted : List Given) (reading : Reading) (shown : Base) (result : Result LineAnswer NoMemory) → noted ≡ []
+    → IsPrepared (parse_line line) line.input (ready.Read reading) → shown ≡ place.writer.shown → IfOk result (IsReadOff moment shown reading) → Ends moment place line noted result (stays-at place noted)
+reading-ends moment place line noted reading shown (Err error) none h same said = found-no-memory moment place line noted none
+reading-ends moment place line noted reading shown (Ok done) none h same said =
+    let read : IsReadOff moment place.writer.shown reading done = subst (λ (b : Base). IsReadOff moment b reading done) same said in
     subst (λ (l : List Given). Ends moment place line l (Ok done) (stays-at place l)) (sym none)
-    (subst (λ (d : LineAnswer). Ends moment place line [] (Ok d) (stays-at place [])) (sym done_is) (read-by moment place line request is quiet (refused_text_of request line.input) refl))
+    (subst (λ (d : LineAnswer). Ends moment place line [] (Ok d) (stays-at place [])) (sym (read line.input h.made)) (
+    read-well moment place line (reading_request reading) h.asks (quiet-reading reading) (subst (λ (p : ParsedLine). refused_look p line.input ≡ None) h.asks h.sound)))

@@ -2,5 +2,6 @@ pub mod AnswerLemmas
 pub mod ChangeLemmas
 pub mod LookLemmas
 pub mod NewLemmas
+pub mod ReadingLemmas
 pub mod ShowLemmas
 pub mod TagLemmas

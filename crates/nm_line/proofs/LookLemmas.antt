@@ -1,16 +1,18 @@
 -- What a line of another lane is answered, and what that says. For the proofs of `look` and of the law of its answers.
-use Rattle.std.proofs.Common.{◌≡◌, inl, ℕ, ℤ, List, [], Option, None, Some, Result, Ok, Err, IfOk, false, refl, sym, ap, subst}
+use Rattle.std.proofs.Common.{◌≡◌, inl, ℕ, ℤ, List, [], Option, None, Some, Result, Ok, Err, IfOk, false, refl, sym, ap, ◌∙◌, subst}
 use Rattle.nm_answer.specs.Answer.{answer}
 use Rattle.nm_answer.specs.declared.request.Request.{Request}
 use Rattle.nm_base.specs.declared.memory.NoMemory.{NoMemory}
-use Rattle.nm_base.specs.declared.refusals.UsageKind.{UsageKind}
-use Rattle.nm_history.specs.LineAnswers.{ends_by}
+use Rattle.nm_history.specs.LineAnswers.{ends_by, refused_look}
 use Rattle.nm_history.specs.Requests.{first_bad_line, first_refusal, own_query, refused_line, refused_query, refused_text, refused_text_of}
 use Rattle.nm_index.specs.declared.base.Base.{Base}
 use Rattle.nm_lanes.specs.declared.script.ScriptLine.{ScriptLine}
-use Rattle.nm_line.specs.Line.{IsReadOff, refused_or, refused_with}
-use Rattle.nm_line.specs.Look.{IsAnswerOn, IsSaidOn, looked}
+use Rattle.nm_line.specs.Line.{IsReadOff, refused_with}
+use Rattle.nm_line.specs.Look.{IsAnswerOn, IsSaidOn, looked, refused_or}
+use Rattle.nm_line.specs.Prepared.{IsPrepared, reading_request}
 use Rattle.nm_line.specs.declared.line_answer.LineAnswer.{LineAnswer}
+use Rattle.nm_line.specs.declared.prepared.Prepared.TheVariants as ready
+use Rattle.nm_line.specs.declared.prepared.Reading.{Reading}
 use Rattle.nm_line.proofs.AnswerLemmas.{refusal-said, refusal-unreplied}
 use Rattle.nm_log.specs.ParsedLine.{parse_line}
 use Rattle.nm_log.specs.Replies.{is_well, refusal_line}
@@ -58,28 +60,22 @@ pub said-looked : (moment : ℤ) (index : Base) (line : ParsedLine) (input : Lis
 said-looked moment index (asked.Usage word kind) input = record { cause = inl refl; text = refl; reply = λ lane revision. refl }
 said-looked moment index (asked.Request request) input = said-or moment index request input (refused_text_of request input) refl
 
--- how its words, or what it asks for, answer it
+-- a line that is refused, or read off the index
 
-by-words : (moment : ℤ) (index : Base) (parsed : ParsedLine) (input word : List ℕ) (kind : UsageKind) (done : LineAnswer) → parsed ≡ asked.Usage word kind → done ≡ refused_with (outcomes.Usage word kind)
-    → done ≡ looked moment index parsed input
-by-words moment index parsed input word kind done is refuses = subst (λ (p : ParsedLine). done ≡ looked moment index p input) (sym is) refuses
+by-refusal : (moment : ℤ) (index : Base) (parsed : ParsedLine) (input : List ℕ) (outcome : Outcome) → refused_look parsed input ≡ Some outcome → refused_with outcome ≡ looked moment index parsed input
+by-refusal moment index (asked.Usage word kind) input outcome e = let same : outcomes.Usage word kind ≡ outcome = cc in ap refused_with (sym same)
+by-refusal moment index (asked.Request request) input outcome e = ap (refused_or request (answer request input index index moment [])) (sym e)
 
-by-request : (moment : ℤ) (index : Base) (parsed : ParsedLine) (input : List ℕ) (request : Request) (done : LineAnswer) → parsed ≡ asked.Request request → IsReadOff moment index request input done
-    → done ≡ looked moment index parsed input
-by-request moment index parsed input request done is read = subst (λ (p : ParsedLine). done ≡ looked moment index p input) (sym is) read
+pub refused-looked : (moment : ℤ) (index : Base) (line : ScriptLine) (outcome : Outcome) (result : Result LineAnswer NoMemory) → refused_look (parse_line line) line.input ≡ Some outcome
+    → IfOk result (λ done. done ≡ refused_with outcome) → IsAnswerOn moment index line result
+refused-looked moment index line outcome (Ok done) e said = said ∙ by-refusal moment index (parse_line line) line.input outcome e
+refused-looked moment index line outcome (Err error) e said = tt
 
-pub usage-looked : (moment : ℤ) (index : Base) (line : ScriptLine) (word : List ℕ) (kind : UsageKind) (result : Result LineAnswer NoMemory) → parse_line line ≡ asked.Usage word kind
-    → IfOk result (λ done. done ≡ refused_with (outcomes.Usage word kind)) → IsAnswerOn moment index line result
-usage-looked moment index line word kind (Ok done) is refuses = by-words moment index (parse_line line) line.input word kind done is refuses
-usage-looked moment index line word kind (Err error) is refuses = tt
-
-pub request-looked : (moment : ℤ) (index : Base) (line : ScriptLine) (request : Request) (result : Result LineAnswer NoMemory) → parse_line line ≡ asked.Request request
-    → IfOk result (IsReadOff moment index request line.input) → IsAnswerOn moment index line result
-request-looked moment index line request (Ok done) is read = by-request moment index (parse_line line) line.input request done is read
-request-looked moment index line request (Err error) is read = tt
-
--- what is asked for by another name
-pub read-as : (moment : ℤ) (index : Base) (request asks : Request) (input : List ℕ) (result : Result LineAnswer NoMemory) → request ≡ asks
-    → IfOk result (λ done. (other : List ℕ) → IsReadOff moment index asks other done) → IfOk result (IsReadOff moment index request input)
-read-as moment index request asks input (Ok done) is read = subst (λ (r : Request). IsReadOff moment index r input done) (sym is) (read input)
-read-as moment index request asks input (Err error) is read = tt
+pub reading-looked : (moment : ℤ) (index : Base) (line : ScriptLine) (reading : Reading) (result : Result LineAnswer NoMemory) → IsPrepared (parse_line line) line.input (ready.Read reading)
+    → IfOk result (IsReadOff moment index reading) → IsAnswerOn moment index line result
+reading-looked moment index line reading (Err error) h read = tt
+reading-looked moment index line reading (Ok done) h read =
+    let request = reading_request reading in
+    let sound : refused_text_of request line.input ≡ None = subst (λ (p : ParsedLine). refused_look p line.input ≡ None) h.asks h.sound in
+    subst (λ (p : ParsedLine). done ≡ looked moment index p line.input) (sym h.asks)
+    (read line.input h.made ∙ ap (refused_or request (answer request line.input index index moment [])) (sym sound))

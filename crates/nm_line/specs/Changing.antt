@@ -1,15 +1,9 @@
 -- What a line that changes the index has at hand before it does. Cited by `tag`, `restore`, `change` and `fault_texts`.
-use Rattle.std.specs.Prelude.{◌≡◌, ℕ, true, List, None, Some, Result, Ok, Err}
+use Rattle.std.specs.Prelude.{◌≡◌, ℕ, true, List, None}
 use Rattle.nm_answer.specs.Changes.{strangers_for, taggings_for}
-use Rattle.nm_answer.specs.Tag.{taggings_of}
-use Rattle.nm_answer.specs.declared.request.Request.TheVariants.{Restore, Tag}
-use Rattle.nm_answer.specs.declared.tagging.Tagging.{Tagging}
-use Rattle.nm_base.specs.declared.asks.RestoreAsk.{RestoreAsk}
-use Rattle.nm_base.specs.declared.asks.TagAsk.{TagAsk}
 use Rattle.nm_history.specs.Requests.{is_tagging, refused_text_of}
 use Rattle.nm_index.specs.declared.base.Base.{Base}
 use Rattle.nm_log.specs.Replies.{refusal_line}
-use Rattle.nm_log.specs.declared.outcome.Outcome.{Outcome}
 use Rattle.nm_log.specs.declared.outcome.Outcome.TheVariants.{DiskFault, MailFault}
 use Rattle.nm_line.specs.declared.change.Changes.{Changes}
 use Rattle.nm_line.specs.declared.fault_texts.FaultTexts.{FaultTexts}
@@ -19,19 +13,9 @@ pub record AreFaultTexts (texts : FaultTexts) : Type 0 where
   pub mail : texts.mail ≡ refusal_line MailFault
   pub disk : texts.disk ≡ refusal_line DiskFault
 
--- the lines of a `tag` were read, or it is refused so for them
-abbrev pub ReadsLines : TagAsk → List ℕ → Result (List Tagging) Outcome → Type 0
-ReadsLines ask input (Ok lines) = (refused_text_of (Tag ask) input ≡ None) × (lines ≡ taggings_of ask input)
-ReadsLines ask input (Err outcome) = refused_text_of (Tag ask) input ≡ Some outcome
-
 -- these are what a request asks for that sets tags, where its input is of its form
 pub record AreAsked (changes : Changes) (input : List ℕ) (index : Base) : Type 0 where
   pub tags : is_tagging changes.request ≡ true
   pub right : refused_text_of changes.request input ≡ None
   pub lines : changes.lines ≡ taggings_for changes.request input
   pub strangers : changes.strangers ≡ strangers_for changes.request input index
-
--- the lines of a dump were read, or it is refused so for them
-abbrev pub ReadsRestore : RestoreAsk → List ℕ → Base → Result Changes Outcome → Type 0
-ReadsRestore ask input index (Ok changes) = (changes.request ≡ Restore ask) × AreAsked changes input index
-ReadsRestore ask input index (Err outcome) = refused_text_of (Restore ask) input ≡ Some outcome

@@ -3,4 +3,5 @@ pub mod Desk
 pub mod Line
 pub mod Look
 pub mod Outcomes
+pub mod Prepared
 pub mod Showing

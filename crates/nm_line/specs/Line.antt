@@ -1,5 +1,5 @@
 -- How one line of lane 0 ends: what it made, why, and what it says. Cited by `lane_zero`, the files of the commands, and `nm_session`.
-use Rattle.std.specs.Prelude.{◌≡◌, ◌&&◌, ℕ, ℤ, Bool, ◌+◌, ◌≤◌, List, [], IsSome, is_some, length, map, not, Option, None, Some, Result, Ok, Err}
+use Rattle.std.specs.Prelude.{◌≡◌, ◌&&◌, ℕ, ℤ, Bool, ◌+◌, ◌≤◌, List, [], IsSome, is_some, length, map, not, None, Some, Result, Ok, Err}
 use Rattle.std.specs.Option.{option_to_list}
 use Rattle.nm_answer.specs.Answer.{answer}
 use Rattle.nm_answer.specs.declared.request.Request.{Request}
@@ -13,10 +13,12 @@ use Rattle.nm_history.specs.LineCommits.{IsOnItsWay, Makes}
 use Rattle.nm_history.specs.LineResult.{HasMade, Place, before_at, said_of}
 use Rattle.nm_history.specs.Lines.{closed_after, tree_after_line}
 use Rattle.nm_history.specs.MachineRun.{replied_where}
-use Rattle.nm_history.specs.Requests.{refused_text_of, refused_unasked}
+use Rattle.nm_history.specs.Requests.{refused_unasked}
 use Rattle.nm_index.specs.declared.base.Base.{Base}
 use Rattle.nm_lanes.specs.declared.script.ScriptLine.{ScriptLine}
+use Rattle.nm_line.specs.Prepared.{IsReadingOf, reading_request}
 use Rattle.nm_line.specs.declared.line_answer.LineAnswer.{LineAnswer}
+use Rattle.nm_line.specs.declared.prepared.Reading.{Reading}
 use Rattle.nm_log.specs.ParsedLine.{parse_line}
 use Rattle.nm_log.specs.Replies.{refusal_line}
 use Rattle.nm_log.specs.declared.outcome.Outcome.{Outcome}
@@ -74,11 +76,7 @@ replied_with request text = record { outcome = outcomes.Ok; text = text; reply =
 abbrev pub refused_with : Outcome → LineAnswer
 refused_with outcome = record { outcome = outcome; text = refusal_line outcome; reply = None }
 
--- the refusal of its query, if there is one, or else the text
-abbrev pub refused_or : Request → List ℕ → Option Outcome → LineAnswer
-refused_or request text None = replied_with request text
-refused_or request text (Some outcome) = refused_with outcome
-
--- what a request is answered that asks no device, by its input, on this index
-abbrev pub IsReadOff : ℤ → Base → Request → List ℕ → LineAnswer → Type 0
-IsReadOff moment index request input done = done ≡ refused_or request (answer request input index index moment []) (refused_text_of request input)
+-- what is answered on this index that asks no device
+abbrev pub IsReadOff : ℤ → Base → Reading → LineAnswer → Type 0
+IsReadOff moment index reading done =
+    (input : List ℕ) → IsReadingOf input reading → done ≡ replied_with (reading_request reading) (answer (reading_request reading) input index index moment [])

@@ -1,7 +1,8 @@
 -- What a line of another lane is answered, which asks no device. Cited by `other_lane` and `nm_session`.
-use Rattle.std.specs.Prelude.{◌≡◌, ◌⊎◌, ℕ, ℤ, List, [], map, Result, Ok, Err}
+use Rattle.std.specs.Prelude.{◌≡◌, ◌⊎◌, ℕ, ℤ, List, [], map, Option, None, Some, Result, Ok, Err}
 use Rattle.std.specs.Option.{option_to_list}
 use Rattle.nm_answer.specs.Answer.{answer}
+use Rattle.nm_answer.specs.declared.request.Request.{Request}
 use Rattle.nm_base.specs.declared.memory.NoMemory.{NoMemory}
 use Rattle.nm_history.specs.LineAnswers.{ends_by, line_text, refused_look}
 use Rattle.nm_history.specs.LineResult.{said_of}
@@ -9,12 +10,18 @@ use Rattle.nm_history.specs.MachineRun.{replied_where}
 use Rattle.nm_history.specs.Requests.{refused_text_of}
 use Rattle.nm_index.specs.declared.base.Base.{Base}
 use Rattle.nm_lanes.specs.declared.script.ScriptLine.{ScriptLine}
-use Rattle.nm_line.specs.Line.{refused_or, refused_with}
+use Rattle.nm_line.specs.Line.{refused_with, replied_with}
 use Rattle.nm_line.specs.declared.line_answer.LineAnswer.{LineAnswer}
 use Rattle.nm_log.specs.ParsedLine.{parse_line}
 use Rattle.nm_log.specs.declared.line_parser.ParsedLine.{ParsedLine}
 use Rattle.nm_log.specs.declared.line_parser.ParsedLine.TheVariants as asked
+use Rattle.nm_log.specs.declared.outcome.Outcome.{Outcome}
 use Rattle.nm_log.specs.declared.outcome.Outcome.TheVariants as outcomes
+
+-- the refusal, if there is one, or else the text
+abbrev pub refused_or : Request → List ℕ → Option Outcome → LineAnswer
+refused_or request text None = replied_with request text
+refused_or request text (Some outcome) = refused_with outcome
 
 -- what a line is answered on this index, by what it asks for and its input
 abbrev pub looked : ℤ → Base → ParsedLine → List ℕ → LineAnswer

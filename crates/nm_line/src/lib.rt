@@ -1,19 +1,18 @@
-//! Commands and replies: what one line is answered: what its words ask for is done, by lane 0 with the index, the mail folder and the disk,
-//! by the others on an index alone.
+//! Commands and replies: what one line is answered: what its words ask for is prepared, and then done, by lane 0 with the index, the mail
+//! folder and the disk, by the others on an index alone.
 #![tactic(auto)]
 
 mod change;
-mod count;
 mod desk;
-mod dump;
 mod fault_texts;
 mod lane_zero;
 mod laws;
 mod line_answer;
 mod new;
 mod other_lane;
+mod prepared;
+mod reading;
 mod restore;
-mod search;
 mod show;
 mod tag;
 
@@ -22,3 +21,4 @@ pub use lane_zero::answer;
 pub use laws::what_is_looked_is_said;
 pub use line_answer::LineAnswer;
 pub use other_lane::look;
+pub use prepared::{AskError, Prepared, Reading, prepare, prepare_line};

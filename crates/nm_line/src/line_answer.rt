@@ -1,13 +1,11 @@
 //! What comes of a line: a reply, or the line of its refusal. `lane_zero`, `other_lane` and each command make one.
 
-ghost use Rattle.std.specs.Prelude.{◌≡◌, ◌≢◌, IfOk};
-ghost use Rattle.nm_history.specs.Requests.{query_outcome};
+ghost use Rattle.std.specs.Prelude.{◌≡◌, IfOk};
 ghost use Rattle.nm_line.specs.Line.{refused_with, replied_with};
 
 use nm_answer::Request;
 use nm_base::{Copies, Many, NoMemory};
 use nm_log::{Outcome, Said, refusal_line};
-use nm_query::QueryError;
 use std::alloc::Global;
 
 /// What came of a line beside its commits.
@@ -44,17 +42,4 @@ pub(crate) fn refuse(alloc: Global, outcome: Outcome) -> Result<LineAnswer, NoMe
         text,
         reply: None,
     })
-}
-
-/// The refusal of a text that is no query.
-pub(crate) fn refuse_query(alloc: Global, error: QueryError) -> Result<LineAnswer, NoMemory>
-    ensures some { IfOk result (λ _. error ≢ QueryError.NoMemory) }
-    ensures refused { IfOk result (λ done. done ≡ refused_with (query_outcome error)) }
-{
-    match error {
-        QueryError::BadQuery { at, kind } => refuse(alloc, Outcome::BadQuery { at, kind }),
-        QueryError::BadDate { at } => refuse(alloc, Outcome::BadDate { at }),
-        QueryError::Limit(limit) => refuse(alloc, Outcome::Limit(limit)),
-        QueryError::NoMemory => Err(NoMemory),
-    }
 }

@@ -5,8 +5,9 @@ ghost use Rattle.nm_answer.specs.NewText.{new_text};
 ghost use Rattle.nm_lanes.specs.declared.script.ScriptLine.{ScriptLine};
 ghost use Rattle.nm_line.specs.Desk.{IsReady, KeepsLoans, Stands, StaysDurable, place_of};
 ghost use Rattle.nm_line.specs.Line.{Ends, replied_with};
+ghost use Rattle.nm_line.specs.Prepared.{IsPrepared};
+ghost use Rattle.nm_line.specs.declared.prepared.Prepared.TheVariants as ready;
 ghost use Rattle.nm_log.specs.ParsedLine.{parse_line};
-ghost use Rattle.nm_log.specs.declared.line_parser.ParsedLine.TheVariants as asked;
 ghost use Rattle.nm_scan.specs.Bodies.{left_after};
 
 use crate::desk::Desk;
@@ -30,7 +31,7 @@ pub(crate) fn run_new<R: Threads + Wait + Sync, M: Maildir, D: Disk>(
 ) -> Result<LineAnswer, NoMemory>
     requires fresh { given.old ≡ [] }
     requires ready { IsReady desk.old.writer.now (D.observed desk.old.disk.now) }
-    ensures ends { (moment : ℤ) (left : ℕ) (line : ScriptLine) → parse_line line ≡ asked.Request Request.New
+    ensures ends { (moment : ℤ) (left : ℕ) (line : ScriptLine) → IsPrepared (parse_line line) line.input ready.New
         → Ends moment (place_of M.observed D.observed desk.old left) line given.new result (place_of M.observed D.observed desk.new (left_after left given.new)) }
     ensures stands { Stands desk.new.writer.now (D.observed desk.new.disk.now) }
     ensures durable { StaysDurable D.observed desk.old desk.new }

@@ -1,19 +1,17 @@
 //! A line of a lane other than 0: it is answered on an index, and asks no device. `nm_session` asks for it.
 
-ghost use Rattle.std.specs.Prelude.{◌≡◌, ◌≤◌, IfOk, true};
+ghost use Rattle.std.specs.Prelude.{◌≡◌, ◌≤◌, true};
 ghost use Rattle.nm_dates.specs.Seconds.{IsMoment};
-ghost use Rattle.nm_line.specs.Line.{IsReadOff};
 ghost use Rattle.nm_line.specs.Look.{IsAnswerOn};
+ghost use Rattle.nm_line.specs.Prepared.{request_of};
 ghost use Rattle.nm_log.specs.ParsedLine.{is_of_every_lane};
 
-use crate::count::run_count;
-use crate::dump::run_dump;
 use crate::line_answer::{LineAnswer, refuse};
-use crate::search::run_search;
-use nm_answer::Request;
+use crate::prepared::{AskError, Prepared, Reading, prepare_line};
+use crate::reading::read_off;
 use nm_base::NoMemory;
 use nm_lanes::ScriptLine;
-use nm_log::{Outcome, ParsedLine, Setting, other_lanes_search_count_and_dump, parse_line};
+use nm_log::{Setting, other_lanes_search_count_and_dump};
 use nm_state::Snapshot;
 use std::alloc::Global;
 
@@ -29,34 +27,21 @@ pub fn look(
     ensures { IsAnswerOn setting.now.moment snapshot.now line.now result }
 {
     other_lanes_search_count_and_dump();
-    match parse_line(alloc, line)? {
-        ParsedLine::Usage { word, kind } => refuse(alloc, Outcome::Usage { word, kind }),
-        ParsedLine::Request(request) => run_request(
-            alloc,
-            setting,
-            snapshot,
-            request,
-            line.input.as_slice(),
-        ),
+    match prepare_line(alloc, line) {
+        Ok(prepared) => read_off(alloc, setting, snapshot, reading_in(prepared)),
+        Err(AskError::Refused(outcome)) => refuse(alloc, outcome),
+        Err(AskError::NoMemory) => Err(NoMemory),
     }
 }
 
-/// Answers what every lane may ask for.
-fn run_request(
-    alloc: Global,
-    setting: &Setting,
-    snapshot: &Snapshot,
-    request: Request,
-    input: &[u8],
-) -> Result<LineAnswer, NoMemory>
-    requires moment { IsMoment setting.now.moment }
-    requires every { is_of_every_lane request ≡ true }
-    ensures { IfOk result (IsReadOff setting.now.moment snapshot.now request input.now) }
+/// What every lane may ask for.
+fn reading_in(prepared: Prepared) -> Reading
+    requires { is_of_every_lane (request_of prepared) ≡ true }
+    ensures { prepared ≡ Prepared.Read result }
 {
-    match request {
-        Request::Count(ask) => run_count(alloc, setting, snapshot, ask, input),
-        Request::Search(ask) => run_search(alloc, setting, snapshot, ask),
-        Request::Dump(ask) => run_dump(alloc, setting, snapshot, ask),
-        Request::New | Request::Show(_) | Request::Tag(_) | Request::Restore(_) => unreachable!(),
+    match prepared {
+        Prepared::Read(reading) => reading,
+        Prepared::New | Prepared::Show(_, _) | Prepared::Tag(_, _) | Prepared::Restore(_, _) =>
+            unreachable!(),
     }
 }

@@ -6,19 +6,20 @@ ghost use Rattle.nm_faults.specs.Faults.{HasCauseOf};
 ghost use Rattle.nm_lanes.specs.declared.script.ScriptLine.{ScriptLine};
 ghost use Rattle.nm_line.specs.Desk.{IsReady, KeepsLoans, Stands, StaysDurable, place_of};
 ghost use Rattle.nm_line.specs.Line.{Ends, refused_with};
+ghost use Rattle.nm_line.specs.Prepared.{IsPrepared};
 ghost use Rattle.nm_line.specs.Showing.{IsAfterReads, IsAfterShow, bodies_fault, is_folder_fault, show_fault, show_outcome, tells_not_one};
+ghost use Rattle.nm_line.specs.declared.prepared.Prepared.TheVariants as ready;
 ghost use Rattle.nm_log.specs.ParsedLine.{parse_line};
-ghost use Rattle.nm_log.specs.declared.line_parser.ParsedLine.TheVariants as asked;
 ghost use Rattle.nm_scan.specs.Bodies.{left_after};
 
 use crate::desk::Desk;
-use crate::line_answer::{LineAnswer, refuse, refuse_query, replied};
+use crate::line_answer::{LineAnswer, refuse, replied};
 use nm_answer::Request;
 use nm_base::{Limit, MailPath, Many, MessageId, NoMemory, ShowAsk};
 use nm_disk::Disk;
 use nm_log::{Crew, Outcome};
 use nm_maildir::{Given, Maildir};
-use nm_query::{Query, parse};
+use nm_query::Query;
 use nm_render::{ShowError, lead_paths, show_text, shown_ids};
 use nm_scan::{BodiesError, read_bodies};
 use nm_state::Snapshot;
@@ -37,37 +38,34 @@ enum ShowFault {
     NoMemory,
 }
 
-/// Shows messages of the index that is shown, where the query has a tree.
+/// Shows messages of the index that is shown.
 pub(crate) fn run_show<R, M: Maildir, D: Disk>(
     crew: &Crew<'_, R>,
     ask: ShowAsk,
+    query: &Query,
     left: u64,
     desk: &mut Desk<'_, '_, '_, M, D>,
     given: &mut Many<Given>,
 ) -> Result<LineAnswer, NoMemory>
     requires fresh { given.old ≡ [] }
     requires ready { IsReady desk.old.writer.now (D.observed desk.old.disk.now) }
-    ensures ends { (line : ScriptLine) → parse_line line ≡ asked.Request (Request.Show ask)
+    ensures ends { (line : ScriptLine) → IsPrepared (parse_line line) line.input (ready.Show ask query.now)
         → Ends crew.now.setting.now.moment (place_of M.observed D.observed desk.old left) line given.new result (place_of M.observed D.observed desk.new (left_after left given.new)) }
     ensures stands { Stands desk.new.writer.now (D.observed desk.new.disk.now) }
     ensures durable { StaysDurable D.observed desk.old desk.new }
     ensures loans { KeepsLoans desk.old desk.new }
 {
-    let alloc = crew.alloc;
-    match parse(alloc, ask.query.as_str()) {
-        Ok(query) => match show_messages(
-            crew,
-            desk.writer.snapshot(),
-            &ask,
-            &query,
-            left,
-            desk.mail,
-            given,
-        ) {
-            Ok(text) => replied(Request::Show(ask), text),
-            Err(fault) => refuse_show(alloc, fault),
-        },
-        Err(error) => refuse_query(alloc, error),
+    match show_messages(
+        crew,
+        desk.writer.snapshot(),
+        &ask,
+        query,
+        left,
+        desk.mail,
+        given,
+    ) {
+        Ok(text) => replied(Request::Show(ask), text),
+        Err(fault) => refuse_show(crew.alloc, fault),
     }
 }
 

@@ -1,17 +1,24 @@
-use Rattle.std.proofs.Common.{ap, ◌∙◌, subst}
-use Rattle.nm_answer.specs.declared.request.Request.TheVariants as requests
-use Rattle.nm_history.specs.Requests.{refused_text_of}
-use Rattle.nm_line.specs.Changing.{ReadsRestore}
+use Rattle.std.proofs.Common.{◌≡◌, ℕ, List, [], Result, Ok, Err, None, refl, sym, ap, ◌∙◌, subst}
+use Rattle.nm_answer.specs.Restore.{dump_lines, restorings_by, strangers}
+use Rattle.nm_history.specs.LineAnswers.{refused_look}
+use Rattle.nm_index.specs.declared.base.Base.{Base}
 use Rattle.nm_line.specs.Line.{place_at}
-use Rattle.nm_line.proofs.AnswerLemmas.{failed-ends, refused-ends-at}
+use Rattle.nm_line.proofs.AnswerLemmas.{failed-ends}
 use Rattle.nm_line.proofs.restore.run_restore.Goals as goal
+use Rattle.nm_log.specs.declared.line_parser.ParsedLine.{ParsedLine}
+use Rattle.nm_tags.specs.declared.line_error.LineKind.{LineKind}
+use Rattle.nm_tags.specs.declared.wanted.Wanted.{Wanted}
 
-pub returns-in_err-changes-clause-ends : goal.returns-in_err-changes-clause-ends
-returns-in_err-changes-clause-ends g c = λ left line is input.
+pub returns-in_err-asked-clause-ends : goal.returns-in_err-asked-clause-ends
+returns-in_err-asked-clause-ends g c = λ left line h.
     failed-ends c.args.crew.now.setting.now.moment (place_at c.args.desk.now.writer.now (g.M.Maildir.observed c.args.desk.now.mail.now) (g.D.Disk.observed c.args.desk.now.disk.now) left) line c.args.given.now c.from_residual.result c.from_residual.ensures.0 c.requires.fresh
 
-pub returns-in-Err-clause-ends : goal.returns-in-Err-clause-ends
-returns-in-Err-clause-ends g c = λ left line is input.
-    let read = subst (ReadsRestore c.args.ask c.args.input.now c.snapshot.result.now) c.in-Err.is c.in_ok-changes.ensures in
-    refused-ends-at c.args.crew.now.setting.now.moment (place_at c.args.desk.now.writer.now (g.M.Maildir.observed c.args.desk.now.mail.now) (g.D.Disk.observed c.args.desk.now.disk.now) left) line c.args.given.now (requests.Restore c.args.ask) c.in-Err.outcome c.refuse.result
-    c.requires.fresh is (ap (refused_text_of (requests.Restore c.args.ask)) input ∙ read) c.refuse.ensures
+pub returns-clause-ends : goal.returns-clause-ends
+returns-clause-ends g c = λ left line h.
+    let are : c.as_slice.result.now ≡ dump_lines c.args.ask line.input = c.as_slice.ensures ∙ sym (ap (λ (r : Result (List Wanted) (ℕ × LineKind)). elim r [ Ok lines ↦ lines | Err fault ↦ [] ]) h.made) in
+    c.change_tags.ensures.ends left line h.asks (record {
+      tags = refl;
+      right = subst (λ (p : ParsedLine). refused_look p line.input ≡ None) h.asks h.sound;
+      lines = c.in_ok-asked.ensures.lines ∙ ap (restorings_by c.args.ask.accumulate) are;
+      strangers = c.in_ok-asked.ensures.strangers ∙ (ap (λ (b : Base). strangers b c.as_slice.result.now) c.snapshot.ensures ∙ ap (strangers c.args.desk.now.writer.now.shown) are);
+    })

@@ -1,17 +1,12 @@
-use Rattle.std.proofs.Common.{ap, ◌∙◌, subst}
-use Rattle.nm_answer.specs.declared.request.Request.TheVariants as requests
-use Rattle.nm_history.specs.Requests.{refused_text_of}
-use Rattle.nm_line.specs.Changing.{ReadsLines}
-use Rattle.nm_line.specs.Line.{place_at}
-use Rattle.nm_line.proofs.AnswerLemmas.{failed-ends, refused-ends-at}
+use Rattle.std.proofs.Common.{rules, ◌≡◌, None, refl, subst}
+use Rattle.nm_history.specs.LineAnswers.{refused_look}
 use Rattle.nm_line.proofs.tag.run_tag.Goals as goal
+use Rattle.nm_log.specs.declared.line_parser.ParsedLine.{ParsedLine}
 
-pub returns-in_err-lines-clause-ends : goal.returns-in_err-lines-clause-ends
-returns-in_err-lines-clause-ends g c = λ left line is input.
-    failed-ends c.args.crew.now.setting.now.moment (place_at c.args.desk.now.writer.now (g.M.Maildir.observed c.args.desk.now.mail.now) (g.D.Disk.observed c.args.desk.now.disk.now) left) line c.args.given.now c.from_residual.result c.from_residual.ensures.0 c.requires.fresh
-
-pub returns-in-Err-clause-ends : goal.returns-in-Err-clause-ends
-returns-in-Err-clause-ends g c = λ left line is input.
-    let read = subst (ReadsLines c.args.ask c.args.input.now) c.in-Err.is c.in_ok-lines.ensures in
-    refused-ends-at c.args.crew.now.setting.now.moment (place_at c.args.desk.now.writer.now (g.M.Maildir.observed c.args.desk.now.mail.now) (g.D.Disk.observed c.args.desk.now.disk.now) left) line c.args.given.now (requests.Tag c.args.ask) c.in-Err.outcome c.refuse.result
-    c.requires.fresh is (ap (refused_text_of (requests.Tag c.args.ask)) input ∙ read) c.refuse.ensures
+pub returns-clause-ends : goal.returns-clause-ends
+returns-clause-ends g c = λ left line h. c.change_tags.ensures.ends left line h.asks (record {
+  tags = refl;
+  right = subst (λ (p : ParsedLine). refused_look p line.input ≡ None) h.asks h.sound;
+  lines = h.made;
+  strangers = search rules;
+})
