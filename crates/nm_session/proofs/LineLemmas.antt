@@ -41,18 +41,18 @@ done-by moment old new line noted (Err error) done spare text is h =
     subst (λ (d : LineAnswer). IsLineAnswer moment old line noted d.outcome (newly_closed old.writer new.writer) new × IsSaid moment old line noted d new) (sym (is ∙ ap without_memory text))
     (h, record { text = refl; reply = λ lane revision. refl })
 
-pub is-run : (moment : ℤ) (phase : ℕ) (old new : Place) (line : ScriptLine) (noted : List Given) (answered : Result LineAnswer NoMemory) (done : LineAnswer) (spare : List ℕ) (shown : Base) (revision status mail disk : ℕ) (failed : Bool)
-    → spare ≡ codes "notmuch: no memory\n" → MatchResult answered (λ got. done ≡ got) (λ error. done ≡ record { outcome = outcomes.NoMemory; text = spare; reply = None })
+pub is-run : (moment : ℤ) (phase : ℕ) (old new : Place) (line : ScriptLine) (noted : List Given) (answered : Result LineAnswer NoMemory) (done : LineAnswer) (spare : List ℕ) (shown : Base) (lane number revision status mail disk : ℕ) (failed : Bool)
+    → lane ≡ line.lane → number ≡ line.number → spare ≡ codes "notmuch: no memory\n" → MatchResult answered (λ got. done ≡ got) (λ error. done ≡ record { outcome = outcomes.NoMemory; text = spare; reply = None })
     → Ends moment old line noted answered new → revision ≡ shown.revision → shown ≡ new.writer.shown → status ≡ status_of done.outcome → mail ≡ new.mail.faults → disk ≡ new.disk_faults
     → failed ≡ newly_closed old.writer new.writer
-    → IsRun moment phase old (line, record { phase = phase; lane = line.lane; line = line.number; revision = revision; status = status; outcome = done.outcome; text = done.text; given = noted; mail_faults = mail; disk_faults = disk; disk_failed = failed }) done.reply new
-is-run moment phase old new line noted answered done spare shown revision status mail disk failed text is ends at shown_is status_is mail_is disk_is failed_is =
+    → IsRun moment phase old (line, record { phase = phase; lane = lane; line = number; revision = revision; status = status; outcome = done.outcome; text = done.text; given = noted; mail_faults = mail; disk_faults = disk; disk_failed = failed }) done.reply new
+is-run moment phase old new line noted answered done spare shown lane number revision status mail disk failed lane_is number_is text is ends at shown_is status_is mail_is disk_is failed_is =
     let h : IsLineAnswer moment old line noted done.outcome (newly_closed old.writer new.writer) new × IsSaid moment old line noted done new = done-by moment old new line noted answered done spare text is ends in
     record {
       answered = subst (λ (b : Bool). IsLineAnswer moment old line noted done.outcome b new) (sym failed_is) h.0;
       text = h.1.text;
-      reply_is = h.1.reply line.lane revision;
-      numbers = record { phase = refl; lane = refl; number = refl };
+      reply_is = h.1.reply lane revision;
+      numbers = record { phase = refl; lane = lane_is; number = number_is };
       revision = at ∙ ap (λ (b : Base). b.revision) shown_is;
       mail_faults = mail_is;
       disk_faults = disk_is;

@@ -9,13 +9,21 @@ use Rattle.nm_history.specs.MachineRun.{reply_to}
 use Rattle.nm_history.specs.PrintedOut.{IsNumbered}
 use Rattle.nm_lanes.specs.declared.script.ScriptLine.{ScriptLine}
 use Rattle.nm_line.specs.Line.{IsLineAnswer}
+use Rattle.nm_line.specs.Prepared.{IsPreparedAs}
 use Rattle.nm_log.specs.ParsedLine.{parse_line}
 use Rattle.nm_log.specs.Replies.{status_of}
 use Rattle.nm_log.specs.declared.log.LineLog.{LineLog}
 use Rattle.nm_log.specs.declared.log.Said.{Said}
+use Rattle.nm_session.specs.declared.line.AskedLine.{AskedLine}
 use Rattle.nm_trace.specs.Marks.{line_marks}
 use Rattle.nm_trace.specs.ReservedLog.{AreFallbacks}
 use Rattle.nm_trace.specs.declared.reserved_log.ReservedLog.{ReservedLog}
+
+-- the line asks for this
+pub record IsAskedBy (line : ScriptLine) (asked : AskedLine) : Type 0 where
+  pub lane : asked.lane ≡ line.lane
+  pub number : asked.number ≡ line.number
+  pub prepared : IsPreparedAs (parse_line line) line.input asked.prepared
 
 -- A line was run in this phase, and its log says so.
 pub record IsRun (moment : ℤ) (phase : ℕ) (old : Place) (ran : RunLine) (reply : Option Said) (new : Place) : Type 0 where

@@ -4,7 +4,7 @@ ghost use Rattle.std.specs.Prelude.{◌≡◌};
 ghost use Rattle.nm_line.specs.Desk.{KeepsLoans, place_of};
 ghost use Rattle.nm_session.specs.Phases.{HasWorked, IsReady};
 
-use crate::line::run_line;
+use crate::line::{asked_line, run_line};
 use nm_disk::Disk;
 use nm_lanes::{LaneWork, ScriptLine};
 use nm_line::Desk;
@@ -74,7 +74,8 @@ fn run_lines<R: Threads + Wait + Sync, M: Maildir, D: Disk>(
         if line.lane != 0 {
             continue;
         }
-        left = run_line(crew, phase, line, left, reserved, desk);
+        let asked = asked_line(crew.alloc, line);
+        left = run_line(crew, phase, asked, left, reserved, desk);
     }
     left
 }

@@ -27,8 +27,8 @@ returns-in_default-clause-refused g c =
       crash_prefix = unasked-prefix c.a_refused_opening_keeps_the_index.ensures (g.D.Disk.observed c.args.disk.now) (g.D.Disk.reads_an_image c.args.disk.now);
     }
 
-pub returns-clause-refused : goal.returns-clause-refused
-returns-clause-refused g c =
+pub returns-in-Err-clause-refused : goal.returns-in-Err-clause-refused
+returns-in-Err-clause-refused g c =
     let old = g.D.Disk.observed c.args.disk.now in
     let new = g.D.Disk.observed c.open.new.disk in
     let h = c.in-Err.ensures in
@@ -44,8 +44,10 @@ pub finish-requires-clause-room : goal.finish-requires-clause-room
 finish-requires-clause-room g c =
     let done = c.run_alone in
     let moment = c.args.crew.now.setting.now.moment in
-    let phase = single_phase c.args.words c.args.input in
-    let ran = done.ensures.ran in
+    let words = c.requires.0 in
+    let input = c.requires.1.0 in
+    let phase = single_phase words input in
+    let ran = done.ensures.ran words input c.requires.1.1 in
     let before = c.in-Ok.reserved in
     let writer = c.in-Ok-open.opened.writer in
     let first = place_at writer (g.M.Maildir.observed c.args.mail.now) (g.D.Disk.observed c.open.new.disk) max_mail_bytes in
@@ -57,15 +59,15 @@ finish-requires-clause-room g c =
     (steps-fit 2 (planned_from 0 (phase ∷ [])) before done.new.reserved last (omega arith) c.in-Ok.ensures noted (ran.ended.steps ∙ ran.noted.steps)).1
 
 pub returns-in-Ok-open-clause-ran : goal.returns-in-Ok-open-clause-ran
-returns-in-Ok-open-clause-ran g c = λ source err.
+returns-in-Ok-open-clause-ran g c = λ words input asked source err.
     let mail = g.M.Maildir in
     let disk = g.D.Disk in
     let sink = g.O.Sink in
     let done = c.run_alone in
     let moment = c.args.crew.now.setting.now.moment in
-    let phase = single_phase c.args.words c.args.input in
+    let phase = single_phase words input in
     let phases : List Phase = phase ∷ [] in
-    let ran = done.ensures.ran in
+    let ran = done.ensures.ran words input asked in
     let before = c.in-Ok.reserved in
     let after = done.new.reserved in
     let writer = c.in-Ok-open.opened.writer in

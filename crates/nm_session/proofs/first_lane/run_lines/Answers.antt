@@ -1,7 +1,9 @@
-use Rattle.std.proofs.Common.{◌≡◌, ℕ, ◌+◌, ◌==◌, true, List, [], ◌∷◌, drop, length, map, take, inl, ◌∙◌, subst, arith}
+use Rattle.std.proofs.Common.{rules, ◌≡◌, ℕ, ◌+◌, ◌==◌, true, List, [], ◌∷◌, drop, length, map, take, inl, ◌∙◌, subst, arith}
 use Rattle.std.proofs.lemmas.Bool.Decides.{nat_tests}
 use Rattle.nm_history.specs.Call.{lines_of_lane}
+use Rattle.nm_lanes.specs.declared.script.ScriptLine.{ScriptLine}
 use Rattle.nm_line.specs.Line.{place_at}
+use Rattle.nm_session.specs.LineLog.{IsAskedBy}
 use Rattle.nm_session.specs.Loop.{AreTaken, IsTurn}
 use Rattle.nm_trace.specs.ReservedLog.{HasSpare}
 use Rattle.nm_session.specs.Turns.{Planned, Runs, planned_line}
@@ -10,6 +12,11 @@ use Rattle.nm_session.proofs.LoopLemmas.{spare-turn}
 use Rattle.nm_session.proofs.PhaseLemmas.{taken-append, taken-one}
 use Rattle.nm_session.proofs.TurnLemmas.{own-left, own-more}
 use Rattle.nm_session.proofs.first_lane.run_lines.Goals as goal
+
+pub run_line-left-requires-clause-asked : goal.run_line-left-requires-clause-asked
+run_line-left-requires-clause-asked g c =
+    let asked : (line : ScriptLine) × IsAskedBy line c.asked_line-asked.result = (c.line-item.result, c.asked_line-asked.ensures) in
+    search (rules, asked)
 
 pub lines-preserved : goal.lines-preserved
 lines-preserved g c =
@@ -23,7 +30,7 @@ lines-preserved g c =
     let old = place_at c.lines.desk.writer.now (mail.observed c.lines.desk.mail.now) (disk.observed c.lines.desk.disk.now) c.lines.left in
     let done = c.run_line-left in
     let new = place_at done.new.desk.writer.now (mail.observed done.new.desk.mail.now) (disk.observed done.new.desk.disk.now) done.result in
-    let noted = done.ensures.noted in
+    let noted = done.ensures.noted line c.asked_line-asked.ensures in
     let so_far = c.lines.invariant in
     let zero : line.lane ≡ 0 = grind (arith, nat_tests, c.if-line-ne0.false) in
     let own : (line.lane == 0) ≡ true = grind (arith, nat_tests, zero) in

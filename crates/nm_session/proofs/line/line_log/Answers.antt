@@ -15,8 +15,8 @@ returns g c =
     let done = c.answer-answered in
     let new = place_at done.new.desk.writer.now (g.M.Maildir.observed done.new.desk.mail.now) (g.D.Disk.observed done.new.desk.disk.now) (left_after c.args.left done.new.given) in
     record {
-      run = is-run c.args.crew.now.setting.now.moment c.args.phase old new c.args.line.now done.new.given done.result c.answered_or-outcome.result c.args.fallback c.snapshot.result.now c.revision.result c.line_status.result c.faults.result c.faults-2.result c.newly_closed.result
-          c.requires.fallback c.answered_or-outcome.ensures done.ensures.ends c.revision.ensures c.snapshot.ensures c.line_status.ensures c.faults.ensures c.faults-2.ensures (closed-is done.new.desk.writer.now c.args.desk.now.writer.now c.newly_closed.result c.is_closed-was_closed.result c.is_closed.result c.newly_closed.ensures c.is_closed-was_closed.ensures c.is_closed.ensures);
+      run = λ line asked. is-run c.args.crew.now.setting.now.moment c.args.phase old new line done.new.given done.result c.answered_or-outcome.result c.args.fallback c.snapshot.result.now c.args.asked.lane c.args.asked.number c.revision.result c.line_status.result c.faults.result c.faults-2.result c.newly_closed.result
+          asked.lane asked.number c.requires.fallback c.answered_or-outcome.ensures (done.ensures.ends line asked.prepared) c.revision.ensures c.snapshot.ensures c.line_status.ensures c.faults.ensures c.faults-2.ensures (closed-is done.new.desk.writer.now c.args.desk.now.writer.now c.newly_closed.result c.is_closed-was_closed.result c.is_closed.result c.newly_closed.ensures c.is_closed-was_closed.ensures c.is_closed.ensures);
       stands = done.ensures.stands;
       durable = done.ensures.durable;
       loans = done.ensures.loans;
