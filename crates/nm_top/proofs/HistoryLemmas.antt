@@ -33,7 +33,7 @@ use Rattle.nm_io.specs.Observed.{ObservedSink, ObservedStream}
 use Rattle.nm_maildir.specs.Observed.{ObservedMail}
 use Rattle.nm_session.specs.Run.{HasRun}
 use Rattle.nm_session.specs.Session.{HasOpenCause, IsSession, IsUnopened}
-use Rattle.nm_top.specs.CallPhases.{HasPhases, RefusesFor, phases_of, session_of}
+use Rattle.nm_top.specs.CallPhases.{HasPhases, RefusesFor, session_of}
 use Rattle.nm_top.specs.declared.call_phases.CallPhases.{CallPhases}
 use Rattle.nm_top.specs.Ending.{EndsRun, Refuses, RefusesAlone, ended_with, refusal_of}
 use Rattle.nm_top.specs.RefusalLaws.{RefusalLaws}
@@ -130,13 +130,13 @@ unopened-history laws error call words setting mail new_mail disk new_disk old n
 
 -- a call that runs its phases
 ran-history : (call : CallPhases) (words : List (List ℕ)) (setting : Setting) (entry after : Devices) (phases : List Phase) (log : SessionLog) (out_failed : Bool)
-    → HasPhases words entry.input after.input call → phases ≡ phases_of call
+    → (read : HasPhases words entry.input after.input call) → phases ≡ call_phases words read.input
     → IsSession setting.moment entry phases (session_of call) after.mail after.disk after.out out_failed log → Prints (final_message (session_of call) log.lines out_failed) entry.err after.err
     → History (call_of words setting entry after (record { status = status_by (session_of call) log.lines out_failed; log = log }))
 ran-history call words setting entry after phases log out_failed read same session says =
     let run : HasRun setting.moment session.opening entry (call_phases words read.input) (is_session words) after.mail after.disk.faults after.out out_failed log =
     subst (λ (b : Bool). HasRun setting.moment session.opening entry (call_phases words read.input) b after.mail after.disk.faults after.out out_failed log) read.session
-    (subst (λ (ls : List Phase). HasRun setting.moment session.opening entry ls (session_of call) after.mail after.disk.faults after.out out_failed log) (same ∙ read.phases) session.run) in (
+    (subst (λ (ls : List Phase). HasRun setting.moment session.opening entry ls (session_of call) after.mail after.disk.faults after.out out_failed log) same session.run) in (
       session.opening,
       read.input,
       record {
@@ -161,12 +161,12 @@ ran-history call words setting entry after phases log out_failed read same sessi
 
 -- a call that was read, whose lines are run or whose index is not opened
 pub run-history : RefusalLaws → (call : CallPhases) (words : List (List ℕ)) (setting : Setting) (mail new_mail : ObservedMail) (disk new_disk : ObservedDisk) (old new : ObservedStream) (out new_out err said : ObservedSink)
-    → (phases : List Phase) (run : Result (SessionLog × Bool) OpenError) → phases ≡ phases_of call
+    → (read : HasPhases words old new call) (phases : List Phase) (run : Result (SessionLog × Bool) OpenError) → phases ≡ call_phases words read.input
     → IfOk run (λ ran. (source : ObservedStream) (sink : ObservedSink) → IsSession setting.moment (devices mail disk source out sink) phases (session_of call) new_mail new_disk new_out ran.1 ran.0)
-    → IfErr run (IsUnopened mail new_mail disk new_disk) → IfErr run (λ _. new_out ≡ out) → HasPhases words old new call
+    → IfErr run (IsUnopened mail new_mail disk new_disk) → IfErr run (λ _. new_out ≡ out)
     → (done : Done) → EndsRun (session_of call) run err said done → History (call_of words setting (devices mail disk old out err) (devices new_mail new_disk new new_out said) done)
-run-history laws call words setting mail new_mail disk new_disk old new out new_out err said phases (Ok ran) same session unopened still read done ends =
+run-history laws call words setting mail new_mail disk new_disk old new out new_out err said read phases (Ok ran) same session unopened still done ends =
     subst (λ (d : Done). History (call_of words setting (devices mail disk old out err) (devices new_mail new_disk new new_out said) d)) (sym ends.0)
     (ran-history call words setting (devices mail disk old out err) (devices new_mail new_disk new new_out said) phases ran.0 ran.1 read same (session old err) ends.1)
-run-history laws call words setting mail new_mail disk new_disk old new out new_out err said phases (Err error) same session unopened still read done ends =
+run-history laws call words setting mail new_mail disk new_disk old new out new_out err said read phases (Err error) same session unopened still done ends =
     unopened-history laws error call words setting mail new_mail disk new_disk old new out new_out err said read unopened still done ends

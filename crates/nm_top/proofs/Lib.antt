@@ -1,3 +1,4 @@
+pub mod CommandLemmas
 pub mod DrillLemmas
 pub mod HistoryLemmas
 pub mod ProgramLemmas

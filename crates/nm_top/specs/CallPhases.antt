@@ -1,22 +1,15 @@
 -- What is read of a call before another device than its input is asked: the phases that it runs, or why it runs none.
 -- Cited by `call_phases`, `command_call`, `devices` and others.
-use Rattle.std.specs.Prelude.{◌≡◌, ℕ, Bool, false, true, List, [], ◌∷◌, Option, None, Some, Result, MatchResult}
+use Rattle.std.specs.Prelude.{◌≡◌, ℕ, Bool, false, true, List, None, Result, MatchResult}
 use Rattle.nm_disk.specs.Observed.{ObservedDisk}
-use Rattle.nm_history.specs.Call.{call_fault, call_of, call_phases, call_reads, devices, input_fault, is_session, single_phase}
+use Rattle.nm_history.specs.Call.{call_fault, call_of, call_phases, call_reads, devices, input_fault, is_session}
 use Rattle.nm_history.specs.Refusals.{IsRefusedFor, RefusesLine, TakesInput}
 use Rattle.nm_io.specs.Observed.{ObservedSink, ObservedStream}
-use Rattle.nm_lanes.specs.declared.script.Phase.{Phase}
 use Rattle.nm_log.specs.declared.log.Done.{Done}
 use Rattle.nm_log.specs.declared.log.Setting.{Setting}
-use Rattle.nm_log.specs.declared.outcome.Outcome.{Outcome}
-use Rattle.nm_log.specs.declared.outcome.Outcome.TheVariants as outcomes
 use Rattle.nm_log.specs.declared.refusal.Refusal.{Refusal}
-use Rattle.nm_log.specs.declared.refusal.Refusal.TheVariants as refusals
 use Rattle.nm_maildir.specs.Observed.{ObservedMail}
-use Rattle.nm_query.specs.declared.query_error.QueryError.{QueryError}
-use Rattle.nm_query.specs.declared.query_error.QueryError.TheVariants as queries
-use Rattle.nm_tags.specs.declared.line_error.LineError.{LineError}
-use Rattle.nm_tags.specs.declared.line_error.LineError.TheVariants as lines
+use Rattle.nm_session.specs.Alone.{AsksAlone}
 use Rattle.nm_top.specs.declared.call_phases.CallError.{CallError}
 use Rattle.nm_top.specs.declared.call_phases.CallError.TheVariants.{Refused, Unasked}
 use Rattle.nm_top.specs.declared.call_phases.CallPhases.{CallPhases}
@@ -25,21 +18,21 @@ use Rattle.nm_top.specs.declared.call_phases.CallPhases.TheVariants.{Command, Sc
 -- whether the call is a session
 abbrev pub session_of : CallPhases → Bool
 session_of (Script _) = true
-session_of (Command _ _) = false
+session_of (Command _) = false
 
--- its phases: a single command is one line of one phase
-abbrev pub phases_of : CallPhases → List Phase
-phases_of (Script phases) = phases
-phases_of (Command words input) = single_phase words input ∷ []
+-- these are the phases of the script, or what the words of a single command ask for
+abbrev pub AsksFor : List (List ℕ) → List ℕ → CallPhases → Type 0
+AsksFor words input (Script phases) = phases ≡ call_phases words input
+AsksFor words input (Command prepared) = AsksAlone words input prepared
 
--- The words are right, this was taken of the input, each line that a single command reads is right, and these are the phases.
+-- The words are right, this was taken of the input, each line that a single command reads is right, and this is asked for.
 pub record HasPhases (words : List (List ℕ)) (old new : ObservedStream) (call : CallPhases) : Type 0 where
   pub input : List ℕ
   pub session : session_of call ≡ is_session words
   pub sound : call_fault words ≡ None
   pub takes : TakesInput (call_reads words) (is_session words) input old new
   pub right : input_fault words input ≡ None
-  pub phases : phases_of call ≡ call_phases words input
+  pub asks : AsksFor words input call
 
 -- the call is refused so for these bytes of its input, whatever its other devices, none of which is asked
 abbrev pub RefusesFor : Refusal → List ℕ → List (List ℕ) → ObservedStream → ObservedStream → Type 0
@@ -56,19 +49,9 @@ HasError words old new (Unasked outcome) = (is_session words ≡ false) × ((inp
 abbrev pub IsReadAs : List (List ℕ) → ObservedStream → ObservedStream → Result CallPhases CallError → Type 0
 IsReadAs words old new read = MatchResult read (HasPhases words old new) (HasError words old new)
 
--- a fault of the words or of the lines of a single command, where there is one, or memory ran out
-abbrev pub IsFault : Option Outcome → CallError → Type 0
-IsFault fault (Refused refusal) = refusal ≡ refusals.NoMemory
-IsFault fault (Unasked outcome) = fault ≡ Some outcome
-
--- a query that has no tree
-abbrev pub query_error : QueryError → CallError
-query_error (queries.BadQuery at kind) = Unasked (outcomes.BadQuery at kind)
-query_error (queries.BadDate at) = Unasked (outcomes.BadDate at)
-query_error (queries.Limit limit) = Unasked (outcomes.Limit limit)
-query_error queries.NoMemory = Refused refusals.NoMemory
-
--- a line that is not of its form
-abbrev pub line_error : LineError → CallError
-line_error (lines.BadLine line kind) = Unasked (outcomes.BadLine line kind)
-line_error lines.NoMemory = Refused refusals.NoMemory
+-- it was read so of some words and their input
+pub record WasRead (read : Result CallPhases CallError) : Type 0 where
+  pub words : List (List ℕ)
+  pub old : ObservedStream
+  pub new : ObservedStream
+  pub is : IsReadAs words old new read

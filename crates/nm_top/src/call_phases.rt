@@ -6,20 +6,21 @@ ghost use Rattle.nm_history.specs.Refusals.{IsRead};
 ghost use Rattle.nm_top.specs.CallPhases.{HasError};
 ghost use Rattle.nm_top.specs.Ending.{take_refusal};
 
-use nm_base::{Limit, Many, NoMemory, Text};
+use nm_base::{Limit, Many, NoMemory};
 use nm_io::{Source, TakeError, take_all};
 use nm_lanes::Phase;
+use nm_line::Prepared;
 use nm_log::{Outcome, Refusal};
 use std::alloc::Global;
 
 /// The most bytes of an input.
 const MAX_INPUT: u64 = 67_108_864;
 
-/// The phases of a script; or the words of a single command and the lines that it reads, which are the one line of one phase.
+/// The phases of a script; or what a single command asks for, which is the one line of one phase.
 #[derive(Drop)]
 pub(crate) enum CallPhases {
     Script(Many<Phase>),
-    Command(Many<Text>, Many<u8>),
+    Command(Prepared),
 }
 
 /// Why a call runs no phase.

@@ -4,17 +4,19 @@ ghost use Rattle.std.specs.Prelude.{◌≡◌, ℕ, List};
 ghost use Rattle.nm_history.specs.Call.{call_of};
 ghost use Rattle.nm_history.specs.History.{History};
 ghost use Rattle.nm_io.specs.Observed.{ObservedStream};
-ghost use Rattle.nm_top.specs.CallPhases.{HasPhases, IsReadAs};
+ghost use Rattle.nm_session.specs.Alone.{AsksAlone};
+ghost use Rattle.nm_top.specs.CallPhases.{HasPhases, IsReadAs, WasRead};
 ghost use Rattle.nm_top.specs.Devices.{KeepsLoans, devices_of};
 ghost use Rattle.nm_top.specs.declared.call_phases.CallPhases.TheVariants.{Command, Script};
 
 use crate::call_phases::{CallError, CallPhases};
 use crate::ending::{end_run, refuse, refuse_line};
 use crate::laws::refusal_laws;
-use nm_base::{Many, Text};
+use nm_base::Many;
 use nm_disk::Disk;
 use nm_io::Sink;
 use nm_lanes::Phase;
+use nm_line::Prepared;
 use nm_log::{Crew, Done};
 use nm_maildir::Maildir;
 use nm_session::{run_command, run_session};
@@ -39,6 +41,7 @@ impl<M: Maildir, D: Disk, O: Sink, E: Sink> Devices<'_, '_, '_, '_, M, D, O, E> 
         gate: &G,
         call: Result<CallPhases, CallError>,
     ) -> Done
+        requires { WasRead call }
         ensures history { (words : List (List ℕ)) (old new : ObservedStream) → IsReadAs words old new call → History (call_of words crew.now.setting.now
             (devices_of M.observed D.observed O.observed E.observed old self.old) (devices_of M.observed D.observed O.observed E.observed new self.new) result) }
         ensures loans { KeepsLoans self.old self.new }
@@ -46,7 +49,7 @@ impl<M: Maildir, D: Disk, O: Sink, E: Sink> Devices<'_, '_, '_, '_, M, D, O, E> 
         refusal_laws();
         match call {
             Ok(CallPhases::Script(phases)) => self.run_script(crew, gate, phases),
-            Ok(CallPhases::Command(words, input)) => self.run_single(crew, words, input),
+            Ok(CallPhases::Command(prepared)) => self.run_single(crew, prepared),
             Err(CallError::Unasked(outcome)) => refuse_line(
                 crew.alloc,
                 self.err,
@@ -79,15 +82,15 @@ impl<M: Maildir, D: Disk, O: Sink, E: Sink> Devices<'_, '_, '_, '_, M, D, O, E> 
     fn run_single<R: Threads + Wait + Sync>(
         &mut self,
         crew: &Crew<'_, R>,
-        words: Many<Text>,
-        input: Many<u8>,
+        prepared: Prepared,
     ) -> Done
-        ensures history { (given : List (List ℕ)) (old new : ObservedStream) → HasPhases given old new (Command words input) → History (call_of given crew.now.setting.now
+        requires { (words : List (List ℕ)) × ((input : List ℕ) × AsksAlone words input prepared) }
+        ensures history { (words : List (List ℕ)) (old new : ObservedStream) → HasPhases words old new (Command prepared) → History (call_of words crew.now.setting.now
             (devices_of M.observed D.observed O.observed E.observed old self.old) (devices_of M.observed D.observed O.observed E.observed new self.new) result) }
         ensures loans { KeepsLoans self.old self.new }
     {
         refusal_laws();
-        let run = run_command(crew, words, input, self.mail, self.disk, self.out);
+        let run = run_command(crew, prepared, self.mail, self.disk, self.out);
         end_run(crew.alloc, false, run, self.err)
     }
 }

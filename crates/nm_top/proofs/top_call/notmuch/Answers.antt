@@ -1,6 +1,7 @@
-use Rattle.std.proofs.Common.{refl, sym, ◌∙◌, subst}
+use Rattle.std.proofs.Common.{rules, refl, sym, ◌∙◌, subst}
 use Rattle.nm_history.specs.Call.{call_of, devices}
 use Rattle.nm_log.specs.declared.log.Setting.{Setting}
+use Rattle.nm_top.specs.CallPhases.{WasRead}
 use Rattle.nm_top.specs.Drill.{DrillEnds}
 use Rattle.nm_top.proofs.DrillLemmas.{as-drill}
 use Rattle.nm_top.proofs.top_call.notmuch.Goals as goal
@@ -20,3 +21,8 @@ returns-then-is_drill-clause-history g c =
       input = refl;
       ends = subst (λ (setting : Setting). DrillEnds c.args.words.now setting c.drill.result out printed err said) c.new-crew.ensures c.drill.ensures;
     })
+
+pub run-requires : goal.run-requires
+run-requires g c =
+    let read : WasRead c.read_call-call.result = record { words = c.args.words.now; old = g.I.Source.observed c.args.input.now; new = g.I.Source.observed c.read_call-call.new.input; is = c.read_call-call.ensures } in
+    search (rules, read)

@@ -1,10 +1,19 @@
-use Rattle.std.proofs.Common.{Err, Result, ap, ◌∙◌, subst}
+use Rattle.std.proofs.Common.{rules, ℕ, List, Ok, Err, Result, ap, ◌∙◌, subst}
 use Rattle.nm_top.proofs.HistoryLemmas.{line-history, unasked-history}
-use Rattle.nm_top.specs.CallPhases.{HasError, IsReadAs}
+use Rattle.nm_session.specs.Alone.{AsksAlone}
+use Rattle.nm_top.specs.CallPhases.{HasError, HasPhases, IsReadAs}
 use Rattle.nm_top.specs.declared.call_phases.CallError.{CallError}
 use Rattle.nm_top.specs.declared.call_phases.CallError.TheVariants as errors
 use Rattle.nm_top.specs.declared.call_phases.CallPhases.{CallPhases}
+use Rattle.nm_top.specs.declared.call_phases.CallPhases.TheVariants.{Command}
 use Rattle.nm_top.proofs.devices.Devices.run.Goals as goal
+
+pub run_single-requires : goal.run_single-requires
+run_single-requires g c =
+    let read : HasPhases c.requires.words c.requires.old c.requires.new (Command c.in-Ok-Command.prepared) =
+    subst (λ (r : Result CallPhases CallError). IsReadAs c.requires.words c.requires.old c.requires.new r) (c.in-Ok-Command.is ∙ ap Ok c.in-Ok-Command.field-0-is) c.requires.is in
+    let asked : (words : List (List ℕ)) × ((input : List ℕ) × AsksAlone words input c.in-Ok-Command.prepared) = (c.requires.words, (read.input, read.asks)) in
+    search (rules, asked)
 
 pub returns-in-Err-Unasked-clause-history : goal.returns-in-Err-Unasked-clause-history
 returns-in-Err-Unasked-clause-history g c = λ words old new read.
