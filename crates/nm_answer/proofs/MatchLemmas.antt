@@ -39,7 +39,7 @@ excluded_by query message = (excluded_from query message, excluded_of query mess
 
 -- ---- live messages
 
--- a file's id stands in its row
+-- a file's id is in its row
 file_entry : (index : Base) (id : List ℕ) (files : List (List ℕ × Facts)) (rows : List LinkRow)
     → AllByRecursion (λ row. AllByRecursion (λ id. IsTrue (has_entry index id)) (ids_of row)) (map (λ file. row_of file.1) files ++ rows)
     → has_id files id ≡ true → has_entry index id ≡ true

@@ -1,4 +1,4 @@
--- Where a number stands in a list of numbers once. For the proof of `threads_stand_where_their_first_messages_do`.
+-- Where a number is in a list of numbers once. For the proof of `threads_stand_where_their_first_messages_do`.
 use Rattle.std.proofs.Common.{◌≡◌, ℕ, Bool, true, false, not, ◌||◌, cond, List, [], ◌∷◌, ◌++◌, filter, fold, nat_eq, if◌then◌else◌, refl, sym, ap, append-nil, ◌∙◌, arith}
 use Rattle.std.specs.List.{list_any}
 use Rattle.nm_answer.specs.Listing.{each_once, with_new}

@@ -57,7 +57,7 @@ any_more n once (name ∷ names) =
 pub same_members : (names : List ℕ) (name : ℕ) → list_any (nat_eq name) (each_once nat_eq names) ≡ list_any (nat_eq name) names
 same_members names name = any_more name [] names
 
--- and no number stands twice
+-- and no number occurs twice
 apart_end : (first name : ℕ) (names : List ℕ) → AllByRecursion (λ other. nat_eq first other ≡ false) names → nat_eq first name ≡ false → AllByRecursion (λ other. nat_eq first other ≡ false) (names ++ name ∷ [])
 apart_end first name [] all is = (is, tt)
 apart_end first name (next ∷ names) all is = (all.0, apart_end first name names all.1 is)

@@ -41,7 +41,7 @@ one_more : (word last found : List ℕ) (words list : List (List ℕ)) →
 one_more word last found [] list = refl
 one_more word last found (next ∷ words) list = refl
 
--- what is found behind some words, of which the last is asked by its front
+-- what is found after some words, of which the last is asked by its front
 abbrev Fronts : List (List ℕ) → List ℕ → List (List ℕ) → Type 0
 Fronts words last list = (rest : List ℕ) × (after : List (List ℕ)) × (list ≡ words ++ (last ++ rest) ∷ after)
 

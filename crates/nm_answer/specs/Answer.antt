@@ -1,4 +1,4 @@
--- The plain answer to a request, and which texts a reply may have.
+-- The model's answer to a request, and which texts a reply may have.
 -- Cited by `nm_core`, `nm_machine`, `nm_history` and others.
 use Rattle.std.specs.Prelude.{ℕ, ℤ, Bool, true, false, ◌&&◌, ◌||◌, not, List, [], is_ok}
 use Rattle.nm_base.specs.Order.{same_text}
@@ -47,7 +47,7 @@ is_read (Show ask) = is_ok (answer_of ask.query)
 is_read (Tag ask) = is_ok (answer_of ask.query)
 is_read (Restore ask) = true
 
--- A reply that the index alone says has the plain answer; of the others the machine fixes the place alone.
+-- A reply that the index alone says has the model's answer; of the others the machine fixes the place alone.
 abbrev pub is_reply : Base → ℤ → Request → List ℕ → Bool
 is_reply index moment request text =
     not (is_of_index request) || (is_read request && same_text text (answer request [] index index moment []))

@@ -1,5 +1,5 @@
 -- The lines of an input: queries that are counted one by one, or changes of tags with the queries that they are for. The first line
--- that is neither passed over nor read is told by its number, counted from 1.
+-- that is neither passed over nor read is reported by its number, counted from 1.
 -- Cited by `nm_batch`, `nm_top` and `nm_history`.
 use Rattle.std.specs.Prelude.{ℕ, ◌+◌, Bool, List, [], ◌∷◌, Option, None, Some, Result, Ok, Err, if◌then◌else◌}
 use Rattle.std.specs.Str.{is_utf8}
@@ -10,13 +10,13 @@ use Rattle.nm_query.specs.declared.query.Query.{Query}
 use Rattle.nm_tags.specs.TagLines.{classified}
 use Rattle.nm_tags.specs.declared.line_error.LineKind.{LineKind}
 use Rattle.nm_tags.specs.declared.line_error.LineKind.TheVariants as kinds
-use Rattle.nm_answer.specs.declared.tagging.Tagging.{Tagging}
+use Rattle.nm_answer.specs.declared.tag_change.TagChange.{TagChange}
 
 -- what a text is as the query of a line; whatever is wrong with it, it is no query
 abbrev pub line_query : List ℕ → Result Query LineKind
 line_query text = elim (answer_of text) [ Ok query ↦ Ok query | Err refusal ↦ Err kinds.Query ]
 
--- what is read of one line, before what is read of the lines behind it
+-- what is read of one line, before what is read of the lines after it
 abbrev pub then_read : {T : Type 0} → ℕ → Result (Option T) LineKind → Result (List T) (ℕ × LineKind) → Result (List T) (ℕ × LineKind)
 then_read number (Ok None) read = read
 then_read number (Ok (Some first)) (Ok read) = Ok (first ∷ read)
@@ -42,13 +42,13 @@ queries_in input = read_each count_line 1 (lines input)
 -- ---- changes of tags
 
 -- what a line asks for whose words are read
-abbrev pub tagging_by : Bool → List TagOp → List ℕ → Result (Option Tagging) LineKind
+abbrev pub tagging_by : Bool → List TagOp → List ℕ → Result (Option TagChange) LineKind
 tagging_by clear ops text = elim (line_query text) [ Ok query ↦ Ok (Some (record { clear = clear; ops = ops; query = query })) | Err kind ↦ Err kind ]
 
 -- what a line asks for, nothing where it is passed over, or its fault: its words come before its query
-abbrev pub tag_line : Bool → List ℕ → Result (Option Tagging) LineKind
+abbrev pub tag_line : Bool → List ℕ → Result (Option TagChange) LineKind
 tag_line clear line = elim (classified clear line) [ Ok None ↦ Ok None | Ok (Some asked) ↦ tagging_by clear asked.0 asked.1 | Err kind ↦ Err kind ]
 
 -- the changes of an input
-abbrev pub taggings_in : Bool → List ℕ → Result (List Tagging) (ℕ × LineKind)
+abbrev pub taggings_in : Bool → List ℕ → Result (List TagChange) (ℕ × LineKind)
 taggings_in clear input = read_each (tag_line clear) 1 (lines input)

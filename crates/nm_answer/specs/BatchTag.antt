@@ -15,7 +15,7 @@ abbrev pub with_byte : ℕ → Option (List ℕ) → Option (List ℕ)
 with_byte byte (Some text) = Some (byte ∷ text)
 with_byte byte None = None
 
--- What stands behind a first double quote up to the last one: each quote in it is doubled, and nothing stands behind.
+-- What comes after a first double quote up to the last one: each quote in it is doubled, and nothing comes after.
 abbrev pub unquoted : List ℕ → Option (List ℕ)
 unquoted [] = None
 unquoted (byte ∷ []) = if byte == 34 then Some [] else None

@@ -1,19 +1,19 @@
--- What a request that sets tags asks for, and its plain answer: the lines on ids that no message has, and then those on the files that
--- keep their names.
+-- What a request that sets tags asks for, and the model's answer: the lines on ids that no message has, and then those on the files
+-- that keep their names.
 -- Cited by `nm_plan`, `nm_history` and `nm_session`.
 use Rattle.std.specs.Prelude.{ℕ, ℤ, List, [], ◌++◌}
 use Rattle.nm_index.specs.declared.base.Base.{Base}
 use Rattle.nm_maildir.specs.declared.given.Given.{Given}
-use Rattle.nm_answer.specs.Renaming.{sync_report, sync_text}
+use Rattle.nm_answer.specs.RenameOutcomes.{sync_report, sync_text}
 use Rattle.nm_answer.specs.Restore.{dump_lines, restorings_of, strangers, strangers_text}
 use Rattle.nm_answer.specs.Tag.{taggings_of}
-use Rattle.nm_answer.specs.Tagging.{wanted_by}
+use Rattle.nm_answer.specs.WantedTags.{wanted_by}
 use Rattle.nm_answer.specs.declared.request.Request.{Request}
 use Rattle.nm_answer.specs.declared.request.Request.TheVariants.{New, Count, Search, Dump, Show, Tag, Restore}
-use Rattle.nm_answer.specs.declared.tagging.Tagging.{Tagging}
+use Rattle.nm_answer.specs.declared.tag_change.TagChange.{TagChange}
 
 -- the changes of tags that a request asks for, the first one first
-abbrev pub taggings_for : Request → List ℕ → List Tagging
+abbrev pub taggings_for : Request → List ℕ → List TagChange
 taggings_for New input = []
 taggings_for (Count ask) input = []
 taggings_for (Search ask) input = []

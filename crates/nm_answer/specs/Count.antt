@@ -1,4 +1,5 @@
--- The plain answer to a count: how many messages a query finds, how many threads they are of, or how many files they have.
+-- The model's answer to a count: how many messages a query finds, how many threads they are of, or how many files they
+-- have.
 -- Cited by `nm_render` and `nm_core`.
 use Rattle.std.specs.Prelude.{ℕ, ℤ, List, [], ◌∷◌, ◌++◌, length, fold, Ok, Err, if◌then◌else◌}
 use Rattle.std.specs.BTreeSet.{insert_key}
@@ -46,7 +47,7 @@ count_text output index ids = decimal (counted output index ids) ++ 10 ∷ []
 abbrev pub count_found : CountAsk → Base → ℤ → Query → List ℕ
 count_found ask index moment query = count_text ask.output index (matches_of index query moment ask.exclude)
 
--- the counts of queries, one behind the other
+-- the counts of queries, one after the other
 abbrev pub counts_found : CountAsk → Base → ℤ → List Query → List ℕ
 counts_found ask index moment queries = flat_map (count_found ask index moment) queries
 

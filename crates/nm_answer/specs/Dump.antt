@@ -1,4 +1,4 @@
--- The plain answer to a dump: a line for each message that its query finds, in byte order of the ids.
+-- The model's answer to a dump: a line for each message that its query finds, in byte order of the ids.
 --   form of tag changes:  "#notmuch-dump batch-tag:3 tags" LF, then for each message ("+" tag " ")* "-- id:" id LF
 --   form of sup:          for each message id " (" tag (" " tag)* ")" LF, the tags as they are
 -- Cited by `nm_core` and `nm_dump`.
@@ -15,7 +15,7 @@ use Rattle.nm_tags.specs.Encoding.{encoded_tag}
 use Rattle.nm_answer.specs.Matches.{matches_of}
 use Rattle.nm_answer.specs.View.{tags_of}
 
--- a `)` stands in the text
+-- a `)` is in the text
 abbrev pub has_parenthesis : List ℕ → Bool
 has_parenthesis text = list_any (λ byte. byte == 41) text
 
@@ -52,7 +52,7 @@ abbrev pub message_line : DumpForm → List ℕ → List (List ℕ) → List ℕ
 message_line BatchTag id tags = changes_line id tags
 message_line Sup id tags = sup_line id tags
 
--- what stands before the lines: the first line in the form of tag changes, nothing in that of sup
+-- what comes before the lines: the first line in the form of tag changes, nothing in that of sup
 abbrev pub first_line : DumpForm → List ℕ
 first_line BatchTag = codes "#notmuch-dump batch-tag:3 tags" ++ 10 ∷ []
 first_line Sup = []

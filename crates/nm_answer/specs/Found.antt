@@ -1,4 +1,4 @@
--- The plain answer to a search, in the form and of the kind that it asks for. Cited by `nm_render` and `nm_core`.
+-- The model's answer to a search, in the form and of the kind that it asks for. Cited by `nm_render` and `nm_core`.
 use Rattle.std.specs.Prelude.{ℕ, ℤ, List, [], Ok, Err, if◌then◌else◌}
 use Rattle.nm_base.specs.declared.asks.SearchAsk.{SearchAsk}
 use Rattle.nm_base.specs.declared.forms.Output.{Output}

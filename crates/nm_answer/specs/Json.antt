@@ -3,12 +3,12 @@ use Rattle.std.specs.Prelude.{ℕ, ◌/◌, ◌%◌, ◌==◌, ◌||◌, nat_lt,
 use Rattle.std.specs.Char.{digit_char}
 use Rattle.std.specs.List.{flat_map}
 
--- the letter behind `\` that stands for a byte, or 0 where it has none
+-- the letter after `\` that represents a byte, or 0 where it has none
 abbrev pub escape_letter : ℕ → ℕ
 escape_letter byte =
     if byte == 34 || byte == 92 then byte else if byte == 8 then 98 else if byte == 12 then 102 else if byte == 10 then 110 else if byte == 13 then 114 else if byte == 9 then 116 else 0
 
--- what stands in a string for a byte: itself, unless it is a quote, a backslash or a control character
+-- what is in a string for a byte: itself, unless it is a quote, a backslash or a control character
 abbrev pub escaped : ℕ → List ℕ
 escaped byte =
     if nat_lt 0 (escape_letter byte) then 92 ∷ escape_letter byte ∷ []
@@ -19,7 +19,7 @@ escaped byte =
 abbrev pub json_string : List ℕ → List ℕ
 json_string text = 34 ∷ (flat_map escaped text ++ 34 ∷ [])
 
--- the texts one behind the other, with this one between them
+-- the texts one after the other, with this one between them
 abbrev pub joined : List ℕ → List (List ℕ) → List ℕ
 joined between [] = []
 joined between (text ∷ []) = text

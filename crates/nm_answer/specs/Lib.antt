@@ -4,7 +4,7 @@ pub mod BatchTag
 pub mod Changes
 pub mod Count
 pub mod Dump
-pub mod DumpReading
+pub mod DumpLines
 pub mod Found
 pub mod Json
 pub mod Listing
@@ -12,7 +12,7 @@ pub mod Matches
 pub mod NewText
 pub mod Orders
 pub mod Places
-pub mod Renaming
+pub mod RenameOutcomes
 pub mod Restore
 pub mod Runs
 pub mod Search
@@ -21,7 +21,7 @@ pub mod Summary
 pub mod SummaryJson
 pub mod Sup
 pub mod Tag
-pub mod Tagging
 pub mod Test
 pub mod View
+pub mod WantedTags
 pub mod Words

@@ -16,7 +16,7 @@ by_rank rank items = fold (at_rank rank) [] items
 abbrev pub with_new : {X : Type 0} → (X → X → Bool) → List X → X → List X
 with_new same items item = if list_any (same item) items then items else items ++ item ∷ []
 
--- each item once, where it first stands
+-- each item once, where it first is
 abbrev pub each_once : {X : Type 0} → (X → X → Bool) → List X → List X
 each_once same items = fold (with_new same) [] items
 

@@ -27,7 +27,7 @@ skip_line skipped = codes "skipped: " ++ skip_name skipped.1 ++ codes " " ++ ski
 abbrev pub is_quiet : NewReport → Bool
 is_quiet report = (report.added + report.removed + length report.skipped) == 0
 
--- a number behind what says of what
+-- a number after what says of what
 abbrev pub number_after : List ℕ → ℕ → List ℕ
 number_after before n = before ++ decimal n
 
@@ -62,7 +62,7 @@ listed_in (givens.Renamed from to answer ∷ more) = listed_in more
 abbrev pub gone : List (List ℕ × Facts) → List (List ℕ) → List (List ℕ)
 gone files listed = filter (λ path. not (has_text listed path)) (sorted (paths_of files))
 
--- the path, where the answer is that mail lies there
+-- the path, where the answer is that mail is there
 abbrev pub mail_at : List ℕ → ReadAnswer → List (List ℕ)
 mail_at path answers.Mail = path ∷ []
 mail_at path answers.NotMail = []
@@ -98,7 +98,8 @@ ids_of files = sorted (map (λ file. file.1.id) files)
 abbrev pub only_in : List (List ℕ × Facts) → List (List ℕ × Facts) → List (List ℕ)
 only_in first second = filter (λ id. not (has_text (ids_of first) id)) (ids_of second)
 
--- what is told of the files and of the messages, from the index before and the one after, and what the folder answered
+-- what is reported of the files and of the messages, from the index before and the one after, and what the folder
+-- answered
 abbrev pub report_of : List (List ℕ × Facts) → List (List ℕ × Facts) → List Given → NewReport
 report_of before after given = record {
   added = length (flat_map mail_given given);

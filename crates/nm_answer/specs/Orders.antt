@@ -1,4 +1,4 @@
--- What orders and parts of lists are, told by what they keep. Cited by `search_laws`.
+-- What orders and parts of lists are, described by what they keep. Cited by `search_laws`.
 use Rattle.std.specs.Prelude.{◌≡◌, ℕ, ℤ, Bool, false, ◌&&◌, int_lt, not, ◌-◌, List, [], ◌∷◌, ◌++◌, length, filter, min, Option, Some, None}
 use Rattle.std.specs.List.{AllByRecursion}
 
@@ -21,8 +21,8 @@ pub record IsByRank {X : Type 0} (rank : X → ℤ) (items sorted : List X) : Ty
   pub rising : Rises rank sorted
   pub same : (r : ℤ) → filter (is_ranked rank r) sorted ≡ filter (is_ranked rank r) items
 
--- the part is what stands between items that are passed over and those after it: as many as the offset says are passed
--- over, where there are so many; the part has no more items than the limit says, and is followed by none where there is no limit
+-- the part is what is between items that are passed over and those after it: as many as the offset says are passed over, where
+-- there are n; the part has no more items than the limit says, and is followed by none where there is no limit
 pub record IsPart {X : Type 0} (offset : ℕ) (limit : Option ℕ) (items part : List X) : Type 0 where
   pub before : List X
   pub after : List X

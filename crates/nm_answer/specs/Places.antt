@@ -1,4 +1,4 @@
--- Where the files of a message lie, and which types their parts have. Cited by `nm_eval`.
+-- Where the files of a message are, and which types their parts have. Cited by `nm_eval`.
 use Rattle.std.specs.Prelude.{ℕ, Bool, ◌&&◌, ◌||◌, not, List, [], ◌∷◌, ◌++◌, length, drop, codes, nat_eq, nat_lt, if◌then◌else◌}
 use Rattle.std.specs.List.{after_first, before_first, list_any, position_or_len, starts_with}
 use Rattle.nm_base.specs.declared.facts.Facts.{Facts}
@@ -10,19 +10,19 @@ abbrev pub front_of : List ℕ → List ℕ
 front_of [] = []
 front_of (b ∷ folder) = (b ∷ folder) ++ 47 ∷ []
 
--- the path lies somewhere below the folder
+-- the path is somewhere below the folder
 abbrev pub is_below : List ℕ → List ℕ → Bool
 is_below folder path = starts_with nat_eq path (front_of folder)
 
--- it lies directly in the folder: behind it stands a name alone
+-- it is directly in the folder: after it there is a name alone
 abbrev pub is_in : List ℕ → List ℕ → Bool
 is_in folder path = is_below folder path && not (list_any (is_byte 47) (drop (length (front_of folder)) path))
 
--- the path lies in FOLDER/new or in FOLDER/cur
+-- the path is in FOLDER/new or in FOLDER/cur
 abbrev pub is_in_maildir : List ℕ → List ℕ → Bool
 is_in_maildir folder path = is_in (front_of folder ++ codes "new") path || is_in (front_of folder ++ codes "cur") path
 
--- the path lies directly in the folder, or with `deep` anywhere below it
+-- the path is directly in the folder, or with `deep` anywhere below it
 abbrev pub is_at_path : List ℕ → Bool → List ℕ → Bool
 is_at_path folder deep path = if deep then is_below folder path else is_in folder path
 

@@ -8,8 +8,8 @@ use Rattle.nm_commit.specs.Files.{has_id}
 use Rattle.nm_index.specs.declared.base.Base.{Base}
 use Rattle.nm_query.specs.declared.query.Query.TheVariants.{Id}
 use Rattle.nm_tags.specs.declared.wanted.Wanted.{Wanted}
-use Rattle.nm_answer.specs.DumpReading.{read_dump}
-use Rattle.nm_answer.specs.declared.tagging.Tagging.{Tagging}
+use Rattle.nm_answer.specs.DumpLines.{read_dump}
+use Rattle.nm_answer.specs.declared.tag_change.TagChange.{TagChange}
 
 -- the lines that an input has; where one of them is out of its form it has none
 abbrev pub dump_lines : RestoreAsk → List ℕ → List Wanted
@@ -21,15 +21,15 @@ with_firsts named [] = []
 with_firsts named (line ∷ more) = (not (has_text named line.id), line) ∷ with_firsts (line.id ∷ named) more
 
 -- what a line asks for: of the message of that id, from no tags where it is the first that names it, unless tags are to stay
-abbrev pub restoring_of : Bool → Bool × Wanted → Tagging
+abbrev pub restoring_of : Bool → Bool × Wanted → TagChange
 restoring_of accumulate line = record { clear = line.0 && not accumulate; ops = line.1.ops; query = Id line.1.id }
 
 -- what lines ask for
-abbrev pub restorings_by : Bool → List Wanted → List Tagging
+abbrev pub restorings_by : Bool → List Wanted → List TagChange
 restorings_by accumulate lines = map (restoring_of accumulate) (with_firsts [] lines)
 
 -- what a `restore` asks for
-abbrev pub restorings_of : RestoreAsk → List ℕ → List Tagging
+abbrev pub restorings_of : RestoreAsk → List ℕ → List TagChange
 restorings_of ask input = restorings_by ask.accumulate (dump_lines ask input)
 
 -- ---- ids that no message has

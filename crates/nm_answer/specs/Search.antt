@@ -1,5 +1,5 @@
--- The plain answer to a search: in their order the threads, messages, files or tags of what a query finds, as lines or as
--- a JSON array.
+-- The model's answer to a search: in their order the threads, messages, files or tags of what a query finds, as lines or
+-- as a JSON array.
 -- Cited by `nm_render`.
 use Rattle.std.specs.Prelude.{ℕ, ℤ, pos, ◌-ℤ◌, Bool, List, [], ◌∷◌, ◌++◌, map, nat_eq, codes, if◌then◌else◌}
 use Rattle.std.specs.List.{filter_map, flat_map}
@@ -33,7 +33,7 @@ rank_of index oldest id = if oldest then message_date index id else pos 0 -ℤ m
 abbrev pub ordered : Base → Bool → List (List ℕ) → List (List ℕ)
 ordered index oldest ids = by_rank (rank_of index oldest) ids
 
--- the threads of messages, each where the first of its messages stands
+-- the threads of messages, each where the first of its messages is
 abbrev pub threads_of : Base → List (List ℕ) → List ℕ
 threads_of index ids = each_once nat_eq (filter_map (thread_name (rows_of index) index.entries) ids)
 
@@ -51,7 +51,7 @@ tags_of_all index ids = sorted (flat_map (tags_of index) ids)
 abbrev pub thread_digits : ℕ → List ℕ
 thread_digits name = encode_lower (u64_bytes name)
 
--- the text behind what says of what, and LF
+-- the text after what says of what, and LF
 abbrev pub item_line : List ℕ → List ℕ → List ℕ
 item_line before text = before ++ (text ++ 10 ∷ [])
 
@@ -63,7 +63,7 @@ lines_text before texts = flat_map (item_line before) texts
 abbrev pub strings_json : List (List ℕ) → List ℕ
 strings_json texts = json_array (map json_string texts) ++ 10 ∷ []
 
--- texts in the form that is asked; what stands before each in a line is not in the array
+-- texts in the form that is asked; what comes before each in a line is not in the array
 abbrev pub texts_printed : Bool → List ℕ → List (List ℕ) → List ℕ
 texts_printed json before texts = if json then strings_json texts else lines_text before texts
 
@@ -72,7 +72,7 @@ abbrev pub part_asked : {X : Type 0} → SearchAsk → List X → List X
 part_asked ask items = part_of ask.offset ask.limit items
 
 -- of messages in order, what is asked: their threads, their ids, their files or their tags; the offset and the limit count
--- what is printed. A summary is told by a definition of its own.
+-- what is printed. A summary has a definition of its own.
 abbrev pub items_text : Output → SearchAsk → Base → List (List ℕ) → List ℕ
 items_text Summary ask index ids = []
 items_text Threads ask index ids = texts_printed ask.json (codes "thread:") (map thread_digits (part_asked ask (threads_of index ids)))

@@ -1,5 +1,5 @@
--- The plain answer to a show: the messages that a query finds, the oldest first, or one file as it is. What the lead files hold
--- is what the mail folder gave, a read for each message.
+-- The model's answer to a show: the messages that a query finds, the oldest first, or one file as it is. What the lead files
+-- hold is what the mail folder gave, a read for each message.
 --   for each message:  "message id:" ID LF, for each file "file " PATH LF, "from " MAILBOX (", " MAILBOX)* LF, "subject " SUBJECT LF,
 --                      "date " YYYY-MM-DD LF, "tags " TAG (" " TAG)* LF, LF, the body, "end" LF
 --   body:              each text, and LF where it does not end so; or "missing" LF; or "too long" LF
@@ -100,7 +100,7 @@ given_text (givens.Renamed from to answer) = []
 abbrev pub message_text : Base → List ℕ → Given → List ℕ
 message_text index id given = head_text index id ++ (given_text given ++ codes "end\n")
 
--- messages one behind the other, each with what the folder gave for it
+-- messages one after the other, each with what the folder gave for it
 abbrev pub messages_text : Base → List (List ℕ) → List Given → List ℕ
 messages_text index [] given = []
 messages_text index (id ∷ ids) [] = []
@@ -140,7 +140,7 @@ first_lost (givens.Listed paths ∷ more) = None
 first_lost (givens.Read path answer ∷ more) = path_lost path answer
 first_lost (givens.Renamed from to answer ∷ more) = None
 
--- the path of the file that raw form asks for, where it is gone; text form tells it in its place
+-- the path of the file that raw form asks for, where it is missing; text form tells it in its place
 abbrev pub gone_path : ShowAsk → List Given → Option (List ℕ)
 gone_path ask given = if ask.raw then first_lost given else None
 

@@ -1,4 +1,4 @@
--- What a search tells of a thread: its first message that matches, how many there are, who wrote them, and their tags.
+-- What a search prints of a thread: its first message that matches, how many there are, who wrote them, and their tags.
 -- Cited by `nm_render`.
 use Rattle.std.specs.Prelude.{ℕ, zero, suc, ℤ, pos, Bool, ◌||◌, ◌==◌, not, nat_lt, int_lt, List, [], ◌∷◌, ◌++◌, length, filter, map, take, drop, codes, Some, if◌then◌else◌}
 use Rattle.std.specs.Fmt.{decimal}
@@ -46,7 +46,7 @@ shown_byte byte = if nat_lt byte 32 || byte == 127 then 32 else byte
 abbrev pub shown : List ℕ → List ℕ
 shown text = map shown_byte text
 
--- the day of a date, as YYYY-MM-DD; a date that no mail has, which lies before the year 1 or after 9999, as the nearest day
+-- the day of a date, as YYYY-MM-DD; a date that no mail has, which is before the year 1 or after 9999, as the nearest day
 abbrev pub in_range : ℤ → ℤ
 in_range date = if int_lt date min_date then min_date else if int_lt last_shown_second date then last_shown_second else date
 
@@ -59,11 +59,11 @@ shown_day date = date_text (date_of (day_of (in_range date)))
 abbrev pub is_some_text : List ℕ → Bool
 is_some_text text = not (length text == 0)
 
--- who is behind a mailbox: its name, or its address where that is empty
+-- whose a mailbox is: its name, or its address where that is empty
 abbrev pub mailbox_author : Mailbox → List ℕ
 mailbox_author mailbox = if length mailbox.name == 0 then mailbox.address else mailbox.name
 
--- behind the first one
+-- after the first one
 abbrev pub first_author : List Mailbox → List ℕ
 first_author [] = []
 first_author (mailbox ∷ more) = mailbox_author mailbox
@@ -80,7 +80,7 @@ author_of index id = lead_author (files_of index id)
 abbrev pub authors_of : Base → List (List ℕ) → List (List ℕ)
 authors_of index ids = each_once same_text (filter is_some_text (map (author_of index) (by_rank (message_date index) ids)))
 
--- names with commas between them, and others behind a bar
+-- names with commas between them, and others after a bar
 abbrev pub with_others : List (List ℕ) → List (List ℕ) → List ℕ
 with_others authors [] = joined (codes ", ") authors
 with_others authors (first ∷ more) = joined (codes ", ") authors ++ (codes "| " ++ joined (codes ", ") (first ∷ more))
@@ -92,20 +92,20 @@ authors_text index matched others =
 
 -- ---- the subject
 
--- the text is `Re:`, in any case, behind white space, and more
+-- the text is `Re:`, in any case, after white space, and more
 abbrev pub is_reply : List ℕ → Bool
 is_reply subject = same_ignoring_case (take 3 (trimmed_start subject)) (codes "re:")
 
--- what stands behind it and the white space after it
+-- what comes after it and the white space after it
 abbrev pub after_reply : List ℕ → List ℕ
 after_reply subject = trimmed_start (drop 3 (trimmed_start subject))
 
--- the subject without the first such marks, so many at most
+-- the subject without the first such marks, n at most
 unfoldable pub without_replies : ℕ → List ℕ → List ℕ
 without_replies zero subject = subject
 without_replies (suc n) subject = if is_reply subject then without_replies n (after_reply subject) else subject
 
--- without all that stand at its front
+-- without all that are at its front
 abbrev pub bare_subject : List ℕ → List ℕ
 bare_subject subject = without_replies (length subject) subject
 
@@ -152,7 +152,7 @@ summary_of index ids name = summary_by index name (in_thread index name ids) (me
 abbrev pub files_told : ThreadSummary → List ℕ
 files_told summary = if nat_lt summary.total summary.files then codes "(" ++ (decimal summary.files ++ codes ")") else []
 
--- the name, and what stands before a date that is right in 12 places
+-- the name, and what comes before a date that is right in 12 places
 abbrev pub name_told : ThreadSummary → List ℕ
 name_told summary = codes "thread:" ++ (thread_digits summary.thread ++ codes "   ")
 

@@ -13,11 +13,11 @@ use Rattle.nm_answer.specs.declared.summary.ThreadSummary.{ThreadSummary}
 abbrev pub json_member : List ℕ × List ℕ → List ℕ
 json_member named = json_string named.0 ++ (58 ∷ named.1)
 
--- values behind their names, as an object
+-- values after their names, as an object
 abbrev pub json_object : List (List ℕ × List ℕ) → List ℕ
 json_object members = 123 ∷ (joined (44 ∷ []) (map json_member members) ++ 125 ∷ [])
 
--- what is told of a thread; the date is in seconds since 1970
+-- what is reported of a thread; the date is in seconds since 1970
 abbrev pub summary_members : ThreadSummary → List (List ℕ × List ℕ)
 summary_members summary =
     (codes "authors", json_string summary.authors)

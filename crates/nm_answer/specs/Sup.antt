@@ -18,11 +18,11 @@ abbrev pub set_all : List (List ℕ) → Option (List TagOp)
 set_all [] = Some []
 set_all (word ∷ words) = if is_tag word then set_before word (set_all words) else None
 
--- `(` stands at the front and `)` at the end
+-- `(` is at the front and `)` at the end
 abbrev pub is_in_parentheses : List ℕ → Bool
 is_in_parentheses text = nat_le 2 (length text) && slice_index text 0 == 40 && slice_index text (length text - 1) == 41
 
--- what stands between them
+-- what is between them
 abbrev pub inside : List ℕ → Option (List ℕ)
 inside text = if is_in_parentheses text then Some (take (length text - 1 - 1) (drop 1 text)) else None
 
@@ -37,7 +37,7 @@ sup_asked (Some id) (Some tags) = with_tags id (set_all (words_in tags))
 sup_asked (Some id) None = Err kinds.Form
 sup_asked None tags = Err kinds.Form
 
--- what a line asks for, or its first fault: the id stands at the front
+-- what a line asks for, or its first fault: the id is at the front
 abbrev pub read_sup : List ℕ → Result (List ℕ × List TagOp) LineKind
 read_sup text =
     if begins_with_space text then Err kinds.Form

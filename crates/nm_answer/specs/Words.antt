@@ -1,4 +1,4 @@
--- When a message has words: one single list of one single file has them one behind the other.
+-- When a message has words: one single list of one single file has them one after the other.
 -- Cited by `laws` and `nm_eval`.
 use Rattle.std.specs.Prelude.{ℕ, Bool, true, false, ◌&&◌, ◌||◌, ◌==◌, List, [], ◌∷◌, Option, Some, None, nat_eq, if◌then◌else◌}
 use Rattle.std.specs.List.{list_any, starts_with}
@@ -19,7 +19,7 @@ begins_with starts (word ∷ words) [] = false
 begins_with starts (word ∷ []) (found ∷ list) = is_last_word starts word found
 begins_with starts (word ∷ next ∷ words) (found ∷ list) = same_text word found && begins_with starts (next ∷ words) list
 
--- the list has the words one behind the other, from some place on
+-- the list has the words one after the other, from some place on
 abbrev pub has_words : Bool → List (List ℕ) → List (List ℕ) → Bool
 has_words starts words [] = begins_with starts words []
 has_words starts words (found ∷ list) = begins_with starts words (found ∷ list) || has_words starts words list

@@ -15,8 +15,8 @@ ghost use Rattle.nm_answer.specs.Test.{is_odd, passes};
 ghost use Rattle.nm_answer.specs.View.{View, view_of};
 ghost use Rattle.nm_answer.specs.Words.{has_words};
 
-/// A list has words exactly where they stand in it one behind the other; the last one may be the front of a word where that
-/// is asked.
+/// A list has words exactly where they are in it one after the other; the last one may be the front of a word where that is
+/// asked.
 pub fn words_stand_one_after_the_other()
     ensures whole { (words list : List (List ℕ)) → IsTrue (has_words false words list) ↔ Stand words list }
     ensures front { (words list : List (List ℕ)) (last : List ℕ) → IsTrue (has_words true (words ++ last ∷ []) list) ↔ StandWithFront words last list }
@@ -31,7 +31,7 @@ pub fn a_tree_passes_as_its_queries_do()
     ensures odd { (queries : List Query) (message : View) (moment : ℤ) → passes (tree.Xor queries) message moment ≡ is_odd (map (λ query. passes query message moment) queries) }
 {}
 
-/// A query names the tags of its terms, wherever they stand in its tree.
+/// A query names the tags of its terms, wherever they are in its tree.
 pub fn a_tree_names_the_tags_of_its_queries()
     ensures term { (named tag : List ℕ) → names_tag (tree.Tag named) tag ≡ same_text tag named }
     ensures negation { (query : Query) (tag : List ℕ) → names_tag (tree.Not query) tag ≡ names_tag query tag }

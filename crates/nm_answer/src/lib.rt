@@ -7,7 +7,7 @@ mod request;
 mod search_laws;
 mod summary;
 mod sync_report;
-mod tagging;
+mod tag_change;
 
 pub use laws::{
     a_tag_excludes_unless_it_is_named, a_tree_names_the_tags_of_its_queries,
@@ -23,4 +23,4 @@ pub use search_laws::{
 };
 pub use summary::ThreadSummary;
 pub use sync_report::{SyncReport, Unmoved};
-pub use tagging::Tagging;
+pub use tag_change::TagChange;

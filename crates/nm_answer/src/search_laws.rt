@@ -19,19 +19,21 @@ pub fn an_offset_and_a_limit_cut_a_part()
     ensures { (offset : ℕ) (limit : Option ℕ) (items : List (List ℕ)) → IsPart offset limit items (part_of offset limit items) }
 {}
 
-/// Each thread that has a match is told, and is told once.
+/// Each thread that has a match is listed, and is listed once.
 pub fn each_thread_is_told_once()
     ensures once { (names : List ℕ) → IsDistinct nat_eq (each_once nat_eq names) }
     ensures same { (names : List ℕ) (name : ℕ) → list_any (nat_eq name) (each_once nat_eq names) ≡ list_any (nat_eq name) names }
 {}
 
-/// The thread of the first message is told first, and behind it those of the other messages in their order, without it.
+/// The thread of the first message is listed first, and after it those of the other messages in their order, without
+/// it.
 pub fn threads_stand_where_their_first_messages_do()
     ensures none { each_once nat_eq [] ≡ [] }
     ensures first { (name : ℕ) (names : List ℕ) → each_once nat_eq (name ∷ names) ≡ name ∷ filter (λ other. not (nat_eq name other)) (each_once nat_eq names) }
 {}
 
-/// Messages are told from the newest to the oldest, or the other way where that is asked; those of one date stay in their order.
+/// Messages are listed from the newest to the oldest, or the other way where that is asked; those of one date stay in their
+/// order.
 pub fn messages_are_told_by_date()
     ensures newest { (index : Base) (ids : List (List ℕ)) → Falls (message_date index) (ordered index false ids) }
     ensures oldest { (index : Base) (ids : List (List ℕ)) → Rises (message_date index) (ordered index true ids) }

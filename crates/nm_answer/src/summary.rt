@@ -2,7 +2,7 @@
 
 use nm_base::{Many, Tags};
 
-/// What a search tells of a thread.
+/// What a search prints of a thread.
 #[derive(Drop)]
 pub struct ThreadSummary {
     /// The name of the thread.

@@ -17,6 +17,6 @@ pub enum Unmoved {
 /// What a command that sets tags did with the names of files.
 #[derive(Drop)]
 pub struct SyncReport {
-    /// The files that keep names which don't follow their tags, in the order in which they were gone through.
+    /// The files that keep names which don't follow their tags, in the order in which they were passed.
     pub unmoved: Many<(MailPath, Unmoved)>,
 }

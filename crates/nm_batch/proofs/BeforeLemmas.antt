@@ -1,4 +1,4 @@
--- Lines behind others that are read. For the proof of `lines_before_move_a_fault_and_leave_it`.
+-- Lines after others that are read. For the proof of `lines_before_move_a_fault_and_leave_it`.
 use Rattle.std.proofs.Common.{◌≡◌, ℕ, ◌+◌, true, List, [], ◌∷◌, ◌++◌, length, is_ok, refl, sym, ap, ◌∙◌, arith, Option, Some, None, Result, Ok, Err}
 use Rattle.std.specs.List.{cons_option}
 use Rattle.nm_answer.specs.BatchLines.{read_each, then_read}
@@ -11,7 +11,7 @@ abbrev Read : Type 0 → Type 0
 Read T = Result (List T) (ℕ × LineKind)
 
 module _ {T : Type 0} where
-  -- the same, so many lines further on
+  -- the same, n lines further on
   abbrev later : ℕ → Read T → Read T
   later by (Ok read) = Ok read
   later by (Err fault) = Err (by + fault.0, fault.1)

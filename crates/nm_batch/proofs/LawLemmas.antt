@@ -1,4 +1,4 @@
--- What is read of lines, and which of them is told.
+-- What is read of lines, and which of them is reported.
 -- For the proofs of `changes_are_read_line_by_line` and `queries_are_read_line_by_line`.
 use Rattle.std.proofs.Common.{◌≡◌, ℕ, ◌+◌, ◌&&◌, true, List, [], ◌∷◌, ◌++◌, length, is_ok, refl, sym, ap, ◌∙◌, arith, inl, inr, ◌⊎◌, Option, Some, None, Result, Ok, Err}
 use Rattle.std.specs.List.{cons_option}
@@ -7,7 +7,7 @@ use Rattle.nm_batch.specs.LineByLine.{are_sound, asked_of, AreRead, IsFirstBad}
 use Rattle.nm_tags.specs.declared.line_error.LineKind.{LineKind}
 
 module _ {T : Type 0} where
-  -- where all is read, the first line is, and what the others ask for stands behind it
+  -- where all is read, the first line is, and what the others ask for comes after it
   pub first_read : (first : Result (Option T) LineKind) (more : Result (List T) (ℕ × LineKind)) (number : ℕ) (items : List T) → then_read number first more ≡ Ok items
       → (is_ok first ≡ true) × (rest : List T) × (more ≡ Ok rest) × (items ≡ cons_option (asked_of first) rest)
   first_read (Ok None) (Ok rest) number items e = (refl, rest, refl, cc)
@@ -16,7 +16,7 @@ module _ {T : Type 0} where
   first_read (Ok (Some first)) (Err fault) number items e = absurd (cc)
   first_read (Err kind) more number items e = absurd (cc)
 
-  -- a fault that is told is that of the first line, or one behind it
+  -- a fault that is reported is that of the first line, or one after it
   first_told : (first : Result (Option T) LineKind) (more : Result (List T) (ℕ × LineKind)) (here number : ℕ) (kind : LineKind) → then_read here first more ≡ Err (number, kind)
       → ((first ≡ Err kind) × (number ≡ here)) ⊎ ((is_ok first ≡ true) × (more ≡ Err (number, kind)))
   first_told (Ok None) more here number kind e = inr (refl, e)
@@ -38,7 +38,7 @@ module _ {T : Type 0} where
           asked = here.3 ∙ ap (cons_option (asked_of (read line))) after.asked;
         }
 
-    -- what is known of the line that is told, where the first line has the number `here`
+    -- what is known of the line that is reported, where the first line has the number `here`
     abbrev Told : ℕ → List (List ℕ) → ℕ → LineKind → Type 0
     Told here lines number kind =
         (before : List (List ℕ)) × (bad : List ℕ) × (after : List (List ℕ)) × (lines ≡ before ++ bad ∷ after)
@@ -58,7 +58,7 @@ module _ {T : Type 0} where
               (line ∷ found.0, found.1, found.2, ap (λ rest. line ∷ rest) found.3, omega (arith, found.4), ap (λ b. b && are_sound read found.0) later.0 ∙ found.5, found.6)
         ]
 
-    -- the line that is told is the first that has a fault
+    -- the line that is reported is the first that has a fault
     pub is_first_bad : (number : ℕ) (kind : LineKind) (lines : List (List ℕ)) → read_each read 1 lines ≡ Err (number, kind) → IsFirstBad read lines number kind
     is_first_bad number kind lines e =
         let found = told_from 1 number kind lines e in

@@ -8,7 +8,7 @@ abbrev pub with_lines : {T : Type 0} → List T → Result (List T) (ℕ × Line
 with_lines before (Ok read) = Ok (before ++ read)
 with_lines before (Err fault) = Err fault
 
--- a line more is read behind those before it
+-- a line more is read after those before it
 pub with_one_line : {T : Type 0} (before : List T) (number : ℕ) (item : T) (read : Result (List T) (ℕ × LineKind))
     → with_lines (before ++ item ∷ []) read ≡ with_lines before (then_read number (Ok (Some item)) read)
 with_one_line before number item (Ok read) = ap Ok (append_assoc before (item ∷ []) read)

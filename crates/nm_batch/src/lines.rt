@@ -50,7 +50,7 @@ pub fn read_lines<R: LineReader>(
     Ok(items)
 }
 
-/// The number of the next line; more lines than a number tells find no memory.
+/// The number of the next line; more lines than a number can count find no memory.
 fn next_number(number: u32) -> Result<u32, NoMemory>
     ensures { IfOk result (λ next. next ≡ number + 1) }
 {

@@ -10,8 +10,8 @@ use nm_query::{Query, QueryError, parse};
 use nm_tags::{LineError, LineKind, text_of};
 use std::alloc::Global;
 
-/// Reads the queries of an input, one a line; an empty line finds all messages. The first line that is no query is told by its
-/// number, counted from 1.
+/// Reads the queries of an input, one a line; an empty line finds all messages. The first line that is no query is reported by
+/// its number, counted from 1.
 pub fn read_queries(alloc: Global, input: &[u8]) -> Result<Many<Query>, LineError>
     ensures { MatchResult result (λ read. queries_in input.now ≡ Ok read) (IsFirstFault (queries_in input.now)) }
 {

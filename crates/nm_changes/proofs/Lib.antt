@@ -1,3 +1,3 @@
-pub mod SpellingLemmas
-pub mod TaggingLemmas
-pub mod WantingLemmas
+pub mod EncodingLemmas
+pub mod TagPlanLemmas
+pub mod WantedTagLemmas

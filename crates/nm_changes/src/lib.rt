@@ -1,13 +1,13 @@
-//! Committing and publishing: the changes that a command commits: those of the mails that have come and of the files that are gone,
-//! and those of the tags that lines want; and their bytes.
+//! Committing and publishing: the changes that a command commits: those of the mails that were added and of the files that are
+//! missing, and those of the tags that lines want; and their bytes.
 #![tactic(auto)]
 
-mod arrivals;
-mod spelling;
-mod tagging;
-mod wanting;
+mod additions;
+mod encoding;
+mod tag_plan;
+mod wanted_tags;
 
-pub use arrivals::{adds, drops, ids_of};
-pub use spelling::{framed, spell_beside, spell_rest};
-pub use tagging::{Planned, message_paths, plan_tags};
-pub use wanting::{Wanted, wanted_by};
+pub use additions::{adds, drops, ids_of};
+pub use encoding::{encode_beside, encode_rest, framed};
+pub use tag_plan::{Planned, message_paths, plan_tags};
+pub use wanted_tags::{Wanted, wanted_by};

@@ -20,7 +20,7 @@ use Rattle.nm_command.specs.declared.request.Request.TheVariants as requests
 use Rattle.nm_command.specs.declared.settings.Settings.{Settings}
 use Rattle.nm_command.specs.declared.table.CommandName.{CommandName}
 use Rattle.nm_command.specs.declared.table.CommandName.TheVariants.{Count, Drill, Dump, New, Restore, Search, Session, Show, Tag}
-use Rattle.nm_command.proofs.ReadingLemmas.{IsRead, fault-read, has-read, read-is}
+use Rattle.nm_command.proofs.CommandLemmas.{IsRead, fault-read, has-read, read-is}
 use Rattle.nm_command.proofs.TagLemmas.{IsAsked, asked-is, batch-by, has-asked, query-asked, read-change, tag-refused, untagged}
 
 -- what is answered, by the grammar

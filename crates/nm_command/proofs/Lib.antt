@@ -1,6 +1,7 @@
 mod AnswerLemmas
+mod CommandLemmas
 mod DefaultLemmas
-mod LeadingLemmas
+mod LeadingOptionLemmas
 mod NameLemmas
 mod NamedLemmas
 mod NumberLemmas
@@ -8,9 +9,8 @@ mod OptionLemmas
 mod ParserLemmas
 mod QueryLemmas
 mod RangeLemmas
-mod ReadingLemmas
 mod RepeatLemmas
+mod RequestWordLemmas
 mod RowLemmas
-mod SpellingLemmas
 mod TableLemmas
 mod TagLemmas

@@ -1,5 +1,5 @@
 -- The names of options: they begin with dashes, are more than those, and have no `=`.
--- For `LeadingLemmas`, `OptionLemmas`, `ReadingLemmas` and others.
+-- For `LeadingOptionLemmas`, `OptionLemmas`, `CommandLemmas` and others.
 use Rattle.std.proofs.Common.{◌≡◌, ℕ, suc, ◌<◌, ◌+◌, Bool, true, false, cond, ◌&&◌, not, List, [], ◌∷◌, ◌++◌, length, drop, take, refl, ap, ◌∙◌, arith}
 use Rattle.std.specs.Prelude.{Some, codes, nat_lt}
 use Rattle.std.specs.List.{after_first, before_first, list_all, position_or_len}

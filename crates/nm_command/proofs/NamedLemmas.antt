@@ -13,19 +13,19 @@ use Rattle.clap.specs.Kinds.{IsAmong}
 use Rattle.clap.specs.declared.error.kind.ErrorKind.{ErrorKind}
 use Rattle.clap.specs.declared.error.kind.ErrorKind.TheVariants.{OutOfMemory}
 use Rattle.nm_base.specs.Order.{same_text}
-use Rattle.nm_command.specs.Leading.{are_distinct, are_options, cut_option, is_option, leading_of, may_be, told_by}
+use Rattle.nm_command.specs.LeadingOptions.{are_distinct, are_options, cut_option, is_option, leading_of, may_be, told_by}
 use Rattle.nm_command.specs.LeadingParser.{are_named, has_value, is_known, parser}
 use Rattle.nm_command.specs.Numbers.{moment_in, workers_in}
 use Rattle.nm_command.specs.Options.{begins_with_dashes}
 use Rattle.nm_command.specs.Settings.{or_default}
 use Rattle.nm_command.specs.Table.{leading_options, meaning_of}
-use Rattle.nm_command.specs.declared.leading.Leading.{Leading}
-use Rattle.nm_command.specs.declared.leading.HeadError.{HeadError}
-use Rattle.nm_command.specs.declared.leading.HeadError.TheVariants.{NoMemory, Usage}
+use Rattle.nm_command.specs.declared.leading_options.Leading.{Leading}
+use Rattle.nm_command.specs.declared.leading_options.HeadError.{HeadError}
+use Rattle.nm_command.specs.declared.leading_options.HeadError.TheVariants.{NoMemory, Usage}
 use Rattle.nm_command.specs.declared.table.LeadingForm.{LeadingForm}
 use Rattle.nm_command.proofs.ParserLemmas.{Goes, Options, fresh, goes-well, stops-so, walks}
 
--- none of the names stands before
+-- none of the names comes before
 abbrev apart : Options → Options → Bool
 apart before more = list_all (λ option. not (is_some (meaning_of option.0 before))) more
 
@@ -143,7 +143,7 @@ refused words dashes values kind error memory (inr among) = elim (walks [] words
 
 -- ---- what the words say before the command
 
--- what stands before the command begins with dashes
+-- what comes before the command begins with dashes
 pub front-dashed : (words : List (List ℕ)) → list_all begins_with_dashes (take_while begins_with_dashes words) ≡ true
 front-dashed [] = refl
 front-dashed (word ∷ words) =

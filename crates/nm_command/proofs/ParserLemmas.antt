@@ -1,5 +1,5 @@
 -- The walk of `clap` over words that have a name and a value each: its rows are the options, and it fails where a name is
--- unknown or stands twice. For the proof of `parsed`.
+-- unknown or occurs twice. For the proof of `parsed`.
 use Rattle.std.proofs.Common.{◌≡◌, ℕ, suc, ◌+◌, ◌⊎◌, Bool, true, false, cond, not, ◌&&◌, ◌||◌, List, [], ◌∷◌, ◌++◌, length, map, take, drop, Option, None, Some, codes, refl, sym, ap, ap₂, subst, ◌∙◌, arith, inl, inr, append_assoc, append-nil}
 use Rattle.std.specs.Prelude.{find, fold, is_some, nat_lt, option_and_then, slice_get}
 use Rattle.std.specs.List.{after_first, list_all, list_any, position_or_len}
@@ -17,7 +17,7 @@ use Rattle.clap.specs.declared.error.kind.ErrorKind.TheVariants.{ArgumentConflic
 use Rattle.clap.specs.declared.parser.matches.ValueSource.TheVariants.{CommandLine}
 use Rattle.nm_base.specs.Order.{same_text}
 use Rattle.nm_text.specs.Cuts.{is_byte}
-use Rattle.nm_command.specs.Leading.{cut_option, may_be}
+use Rattle.nm_command.specs.LeadingOptions.{cut_option, may_be}
 use Rattle.nm_command.specs.LeadingParser.{has_value, is_known, parser, rule_named}
 use Rattle.nm_command.specs.Options.{begins_with_dashes}
 use Rattle.nm_command.specs.Table.{leading_options, meaning_of}
@@ -101,7 +101,7 @@ rows-say name (option ∷ options) =
       | false ↦ rows-say name options
     ]
 
--- a row of a new name stands last
+-- a row of a new name comes last
 at-end : (name : Text) (change : Row → List Row) (new rows : List Row) → has_row name rows ≡ false → at_row name change new rows ≡ rows ++ new
 at-end name change new [] h = refl
 at-end name change new (first ∷ rows) h =
@@ -233,7 +233,7 @@ written word dashes has =
     let is = dashed word dashes in
     subst IsWritten (sym is.1) (written-rest is.0 (ap (λ w. nat_lt 0 (length (cut_option w).1)) (sym is.1) ∙ valued (cut_option word) has))
 
--- each name is known and stands once, also among those before
+-- each name is known and occurs once, also among those before
 abbrev pub fresh : Options → Options → Bool
 fresh before [] = true
 fresh before (option ∷ more) = (is_known option && not (is_some (meaning_of option.0 before))) && fresh (before ++ option ∷ []) more

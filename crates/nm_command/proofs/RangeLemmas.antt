@@ -15,7 +15,7 @@ use Rattle.nm_command.specs.Grammar.{HasChanges, HasOptions, IsChange, IsOption,
 use Rattle.nm_command.specs.Numbers.{are_digits, drill_count_in, is_number, number_in}
 use Rattle.nm_command.specs.Settings.{nothing_set, or_default, with_setting}
 use Rattle.nm_command.specs.Requests.{changes_tags, query_of}
-use Rattle.nm_command.specs.Spelling.{are_changes, can_be_asked, fits, is_counted, lacks_query, limit_fits}
+use Rattle.nm_command.specs.RequestWords.{are_changes, can_be_asked, fits, is_counted, lacks_query, limit_fits}
 use Rattle.nm_command.specs.Table.{number_setting, options_of, values_of}
 use Rattle.nm_command.specs.declared.request.Request.{Request}
 use Rattle.nm_command.specs.declared.settings.Setting.{Setting}

@@ -22,7 +22,7 @@ use Rattle.nm_command.specs.declared.table.Numbered.TheVariants as numbers
 use Rattle.nm_command.specs.declared.table.Values.{Values}
 use Rattle.nm_command.specs.declared.table.Values.TheVariants as values
 use Rattle.nm_command.proofs.NameLemmas.{cut-nowhere, name-cut, name-found, name-lacks, name-whole}
-use Rattle.nm_command.proofs.ReadingLemmas.{option-on}
+use Rattle.nm_command.proofs.CommandLemmas.{option-on}
 use Rattle.nm_command.proofs.RowLemmas.{AllRows, row-holds}
 
 -- which of the settings it is

@@ -1,5 +1,5 @@
 -- What all rows of a table keep, and what a word that is found there keeps.
--- For `DefaultLemmas`, `LeadingLemmas`, `NameLemmas` and others.
+-- For `DefaultLemmas`, `LeadingOptionLemmas`, `NameLemmas` and others.
 use Rattle.std.proofs.Common.{◌≡◌, ℕ, true, false, cond, List, [], ◌∷◌, refl, sym, subst}
 use Rattle.std.proofs.lemmas.Option.{same_Some}
 use Rattle.std.specs.Prelude.{Some}

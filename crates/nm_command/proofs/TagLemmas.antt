@@ -27,7 +27,7 @@ abbrev pub with_ops : List TagOp → Result (List TagOp × List (List ℕ)) (Lis
 with_ops ops (Ok asked) = Ok (ops ++ asked.0, asked.1)
 with_ops ops (Err word) = Err word
 
--- a change behind others
+-- a change after others
 pub with_one_more : (word : List ℕ) (ops : List TagOp) (op : TagOp) (asked : Result (List TagOp × List (List ℕ)) (List ℕ)) →
     with_ops (ops ++ op ∷ []) asked ≡ with_ops ops (with_op word (Some op) asked)
 with_one_more word ops op (Ok asked) = ap (λ l. Ok (l, asked.1)) (append_assoc ops (op ∷ []) asked.0)
@@ -36,12 +36,12 @@ with_one_more word ops op (Err other) = refl
 sign_below : (sign : ℕ) → (sign == 43 || sign == 45) ≡ true → sign < 128
 sign_below sign h = grind (arith, nat_tests)
 
--- a tag word may be cut behind its sign
+-- a tag word may be cut after its sign
 pub cut_after_sign : (word : List ℕ) → IsUtf8 word → is_tag_word word ≡ true → IsCharBoundary word 1
 cut_after_sign [] u h = absurd (cc)
 cut_after_sign (sign ∷ tag) u h = IsCharBoundary-after_ascii (sign ∷ tag) 0 u (omega arith) (sign_below sign (and_parts _ _ h).0)
 
--- a tag behind `-` makes no `--`
+-- a tag after `-` makes no `--`
 tag-differs : (tag : List ℕ) → is_tag tag ≡ true → same_text (45 ∷ tag) (codes "--") ≡ false
 tag-differs [] h = absurd (cc)
 tag-differs (b ∷ more) h = ap (λ v. v && same_text more []) (not-true (b == 45) (and_parts (fits_length 200 (b ∷ more)) (not (b == 45)) h).1)
@@ -211,7 +211,7 @@ batch-refused settings batch words word kind (a_change_too_many _ op more is) h 
     ap (batch_first settings word more) (change-word word op is) ∙ ap (λ op. refused word (batch_fault op)) (change-op word op is)
 batch-refused settings batch words word kind (a_query_too_many _ _ query has) h = batch-by settings words (word ∷ query) (has-asked words [] (word ∷ query) has)
 
--- the word is told that the grammar says
+-- the word is reported that the grammar says
 pub tag-refused : (settings : Settings) (batch : Bool) (words : List (List ℕ)) (word : List ℕ) (kind : UsageKind) → HasTagFault batch words word kind →
     cond batch (batch_tag settings words) (single_tag settings (changes_of words)) ≡ Err (Usage word kind)
 tag-refused settings true words word kind fault = batch-refused settings true words word kind fault refl

@@ -108,7 +108,7 @@ pub data IsRequest : List (List ℕ) → Request → Type 0 where
   a_session : (name : List ℕ) (words : List (List ℕ)) (settings : Settings) → meaning_of name commands ≡ Some Session → HasOptions Session nothing_set words settings [] →
       IsRequest (name ∷ words) requests.Session
 
--- a word with dashes may not stand there, for this reason; a bad value is told before a repetition
+-- a word with dashes may not be there, for this reason; a bad value is reported before a repetition
 pub data IsFault : CommandName → Settings → List ℕ → UsageKind → Type 0 where
   unknown : (command : CommandName) (settings : Settings) (word : List ℕ) → meaning_of (before_first (is_byte 61) word) (options_of command) ≡ None →
       IsFault command settings word kinds.Option
@@ -117,7 +117,7 @@ pub data IsFault : CommandName → Settings → List ℕ → UsageKind → Type 
   repeated : (command : CommandName) (settings : Settings) (setting : Setting) (word : List ℕ) → IsOption command word setting → is_given settings setting ≡ true →
       IsFault command settings word kinds.Repeat
 
--- after options of the command a word with dashes follows that may not stand there
+-- after options of the command a word with dashes follows that may not be there
 pub data HasFault : CommandName → Settings → List (List ℕ) → List ℕ → UsageKind → Type 0 where
   at_once : (command : CommandName) (settings : Settings) (word : List ℕ) (words : List (List ℕ)) (kind : UsageKind) → begins_with_dashes word ≡ true → word ≢ codes "--" →
       IsFault command settings word kind → HasFault command settings (word ∷ words) word kind

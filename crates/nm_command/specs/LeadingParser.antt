@@ -1,9 +1,9 @@
--- What `clap` is told of the leading options, and what its parse decides. Cited by `leading` alone.
+-- What `clap` is reported of the leading options, and what its parse decides. Cited by `leading_options` alone.
 use Rattle.std.specs.Prelude.{ℕ, Bool, true, ◌&&◌, nat_lt, List, length, Some, None, codes, is_some}
 use Rattle.std.specs.List.{list_all}
 use Rattle.clap.specs.Words.{App, Rule, new_app, new_rule, with_rule}
 use Rattle.clap.specs.Simple.{on_top}
-use Rattle.nm_command.specs.Leading.{are_distinct, may_be}
+use Rattle.nm_command.specs.LeadingOptions.{are_distinct, may_be}
 use Rattle.nm_command.specs.Table.{leading_options, meaning_of}
 
 -- an option, under its name with the dashes

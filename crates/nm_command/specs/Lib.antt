@@ -1,10 +1,10 @@
 pub mod Grammar
-pub mod Leading
+pub mod LeadingOptions
 pub mod LeadingParser
 pub mod Numbers
 pub mod Options
+pub mod RequestWords
 pub mod Requests
 pub mod Settings
-pub mod Spelling
 pub mod Table
 pub mod TagWords

@@ -1,4 +1,4 @@
--- The numbers that options and a drill are given. Cited by `leading`, `number` and `reading`.
+-- The numbers that options and a drill are given. Cited by `leading_options`, `number` and `command_parser`.
 use Rattle.std.specs.Prelude.{ℕ, ℤ, pos, Bool, ◌&&◌, nat_le, List, length, Option, Some, None, if◌then◌else◌}
 use Rattle.std.specs.Char.{is_ascii_digit}
 use Rattle.std.specs.List.{list_all}

@@ -1,4 +1,4 @@
--- The options of a command, judged from left to right. Cited by `leading`, `options` and `reading`.
+-- The options of a command, judged from left to right. Cited by `leading_options`, `options` and `command_parser`.
 use Rattle.std.specs.Prelude.{ℕ, Bool, List, [], ◌∷◌, length, nat_eq, nat_lt, Option, Some, None, Result, Ok, Err, codes, if◌then◌else◌}
 use Rattle.std.specs.List.{after_first, before_first, position_or_len, starts_with}
 use Rattle.nm_base.specs.Order.{same_text}
@@ -20,14 +20,14 @@ or_bad_value setting = elim setting [ Some setting ↦ Ok setting | None ↦ Err
 abbrev pub or_no_option : Option Form → (Form → Option Setting) → Result Setting UsageKind
 or_no_option form sets = elim form [ Some form ↦ or_bad_value (sets form) | None ↦ Err kinds.Option ]
 
--- what an option sets: the first `=` stands between its name and its value
+-- what an option sets: the first `=` is between its name and its value
 abbrev pub setting_of : CommandName → List ℕ → Result Setting UsageKind
 setting_of command word =
     if nat_lt (position_or_len (is_byte 61) word) (length word)
     then or_no_option (meaning_of (before_first (is_byte 61) word) (options_of command)) (λ form. value_setting form (after_first (is_byte 61) word))
     else or_no_option (meaning_of word (options_of command)) flag_setting
 
--- the settings with one more; an option stands once
+-- the settings with one more; an option occurs once
 abbrev pub once : Settings → Setting → Result Settings UsageKind
 once settings setting = if is_given settings setting then Err kinds.Repeat else Ok (with_setting settings setting)
 
@@ -39,7 +39,7 @@ with_option command settings word = elim (setting_of command word) [ Ok setting 
 abbrev pub begins_with_dashes : List ℕ → Bool
 begins_with_dashes word = starts_with nat_eq word (codes "--")
 
--- what follows an option that may stand there
+-- what follows an option that may be there
 abbrev pub after_option : List ℕ → Result Settings UsageKind → (Settings → Result (Settings × List (List ℕ)) (List ℕ × UsageKind)) → Result (Settings × List (List ℕ)) (List ℕ × UsageKind)
 after_option word settings after = elim settings [ Ok settings ↦ after settings | Err kind ↦ Err (word, kind) ]
 

@@ -1,4 +1,4 @@
--- What words ask for, or the one word at fault. Cited by `reading`, `nm_log` and `nm_history`.
+-- What words ask for, or the one word at fault. Cited by `command_parser`, `nm_log` and `nm_history`.
 use Rattle.std.specs.Prelude.{ℕ, Bool, true, false, ◌||◌, ◌==◌, not, length, List, [], ◌∷◌, Option, Some, None, Result, Ok, Err, if◌then◌else◌}
 use Rattle.std.specs.List.{join_with_byte}
 use Rattle.nm_base.specs.declared.asks.CountAsk.{CountAsk}

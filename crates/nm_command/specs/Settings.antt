@@ -1,4 +1,4 @@
--- What the options of a command set. Cited by `leading`, `options`, `nm_top` and others.
+-- What the options of a command set. Cited by `leading_options`, `options`, `nm_top` and others.
 use Rattle.std.specs.Prelude.{Bool, true, false, Option, Some, None}
 use Rattle.nm_command.specs.declared.settings.Setting.{Setting}
 use Rattle.nm_command.specs.declared.settings.Setting.TheVariants.{Accumulate, Batch, Clear, DumpForm, Exclude, Json, Limit, Offset, Oldest, Output, Raw, ReadForm}

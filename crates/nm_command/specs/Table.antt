@@ -1,5 +1,5 @@
 -- The commands, the options of each, and what those may be: one table, from which all words are read.
--- Cited by `leading`, `options`, `nm_log` and others.
+-- Cited by `leading_options`, `options`, `nm_log` and others.
 use Rattle.std.specs.Prelude.{ℕ, true, false, List, [], ◌∷◌, Option, Some, None, codes}
 use Rattle.std.specs.Map.{lookup}
 use Rattle.std.specs.Option.{option_map}
@@ -21,7 +21,7 @@ use Rattle.nm_command.specs.declared.table.Numbered.TheVariants as numbers
 use Rattle.nm_command.specs.declared.table.Values.{Values}
 use Rattle.nm_command.specs.declared.table.Values.TheVariants as values
 
--- what a word stands for in a table: what the first row with that word says
+-- what a word represents in a table: what the first row with that word says
 abbrev pub meaning_of : {A : Type 0} → List ℕ → List (List ℕ × A) → Option A
 meaning_of word table = lookup (λ name. same_text name word) table
 
@@ -112,7 +112,7 @@ value_setting (Flag setting) value = None
 value_setting (OneOf which) value = meaning_of value (values_of which)
 value_setting (Number which) value = option_map (number_setting which) (number_in value)
 
--- what an option without a value sets, where it may stand so
+-- what an option without a value sets, where it may be so
 abbrev pub flag_setting : Form → Option Setting
 flag_setting (Flag setting) = Some setting
 flag_setting (OneOf which) = None

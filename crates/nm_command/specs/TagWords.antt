@@ -1,6 +1,6 @@
 -- The words of `tag` after its options: changes of tags, then a query.
 --   words := (("+" | "-") tag)* "--"? word*
--- Cited by `reading` and `tag_words`.
+-- Cited by `command_parser` and `tag_words`.
 use Rattle.std.specs.Prelude.{ℕ, Bool, false, ◌==◌, ◌||◌, ◌&&◌, not, List, [], ◌∷◌, Option, Some, None, Result, Ok, Err, codes, if◌then◌else◌}
 use Rattle.nm_base.specs.Order.{same_text}
 use Rattle.nm_base.specs.Tag.{is_tag}
@@ -20,7 +20,7 @@ abbrev pub op_of : List ℕ → Option TagOp
 op_of [] = None
 op_of (sign ∷ tag) = if is_tag tag then Some (record { add = sign == 43; tag = tag }) else None
 
--- a `--` may stand before the words of the query
+-- a `--` may come before the words of the query
 abbrev pub query_words : List (List ℕ) → List (List ℕ)
 query_words [] = []
 query_words (word ∷ more) = if same_text word (codes "--") then more else word ∷ more

@@ -6,15 +6,15 @@ ghost use Rattle.std.specs.List.{All, before_first, list_all, slice_split};
 ghost use Rattle.nm_base.specs.declared.refusals.UsageKind.{UsageKind};
 ghost use Rattle.nm_text.specs.Cuts.{is_byte};
 ghost use Rattle.nm_command.specs.Grammar.{IsOption, IsRefused, IsRequest};
-ghost use Rattle.nm_command.specs.Leading.{are_options, cut_option, is_command, is_option, leading_of, told_by};
+ghost use Rattle.nm_command.specs.LeadingOptions.{are_options, cut_option, is_command, is_option, leading_of, told_by};
 ghost use Rattle.nm_command.specs.Options.{begins_with_dashes, read_options};
 ghost use Rattle.nm_command.specs.Requests.{query_of, request_of, request_with};
 ghost use Rattle.nm_command.specs.Settings.{is_given, nothing_set, with_setting};
-ghost use Rattle.nm_command.specs.Spelling.{can_be_asked, can_be_told, in_words, leading_spelled, spelled};
+ghost use Rattle.nm_command.specs.RequestWords.{can_be_asked, can_be_told, in_words, leading_words_of, request_words};
 ghost use Rattle.nm_command.specs.Table.{commands, meaning_of, options_of, values_of};
 ghost use Rattle.nm_command.specs.declared.command_error.CommandError.TheVariants.{Usage};
-ghost use Rattle.nm_command.specs.declared.leading.HeadError.TheVariants.{Usage as OutOfForm};
-ghost use Rattle.nm_command.specs.declared.leading.Leading.{Leading};
+ghost use Rattle.nm_command.specs.declared.leading_options.HeadError.TheVariants.{Usage as OutOfForm};
+ghost use Rattle.nm_command.specs.declared.leading_options.Leading.{Leading};
 ghost use Rattle.nm_command.specs.declared.request.Request.{Request};
 ghost use Rattle.nm_command.specs.declared.settings.Setting.{Setting};
 ghost use Rattle.nm_command.specs.declared.settings.Settings.{Settings};
@@ -54,11 +54,11 @@ pub fn the_first_value_is_the_default()
 
 /// A request that is written out with all its options is read back, and words ask for no other requests than those.
 pub fn a_request_that_is_written_out_is_read_back()
-    ensures back { (request : Request) → can_be_asked request ≡ true → request_of (spelled request) ≡ Ok request }
+    ensures back { (request : Request) → can_be_asked request ≡ true → request_of (request_words request) ≡ Ok request }
     ensures only { (words : List (List ℕ)) → (request : Request) → request_of words ≡ Ok request → can_be_asked request ≡ true }
 {}
 
-/// Words without a space are what stands between the spaces of their query.
+/// Words without a space are what is between the spaces of their query.
 pub fn a_query_keeps_its_words()
     ensures { (word : List ℕ) → (words : List (List ℕ)) → All (λ word. All (λ b. b ≢ 32) word) (word ∷ words) → slice_split (is_byte 32) (query_of (word ∷ words)) ≡ word ∷ words }
 {}
@@ -77,10 +77,10 @@ pub fn options_may_change_places()
 pub fn leading_options_are_read_as_written()
     ensures told { (options : List (List ℕ × List ℕ)) → (words : List (List ℕ)) → are_options options ≡ true → is_command words ≡ true →
         leading_of (in_words options ++ words) ≡ Ok (told_by options) }
-    ensures back { (leading : Leading) → (words : List (List ℕ)) → can_be_told leading ≡ true → is_command words ≡ true → leading_of (in_words (leading_spelled leading) ++ words) ≡ Ok leading }
+    ensures back { (leading : Leading) → (words : List (List ℕ)) → can_be_told leading ≡ true → is_command words ≡ true → leading_of (in_words (leading_words_of leading) ++ words) ≡ Ok leading }
 {}
 
-/// A leading option of a name that was there is refused, whatever stands between and behind, and so is a leading word that is no option.
+/// A leading option of a name that was there is refused, whatever is between and after, and so is a leading word that is no option.
 pub fn leading_words_are_refused()
     ensures repeated { (before : List (List ℕ)) → (word : List ℕ) → (between : List (List ℕ)) → (other : List ℕ) → (after : List (List ℕ)) →
         list_all begins_with_dashes (before ++ word ∷ between) ≡ true → begins_with_dashes other ≡ true → before_first (is_byte 61) word ≡ before_first (is_byte 61) other →

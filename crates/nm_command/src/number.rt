@@ -1,4 +1,4 @@
-//! The numbers that options and a drill are given, for `leading`, `table` and `reading`.
+//! The numbers that options and a drill are given, for `leading_options`, `table` and `command_parser`.
 
 ghost use Rattle.std.specs.Prelude.{◌≡◌, ◌≤◌, ◌&&◌, nat_le, IfSome, Some, None, if◌then◌else◌};
 ghost use Rattle.std.specs.Char.{is_ascii_digit};

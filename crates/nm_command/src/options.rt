@@ -62,7 +62,7 @@ pub(crate) fn begins_with_dashes(word: &str) -> bool
     word.as_bytes().starts_with(b"--")
 }
 
-/// The settings with that of one more option, which may stand once.
+/// The settings with that of one more option, which may occur once.
 fn with_option(command: CommandName, settings: Settings, word: &str) -> Result<Settings, UsageKind>
     ensures { result ≡ with_option command settings word.now }
 {

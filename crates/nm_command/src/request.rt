@@ -12,7 +12,7 @@ pub enum Request {
     Tag(TagAsk),
     Dump(DumpAsk),
     Restore(RestoreAsk),
-    /// A trial over so many mails, 1 to 20,000.
+    /// A trial over n mails, 1 to 20,000.
     Drill(u32),
     Session,
 }

@@ -60,7 +60,7 @@ pub(crate) enum LeadingForm {
     Moment,
 }
 
-/// A word, and what it stands for.
+/// A word, and what it represents.
 type Row<T> = (&'static str, T);
 
 const LEADING_OPTIONS: &[Row<LeadingForm>] = &[
@@ -210,7 +210,7 @@ fn number_setting(which: Numbered, number: u32) -> Setting
     }
 }
 
-/// What the word stands for in the first row that has it.
+/// What the word represents in the first row that has it.
 fn meaning_of<T: Copy>(rows: &[Row<T>], word: &str) -> Option<T>
     ensures { result ≡ meaning_of word.now (map (λ row. (row.0.now, row.1)) rows.now) }
 {

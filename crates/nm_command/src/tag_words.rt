@@ -70,7 +70,7 @@ fn has_sign(word: &str) -> bool
     }
 }
 
-/// The words of the query; a `--` may stand before them.
+/// The words of the query; a `--` may come before them.
 pub(crate) fn query_words(words: &[Text]) -> &[Text]
     ensures { result.now ≡ query_words words.now }
 {

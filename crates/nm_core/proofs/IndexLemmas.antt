@@ -21,7 +21,7 @@ index-at index (first ∷ commits) zero none h = refl
 index-at index (first ∷ commits) (suc k) none h = index-at (committed index first) commits k none (omega arith)
 
 module _ (opening : Base) (made : List Made) (kept : indexes_of made ≡ indexes_after opening (commits_of made)) where
-  -- beside a commit stands the index after it and those before it
+  -- beside a commit is the index after it and those before it
   pub index-beside : (k : ℕ) (none : Made) → k < length made → (get_or made k none).index ≡ folded opening (take (suc k) (commits_of made))
   index-beside k none h =
       sym (get_or-map (λ (one : Made). one.index) made k none none.index h)
@@ -44,7 +44,7 @@ module _ (opening : Base) (made : List Made) (one : Made) (shown : ℕ) (lanes :
   order-more met order = subst (InOrder met) (sym acknowledged) (record {
     seen = order.seen;
     known = order.known;
-    meeting = order.meeting;
+    last_barrier = order.last_barrier;
     shown = omega (arith, order.shown, length-append (commits_of made) (one.commit ∷ []));
   })
 

@@ -11,7 +11,7 @@ use Rattle.nm_machine.specs.Laws.{met_after}
 use Rattle.nm_machine.specs.Machine.{Machine, IsAllowed, Takes}
 use Rattle.nm_machine.specs.declared.step.Step.{Step}
 
--- the machine's state, and how many commits were acknowledged at the last meeting or opening, 0 before the first
+-- the machine's state, and how many commits were acknowledged at the last barrier or opening, 0 before the first
 pub record Kept : Type 0 where
   pub machine : Machine
   pub met : ℕ
@@ -33,7 +33,7 @@ abbrev pub indexes_after : Base → List Commit → List Base
 indexes_after index [] = []
 indexes_after index (commit ∷ commits) = committed index commit ∷ indexes_after (committed index commit) commits
 
--- beside each commit stands the index after it; so with the one that is begun
+-- beside each commit is the index after it; so with the one that is begun
 pub record AreIndexes (opening : Base) (made : List Made) (in_flight : Option Made) : Type 0 where
   pub kept : indexes_of made ≡ indexes_after opening (commits_of made)
   pub next : IfSome in_flight (λ one. one.index ≡ committed (folded opening (commits_of made)) one.commit)

@@ -67,7 +67,7 @@ pub struct Core {
     /// For each lane, how many commits it sees.
     lanes: Many<usize>,
     up: bool,
-    /// How many commits there were at the last meeting or opening.
+    /// How many commits there were at the last barrier or opening.
     met: usize,
 }
 
@@ -167,7 +167,7 @@ impl Core {
         self.index_after(self.commits.len())
     }
 
-    /// The index after the first commits, so many of them.
+    /// The index after the first commits, n of them.
     fn index_after(&self, seen: usize) -> &Snapshot
         requires { seen ≤ length self.now.machine.commits }
         ensures { result.now ≡ index_after self.now.machine seen }
@@ -315,7 +315,7 @@ fn none_seeing(alloc: Global, lanes: usize) -> Result<Many<usize>, NoMemory>
     Ok(Many::from_vec(all))
 }
 
-// In place, since a meeting is to take no memory.
+// In place, since a barrier is to take no memory.
 fn all_seeing(lanes: Many<usize>, shown: usize) -> Many<usize>
     ensures { result ≡ replicate (length lanes) shown }
 {

@@ -8,7 +8,7 @@ use Rattle.nm_text.specs.Cuts.{is_byte}
 use Rattle.nm_decode.specs.Bytes.{escape_of, hex_byte, is_hex}
 use Rattle.nm_decode.specs.QuotedPrintable.{unescaped}
 
--- a byte that is no `=` stands for itself
+-- a byte that is no `=` represents itself
 pub unescaped-plain : (a : ℕ) (more : List ℕ) → eqb a 61 ≡ false → unescaped (a ∷ more) ≡ a ∷ unescaped more
 unescaped-plain a [] e = refl
 unescaped-plain a (b ∷ []) e = refl
@@ -26,7 +26,7 @@ run-step : (a : ℕ) (more : List ℕ) (t : Bool) → eqb a 61 ≡ t
 run-step a more true e h = rw e refl
 run-step a more false e h = rw e (run-cons a more (position_or_len (is_byte 61) more) (1 + position_or_len (is_byte 61) more) (omega arith) e h)
 
--- the bytes before the first `=` stand for themselves
+-- the bytes before the first `=` represent themselves
 pub unescaped-run : (xs : List ℕ) → unescaped xs ≡ take (position_or_len (is_byte 61) xs) xs ++ unescaped (drop (position_or_len (is_byte 61) xs) xs)
 unescaped-run [] = refl
 unescaped-run (a ∷ more) = run-step a more (eqb a 61) refl (unescaped-run more)
@@ -79,7 +79,7 @@ escapes-end out text run after all a b c g =
     ap (λ xs. out ++ xs) (sym (append-nil run) ∙ ap (λ xs. run ++ unescaped xs) (sym c ∙ b) ∙ ap (λ xs. xs ++ unescaped (drop (position_or_len (is_byte 61) text) text)) a ∙ sym (unescaped-run text))
     ∙ g
 
--- what stands after the first run begins with `=`
+-- what comes after the first run begins with `=`
 pub equals-first : (text after more : List ℕ) (equals : ℕ) → after ≡ drop (position_or_len (is_byte 61) text) text → after ≡ equals ∷ more → equals ≡ 61
 equals-first text after more equals b c =
     let n = position_or_len (is_byte 61) text in

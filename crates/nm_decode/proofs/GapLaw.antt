@@ -68,7 +68,7 @@ other-first b (c ∷ rest) e = ap (option_and_then word_of_fields) (not_opened b
 white-first : (b : ℕ) → is_white_space b ≡ true → eqb b 61 ≡ false
 white-first b h = grind (arith, nat_tests)
 
--- the first word behind a gap
+-- the first word after a gap
 first-after : (gap rest : List ℕ) (word : EncodedWord) → is_all_white_space gap ≡ true → first_word rest ≡ Some (record { at = 0; word = word })
     → first_word (gap ++ rest) ≡ Some (record { at = length gap; word = word })
 first-after [] rest word h e = e
@@ -79,7 +79,7 @@ first-after (b ∷ gap) rest word h e =
     ∙ ap (or_later None) (first-after gap rest word p.1 e)
     ∙ ap (λ i. Some (record { at = i; word = word })) n
 
--- the cut of a text at the word behind a gap
+-- the cut of a text at the word after a gap
 cut-word : {word text : List ℕ} (w : IsWordOf word text) (n : ℕ) (gap rest : List ℕ) → is_all_white_space gap ≡ true
     → cut_words (suc n) (gap ++ (word ++ rest)) ≡ and_then_cut gap text (cut_words n rest)
 cut-word {word} {text} w n gap rest h =

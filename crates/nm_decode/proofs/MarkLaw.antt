@@ -1,4 +1,4 @@
--- A text in which no `=?` stands has no word. For the proof of `a_text_without_words_stays`.
+-- A text without `=?` has no word. For the proof of `a_text_without_words_stays`.
 use Rattle.std.proofs.Common.{◌≡◌, ℕ, zero, suc, Bool, true, false, ◌&&◌, ◌||◌, List, [], ◌∷◌, None, length, refl, ap, ◌∙◌, eqb, arith}
 use Rattle.std.specs.Option.{option_and_then}
 use Rattle.nm_decode.specs.EncodedWords.{cut_found, cut_words, fields_of, first_word, joined, or_later, segments_of, words_decoded, word_of, word_of_fields}

@@ -1,4 +1,4 @@
--- Bytes that stand for a character each: a run of ASCII spells itself. For the proof of `decode_single_byte`.
+-- Bytes that represent a character each: a run of ASCII is itself. For the proof of `decode_single_byte`.
 use Rattle.std.proofs.Common.{◌≡◌, ℕ, suc, ◌<◌, List, [], ◌∷◌, ◌++◌, map, refl, sym, ap, ◌∙◌, arith, append_assoc}
 use Rattle.std.proofs.lemmas.Str.{encodes-append, encodes-IsAscii}
 use Rattle.std.proofs.lemmas.List.{map-append, append-nil}
@@ -21,7 +21,7 @@ map-ascii charset (b ∷ run) h =
     ap (λ x. x ∷ map (char_in charset) run) (char_in-ascii charset b (h 0))
     ∙ ap (λ xs. b ∷ xs) (map-ascii charset run (λ i. h (suc i)))
 
--- the turn of a loop that spells a run of ASCII and one byte after it
+-- the turn of a loop that decodes a run of ASCII and one byte after it
 pub single_byte-run : (charset : Charset) (run more : List ℕ) → IsAscii run → single_byte_text charset (run ++ more) ≡ run ++ single_byte_text charset more
 single_byte-run charset run more h =
     ap encode_utf8_all (map-append (char_in charset) run more)

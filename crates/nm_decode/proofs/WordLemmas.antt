@@ -1,4 +1,4 @@
--- Where encoded words stand, and the first of a text. For the proofs of `encoded_words`, `first_word` and `word_at`.
+-- Where encoded words are, and the first of a text. For the proofs of `encoded_words`, `first_word` and `word_at`.
 use Rattle.std.proofs.Common.{◌≡◌, ℕ, zero, suc, ◌+◌, ◌-◌, ◌<◌, ◌≤◌, Bool, true, false, List, [], ◌∷◌, ◌++◌, Option, Some, None, length, take, drop, get_or, refl, sym, ap, ◌∙◌, subst, arith, append_assoc, zero-add, add-zero}
 use Rattle.std.proofs.lemmas.List.{at_drop_more, at_drop_all, get_or-drop, get_or_at, length-append, length-drop}
 use Rattle.std.proofs.lemmas.Str.{IsCharBoundary-after_ascii}

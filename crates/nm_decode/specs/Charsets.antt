@@ -19,7 +19,7 @@ abbrev pub char_in : Charset → ℕ → ℕ
 char_in Latin1 b = b
 char_in _ b = if nat_lt b 128 then b else 0xFFFD
 
--- the text of bytes that stand for a character each
+-- the text of bytes that represent a character each
 abbrev pub single_byte_text : Charset → List ℕ → List ℕ
 single_byte_text charset bytes = encode_utf8_all (map (char_in charset) bytes)
 

@@ -37,7 +37,7 @@ word_bytes (encoding ∷ []) text = if encoding == 66 || encoding == 98 then b_b
     else (if encoding == 81 || encoding == 113 then q_bytes text else None)
 word_bytes _ text = None
 
--- no white space stands in it
+-- no white space is in it
 abbrev pub is_field : List ℕ → Bool
 is_field field = list_all (λ b. not (is_white_space b)) field
 
@@ -57,7 +57,7 @@ abbrev pub begins_with_equals : List (List ℕ) → Bool
 begins_with_equals ((a ∷ more) ∷ segments) = a == 61
 begins_with_equals _ = false
 
--- what stands between the `?`
+-- what is between the `?`
 abbrev pub segments_of : List ℕ → List (List ℕ)
 segments_of text = slice_split (is_byte 63) text
 

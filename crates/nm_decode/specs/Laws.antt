@@ -8,13 +8,13 @@ use Rattle.nm_base.specs.Bounds.{is_white_space}
 use Rattle.nm_text.specs.Cuts.{is_byte}
 use Rattle.nm_decode.specs.EncodedWords.{word_text}
 
--- a `=?` stands somewhere in the text
+-- a `=?` is somewhere in the text
 abbrev pub has_mark : List ℕ → Bool
 has_mark [] = false
 has_mark (a ∷ []) = false
 has_mark (a ∷ b ∷ more) = a == 61 && b == 63 || has_mark (b ∷ more)
 
--- bytes that may stand for themselves in quoted-printable: neither `=` nor white space
+-- bytes that may represent themselves in quoted-printable: neither `=` nor white space
 abbrev pub IsUnencodedTest : (ℕ → Bool) → Type 0
 IsUnencodedTest unencoded = (b : ℕ) → unencoded b ≡ true → (b ≢ 61) × (is_white_space b ≡ false)
 
@@ -34,7 +34,7 @@ quoted_line unencoded bytes = flat_map (quoted_byte unencoded) bytes
 abbrev pub b_word : List ℕ → List ℕ
 b_word text = codes "=?utf-8?B?" ++ (encode_of standard text ++ codes "?=")
 
--- bytes that may stand for themselves in Q: neither `=`, `?`, `_` nor white space
+-- bytes that may represent themselves in Q: neither `=`, `?`, `_` nor white space
 abbrev pub IsQTest : (ℕ → Bool) → Type 0
 IsQTest unencoded = (b : ℕ) → unencoded b ≡ true → (b ≢ 61) × (is_white_space b ≡ false) × (b ≢ 63) × (b ≢ 95)
 
@@ -46,7 +46,7 @@ q_word unencoded text = codes "=?utf-8?Q?" ++ (quoted_line unencoded text ++ cod
 abbrev pub word_written : List ℕ → List ℕ → List ℕ → List ℕ
 word_written charset encoding encoded = codes "=?" ++ (charset ++ (codes "?" ++ (encoding ++ (codes "?" ++ (encoded ++ codes "?=")))))
 
--- one encoded word and nothing else, which decodes to the text; no `?` stands in its fields
+-- one encoded word and nothing else, which decodes to the text; no `?` is in its fields
 pub record IsWordOf (word text : List ℕ) : Type 0 where
   pub charset : List ℕ
   pub encoding : List ℕ

@@ -1,4 +1,4 @@
--- Quoted-printable (RFC 2045, section 6.7), read leniently: a `=` that begins no escape and ends no line stands for itself.
+-- Quoted-printable (RFC 2045, section 6.7), read leniently: a `=` that begins no escape and ends no line represents itself.
 -- Cited by `quoted` and `nm_extract`.
 use Rattle.std.specs.Prelude.{ℕ, Bool, ◌&&◌, ◌==◌, nat_lt, if◌then◌else◌, ◌-◌, List, [], ◌∷◌, ◌++◌, length, take, slice_index}
 use Rattle.std.specs.List.{flat_map}

@@ -16,7 +16,7 @@ pub record IsSpan (text : List ℕ) (from to : ℕ) : Type 0 where
   pub first : slice_index text from ≡ 61
   pub last : slice_index text (to - 1) ≡ 61
 
--- a gap before a word; `follows`: a word stands before it too
+-- a gap before a word; `follows`: a word comes before it too
 abbrev pub gap_text : Bool → List ℕ → List ℕ
 gap_text follows gap = if follows && is_all_white_space gap then [] else gap
 
@@ -26,7 +26,7 @@ with_word after follows text None = text
 with_word after follows text (Some found) = gap_text follows (take found.at text)
     ++ (found.word.text ++ after (drop (found.at + found.word.len) text))
 
--- a text with its first n words decoded; `follows`: a word stands before it
+-- a text with its first n words decoded; `follows`: a word comes before it
 abbrev pub decoded_text : ℕ → Bool → List ℕ → List ℕ
 decoded_text zero follows text = text
 decoded_text (suc n) follows text = with_word (decoded_text n true) follows text (first_word text)

@@ -9,7 +9,7 @@ ghost use Rattle.nm_decode.specs.EncodedWords.{words_decoded};
 ghost use Rattle.nm_decode.specs.Laws.{IsUnencodedTest, IsQTest, IsWordOf, b_word, has_mark, q_word, quoted_line};
 ghost use Rattle.nm_decode.specs.QuotedPrintable.{quoted_of};
 
-/// A text in which no `=?` stands stays as it is.
+/// A text without `=?` stays as it is.
 pub fn a_text_without_words_stays(text: &[u8])
     requires { has_mark text.now ≡ false }
     ensures { words_decoded text.now ≡ text.now }
@@ -24,7 +24,7 @@ pub fn base64_reads_back(bytes: &[u8])
     let _ = bytes;
 }
 
-/// Bytes in quoted-printable (RFC 2045, section 6.7) read back as the bytes, whichever of them stand for themselves, and
+/// Bytes in quoted-printable (RFC 2045, section 6.7) read back as the bytes, whichever of them represent themselves, and
 /// the soft break after them vanishes.
 pub fn quoted_printable_reads_back(bytes: &[u8], after: &[u8])
     ensures { (unencoded : ℕ → Bool) → IsUnencodedTest unencoded
@@ -41,7 +41,7 @@ pub fn a_b_word_reads_back(text: &str)
     let _ = text.as_bytes();
 }
 
-/// Any text as one encoded word in Q reads back as the text, whichever of its bytes stand for themselves.
+/// Any text as one encoded word in Q reads back as the text, whichever of its bytes represent themselves.
 pub fn a_q_word_reads_back(text: &str)
     ensures { (unencoded : ℕ → Bool) → IsQTest unencoded → words_decoded (q_word unencoded text.now) ≡ text.now }
 {

@@ -10,7 +10,7 @@ use nm_text::{ends_with, first_place, line_len, trimmed_end};
 use std::alloc::Global;
 
 /// The bytes of a quoted-printable body (RFC 2045, section 6.7), line by line: white space at a line's end is dropped,
-/// a `=` at its end takes the line end with it, `=` and two hex digits are a byte, any other `=` stands for itself.
+/// a `=` at its end takes the line end with it, `=` and two hex digits are a byte, any other `=` represents itself.
 pub fn quoted_printable(alloc: Global, bytes: &[u8]) -> Result<Many<u8>, NoMemory>
     ensures { IfOk result (λ many. many ≡ quoted_of bytes.now) }
 {
@@ -38,7 +38,7 @@ fn push_line(out: &mut Vec<u8>, line: &[u8]) -> Result<(), NoMemory>
     Ok(())
 }
 
-/// Runs of bytes that stand for themselves go over at once.
+/// Runs of bytes that represent themselves go over at once.
 pub(crate) fn push_unescaped(out: &mut Vec<u8>, text: &[u8]) -> Result<(), NoMemory>
     ensures { OnOk result (out.new.items ≡ out.old.items ++ unescaped text.now) }
 {

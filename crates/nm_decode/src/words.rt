@@ -24,8 +24,8 @@ pub struct FoundWord {
     pub word: EncodedWord,
 }
 
-/// The text with its encoded words decoded (RFC 2047, sections 2 and 6.2), wherever they stand. White space between two
-/// of them goes; a word that doesn't decode stands as written.
+/// The text with its encoded words decoded (RFC 2047, sections 2 and 6.2), wherever they are. White space between two
+/// of them goes; a word that doesn't decode stays as written.
 pub fn encoded_words(alloc: Global, text: &str) -> Result<Text, NoMemory>
     ensures { IfOk result (λ shown. shown ≡ words_decoded text.now) }
 {

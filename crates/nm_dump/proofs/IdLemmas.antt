@@ -9,13 +9,13 @@ use Rattle.nm_answer.specs.Dump.{has_parenthesis}
 use Rattle.nm_answer.specs.BatchTag.{checked_id, id_of_query, id_text, unquoted, with_byte}
 use Rattle.nm_answer.specs.Dump.{doubled, quoted, wants_quotes, written_id}
 
--- a byte that is no quote, with something after it, stands for itself
+-- a byte that is no quote, with something after it, represents itself
 other_byte : (byte : ℕ) (more : List ℕ) → (byte == 34) ≡ false → 0 < length more → unquoted (byte ∷ more) ≡ with_byte byte (unquoted more)
 other_byte byte [] e some = absurd (omega arith)
 other_byte byte (next ∷ more) e some =
     ap (λ b. cond b (cond (next == 34) (with_byte 34 (unquoted more)) None) (with_byte byte (unquoted (next ∷ more)))) e
 
--- two quotes stand for one
+-- two quotes represent one
 two_quotes : (byte : ℕ) (more : List ℕ) → (byte == 34) ≡ true → unquoted (byte ∷ byte ∷ more) ≡ with_byte byte (unquoted more)
 two_quotes byte more e =
     let is : 34 ≡ byte = grind (arith, nat_tests) in
@@ -41,7 +41,7 @@ quoted_read (byte ∷ text) =
     ap unquoted (append_assoc (doubled byte) (flat_map doubled text) (34 ∷ []))
     ∙ (doubled_read byte (flat_map doubled text ++ 34 ∷ []) (closed (flat_map doubled text)) ∙ ap (with_byte byte) (quoted_read text))
 
--- an id without `)` and a quote in front stands as it is
+-- an id without `)` and a quote in front is written as it is
 plain_read : (id : List ℕ) → is_message_id id ≡ true → wants_quotes id ≡ false → id_text id ≡ Some id
 plain_read [] is e = absurd (cc)
 plain_read (first ∷ more) is e =

@@ -12,7 +12,7 @@ two_bytes text e =
     let long = (and_parts (nat_le 2 (length text)) _ (and_parts (nat_le 2 (length text) && slice_index text 0 == 40) _ e).0).0 in
     grind (arith, nat_tests)
 
--- behind the opening one
+-- after the opening one
 pub cut_after_first : (text : List ℕ) → IsUtf8 text → is_in_parentheses text ≡ true → IsCharBoundary text 1
 cut_after_first text u e =
     let first = (and_parts (nat_le 2 (length text)) _ (and_parts (nat_le 2 (length text) && slice_index text 0 == 40) _ e).0).1 in

@@ -4,10 +4,10 @@ pub mod IdLemmas
 pub mod InsideLemmas
 pub mod QuoteLemmas
 pub mod RestoreLemmas
+pub mod RestoreLineLemmas
 pub mod RestoredDumpLemmas
 pub mod RestoredLemmas
-pub mod RestoringLemmas
 pub mod SupLineLemmas
+pub mod SupWholeLemmas
 pub mod TagLineLemmas
 pub mod WholeLemmas
-pub mod SupWholeLemmas

@@ -8,9 +8,9 @@ use Rattle.std.specs.List.{AllByRecursion, IsDistinct}
 use Rattle.std.specs.Map.{lookup}
 use Rattle.std.specs.Ordering.{nat_cmp}
 use Rattle.nm_answer.specs.Dump.{dump_text, tagged}
-use Rattle.nm_answer.specs.DumpReading.{read_dump}
+use Rattle.nm_answer.specs.DumpLines.{read_dump}
 use Rattle.nm_answer.specs.Restore.{restorings_by, restorings_of}
-use Rattle.nm_answer.specs.Tagging.{wanted_by}
+use Rattle.nm_answer.specs.WantedTags.{wanted_by}
 use Rattle.nm_answer.specs.View.{tags_of}
 use Rattle.nm_base.specs.Order.{IsSorted, same_text, sorted}
 use Rattle.nm_base.specs.declared.forms.DumpForm.TheVariants.{BatchTag, Sup}
@@ -26,8 +26,8 @@ use Rattle.nm_index.specs.Valid.{IsValid}
 use Rattle.nm_index.specs.Index.{folded}
 use Rattle.nm_index.specs.declared.base.Base.{Base}
 use Rattle.nm_plan.specs.Numbering.{AreNumbered}
-use Rattle.nm_plan.specs.Tagging.{tag_commit}
-use Rattle.nm_answer.specs.declared.tagging.Tagging.{Tagging}
+use Rattle.nm_plan.specs.TagCommit.{tag_commit}
+use Rattle.nm_answer.specs.declared.tag_change.TagChange.{TagChange}
 use Rattle.nm_tags.specs.Operations.{after_ops, begun_with}
 use Rattle.nm_tags.specs.declared.line_error.LineKind.{LineKind}
 use Rattle.nm_tags.specs.declared.wanted.Wanted.{Wanted}
@@ -144,9 +144,9 @@ tagged_once index ids valid = (
 )
 
 -- and once the commit of tags is made they have them in the index
-pub all_committed : (lines : (moment : ℤ) (index : Base) (lines : List Tagging) (id : List ℕ) → AreNumbered index
+pub all_committed : (lines : (moment : ℤ) (index : Base) (lines : List TagChange) (id : List ℕ) → AreNumbered index
     → tags_of (folded index (tag_commit index (wanted_by moment index lines))) id ≡ tags_of (wanted_by moment index lines) id)
-    (moment : ℤ) (index : Base) → AreNumbered index → (asked : List Tagging) (messages : List Message) → HaveTheirTags index (wanted_by moment index asked) messages
+    (moment : ℤ) (index : Base) → AreNumbered index → (asked : List TagChange) (messages : List Message) → HaveTheirTags index (wanted_by moment index asked) messages
     → HaveTheirTags index (folded index (tag_commit index (wanted_by moment index asked))) messages
 all_committed lines moment index numbered asked [] have = tt
 all_committed lines moment index numbered asked (message ∷ messages) have = (

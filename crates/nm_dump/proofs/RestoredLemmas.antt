@@ -7,10 +7,10 @@ use Rattle.std.specs.Cmp.Lexicographic as lexicographic
 use Rattle.std.specs.Cmp.Lexicographic.{nat_list_eq_equiv}
 use Rattle.nm_answer.specs.Matches.{is_match}
 use Rattle.nm_answer.specs.Restore.{restoring_of, restorings_by, with_firsts}
-use Rattle.nm_answer.specs.Tagging.{asked_tags, found_by, is_found, wanted_after, wanted_by}
+use Rattle.nm_answer.specs.WantedTags.{asked_tags, found_by, is_found, wanted_after, wanted_by}
 use Rattle.nm_answer.specs.Test.{node_passes, passes}
 use Rattle.nm_answer.specs.View.{View, tags_of, view_of}
-use Rattle.nm_answer.specs.declared.tagging.Tagging.{Tagging}
+use Rattle.nm_answer.specs.declared.tag_change.TagChange.{TagChange}
 use Rattle.nm_base.specs.Order.{has_text, same_text}
 use Rattle.nm_dump.specs.Restored.{is_live, is_named_in, lines_naming, restored_tags}
 use Rattle.nm_index.specs.Index.{live_ids}
@@ -54,7 +54,7 @@ found_is accumulate moment index line id =
     ∙ ap (λ (b : Bool). is_live index id && b) (match-Id line.1.id (view_of index id) moment ∙ same_swap line.1.id id)
 
 -- what the lines ask for, where these ids were named before
-abbrev lines_after : Bool → Texts → List Wanted → List Tagging
+abbrev lines_after : Bool → Texts → List Wanted → List TagChange
 lines_after accumulate named lines = map (restoring_of accumulate) (with_firsts named lines)
 
 -- the lines take off the tags that a message has, where these ids were named before
@@ -65,14 +65,14 @@ clears accumulate named lines id = not (has_text named id) && (not accumulate &&
 abbrev pub after_lines : List Wanted → Texts → Texts
 after_lines lines tags = fold (λ at line. after_ops at line.ops) tags lines
 
-module _ (found : (moment : ℤ) (index : Base) (line : Tagging) (id : List ℕ) → IsTrue (has_text (found_by moment index line) id) → tags_of (wanted_after moment index line) id ≡ asked_tags line (tags_of index id))
-    (others : (moment : ℤ) (index : Base) (line : Tagging) (id : List ℕ) → has_text (found_by moment index line) id ≡ false → tags_of (wanted_after moment index line) id ≡ tags_of index id)
-    (rest : (moment : ℤ) (index : Base) (lines : List Tagging) → wanted_by moment index lines ≡ record index { tags = (wanted_by moment index lines).tags }) where
+module _ (found : (moment : ℤ) (index : Base) (line : TagChange) (id : List ℕ) → IsTrue (has_text (found_by moment index line) id) → tags_of (wanted_after moment index line) id ≡ asked_tags line (tags_of index id))
+    (others : (moment : ℤ) (index : Base) (line : TagChange) (id : List ℕ) → has_text (found_by moment index line) id ≡ false → tags_of (wanted_after moment index line) id ≡ tags_of index id)
+    (rest : (moment : ℤ) (index : Base) (lines : List TagChange) → wanted_by moment index lines ≡ record index { tags = (wanted_by moment index lines).tags }) where
   -- a line leaves which messages are live
-  live_after : (moment : ℤ) (index : Base) (line : Tagging) (id : List ℕ) → is_live (wanted_after moment index line) id ≡ is_live index id
+  live_after : (moment : ℤ) (index : Base) (line : TagChange) (id : List ℕ) → is_live (wanted_after moment index line) id ≡ is_live index id
   live_after moment index line id = ap (λ (i : Base). is_live i id) (rest moment index (line ∷ []))
 
-  -- what is known of the lines behind a first one
+  -- what is known of the lines after a first one
   abbrev Step : Bool → ℤ → Base → Texts → Wanted → List Wanted → List ℕ → Type 0
   Step accumulate moment index named line lines id =
       let after : Base = wanted_after moment index (restoring_of accumulate (not (has_text named line.id), line)) in
@@ -83,7 +83,7 @@ module _ (found : (moment : ℤ) (index : Base) (line : Tagging) (id : List ℕ)
       → Step accumulate moment index named line lines id
       → tags_of (wanted_by moment index (lines_after accumulate named (line ∷ lines))) id ≡ after_lines (cond b (line ∷ lines_naming lines id) (lines_naming lines id)) (begun_with (not (has_text named id) && (not accumulate && (b || is_named_in lines id))) (tags_of index id))
   step_by accumulate moment index named line lines id true is live more =
-      let asked : Tagging = restoring_of accumulate (not (has_text named line.id), line) in
+      let asked : TagChange = restoring_of accumulate (not (has_text named line.id), line) in
       let one : id ≡ line.id = lexicographic.same_text id line.id (sym is) in
       let here : has_text (found_by moment index asked) id ≡ true =
       found_is accumulate moment index (not (has_text named line.id), line) id ∙ (ap (λ (t : Bool). t && same_text id line.id) live ∙ is) in
@@ -93,7 +93,7 @@ module _ (found : (moment : ℤ) (index : Base) (line : Tagging) (id : List ℕ)
       ∙ (ap (λ (x : List ℕ). after_lines (lines_naming lines id) (after_ops (begun_with (not (has_text named x) && not accumulate) (tags_of index id)) line.ops)) (sym one)
       ∙ ap (λ (t : Bool). after_lines (lines_naming lines id) (after_ops (begun_with (not (has_text named id) && t) (tags_of index id)) line.ops)) (sym (and-true (not accumulate))))))
   step_by accumulate moment index named line lines id false is live more =
-      let asked : Tagging = restoring_of accumulate (not (has_text named line.id), line) in
+      let asked : TagChange = restoring_of accumulate (not (has_text named line.id), line) in
       let none : has_text (found_by moment index asked) id ≡ false =
       found_is accumulate moment index (not (has_text named line.id), line) id ∙ (ap (λ (t : Bool). t && same_text id line.id) live ∙ is) in
       more
@@ -106,7 +106,7 @@ module _ (found : (moment : ℤ) (index : Base) (line : Tagging) (id : List ℕ)
   restored_after accumulate moment index named [] id live =
       ap (λ (t : Bool). begun_with t (tags_of index id)) (sym (ap (λ (t : Bool). not (has_text named id) && t) (and-false (not accumulate)) ∙ and-false (not (has_text named id))))
   restored_after accumulate moment index named (line ∷ lines) id live =
-      let asked : Tagging = restoring_of accumulate (not (has_text named line.id), line) in
+      let asked : TagChange = restoring_of accumulate (not (has_text named line.id), line) in
       step_by accumulate moment index named line lines id (same_text id line.id) refl live
       (restored_after accumulate moment (wanted_after moment index asked) (line.id ∷ named) lines id (live_after moment index asked id ∙ live))
 
@@ -118,7 +118,7 @@ module _ (found : (moment : ℤ) (index : Base) (line : Tagging) (id : List ℕ)
   not_found : (accumulate : Bool) (moment : ℤ) (index : Base) (named : Texts) (lines : List Wanted) (id : List ℕ) → is_live index id ≡ false → is_found moment index (lines_after accumulate named lines) id ≡ false
   not_found accumulate moment index named [] id none = refl
   not_found accumulate moment index named (line ∷ lines) id none =
-      let asked : Tagging = restoring_of accumulate (not (has_text named line.id), line) in
+      let asked : TagChange = restoring_of accumulate (not (has_text named line.id), line) in
       ap (λ (b : Bool). b || is_found moment (wanted_after moment index asked) (lines_after accumulate (line.id ∷ named) lines) id) (found_is accumulate moment index (not (has_text named line.id), line) id ∙ ap (λ (b : Bool). b && same_text id line.id) none)
       ∙ not_found accumulate moment (wanted_after moment index asked) (line.id ∷ named) lines id (live_after moment index asked id ∙ none)
 
@@ -126,13 +126,13 @@ module _ (found : (moment : ℤ) (index : Base) (line : Tagging) (id : List ℕ)
   not_named : (accumulate : Bool) (moment : ℤ) (index : Base) (named : Texts) (lines : List Wanted) (id : List ℕ) → is_named_in lines id ≡ false → is_found moment index (lines_after accumulate named lines) id ≡ false
   not_named accumulate moment index named [] id none = refl
   not_named accumulate moment index named (line ∷ lines) id none =
-      let asked : Tagging = restoring_of accumulate (not (has_text named line.id), line) in
+      let asked : TagChange = restoring_of accumulate (not (has_text named line.id), line) in
       let apart = or_parts (same_text id line.id) (is_named_in lines id) none in
       ap (λ (b : Bool). b || is_found moment (wanted_after moment index asked) (lines_after accumulate (line.id ∷ named) lines) id)
       (found_is accumulate moment index (not (has_text named line.id), line) id ∙ (ap (λ (b : Bool). is_live index id && b) apart.0 ∙ and-false (is_live index id)))
       ∙ not_named accumulate moment (wanted_after moment index asked) (line.id ∷ named) lines id apart.1
 
-  module _ (kept : (moment : ℤ) (index : Base) (lines : List Tagging) (id : List ℕ) → is_found moment index lines id ≡ false → tags_of (wanted_by moment index lines) id ≡ tags_of index id) where
+  module _ (kept : (moment : ℤ) (index : Base) (lines : List TagChange) (id : List ℕ) → is_found moment index lines id ≡ false → tags_of (wanted_by moment index lines) id ≡ tags_of index id) where
     pub unnamed_kept : (accumulate : Bool) (moment : ℤ) (index : Base) (lines : List Wanted) (id : List ℕ) → is_named_in lines id ≡ false
         → tags_of (wanted_by moment index (restorings_by accumulate lines)) id ≡ tags_of index id
     unnamed_kept accumulate moment index lines id none = kept moment index (restorings_by accumulate lines) id (not_named accumulate moment index [] lines id none)

@@ -19,7 +19,7 @@ use Rattle.nm_answer.specs.BatchTag.{checked_id}
 use Rattle.nm_answer.specs.Dump.{dump_text, sup_line}
 use Rattle.nm_dump.specs.Tags.{set_tag, AreTags}
 use Rattle.nm_dump.specs.ReadBack.{wanted_from, without_spaces, AreFitForSup, AreMessages}
-use Rattle.nm_answer.specs.DumpReading.{is_passed_over, read_dump}
+use Rattle.nm_answer.specs.DumpLines.{is_passed_over, read_dump}
 use Rattle.nm_answer.specs.Sup.{inside, is_in_parentheses, read_sup, set_all, set_before, sup_asked, with_tags}
 use Rattle.nm_dump.proofs.ByteLemmas.{append_all, ascii_from_low, dark_inner, id_dark, is_dark, is_inner, weaker}
 use Rattle.nm_dump.proofs.TagLineLemmas.{after_is, first_is}
@@ -30,7 +30,7 @@ use Rattle.nm_dump.proofs.WholeLemmas.{classified_by, messages_read, IsReadBack}
 dark_light : (b : ℕ) → is_dark b ≡ true → is_white_space b ≡ false
 dark_light b h = not-true (is_white_space b) h
 
--- no white space stands before a byte that is none
+-- no white space comes before a byte that is none
 no_space_first : (b : ℕ) (more : List ℕ) → is_white_space b ≡ false → trimmed_start (b ∷ more) ≡ b ∷ more
 no_space_first b more e = ap (λ t. drop (cond t (1 + prefix_len is_white_space more) 0) (b ∷ more)) e
 
@@ -131,7 +131,7 @@ all_set (tag ∷ tags) h = ap (λ b. cond b (set_before tag (set_all tags)) None
 
 -- ---- a line
 
--- what stands in parentheses
+-- what is in parentheses
 inside_is : (text : List ℕ) → inside (40 ∷ (text ++ 41 ∷ [])) ≡ Some text
 inside_is text =
     let whole = 40 ∷ (text ++ 41 ∷ []) in

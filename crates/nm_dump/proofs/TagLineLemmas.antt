@@ -58,7 +58,7 @@ space_first : (tags : List (List ℕ)) (query : List ℕ)
 space_first [] query = refl
 space_first (tag ∷ tags) query = refl
 
--- after the tags stands the query
+-- after the tags comes the query
 query_is : (text query : List ℕ) → trimmed_start text ≡ query_part query → query_after text ≡ trimmed (32 ∷ query)
 query_is text query e =
     let dashes : first_word text ≡ 45 ∷ 45 ∷ [] = first_is text (45 ∷ 45 ∷ []) query e refl in

@@ -1,4 +1,4 @@
--- What a dump is read as. Cited by `dumping`, `restore_laws` and `writing`.
+-- What a dump is read as. Cited by `dump_writer`, `restore_laws` and `line_writer`.
 use Rattle.std.specs.Prelude.{◌≡◌, ℕ, ◌+◌, Bool, true, false, not, List, [], ◌∷◌, map}
 use Rattle.std.specs.List.{AllByRecursion, list_all}
 use Rattle.std.specs.Str.{is_utf8}

@@ -2,13 +2,13 @@
 use Rattle.std.specs.Prelude.{◌≡◌, ℕ, ℤ, Bool, ◌&&◌, not, List, fold, map, IsTrue}
 use Rattle.std.specs.List.{AllByRecursion, IsDistinct, filter, list_any}
 use Rattle.nm_answer.specs.Restore.{restorings_of}
-use Rattle.nm_answer.specs.Tagging.{wanted_by}
+use Rattle.nm_answer.specs.WantedTags.{wanted_by}
 use Rattle.nm_answer.specs.View.{tags_of}
 use Rattle.nm_base.specs.Order.{IsSorted, has_text, same_text}
 use Rattle.nm_base.specs.declared.asks.RestoreAsk.{RestoreAsk}
 use Rattle.nm_index.specs.Index.{folded, live_ids}
 use Rattle.nm_index.specs.declared.base.Base.{Base}
-use Rattle.nm_plan.specs.Tagging.{tag_commit}
+use Rattle.nm_plan.specs.TagCommit.{tag_commit}
 use Rattle.nm_tags.specs.Operations.{after_ops, begun_with}
 use Rattle.nm_tags.specs.declared.wanted.Wanted.{Wanted}
 
@@ -29,7 +29,7 @@ restored_tags accumulate lines id tags = fold (λ at line. after_ops at line.ops
 abbrev pub is_live : Base → List ℕ → Bool
 is_live index id = has_text (live_ids index.files index.entries) id
 
--- each message stands once, with its tags in byte order and each once
+-- each message occurs once, with its tags in byte order and each once
 abbrev pub StandOnce : List (List ℕ × List (List ℕ)) → Type 0
 StandOnce messages = IsDistinct same_text (map (λ message. message.0) messages) × AllByRecursion (λ message. IsSorted message.1) messages
 

@@ -1,5 +1,5 @@
 -- Tags as a dump has them: the operation that a written tag is read as, and that they are tags of a program.
--- Cited by `writing`.
+-- Cited by `line_writer`.
 use Rattle.std.specs.Prelude.{◌≡◌, ℕ, true, List}
 use Rattle.std.specs.List.{AllByRecursion}
 use Rattle.std.specs.Str.{is_utf8}

@@ -1,4 +1,4 @@
-//! Ids in the lines of a dump, for `reading` and `writing`.
+//! Ids in the lines of a dump, for `dump_reader` and `line_writer`.
 
 ghost use Rattle.std.specs.Prelude.{◌≡◌, ◌<◌, [], length, IfOk, IfSome, MatchOption, None, Some};
 ghost use Rattle.nm_answer.specs.Dump.{has_parenthesis};
@@ -79,7 +79,7 @@ fn unquoted(alloc: Global, quoted: &[u8]) -> Result<Option<Many<u8>>, NoMemory>
     }
 }
 
-/// The first byte in quotes and what stands behind it, or that the quotes end; nothing where they don't end well.
+/// The first byte in quotes and what comes after it, or that the quotes end; nothing where they don't end well.
 fn next_quoted(quoted: &[u8]) -> Option<Option<(u8, &[u8])>>
     ensures value { MatchOption result (unquoted quoted.now ≡ None)
         (λ found. MatchOption found (unquoted quoted.now ≡ Some []) (λ cut. unquoted quoted.now ≡ with_byte cut.0 (unquoted cut.1.now))) }

@@ -1,4 +1,4 @@
-//! What a dump comes to when it is read. These functions run no code: their clauses are the laws, which `dumping` and
+//! What a dump comes to when it is read. These functions run no code: their clauses are the laws, which `dump_writer` and
 //! `restore_laws` call.
 
 ghost use Rattle.std.specs.Prelude.{◌≡◌, ℕ, true, List, ◌++◌, codes, map, Ok, Some};
@@ -10,7 +10,7 @@ ghost use Rattle.nm_answer.specs.BatchTag.{id_of_query, read_batch_tag};
 ghost use Rattle.nm_answer.specs.Dump.{changes_line, dump_text, written_id};
 ghost use Rattle.nm_dump.specs.Tags.{set_tag, AreTags};
 ghost use Rattle.nm_dump.specs.ReadBack.{wanted_from, AreFitForSup, AreMessages};
-ghost use Rattle.nm_answer.specs.DumpReading.{read_dump};
+ghost use Rattle.nm_answer.specs.DumpLines.{read_dump};
 
 use nm_base::{DumpForm, ReadForm};
 use nm_tags::a_written_tag_is_read_back;

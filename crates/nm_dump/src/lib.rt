@@ -1,22 +1,22 @@
 //! Commands and replies: dumps of tags, written and read line by line in either form.
 #![tactic(auto)]
 
-mod dumping;
+mod dump_reader;
+mod dump_writer;
 mod ids;
 mod laws;
-mod reading;
+mod line_writer;
 mod reply;
 mod restore;
 mod restore_laws;
 mod sup;
-mod writing;
 
-pub use dumping::dump;
+pub use dump_reader::read_dump;
+pub use dump_writer::dump;
 pub use laws::{
     a_written_dump_is_read_back, a_written_id_is_read_back, a_written_line_is_read_back,
     a_written_sup_dump_is_read_back, written_tags_are_restored,
 };
-pub use reading::read_dump;
 pub use reply::dump_reply;
 pub use restore::{DumpChanges, restoring};
 pub use restore_laws::{

@@ -4,7 +4,7 @@ ghost use Rattle.std.specs.Prelude.{◌≡◌, IfOk};
 ghost use Rattle.nm_answer.specs.Dump.{dump_found};
 ghost use Rattle.nm_dates.specs.Seconds.{IsMoment};
 
-use crate::dumping::dump;
+use crate::dump_writer::dump;
 use nm_base::{DumpAsk, Many, NoMemory};
 use nm_eval::matches;
 use nm_query::Query;

@@ -5,7 +5,7 @@ ghost use Rattle.nm_answer.specs.Restore.{restoring_of, restorings_by, stranger_
 ghost use Rattle.nm_base.specs.Order.{has_text};
 ghost use Rattle.nm_dump.specs.Named.{Names};
 
-use nm_answer::Tagging;
+use nm_answer::TagChange;
 use nm_base::{Copies, Many, MessageId, NoMemory};
 use nm_query::Query;
 use nm_shared::HashedMap;
@@ -17,12 +17,12 @@ use std::alloc::Global;
 #[derive(Drop)]
 pub struct DumpChanges {
     /// A change for each line. Unless tags are to stay, the first line that names a message takes off all that it has.
-    pub lines: Many<Tagging>,
+    pub lines: Many<TagChange>,
     /// The ids that no message of the snapshot has, in the order of the lines and each once.
     pub strangers: Many<MessageId>,
 }
 
-/// What the lines of a dump ask for. It costs a look at two maps a line, and the memory of the lines.
+/// What the lines of a dump ask for. It costs look-ups in two maps a line, and the memory of the lines.
 pub fn restoring(
     alloc: Global,
     snapshot: &Snapshot,
@@ -70,12 +70,12 @@ fn add_stranger(
 }
 
 /// What a line asks for of its message.
-fn tagging_of(line: &Wanted, first: bool, accumulate: bool) -> Result<Tagging, NoMemory>
+fn tagging_of(line: &Wanted, first: bool, accumulate: bool) -> Result<TagChange, NoMemory>
     ensures { IfOk result (λ tagging. tagging ≡ restoring_of accumulate (first, line.now)) }
 {
     let ops = line.ops.copy()?;
     let id = line.id.text().copy()?;
-    Ok(Tagging {
+    Ok(TagChange {
         clear: first && !accumulate,
         ops,
         query: Query::Id(id),

@@ -3,7 +3,7 @@
 ghost use Rattle.std.specs.Prelude.{◌≡◌, ◌≢◌, ℕ, ℤ, Bool, IsTrue, List, false};
 ghost use Rattle.nm_answer.specs.Dump.{dump, dump_text, tagged};
 ghost use Rattle.nm_answer.specs.Restore.{restorings_by, restorings_of};
-ghost use Rattle.nm_answer.specs.Tagging.{wanted_by};
+ghost use Rattle.nm_answer.specs.WantedTags.{wanted_by};
 ghost use Rattle.nm_answer.specs.View.{tags_of};
 ghost use Rattle.nm_base.specs.Order.{sorted};
 ghost use Rattle.nm_dump.specs.ReadBack.{wanted_from, AreFitForSup, AreMessages};
@@ -49,7 +49,7 @@ pub fn a_dump_restores_its_tags()
     a_written_sup_dump_is_read_back();
 }
 
-/// And so it stands in the index once the commit of the restore is made: each message of the dump that is live has the tags
+/// And so it is in the index once the commit of the restore is made: each message of the dump that is live has the tags
 /// that it had in the index which the dump is of.
 pub fn a_restored_dump_is_in_the_index()
     ensures changes { (moment : ℤ) (old index : Base) (form : ReadForm) (ids : List (List ℕ)) → form ≢ ReadForm.Sup → IsValid old → AreMessages (tagged old (sorted ids)) → AreNumbered index

@@ -1,4 +1,4 @@
-//! Lines of a dump in the form of sup, for `reading`.
+//! Lines of a dump in the form of sup, for `dump_reader`.
 
 ghost use Rattle.std.specs.Prelude.{◌≡◌, ◌-◌, ◌<◌, [], length, take, drop, IfOk, IfSome, MatchOption, None, Some, if◌then◌else◌};
 ghost use Rattle.nm_base.specs.Tag.{is_tag};
@@ -35,7 +35,7 @@ pub(crate) fn read_sup(
     }
 }
 
-/// What stands in parentheses, where the text is in these.
+/// What is in parentheses, where the text is in these.
 fn inside(text: &str) -> Option<&str>
     ensures { MatchOption result (inside text.now ≡ None) (λ kept. inside text.now ≡ Some kept.now) }
 {

@@ -1,4 +1,4 @@
--- The two tags that exclude, one by one. For the proofs of `all_matches`, `is_live_match`, `is_match` and `passes_within`.
+-- The two tags that exclude, one by one. For the proofs of `all_matches`, `is_match` and `passes_within`.
 use Rattle.std.proofs.Common.{◌≡◌, refl, sym, ap, ap₂, ◌∙◌, ℤ, Bool, true, false, not, cond, ◌&&◌, ◌||◌, [], ◌∷◌, codes, true≢false}
 use Rattle.std.proofs.Math.Bool.{or-false}
 use Rattle.std.specs.List.{list_any}
@@ -7,7 +7,7 @@ use Rattle.nm_query.specs.declared.query.Query.{Query}
 use Rattle.nm_answer.specs.Matches.{is_excluded, is_match, names_tag}
 use Rattle.nm_answer.specs.Test.{passes}
 use Rattle.nm_answer.specs.View.{View}
-use Rattle.nm_eval.specs.Excluding.{exclusion_of, leaves_out}
+use Rattle.nm_eval.specs.Exclusion.{exclusion_of, leaves_out}
 use Rattle.nm_eval.specs.declared.exclusion.Exclusion.{Exclusion}
 
 -- what two items pass, of those that a filter keeps

@@ -9,7 +9,7 @@ kept p x rest passes = rw passes refl
 dropped : {X : Type 0} (p : X → Bool) (x : X) (rest : List X) → p x ≡ false → filter p rest ≡ filter p (x ∷ rest)
 dropped p x rest passes = rw passes refl
 
--- what passes is found behind what was found before
+-- what passes is found after what was found before
 pub one_found : {X : Type 0} (p : X → Bool) (found : List X) (x : X) (left rest all more : List X) → found ++ filter p left ≡ all → left ≡ x ∷ rest → more ≡ found ++ x ∷ [] → p x ≡ true
     → more ++ filter p rest ≡ all
 one_found p found x left rest all more before is added passes =

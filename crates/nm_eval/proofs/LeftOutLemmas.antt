@@ -12,7 +12,7 @@ use Rattle.std.specs.Map.{lookup}
 use Rattle.std.specs.Ordering.{is_eq, nat_cmp}
 use Rattle.std.specs.declared.cmp.Ordering.TheVariants.{Less}
 use Rattle.nm_base.specs.Order.{IsSorted, same_text}
-use Rattle.nm_eval.specs.Excluding.{is_among}
+use Rattle.nm_eval.specs.Exclusion.{is_among}
 use Rattle.nm_eval.specs.declared.exclusion.Exclusion.{Exclusion}
 
 abbrev Tagged : Type 0

@@ -4,8 +4,8 @@ mod FileLemmas
 mod FoundLemmas
 mod LeftOutLemmas
 mod LiveLemmas
-mod NamingLemmas
+mod NamedIdLemmas
 mod NumberLemmas
 mod PlaceLemmas
-mod PreparingLemmas
+mod PreparedLemmas
 mod QuickLemmas

@@ -8,7 +8,7 @@ use Rattle.nm_state.specs.Messages.{with_files}
 abbrev Messages : Type 0
 Messages = List (List ℕ × List (List ℕ × Facts))
 
--- the files that stand beside an id are its own
+-- the files that are beside an id are its own
 abbrev pub HasItsFiles : List (List ℕ × Facts) → List ℕ × List (List ℕ × Facts) → Type 0
 HasItsFiles files message = message.1 ≡ filter (λ file. same_text message.0 file.1.id) files
 
@@ -23,7 +23,7 @@ pub files_told : (files : List (List ℕ × Facts)) (ids : List (List ℕ)) → 
 files_told files [] = tt
 files_told files (id ∷ ids) = (refl, files_told files ids)
 
--- so have the first, and those behind it
+-- so have the first, and those after it
 pub first_told : (files : List (List ℕ × Facts)) (left : Messages) (message : List ℕ × List (List ℕ × Facts)) (rest : Messages) → left ≡ message ∷ rest → AllByRecursion (HasItsFiles files) left
     → HasItsFiles files message × AllByRecursion (HasItsFiles files) rest
 first_told files left message rest is all = subst (AllByRecursion (HasItsFiles files)) is all

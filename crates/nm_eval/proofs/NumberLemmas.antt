@@ -59,7 +59,7 @@ all-at P [] entry h k within is = absurd (omega (arith, within))
 all-at P (first ∷ entries) entry h zero within is = subst P is h.0
 all-at P (first ∷ entries) entry h (suc k) within is = all-at P entries entry h.1 k (omega (arith, within)) is
 
--- the numbers behind an entry are higher
+-- the numbers after an entry are higher
 high-cond : (n : ℕ) (b : Bool) (entry : Entry) (pairs : List Pair) → n < entry.1 → AllByRecursion (λ pair. n < pair.0) pairs → AllByRecursion (λ pair. n < pair.0) (cond b ((entry.1, entry.0) ∷ pairs) pairs)
 high-cond n true entry pairs first rest = (first, rest)
 high-cond n false entry pairs first rest = rest
@@ -68,7 +68,7 @@ high : (test : List ℕ → Bool) (entry : Entry) (entries : List Entry) → All
 high test entry [] h = tt
 high test entry (other ∷ entries) h = high-cond entry.1 (test other.0) other (at_numbers test entries) h.0.1 (high test entry entries h.1)
 
--- so what is put in at its number stands in front of them
+-- so what is put in at its number is in front of them
 front : (n : ℕ) (id : List ℕ) (pairs : List Pair) → AllByRecursion (λ pair. n < pair.0) pairs → insert_entry nat_cmp pairs n id ≡ (n, id) ∷ pairs
 front n id [] h = refl
 front n id (pair ∷ pairs) h = ap (λ (o : Ordering). match_ordering o ((n, id) ∷ pair ∷ pairs) ((pair.0, id) ∷ pairs) (pair ∷ insert_entry nat_cmp pairs n id)) (sym (nat_cmp_is n pair.0 Less h.0))
@@ -111,7 +111,7 @@ module _ (p q : List ℕ → Bool) where
         ∙ (ap (λ (l : List Pair). (entry.1, entry.0) ∷ l) same
         ∙ (ap (λ (m : ℕ). (m, entry.0) ∷ at_numbers p entries) number ∙ ap (λ (t : List ℕ). (n, t) ∷ at_numbers p entries) (sym one))))
 
-    -- the entry is of another id, so the number stands behind it
+    -- the entry is of another id, so the number comes after it
     behind : (entry : Entry) (entries : List Entry) → same_text id entry.0 ≡ false → Contains (entry ∷ entries) (id, n) → Contains entries (id, n)
     behind entry entries is (zero, within, at) =
         clash (Contains entries (id, n)) (same_text id entry.0) (ap (λ (e : Entry). same_text id e.0) at ∙ nat_list_eq_equiv.refl id) is

@@ -1,4 +1,4 @@
--- Paths below a folder, by what stands behind it. For the proofs of `after_folder`, `is_below`, `is_in` and others.
+-- Paths below a folder, by what comes after it. For the proofs of `after_folder`, `is_below`, `is_in` and others.
 use Rattle.std.proofs.Common.{◌≡◌, ◌≢◌, refl, sym, ap, ap₂, ◌∙◌, ℕ, Bool, true, false, not, ◌&&◌, ◌||◌, List, [], ◌∷◌, ◌++◌, append_assoc, drop, length, codes, nat_eq, true≢false, ◌+◌, ◌==◌, take, Option, None, Some, is_some, MatchOption, Bor}
 use Rattle.std.proofs.lemmas.Bool.{false_from_ne_true, or_from}
 use Rattle.std.proofs.lemmas.Bool.Decides.{Decides-eqb}
@@ -23,7 +23,7 @@ Strips text front told =
 abbrev pub LiesBelow : List ℕ → List ℕ → Option (Bor (List ℕ)) → Type 0
 LiesBelow folder path told = MatchOption told ((rest : List ℕ) → path ≢ front_of folder ++ rest) (λ rest. path ≡ front_of folder ++ rest.now)
 
--- where the folder itself does not stand at the front, the path lies elsewhere
+-- where the folder itself is not at the front, the path is elsewhere
 pub no_front : (folder path : List ℕ) → (length folder == 0) ≡ false → Strips path folder None → (rest : List ℕ) → path ≢ front_of folder ++ rest
 no_front folder path some strips rest whole =
     strip_prefix_is Decides-eqb path folder None strips (47 ∷ rest)
@@ -40,11 +40,11 @@ slash_by folder path rest (Some more) some is here =
 pub slash_after : (folder path rest : List ℕ) (told : Option (Bor (List ℕ))) → (length folder == 0) ≡ false → path ≡ folder ++ rest → Strips rest (47 ∷ []) told → LiesBelow folder path told
 slash_after folder path rest told some is strips = slash_by folder path rest told some is (strip_prefix_is Decides-eqb rest (47 ∷ []) told strips)
 
--- what stands behind the folder, where it stands at the front
+-- what comes after the folder, where it is at the front
 pub stripped : (folder path : List ℕ) (rest : Bor (List ℕ)) → Strips path folder (Some rest) → path ≡ folder ++ rest.now
 stripped folder path rest strips = strip_prefix_is Decides-eqb path folder (Some rest) strips
 
--- the path is the folder's front and what stands behind it
+-- the path is the folder's front and what comes after it
 pub below_where : (folder path rest : List ℕ) → path ≡ front_of folder ++ rest → is_below folder path ≡ true
 below_where folder path rest is = (starts_is Decides-eqb path (front_of folder) (is_below folder path) refl).1 rest is
 
@@ -88,7 +88,7 @@ inside folder path rest b name is = inside_by folder path rest b name is (is_bel
 pub maildir_where : (folder path rest : List ℕ) → path ≡ front_of folder ++ rest → is_in_maildir folder path ≡ (is_in (codes "new") rest || is_in (codes "cur") rest)
 maildir_where folder path rest is = ap₂ (λ a b. a || b) (inside folder path rest 110 (101 ∷ 119 ∷ []) is) (inside folder path rest 99 (117 ∷ 114 ∷ []) is)
 
--- what lies in a folder of a folder lies below that one
+-- what is in a folder of a folder is below that one
 not_inside : (folder path : List ℕ) (b : ℕ) (name : List ℕ) → ((rest : List ℕ) → path ≢ front_of folder ++ rest) → is_in (front_of folder ++ b ∷ name) path ≡ false
 not_inside folder path b name none =
     not_in (front_of folder ++ b ∷ name) path (not_below (front_of folder ++ b ∷ name) path (λ more whole.
@@ -100,7 +100,7 @@ not_in_maildir folder path none =
     or_from (is_in (front_of folder ++ codes "new") path) (is_in (front_of folder ++ codes "cur") path)
     (not_inside folder path 110 (101 ∷ 119 ∷ []) none) (not_inside folder path 99 (117 ∷ 114 ∷ []) none)
 
--- whether a path lies below is whether something is told to stand behind the folder
+-- whether a path is below is whether something comes after the folder
 pub below_told : (folder path : List ℕ) (told : Option (Bor (List ℕ))) → LiesBelow folder path told → is_some told ≡ is_below folder path
 below_told folder path None none = sym (not_below folder path none)
 below_told folder path (Some rest) is = sym (below_where folder path rest.now is)

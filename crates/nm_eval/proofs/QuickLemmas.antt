@@ -1,5 +1,5 @@
 -- Which queries are quick, by what they join, and what a list of queries says once its quick ones come first.
--- For the proofs of `preparing` and `quick`.
+-- For the proofs of `prepared_query` and `quick`.
 use Rattle.std.proofs.Common.{◌≡◌, refl, sym, ap, ◌∙◌, Bool, true, false, not, cond, ◌&&◌, ◌||◌, List, [], ◌∷◌, filter, map}
 use Rattle.std.proofs.lemmas.List.Folds.{list_all-append, list_any-append}
 use Rattle.std.proofs.Math.Bool.{and-false, or-true}

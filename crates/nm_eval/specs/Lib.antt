@@ -1,4 +1,4 @@
-pub mod Excluding
-pub mod Naming
+pub mod Exclusion
+pub mod NamedIds
 pub mod Numbers
 pub mod Quick

@@ -6,7 +6,7 @@ ghost use Rattle.std.specs.List.{list_any};
 ghost use Rattle.nm_base.specs.Order.{has_text};
 ghost use Rattle.nm_answer.specs.Matches.{names_tag};
 ghost use Rattle.nm_answer.specs.View.{view_of};
-ghost use Rattle.nm_eval.specs.Excluding.{exclusion_of, is_among, leaves_out};
+ghost use Rattle.nm_eval.specs.Exclusion.{exclusion_of, is_among, leaves_out};
 
 use crate::message::{Message, has_text};
 use nm_answer::a_tree_names_the_tags_of_its_queries;

@@ -1,4 +1,4 @@
-//! What the ids say that a query names, and what stands at numbers. These functions run no code: their clauses are the
+//! What the ids say that a query names, and what is at numbers. These functions run no code: their clauses are the
 //! laws, which `matches` and `nm_writer` call.
 
 ghost use Rattle.std.specs.Prelude.{◌≡◌, [], ℕ, ℤ, List, Some, IsTrue};
@@ -10,7 +10,7 @@ ghost use Rattle.nm_index.specs.declared.base.Base.{Base};
 ghost use Rattle.nm_query.specs.declared.query.Query.{Query};
 ghost use Rattle.nm_answer.specs.Test.{passes};
 ghost use Rattle.nm_answer.specs.View.{View};
-ghost use Rattle.nm_eval.specs.Naming.{named_ids};
+ghost use Rattle.nm_eval.specs.NamedIds.{named_ids};
 ghost use Rattle.nm_eval.specs.Numbers.{live_at_numbers};
 
 use nm_answer::a_tree_passes_as_its_queries_do;
@@ -23,7 +23,7 @@ pub fn what_passes_is_named()
     a_tree_passes_as_its_queries_do();
 }
 
-/// Of no messages none stands at a number, and those that do are the live ones, by their numbers.
+/// Of no messages none is at a number, and those that do are the live ones, by their numbers.
 pub fn the_live_ones_stand_at_their_numbers()
     ensures none { (index : Base) → live_at_numbers index [] ≡ [] }
     ensures live { (index : Base) (ids : List (List ℕ)) → values_of (live_at_numbers index ids) ≡ filter (has_text ids) (live_ids index.files index.entries) }

@@ -4,16 +4,16 @@
 
 mod exclusion;
 mod laws;
-mod matching;
+mod matcher;
 mod message;
-mod naming;
+mod named_ids;
 mod numbers;
 mod places;
-mod preparing;
+mod prepared_query;
+mod query_test;
 mod quick;
-mod testing;
 mod words;
 
 pub use laws::{the_live_ones_stand_at_their_numbers, what_passes_is_named};
-pub use matching::matches;
+pub use matcher::matches;
 pub use numbers::{add_numbered, by_numbers};

@@ -1,4 +1,4 @@
-//! A message of a snapshot, as `testing` looks at it.
+//! A message of a snapshot, as `query_test` looks at it.
 
 ghost use Rattle.std.specs.Prelude.{◌≡◌, [], MatchOption};
 ghost use Rattle.nm_base.specs.Order.{has_text, same_text};
@@ -45,7 +45,7 @@ impl<'a> Message<'a> {
         }
     }
 
-    /// The same, where its files are known, and about where its tags stand.
+    /// The same, where its files are known, and about where its tags are.
     pub fn with_files(
         snapshot: &'a Snapshot,
         id: &'a MessageId,
@@ -82,7 +82,7 @@ impl<'a> Message<'a> {
     pub fn has_tag(&self, tag: &str) -> bool
         ensures { result ≡ has_tag self.now.tags tag.now }
     {
-        match self.snapshot.tags_near(self.id, self.near) {
+        match self.snapshot.tags_by_hint(self.id, self.near) {
             Some((_, tags)) => has_text(tags, tag),
             None => false,
         }

@@ -1,4 +1,4 @@
-//! Where a file lies, and of which types its parts are, for `testing`.
+//! Where a file is, and of which types its parts are, for `query_test`.
 
 ghost use Rattle.std.specs.Prelude.{◌≡◌, ◌≢◌, ◌++◌, ℕ, List, MatchOption};
 ghost use Rattle.std.specs.List.{list_any};
@@ -8,7 +8,7 @@ ghost use Rattle.nm_answer.specs.Places.{front_of, is_at_path, is_below, is_in, 
 use nm_base::{Facts, MailPath, Text};
 use nm_text::{cut_at, same_ignoring_case};
 
-/// Says whether the file lies in `new` or `cur` of the folder.
+/// Says whether the file is in `new` or `cur` of the folder.
 pub(crate) fn is_in_maildir(folder: &Text, path: &MailPath) -> bool
     ensures { result ≡ is_in_maildir folder.now path.now }
 {
@@ -24,7 +24,7 @@ fn lies_in_maildir(folder: &[u8], path: &[u8]) -> bool
     }
 }
 
-/// Says whether the file lies in the folder, or with `deep` anywhere below it.
+/// Says whether the file is in the folder, or with `deep` anywhere below it.
 pub(crate) fn is_at_path(folder: &Text, deep: bool, path: &MailPath) -> bool
     ensures { result ≡ is_at_path folder.now deep path.now }
 {
@@ -55,7 +55,7 @@ fn has_slash(name: &[u8]) -> bool
     name.contains(&b'/')
 }
 
-/// What stands behind the folder in a path that lies below it; all paths lie below the empty one.
+/// What comes after the folder in a path that is below it; all paths are below the empty one.
 fn after_folder<'a>(folder: &[u8], path: &'a [u8]) -> Option<&'a [u8]>
     ensures { MatchOption result ((rest : List ℕ) → path.now ≢ front_of folder.now ++ rest) (λ rest. path.now ≡ front_of folder.now ++ rest.now) }
 {

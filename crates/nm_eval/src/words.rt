@@ -1,4 +1,4 @@
-//! Words in the lists of a file, one behind the other in one single list, for `testing`.
+//! Words in the lists of a file, one after the other in one single list, for `query_test`.
 
 ghost use Rattle.std.specs.Prelude.{◌≡◌, ◌≢◌, ◌∷◌, [], ◌&&◌};
 ghost use Rattle.nm_base.specs.Order.{same_text};
@@ -57,7 +57,7 @@ fn has_words(starts: bool, first: &[u8], more: &Words<'_>, list: &WordList) -> b
     has_phrase(starts, first, more, list)
 }
 
-/// Says whether the word stands in the list, in one pass over it.
+/// Says whether the word is in the list, in one pass over it.
 fn has_word(starts: bool, word: &[u8], list: &WordList) -> bool
     ensures { result ≡ has_words starts (word.now ∷ []) list.now }
 {
@@ -72,7 +72,7 @@ fn has_word(starts: bool, word: &[u8], list: &WordList) -> bool
     }
 }
 
-/// Says whether the list has the first word and then more ones. Only where the first one stands are the others looked at.
+/// Says whether the list has the first word and then others. Only where the first one is there are the others looked at.
 fn has_phrase(starts: bool, first: &[u8], more: &Words<'_>, list: &WordList) -> bool
     requires { more.now ≢ [] }
     ensures { result ≡ has_words starts (first.now ∷ more.now) list.now }

@@ -1,4 +1,4 @@
--- The laws of HTML: no tag is left, and what stands outside the tags is.
+-- The laws of HTML: no tag is left, and what is outside the tags is.
 -- For the proofs of `no_tag_is_read` and `text_outside_tags_stays`.
 use Rattle.std.proofs.Common.{◌≡◌, ℕ, Bool, true, false, ◌||◌, ◌==◌, cond, List, [], ◌∷◌, ◌++◌, refl, ap, ◌∙◌}
 use Rattle.std.proofs.lemmas.Bool.{or_parts}

@@ -4,7 +4,7 @@ use Rattle.std.specs.List.{after_first, before_first, position_or_len}
 use Rattle.nm_text.specs.Cuts.{is_byte}
 use Rattle.nm_extract.specs.Html.{strip_from}
 
--- up to the first tag the text stands, and then comes a space
+-- up to the first tag the text is as it was, and then comes a space
 strip-cut : (text : List ℕ) → position_or_len (is_byte 60) text < length text
     → strip_from false text ≡ before_first (is_byte 60) text ++ 32 ∷ strip_from true (after_first (is_byte 60) text)
 strip-cut [] h = absurd (omega arith)
@@ -26,7 +26,7 @@ strip-whole (b ∷ more) h =
       | false ↦ λ h. ap (λ l. b ∷ l) (strip-whole more (omega arith))
     ] h
 
--- what stands after the end of a tag is read
+-- what comes after the end of a tag is read
 pub strip-after : (text : List ℕ) → position_or_len (is_byte 62) text < length text → strip_from true text ≡ strip_from false (after_first (is_byte 62) text)
 strip-after [] h = absurd (omega arith)
 strip-after (b ∷ more) h =

@@ -15,7 +15,7 @@ has_more : (texts : List (List ℕ)) (text other : List ℕ) → has_text (texts
 has_more [] text other = or-false (same_text other text)
 has_more (first ∷ texts) text other = ap (λ b. same_text other first || b) (has_more texts text other) ∙ sym (or_assoc (same_text other first) (has_text texts other) (same_text other text))
 
--- a text that is not there stands once after the others
+-- a text that is not there occurs once after the others
 once_more : (texts : List (List ℕ)) (text : List ℕ) → AreDistinct texts → has_text texts text ≡ false → AreDistinct (texts ++ text ∷ [])
 once_more [] text once none = (refl, tt)
 once_more (first ∷ texts) text once none = (

@@ -20,7 +20,7 @@ with_all_marks marks parts = record {
   encrypted = marks.encrypted || has_type parts (codes "multipart/encrypted");
 }
 
--- what these parts say behind what was said
+-- what these parts say after what was said
 abbrev with_all : List ℕ → PartFacts → List Part → PartFacts
 with_all mail facts parts = record {
   types = facts.types ++ map (λ part. part.kind) parts;

@@ -1,4 +1,4 @@
--- The text of HTML: what stands outside its tags. Cited by `html`.
+-- The text of HTML: what is outside its tags. Cited by `html`.
 use Rattle.std.specs.Prelude.{ℕ, Bool, true, false, List, [], ◌∷◌, if◌then◌else◌}
 use Rattle.nm_text.specs.Cuts.{is_byte}
 

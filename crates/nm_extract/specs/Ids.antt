@@ -24,7 +24,7 @@ own_id bytes fields = unwrap_or (slice_get (field_ids fields (codes "message-id"
 abbrev pub named_ids : List HeaderField → List (List ℕ)
 named_ids fields = field_ids fields (codes "references") ++ field_ids fields (codes "in-reply-to")
 
--- the links with one id more: the own id is none, and none stands twice
+-- the links with one id more: the own id is none, and none occurs twice
 abbrev pub with_link : List ℕ → List (List ℕ) → List ℕ → List (List ℕ)
 with_link own links id = if has_text (own ∷ links) id then links else links ++ id ∷ []
 

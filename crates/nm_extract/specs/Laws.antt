@@ -3,7 +3,7 @@
 use Rattle.std.specs.Prelude.{◌≡◌, ℕ, false, List, [], ◌∷◌, ◌++◌}
 use Rattle.nm_base.specs.Order.{has_text}
 
--- no text stands twice
+-- no text occurs twice
 abbrev pub AreDistinct : List (List ℕ) → Type 0
 AreDistinct [] = Unit {0}
 AreDistinct (text ∷ texts) = (has_text texts text ≡ false) × AreDistinct texts

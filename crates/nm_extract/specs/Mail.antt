@@ -41,7 +41,7 @@ abbrev pub facts_of : List ℕ → Option Facts
 facts_of bytes =
     if is_mail (header_of bytes).list then Some (facts_with bytes (header_of bytes).list (facts_of_parts bytes (parts_of bytes))) else None
 
--- why a file has no facts: it is no mail, or memory was wanting
+-- why a file has no facts: it is no mail, or memory ran out
 abbrev pub IsExtractFault : List ℕ → ExtractError → Type 0
 IsExtractFault bytes NotMail = facts_of bytes ≡ None
 IsExtractFault bytes NoMemory = ⊤

@@ -1,4 +1,4 @@
--- The text of a readable part: its content decoded, and of HTML what stands outside the tags.
+-- The text of a readable part: its content decoded, and of HTML what is outside the tags.
 -- Cited by `body_text`, `mail`, `nm_render` and others.
 use Rattle.std.specs.Prelude.{ℕ, Bool, true, false, List, map, filter, codes, if◌then◌else◌}
 use Rattle.std.specs.Str.{bytes_eq}
@@ -37,6 +37,6 @@ bodies_of mail = map (part_text mail) (filter (λ part. is_readable part.role) (
 abbrev pub is_html : List ℕ → Bool
 is_html kind = bytes_eq kind (codes "text/html")
 
--- what is read of a text of this type: of HTML what stands outside the tags
+-- what is read of a text of this type: of HTML what is outside the tags
 abbrev pub visible_text : List ℕ → List ℕ → List ℕ
 visible_text kind text = if is_html kind then strip_html_tags text else text

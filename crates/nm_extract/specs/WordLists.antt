@@ -47,7 +47,7 @@ has_attachment parts = list_any (λ part. part.attached) parts
 abbrev pub has_type : List Part → List ℕ → Bool
 has_type parts type = list_any (λ part. bytes_eq part.kind type) parts
 
--- what is told of a mail by its parts: a file is attached, it is signed, it is encrypted
+-- what is reported of a mail by its parts: a file is attached, it is signed, it is encrypted
 abbrev pub marks_of : List Part → Marks
 marks_of parts = record {
   attachment = has_attachment parts;

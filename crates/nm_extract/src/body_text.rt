@@ -51,7 +51,7 @@ pub(crate) fn part_text(alloc: Global, mail: &[u8], part: &Part) -> Result<Text,
     }
 }
 
-/// What is read of a text of this type: of HTML what stands outside the tags.
+/// What is read of a text of this type: of HTML what is outside the tags.
 pub(crate) fn visible_text(alloc: Global, kind: &str, text: Text) -> Result<Text, NoMemory>
     ensures { IfOk result (λ visible. visible ≡ visible_text kind.now text) }
 {

@@ -14,7 +14,7 @@ pub fn a_mail_links_to_others_once()
     ensures once { (own : List ℕ) (ids : List (List ℕ)) → AreDistinct (links_among own ids) }
 {}
 
-/// Every id that a mail names, but its own, is a link, and stands behind those that are named before it.
+/// Every id that a mail names, but its own, is a link, and comes after those that are named before it.
 pub fn links_stand_in_order_of_first_naming()
     ensures every { (own id : List ℕ) (ids : List (List ℕ)) → same_text id own ≡ false → has_text ids id ≡ true → has_text (links_among own ids) id ≡ true }
     ensures order { (own id : List ℕ) (before after : List (List ℕ)) → has_text (own ∷ before) id ≡ false → BeginsWith (links_among own (before ++ id ∷ after)) (links_among own before ++ id ∷ []) }

@@ -1,5 +1,5 @@
-//! Reading one mail: its facts, who wrote it and to whom, when, about what, and which words it has.
-//! Any bytes are told exactly: their facts, or that they are no mail.
+//! Reading one mail: its facts, who wrote it and to whom, when, about what, and which words it has. Any bytes are known
+//! exactly: their facts, or that they are no mail.
 #![tactic(auto)]
 
 mod body_text;

@@ -1,3 +1,3 @@
-pub mod Following
+pub mod FlagTags
 pub mod Letters
 pub mod Renames

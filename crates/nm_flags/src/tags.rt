@@ -2,7 +2,7 @@
 
 ghost use Rattle.std.specs.Prelude.{◌≡◌, true, IfOk};
 ghost use Rattle.nm_base.specs.Tag.{is_tag};
-ghost use Rattle.nm_flags.specs.Following.{any_draft, any_flagged, any_passed, any_replied, any_seen, name_ops, op_of, tags_by_names};
+ghost use Rattle.nm_flags.specs.FlagTags.{any_draft, any_flagged, any_passed, any_replied, any_seen, name_ops, op_of, tags_by_names};
 
 use nm_base::{MailPath, Many, NoMemory, Tag, TagOp, Tags, Text};
 use nm_name::parse_name;

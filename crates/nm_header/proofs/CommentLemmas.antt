@@ -1,4 +1,4 @@
--- The first pair and the first lexeme of a text, and what is left behind them.
+-- The first pair and the first lexeme of a text, and what is left after them.
 -- For the proofs of `comment_len` and `lexeme_len`.
 use Rattle.std.proofs.Common.{◌≡◌, ℕ, suc, ◌+◌, ◌-◌, ◌<◌, ◌≤◌, true, false, cond, ◌==◌, List, [], ◌∷◌, ◌++◌, length, take, drop, get_or, refl, sym, ap, subst, ◌∙◌, arith, min, lit<, length-drop, length-take, length-append, append_assoc}
 use Rattle.std.proofs.lemmas.Bool.{eqb-true}

@@ -1,4 +1,4 @@
--- The `)` that matches is the one behind which, counted from the left, no comment is open.
+-- The `)` that matches is the one after which, counted from the left, no comment is open.
 -- For the proof of `comment_len`.
 use Rattle.std.proofs.Common.{◌≡◌, ℕ, ◌+◌, ◌-◌, ◌<◌, Bool, true, false, cond, ◌==◌, List, [], ◌∷◌, Option, Some, None, length, map, refl, sym, ap, ◌∙◌, arith, eq-eqb, length-append}
 use Rattle.std.specs.Prelude.{find, count_by, unwrap_or}
@@ -25,7 +25,7 @@ special_is special [] e = absurd (cc)
 special_is special (b ∷ []) e = ap (λ x. x ∷ []) (eqb-true b special e)
 special_is special (b ∷ c ∷ more) e = absurd (cc)
 
--- the bytes up to the pair behind which no comment is open
+-- the bytes up to the pair after which no comment is open
 abbrev pub depth_through : ℕ → List (List ℕ) → ℕ
 depth_through depth [] = 0
 depth_through depth (u ∷ pairs) = cond (depth_after depth u == 0) (length u) (length u + depth_through (depth_after depth u) pairs)

@@ -22,14 +22,14 @@ use Rattle.nm_header.proofs.HeaderLemmas.{continues_begins_none}
 use Rattle.nm_text.specs.Cuts.{is_byte}
 use Rattle.std.proofs.Math.Bool.{and-false}
 
--- the first item that passes stands behind those that don't
+-- the first item that passes comes after those that don't
 first_place : (p : ℕ → Bool) (front : List ℕ) (b : ℕ) (rest : List ℕ) → list_any p front ≡ false → p b ≡ true → position_or_len p (front ++ b ∷ rest) ≡ length front
 first_place p [] b rest e passes = ap (λ v. cond (not v) (1 + position_or_len p rest) 0) passes
 first_place p (x ∷ front) b rest e passes =
     let next : position_or_len p (front ++ b ∷ rest) ≡ length front = first_place p front b rest (or_parts (p x) (list_any p front) e).1 passes in
     ap (λ v. cond (not v) (1 + position_or_len p (front ++ b ∷ rest)) 0) (or_parts (p x) (list_any p front) e).0 ∙ (let more : 1 + position_or_len p (front ++ b ∷ rest) ≡ length (x ∷ front) = omega arith in more)
 
--- a text without LF, and an LF behind it, are a line
+-- a text without LF, and an LF after it, are a line
 line_cut : (front rest : List ℕ) → list_any is_line_feed front ≡ false → lines_of (front ++ 10 ∷ rest) ≡ (front ++ 10 ∷ []) ∷ lines_of rest
 line_cut [] rest e = refl
 line_cut (b ∷ front) rest e =

@@ -1,4 +1,4 @@
--- The first line of a header, and what is left behind it.
+-- The first line of a header, and what is left after it.
 -- For the proofs of `join_folded`, `empty_line_len`, `folded_line_len` and others.
 use Rattle.std.proofs.Common.{◌≡◌, ℕ, zero, suc, ◌==◌, ◌+◌, ◌-◌, ◌<◌, ◌≤◌, true, false, cond, not, ◌&&◌, List, [], ◌∷◌, ◌++◌, length, take, drop, refl, sym, ap, ◌∙◌, arith, map, length-drop, append_assoc}
 use Rattle.std.specs.List.{concat, list_any, onto_first, take_while}
@@ -33,7 +33,7 @@ header-nil = refl
 pub rest-nil : rest_of [] ≡ 0
 rest-nil = refl
 
--- where the header has no line the first line is empty, and the body begins behind it
+-- where the header has no line the first line is empty, and the body begins after it
 pub rest_after : (bs : List ℕ) (n : ℕ) → lines_of bs ≡ take n bs ∷ lines_of (drop n bs) → 0 < n → n ≤ length bs → header_lines bs ≡ [] → n ≡ rest_of bs
 rest_after bs n e some within none =
     let long : length (take n bs) ≡ n = length-take-le n bs within in
@@ -102,7 +102,7 @@ continues_begins_none line e = ap (λ v. not v && (list_any (is_byte 58) (conten
 pub leaves_all : (bs : List ℕ) → LeavesOf bs bs
 leaves_all bs = record { rest = refl; within = omega arith }
 
--- one line more is left behind
+-- one line more is left after
 pub leaves_more : (bs left : List ℕ) (n : ℕ) → LeavesOf bs left → BeginsWithLine left n → LeavesOf bs (drop n left)
 leaves_more bs left n l b =
     let long : length (drop n left) ≡ length left - n = length-drop n left in

@@ -53,7 +53,7 @@ before_is p [] rest none stop = ap (λ k. take k rest) stop
 before_is p (x ∷ before) rest none stop =
     before_first-no p x (before ++ rest) (or_parts (p x) (list_any p before) none).0 ∙ ap (λ l. x ∷ l) (before_is p before rest (or_parts (p x) (list_any p before) none).1 stop)
 
--- what is gone through so far
+-- what is passed so far
 pub record GoneTo (specials text left : List ℕ) (before : List (List ℕ)) : Type 0 where
   pub lexemes : mailbox_lexemes_of text ≡ before ++ mailbox_lexemes_of left
   pub bytes : concat before ++ left ≡ text

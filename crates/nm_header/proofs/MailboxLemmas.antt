@@ -1,4 +1,4 @@
--- The first mailbox of a text, and those that are left behind it.
+-- The first mailbox of a text, and those that are left after it.
 -- For the proofs of `add_part`, `mailbox` and `mailboxes`.
 use Rattle.std.proofs.Common.{◌≡◌, ℕ, suc, ◌+◌, ◌-◌, ◌<◌, ◌≤◌, Bool, true, false, cond, not, ◌||◌, ◌==◌, List, [], ◌∷◌, ◌++◌, length, take, drop, get_or, refl, sym, ap, subst, ◌∙◌, arith, ltb, append_assoc, length-drop}
 use Rattle.std.specs.Prelude.{IsUtf8}
@@ -215,7 +215,7 @@ front_no p x xs e =
     let one : 1 + position_or_len p xs ≡ suc (position_or_len p xs) = omega arith in
     ap (λ v. take (cond (not v) (1 + position_or_len p xs) 0) (x ∷ xs)) e ∙ ap (λ k. take k (x ∷ xs)) one
 
--- what stands before the first that passes is the same where the list ends with that one
+-- what comes before the first that passes is the same where the list ends with that one
 before_take : (p : ℕ → Bool) (xs : List ℕ) → before_first p (take (position_or_len p xs + 1) xs) ≡ before_first p xs
 before_take p [] = refl
 before_take p (x ∷ xs) =

@@ -1,4 +1,4 @@
--- The first id_text of a text that is cut at certain characters, and what is left behind it.
+-- The first id_text of a text that is cut at certain characters, and what is left after it.
 -- For the proofs of `spaced`, `add_id`, `ids` and others.
 use Rattle.std.proofs.Common.{◌≡◌, ℕ, ◌+◌, ◌<◌, ◌≤◌, Bool, true, false, cond, not, List, [], ◌∷◌, Some, None, length, take, drop, ltb, refl, ap, arith}
 use Rattle.std.specs.Prelude.{position, IsUtf8}
@@ -42,7 +42,7 @@ split_none_if p (x ∷ xs) e =
 pub split_none : (p : ℕ → Bool) (xs : List ℕ) → position p xs ≡ None → slice_split p xs ≡ xs ∷ []
 split_none p xs e = split_none_if p xs (no_place_of p xs e)
 
--- a text may be cut before and behind an ASCII character
+-- a text may be cut before and after an ASCII character
 module _ (p : ℕ → Bool) (ascii : (b : ℕ) → p b ≡ true → b < 128) where
   pub boundary_before : (xs : List ℕ) (i : ℕ) → position p xs ≡ Some i → IsCharBoundary xs i
   boundary_before xs i e = let h = position-Some p xs i 0 e in IsCharBoundary-before_ascii xs i h.0 (ascii _ h.1)

@@ -301,7 +301,7 @@ lexeme-address address rest e =
     let long : n ≡ length address + 1 = ap (λ k. k + 1) (address_end address rest e) in
     cut-cons mailbox_lexeme_more 60 (address ++ 62 ∷ rest) ∙ ap (λ l. (60 ∷ l) ∷ mailbox_lexemes_of (drop n (address ++ 62 ∷ rest))) (closed_take address rest 62 n long) ∙ ap (λ l. angled address ∷ mailbox_lexemes_of l) (closed_drop address rest 62 n long)
 
--- what stands before the address: the space after a comma, the name, and a space
+-- what comes before the address: the space after a comma, the name, and a space
 abbrev pub front_lexemes : List (List ℕ) → WrittenMailbox → List (List ℕ)
 front_lexemes blank written = blank ++ (name_lexemes written.is_quoted written.mailbox.name ++ (32 ∷ []) ∷ [])
 

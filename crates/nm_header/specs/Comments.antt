@@ -14,7 +14,7 @@ beginnings (x ∷ xs) = [] ∷ map (λ front. x ∷ front) (beginnings xs)
 abbrev pub closes : ℕ → List (List ℕ) → Bool
 closes missing pairs = count_by (is_special 41) pairs == count_by (is_special 40) pairs + missing
 
--- the shortest beginning that closes so many comments, or all pairs
+-- the shortest beginning that closes n comments, or all pairs
 abbrev pub comment_pairs : ℕ → List (List ℕ) → List (List ℕ)
 comment_pairs depth pairs = unwrap_or (find (closes depth) (beginnings pairs)) pairs
 

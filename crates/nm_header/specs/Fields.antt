@@ -19,7 +19,7 @@ continues (b ∷ line) = is_blank b
 abbrev pub is_from_line : List ℕ → Bool
 is_from_line line = starts_with nat_eq line (codes "From ")
 
--- what stands before the first colon, without white space at its end
+-- what comes before the first colon, without white space at its end
 abbrev pub name_of : List ℕ → List ℕ
 name_of line = trimmed_end (before_first (is_byte 58) (content line))
 
@@ -35,7 +35,7 @@ begins_field line = not (continues line) && (list_any (is_byte 58) (content line
 abbrev pub folded_of : List (List ℕ) → List ℕ
 folded_of lines = concat (map content (take_while continues lines))
 
--- what stands after the colon, and in the lines that continue it, without the line ends
+-- what comes after the colon, and in the lines that continue it, without the line ends
 abbrev pub joined_of : List ℕ → List (List ℕ) → List ℕ
 joined_of line more = after_first (is_byte 58) (content line) ++ folded_of more
 

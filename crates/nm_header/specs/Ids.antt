@@ -1,4 +1,4 @@
--- Message ids in a field's text (RFC 5322, section 3.6.4): what stands between `<` and the next `>`.
+-- Message ids in a field's text (RFC 5322, section 3.6.4): what is between `<` and the next `>`.
 -- Cited by `id_list` and `nm_extract`.
 use Rattle.std.specs.Prelude.{ℕ, List, [], ◌∷◌, filter, map}
 use Rattle.std.specs.List.{after_first, slice_split}
@@ -12,7 +12,7 @@ closed [] = []
 closed (last ∷ []) = []
 closed (id_text ∷ next ∷ more) = id_text ∷ closed (next ∷ more)
 
--- what stands after the first `<` of each, without white space, where it is an id
+-- what comes after the first `<` of each, without white space, where it is an id
 abbrev pub ids_in : List (List ℕ) → List (List ℕ)
 ids_in id_texts = filter is_message_id (map (λ id_text. without_white_space (after_first (is_byte 60) id_text)) id_texts)
 

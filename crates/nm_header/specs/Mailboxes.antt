@@ -9,7 +9,7 @@ use Rattle.nm_header.specs.Comments.{plain_of}
 use Rattle.nm_text.specs.QuotedStrings.{pair_more, quoted_len, unquoted}
 use Rattle.nm_text.specs.WhiteSpace.{is_all_white_space, without_white_space}
 
--- quoted strings, what stands in `<..>`, pairs, and single bytes; each goes on to its closing special, or to the end
+-- quoted strings, what is in `<..>`, pairs, and single bytes; each goes on to its closing special, or to the end
 abbrev pub mailbox_lexeme_more : ℕ → List ℕ → ℕ
 mailbox_lexeme_more b text =
     if b == 34 then quoted_len text else (if b == 60 then position_or_len (is_byte 62) text + 1 else pair_more b text)
@@ -32,7 +32,7 @@ is_some_text (b ∷ word) = true
 abbrev pub spaced_of : List ℕ → List ℕ
 spaced_of text = join_with_byte 32 (filter is_some_text (slice_split is_white_space text))
 
--- without `<` all is the address; else that is what stands in the `<..>`, and the name stands before it
+-- without `<` all is the address; else that is what is in the `<..>`, and the name comes before it
 abbrev pub mailbox_from : List (List ℕ) → List (List ℕ) → Mailbox
 mailbox_from lexemes [] = record { name = []; address = without_white_space (concat lexemes) }
 mailbox_from lexemes (angle ∷ more) = record { name = spaced_of (unquoted (concat lexemes)); address = without_white_space (before_first (is_byte 62) (drop 1 angle)) }
@@ -53,7 +53,7 @@ is_separator lexeme = begins_with_any (44 ∷ 59 ∷ []) lexeme
 abbrev pub is_colon : List ℕ → Bool
 is_colon lexeme = begins_with_any (58 ∷ []) lexeme
 
--- what stands after the last `:`, or all where there is none
+-- what comes after the last `:`, or all where there is none
 abbrev pub after_colon : List (List ℕ) → List (List ℕ)
 after_colon [] = []
 after_colon (lexeme ∷ lexemes) =
@@ -63,7 +63,7 @@ after_colon (lexeme ∷ lexemes) =
 abbrev pub mailbox_in : List (List ℕ) → List Mailbox
 mailbox_in part = if is_all_white_space (concat part) then [] else mailbox_of part ∷ []
 
--- the parts between `,` and `;`, each without what stands up to a `:` in it
+-- the parts between `,` and `;`, each without what there is up to a `:` in it
 abbrev pub mailboxes_in : List (List ℕ) → List Mailbox
 mailboxes_in lexemes = flat_map (λ part. mailbox_in (after_colon part)) (slice_split is_separator lexemes)
 

@@ -29,6 +29,6 @@ texts_of fields name =
 abbrev pub field_text : List HeaderField → List ℕ → List ℕ
 field_text fields name = unwrap_or (slice_get (texts_of fields name) 0) []
 
--- a field with this name stands among them
+-- a field with this name is among them
 abbrev pub has_field : List HeaderField → List ℕ → Bool
 has_field fields name = list_any (is_named name) fields

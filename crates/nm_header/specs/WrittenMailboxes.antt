@@ -1,4 +1,4 @@
--- Mailboxes as they are written (RFC 5322, section 3.4): a name, in quotes or as it stands, and an address in `<..>`.
+-- Mailboxes as they are written (RFC 5322, section 3.4): a name, in quotes or as it is, and an address in `<..>`.
 -- Cited by `laws`.
 use Rattle.std.specs.Prelude.{ℕ, Bool, true, ◌&&◌, ◌||◌, ◌==◌, not, List, [], ◌∷◌, ◌++◌, if◌then◌else◌}
 use Rattle.std.specs.List.{flat_map, list_all, list_any, slice_split}
@@ -16,7 +16,7 @@ pub record WrittenMailbox : Type 0 where
 abbrev pub escaped : ℕ → List ℕ
 escaped b = if b == 34 || b == 92 then 92 ∷ b ∷ [] else b ∷ []
 
--- a name in quotes, or as it stands
+-- a name in quotes, or as it is
 abbrev pub written_name : Bool → List ℕ → List ℕ
 written_name is_quoted name = if is_quoted then 34 ∷ (flat_map escaped name ++ 34 ∷ []) else name
 
@@ -47,7 +47,7 @@ is_unquoted_byte b = not (b == 34 || b == 40 || b == 44 || b == 58 || b == 59 ||
 abbrev pub is_address_byte : ℕ → Bool
 is_address_byte b = not (is_white_space b || b == 34 || b == 40 || b == 62 || b == 92)
 
--- a name that may stand so, and an address of such bytes; a name in quotes may have any bytes but spare white space
+-- a name that may be so, and an address of such bytes; a name in quotes may have any bytes but spare white space
 abbrev pub is_writable : WrittenMailbox → Bool
 is_writable written =
     is_spaced written.mailbox.name && ((written.is_quoted || list_all is_unquoted_byte written.mailbox.name) && list_all is_address_byte written.mailbox.address)

@@ -24,7 +24,7 @@ pub(crate) fn lexeme_len(text: &[u8]) -> usize
     pair_len(text)
 }
 
-/// How many bytes stand up to the `)` that closes a comment, and with it.
+/// How many bytes there are up to the `)` that closes a comment, and with it.
 fn comment_len(text: &[u8]) -> usize
     ensures value { result ≡ comment_len text.now }
     ensures within { result ≤ length text.now }

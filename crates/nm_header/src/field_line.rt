@@ -65,7 +65,7 @@ fn name_in(line: &[u8]) -> &[u8]
     trimmed_end(before_first(content(line), b':'))
 }
 
-/// What stands after the colon, or nothing.
+/// What comes after the colon, or nothing.
 pub(crate) fn after_colon(line: &[u8]) -> &[u8]
     ensures { result.now ≡ after_first (is_byte 58) (content line.now) }
 {

@@ -7,8 +7,8 @@ use nm_base::{Many, MessageId, NoMemory};
 use nm_text::{cut_at, without_white_space};
 use std::alloc::Global;
 
-/// The ids in a field's text, in their order: what stands between `<` and the next `>`, white space
-/// taken out, where it is a message id (RFC 5322, section 3.6.4).
+/// The ids in a field's text, in their order: what is between `<` and the next `>`, white space taken out, where it is
+/// a message id (RFC 5322, section 3.6.4).
 pub fn ids(alloc: Global, text: &str) -> Result<Many<MessageId>, NoMemory>
     ensures { IfOk result (λ found. found ≡ ids_of text.now) }
 {

@@ -36,18 +36,18 @@ pub fn written_ids_are_read()
     ensures { (ids : List (List ℕ)) → list_all is_message_id ids ≡ true → ids_of (written ids) ≡ ids }
 {}
 
-/// Mailboxes that are written `name <address>`, with `, ` between, are read again in their order, the names in quotes or as they stand.
+/// Mailboxes that are written `name <address>`, with `, ` between, are read again in their order, the names in quotes or as they are.
 pub fn written_mailboxes_are_read()
     ensures { (written : List WrittenMailbox) → list_all is_writable written ≡ true → mailboxes_of (written_mailboxes written) ≡ map (λ one. one.mailbox) written }
 {}
 
-/// An address that stands alone, without `<..>`, is a mailbox without a name.
+/// An address that is alone, without `<..>`, is a mailbox without a name.
 pub fn an_address_alone_is_a_mailbox()
     ensures { (address : List ℕ) → is_bare address ≡ true → mailboxes_of address ≡ nameless address ∷ [] }
 {}
 
-/// A mailbox ends at a `,` or a `;`, and what stands after that is read as if it stood alone. Between two of them nothing may stand,
-/// and a space before a mailbox counts for nothing.
+/// A mailbox ends at a `,` or a `;`, and what comes after that is read as if it were alone. Between two of them nothing may be, and
+/// a space before a mailbox counts for nothing.
 pub fn mailboxes_end_at_separators()
     ensures named { (written : WrittenMailbox) (end : ℕ) (rest : List ℕ) → is_writable written ≡ true → ends_mailbox end ≡ true → mailboxes_of (written_mailbox written ++ end ∷ rest) ≡ written.mailbox ∷ mailboxes_of rest }
     ensures alone { (address : List ℕ) (end : ℕ) (rest : List ℕ) → is_bare address ≡ true → ends_mailbox end ≡ true → mailboxes_of (address ++ end ∷ rest) ≡ nameless address ∷ mailboxes_of rest }

@@ -7,7 +7,7 @@ ghost use Rattle.nm_text.specs.Cuts.{is_byte};
 
 use nm_text::{first_place, pair_len, quoted_len};
 
-/// How many bytes stand before the first lexeme that begins with one of these specials.
+/// How many bytes come before the first lexeme that begins with one of these specials.
 pub(crate) fn stop_len(text: &[u8], specials: &[u8]) -> usize
     ensures { StopsAt specials.now text.now result }
 {
@@ -31,7 +31,7 @@ pub(crate) fn begins_with_any(text: &[u8], specials: &[u8]) -> bool
     }
 }
 
-/// How many bytes the first lexeme has: a quoted text, what stands in `<..>`, or a pair.
+/// How many bytes the first lexeme has: a quoted text, what is in `<..>`, or a pair.
 fn mailbox_lexeme_len(text: &[u8]) -> usize
     requires { 0 < length text.now }
     ensures first { mailbox_lexemes_of text.now ≡ take result text.now ∷ mailbox_lexemes_of (drop result text.now) }
@@ -48,7 +48,7 @@ fn mailbox_lexeme_len(text: &[u8]) -> usize
     pair_len(text)
 }
 
-/// How many bytes stand up to the next `>`, and with it.
+/// How many bytes there are up to the next `>`, and with it.
 fn angle_len(text: &[u8]) -> usize
     ensures value { result ≡ min (position_or_len (is_byte 62) text.now + 1) (length text.now) }
     ensures within { result ≤ length text.now }

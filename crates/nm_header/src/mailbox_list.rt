@@ -14,8 +14,8 @@ use nm_base::{Mailbox, Many, NoMemory, Text};
 use nm_text::{cut_at, is_all_white_space, without_white_space};
 use std::alloc::Global;
 
-/// The mailboxes in a field's text, in their order (RFC 5322, section 3.4). Comments are dropped, and so
-/// is what stands before a `:`. Encoded words in the names stay as they are.
+/// The mailboxes in a field's text, in their order (RFC 5322, section 3.4). Comments are dropped, and so is what comes
+/// before a `:`. Encoded words in the names stay as they are.
 pub fn mailboxes(alloc: Global, text: &str) -> Result<Many<Mailbox>, NoMemory>
     ensures { IfOk result (λ found. found ≡ mailboxes_of text.now) }
 {
@@ -89,7 +89,7 @@ fn is_angle(text: &[u8], at: usize) -> bool
     begins_with_any(after, b"<")
 }
 
-/// What stands before the next `>`, or all.
+/// What comes before the next `>`, or all.
 fn enclosed(text: &str) -> &str
     ensures { result.now ≡ before_first (is_byte 62) text.now }
 {

@@ -49,7 +49,7 @@ impl HeaderList {
         }
     }
 
-    /// Whether a field with this name stands in the header.
+    /// Whether a field with this name is in the header.
     pub fn has(&self, name: &str) -> bool
         ensures { result ≡ has_field self.now.list name.now }
     {

@@ -12,7 +12,7 @@ use Rattle.nm_machine.specs.Machine.{Machine, commits_in_flight, index_after}
 use Rattle.nm_machine.specs.declared.step.Step.{Step}
 use Rattle.nm_machine.specs.declared.step.Step.TheVariants as steps
 use Rattle.nm_history.specs.LineResult.{LeaveAlone, is_show, leaves_alone, shows}
-use Rattle.nm_history.specs.MachineRun.{LaneStep, NeverStops, is_of_lane, is_stop, lane_steps_by, lane_steps_from, look_in, next, phase_after, reply_in}
+use Rattle.nm_history.specs.MachineRun.{LaneStep, NeverStops, is_of_lane, is_stop, lane_steps_by, lane_steps_from, lane_read_in, next, phase_after, reply_in}
 use Rattle.nm_history.proofs.MachineLemmas.{next-is}
 use Rattle.nm_history.proofs.PhaseLemmas.{filter-lane}
 
@@ -80,7 +80,7 @@ pub phase-stays : (lane phase : ℕ) (back : List Step) → LeaveAlone lane back
 phase-stays lane phase [] alone = refl
 phase-stays lane phase (step ∷ back) alone = ap (λ (n : ℕ). fold phase_after n back) (same-phase lane phase step alone.0) ∙ phase-stays lane phase back alone.1
 
--- how the machine grows in them, by so many shows
+-- how the machine grows in them, by n shows
 pub record Grows (m : Machine) (count : ℕ) (last : Machine) : Type 0 where
   pub more : List Commit
   pub commits : last.commits ≡ m.commits ++ more
@@ -133,9 +133,9 @@ grows-all moment lane m (step ∷ back) last alone h =
 
 -- ---- they are taken as well where the lane has looked
 
--- a lane that sees so many commits
-abbrev pub looked : ℕ → ℕ → Machine → Machine
-looked lane value m = record m { lanes = slice_set m.lanes lane value }
+-- a lane that sees n commits
+abbrev pub lane_answer : ℕ → ℕ → Machine → Machine
+lane_answer lane value m = record m { lanes = slice_set m.lanes lane value }
 
 other-lane : (other lane : ℕ) → not (other == lane) ≡ true → other ≢ lane
 other-lane other lane e same = grind (arith, nat_tests)
@@ -144,68 +144,68 @@ module _ (lane value : ℕ) (another : 1 ≤ lane) where
   not-first : lane ≢ 0
   not-first e = omega (arith, e, another)
 
-  next-looked : (m : Machine) (step : Step) → leaves_alone lane step ≡ true → next (looked lane value m) step ≡ looked lane value (next m step)
-  next-looked m (steps.Begin commit) e = refl
-  next-looked m steps.Append e = refl
-  next-looked m steps.Show e =
+  next-lane_answer : (m : Machine) (step : Step) → leaves_alone lane step ≡ true → next (lane_answer lane value m) step ≡ lane_answer lane value (next m step)
+  next-lane_answer m (steps.Begin commit) e = refl
+  next-lane_answer m steps.Append e = refl
+  next-lane_answer m steps.Show e =
       ap (λ (l : List ℕ). record m { shown = length m.commits; lanes = l }) (set_comm m.lanes lane 0 value (length m.commits) not-first)
-  next-looked m (steps.See other) e =
+  next-lane_answer m (steps.See other) e =
       ap (λ (l : List ℕ). record m { lanes = l }) (set_comm m.lanes lane other value m.shown (λ same. other-lane other lane e (sym same)))
-  next-looked m steps.Meet e = absurd (cc)
-  next-looked m (steps.Reply other request text) e = refl
-  next-looked m (steps.Crash kept) e = absurd (cc)
-  next-looked m steps.Reopen e = absurd (cc)
+  next-lane_answer m steps.Meet e = absurd (cc)
+  next-lane_answer m (steps.Reply other request text) e = refl
+  next-lane_answer m (steps.Crash kept) e = absurd (cc)
+  next-lane_answer m steps.Reopen e = absurd (cc)
 
-  allowed-looked : (moment : ℤ) (m : Machine) (step : Step) → leaves_alone lane step ≡ true → machine.IsAllowed moment m step → machine.IsAllowed moment (looked lane value m) step
-  allowed-looked moment m (steps.Begin commit) e h = h
-  allowed-looked moment m steps.Append e h = h
-  allowed-looked moment m steps.Show e h = h
-  allowed-looked moment m (steps.See other) e h = (h.0, h.1, omega (arith, h.2, length-set m.lanes lane value))
-  allowed-looked moment m steps.Meet e h = absurd (cc)
-  allowed-looked moment m (steps.Reply other request text) e h = (
+  allowed-lane_answer : (moment : ℤ) (m : Machine) (step : Step) → leaves_alone lane step ≡ true → machine.IsAllowed moment m step → machine.IsAllowed moment (lane_answer lane value m) step
+  allowed-lane_answer moment m (steps.Begin commit) e h = h
+  allowed-lane_answer moment m steps.Append e h = h
+  allowed-lane_answer moment m steps.Show e h = h
+  allowed-lane_answer moment m (steps.See other) e h = (h.0, h.1, omega (arith, h.2, length-set m.lanes lane value))
+  allowed-lane_answer moment m steps.Meet e h = absurd (cc)
+  allowed-lane_answer moment m (steps.Reply other request text) e h = (
     h.0,
     omega (arith, h.1, length-set m.lanes lane value),
     ap (λ (n : ℕ). is_reply (index_after m n) moment request text) (get_or-set_other m.lanes lane other value 0 (other-lane other lane e)) ∙ h.2,
   )
-  allowed-looked moment m (steps.Crash kept) e h = absurd (cc)
-  allowed-looked moment m steps.Reopen e h = absurd (cc)
+  allowed-lane_answer moment m (steps.Crash kept) e h = absurd (cc)
+  allowed-lane_answer moment m steps.Reopen e h = absurd (cc)
 
-  leaves-looked : (moment : ℤ) (m : Machine) (step : Step) (new : Machine) → leaves_alone lane step ≡ true → machine.Leaves m step new → machine.Leaves (looked lane value m) step (looked lane value new)
-  leaves-looked moment m (steps.Begin commit) new e h = ap (looked lane value) h
-  leaves-looked moment m steps.Append new e h = (h.0, h.1, ap (looked lane value) h.2)
-  leaves-looked moment m steps.Show new e h = ap (looked lane value) h ∙ sym (next-looked m steps.Show e)
-  leaves-looked moment m (steps.See other) new e h = ap (looked lane value) h ∙ sym (next-looked m (steps.See other) e)
-  leaves-looked moment m steps.Meet new e h = absurd (cc)
-  leaves-looked moment m (steps.Reply other request text) new e h = ap (looked lane value) h
-  leaves-looked moment m (steps.Crash kept) new e h = absurd (cc)
-  leaves-looked moment m steps.Reopen new e h = absurd (cc)
+  leaves-lane_answer : (moment : ℤ) (m : Machine) (step : Step) (new : Machine) → leaves_alone lane step ≡ true → machine.Leaves m step new → machine.Leaves (lane_answer lane value m) step (lane_answer lane value new)
+  leaves-lane_answer moment m (steps.Begin commit) new e h = ap (lane_answer lane value) h
+  leaves-lane_answer moment m steps.Append new e h = (h.0, h.1, ap (lane_answer lane value) h.2)
+  leaves-lane_answer moment m steps.Show new e h = ap (lane_answer lane value) h ∙ sym (next-lane_answer m steps.Show e)
+  leaves-lane_answer moment m (steps.See other) new e h = ap (lane_answer lane value) h ∙ sym (next-lane_answer m (steps.See other) e)
+  leaves-lane_answer moment m steps.Meet new e h = absurd (cc)
+  leaves-lane_answer moment m (steps.Reply other request text) new e h = ap (lane_answer lane value) h
+  leaves-lane_answer moment m (steps.Crash kept) new e h = absurd (cc)
+  leaves-lane_answer moment m steps.Reopen new e h = absurd (cc)
 
-  pub runs-looked : (moment : ℤ) (m : Machine) (back : List Step) (last : Machine) → LeaveAlone lane back → machine.Runs moment m back last → machine.Runs moment (looked lane value m) back (looked lane value last)
-  runs-looked moment m [] last alone h = ap (looked lane value) h
-  runs-looked moment m (step ∷ back) last alone h = (
-    looked lane value h.0,
-    record { allowed = allowed-looked moment m step alone.0 h.1.allowed; after = leaves-looked moment m step h.0 alone.0 h.1.after },
-    runs-looked moment h.0 back last alone.1 h.2,
+  pub runs-lane_answer : (moment : ℤ) (m : Machine) (back : List Step) (last : Machine) → LeaveAlone lane back → machine.Runs moment m back last → machine.Runs moment (lane_answer lane value m) back (lane_answer lane value last)
+  runs-lane_answer moment m [] last alone h = ap (lane_answer lane value) h
+  runs-lane_answer moment m (step ∷ back) last alone h = (
+    lane_answer lane value h.0,
+    record { allowed = allowed-lane_answer moment m step alone.0 h.1.allowed; after = leaves-lane_answer moment m step h.0 alone.0 h.1.after },
+    runs-lane_answer moment h.0 back last alone.1 h.2,
   )
 
   -- what lanes do in them
-  does-looked : (phase : ℕ) (m : Machine) (step : Step) → leaves_alone lane step ≡ true → lane_steps_by phase (looked lane value m) step ≡ lane_steps_by phase m step
-  does-looked phase m (steps.Begin commit) e = refl
-  does-looked phase m steps.Append e = refl
-  does-looked phase m steps.Show e = refl
-  does-looked phase m (steps.See other) e = refl
-  does-looked phase m steps.Meet e = refl
-  does-looked phase m (steps.Reply other request text) e =
+  does-lane_answer : (phase : ℕ) (m : Machine) (step : Step) → leaves_alone lane step ≡ true → lane_steps_by phase (lane_answer lane value m) step ≡ lane_steps_by phase m step
+  does-lane_answer phase m (steps.Begin commit) e = refl
+  does-lane_answer phase m steps.Append e = refl
+  does-lane_answer phase m steps.Show e = refl
+  does-lane_answer phase m (steps.See other) e = refl
+  does-lane_answer phase m steps.Meet e = refl
+  does-lane_answer phase m (steps.Reply other request text) e =
       ap (λ (n : ℕ). reply_in phase (record { lane = other; revision = m.opening.revision + n; request = request; text = text }) ∷ []) (get_or-set_other m.lanes lane other value 0 (other-lane other lane e))
-  does-looked phase m (steps.Crash kept) e = refl
-  does-looked phase m steps.Reopen e = refl
+  does-lane_answer phase m (steps.Crash kept) e = refl
+  does-lane_answer phase m steps.Reopen e = refl
 
-  pub all-looked : (phase : ℕ) (m : Machine) (back : List Step) → LeaveAlone lane back → lane_steps_from phase (looked lane value m) back ≡ lane_steps_from phase m back
-  all-looked phase m [] alone = refl
-  all-looked phase m (step ∷ back) alone =
-      ap (λ (l : List LaneStep). l ++ lane_steps_from (phase_after phase step) (next (looked lane value m) step) back) (does-looked phase m step alone.0)
+  pub all-lane_answer : (phase : ℕ) (m : Machine) (back : List Step) → LeaveAlone lane back → lane_steps_from phase (lane_answer lane value m) back ≡ lane_steps_from phase m back
+  all-lane_answer phase m [] alone = refl
+  all-lane_answer phase m (step ∷ back) alone =
+      ap (λ (l : List LaneStep). l ++ lane_steps_from (phase_after phase step) (next (lane_answer lane value m) step) back) (does-lane_answer phase m step alone.0)
       ∙ ap (λ (l : List LaneStep). lane_steps_by phase m step ++ l)
-      (ap (λ (x : Machine). lane_steps_from (phase_after phase step) x back) (next-looked m step alone.0) ∙ all-looked (phase_after phase step) (next m step) back alone.1)
+      (ap (λ (x : Machine). lane_steps_from (phase_after phase step) x back) (next-lane_answer m step alone.0) ∙ all-lane_answer (phase_after phase step) (next m step) back alone.1)
 
 -- the lane does nothing in them
 
@@ -224,7 +224,7 @@ idle-in lane phase m (steps.Begin commit ∷ back) alone = idle-in lane phase (n
 idle-in lane phase m (steps.Append ∷ back) alone = idle-in lane phase (next m steps.Append) back alone.1
 idle-in lane phase m (steps.Show ∷ back) alone = idle-in lane phase (next m steps.Show) back alone.1
 idle-in lane phase m (steps.See other ∷ back) alone =
-    no-part other lane (look_in phase other (m.opening.revision + m.shown)) (lane_steps_from phase (next m (steps.See other)) back) alone.0 refl
+    no-part other lane (lane_read_in phase other (m.opening.revision + m.shown)) (lane_steps_from phase (next m (steps.See other)) back) alone.0 refl
     ∙ idle-in lane phase (next m (steps.See other)) back alone.1
 idle-in lane phase m (steps.Meet ∷ back) alone = absurd (cc)
 idle-in lane phase m (steps.Reply other request text ∷ back) alone =
@@ -255,7 +255,7 @@ swapped : (lane who : ℕ) (own back : List LaneStep) → AllByRecursion (λ (st
 swapped lane who own back mine idle =
     either-way (who == lane) lane own back (filter-lane lane who own mine) (λ e. subst (λ (n : ℕ). filter (is_of_lane n) back ≡ []) (same-lane who lane e) idle)
 
--- behind others
+-- after others
 pub swapped-behind : (lane who : ℕ) (front own back : List LaneStep) → AllByRecursion (λ (step : LaneStep). step.lane ≡ who) own → filter (is_of_lane who) back ≡ []
     → filter (is_of_lane lane) (front ++ (own ++ back)) ≡ filter (is_of_lane lane) ((front ++ back) ++ own)
 swapped-behind lane who front own back mine idle =

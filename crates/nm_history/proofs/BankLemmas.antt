@@ -17,11 +17,11 @@ use Rattle.nm_history.specs.CrashPrefix.{IsMoment, IsUntouched, KeepsDisk}
 use Rattle.nm_history.proofs.CrashLemmas.{is-new, left-quiet, quiet-settled}
 use Rattle.nm_history.proofs.SettledLemmas.{pending-moment, refused-keeps, session-keeps, since-opened}
 
--- what a stop leaves of the file at a settled moment of the call is what a read gave when the call began
+-- what a crash leaves of the file at a settled moment of the call is what a read gave when the call began
 abbrev Settled : FileNo → Moments → Moments → Type 0
 Settled file before now = (state : DiskState) (number : ℕ) (bytes : List ℕ) → IsMoment before now state number → MayLeave state file bytes → bytes ≡ bytes_now before file
 
--- what a read gives is one of what a stop leaves
+-- what a read gives is one of what a crash leaves
 untouched : (file : FileNo) (before now : Moments) → IsImage now.present now.present.now → LeavesNothingNew file before now → Settled file before now → IsUntouched file before now
 untouched file before now image leaves settled = record {
   leaves = leaves;

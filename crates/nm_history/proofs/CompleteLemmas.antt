@@ -37,7 +37,7 @@ use Rattle.nm_history.specs.Call.{Call, Ending, PlacedLine, Ran, Refused, Unaske
 use Rattle.nm_history.specs.Complete.{EndsWell, IsComplete, IsFinished, IsWithin, MayRead, NoFault, Opens}
 use Rattle.nm_history.specs.Given.{GivenAlong, IsGiven}
 use Rattle.nm_history.specs.History.{History}
-use Rattle.nm_history.specs.LineAnswers.{HasAnswer, HasCause, LaneAnswers, LineAnswers, ends_by, refused_look}
+use Rattle.nm_history.specs.LineAnswers.{HasAnswer, HasCause, LaneAnswers, LineAnswers, ends_by, refused_lane_read}
 use Rattle.nm_history.specs.Lines.{Along, Before, RunLine, after_line, after_lines, at_first, is_in_lane_zero, lane_zero_lines, lines_run, other_lane_lines}
 use Rattle.nm_history.specs.PrintedOut.{AreLogsOf, GainsReplies, PrintedOut}
 use Rattle.nm_history.specs.Refusals.{IsInputPassed, IsRead, IsRefusedFor, PassesBefore, RefusesLine, TakesInput}
@@ -62,7 +62,7 @@ disk-grows : (opening : Base) (moment : ℤ) (steps : List Step) (before : Befor
 disk-grows opening moment steps before [] old new h = omega arith
 disk-grows opening moment steps before (ran ∷ done) old new h = omega (arith, h.1.disk_never_falls, disk-grows opening moment steps (after_line before ran) done h.0 new h.2)
 
--- where the disk's count stands the disk did not fail
+-- where the disk's count is the same the disk did not fail
 disk-well : (failed : Bool) (before now : ℕ) → Counts failed before now → now ≤ before → before < max_count → failed ≡ true → ⊥
 disk-well true before now h stands room is = let rose = h.1 room in absurd (omega arith)
 disk-well false before now h stands room is = absurd (cc)
@@ -120,12 +120,12 @@ quiet-text : (bad : Option (ℕ × LineKind)) (own : Option (List ℕ)) → faul
 quiet-text None own = quiet-own own
 quiet-text (Some bad) own = refl
 
-quiet-end : (line : ParsedLine) (input : List ℕ) → fault_of (ends_by (refused_look line input)) ≡ None
+quiet-end : (line : ParsedLine) (input : List ℕ) → fault_of (ends_by (refused_lane_read line input)) ≡ None
 quiet-end (asked.Usage word kind) input = refl
 quiet-end (asked.Request request) input = quiet-text (first_bad_line request input) (own_query request)
 
 module _ (opening : Base) (moment : ℤ) (steps : List Step) where
-  quiet-by : (ran : RunLine) → (ran.1.outcome ≡ ends_by (refused_look (parse_line ran.0) ran.0.input)) ⊎ (ran.1.outcome ≡ outcomes.NoMemory) → fault_of ran.1.outcome ≡ None
+  quiet-by : (ran : RunLine) → (ran.1.outcome ≡ ends_by (refused_lane_read (parse_line ran.0) ran.0.input)) ⊎ (ran.1.outcome ≡ outcomes.NoMemory) → fault_of ran.1.outcome ≡ None
   quiet-by ran (inl is) = ap fault_of is ∙ quiet-end (parse_line ran.0) ran.0.input
   quiet-by ran (inr is) = ap fault_of is
 
@@ -137,17 +137,17 @@ module _ (opening : Base) (moment : ℤ) (steps : List Step) where
   part : (zero : Bool) (ran : RunLine) (first others : List RunLine) → first_fault (logs-of (cond zero (ran ∷ first) first)) ≡ None
       → LaneAnswers opening moment steps (cond (not zero) (ran ∷ others) others)
       → (fault_of ran.1.outcome ≡ None) × (first_fault (logs-of first) ≡ None) × LaneAnswers opening moment steps others
-  part true ran first others none looks = let both = or-none (fault_of ran.1.outcome) (first_fault (logs-of first)) none in (both.0, both.1, looks)
-  part false ran first others none looks = (quiet-by ran looks.0.cause, none, looks.1)
+  part true ran first others none lane_reads = let both = or-none (fault_of ran.1.outcome) (first_fault (logs-of first)) none in (both.0, both.1, lane_reads)
+  part false ran first others none lane_reads = (quiet-by ran lane_reads.0.cause, none, lane_reads.1)
 
   -- where no line of lane 0 tells of a device, no line does
   quiet-all : (lines : List RunLine) → first_fault (logs-of (lane_zero_lines lines)) ≡ None → LaneAnswers opening moment steps (other_lane_lines lines) → first_fault (logs-of lines) ≡ None
-  quiet-all [] none looks = refl
-  quiet-all (ran ∷ lines) none looks =
-      let parts = part (is_in_lane_zero ran) ran (lane_zero_lines lines) (other_lane_lines lines) none looks in
+  quiet-all [] none lane_reads = refl
+  quiet-all (ran ∷ lines) none lane_reads =
+      let parts = part (is_in_lane_zero ran) ran (lane_zero_lines lines) (other_lane_lines lines) none lane_reads in
       ap (λ (f : Option ℕ). fault_or f (first_fault (logs-of lines))) parts.0 ∙ quiet-all lines parts.1 parts.2
 
--- what was read to its end is what was told
+-- what was read to its end is what was known
 read-is : (old new : Option (List ℕ)) (input read : List ℕ) → old ≡ Some input → Consumes old new read → IsAtEnd new → read ≡ input
 read-is None new input read told h end = absurd (cc)
 read-is (Some bytes) None input read told h end = absurd h
@@ -215,7 +215,7 @@ ends-by true call out_failed status none quiet = elim (quiet-status call.done.lo
 ]
 ends-by false call out_failed status none quiet = inl (status ∙ ap (λ (b : Bool). single_status call.done.log.lines b) quiet, none)
 
--- the input that was read is the one that was told
+-- the input that was read is the one that was known
 same-input : (reads session : Bool) (read input : List ℕ) (call : Call) → TakesInput reads session read call.entry.input call.after.input → MayRead reads input call → read ≡ input
 same-input true session read input call takes within = read-is call.entry.input.bytes call.after.input.bytes input read within.told takes.0.bytes takes.0.end
 same-input false session read input call takes within = takes.1 ∙ sym within
@@ -273,20 +273,20 @@ module _ (not_bad : (bytes : List ℕ) (index : Base) (at : ℕ) → HoldsIndex 
       → LaneAnswers opening call.setting.moment call.done.log.steps (other_lane_lines (lines_run read call))
       → IsGiven opening call.setting.moment call.done.log.steps (at_first opening call.entry) (lane_zero_lines (lines_run read call)) ending call.entry call.after
       → IsFinished input call ⊎ (call.done.status ≡ 7)
-  by-ending (Refused (refusals.Usage word kind)) opening read ran out_failed call input right quiet within opens said status answers looks given =
+  by-ending (Refused (refusals.Usage word kind)) opening read ran out_failed call input right quiet within opens said status answers lane_reads given =
       let wrong = sym right ∙ said.0.1 in absurd (cc)
-  by-ending (Refused refusals.ReadFault) opening read ran out_failed call input right quiet within opens said status answers looks given =
+  by-ending (Refused refusals.ReadFault) opening read ran out_failed call input right quiet within opens said status answers lane_reads given =
       let rose = said.0.2.1 quiet.input.room in let same = quiet.input.same in absurd (omega arith)
-  by-ending (Refused (refusals.Limit limit)) opening read ran out_failed call input right quiet within opens said status answers looks given =
+  by-ending (Refused (refusals.Limit limit)) opening read ran out_failed call input right quiet within opens said status answers lane_reads given =
       absurd (no-limit limit read input call right within opens said.0)
-  by-ending (Refused refusals.DiskFault) opening read ran out_failed call input right quiet within opens said status answers looks given =
+  by-ending (Refused refusals.DiskFault) opening read ran out_failed call input right quiet within opens said status answers lane_reads given =
       let rose = said.0.1.1 quiet.disk.room in let same = quiet.disk.same in absurd (omega arith)
-  by-ending (Refused (refusals.BadIndex file at)) opening read ran out_failed call input right quiet within opens said status answers looks given =
+  by-ending (Refused (refusals.BadIndex file at)) opening read ran out_failed call input right quiet within opens said status answers lane_reads given =
       absurd (clash-told call.entry.disk.told _ _ opens.told opens.holds said.0.2 (λ moments holds bad. not_bad (bytes_now moments Head) opens.index at holds.held bad))
-  by-ending (Refused refusals.NoMemory) opening read ran out_failed call input right quiet within opens said status answers looks given = inr status
-  by-ending (Unasked why) opening read ran out_failed call input right quiet within opens said status answers looks given =
+  by-ending (Refused refusals.NoMemory) opening read ran out_failed call input right quiet within opens said status answers lane_reads given = inr status
+  by-ending (Unasked why) opening read ran out_failed call input right quiet within opens said status answers lane_reads given =
       absurd (not-unasked why read input call right within said.0.cause)
-  by-ending Ran opening read ran out_failed call input right quiet within opens said status answers looks given =
+  by-ending Ran opening read ran out_failed call input right quiet within opens said status answers lane_reads given =
       let logs : List LineLog = call.done.log.lines in
       let script : List PlacedLine = call_lines call.words read in
       let phases : List Phase = call_phases call.words read in
@@ -298,7 +298,7 @@ module _ (not_bad : (bytes : List ℕ) (index : Base) (at : ℕ) → HoldsIndex 
       (omega (arith, quiet.mail.same)) quiet.mail.room (omega (arith, quiet.disk.same, given.disk)) quiet.disk.room in
       let none : first_fault logs ≡ None =
       subst (λ (l : List LineLog). first_fault l ≡ None) (seconds-zip (map (λ (line : PlacedLine). line.1) script) logs (each ∙ sym (length-map script (λ (line : PlacedLine). line.1))))
-      (quiet-all opening call.setting.moment call.done.log.steps (lines_run read call) zero looks) in
+      (quiet-all opening call.setting.moment call.done.log.steps (lines_run read call) zero lane_reads) in
       let all : script ≡ call_lines call.words input =
       ap (call_lines call.words) (same-input (call_reads call.words) (is_session call.words) read input call said.0.takes within) in
       elim (ends-by (is_session call.words) call out_failed status none no_out) [

@@ -1,4 +1,4 @@
--- What a stop leaves before the first commit. For `BankLemmas` and `SettledLemmas`.
+-- What a crash leaves before the first commit. For `BankLemmas` and `SettledLemmas`.
 use Rattle.std.proofs.Common.{◌≡◌, ℕ, ◌+◌, ◌≤◌, min, List, [], ◌∷◌, ◌++◌, length, sym, ap, ◌∙◌, subst, arith, length-append}
 use Rattle.std.specs.List.{AllByRecursion}
 use Rattle.nm_base.specs.Limits.{max_count}
@@ -16,7 +16,7 @@ use Rattle.nm_writer.specs.Durable.{EachKeeps, HoldsPrefix, KeepsAcknowledged, K
 use Rattle.nm_replay.specs.StoredIndex.{HoldsIndex}
 use Rattle.nm_history.specs.CrashPrefix.{HasSettled, IsMoment, KeepsCommits}
 
--- where no write is pending, a stop leaves what was synced
+-- where no write is pending, a crash leaves what was synced
 pub left-quiet : (file : FileNo) (state : DiskState) (bytes : List ℕ) → state.written ≡ [] → MayLeave state file bytes → bytes ≡ bytes_of file state.synced
 left-quiet file state bytes quiet left =
     let synced : List ℕ = bytes_of file state.synced in
@@ -62,7 +62,7 @@ opening-keeps before now quiet image through opening state number bytes holds mo
       holds = subst (λ (b : List ℕ). HoldsIndex b opening) (sym same) holds;
     }
 
--- at a moment among these, which is no older than what went before them, a stop leaves what was acknowledged by then
+-- at a moment among these, which is no older than what went before them, a crash leaves what was acknowledged by then
 pub each-at : (opening : Base) (commits : List Commit) (acked : List ℕ) (states past newer : List DiskState) (state : DiskState) (older : List DiskState)
     → states ++ past ≡ newer ++ state ∷ older → length past ≤ length older → EachKeeps opening commits acked (length past) states
     → KeepsAcknowledged opening commits acked (min (length older) max_count) state

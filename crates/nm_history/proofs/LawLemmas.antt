@@ -37,7 +37,7 @@ one-index opening steps revision one other h k =
     ∙ ap (folded opening) (same-front h.front k.front h.more k.more (sym h.begun_are ∙ k.begun_are) (omega (arith, h.revision_is, k.revision_is)))
     ∙ sym k.index_is
 
--- what is refused behind a fault of the disk
+-- what is refused after a fault of the disk
 closed-when : (refused : Option Outcome) (writing : Bool) (fault : ℕ) → refused ≡ None → writing ≡ true → first_refusal refused (refused_closed (Some fault) writing) ≡ Some (outcomes.Closed fault)
 closed-when None true fault none writes = refl
 closed-when None false fault none writes = absurd (cc)

@@ -4,9 +4,9 @@ mod ClockLemmas
 mod CompleteLemmas
 mod CrashLemmas
 mod EarlierLemmas
+mod LaneReadLemmas
 mod LawLemmas
 mod LineLemmas
-mod LookLemmas
 mod MachineLemmas
 mod PhaseLemmas
 mod PrintedLemmas

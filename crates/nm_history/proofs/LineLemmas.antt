@@ -1,4 +1,4 @@
--- A line more keeps where a session stands, its commits, its answers and what the folder gave.
+-- A line more keeps where a session is, its commits, its answers and what the folder gave.
 -- For the proofs of `a_line_more_keeps_the_answers`, `a_line_more_keeps_the_commits`, `a_line_more_keeps_the_given` and others.
 use Rattle.std.proofs.Common.{◌≡◌, ◌⊎◌, ℕ, ℤ, ◌+◌, Bool, true, false, List, [], ◌∷◌, ◌++◌, Option, None, Some, IsSome, length, map, fold, refl, sym, ap, ◌∙◌, subst, arith, inl, inr, append-nil, append_assoc}
 use Rattle.std.specs.List.{flat_map}
@@ -20,7 +20,7 @@ use Rattle.nm_history.specs.LineCommits.{EachMakes, IsOnItsWay, LineCommits, Mak
 use Rattle.nm_history.specs.LineResult.{IsLineResult, Place, StandsAt, before_at, begin_step, commit_steps, line_steps, reply_step}
 use Rattle.nm_history.specs.Lines.{Along, Before, IsIndexAt, RunLine, after_line, after_lines, at_first, begun, begun_by, closed_after, tree_after, tree_after_all}
 use Rattle.nm_history.specs.MachineRun.{Replied, reply_to}
-use Rattle.nm_writer.specs.Writing.{AreWithin}
+use Rattle.nm_writer.specs.AfterCommit.{AreWithin}
 
 pub fold-append : {A B : Type 0} (f : A → B → A) (a : A) (xs ys : List B) → fold f a (xs ++ ys) ≡ fold f (fold f a xs) ys
 fold-append f a [] ys = refl
@@ -91,7 +91,7 @@ one-on-way failed (commit ∷ []) h = inr (commit, refl)
 one-on-way true (commit ∷ other ∷ more) h = absurd (omega (arith, h))
 one-on-way false (commit ∷ other ∷ more) h = absurd (omega (arith, h))
 
--- the writer that is open behind a line was open before it, and the line left nothing on its way
+-- the writer that is open after a line was open before it, and the line left nothing on its way
 still-open : (failed : Bool) (closed : Option ℕ) (faults : ℕ) (in_flight : List Commit) → IsOnItsWay failed in_flight → closed_after closed failed faults ≡ None → (closed ≡ None) × (in_flight ≡ [])
 still-open false closed faults [] h e = (e, refl)
 still-open false closed faults (commit ∷ more) h e = absurd (omega (arith, h))
@@ -101,7 +101,7 @@ apart-by : (closed : Option ℕ) (way made in_flight : List Commit) → (closed 
 apart-by None way made in_flight none idle = inl (none refl)
 apart-by (Some fault) way made in_flight none idle = inr (idle refl)
 
--- what stands before a line, by its parts
+-- what comes before a line, by its parts
 abbrev before-with : ℕ → ℕ → ℕ → Option ℕ → ℕ → Before
 before-with revision mail disk closed left = record { revision = revision; mail_faults = mail; disk_faults = disk; closed = closed; left = left }
 

@@ -64,7 +64,7 @@ module _ (moment : ℤ) where
   abbrev landed : Machine → List Commit → Machine
   landed m arrived = record m { commits = m.commits ++ arrived; in_flight = None }
 
-  -- a step that is no stop leaves the next state
+  -- a step that is no crash leaves the next state
   pub next-is : (m : Machine) (step : Step) (new : Machine) → is_stop step ≡ false → machine.Takes moment m step new → new ≡ next m step
   next-is m (steps.Begin commit) new e t = t.after
   next-is m steps.Append new e t =

@@ -1,5 +1,5 @@
--- In which phase steps stand, and in which lane: steps and lines cut in two, and those of one line.
--- For `MachineLemmas`, `LookLemmas`, `AloneLemmas` and `EarlierLemmas`.
+-- In which phase steps are, and in which lane: steps and lines cut in two, and those of one line.
+-- For `MachineLemmas`, `LaneReadLemmas`, `AloneLemmas` and `EarlierLemmas`.
 use Rattle.std.proofs.Common.{◌≡◌, ℕ, ◌+◌, ◌-◌, ◌*◌, ◌==◌, Bool, true, false, cond, List, [], ◌∷◌, ◌++◌, if◌then◌else◌, filter, length, map, fold, replicate, refl, sym, ap, ◌∙◌, arith, append-nil, append_assoc}
 use Rattle.std.specs.List.{AllByRecursion, flat_map}
 use Rattle.std.proofs.lemmas.Grind.{flat_map-append}
@@ -15,7 +15,7 @@ use Rattle.nm_log.specs.declared.outcome.Outcome.{Outcome}
 use Rattle.nm_log.specs.declared.outcome.Outcome.TheVariants as outcomes
 use Rattle.nm_history.specs.LineResult.{begin_step, commit_steps, line_steps, reply_step}
 use Rattle.nm_history.specs.Lines.{Before, RunLine, after_line, after_lines, is_in_lane_zero, lane_zero_lines}
-use Rattle.nm_history.specs.MachineRun.{LaneStep, Replied, commit_phase_by, commit_phases_from, commit_phases_of, commit_steps_in, is_in_lane, is_of_lane, lane_steps_by, lane_steps_from, lane_steps_of, look_in, next, phase_after, replied_where, reply_in, reply_to}
+use Rattle.nm_history.specs.MachineRun.{LaneStep, Replied, commit_phase_by, commit_phases_from, commit_phases_of, commit_steps_in, is_in_lane, is_of_lane, lane_steps_by, lane_steps_from, lane_steps_of, lane_read_in, next, phase_after, replied_where, reply_in, reply_to}
 
 -- ---- cut in two
 
@@ -117,14 +117,14 @@ of-outcome (outcomes.Closed fault) line phase lane revision text = tt
 of-outcome (outcomes.Limit limit) line phase lane revision text = tt
 of-outcome outcomes.NoMemory line phase lane revision text = tt
 
-of-looked : (zero : Bool) (phase lane revision : ℕ) (more : List LaneStep) → AllByRecursion (λ (step : LaneStep). step.lane ≡ lane) more
-    → AllByRecursion (λ (step : LaneStep). step.lane ≡ lane) ((if zero then [] else look_in phase lane revision ∷ []) ++ more)
-of-looked true phase lane revision more h = h
-of-looked false phase lane revision more h = (refl, h)
+of-lane_answer : (zero : Bool) (phase lane revision : ℕ) (more : List LaneStep) → AllByRecursion (λ (step : LaneStep). step.lane ≡ lane) more
+    → AllByRecursion (λ (step : LaneStep). step.lane ≡ lane) ((if zero then [] else lane_read_in phase lane revision ∷ []) ++ more)
+of-lane_answer true phase lane revision more h = h
+of-lane_answer false phase lane revision more h = (refl, h)
 
 pub of-line : (ran : RunLine) → AllByRecursion (λ (step : LaneStep). step.lane ≡ ran.1.lane) (lane_steps_of ran)
 of-line ran =
-    of-looked (is_in_lane_zero ran) ran.1.phase ran.1.lane ran.1.revision (map (reply_in ran.1.phase) (reply_to ran))
+    of-lane_answer (is_in_lane_zero ran) ran.1.phase ran.1.lane ran.1.revision (map (reply_in ran.1.phase) (reply_to ran))
     (of-outcome ran.1.outcome (parse_line ran.0) ran.1.phase ran.1.lane ran.1.revision ran.1.text)
 
 keep-or-drop : (b : Bool) (step : LaneStep) (more kept : List LaneStep) → kept ≡ (if b then more else []) → cond b (step ∷ kept) kept ≡ (if b then step ∷ more else [])
@@ -158,17 +158,17 @@ lane-more lane done lines ran h =
     ∙ (sym (flat_map-append lane_steps_of (filter (is_in_lane lane) lines) (filter (is_in_lane lane) (ran ∷ [])))
     ∙ ap (flat_map lane_steps_of) (sym (filter-append (is_in_lane lane) lines (ran ∷ []))))))
 
--- a line of lane 0 has no look
+-- a line of lane 0 has no read
 pub zero-steps : (ran : RunLine) (phase : ℕ) → is_in_lane_zero ran ≡ true → ran.1.phase ≡ phase → map (reply_in phase) (reply_to ran) ≡ lane_steps_of ran
 zero-steps ran phase zero at =
     ap (λ (n : ℕ). map (reply_in n) (reply_to ran)) (sym at)
-    ∙ ap (λ (b : Bool). (if b then [] else look_in ran.1.phase ran.1.lane ran.1.revision ∷ []) ++ map (reply_in ran.1.phase) (reply_to ran)) (sym zero)
+    ∙ ap (λ (b : Bool). (if b then [] else lane_read_in ran.1.phase ran.1.lane ran.1.revision ∷ []) ++ map (reply_in ran.1.phase) (reply_to ran)) (sym zero)
 
 -- and a line of another lane has one
 pub other-steps : (ran : RunLine) (phase lane revision : ℕ) → is_in_lane_zero ran ≡ false → ran.1.phase ≡ phase → ran.1.lane ≡ lane → ran.1.revision ≡ revision
-    → look_in phase lane revision ∷ map (reply_in phase) (reply_to ran) ≡ lane_steps_of ran
+    → lane_read_in phase lane revision ∷ map (reply_in phase) (reply_to ran) ≡ lane_steps_of ran
 other-steps ran phase lane revision other at who seen =
-    ap (λ (n : ℕ). look_in n lane revision ∷ map (reply_in n) (reply_to ran)) (sym at)
-    ∙ (ap (λ (n : ℕ). look_in ran.1.phase n revision ∷ map (reply_in ran.1.phase) (reply_to ran)) (sym who)
-    ∙ (ap (λ (n : ℕ). look_in ran.1.phase ran.1.lane n ∷ map (reply_in ran.1.phase) (reply_to ran)) (sym seen)
-    ∙ ap (λ (b : Bool). (if b then [] else look_in ran.1.phase ran.1.lane ran.1.revision ∷ []) ++ map (reply_in ran.1.phase) (reply_to ran)) (sym other)))
+    ap (λ (n : ℕ). lane_read_in n lane revision ∷ map (reply_in n) (reply_to ran)) (sym at)
+    ∙ (ap (λ (n : ℕ). lane_read_in ran.1.phase n revision ∷ map (reply_in ran.1.phase) (reply_to ran)) (sym who)
+    ∙ (ap (λ (n : ℕ). lane_read_in ran.1.phase ran.1.lane n ∷ map (reply_in ran.1.phase) (reply_to ran)) (sym seen)
+    ∙ ap (λ (b : Bool). (if b then [] else lane_read_in ran.1.phase ran.1.lane ran.1.revision ∷ []) ++ map (reply_in ran.1.phase) (reply_to ran)) (sym other)))

@@ -1,4 +1,4 @@
--- What a stop leaves where writes were pending when the call began: its settled moments come behind the sync of the opening.
+-- What a crash leaves where writes were pending when the call began: its settled moments come after the sync of the opening.
 -- For `BankLemmas`.
 use Rattle.std.proofs.Common.{◌≡◌, ◌⊎◌, inl, inr, ℕ, ◌<◌, ◌≤◌, suc, min, List, [], ◌∷◌, ◌++◌, length, refl, sym, ap, ◌∙◌, subst, append_assoc, arith, length-append}
 use Rattle.std.proofs.Math.Nat.{eq-or-lt_of_le}
@@ -17,7 +17,7 @@ use Rattle.nm_replay.specs.StoredIndex.{HoldsIndex}
 use Rattle.nm_history.specs.CrashPrefix.{HasSettled, IsMoment, KeepsCommits}
 use Rattle.nm_history.proofs.CrashLemmas.{durable-keeps, each-at, left-quiet, opening-keeps}
 
--- two places of one list with as much behind them are one
+-- two places of one list with as much after them are one
 same-place : {X : Type 0} (xs : List X) (x : X) (zs ys : List X) (y : X) (ws : List X) → xs ++ x ∷ zs ≡ ys ++ y ∷ ws → length zs ≡ length ws → x ≡ y
 same-place [] x zs [] y ws e n = cc
 same-place [] x zs (b ∷ ys) y ws e n = absurd (omega (arith, n, ap length e, length-append ys (y ∷ ws)))
@@ -50,7 +50,7 @@ module _ (entry : DiskState) (past : List DiskState) (range : Range) (ranges : L
 -- a session whose opening synced the disk
 module _ (once : (bytes : List ℕ) (one other : Base) → HoldsIndex bytes one → HoldsIndex bytes other → one ≡ other)
     (opening : Base) (commits : List Commit) (acked : List ℕ) (before opened now : Moments) (held : HoldsIndex (bytes_now before Head) opening) where
-  -- where writes were pending at its entry, its moments come behind the sync
+  -- where writes were pending at its entry, its moments come after the sync
   pub since-opened : (range : Range) (ranges : List Range) → before.present.written ≡ range ∷ ranges → IsSynced before opened → KeptSince opening commits acked opened now
       → (state : DiskState) (number : ℕ) (moment : IsMoment before now state number) → length opened.past ≤ length moment.older
   since-opened range ranges pending is kept state number moment =
@@ -75,7 +75,7 @@ module _ (once : (bytes : List ℕ) (one other : Base) → HoldsIndex bytes one 
   pub session-keeps : IsSynced before opened → (before.present.written ≡ [] → KeptSince opening commits acked before now) → KeptSince opening commits acked opened now → KeepsCommits commits acked before now
   session-keeps is from_entry kept = keeps-by before.present.written refl is from_entry kept
 
--- the index from before, which a stop leaves of a synced disk
+-- the index from before, which a crash leaves of a synced disk
 index-stays : (opening : Base) (entry state : DiskState) (bytes acked : List ℕ) (number : ℕ) → state ≡ synced entry → HoldsIndex (bytes_of Head entry.now) opening → MayLeave state Head bytes → HoldsPrefix opening [] number (acked_by number []) bytes
 index-stays opening entry state bytes acked number is holds left =
     let same : bytes ≡ bytes_of Head entry.now = left-quiet Head (synced entry) bytes refl (subst (λ (s : DiskState). MayLeave s Head bytes) is left) in

@@ -1,4 +1,4 @@
--- The tree behind a line. For the proof of `the_tree_follows_renames`.
+-- The tree after a line. For the proof of `the_tree_follows_renames`.
 use Rattle.std.proofs.Common.{◌≡◌, ℕ, true, false, List, [], ◌∷◌, ◌++◌, Option, Some, fold, refl, ap}
 use Rattle.std.proofs.lemmas.List.Sums.{fold-append}
 use Rattle.std.specs.Option.{option_map}

@@ -1,5 +1,5 @@
 -- One call of the program: what it is given, what is observed of the devices when it begins and when it has returned, and what it answers.
--- Cited by `going_on`, `nm_session` and `nm_top`.
+-- Cited by `lane_zero_laws`, `nm_session` and `nm_top`.
 use Rattle.std.specs.Prelude.{ℕ, ◌+◌, ◌==◌, Bool, true, false, List, [], ◌∷◌, ◌++◌, codes, filter, map, take, Option, None, Some, Result, Ok, Err}
 use Rattle.std.specs.List.{flat_map, range_with_len}
 use Rattle.nm_base.specs.Order.{same_text}
@@ -154,11 +154,11 @@ call_phases words input = phases_by (is_session words) words input
 abbrev pub call_lines : List (List ℕ) → List ℕ → List PlacedLine
 call_lines words input = placed_from 0 (call_phases words input)
 
--- the lines of the first phases, of so many
+-- the lines of the first phases, of n
 abbrev pub lines_of_first : ℕ → List Phase → List PlacedLine
 lines_of_first count phases = placed_from 0 (take count phases)
 
--- how many phases have ended, where so many were run, and where no line was
+-- how many phases have ended, where n were run, and where no line was
 abbrev pub phases_ended : Ending → ℕ → ℕ
 phases_ended (Refused refusal) ran = 0
 phases_ended (Unasked outcome) ran = 0

@@ -10,12 +10,12 @@ use Rattle.nm_replay.specs.StoredIndex.{HoldsWithin}
 use Rattle.nm_history.specs.Call.{Call, call_fault, call_lines, call_reads, input_fault, is_session}
 use Rattle.nm_history.specs.Status.{first_fault, single_status}
 
--- the count did not rise, and does not stand at its type's end
+-- the count did not rise, and is not at its type's end
 pub record StaysBelow (old new : ℕ) : Type 0 where
   pub same : new ≡ old
   pub room : old < max_count
 
--- no device failed in the call, and no count stands at its type's end
+-- no device failed in the call, and no count is at its type's end
 pub record NoFault (call : Call) : Type 0 where
   pub mail : StaysBelow call.entry.mail.faults call.after.mail.faults
   pub disk : StaysBelow call.entry.disk.faults call.after.disk.faults
@@ -29,7 +29,7 @@ pub record IsWithin (input : List ℕ) (call : Call) : Type 0 where
   pub few : is_session call.words ≡ true → length (lines input) ≤ max_lines
   pub lines_are : input_fault call.words input ≡ None
 
--- the disk tells its bytes, and they hold an index that keeps to the limits all the way
+-- the disk's bytes are known, and they hold an index that keeps to the limits all the way
 pub record Opens (call : Call) : Type 0 where
   pub index : Base
   pub holds : IfSome call.entry.disk.told (λ moments. HoldsWithin (bytes_now moments Head) index)
@@ -51,7 +51,7 @@ pub record IsFinished (input : List ℕ) (call : Call) : Type 0 where
   pub each : length call.done.log.lines ≡ length (call_lines call.words input)
 
 -- Where the words are right, no device failed, the input is within the limits and the disk holds an index, the lines are
--- answered to their end, or memory was wanting.
+-- answered to their end, or memory ran out.
 abbrev pub IsComplete : Call → Type 0
 IsComplete call =
     (input : List ℕ) → call_fault call.words ≡ None → NoFault call → MayRead (call_reads call.words) input call → Opens call

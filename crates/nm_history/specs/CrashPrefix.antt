@@ -1,6 +1,6 @@
--- What a stop at any moment of the call leaves on the disk: in the head the index after the commits that were acknowledged by that moment,
--- with or without the one that comes next; and the two banks as they were.
--- Cited by `going_on`, `nm_session` and `nm_top`.
+-- What a crash at any moment of the call leaves on the disk: in the head the index after the commits that were acknowledged by that
+-- moment, with or without the one that comes next; and the two banks as they were.
+-- Cited by `lane_zero_laws`, `nm_session` and `nm_top`.
 use Rattle.std.specs.Prelude.{◌≡◌, ℕ, ◌≤◌, Bool, true, false, min, List, [], ◌∷◌, ◌++◌, length, filter}
 use Rattle.nm_base.specs.Limits.{max_count}
 use Rattle.nm_commit.specs.declared.change.Commit.{Commit}
@@ -33,7 +33,7 @@ is_append Reopen = false
 abbrev pub appends : List Step → ℕ
 appends steps = length (filter is_append steps)
 
--- among these moments is one of the call, so many moments or more after the disk's first, at which no write was pending
+-- among these moments is one of the call, n moments or more after the disk's first, at which no write was pending
 pub record HasSettled (entered : ℕ) (moments : List DiskState) : Type 0 where
   pub later : List DiskState
   pub settled : DiskState
@@ -50,7 +50,8 @@ pub record IsMoment (before now : Moments) (state : DiskState) (number : ℕ) : 
   pub number_is : number ≡ length older
   pub since : HasSettled (length before.past) (state ∷ older)
 
--- whatever a stop at a moment of the call leaves holds the index after the first commits: those acknowledged by then, and at most one more
+-- whatever a crash at a moment of the call leaves holds the index after the first commits: those acknowledged by then, and at most one
+-- more
 abbrev pub KeepsCommits : List Commit → List ℕ → Moments → Moments → Type 0
 KeepsCommits commits acked before now =
     (opening : Base) (state : DiskState) (number : ℕ) (bytes : List ℕ) → HoldsIndex (bytes_now before Head) opening

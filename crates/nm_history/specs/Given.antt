@@ -1,5 +1,5 @@
 -- What the lines asked the mail folder and what it gave, one line after the other.
--- Cited by `going_on`, `nm_session` and `nm_top`.
+-- Cited by `lane_zero_laws`, `nm_session` and `nm_top`.
 use Rattle.std.specs.Prelude.{◌≡◌, ◌⊎◌, ℕ, ℤ, ◌≤◌, List, [], ◌∷◌, IsSome}
 use Rattle.nm_history.specs.Kind.{Kind, ReadsIndex, SetsTags, ShowsFiles, TakesMail, kind_of}
 use Rattle.nm_disk.specs.Observed.{ObservedDisk}
@@ -13,7 +13,7 @@ use Rattle.nm_machine.specs.declared.step.Step.{Step}
 use Rattle.nm_maildir.specs.Observed.{ObservedMail}
 use Rattle.nm_maildir.specs.declared.given.Given.{Given}
 use Rattle.nm_scan.specs.Bodies.{HasReadBodies, StopsInBodies}
-use Rattle.nm_scan.specs.Scanning.{AsksNew}
+use Rattle.nm_scan.specs.Scan.{AsksNew}
 use Rattle.nm_scan.specs.declared.bodies_error.BodiesError.{BodiesError}
 use Rattle.nm_scan.specs.declared.bodies_error.BodiesError.TheVariants as stops
 use Rattle.nm_sync.specs.Renamed.{AsksRenames}
@@ -26,8 +26,8 @@ pub record AsksNothing (old new : ObservedMail) (given : List Given) : Type 0 wh
   pub given_is : given ≡ []
   pub same : new ≡ old
 
--- What a show asks, by its outcome: where it went well, or the file that raw form asks for was gone, all files were read, each of at most the
--- bytes that were left; where it failed or passed the bytes, the first of them; where it was refused before, none.
+-- What a show asks, by its outcome: where it went well, or the file that raw form asks for was missing, all files were read, each of at most
+-- the bytes that were left; where it failed or passed the bytes, the first of them; where it was refused before, none.
 abbrev pub AsksShow : Outcome → ObservedMail → ObservedMail → ℕ → List (List ℕ) → List Given → Type 0
 AsksShow outcomes.Ok old new left paths given = HasReadBodies old new left [] given paths
 AsksShow (outcomes.Usage word kind) old new left paths given = AsksNothing old new given
@@ -74,7 +74,7 @@ GivenAlong opening moment steps before [] old new = new ≡ old
 GivenAlong opening moment steps before (ran ∷ more) old new =
     (mid : ObservedMail) × Asks opening moment steps before ran old mid × GivenAlong opening moment steps (after_line before ran) more mid new
 
--- where there is a line, the disk has failed as often at the return as behind the last one
+-- where there is a line, the disk has failed as often at the return as after the last one
 abbrev pub DiskAtReturn : Ending → Before → ObservedDisk → Type 0
 DiskAtReturn Ran last after = last.disk_faults ≡ after.faults
 DiskAtReturn (Unasked outcome) last after = last.disk_faults ≡ after.faults

@@ -14,8 +14,8 @@ use Rattle.nm_history.specs.PrintedOut.{PrintedOut}
 use Rattle.nm_history.specs.Status.{Status}
 
 -- How the call ended, how many phases were run, whether the output failed, which commits were acknowledged; and of these: the opening index, the run of the
--- machine, the commits of each line of lane 0, its answer and those of the other lanes, what is printed, what a stop leaves, the status; and
--- what the folder gave.
+-- machine, the commits of each line of lane 0, its answer and those of the other lanes, what is printed, what a crash leaves, the status; and what the
+-- folder gave.
 pub record IsHistory (opening : Base) (input : List ℕ) (call : Call) : Type 0 where
   pub ending : Ending
   pub phases_run : ℕ

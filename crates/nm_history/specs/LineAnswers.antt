@@ -1,5 +1,5 @@
--- The outcome and the text of each line: those of the plain index at the revision before it and at its own.
--- Cited by `going_on`, `nm_session` and `nm_top`.
+-- The outcome and the text of each line: those of the model at the revision before it and at its own.
+-- Cited by `lane_zero_laws`, `nm_session` and `nm_top`.
 use Rattle.std.specs.Prelude.{◌≡◌, ◌⊎◌, ℕ, ℤ, Bool, true, false, List, [], Option, None, Some}
 use Rattle.std.specs.List.{AllByRecursion}
 use Rattle.nm_answer.specs.Answer.{answer}
@@ -54,8 +54,8 @@ abbrev pub IsRefusedReading : Outcome → ParsedLine → List ℕ → Before →
 IsRefusedReading outcome line input before index moment given =
     MayAsk line input before × (refused_reading line index moment before.left given ≡ Some outcome)
 
--- Why a line ends so, on its index, by what the mail folder gave, with the folder's count of faults behind the line, and whether the disk failed in
--- it: the device that it names failed, and no other, but that behind a fault of the folder the disk may fail in what sets tags. Running out of memory is free.
+-- Why a line ends so, on its index, by what the mail folder gave, with the folder's count of faults after the line, and whether the disk failed in it: the
+-- device that it names failed, and no other, but that after a fault of the folder the disk may fail in what sets tags. Running out of memory is free.
 abbrev pub HasCause : Outcome → ParsedLine → List ℕ → Before → Base → ℤ → List Given → ℕ → Bool → Type 0
 HasCause outcomes.Ok line input before index moment given mail failed =
     MayAsk line input before × (refused_reading line index moment before.left given ≡ None) × NoneFailed before.mail_faults mail failed
@@ -102,9 +102,9 @@ LineAnswers opening moment first steps lines = Along (HasAnswer opening moment s
 -- ---- the other lanes, which ask no device
 
 -- what a line of another lane is refused for: its words, a line of its input, or its query
-abbrev pub refused_look : ParsedLine → List ℕ → Option Outcome
-refused_look (asked.Usage word kind) input = Some (outcomes.Usage word kind)
-refused_look (asked.Request request) input = refused_text_of request input
+abbrev pub refused_lane_read : ParsedLine → List ℕ → Option Outcome
+refused_lane_read (asked.Usage word kind) input = Some (outcomes.Usage word kind)
+refused_lane_read (asked.Request request) input = refused_text_of request input
 
 -- how a line ends that may be refused so
 abbrev pub ends_by : Option Outcome → Outcome
@@ -113,10 +113,10 @@ ends_by (Some outcome) = outcome
 
 -- A line of another lane ends as its texts say, or finds no memory; its status is that of the outcome, its text is said on the index at its
 -- revision, and no device is asked.
-pub record HasLook (opening : Base) (moment : ℤ) (steps : List Step) (ran : RunLine) : Type 0 where
+pub record HasLaneRead (opening : Base) (moment : ℤ) (steps : List Step) (ran : RunLine) : Type 0 where
   pub index : Base
   pub at : IsIndexAt opening steps ran.1.revision index
-  pub cause : (ran.1.outcome ≡ ends_by (refused_look (parse_line ran.0) ran.0.input)) ⊎ (ran.1.outcome ≡ outcomes.NoMemory)
+  pub cause : (ran.1.outcome ≡ ends_by (refused_lane_read (parse_line ran.0) ran.0.input)) ⊎ (ran.1.outcome ≡ outcomes.NoMemory)
   pub status : ran.1.status ≡ status_of ran.1.outcome
   pub text : ran.1.text ≡ line_text ran.1.outcome (parse_line ran.0) ran.0.input index index moment []
   pub given : ran.1.given ≡ []
@@ -126,4 +126,4 @@ pub record HasLook (opening : Base) (moment : ℤ) (steps : List Step) (ran : Ru
 
 -- So is each of them.
 abbrev pub LaneAnswers : Base → ℤ → List Step → List RunLine → Type 0
-LaneAnswers opening moment steps lines = AllByRecursion (HasLook opening moment steps) lines
+LaneAnswers opening moment steps lines = AllByRecursion (HasLaneRead opening moment steps) lines

@@ -1,9 +1,9 @@
 -- Which commits a line of lane 0 makes: all that are due, or by its outcome the first of them.
--- Cited by `going_on`, `nm_session` and `nm_top`.
+-- Cited by `lane_zero_laws`, `nm_session` and `nm_top`.
 use Rattle.std.specs.Prelude.{◌≡◌, ◌⊎◌, ℕ, ℤ, ◌+◌, Bool, false, List, [], ◌∷◌, ◌++◌, drop, length, map, Option, None, Some, ⊤, if◌then◌else◌}
 use Rattle.nm_answer.specs.Changes.{wanted_for}
 use Rattle.nm_history.specs.Kind.{Kind, ReadsIndex, SetsTags, ShowsFiles, TakesMail, kind_of}
-use Rattle.nm_answer.specs.Renaming.{renames_done, renames_for}
+use Rattle.nm_answer.specs.RenameOutcomes.{renames_done, renames_for}
 use Rattle.nm_answer.specs.declared.request.Request.{Request}
 use Rattle.nm_answer.specs.declared.request.Request.TheVariants.{New}
 use Rattle.nm_base.specs.declared.facts.Facts.{Facts}
@@ -20,12 +20,12 @@ use Rattle.nm_log.specs.declared.outcome.Outcome.TheVariants as outcomes
 use Rattle.nm_machine.specs.declared.step.Step.{Step}
 use Rattle.nm_maildir.specs.Tree.{Tree}
 use Rattle.nm_maildir.specs.declared.given.Given.{Given}
-use Rattle.nm_plan.specs.Moving.{HasTried, move_commit}
+use Rattle.nm_plan.specs.Moves.{HasTried, move_commit}
 use Rattle.nm_plan.specs.Plan.{due_commits}
-use Rattle.nm_plan.specs.Tagging.{tag_commit}
+use Rattle.nm_plan.specs.TagCommit.{tag_commit}
 use Rattle.nm_scan.specs.Listing.{PassesListing}
-use Rattle.nm_scan.specs.Scanning.{FindsBatches}
-use Rattle.nm_writer.specs.Writing.{AreWithin, IsPassed}
+use Rattle.nm_scan.specs.Scan.{FindsBatches}
+use Rattle.nm_writer.specs.AfterCommit.{AreWithin, IsPassed}
 use Rattle.nm_history.specs.Lines.{RunLine, begun, tree_after}
 use Rattle.nm_history.specs.Requests.{asks_to_tag, asks_to_write, refused_unasked}
 
@@ -72,7 +72,7 @@ abbrev pub MakesFirst : ℤ → Option Tree → Base → ScriptLine → List Giv
 MakesFirst moment tree index line given made =
     ((made ≡ []) × ((given ≡ []) ⊎ (asks_to_tag (parse_line line) ≡ false))) ⊎ ((left : List (List ℕ)) × (due more : List Commit) × AreDue moment tree index line given left due × (due ≡ made ++ more))
 
--- Behind a fault of the folder in what sets tags the tags are set; the commit of the files that were moved is made, or the disk failed in it, or
+-- After a fault of the folder in what sets tags the tags are set; the commit of the files that were moved is made, or the disk failed in it, or
 -- something else refused it.
 pub record MakesTags (index wanted : Base) (given : List Given) (made in_flight : List Commit) : Type 0 where
   pub moves : List Commit
@@ -103,7 +103,7 @@ MayFailBy SetsTags left = ⊤
 abbrev pub MayFailWith : Request → List (List ℕ) → Type 0
 MayFailWith request left = MayFailBy (kind_of request) left
 
--- The folder failed in a `new`, with paths left, or in what sets tags, in a rename or behind them.
+-- The folder failed in a `new`, with paths left, or in what sets tags, in a rename or after them.
 pub record FailsBefore (moment : ℤ) (tree : Option Tree) (index : Base) (line : ScriptLine) (given : List Given) (made in_flight : List Commit) : Type 0 where
   pub left : List (List ℕ)
   pub due : List Commit
@@ -135,7 +135,7 @@ MakesToLimit moment tree index line given count made limit =
     ⊎ ((commit : Commit) × StopsAt moment tree index line given made commit × IsPassed count (folded index made) commit limit)
 
 -- The commits that a line makes, and the one that it leaves on its way, by its outcome: the disk may hold that one where it failed;
--- where a limit is told, the next one would pass it. `count` is how many the session has then made.
+-- where a limit is reported, the next one would pass it. `count` is how many the session has then made.
 abbrev pub Makes : Outcome → ℤ → Option Tree → Base → ScriptLine → List Given → ℕ → List Commit → List Commit → Type 0
 Makes outcomes.Ok moment tree index line given count made in_flight = AreDue moment tree index line given [] made × (in_flight ≡ [])
 Makes (outcomes.Usage word kind) moment tree index line given count made in_flight = MakesNothing made in_flight
@@ -150,7 +150,7 @@ Makes (outcomes.Closed fault) moment tree index line given count made in_flight 
 Makes (outcomes.Limit limit) moment tree index line given count made in_flight = MakesToLimit moment tree index line given count made limit × (in_flight ≡ [])
 Makes outcomes.NoMemory moment tree index line given count made in_flight = MakesFirst moment tree index line given made × (in_flight ≡ [])
 
--- One commit is on its way behind a line in which the disk failed, and none behind another.
+-- One commit is on its way after a line in which the disk failed, and none after another.
 abbrev pub IsOnItsWay : Bool → List Commit → Type 0
 IsOnItsWay failed in_flight = length in_flight ≡ (if failed then 1 else 0)
 
@@ -161,7 +161,7 @@ pub record MakesCommits (opening : Base) (moment : ℤ) (tree : Option Tree) (ea
   pub on_its_way : IsOnItsWay ran.1.disk_failed in_flight
   pub within : AreWithin (length earlier) (folded opening earlier) (made ++ in_flight)
 
--- The lines make the commits one after the other, behind these earlier ones, the tree being as the renames of the lines before leave it; in the
+-- The lines make the commits one after the other, after these earlier ones, the tree being as the renames of the lines before leave it; in the
 -- end these were acknowledged.
 abbrev pub EachMakes : Base → ℤ → Option Tree → List Commit → List RunLine → List Commit → List Commit → Type 0
 EachMakes opening moment tree earlier [] commits acknowledged = (commits ≡ []) × (acknowledged ≡ earlier)

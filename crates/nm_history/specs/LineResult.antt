@@ -1,5 +1,5 @@
 -- What one line does with the writer and the mail folder, and what its log says. The statements of a session go on by it.
--- Cited by `going_on` and `nm_session`.
+-- Cited by `lane_zero_laws` and `nm_session`.
 use Rattle.std.specs.Prelude.{◌≡◌, ◌⊎◌, ℕ, ℤ, ◌+◌, ◌==◌, ◌<◌, ◌≤◌, Bool, true, false, not, List, [], ◌∷◌, ◌++◌, filter, length, map, None, IsSome}
 use Rattle.std.specs.List.{AllByRecursion, flat_map}
 use Rattle.nm_commit.specs.declared.change.Commit.{Commit}
@@ -16,11 +16,11 @@ use Rattle.nm_machine.specs.declared.step.Step.TheVariants.{Begin, Append, Show,
 use Rattle.nm_maildir.specs.Observed.{ObservedMail}
 use Rattle.nm_scan.specs.Bodies.{left_after}
 use Rattle.nm_writer.specs.Writer.{WriterState}
-use Rattle.nm_writer.specs.Writing.{AreWithin, with_commits}
+use Rattle.nm_writer.specs.AfterCommit.{AreWithin, with_commits}
 use Rattle.nm_history.specs.Call.{Devices}
 use Rattle.nm_history.specs.CrashPrefix.{appends}
 use Rattle.nm_history.specs.Given.{AsksMail, AsksNothing}
-use Rattle.nm_history.specs.LineAnswers.{HasCause, ends_by, line_text, refused_look}
+use Rattle.nm_history.specs.LineAnswers.{HasCause, ends_by, line_text, refused_lane_read}
 use Rattle.nm_history.specs.LineCommits.{IsOnItsWay, Makes}
 use Rattle.nm_history.specs.Lines.{Before, RunLine, after_lines, at_first, begun, closed_after, tree_after, tree_after_all}
 use Rattle.nm_history.specs.MachineRun.{Replied, lane_count, reply_to}
@@ -34,7 +34,7 @@ pub record Place : Type 0 where
   pub disk_faults : ℕ
   pub left : ℕ
 
--- what stands before the next line
+-- what comes before the next line
 abbrev pub before_at : Place → Before
 before_at place = record {
   revision = place.writer.shown.revision;
@@ -101,9 +101,9 @@ pub record IsLineResult (moment : ℤ) (phase : ℕ) (old : Place) (ran : RunLin
   pub text : ran.1.text ≡ line_text ran.1.outcome (parse_line ran.0) ran.0.input old.writer.shown new.writer.shown moment ran.1.given
   pub steps : taken ≡ line_steps made in_flight (reply_to ran)
 
--- A line of another lane looks, and is replied to where it went well.
-abbrev pub look_steps : ℕ → List Replied → List Step
-look_steps lane replies = See lane ∷ map reply_step replies
+-- A line of another lane reads, and is replied to where it went well.
+abbrev pub lane_read_steps : ℕ → List Replied → List Step
+lane_read_steps lane replies = See lane ∷ map reply_step replies
 
 -- a commit is shown
 abbrev pub is_show : Step → Bool
@@ -136,8 +136,8 @@ abbrev pub LeaveAlone : ℕ → List Step → Type 0
 LeaveAlone lane steps = AllByRecursion (λ step. leaves_alone lane step ≡ true) steps
 
 -- A line of another lane was run in this phase over an index that the writer has shown: what it saw and said, and the steps that it took. Since
--- then the steps `back` may have been taken, which show the later ones of the commits acknowledged: its own steps stand before them.
-pub record IsLookResult (moment : ℤ) (phase : ℕ) (opening : Base) (acknowledged : List Commit) (index : Base) (ran : RunLine) (taken back : List Step) : Type 0 where
+-- then the steps `back` may have been taken, which show the later ones of the commits acknowledged: its own steps come before them.
+pub record IsLaneReadResult (moment : ℤ) (phase : ℕ) (opening : Base) (acknowledged : List Commit) (index : Base) (ran : RunLine) (taken back : List Step) : Type 0 where
   pub another : 1 ≤ ran.0.lane
   pub exists : ran.0.lane < lane_count
   pub numbers : IsNumbered (phase, ran.0) ran.1
@@ -148,21 +148,21 @@ pub record IsLookResult (moment : ℤ) (phase : ℕ) (opening : Base) (acknowled
   pub shown : length later ≡ shows back
   pub index_is : index ≡ folded opening seen
   pub revision : ran.1.revision ≡ index.revision
-  pub cause : (ran.1.outcome ≡ ends_by (refused_look (parse_line ran.0) ran.0.input)) ⊎ (ran.1.outcome ≡ outcomes.NoMemory)
+  pub cause : (ran.1.outcome ≡ ends_by (refused_lane_read (parse_line ran.0) ran.0.input)) ⊎ (ran.1.outcome ≡ outcomes.NoMemory)
   pub status : ran.1.status ≡ status_of ran.1.outcome
   pub text : ran.1.text ≡ line_text ran.1.outcome (parse_line ran.0) ran.0.input index index moment []
   pub given : ran.1.given ≡ []
   pub mail : ran.1.mail_faults ≡ 0
   pub disk : ran.1.disk_faults ≡ 0
   pub well : ran.1.disk_failed ≡ false
-  pub steps : taken ≡ look_steps ran.0.lane (reply_to ran)
+  pub steps : taken ≡ lane_read_steps ran.0.lane (reply_to ran)
 
 -- the steps begin, acknowledge and show nothing
 abbrev pub CommitNothing : List Step → Type 0
 CommitNothing steps = (begun steps ≡ []) × (appends steps ≡ 0)
 
--- Where a session stands behind some lines of lane 0, as the log tells it: these commits were acknowledged and published, and one may be on
--- its way behind a fault of the disk.
+-- Where a session is after some lines of lane 0, as the log tells it: these commits were acknowledged and published, and one may be on its
+-- way after a fault of the disk.
 pub record StandsAt (opening : Base) (entry : Devices) (steps : List Step) (lines : List RunLine) (acknowledged : List Commit) (place : Place) : Type 0 where
   pub in_flight : List Commit
   pub begun_are : begun steps ≡ acknowledged ++ in_flight

@@ -1,5 +1,5 @@
--- The lines that were run, each with its log, and what stands before a line, all of it read off the log.
--- Cited by `going_on`, `nm_session` and `nm_top`.
+-- The lines that were run, each with its log, and what comes before a line, all of it read off the log.
+-- Cited by `lane_zero_laws`, `nm_session` and `nm_top`.
 use Rattle.std.specs.Prelude.{◌≡◌, ℕ, ◌+◌, ◌==◌, Bool, not, List, [], ◌∷◌, ◌++◌, length, filter, map, fold, Option, None, Some, Ok, if◌then◌else◌}
 use Rattle.std.specs.List.{flat_map, zip}
 use Rattle.std.specs.Option.{option_map}
@@ -70,7 +70,7 @@ pub record IsIndexAt (opening : Base) (steps : List Step) (revision : ℕ) (inde
   pub revision_is : revision ≡ opening.revision + length front
   pub index_is : index ≡ folded opening front
 
--- What stands before a line of lane 0: the revision, how often the devices have failed, the faults of the disk when it failed in a line,
+-- What comes before a line of lane 0: the revision, how often the devices have failed, the faults of the disk when it failed in a line,
 -- and how many bytes may still be shown
 pub record Before : Type 0 where
   pub revision : ℕ
@@ -93,7 +93,7 @@ at_first opening entry = record {
 abbrev pub closed_after : Option ℕ → Bool → ℕ → Option ℕ
 closed_after closed failed faults = if failed then Some faults else closed
 
--- behind a line stands what its log says
+-- after a line there is what its log says
 abbrev pub after_line : Before → RunLine → Before
 after_line before ran = record {
   revision = ran.1.revision;
@@ -103,11 +103,11 @@ after_line before ran = record {
   left = left_after before.left ran.1.given;
 }
 
--- behind all these lines
+-- after all these lines
 abbrev pub after_lines : Before → List RunLine → Before
 after_lines before lines = fold after_line before lines
 
--- it is so of each line, with what stands before it
+-- it is so of each line, with what comes before it
 abbrev pub Along : (Before → RunLine → Type 0) → Before → List RunLine → Type 0
 Along holds before [] = Unit {0}
 Along holds before (ran ∷ more) = holds before ran × Along holds (after_line before ran) more
@@ -132,10 +132,10 @@ abbrev pub tree_after_line : ParsedLine → List Given → Option Tree → Optio
 tree_after_line (asked.Request request) given tree = tree_by (kind_of request) given tree
 tree_after_line (asked.Usage word kind) given tree = tree
 
--- behind a line that was run
+-- after a line that was run
 abbrev pub tree_after : Option Tree → RunLine → Option Tree
 tree_after tree ran = tree_after_line (parse_line ran.0) ran.1.given tree
 
--- behind all these lines
+-- after all these lines
 abbrev pub tree_after_all : Option Tree → List RunLine → Option Tree
 tree_after_all tree lines = fold tree_after tree lines

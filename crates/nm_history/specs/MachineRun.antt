@@ -1,6 +1,6 @@
--- The log is a run of the machine of commits and replies: each look and each reply stands in it in the phase and at the revision of its line,
+-- The log is a run of the machine of commits and replies: each read and each reply is in it in the phase and at the revision of its line,
 -- those of one lane in the order of its lines, and each commit in the phase of its line.
--- Cited by `going_on`, `nm_session` and `nm_top`.
+-- Cited by `lane_zero_laws`, `nm_session` and `nm_top`.
 use Rattle.std.specs.Prelude.{◌≡◌, ℕ, ℤ, ◌+◌, ◌-◌, ◌*◌, ◌==◌, Bool, true, false, List, [], ◌∷◌, ◌++◌, Option, None, Some, filter, fold, length, map, slice_index, slice_set, replicate, if◌then◌else◌}
 use Rattle.std.specs.List.{AllByRecursion, flat_map}
 use Rattle.nm_answer.specs.declared.request.Request.{Request}
@@ -41,7 +41,7 @@ next m Reopen = record m { up = true }
 
 -- ---- phases
 
--- a phase ends where all lanes meet
+-- a phase ends at a barrier of all lanes
 abbrev pub phase_after : ℕ → Step → ℕ
 phase_after phase (Begin commit) = phase
 phase_after phase Append = phase
@@ -58,16 +58,16 @@ phases_met steps = fold phase_after 0 steps
 
 -- ---- what lanes do
 
--- In a phase a lane looks, and sees this revision; or it replies at it.
+-- In a phase a lane reads, and sees this revision; or it replies at it.
 pub record LaneStep : Type 0 where
   pub phase : ℕ
   pub lane : ℕ
   pub revision : ℕ
   pub said : Option (Request × List ℕ)
 
--- it looks
-abbrev pub look_in : ℕ → ℕ → ℕ → LaneStep
-look_in number who seen = record { phase = number; lane = who; revision = seen; said = None }
+-- it reads
+abbrev pub lane_read_in : ℕ → ℕ → ℕ → LaneStep
+lane_read_in number who seen = record { phase = number; lane = who; revision = seen; said = None }
 
 -- or it replies
 abbrev pub reply_in : ℕ → Replied → LaneStep
@@ -78,7 +78,7 @@ abbrev pub lane_steps_by : ℕ → Machine → Step → List LaneStep
 lane_steps_by phase m (Begin commit) = []
 lane_steps_by phase m Append = []
 lane_steps_by phase m Show = []
-lane_steps_by phase m (See lane) = look_in phase lane (m.opening.revision + m.shown) ∷ []
+lane_steps_by phase m (See lane) = lane_read_in phase lane (m.opening.revision + m.shown) ∷ []
 lane_steps_by phase m Meet = []
 lane_steps_by phase m (Reply lane request text) =
     reply_in phase (record { lane = lane; revision = m.opening.revision + slice_index m.lanes lane; request = request; text = text }) ∷ []
@@ -116,13 +116,13 @@ replied_where outcomes.NoMemory line lane revision text = []
 abbrev pub reply_to : RunLine → List Replied
 reply_to ran = replied_where ran.1.outcome (parse_line ran.0) ran.1.lane ran.1.revision ran.1.text
 
--- every line of another lane than 0 has a look
-abbrev pub look_of : RunLine → List LaneStep
-look_of ran = if is_in_lane_zero ran then [] else look_in ran.1.phase ran.1.lane ran.1.revision ∷ []
+-- every line of another lane than 0 has a read
+abbrev pub lane_read_of : RunLine → List LaneStep
+lane_read_of ran = if is_in_lane_zero ran then [] else lane_read_in ran.1.phase ran.1.lane ran.1.revision ∷ []
 
 -- what its lane does for a line
 abbrev pub lane_steps_of : RunLine → List LaneStep
-lane_steps_of ran = look_of ran ++ map (reply_in ran.1.phase) (reply_to ran)
+lane_steps_of ran = lane_read_of ran ++ map (reply_in ran.1.phase) (reply_to ran)
 
 -- those of one lane
 abbrev pub is_of_lane : ℕ → LaneStep → Bool
@@ -158,7 +158,7 @@ abbrev pub commit_phases_of : Before → List RunLine → List ℕ
 commit_phases_of before [] = []
 commit_phases_of before (ran ∷ more) = replicate (commit_steps_in before ran) ran.1.phase ++ commit_phases_of (after_line before ran) more
 
--- the program stops, or is there again
+-- the program crashes, or is there again
 abbrev pub is_stop : Step → Bool
 is_stop (Begin commit) = false
 is_stop Append = false
@@ -182,8 +182,8 @@ pub record IsAtRest (opening : Base) (acknowledged : List Commit) (m : Machine) 
   pub sees : slice_index m.lanes 0 ≡ length m.commits
   pub up : m.up ≡ true
 
--- The steps are a run of the machine from the opening index, without a stop, and so many phases have ended. Each lane looks and replies for
--- its lines in their order, in the phase of each and at its revision; each commit stands in the phase of its line. In the end all that was
+-- The steps are a run of the machine from the opening index, without a crash, and n phases have ended. Each lane reads and replies for its
+-- lines in their order, in the phase of each and at its revision; each commit is in the phase of its line. In the end all that was
 -- acknowledged is shown, and the revision of the last line of lane 0 counts it.
 pub record MachineRun (opening : Base) (moment : ℤ) (first : Before) (steps : List Step) (lines : List RunLine) (acknowledged : List Commit) (ended : ℕ) : Type 0 where
   pub last : Machine

@@ -14,8 +14,8 @@ use Rattle.nm_history.specs.Call.{Ending, Ran, Refused, Unasked}
 abbrev pub IsUnwritten : ObservedDisk → ObservedDisk → Type 0
 IsUnwritten old new = GoesOn SyncsOrFails old.told new.told
 
--- Where the disk tells its bytes, those of the head hold the opening index. Where it was not asked, the empty one stands for it. Where
--- the call was refused as a whole, whatever the refusal, nothing was written.
+-- Where the disk's bytes are known, those of the head hold the opening index. Where it was not asked, the empty one represents it.
+-- Where the call was refused as a whole, whatever the refusal, nothing was written.
 abbrev pub OpeningIndex : Ending → ObservedDisk → ObservedDisk → Base → Type 0
 OpeningIndex Ran entry after opening = IfSome entry.told (λ moments. HoldsWithin (bytes_now moments Head) opening)
 OpeningIndex (Unasked outcome) entry after opening = opening ≡ empty_index

@@ -1,7 +1,7 @@
--- What is printed: the replies of the lines of a script behind their headers, by phase, lane and line, those of a phase at its end, or that of a single
--- command alone; and at most one line to the user besides. What is printed is handed on, and where the output fails in a phase
--- so are the replies of the phases before.
--- Cited by `going_on`, `nm_top` and `nm_session`.
+-- What is printed: the replies of the lines of a script after their headers, by phase, lane and line, those of a phase at its end, or that of a single
+-- command alone; and at most one line to the user besides. What is printed is handed on, and where the output fails in a phase so are the replies of
+-- the phases before.
+-- Cited by `lane_zero_laws`, `nm_top` and `nm_session`.
 use Rattle.std.specs.Prelude.{◌≡◌, ℕ, ◌+◌, ◌<◌, ◌≤◌, Bool, true, false, List, [], ◌∷◌, ◌++◌, length, map, take, codes, Option, None, Some, if◌then◌else◌}
 use Rattle.std.specs.Io.KnownBytes.{Appends}
 use Rattle.nm_faults.specs.Faults.{HasRisen}
@@ -38,7 +38,7 @@ abbrev pub final_message : Bool → List LineLog → Bool → Option (List ℕ)
 final_message true logs out_failed = write_message out_failed
 final_message false logs out_failed = text_or (refused_text logs) (write_message out_failed)
 
--- the replies: those of a script behind their headers
+-- the replies: those of a script after their headers
 abbrev pub printed_by : Bool → List LineLog → List ℕ
 printed_by true logs = printed logs
 printed_by false logs = replies_alone logs
@@ -89,7 +89,7 @@ pub record FailsInLast (session : Bool) (phases : List Phase) (ran : ℕ) (logs 
   pub handed : 0 < before → old.put + length (printed_by session earlier) ≤ new.handed
   pub fault : HasRisen old.faults new.faults
 
--- The output gained the replies of so many phases, and where a phase was run it has handed on all that was put into it.
+-- The output gained the replies of n phases, and where a phase was run it has handed on all that was put into it.
 pub record HandsOnReplies (session : Bool) (ran : ℕ) (logs : List LineLog) (old new : ObservedSink) : Type 0 where
   pub bytes : Appends old.bytes new.bytes (printed_by session logs)
   pub put : new.put ≡ old.put + length (printed_by session logs)
@@ -101,7 +101,7 @@ abbrev pub GainsReplies : Bool → Bool → List Phase → ℕ → List LineLog 
 GainsReplies false session phases ran logs old new = (ran ≡ length phases) × HandsOnReplies session ran logs old new
 GainsReplies true session phases ran logs old new = FailsInLast session phases ran logs old new
 
--- The lines of so many phases were run, their replies were printed, and what else was said.
+-- The lines of n phases were run, their replies were printed, and what else was said.
 pub record PrintsReplies (input : List ℕ) (ran : ℕ) (out_failed : Bool) (call : Call) : Type 0 where
   pub lines : AreLogsOf (lines_of_first ran (call_phases call.words input)) call.done.log.lines
   pub out : GainsReplies out_failed (is_session call.words) (call_phases call.words input) ran call.done.log.lines call.entry.out call.after.out

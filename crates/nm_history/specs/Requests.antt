@@ -2,7 +2,7 @@
 -- Cited by `laws`, `nm_session` and `nm_top`.
 use Rattle.std.specs.Prelude.{ℕ, ℤ, ◌-◌, ◌||◌, List, [], ◌∷◌, length, Bool, true, false, Option, None, Some, Result, Ok, Err, if◌then◌else◌}
 use Rattle.nm_answer.specs.BatchLines.{queries_in, taggings_in}
-use Rattle.nm_answer.specs.DumpReading.{read_dump}
+use Rattle.nm_answer.specs.DumpLines.{read_dump}
 use Rattle.nm_history.specs.Kind.{Kind, ReadsIndex, SetsTags, ShowsFiles, TakesMail, kind_of}
 use Rattle.nm_answer.specs.Show.{gone_path, is_not_one, lead_paths, shown_ids}
 use Rattle.nm_answer.specs.declared.request.Request.{Request}
@@ -115,7 +115,7 @@ first_bad_line (Restore ask) input = bad_line_in (read_dump input ask.form)
 abbrev pub refused_line : Option (ℕ × LineKind) → Option Outcome
 refused_line fault = elim fault [ None ↦ None | Some bad ↦ Some (BadLine bad.0 bad.1) ]
 
--- behind a fault of the disk what would change the index is refused
+-- after a fault of the disk what would change the index is refused
 abbrev pub refused_closed : Option ℕ → Bool → Option Outcome
 refused_closed None writing = None
 refused_closed (Some fault) writing = if writing then Some (Closed fault) else None
@@ -181,7 +181,7 @@ refused_found ReadsIndex index moment left given = None
 refused_found (ShowsFiles ask) index moment left given = refused_show ask index moment left given
 refused_found SetsTags index moment left given = None
 
--- How a line ends for what it found and read, where so many bytes were left to show.
+-- How a line ends for what it found and read, where n bytes were left to show.
 abbrev pub refused_reading : ParsedLine → Base → ℤ → ℕ → List Given → Option Outcome
 refused_reading (asked.Usage word kind) index moment left given = None
 refused_reading (asked.Request request) index moment left given = refused_found (kind_of request) index moment left given

@@ -1,4 +1,4 @@
--- The status of a call. Cited by `going_on` and `nm_top`.
+-- The status of a call. Cited by `lane_zero_laws` and `nm_top`.
 use Rattle.std.specs.Prelude.{◌≡◌, ℕ, Bool, true, false, List, [], ◌∷◌, Option, None, Some, if◌then◌else◌}
 use Rattle.std.specs.List.{list_any}
 use Rattle.nm_log.specs.Refusals.{refused_status}

@@ -45,7 +45,7 @@ pub fn an_index_at_a_revision_is_one()
         → IsIndexAt opening steps revision one → IsIndexAt opening steps revision other → one ≡ other }
 {}
 
-/// Behind a fault of the disk a line that would change the index, and whose texts are right, is told that it is closed, and by which fault;
+/// After a fault of the disk a line that would change the index, and whose texts are right, is told that it is closed, and by which fault;
 /// or it is out of memory.
 pub fn what_writes_after_a_disk_fault_is_closed()
     ensures { (outcome : Outcome) (line : ParsedLine) (input : List ℕ) (before : Before) (index : Base) (moment : ℤ) (noted : List Given) (mail : ℕ) (failed : Bool) (fault : ℕ)
@@ -59,7 +59,7 @@ pub fn no_line_is_closed_without_a_fault()
         → before.closed ≡ None → HasCause (Outcome.Closed fault) line input before index moment noted mail failed → ⊥ }
 {}
 
-/// A script has status 4 where the disk is the first device to fail, whatever the lines behind it answer.
+/// A script has status 4 where the disk is the first device to fail, whatever the lines after it answer.
 pub fn a_disk_fault_is_the_status()
     ensures { (front back : List LineLog) (log : LineLog) (out_failed : Bool) → first_fault front ≡ None → log.outcome ≡ Outcome.DiskFault
         → session_status (front ++ log ∷ back) out_failed ≡ 4 }
@@ -92,7 +92,7 @@ pub fn a_session_keeps_its_commits()
     a_sync_leaves_nothing_new();
 }
 
-/// Where no index is opened, a stop leaves the one that the disk held, and the banks as they were.
+/// Where no index is opened, a crash leaves the one that the disk held, and the banks as they were.
 pub fn a_refused_opening_keeps_the_index()
     ensures { (before now : Moments) → IsImage before.present before.present.now → IsImage now.present now.present.now → SyncsOrFails before now
         → KeepsDisk [] [] before now }

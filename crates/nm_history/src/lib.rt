@@ -2,11 +2,11 @@
 //! of the devices, and its log; and the laws by which a session's loop keeps them line by line.
 #![tactic(auto)]
 
-mod going_on;
+mod lane_zero_laws;
 mod laws;
-mod looking;
+mod other_lane_laws;
 
-pub use going_on::{
+pub use lane_zero_laws::{
     a_line_more_is_printed_last, a_line_more_keeps_the_answers, a_line_more_keeps_the_clocks,
     a_line_more_keeps_the_commits, a_line_more_keeps_the_first_fault, a_line_more_keeps_the_given,
     a_line_more_keeps_the_machine_run, a_line_more_keeps_where_it_stands, no_line_is_answered,
@@ -20,9 +20,9 @@ pub use laws::{
     no_line_is_closed_without_a_fault, the_tree_follows_renames,
     what_writes_after_a_disk_fault_is_closed,
 };
-pub use looking::{
-    a_look_commits_nothing, a_look_keeps_the_answers, a_look_keeps_the_machine_run,
-    a_meeting_keeps_the_machine_run, later_steps_keep_the_answers,
+pub use other_lane_laws::{
+    a_barrier_keeps_the_machine_run, a_lane_read_commits_nothing, a_lane_read_keeps_the_answers,
+    a_lane_read_keeps_the_machine_run, later_steps_keep_the_answers,
     what_commits_nothing_keeps_the_commits, what_stands_between_keeps_the_answers,
     what_stands_between_keeps_the_commits,
 };

@@ -44,7 +44,7 @@ past_first : (text : List ℕ) → 0 < length text → begins_blank text ≡ fal
 past_first [] some e = absurd (omega arith)
 past_first (b ∷ bs) some e = subst (λ (t : Bool). 0 < cond (not t) (1 + position_or_len is_blank bs) 0) (sym e) (omega arith)
 
--- what stands from a blank on
+-- what is from a blank on
 words_from : (text : List ℕ) (end : ℕ) → end < length text → is_blank (get_or text end 0) ≡ true → words_of (drop end text) ≡ words_of (drop (end + 1) text)
 words_from text end within blank =
     ap words_of (drop-cons text end 0 within)

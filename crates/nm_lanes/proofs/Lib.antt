@@ -1,5 +1,5 @@
 pub mod Cuts
 pub mod LaneLemmas
-pub mod ReadingLemmas
 pub mod PlaceLemmas
+pub mod ReaderLemmas
 pub mod ZipLemmas

@@ -14,7 +14,7 @@ use Rattle.nm_lanes.specs.Lines.{command_line, input_line, is_command, is_input,
 use Rattle.nm_lanes.specs.Places.{Place, has_command, input_after, phases_ended, places, places_after, told_at, told_from, told_in}
 use Rattle.nm_lanes.specs.Script.{commands_in, input_of, lines_in, phase_of, script_of, stray_lines}
 use Rattle.nm_lanes.specs.declared.script.ScriptLine.{ScriptLine}
-use Rattle.nm_lanes.proofs.ReadingLemmas.{Line, before-no, before-yes, commands-here, commands-skip, ends_phase, input_of-more, input_of-none, stray-here, stray-none, stray-skip}
+use Rattle.nm_lanes.proofs.ReaderLemmas.{Line, before-no, before-yes, commands-here, commands-skip, ends_phase, input_of-more, input_of-none, stray-here, stray-none, stray-skip}
 
 -- the parts of the lines from a number on
 abbrev parts_of : ℕ → List (List ℕ) → List (List Line)
@@ -99,7 +99,7 @@ input-same : (number : ℕ) (lines : List (List ℕ)) → input_of (first_of (pa
 input-same number [] = refl
 input-same number (line ∷ rest) = input-kinds number line rest (input-same (number + 1) rest) (is_command line) (is_separator line) refl refl
 
--- what a phase tells, where a command stands in it already, or none
+-- what a phase tells, where a command is in it already, or none
 abbrev lines_when : Bool → List Line → List ScriptLine
 lines_when true part = commands_in part
 lines_when false part = lines_in part

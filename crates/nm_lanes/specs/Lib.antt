@@ -1,5 +1,5 @@
-pub mod Words
 pub mod Lines
-pub mod Script
-pub mod Reading
 pub mod Places
+pub mod ReaderState
+pub mod Script
+pub mod Words

@@ -16,7 +16,7 @@ abbrev pub is_input : List ℕ → Bool
 is_input [] = false
 is_input (first ∷ rest) = first == 124
 
--- what it adds to an input: what stands after its `|`, and LF
+-- what it adds to an input: what comes after its `|`, and LF
 abbrev pub input_line : List ℕ → List ℕ
 input_line line = if is_input line then drop 1 line ++ 10 ∷ [] else []
 

@@ -1,4 +1,4 @@
--- What a script tells, line by line: of each line by its place alone, by what stands before it and after it in the whole script.
+-- What a script tells, line by line: of each line by its place alone, by what comes before it and after it in the whole script.
 -- Cited by `laws`.
 use Rattle.std.specs.Prelude.{ℕ, ◌+◌, Bool, false, ◌&&◌, ◌||◌, not, List, [], ◌∷◌, ◌++◌, length, map, filter, fold, Option, Some, None, if◌then◌else◌}
 use Rattle.std.specs.List.{before_first, flat_map}
@@ -25,7 +25,7 @@ places lines = places_after [] lines
 abbrev pub phases_ended : List (List ℕ) → ℕ
 phases_ended lines = length (filter is_separator lines)
 
--- a command stands among these lines, and no `---` after it
+-- a command is among these lines, and no `---` after it
 abbrev pub has_command : List (List ℕ) → Bool
 has_command lines = fold (λ has line. is_command line || (has && not (is_separator line))) false lines
 

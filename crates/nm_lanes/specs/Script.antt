@@ -17,7 +17,7 @@ use Rattle.nm_lanes.specs.declared.script.ScriptLine.{ScriptLine}
 abbrev pub numbered : List ℕ → List (ℕ × List ℕ)
 numbered bytes = enumerate_from 1 (lines bytes)
 
--- what stands before the next command
+-- what comes before the next command
 abbrev pub before_command : List (ℕ × List ℕ) → List (ℕ × List ℕ)
 before_command rest = before_first (λ line. is_command line.1) rest
 
@@ -40,7 +40,7 @@ lines_in rest = stray_lines rest ++ commands_in rest
 abbrev pub phase_of : List (ℕ × List ℕ) → Phase
 phase_of rest = record { lines = lines_in rest }
 
--- the phases stand between the lines `---`, also where a phase has no line
+-- the phases are between the lines `---`, also where a phase has no line
 abbrev pub script_of : List ℕ → Script
 script_of bytes = record { phases = map phase_of (slice_split (λ line. is_separator line.1) (numbered bytes)) }
 

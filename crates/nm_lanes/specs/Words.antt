@@ -1,4 +1,4 @@
--- The words of a line: what stands between spaces and tabs. Cited by `line` and `words`.
+-- The words of a line: what is between spaces and tabs. Cited by `line` and `words`.
 use Rattle.std.specs.Prelude.{ℕ, Bool, ◌==◌, not, List, [], ◌∷◌, length, filter, false}
 use Rattle.std.specs.List.{slice_split}
 use Rattle.nm_text.specs.WhiteSpace.{is_blank}

@@ -8,7 +8,7 @@ use std::sync::Wait;
 use std::thread;
 use std::thread::{Threads, join_mut};
 
-/// How many seats pass a gate before their work; each passes again under its number and so many more.
+/// How many seats pass a gate before their work; each passes again under its number and n more.
 const SEATS: u32 = 16;
 
 /// The work of a lane in a phase, with all that it holds.
@@ -73,7 +73,7 @@ fn work_lanes<R: Threads + Wait + Sync, L: LaneWork + Send, G: Gate + Sync>(
     }
 }
 
-/// Works each lane, in so many threads.
+/// Works each lane, in n threads.
 fn work_each<R: Threads + Wait + Sync, L: LaneWork + Send, G: Gate + Sync>(
     rt: &R,
     gate: &G,

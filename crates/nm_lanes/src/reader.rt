@@ -2,7 +2,7 @@
 
 ghost use Rattle.std.specs.Prelude.{◌≡◌, ◌++◌, true, None, IfOk, OnOk};
 ghost use Rattle.nm_lanes.specs.Lines.{input_line, is_input, is_separator};
-ghost use Rattle.nm_lanes.specs.Reading.{after_command, after_input, after_line, after_separator, closed, fed_with, new_reader};
+ghost use Rattle.nm_lanes.specs.ReaderState.{after_command, after_input, after_line, after_separator, closed, fed_with, new_reader};
 
 use crate::line::{command_line, is_input, is_separator, stray_line};
 use crate::{Phase, Script, ScriptLine};

@@ -10,7 +10,7 @@ use Rattle.nm_answer.specs.declared.request.Request.TheVariants as requests
 use Rattle.nm_base.specs.declared.memory.NoMemory.{NoMemory}
 use Rattle.nm_base.specs.declared.refusals.UsageKind.{UsageKind}
 use Rattle.nm_history.specs.Given.{AsksBy, AsksMail, AsksShow}
-use Rattle.nm_history.specs.LineAnswers.{HasCause, NoneFailed, line_text, refused_look}
+use Rattle.nm_history.specs.LineAnswers.{HasCause, NoneFailed, line_text, refused_lane_read}
 use Rattle.nm_commit.specs.declared.change.Commit.{Commit}
 use Rattle.nm_history.specs.LineCommits.{FindsBy, FindsFor, Makes}
 use Rattle.nm_history.specs.LineResult.{HasMade, Place, before_at, said_of}
@@ -127,7 +127,7 @@ made-nothing writer = record {
   one_each = refl;
 }
 
--- the same place, behind a line that was given this
+-- the same place, after a line that was given this
 abbrev pub stays-at : Place → List Given → Place
 stays-at place noted = record { writer = place.writer; mail = place.mail; disk_faults = place.disk_faults; left = left_after place.left noted }
 
@@ -300,19 +300,19 @@ module _ (moment : ℤ) (place : Place) (line : ScriptLine) (request : Request) 
   refused-ends outcome e = text-refused outcome (text-refuses request line.input outcome e) e
 
 -- the words of a line are refused, or its texts
-look-refused : (moment : ℤ) (place : Place) (line : ScriptLine) (parsed : ParsedLine) (outcome : Outcome) → parse_line line ≡ parsed → refused_look parsed line.input ≡ Some outcome
+lane_read-refused : (moment : ℤ) (place : Place) (line : ScriptLine) (parsed : ParsedLine) (outcome : Outcome) → parse_line line ≡ parsed → refused_lane_read parsed line.input ≡ Some outcome
     → Ends moment place line [] (Ok (refused_with outcome)) (stays-at place [])
-look-refused moment place line (asked.Usage word kind) outcome is e =
+lane_read-refused moment place line (asked.Usage word kind) outcome is e =
     let same : outcomes.Usage word kind ≡ outcome = cc in
     subst (λ (o : Outcome). Ends moment place line [] (Ok (refused_with o)) (stays-at place [])) same (usage-refused moment place line word kind is)
-look-refused moment place line (asked.Request request) outcome is e = refused-ends moment place line request is outcome e
+lane_read-refused moment place line (asked.Request request) outcome is e = refused-ends moment place line request is outcome e
 
 pub refused-ends-at : (moment : ℤ) (place : Place) (line : ScriptLine) (noted : List Given) (outcome : Outcome) (result : Result LineAnswer NoMemory) → noted ≡ []
-    → refused_look (parse_line line) line.input ≡ Some outcome → IfOk result (λ done. done ≡ refused_with outcome) → Ends moment place line noted result (stays-at place noted)
+    → refused_lane_read (parse_line line) line.input ≡ Some outcome → IfOk result (λ done. done ≡ refused_with outcome) → Ends moment place line noted result (stays-at place noted)
 refused-ends-at moment place line noted outcome (Err error) none e said = found-no-memory moment place line noted none
 refused-ends-at moment place line noted outcome (Ok done) none e said =
     subst (λ (l : List Given). Ends moment place line l (Ok done) (stays-at place l)) (sym none)
-    (subst (λ (d : LineAnswer). Ends moment place line [] (Ok d) (stays-at place [])) (sym said) (look-refused moment place line (parse_line line) outcome refl e))
+    (subst (λ (d : LineAnswer). Ends moment place line [] (Ok d) (stays-at place [])) (sym said) (lane_read-refused moment place line (parse_line line) outcome refl e))
 
 -- a request that asks no device
 
@@ -391,4 +391,4 @@ reading-ends moment place line noted reading shown (Ok done) none h same said =
     let read : IsReadOff moment place.writer.shown reading done = subst (λ (b : Base). IsReadOff moment b reading done) same said in
     subst (λ (l : List Given). Ends moment place line l (Ok done) (stays-at place l)) (sym none)
     (subst (λ (d : LineAnswer). Ends moment place line [] (Ok d) (stays-at place [])) (sym (read line.input h.made)) (
-    read-well moment place line (reading_request reading) h.asks (quiet-reading reading) (subst (λ (p : ParsedLine). refused_look p line.input ≡ None) h.asks h.sound)))
+    read-well moment place line (reading_request reading) h.asks (quiet-reading reading) (subst (λ (p : ParsedLine). refused_lane_read p line.input ≡ None) h.asks h.sound)))

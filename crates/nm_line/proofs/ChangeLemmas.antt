@@ -33,7 +33,7 @@ use Rattle.nm_line.specs.Outcomes.{is_fault, outcome_of}
 use Rattle.nm_line.specs.declared.line_answer.LineAnswer.{LineAnswer}
 use Rattle.nm_line.proofs.AnswerLemmas.{made-nothing, refused-said}
 use Rattle.nm_writer.specs.Writer.{WriterState}
-use Rattle.nm_writer.specs.Writing.{AreWithin, FailsWithin, HasCommitted, IsPassed}
+use Rattle.nm_writer.specs.AfterCommit.{AreWithin, FailsWithin, HasCommitted, IsPassed}
 use Rattle.nm_writer.specs.declared.write_error.WriteError.{WriteError}
 use Rattle.nm_writer.specs.declared.write_error.WriteError.TheVariants as errors
 
@@ -137,7 +137,7 @@ passed-by old new done commit limit h alive even passed =
 pub alive-asks : (closed : Option ℕ) → closed ≡ None → refused_closed closed true ≡ None
 alive-asks closed alive = ap (λ (c : Option ℕ). refused_closed c true) alive
 
--- where the disk's count stands it did not fall, and it did not where it rose
+-- where the disk's count is the same it did not fall, and it did not where it rose
 pub counts-grow : (failed : Bool) (before now : ℕ) → Counts failed before now → before ≤ now
 counts-grow true before now h = h.0
 counts-grow false before now h = omega (arith, h)
@@ -184,7 +184,7 @@ sets-none : (line : ParsedLine) → asks_to_write line ≡ false → asks_to_tag
 sets-none (asked.Request request) writes = sets-by (kind_of request) writes
 sets-none (asked.Usage word kind) writes = refl
 
--- a limit that is passed outside a commit is told before a rename is asked
+-- a limit that is passed outside a commit is reported before a rename is asked
 unmade-limit : (tree : Option Tree) (line : ScriptLine) (noted : List Given) (limit : Limit) → PassesUnmade tree line noted limit → (noted ≡ []) ⊎ (asks_to_tag (parse_line line) ≡ false)
 unmade-limit tree line noted limit (inl query) = inl query.0
 unmade-limit tree line noted limit (inr (inl listing)) = inl listing.0

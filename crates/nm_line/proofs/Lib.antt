@@ -1,7 +1,7 @@
 pub mod AnswerLemmas
 pub mod ChangeLemmas
-pub mod LookLemmas
+pub mod IndexReplyLemmas
+pub mod LaneReadLemmas
 pub mod NewLemmas
-pub mod ReadingLemmas
 pub mod ShowLemmas
 pub mod TagLemmas

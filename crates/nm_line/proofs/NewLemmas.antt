@@ -22,7 +22,7 @@ use Rattle.nm_maildir.specs.Observed.{ObservedMail}
 use Rattle.nm_maildir.specs.Tree.{Tree}
 use Rattle.nm_maildir.specs.declared.given.Given.{Given}
 use Rattle.nm_scan.specs.Bodies.{left_after}
-use Rattle.nm_scan.specs.Scanning.{AsksNew}
+use Rattle.nm_scan.specs.Scan.{AsksNew}
 use Rattle.nm_line.specs.Line.{Ends, IsEven, IsLineAnswer, newly_closed, replied_with}
 use Rattle.nm_line.specs.Outcomes.{outcome_of}
 use Rattle.nm_line.specs.declared.line_answer.LineAnswer.{LineAnswer}
@@ -30,7 +30,7 @@ use Rattle.nm_line.proofs.AnswerLemmas.{replied-said}
 use Rattle.nm_line.proofs.ChangeLemmas.{alive-asks, alive-by, answered-with, fit-front, gets-closed, made-failing, made-none, made-some, passed-by, stays-open, write-no-memory}
 use Rattle.nm_writer.specs.New.{AreNewCommits, IsAfterNew}
 use Rattle.nm_writer.specs.Writer.{WriterState}
-use Rattle.nm_writer.specs.Writing.{FailsWithin, PassesWithin, StopsWithin, is_read_fault, is_write_fault}
+use Rattle.nm_writer.specs.AfterCommit.{FailsWithin, PassesWithin, StopsWithin, is_read_fault, is_write_fault}
 use Rattle.nm_writer.specs.declared.write_error.WriteError.{WriteError}
 use Rattle.nm_writer.specs.declared.write_error.WriteError.TheVariants as errors
 

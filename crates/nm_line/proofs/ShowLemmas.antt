@@ -33,7 +33,7 @@ use Rattle.nm_scan.specs.Bodies.{AreBodies, HasReadBodies, StopsInBodies, body_l
 use Rattle.nm_scan.specs.declared.bodies_error.BodiesError.{BodiesError}
 use Rattle.nm_scan.specs.declared.bodies_error.BodiesError.TheVariants as stops
 use Rattle.nm_line.specs.Line.{Ends, IsLineAnswer, newly_closed, refused_with, replied_with}
-use Rattle.nm_line.specs.Showing.{AsksSome, IsAfterShow, is_folder_fault, show_outcome}
+use Rattle.nm_line.specs.ShowAnswer.{AsksSome, IsAfterShow, is_folder_fault, show_outcome}
 use Rattle.nm_line.specs.declared.line_answer.LineAnswer.{LineAnswer}
 use Rattle.nm_line.specs.declared.show.ShowFault.{ShowFault}
 use Rattle.nm_line.specs.declared.show.ShowFault.TheVariants as faults
@@ -205,7 +205,7 @@ module _ (moment : ℤ) (writer : WriterState) (old_mail new_mail : ObservedMail
       (stop-tree old_mail new_mail left noted paths stops.ShowBytes h.reads) (omega (arith, same)) (inr (inl (may-ask, passed)), none-fails same)
   show-refused faults.NoMemory h same some = absurd (some refl)
 
-  -- whatever it ends with, the folder's count never falls, and memory may be wanting for its text
+  -- whatever it ends with, the folder's count never falls, and memory may run out for its text
   grows-by : (result : Result (List ℕ) ShowFault) → HasCauseOf is_folder_fault old_mail.faults new_mail.faults result → old_mail.faults ≤ new_mail.faults
   grows-by (Ok text) same = omega (arith, same)
   grows-by (Err (faults.NotOne found)) same = omega (arith, same)

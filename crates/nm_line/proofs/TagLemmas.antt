@@ -5,7 +5,7 @@ use Rattle.std.specs.Option.{option_map}
 use Rattle.nm_answer.specs.Answer.{answer}
 use Rattle.nm_answer.specs.Changes.{change_answer, strangers_for, wanted_for}
 use Rattle.nm_history.specs.Kind.{Kind, ReadsIndex, SetsTags, ShowsFiles, TakesMail, kind_of}
-use Rattle.nm_answer.specs.Renaming.{renames_for, sync_report, sync_text}
+use Rattle.nm_answer.specs.RenameOutcomes.{renames_for, sync_report, sync_text}
 use Rattle.nm_answer.specs.Restore.{strangers_text}
 use Rattle.nm_answer.specs.declared.request.Request.{Request}
 use Rattle.nm_answer.specs.declared.request.Request.TheVariants as requests
@@ -32,9 +32,9 @@ use Rattle.nm_maildir.specs.Observed.{ObservedMail}
 use Rattle.nm_maildir.specs.Tree.{Tree}
 use Rattle.nm_maildir.specs.declared.given.Given.{Given}
 use Rattle.nm_maildir.specs.declared.given.Given.TheVariants as given
-use Rattle.nm_plan.specs.Moving.{HasDoneAll, HasTried, move_commit, tag_commits}
+use Rattle.nm_plan.specs.Moves.{HasDoneAll, HasTried, move_commit, tag_commits}
 use Rattle.nm_plan.specs.Plan.{due_commits}
-use Rattle.nm_plan.specs.Tagging.{tag_commit}
+use Rattle.nm_plan.specs.TagCommit.{tag_commit}
 use Rattle.nm_publish.specs.Published.{Published}
 use Rattle.nm_scan.specs.Bodies.{left_after}
 use Rattle.nm_line.specs.Line.{Ends, IsEven, IsLineAnswer, newly_closed, replied_with}
@@ -45,11 +45,11 @@ use Rattle.nm_line.proofs.ChangeLemmas.{alive-asks, alive-by, answered-with, clo
 use Rattle.nm_sync.specs.Renamed.{AnswersAlong, AsksRenames, TreesAlong}
 use Rattle.nm_writer.specs.Tagged.{IsAfterTags}
 use Rattle.nm_writer.specs.Writer.{WriterState}
-use Rattle.nm_writer.specs.Writing.{AreWithin, FailsWithin, HasCommitted, IsAfterCommits, PassesWithin, StopsWithin, is_read_fault, with_commits}
+use Rattle.nm_writer.specs.AfterCommit.{AreWithin, FailsWithin, HasCommitted, IsAfterCommits, PassesWithin, StopsWithin, is_read_fault, with_commits}
 use Rattle.nm_writer.specs.declared.write_error.WriteError.{WriteError}
 use Rattle.nm_writer.specs.declared.write_error.WriteError.TheVariants as errors
 
--- the tree behind renames
+-- the tree after renames
 
 along : (tree after : Tree) (noted : List Given) → AnswersAlong tree noted after → after ≡ fold given_in tree noted
 along tree after [] h = h
@@ -245,7 +245,7 @@ module _ (moment : ℤ) (old new : Place) (line : ScriptLine) (noted : List Give
   still : (same : new.writer.closed ≡ old.writer.closed) → newly_closed old.writer new.writer ≡ false
   still same = stays-open old.writer new.writer same
 
-  -- the disk's count stands where the writer is open still
+  -- the disk's count is the same where the writer is still open
   stands-by : (closed : Option ℕ) → closed ≡ None → Counts (is_some closed) old.disk_faults new.disk_faults → new.disk_faults ≡ old.disk_faults
   stands-by None alive h = h
   stands-by (Some fault) alive h = absurd (cc)
@@ -254,7 +254,7 @@ module _ (moment : ℤ) (old new : Place) (line : ScriptLine) (noted : List Give
   rises-by None faults shut h = absurd (cc)
   rises-by (Some fault) faults shut h = h
 
-  -- behind a fault of the folder, by what became of the commit of the moves
+  -- after a fault of the folder, by what became of the commit of the moves
   module _ (alive : old.writer.closed ≡ None) (even : IsEven old.writer) (tried : HasTried index wanted noted)
       (mid : WriterState) (tags : HasCommitted old.writer (tag_commit index wanted) mid) (mail : Counts true old.mail.faults new.mail.faults) (disk : Counts (is_some new.writer.closed) old.disk_faults new.disk_faults) where
     faulted : (moves more : List Commit) → move_commit noted ≡ moves ++ more → HasCommitted mid moves new.writer → IsLineAnswer moment old line noted outcomes.MailFault (newly_closed old.writer new.writer) new

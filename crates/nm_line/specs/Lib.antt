@@ -1,7 +1,7 @@
-pub mod Changing
+pub mod BeforeChange
 pub mod Desk
+pub mod LaneRead
 pub mod Line
-pub mod Look
 pub mod Outcomes
 pub mod Prepared
-pub mod Showing
+pub mod ShowAnswer

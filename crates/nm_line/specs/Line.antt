@@ -28,7 +28,7 @@ use Rattle.nm_maildir.specs.declared.given.Given.{Given}
 use Rattle.nm_scan.specs.Bodies.{left_after}
 use Rattle.nm_writer.specs.Writer.{WriterState}
 
--- where a session stands
+-- where a session is
 abbrev pub place_at : WriterState → ObservedMail → ObservedDisk → ℕ → Place
 place_at writer mail disk left = record { writer = writer; mail = mail; disk_faults = disk.faults; left = left }
 

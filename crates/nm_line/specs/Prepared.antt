@@ -1,13 +1,13 @@
--- What a line asks for, ready to be answered. Cited by `prepared`, `reading`, `lane_zero` and others, `nm_session` and `nm_top`.
+-- What a line asks for, ready to be answered. Cited by `prepared`, `index_replies`, `lane_zero` and others, `nm_session` and `nm_top`.
 use Rattle.std.specs.Prelude.{◌≡◌, ℕ, true, false, List, Option, None, Some, Result, Ok, Err}
 use Rattle.nm_answer.specs.BatchLines.{queries_in}
-use Rattle.nm_answer.specs.DumpReading.{read_dump}
+use Rattle.nm_answer.specs.DumpLines.{read_dump}
 use Rattle.nm_answer.specs.Tag.{taggings_of}
 use Rattle.nm_answer.specs.declared.request.Request.{Request}
 use Rattle.nm_answer.specs.declared.request.Request.TheVariants as requests
-use Rattle.nm_answer.specs.declared.tagging.Tagging.{Tagging}
+use Rattle.nm_answer.specs.declared.tag_change.TagChange.{TagChange}
 use Rattle.nm_base.specs.declared.asks.TagAsk.{TagAsk}
-use Rattle.nm_history.specs.LineAnswers.{refused_look}
+use Rattle.nm_history.specs.LineAnswers.{refused_lane_read}
 use Rattle.nm_history.specs.Requests.{refused_text_of}
 use Rattle.nm_line.specs.declared.prepared.AskError.{AskError}
 use Rattle.nm_line.specs.declared.prepared.AskError.TheVariants as errors
@@ -58,10 +58,10 @@ IsMadeOf input (ready.Restore ask wanted) = read_dump input ask.form ≡ Ok want
 -- The line asks for this, and nothing of its words, its query and its input is refused.
 pub record IsPrepared (line : ParsedLine) (input : List ℕ) (prepared : Prepared) : Type 0 where
   pub asks : line ≡ asked.Request (request_of prepared)
-  pub sound : refused_look line input ≡ None
+  pub sound : refused_lane_read line input ≡ None
   pub made : IsMadeOf input prepared
 
--- it is refused so, or memory was wanting
+-- it is refused so, or memory ran out
 abbrev pub IsFault : Option Outcome → AskError → Type 0
 IsFault fault (errors.Refused outcome) = fault ≡ Some outcome
 IsFault fault errors.NoMemory = Unit {0}
@@ -69,10 +69,10 @@ IsFault fault errors.NoMemory = Unit {0}
 -- the line is prepared so, or it is refused for its words, its query or a line of its input
 abbrev pub IsPreparedAs : ParsedLine → List ℕ → Result Prepared AskError → Type 0
 IsPreparedAs line input (Ok prepared) = IsPrepared line input prepared
-IsPreparedAs line input (Err error) = IsFault (refused_look line input) error
+IsPreparedAs line input (Err error) = IsFault (refused_lane_read line input) error
 
 -- the lines of a `tag`, none of which is refused
-abbrev pub AreTagLines : TagAsk → List ℕ → List Tagging → Type 0
+abbrev pub AreTagLines : TagAsk → List ℕ → List TagChange → Type 0
 AreTagLines ask input wanted = (refused_text_of (requests.Tag ask) input ≡ None) × (wanted ≡ taggings_of ask input)
 
 -- a query that has no tree

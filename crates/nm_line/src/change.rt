@@ -1,10 +1,10 @@
 //! What sets tags, for `tag` and `restore`: the commits are made, and the files renamed.
 
 ghost use Rattle.std.specs.Prelude.{◌≡◌, ◌++◌, ℕ, [], IfOk};
-ghost use Rattle.nm_answer.specs.Renaming.{sync_text};
+ghost use Rattle.nm_answer.specs.RenameOutcomes.{sync_text};
 ghost use Rattle.nm_answer.specs.Restore.{strangers_text};
 ghost use Rattle.nm_lanes.specs.declared.script.ScriptLine.{ScriptLine};
-ghost use Rattle.nm_line.specs.Changing.{AreAsked};
+ghost use Rattle.nm_line.specs.BeforeChange.{AreAsked};
 ghost use Rattle.nm_line.specs.Desk.{IsReady, KeepsLoans, Stands, StaysDurable, place_of};
 ghost use Rattle.nm_line.specs.Line.{Ends, replied_with};
 ghost use Rattle.nm_log.specs.ParsedLine.{parse_line};
@@ -14,7 +14,7 @@ ghost use Rattle.nm_scan.specs.Bodies.{left_after};
 use crate::desk::Desk;
 use crate::fault_texts::{fault_texts, refuse_write};
 use crate::line_answer::{LineAnswer, replied};
-use nm_answer::{Request, SyncReport, Tagging};
+use nm_answer::{Request, SyncReport, TagChange};
 use nm_base::{Many, MessageId, NoMemory};
 use nm_disk::Disk;
 use nm_log::{Crew, change_reply};
@@ -28,7 +28,7 @@ use std::thread::Threads;
 #[derive(Drop)]
 pub(crate) struct Changes {
     pub(crate) request: Request,
-    pub(crate) lines: Many<Tagging>,
+    pub(crate) lines: Many<TagChange>,
     pub(crate) strangers: Many<MessageId>,
 }
 

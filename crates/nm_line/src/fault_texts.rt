@@ -1,7 +1,7 @@
 //! The lines of the faults of devices, made before one comes, since a commit may be in flight then. `new` and `change` have them.
 
 ghost use Rattle.std.specs.Prelude.{◌≡◌, false, IfOk, MatchResult};
-ghost use Rattle.nm_line.specs.Changing.{AreFaultTexts};
+ghost use Rattle.nm_line.specs.BeforeChange.{AreFaultTexts};
 ghost use Rattle.nm_line.specs.Line.{refused_with};
 ghost use Rattle.nm_line.specs.Outcomes.{is_fault, outcome_of};
 

@@ -9,10 +9,10 @@ ghost use Rattle.nm_log.specs.ParsedLine.{parse_line};
 ghost use Rattle.nm_scan.specs.Bodies.{left_after};
 
 use crate::desk::Desk;
+use crate::index_replies::read_off;
 use crate::line_answer::{LineAnswer, refuse};
 use crate::new::run_new;
 use crate::prepared::{AskError, Prepared};
-use crate::reading::read_off;
 use crate::restore::run_restore;
 use crate::show::run_show;
 use crate::tag::run_tag;

@@ -5,20 +5,20 @@
 mod change;
 mod desk;
 mod fault_texts;
+mod index_replies;
 mod lane_zero;
 mod laws;
 mod line_answer;
 mod new;
 mod other_lane;
 mod prepared;
-mod reading;
 mod restore;
 mod show;
 mod tag;
 
 pub use desk::Desk;
 pub use lane_zero::answer;
-pub use laws::what_is_looked_is_said;
+pub use laws::what_a_lane_reads_is_said;
 pub use line_answer::LineAnswer;
-pub use other_lane::look;
+pub use other_lane::lane_read;
 pub use prepared::{AskError, Prepared, Reading, prepare, prepare_line};

@@ -1,4 +1,4 @@
-//! The command `new`: what has come is taken in, and what is gone is removed. `lane_zero` calls it.
+//! The command `new`: new mail is added, and what is missing is removed. `lane_zero` calls it.
 
 ghost use Rattle.std.specs.Prelude.{◌≡◌, ℕ, ℤ, [], IfOk};
 ghost use Rattle.nm_answer.specs.NewText.{new_text};
@@ -23,7 +23,7 @@ use std::alloc::Global;
 use std::sync::Wait;
 use std::thread::Threads;
 
-/// Takes in what has come, which several workers parse, and removes what is gone.
+/// Takes in what has come, which several workers parse, and removes what is missing.
 pub(crate) fn run_new<R: Threads + Wait + Sync, M: Maildir, D: Disk>(
     crew: &Crew<'_, R>,
     desk: &mut Desk<'_, '_, '_, M, D>,

@@ -2,13 +2,13 @@
 
 ghost use Rattle.std.specs.Prelude.{◌≡◌, ◌≤◌, true};
 ghost use Rattle.nm_dates.specs.Seconds.{IsMoment};
-ghost use Rattle.nm_line.specs.Look.{IsAnswerOn};
+ghost use Rattle.nm_line.specs.LaneRead.{IsAnswerOn};
 ghost use Rattle.nm_line.specs.Prepared.{request_of};
 ghost use Rattle.nm_log.specs.ParsedLine.{is_of_every_lane};
 
+use crate::index_replies::read_off;
 use crate::line_answer::{LineAnswer, refuse};
 use crate::prepared::{AskError, Prepared, Reading, prepare_line};
-use crate::reading::read_off;
 use nm_base::NoMemory;
 use nm_lanes::ScriptLine;
 use nm_log::{Setting, other_lanes_search_count_and_dump};
@@ -16,7 +16,7 @@ use nm_state::Snapshot;
 use std::alloc::Global;
 
 /// Reads what the line asks for, and answers it on the index.
-pub fn look(
+pub fn lane_read(
     alloc: Global,
     setting: &Setting,
     line: &ScriptLine,

@@ -7,7 +7,7 @@ ghost use Rattle.nm_line.specs.Prepared.{AreTagLines, IsFault, IsPreparedAs};
 ghost use Rattle.nm_log.specs.ParsedLine.{parse_line};
 ghost use Rattle.nm_query.specs.Answers.{answer_of};
 
-use nm_answer::{Request, Tagging};
+use nm_answer::{Request, TagChange};
 use nm_base::{Copies, CountAsk, DumpAsk, Many, NoMemory, RestoreAsk, SearchAsk, ShowAsk, TagAsk};
 use nm_batch::{read_queries, read_taggings};
 use nm_dump::read_dump;
@@ -23,7 +23,7 @@ pub enum Prepared {
     New,
     Read(Reading),
     Show(ShowAsk, Query),
-    Tag(TagAsk, Many<Tagging>),
+    Tag(TagAsk, Many<TagChange>),
     Restore(RestoreAsk, Many<Wanted>),
 }
 
@@ -143,7 +143,7 @@ fn prepare_count(alloc: Global, ask: CountAsk, input: &[u8]) -> Result<Prepared,
 }
 
 /// The lines of a `tag`: those of its input, or the one that its words are.
-fn tag_lines(alloc: Global, ask: &TagAsk, input: &[u8]) -> Result<Many<Tagging>, AskError>
+fn tag_lines(alloc: Global, ask: &TagAsk, input: &[u8]) -> Result<Many<TagChange>, AskError>
     ensures { MatchResult result (AreTagLines ask.now input.now) (IsFault (refused_text_of (Request.Tag ask.now) input.now)) }
 {
     if ask.batch {
@@ -152,7 +152,7 @@ fn tag_lines(alloc: Global, ask: &TagAsk, input: &[u8]) -> Result<Many<Tagging>,
     let query = query_of(alloc, ask.query.as_str())?;
     let ops = ask.ops.copy()?;
     let mut lines = Many::new(alloc);
-    lines.push(Tagging {
+    lines.push(TagChange {
         clear: ask.clear,
         ops,
         query,

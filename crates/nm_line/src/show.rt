@@ -7,7 +7,7 @@ ghost use Rattle.nm_lanes.specs.declared.script.ScriptLine.{ScriptLine};
 ghost use Rattle.nm_line.specs.Desk.{IsReady, KeepsLoans, Stands, StaysDurable, place_of};
 ghost use Rattle.nm_line.specs.Line.{Ends, refused_with};
 ghost use Rattle.nm_line.specs.Prepared.{IsPrepared};
-ghost use Rattle.nm_line.specs.Showing.{IsAfterReads, IsAfterShow, bodies_fault, is_folder_fault, show_fault, show_outcome, tells_not_one};
+ghost use Rattle.nm_line.specs.ShowAnswer.{IsAfterReads, IsAfterShow, bodies_fault, is_folder_fault, show_fault, show_outcome, tells_not_one};
 ghost use Rattle.nm_line.specs.declared.prepared.Prepared.TheVariants as ready;
 ghost use Rattle.nm_log.specs.ParsedLine.{parse_line};
 ghost use Rattle.nm_scan.specs.Bodies.{left_after};
@@ -28,7 +28,7 @@ use std::alloc::Global;
 /// Why there is nothing to show.
 #[derive(Drop)]
 enum ShowFault {
-    /// Raw form shows one message, and the query finds so many.
+    /// Raw form shows one message, and the query finds n.
     NotOne { found: u64 },
     /// The file that raw form asks for is not there any more, or it is too long.
     Gone { path: MailPath },
@@ -69,7 +69,7 @@ pub(crate) fn run_show<R, M: Maildir, D: Disk>(
     }
 }
 
-/// Shows the messages that a query finds: their files are read, of at most so many bytes in all, and what is answered is noted.
+/// Shows the messages that a query finds: their files are read, of at most n bytes in all, and what is answered is noted.
 fn show_messages<R, M: Maildir>(
     crew: &Crew<'_, R>,
     snapshot: &Snapshot,

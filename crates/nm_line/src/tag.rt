@@ -12,7 +12,7 @@ ghost use Rattle.nm_scan.specs.Bodies.{left_after};
 use crate::change::{Changes, change_tags};
 use crate::desk::Desk;
 use crate::line_answer::LineAnswer;
-use nm_answer::{Request, Tagging};
+use nm_answer::{Request, TagChange};
 use nm_base::{Many, NoMemory, TagAsk};
 use nm_disk::Disk;
 use nm_log::Crew;
@@ -24,7 +24,7 @@ use std::thread::Threads;
 pub(crate) fn run_tag<R: Threads + Wait + Sync, M: Maildir, D: Disk>(
     crew: &Crew<'_, R>,
     ask: TagAsk,
-    lines: Many<Tagging>,
+    lines: Many<TagChange>,
     desk: &mut Desk<'_, '_, '_, M, D>,
     given: &mut Many<Given>,
 ) -> Result<LineAnswer, NoMemory>

@@ -126,7 +126,7 @@ answer-is name (requests.Show ask) = refl
 answer-is name (requests.Tag ask) = refl
 answer-is name (requests.Restore ask) = refl
 
--- what a command is, where its name may stand in a line
+-- what a command is, where its name may be in a line
 abbrev named : List ℕ → List (List ℕ) → Option UsageKind → ParsedLine
 named name words fault = elim fault [ Some kind ↦ refused kind name | None ↦ parse_answer name (request_of (name ∷ words)) ]
 

@@ -1,4 +1,4 @@
--- Lines of a text, one behind the other. For the proofs of `add_all_unmoved` and `add_strangers`.
+-- Lines of a text, one after the other. For the proofs of `add_all_unmoved` and `add_strangers`.
 use Rattle.std.proofs.Common.{◌≡◌, ℕ, ◌+◌, ◌<◌, List, [], ◌∷◌, ◌++◌, length, take, get_or, sym, ap, ◌∙◌, append-nil, append_assoc}
 use Rattle.std.proofs.lemmas.Grind.{flat_map-append}
 use Rattle.std.proofs.lemmas.List.{take_more}

@@ -8,7 +8,7 @@ use Rattle.nm_io.specs.Observed.{ObservedSink, Puts}
 use Rattle.nm_log.specs.declared.log.LineLog.{LineLog}
 use Rattle.nm_log.proofs.Puts.{Answer, Puts-first, Puts-then}
 
--- all that is printed: the lines before one, that line, and those behind it
+-- all that is printed: the lines before one, that line, and those after it
 split_line : (text_of : LineLog → List ℕ) (lines : List LineLog) (i : ℕ) (log : LineLog) → i < length lines → log ≡ get_or lines i log
     → flat_map text_of lines ≡ flat_map text_of (take i lines) ++ (text_of log ++ flat_map text_of (drop (suc i) lines))
 split_line text_of lines i log within is =

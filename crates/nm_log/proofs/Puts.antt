@@ -24,7 +24,7 @@ front_of n xs ys = take-append-le (min n (length xs)) xs ys (omega arith) ∙ ca
 fails-first : (a b : Option (List ℕ)) (xs ys : List ℕ) → (n : ℕ) × Appends a b (take n xs) → (n : ℕ) × Appends a b (take n (xs ++ ys))
 fails-first a b xs ys h = (min h.0 (length xs), subst (Appends a b) (sym (front_of h.0 xs ys)) h.1)
 
--- a put that fails behind one that went well
+-- a put that fails after one that went well
 appends-first : (a b c : Option (List ℕ)) (xs ys : List ℕ) → Appends a b xs → (n : ℕ) × Appends b c (take n ys) → (n : ℕ) × Appends a c (take n (xs ++ ys))
 appends-first a b c xs ys h k = (length xs + k.0, subst (Appends a c) (sym (take-append-add xs ys k.0)) (Appends-trans a b c xs (take k.0 ys) h k.1))
 
@@ -43,7 +43,7 @@ pub Puts-first : (a b : ObservedSink) (r : Answer) (e : Failed) (xs ys : List �
 Puts-first a b (Ok x) e xs ys failed h = absurd (false≢true failed)
 Puts-first a b (Err d) e xs ys failed h = record { bytes = fails-first a.bytes b.bytes xs ys h.bytes; put = h.put; handed = h.handed; cause = h.cause }
 
--- a put behind one that went well
+-- a put after one that went well
 pub Puts-then : (a b c : ObservedSink) (r : Answer) (x : Unit {0}) (xs ys : List ℕ) → Puts a b (Ok x) xs → Puts b c r ys → Puts a c r (xs ++ ys)
 Puts-then a b c (Ok y) x xs ys h k = record {
   bytes = Appends-trans a.bytes b.bytes c.bytes xs ys h.bytes k.bytes;
@@ -65,7 +65,7 @@ pub StreamAppends-failed : (a b : ObservedSink) (r : Answer) (e : Failed) (xs : 
 StreamAppends-failed a b (Ok x) e xs failed h = absurd (false≢true failed)
 StreamAppends-failed a b (Err d) e xs failed h = record { bytes = h.bytes; handed = h.handed; fault = h.cause }
 
--- a flush behind a put that went well
+-- a flush after a put that went well
 pub StreamAppends-flushed : (a b c : ObservedSink) (r : Answer) (x : Unit {0}) (xs : List ℕ) → Puts a b (Ok x) xs → Flushes b c r → StreamAppends (is_err r) a c xs
 StreamAppends-flushed a b c (Ok y) x xs h k = record {
   bytes = Appends-kept a.bytes b.bytes c.bytes xs h.bytes k.bytes;

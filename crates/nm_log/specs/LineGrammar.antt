@@ -1,5 +1,5 @@
 -- The grammar of a line of a script, a case for each of its rules: which lines ask for what, and which word of a line is at fault. What is
--- wrong with a line whatever its command, its flaw, is told by the script.
+-- wrong with a line whatever its command, its flaw, is given by the script.
 -- Cited by `laws`.
 use Rattle.std.specs.Prelude.{◌≡◌, ℕ, List, [], ◌∷◌, None, Some}
 use Rattle.nm_base.specs.declared.refusals.UsageKind.{UsageKind}

@@ -92,7 +92,7 @@ abbrev pub first_word : List (List ℕ) → List ℕ
 first_word [] = []
 first_word (word ∷ more) = word
 
--- a flaw is told, and where there is none the words are read
+-- a flaw is reported, and where there is none the words are read
 abbrev pub asked_unless : Option UsageKind → ℕ → List (List ℕ) → ParsedLine
 asked_unless (Some kind) lane words = refused kind (first_word words)
 asked_unless None lane words = parse_command lane words

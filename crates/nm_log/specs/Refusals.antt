@@ -17,7 +17,7 @@ refused_status (refusals.BadIndex file at) = 8
 refused_status (refusals.Limit limit) = 9
 refused_status refusals.NoMemory = 7
 
--- the number by which a file is told
+-- the number by which a file is named
 abbrev pub file_name : FileNo → List ℕ
 file_name Head = codes "0"
 file_name BankA = codes "1"

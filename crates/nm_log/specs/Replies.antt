@@ -63,7 +63,7 @@ bad_line line kind = codes "notmuch: line " ++ (decimal line ++ (codes ": " ++ (
 abbrev pub not_one_line : ℕ → List ℕ
 not_one_line found = codes "notmuch: " ++ (decimal found ++ codes " messages match\n")
 
--- the path of a file that is gone
+-- the path of a file that is missing
 abbrev pub gone_line : List ℕ → List ℕ
 gone_line path = codes "notmuch: gone: " ++ (path ++ codes "\n")
 
@@ -140,7 +140,7 @@ header_of log =
     ++ number_after (codes " ") (length log.text)
     ++ codes "\n"
 
--- a reply behind its header
+-- a reply after its header
 abbrev pub printed_line : LineLog → List ℕ
 printed_line log = header_of log ++ log.text
 

@@ -26,11 +26,11 @@ pub start_order : (opening : Base) (lanes : ℕ) → InOrder 0 (start opening la
 start_order opening lanes = record {
   seen = λ lane h. omega arith;
   known = λ lane h. omega (arith, get_or-replicate lanes 0 lane h);
-  meeting = omega arith;
+  last_barrier = omega arith;
   shown = omega arith;
 }
 
--- a stop takes no commit away
+-- a crash takes no commit away
 left_more : (m : Machine) (kept : Bool) → (more : List Commit) × (left_by m kept ≡ m.commits ++ more)
 left_more m true = (commits_in_flight m.in_flight, refl)
 left_more m false = ([], sym (append-nil m.commits))
@@ -40,55 +40,55 @@ length_more early late m = omega (arith, ap length m.1, length-append early m.0)
 
 module _ (moment : ℤ) where
   pub take_keeps : (met : ℕ) (old : Machine) (step : Step) (new : Machine) → InOrder met old → Takes moment old step new → InOrder (met_after met old step) new
-  take_keeps met old (Begin commit) new o t = subst (InOrder met) (sym t.after) (record { seen = o.seen; known = o.known; meeting = o.meeting; shown = o.shown })
+  take_keeps met old (Begin commit) new o t = subst (InOrder met) (sym t.after) (record { seen = o.seen; known = o.known; last_barrier = o.last_barrier; shown = o.shown })
   take_keeps met old Append new o t =
-      subst (InOrder met) (sym t.after.2) (record { seen = o.seen; known = o.known; meeting = o.meeting; shown = omega (arith, o.shown, length-append old.commits (t.after.0 ∷ [])) })
+      subst (InOrder met) (sym t.after.2) (record { seen = o.seen; known = o.known; last_barrier = o.last_barrier; shown = omega (arith, o.shown, length-append old.commits (t.after.0 ∷ [])) })
   take_keeps met old Show new o t = subst (InOrder met) (sym t.after) (record {
-    seen = λ lane h. set_cases (λ k v. met ≤ v) old.lanes 0 (length old.commits) lane h (omega (arith, o.meeting, o.shown)) (o.seen lane);
+    seen = λ lane h. set_cases (λ k v. met ≤ v) old.lanes 0 (length old.commits) lane h (omega (arith, o.last_barrier, o.shown)) (o.seen lane);
     known = λ lane h. set_cases (λ k v. v ≤ length old.commits) old.lanes 0 (length old.commits) lane h (omega arith) (λ h'. omega (arith, o.known lane h', o.shown));
-    meeting = omega (arith, o.meeting, o.shown);
+    last_barrier = omega (arith, o.last_barrier, o.shown);
     shown = omega arith;
   })
   take_keeps met old (See at) new o t = subst (InOrder met) (sym t.after) (record {
-    seen = λ lane h. set_cases (λ k v. met ≤ v) old.lanes at old.shown lane h o.meeting (o.seen lane);
+    seen = λ lane h. set_cases (λ k v. met ≤ v) old.lanes at old.shown lane h o.last_barrier (o.seen lane);
     known = λ lane h. set_cases (λ k v. v ≤ old.shown) old.lanes at old.shown lane h (omega arith) (o.known lane);
-    meeting = o.meeting;
+    last_barrier = o.last_barrier;
     shown = o.shown;
   })
   take_keeps met old Meet new o t = subst (InOrder (length old.commits)) (sym t.after) (record {
     seen = λ lane h. omega (arith, t.allowed.1, get_or-replicate (length old.lanes) old.shown lane h);
     known = λ lane h. omega (arith, get_or-replicate (length old.lanes) old.shown lane h);
-    meeting = omega (arith, t.allowed.1);
+    last_barrier = omega (arith, t.allowed.1);
     shown = o.shown;
   })
   take_keeps met old (Reply lane request text) new o t = subst (InOrder met) (sym t.after) o
   take_keeps met old (Crash kept) new o t = subst (InOrder met) (sym t.after) (record {
     seen = o.seen;
     known = o.known;
-    meeting = o.meeting;
+    last_barrier = o.last_barrier;
     shown = omega (arith, o.shown, length_more old.commits (left_by old kept) (left_more old kept));
   })
   take_keeps met old Reopen new o t = subst (InOrder (length old.commits)) (sym t.after) (record {
     seen = λ lane h. omega (arith, get_or-replicate (length old.lanes) (length old.commits) lane h);
     known = λ lane h. omega (arith, get_or-replicate (length old.lanes) (length old.commits) lane h);
-    meeting = omega arith;
+    last_barrier = omega arith;
     shown = omega arith;
   })
 
-  -- what a meeting kept never falls
+  -- what a barrier kept never falls
   met_rises : (met : ℕ) (old : Machine) (step : Step) → InOrder met old → met ≤ met_after met old step
   met_rises met old (Begin commit) o = omega arith
   met_rises met old Append o = omega arith
   met_rises met old Show o = omega arith
   met_rises met old (See lane) o = omega arith
-  met_rises met old Meet o = omega (arith, o.meeting, o.shown)
+  met_rises met old Meet o = omega (arith, o.last_barrier, o.shown)
   met_rises met old (Reply lane request text) o = omega arith
   met_rises met old (Crash kept) o = omega arith
-  met_rises met old Reopen o = omega (arith, o.meeting, o.shown)
+  met_rises met old Reopen o = omega (arith, o.last_barrier, o.shown)
 
   -- where all see n, they see all below
   lower : (n met : ℕ) (m : Machine) → n ≤ met → InOrder met m → InOrder n m
-  lower n met m h o = record { seen = λ lane l. omega (arith, o.seen lane l); known = o.known; meeting = omega (arith, o.meeting); shown = o.shown }
+  lower n met m h o = record { seen = λ lane l. omega (arith, o.seen lane l); known = o.known; last_barrier = omega (arith, o.last_barrier); shown = o.shown }
 
   pub run_keeps : (met : ℕ) (old : Machine) (steps : List Step) (new : Machine) → InOrder met old → Runs moment old steps new → InOrder met new
   run_keeps met old [] new o r = subst (InOrder met) (sym r) o

@@ -5,12 +5,12 @@ use Rattle.nm_machine.specs.Machine.{Machine}
 use Rattle.nm_machine.specs.declared.step.Step.{Step}
 use Rattle.nm_machine.specs.declared.step.Step.TheVariants.{Begin, Append, Show, See, Meet, Reply, Crash, Reopen}
 
--- Each lane sees what stood at the last meeting or opening, at least, and nothing that is not shown;
--- nothing is shown that is not acknowledged.
+-- Each lane sees at least what was there at the last barrier or opening, and nothing that is not shown; nothing is
+-- shown that is not acknowledged.
 pub record InOrder (met : ℕ) (machine : Machine) : Type 0 where
   pub seen : (lane : ℕ) → lane < length machine.lanes → met ≤ slice_index machine.lanes lane
   pub known : (lane : ℕ) → lane < length machine.lanes → slice_index machine.lanes lane ≤ machine.shown
-  pub meeting : met ≤ machine.shown
+  pub last_barrier : met ≤ machine.shown
   pub shown : machine.shown ≤ length machine.commits
 
 -- Every commit stays in its place, no number falls, and no lane comes or goes.
@@ -20,7 +20,7 @@ pub record NothingFalls (early late : Machine) : Type 0 where
   pub lanes : length late.lanes ≡ length early.lanes
   pub seen : (lane : ℕ) → lane < length early.lanes → slice_index early.lanes lane ≤ slice_index late.lanes lane
 
--- how many commits were acknowledged at the last meeting or opening after a step
+-- how many commits were acknowledged at the last barrier or opening after a step
 abbrev pub met_after : ℕ → Machine → Step → ℕ
 met_after met old (Begin commit) = met
 met_after met old Append = met

@@ -1,5 +1,5 @@
--- The machine of commits and replies: one list of commits, and numbers.
--- It says in which orders commits are begun, acknowledged, shown and seen, what a reply then says, and what a stop leaves.
+-- The machine of commits and replies: one list of commits, and numbers. It says in which orders commits are begun,
+-- acknowledged, shown and seen, what a reply then says, and what a crash leaves.
 -- Cited by `laws`, `nm_core` and `nm_history`.
 use Rattle.std.specs.Prelude.{◌≡◌, ◌⊎◌, ℕ, ℤ, ◌+◌, ◌<◌, ◌≤◌, Bool, true, false, List, [], ◌∷◌, ◌++◌, Option, None, Some, IsSome, IsTrue, length, replicate, slice_index, slice_set, take, if◌then◌else◌}
 use Rattle.nm_answer.specs.Answer.{is_reply}
@@ -41,7 +41,7 @@ abbrev pub commits_in_flight : Option Commit → List Commit
 commits_in_flight None = []
 commits_in_flight (Some commit) = commit ∷ []
 
--- the commits that a stop leaves on the disk
+-- the commits that a crash leaves on the disk
 abbrev pub left_by : Machine → Bool → List Commit
 left_by m kept = (if kept then m.commits ++ commits_in_flight m.in_flight else m.commits)
 
@@ -57,7 +57,7 @@ IsAllowed moment m Meet = (m.up ≡ true) × (length m.commits ≡ m.shown)
 -- the text is that of the commits that the lane sees
 IsAllowed moment m (Reply lane request text) =
     (m.up ≡ true) × (lane < length m.lanes) × IsTrue (is_reply (index_after m (slice_index m.lanes lane)) moment request text)
--- only a commit that is in flight may reach the disk in a stop
+-- only a commit that is in flight may reach the disk in a crash
 IsAllowed moment m (Crash kept) = (m.up ≡ true) × ((kept ≡ false) ⊎ IsSome m.in_flight)
 IsAllowed moment m Reopen = m.up ≡ false
 

@@ -5,7 +5,7 @@ ghost use Rattle.nm_machine.specs.Laws.{InOrder, NothingFalls};
 ghost use Rattle.nm_machine.specs.Machine.{Machine, Runs, Takes, start};
 ghost use Rattle.nm_machine.specs.declared.step.Step.{Step};
 
-/// Whatever steps are taken, stops among them, every commit stays in its place and no lane's number falls.
+/// Whatever steps are taken, crashes among them, every commit stays in its place and no lane's number falls.
 pub fn nothing_falls()
     ensures { (moment : ℤ) (opening : Base) (lanes : ℕ) (before after : List Step) (early late : Machine)
         → Runs moment (start opening lanes) before early → Runs moment early after late → NothingFalls early late }
@@ -17,14 +17,14 @@ pub fn only_what_is_shown_is_seen()
         → Runs moment (start opening lanes) steps last → InOrder 0 last }
 {}
 
-/// From a meeting on each lane sees at least the commits that were there then.
+/// From a barrier on each lane sees at least the commits that were there then.
 pub fn what_was_met_is_seen()
     ensures { (moment : ℤ) (opening : Base) (lanes : ℕ) (before after : List Step) (early met late : Machine)
         → Runs moment (start opening lanes) before early → Takes moment early Step.Meet met → Runs moment met after late
         → InOrder (length early.commits) late }
 {}
 
-/// After a stop each lane sees all that the disk has.
+/// After a crash each lane sees all that the disk has.
 pub fn what_was_reopened_is_seen()
     ensures { (moment : ℤ) (opening : Base) (lanes : ℕ) (before after : List Step) (early there late : Machine)
         → Runs moment (start opening lanes) before early → Takes moment early Step.Reopen there → Runs moment there after late

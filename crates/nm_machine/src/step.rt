@@ -27,7 +27,7 @@ pub enum Step {
         request: Request,
         text: Many<u8>,
     },
-    /// The program stops; where `kept` holds, the commit on its way has reached the disk.
+    /// The program crashes; where `kept` holds, the commit on its way has reached the disk.
     Crash {
         kept: bool,
     },

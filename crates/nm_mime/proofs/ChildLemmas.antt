@@ -28,7 +28,7 @@ pub lines-nil : (bytes : List ℕ) → (length bytes == 0) ≡ true → lines_of
 lines-nil [] e = refl
 lines-nil (b ∷ bytes) e = absurd (let no : length (b ∷ bytes) ≡ 0 = eqb-true (length (b ∷ bytes)) 0 e in omega arith)
 
--- ---- the size of a part: `done` bytes are gone through, `kept` of them belong to it where the next line ends it
+-- ---- the size of a part: `done` bytes are passed, `kept` of them belong to it where the next line ends it
 abbrev pub size_so_far : Delimiters → ℕ → ℕ → List (List ℕ) → ℕ
 size_so_far delimiters done kept lines = cond (stops delimiters lines) kept (done + part_len delimiters lines)
 

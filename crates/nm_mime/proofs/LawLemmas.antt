@@ -17,7 +17,7 @@ use Rattle.nm_mime.proofs.ChildLemmas.{lines_long}
 use Rattle.nm_mime.proofs.PartLemmas.{opening_inside, stretch_long}
 use Rattle.nm_mime.proofs.TreeLemmas.{AllWithin, children_within, content_short, same_depth, size_short}
 
--- ---- all parts stand inside the mail
+-- ---- all parts are inside the mail
 all_under : (size : ℕ) (f : Entity → List Part) → ((entity : Entity) → IsWithin size entity → All (IsInside size) (f entity)) → (entities : List Entity) → AllWithin size entities → All (IsInside size) (flat_map f entities)
 all_under size f h [] w = All-nil (IsInside size)
 all_under size f h (entity ∷ entities) w = All-append (IsInside size) (f entity) (flat_map f entities) (h entity w.0) (all_under size f h entities w.1)
@@ -35,7 +35,7 @@ pub parts_inside : (mail : List ℕ) → All (IsInside (length mail)) (parts_of 
 unfolding parts_of
 parts_inside mail = all_parts 33 mail (whole_of mail) (whole_within mail)
 
--- ---- the parts in a part stand one behind the other
+-- ---- the parts in a part come one after the other
 apart_less : (low from to : ℕ) (spans : List Span) → low ≤ from → AreApart from to spans → AreApart low to spans
 apart_less low from to [] h a = omega arith
 apart_less low from to (s ∷ spans) h a = let first = a.0 in (omega arith, a.1, a.2)
@@ -47,7 +47,7 @@ turn_apart end len less size more false true rest h i j k a = omega arith
 turn_apart end len less size more true false rest h i j k a = (omega arith, omega arith, a)
 turn_apart end len less size more false false rest h i j k a = apart_less (end - len + size) (end - less + more) end rest (omega arith) a
 
--- they stand behind the part that begins with the lines
+-- they come after the part that begins with the lines
 lines_apart : (delimiters : Delimiters) (end : ℕ) (lines : List (List ℕ)) → length (concat lines) ≤ end → AreApart (end - length (concat lines) + part_len delimiters lines) end (spans_in delimiters end lines)
 lines_apart delimiters end [] h = omega arith
 lines_apart delimiters end (line ∷ more) h =
@@ -76,7 +76,7 @@ inside_apart mail opening i =
       | false ↦ (omega arith, omega arith, omega arith)
     ]
 
--- ---- a part stands before those in it
+-- ---- a part comes before those in it
 down_less : (low most : ℕ) (parts : List Part) → low ≤ most → GoDown low parts → GoDown most parts
 down_less low most [] h g = refl
 down_less low most (part ∷ parts) h g = let first = g.0 in (omega arith, g.1)

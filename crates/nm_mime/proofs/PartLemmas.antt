@@ -1,4 +1,4 @@
--- One part: what its fields say, and where it stands.
+-- One part: what its fields say, and where it is.
 -- For the proofs of `open_part`, `opening_from` and `read_opening`.
 use Rattle.std.proofs.Common.{◌≡◌, ℕ, ◌+◌, ◌-◌, ◌≤◌, Bool, true, false, cond, List, [], ◌∷◌, ◌++◌, Option, length, drop, refl, ap, subst, ◌∙◌, arith, length-drop, length-append, codes}
 use Rattle.std.specs.List.{concat}
@@ -66,7 +66,7 @@ pub opening_is : (mail : List ℕ) (entity : Entity) (span : List ℕ) (header :
 unfolding opening_of
 opening_is mail entity span header s h = ap (opening_in entity) (h ∙ ap header_of s)
 
--- what is read stands inside the mail
+-- what is read is inside the mail
 pub opening_inside : (mail : List ℕ) (entity : Entity) → IsWithin (length mail) entity → IsInside (length mail) (opening_of mail entity).part
 unfolding opening_of
 opening_inside mail entity w = record {

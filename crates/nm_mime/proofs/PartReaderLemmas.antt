@@ -5,8 +5,8 @@ use Rattle.std.proofs.lemmas.List.{append-nil, take_all}
 use Rattle.nm_header.specs.Fields.{header_of}
 use Rattle.nm_header.specs.declared.header.HeaderList.{HeaderList}
 use Rattle.nm_mime.specs.PartReader.{entity_parts}
-use Rattle.nm_mime.specs.Pending.{AllInside, entities_to_come, pending_in}
-use Rattle.nm_mime.specs.declared.pending.Pending.{Pending}
+use Rattle.nm_mime.specs.OpenParts.{AllInside, entities_to_come, pending_in}
+use Rattle.nm_mime.specs.declared.open_parts.Pending.{Pending}
 use Rattle.nm_mime.specs.Parts.{IsInside, IsWithin, bytes_in, opening_in, opening_of, parts_of, parts_upto, whole_of}
 use Rattle.nm_mime.specs.declared.entity.Entity.{Entity}
 use Rattle.nm_mime.specs.declared.entity.Opening.{Opening}

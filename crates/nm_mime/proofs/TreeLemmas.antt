@@ -8,10 +8,10 @@ use Rattle.nm_text.specs.Lines.{content, lines_of}
 use Rattle.nm_header.specs.Texts.{field_text}
 use Rattle.nm_mime.specs.Children.{delimiters_of, ends_part, is_line_of, part_after, part_at, part_len, spans_in, spans_of, stops}
 use Rattle.nm_mime.specs.PartReader.{entity_parts}
-use Rattle.nm_mime.specs.Pending.{AllInside, IsOpenInside, IsPendingInside, entities_in, entities_to_come, open_entities, pending_in, pending_of}
-use Rattle.nm_mime.specs.declared.pending.OpenMultipart.{OpenMultipart}
-use Rattle.nm_mime.specs.declared.pending.Pending.{Pending}
-use Rattle.nm_mime.specs.declared.pending.Pending.TheVariants.{Mail, Multipart}
+use Rattle.nm_mime.specs.OpenParts.{AllInside, IsOpenInside, IsPendingInside, entities_in, entities_to_come, open_entities, pending_in, pending_of}
+use Rattle.nm_mime.specs.declared.open_parts.OpenMultipart.{OpenMultipart}
+use Rattle.nm_mime.specs.declared.open_parts.Pending.{Pending}
+use Rattle.nm_mime.specs.declared.open_parts.Pending.TheVariants.{Mail, Multipart}
 use Rattle.nm_mime.specs.Parts.{IsInside, IsWithin, boundary_of, bytes_in, children_of, entities_from, entity_in, inside, is_opened, opening_in, opening_of, parts_upto}
 use Rattle.nm_mime.specs.Roles.{encoding_of, is_attachment, is_kind_of, is_message, is_multipart, is_plain, role_of}
 use Rattle.nm_mime.specs.Types.{type_of}
@@ -33,7 +33,7 @@ use Rattle.std.specs.Prelude.{slice_index}
 use Rattle.nm_mime.specs.declared.roles.Role.TheVariants.{Opened, Readable, Signature, Unread}
 use Rattle.nm_mime.specs.declared.roles.Encoding.{Encoding}
 
--- ---- the entities in a part stand inside the mail
+-- ---- the entities in a part are inside the mail
 abbrev pub AllWithin : ℕ → List Entity → Type 0
 AllWithin size [] = Unit {0}
 AllWithin size (entity ∷ more) = IsWithin size entity × AllWithin size more

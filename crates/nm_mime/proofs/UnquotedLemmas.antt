@@ -1,4 +1,4 @@
--- Parameters that are written, in quotes or as they stand, are read again. For the proof of `unquoted_params_are_read`.
+-- Parameters that are written, in quotes or as they are, are read again. For the proof of `unquoted_params_are_read`.
 use Rattle.std.proofs.Common.{◌≡◌, ℕ, ◌+◌, Bool, true, false, cond, not, ◌&&◌, ◌||◌, ◌==◌, List, [], ◌∷◌, ◌++◌, length, map, take, drop, refl, sym, ap, ◌∙◌, arith, append_assoc, length-append}
 use Rattle.std.specs.List.{after_first, before_first, list_all, list_any, position_or_len, prefix_len}
 use Rattle.std.proofs.lemmas.Bool.{and_parts, or_from, or_parts}
@@ -13,7 +13,7 @@ use Rattle.nm_mime.specs.WrittenParams.{WrittenParam, begins_white, is_unquoted,
 use Rattle.nm_mime.proofs.ParamLemmas.{params-cons, params-nil}
 use Rattle.nm_mime.proofs.WrittenLemmas.{first_at, kept, no_end, value_said}
 
--- nothing stands there, or first a byte that passes
+-- nothing is there, or first a byte that passes
 abbrev begins : (ℕ → Bool) → List ℕ → Bool
 begins p [] = true
 begins p (b ∷ rest) = p b
@@ -28,7 +28,7 @@ front_at : (p : ℕ → Bool) (front rest : List ℕ) → list_any p front ≡ f
 front_at p front [] e passes = ap (position_or_len p) (append-nil front) ∙ none_at p front e
 front_at p front (b ∷ rest) e passes = first_at p front b rest e passes
 
--- what stands after the first byte that passes
+-- what comes after the first byte that passes
 after_at : (p : ℕ → Bool) (front : List ℕ) (b : ℕ) (rest : List ℕ) → list_any p front ≡ false → p b ≡ true → after_first p (front ++ b ∷ rest) ≡ rest
 after_at p front b rest e passes =
     let long : length (front ++ b ∷ []) ≡ length front + 1 = length-append front (b ∷ []) in
@@ -37,7 +37,7 @@ after_at p front b rest e passes =
 none_after : (p : ℕ → Bool) (front : List ℕ) → list_any p front ≡ false → after_first p front ≡ []
 none_after p front e = let at : position_or_len p front ≡ length front = none_at p front e in drop_all (position_or_len p front + 1) front (omega arith)
 
--- ---- values as they stand
+-- ---- values as they are
 not_so : (b : Bool) → not b ≡ true → b ≡ false
 not_so true e = absurd (cc)
 not_so false e = refl
@@ -69,7 +69,7 @@ after_ends [] [] e = refl
 after_ends [] (written ∷ more) e = refl
 after_ends (b ∷ after) more e = elim (b == 59) as (λ v. (v || is_white_space b) ≡ true) [ true ↦ refl | false ↦ e ]
 
--- what is said is the value, and only bytes that are no `;` stand before the rest
+-- what is said is the value, and only bytes that are no `;` come before the rest
 abbrev IsSaid : List ℕ → List ℕ → List ℕ → Type 0
 IsSaid said value rest = (value_in (trimmed_start said) ≡ value) × (front : List ℕ) × (after_value (trimmed_start said) ≡ front ++ rest) × (list_any (is_byte 59) front ≡ false)
 

@@ -16,7 +16,7 @@ use Rattle.nm_mime.specs.Params.{after_name, after_param, after_quoted, after_va
 use Rattle.nm_mime.proofs.QuotedLemmas.{quoted-byte, quoted-close, quoted-last, quoted-nil, quoted-pair}
 use Rattle.nm_text.specs.Cuts.{begins_with, is_byte}
 
--- what stands before an ASCII character is text, and what stands behind it
+-- what comes before an ASCII character is text, and what comes after it
 pub split_ascii : (xs ys : List ℕ) (b : ℕ) → b < 128 → IsUtf8 (xs ++ b ∷ ys) → IsUtf8 xs × IsUtf8 ys
 split_ascii xs ys b small u =
     let at : get_or (xs ++ b ∷ ys) (length xs) 0 ≡ b = get_or_at xs b ys 0 (length xs) refl in
@@ -154,11 +154,11 @@ quoted_cut (suc n) front (b ∷ more) h u =
       ] refl
     ] refl
 
--- what stands up to the end of a quoted string is text
+-- what is up to the end of a quoted string is text
 pub front_utf8 : (text : List ℕ) → IsUtf8 text → IsUtf8 (take (quoted_len text) text)
 front_utf8 text u = (quoted_cut (length text) [] text (omega arith) u).0
 
--- and so is what stands after it
+-- and so is what comes after it
 back_utf8 : (text : List ℕ) → IsUtf8 text → IsUtf8 (drop (quoted_len text) text)
 back_utf8 text u = (quoted_cut (length text) [] text (omega arith) u).1
 
@@ -182,11 +182,11 @@ after_name_utf8 (b ∷ more) u =
       | false ↦ λ e. u
     ] refl
 
--- what stands behind a parameter of a text is text
+-- what comes after a parameter of a text is text
 pub param_utf8 : (text : List ℕ) → IsUtf8 text → IsUtf8 (after_param text)
 param_utf8 text u = semicolon_utf8 (after_name (drop (position_or_len ends_name text) text)) (after_name_utf8 (drop (position_or_len ends_name text) text) (rest_utf8 text u))
 
--- and so is what stands behind its sign and white space
+-- and so is what comes after its sign and white space
 pub sign_utf8 : (text : List ℕ) → begins_with 61 text ≡ true → IsUtf8 text → IsUtf8 (trimmed_start (take (length text - 1) (drop 1 text)))
 sign_utf8 [] e u = absurd (cc)
 sign_utf8 (b ∷ more) e u =
@@ -194,7 +194,7 @@ sign_utf8 (b ∷ more) e u =
     let all : take (length (b ∷ more) - 1) more ≡ more = take_all (length (b ∷ more) - 1) more (omega arith) in
     subst (λ x. IsUtf8 (trimmed_start x)) (sym all) (space_utf8 more (tail_utf8 b more (omega arith) u))
 
--- and what stands after the `"` of a quoted string
+-- and what comes after the `"` of a quoted string
 pub quote_utf8 : (text : List ℕ) → begins_with 34 text ≡ true → IsUtf8 text → IsUtf8 (take (length text - 1) (drop 1 text))
 quote_utf8 [] e u = absurd (cc)
 quote_utf8 (b ∷ more) e u =

@@ -16,7 +16,7 @@ use Rattle.nm_mime.proofs.ParamLemmas.{params-cons, params-nil}
 use Rattle.nm_mime.proofs.QuotedLemmas.{quoted-byte, quoted-close, unquoted-byte, unquoted-close, unquoted-nil}
 use Rattle.nm_text.specs.Cuts.{is_byte}
 
--- the first item that passes stands after those that don't
+-- the first item that passes comes after those that don't
 pub first_at : (p : ℕ → Bool) (front : List ℕ) (b : ℕ) (rest : List ℕ) → list_any p front ≡ false → p b ≡ true → position_or_len p (front ++ b ∷ rest) ≡ length front
 first_at p [] b rest e passes = ap (λ v. cond (not v) (1 + position_or_len p rest) 0) passes
 first_at p (x ∷ front) b rest e passes =

@@ -1,8 +1,8 @@
--- Where the reader stands after a part. Cited by `children`.
+-- Where the reader comes after a part. Cited by `children`.
 use Rattle.std.specs.Prelude.{ℕ, ◌<◌, ◌≤◌}
 use Rattle.nm_mime.specs.declared.children.NextSpan.{NextSpan}
 
--- the part stands before `end`, and the bytes after it begin after the front of these, which are so many
+-- the part comes before `end`, and the bytes after it begin after the front of these, whose length is n
 pub record IsNextInside (len end : ℕ) (found : NextSpan) : Type 0 where
   pub rises : found.span.from ≤ found.span.to
   pub ends : found.span.to ≤ end

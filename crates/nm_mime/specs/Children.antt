@@ -1,4 +1,4 @@
--- The parts in the content of a multipart (RFC 2046, section 5.1.1): what stands between its delimiter lines.
+-- The parts in the content of a multipart (RFC 2046, section 5.1.1): what is between its delimiter lines.
 -- Cited by `children`.
 use Rattle.std.specs.Prelude.{ℕ, ◌+◌, ◌-◌, Bool, false, ◌&&◌, ◌||◌, List, [], ◌∷◌, ◌++◌, length, drop, nat_eq, codes, if◌then◌else◌}
 use Rattle.std.specs.List.{concat, starts_with}
@@ -15,7 +15,7 @@ delimiters_of boundary = record { delimiter = codes "--" ++ boundary; closing = 
 abbrev pub is_line_of : List ℕ → List ℕ → Bool
 is_line_of front line = starts_with nat_eq (content line) front && is_all_white_space (drop (length front) (content line))
 
--- a part that stands before the line ends there
+-- a part that comes before the line ends there
 abbrev pub ends_part : Delimiters → List ℕ → Bool
 ends_part delimiters line = is_line_of delimiters.delimiter line || is_line_of delimiters.closing line
 

@@ -1,4 +1,4 @@
--- What follows from the definitions: how the parts stand in the bytes, and how they follow each other.
+-- What follows from the definitions: how the parts are in the bytes, and how they follow each other.
 -- Cited by `laws`.
 use Rattle.std.specs.Prelude.{◌≡◌, ℕ, ◌+◌, ◌≤◌, Bool, ◌&&◌, ◌||◌, ◌==◌, not, List, [], ◌∷◌, ◌++◌, length, map, drop, if◌then◌else◌}
 use Rattle.std.specs.Char.{to_ascii_lowercase}
@@ -14,7 +14,7 @@ use Rattle.nm_mime.specs.declared.children.Span.{Span}
 use Rattle.nm_mime.specs.declared.entity.Part.{Part}
 use Rattle.nm_text.specs.Cuts.{is_byte}
 
--- they stand one after the other, between two places
+-- they come one after the other, between two places
 abbrev pub AreApart : ℕ → ℕ → List Span → Type 0
 AreApart from to [] = from ≤ to
 AreApart from to (span ∷ more) = (from ≤ span.from) × (span.from ≤ span.to) × AreApart span.to to more
@@ -41,7 +41,7 @@ is_kept delimiters part = not (list_any (ends_part delimiters) (lines_of (part +
 abbrev pub read_parts : Delimiters → List ℕ → List (List ℕ)
 read_parts delimiters bytes = map (λ span. bytes_in bytes span.from span.to) (spans_of delimiters (length bytes) bytes)
 
--- the lines of the parts: what stands between delimiter lines, up to the first closing one
+-- the lines of the parts: what is between delimiter lines, up to the first closing one
 abbrev pub lines_between : Delimiters → List (List ℕ) → List (List (List ℕ))
 lines_between delimiters lines = slice_split (is_line_of delimiters.delimiter) (before_first (is_line_of delimiters.closing) lines)
 
@@ -57,7 +57,7 @@ texts_between closed [] = []
 texts_between closed (last ∷ []) = (if closed then without_end last else concat last) ∷ []
 texts_between closed (part ∷ next ∷ more) = without_end part ∷ texts_between closed (next ∷ more)
 
--- the texts between neighbouring delimiters; before the first one stands no part
+-- the texts between neighbouring delimiters; before the first one there is no part
 abbrev pub parts_between : Delimiters → List (List ℕ) → List (List ℕ)
 parts_between delimiters lines = texts_between (list_any (is_line_of delimiters.closing) lines) (drop 1 (lines_between delimiters lines))
 
@@ -65,7 +65,7 @@ parts_between delimiters lines = texts_between (list_any (is_line_of delimiters.
 abbrev pub is_name_byte : ℕ → Bool
 is_name_byte b = not (is_white_space b || ends_name b || is_byte 42 b || not (to_ascii_lowercase b == b))
 
--- a byte that a quoted string says as it stands
+-- a byte that a quoted string says as it is
 abbrev pub is_quoted_byte : ℕ → Bool
 is_quoted_byte b = not (b == 34 || b == 92)
 

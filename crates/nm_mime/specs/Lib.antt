@@ -1,10 +1,10 @@
 pub mod ChildSteps
 pub mod Children
 pub mod Laws
+pub mod OpenParts
 pub mod Params
 pub mod PartReader
 pub mod Parts
-pub mod Pending
 pub mod Roles
 pub mod Types
 pub mod WrittenParams

@@ -23,7 +23,7 @@ ends_value b = b == 59 || is_white_space b
 abbrev pub quoted_text : List ℕ → List ℕ
 quoted_text text = unquoted (take (quoted_len text) text)
 
--- what stands after it
+-- what comes after it
 abbrev pub after_quoted : List ℕ → List ℕ
 after_quoted text = drop (quoted_len text) text
 
@@ -32,7 +32,7 @@ abbrev pub value_in : List ℕ → List ℕ
 value_in [] = []
 value_in (b ∷ more) = if b == 34 then quoted_text more else before_first ends_value (b ∷ more)
 
--- what stands after its quoted string, if it is one
+-- what comes after its quoted string, if it is one
 abbrev pub after_value : List ℕ → List ℕ
 after_value [] = []
 after_value (b ∷ more) = if b == 34 then after_quoted more else b ∷ more
@@ -42,21 +42,21 @@ abbrev pub kept_param : List ℕ → List ℕ → List Param
 kept_param name value =
     if list_any (is_byte 42) name then [] else record { name = map to_ascii_lowercase (trimmed name); value = value } ∷ []
 
--- the parameter of a name after which this stands: there is none where no `=` follows it
+-- the parameter of a name after which this comes: there is none where no `=` follows it
 abbrev pub param_from : List ℕ → List ℕ → List Param
 param_from name [] = []
 param_from name (special ∷ more) = if special == 61 then kept_param name (value_in (trimmed_start more)) else []
 
--- what stands after the name's value, if it has one
+-- what comes after the name's value, if it has one
 abbrev pub after_name : List ℕ → List ℕ
 after_name [] = []
 after_name (special ∷ more) = if special == 61 then after_value (trimmed_start more) else special ∷ more
 
--- the parameter with which a text begins that stands after a `;`
+-- the parameter with which a text begins that comes after a `;`
 abbrev pub param_in : List ℕ → List Param
 param_in text = param_from (before_first ends_name text) (drop (position_or_len ends_name text) text)
 
--- what stands after the `;` that ends it
+-- what comes after the `;` that ends it
 abbrev pub after_param : List ℕ → List ℕ
 after_param text = after_first (is_byte 59) (after_name (drop (position_or_len ends_name text) text))
 

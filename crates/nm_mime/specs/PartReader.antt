@@ -2,7 +2,7 @@
 use Rattle.std.specs.Prelude.{ℕ, ◌-◌, List, length, reverse}
 use Rattle.std.specs.List.{flat_map}
 use Rattle.nm_mime.specs.Parts.{parts_upto}
-use Rattle.nm_mime.specs.Pending.{AllInside, entities_to_come}
+use Rattle.nm_mime.specs.OpenParts.{AllInside, entities_to_come}
 use Rattle.nm_mime.specs.declared.entity.Entity.{Entity}
 use Rattle.nm_mime.specs.declared.entity.Part.{Part}
 use Rattle.nm_mime.specs.declared.part_reader.PartReader.{PartReader}
@@ -19,6 +19,6 @@ mail_of reader = reader.mail.now
 abbrev pub parts_to_come : PartReader → List Part
 parts_to_come reader = entity_parts reader.mail.now (entities_to_come reader.mail.now (reverse reader.rest))
 
--- what is still to be read stands inside the mail
+-- what is still to be read is inside the mail
 abbrev pub StandInside : PartReader → Type 0
 StandInside reader = AllInside (length reader.mail.now) (reverse reader.rest)

@@ -1,5 +1,5 @@
--- The tree of parts (RFC 2046, section 5): each part stands before those in it.
--- Cited by `part_reader`, `pending`, `nm_extract` and others.
+-- The tree of parts (RFC 2046, section 5): each part comes before those in it.
+-- Cited by `part_reader`, `open_parts`, `nm_extract` and others.
 use Rattle.std.specs.Prelude.{ℕ, zero, suc, ◌+◌, ◌-◌, ◌≤◌, Bool, true, false, ◌&&◌, ◌==◌, List, [], ◌∷◌, length, take, drop, codes, if◌then◌else◌}
 use Rattle.std.specs.List.{flat_map}
 use Rattle.std.specs.Str.{bytes_eq}
@@ -23,13 +23,13 @@ use Rattle.nm_mime.specs.declared.types.ContentType.{ContentType}
 abbrev pub bytes_in : List ℕ → ℕ → ℕ → List ℕ
 bytes_in mail from to = take (to - from) (drop from mail)
 
--- the entity stands inside a mail of this length, and is not too deep
+-- the entity is inside a mail of this length, and is not too deep
 pub record IsWithin (len : ℕ) (entity : Entity) : Type 0 where
   pub rises : entity.from ≤ entity.to
   pub ends : entity.to ≤ len
   pub depth : entity.depth ≤ 32
 
--- the content of the part stands inside a mail of this length, and is not too deep
+-- the content of the part is inside a mail of this length, and is not too deep
 pub record IsInside (len : ℕ) (part : Part) : Type 0 where
   pub rises : part.from ≤ part.to
   pub ends : part.to ≤ len
@@ -39,7 +39,7 @@ pub record IsInside (len : ℕ) (part : Part) : Type 0 where
 abbrev pub boundary_of : ContentType → List ℕ
 boundary_of type = value_of type.params (codes "boundary")
 
--- an entity whose content begins so many bytes after its front, and what its fields say
+-- an entity whose content begins n bytes after its front, and what its fields say
 abbrev pub part_from : Entity → ℕ → ContentType → List ℕ → Encoding → Part
 part_from entity rest type disposition encoding = record {
   depth = entity.depth;
@@ -70,7 +70,7 @@ opening_of mail entity = opening_in entity (header_of (bytes_in mail entity.from
 abbrev pub is_signature : Part → ℕ → Bool
 is_signature part before = before == 1 && bytes_eq part.kind (codes "multipart/signed")
 
--- a span in a part as an entity; so many stand before it
+-- a span in a part as an entity; n come before it
 abbrev pub entity_in : Part → ℕ → Span → Entity
 entity_in part before span = record {
   depth = part.depth + 1;
@@ -80,7 +80,7 @@ entity_in part before span = record {
   signature = is_signature part before;
 }
 
--- the spans in a part as entities, the first of which has so many before it
+-- the spans in a part as entities, the first of which has n before it
 abbrev pub entities_from : Part → ℕ → List Span → List Entity
 entities_from part before [] = []
 entities_from part before (span ∷ more) = entity_in part before span ∷ entities_from part (before + 1) more

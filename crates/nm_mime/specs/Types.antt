@@ -36,6 +36,6 @@ mail_type = record { kind = codes "message/rfc822"; params = [] }
 abbrev pub content_type_of : List ℕ → ContentType
 content_type_of text = unwrap_or (read_type text) default_type
 
--- the type of a part; `digest`: it stands in a digest
+-- the type of a part; `digest`: it is in a digest
 abbrev pub type_of : Bool → List ℕ → ContentType
 type_of digest text = unwrap_or (read_type text) (if digest then mail_type else default_type)

@@ -1,4 +1,4 @@
--- Parameters as they are written (RFC 2045, section 5.1): a value in quotes or as it stands, and what follows it.
+-- Parameters as they are written (RFC 2045, section 5.1): a value in quotes or as it is, and what follows it.
 -- Cited by `laws`.
 use Rattle.std.specs.Prelude.{ℕ, Bool, true, false, ◌&&◌, ◌||◌, ◌==◌, not, List, [], ◌∷◌, ◌++◌, if◌then◌else◌}
 use Rattle.std.specs.List.{list_all, list_any}
@@ -13,7 +13,7 @@ pub record WrittenParam : Type 0 where
   pub param : Param
   pub after : List ℕ
 
--- a value in quotes, or as it stands
+-- a value in quotes, or as it is
 abbrev pub written_value : Bool → List ℕ → List ℕ
 written_value is_quoted value = if is_quoted then 34 ∷ (value ++ 34 ∷ []) else value
 
@@ -27,12 +27,12 @@ abbrev pub is_unquoted : List ℕ → Bool
 is_unquoted [] = false
 is_unquoted (b ∷ value) = not (b == 34) && list_all (λ v. not (v == 59 || is_white_space v)) (b ∷ value)
 
--- white space stands first, or there is nothing
+-- white space comes first, or there is nothing
 abbrev pub begins_white : List ℕ → Bool
 begins_white [] = true
 begins_white (b ∷ after) = is_white_space b
 
--- a value that may be written so; after one without quotes white space stands before all else
+-- a value that may be written so; after one without quotes white space comes before all else
 abbrev pub is_value : WrittenParam → Bool
 is_value written = if written.is_quoted then list_all is_quoted_byte written.param.value else is_unquoted written.param.value && begins_white written.after
 

@@ -1,4 +1,4 @@
-//! What stands between the delimiters of a multipart: `pending` asks for one part after the other.
+//! What is between the delimiters of a multipart: `open_parts` asks for one part after the other.
 
 ghost use Rattle.std.specs.Prelude.{◌≡◌, ◌∷◌, ◌<◌, ◌≤◌, [], ℕ, IfOk, IfSome, MatchOption, drop, length, true};
 ghost use Rattle.nm_text.specs.Lines.{lines_of};
@@ -71,7 +71,7 @@ pub(crate) fn next_span(delimiters: &Delimiters, bytes: &[u8], end: usize) -> Op
 pub struct PartEnd {
     /// How many bytes it has.
     pub len: usize,
-    /// Where the line stands that ends it, or else the end of the bytes.
+    /// Where the line is that ends it, or else the end of the bytes.
     pub next: usize,
 }
 

@@ -6,7 +6,7 @@ use nm_base::Text;
 /// A part of a mail, or the mail itself.
 #[derive(Clone, Drop)]
 pub struct Part {
-    /// How many parts it stands in.
+    /// How many parts it is in.
     pub depth: u32,
     /// `type/subtype`, in lower case.
     pub kind: Text,
@@ -29,7 +29,7 @@ pub struct Entity {
     pub depth: u32,
     pub from: usize,
     pub to: usize,
-    /// It stands in a digest.
+    /// It is in a digest.
     pub digest: bool,
     /// It is the second part of a multipart/signed.
     pub signature: bool,

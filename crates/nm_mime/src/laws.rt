@@ -13,7 +13,7 @@ ghost use Rattle.nm_mime.specs.declared.entity.Entity.{Entity};
 ghost use Rattle.nm_mime.specs.declared.entity.Opening.{Opening};
 ghost use Rattle.nm_mime.specs.WrittenParams.{WrittenParam, is_written, params_as_written};
 
-/// The parts in a part stand one after the other, inside its content.
+/// The parts in a part come one after the other, inside its content.
 pub fn parts_in_a_part_stand_apart()
     ensures { (mail : List ℕ) → (opening : Opening) → IsInside (length mail) opening.part → AreApart opening.part.from opening.part.to (inside mail opening) }
 {}
@@ -23,13 +23,13 @@ pub fn a_part_stands_before_those_in_it()
     ensures { (mail : List ℕ) → GoDown 0 (parts_of mail) }
 {}
 
-/// A part stands before those in it, and after all that stand in its elder siblings.
+/// A part comes before those in it, and after all that are in its elder siblings.
 pub fn elder_siblings_come_first()
     ensures { (n : ℕ) → (mail : List ℕ) → (entity : Entity) → parts_upto (suc n) mail entity ≡ (opening_of mail entity).part ∷ flat_map (parts_upto n mail) (children_of mail (opening_of mail entity)) }
 {}
 
-/// The parts in the content of a multipart are what stands between neighbouring delimiter lines, up to the
-/// first closing one; a delimiter takes the line end before it.
+/// The parts in the content of a multipart are what is between neighbouring delimiter lines, up to the first closing
+/// one; a delimiter takes the line end before it.
 pub fn parts_stand_between_delimiters()
     ensures { (boundary : List ℕ) → (bytes : List ℕ) → read_parts (delimiters_of boundary) bytes ≡ parts_between (delimiters_of boundary) (lines_of bytes) }
 {}
@@ -45,7 +45,7 @@ pub fn written_params_are_read()
 {}
 
 /// Parameters that are written as `; name=value` after a text without `;` are read again in their order, the values in quotes or as
-/// they stand. A value without quotes ends at a `;` or at white space, and what follows a value up to the next `;` counts for nothing.
+/// they are. A value without quotes ends at a `;` or at white space, and what follows a value up to the next `;` counts for nothing.
 pub fn unquoted_params_are_read()
     ensures { (front : List ℕ) → (params : List WrittenParam) → list_any (is_byte 59) front ≡ false → list_all is_written params ≡ true → params_of (front ++ params_as_written params) ≡ map (λ one. one.param) params }
 {}

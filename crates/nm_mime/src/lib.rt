@@ -5,10 +5,10 @@
 mod children;
 mod entity;
 mod laws;
+mod open_parts;
 mod param_list;
+mod part_header;
 mod part_reader;
-mod pending;
-mod reading;
 mod roles;
 mod tree;
 mod types;

@@ -37,7 +37,7 @@ pub(crate) fn params(alloc: Global, text: &[u8]) -> Result<Many<Param>, NoMemory
     Ok(found)
 }
 
-/// Adds the first parameter, if there is one, and answers what stands after it.
+/// Adds the first parameter, if there is one, and answers what comes after it.
 #[tactic(auto, using(crate::proofs::ParamLemmas::after_less, crate::proofs::ParamLemmas::drop_less))]
 fn add_param<'a>(
     alloc: Global,
@@ -55,7 +55,7 @@ fn add_param<'a>(
     Ok(after_first(after_name(after), b';'))
 }
 
-/// Adds the parameter of the name after which this stands.
+/// Adds the parameter of the name after which this comes.
 fn add_named(
     alloc: Global,
     name: &[u8],
@@ -126,7 +126,7 @@ fn value_end(text: &[u8]) -> Option<usize>
     text.iter().position(|b| *b == b';' || is_white_space(*b))
 }
 
-/// What stands after the quoted value of a name, or all.
+/// What comes after the quoted value of a name, or all.
 fn after_name(after: &[u8]) -> &[u8]
     ensures value { result.now ≡ after_name after.now }
     ensures within { length result.now ≤ length after.now }
@@ -141,7 +141,7 @@ fn after_name(after: &[u8]) -> &[u8]
     value
 }
 
-/// What stands after the quoted string, its `"` with it.
+/// What comes after the quoted string, its `"` with it.
 fn after_quoted(text: &[u8]) -> &[u8]
     ensures value { result.now ≡ after_quoted text.now }
     ensures within { length result.now ≤ length text.now }
@@ -156,7 +156,7 @@ fn has_star(name: &[u8]) -> bool
     name.contains(&b'*')
 }
 
-/// How many bytes stand before the first `=` or `;`.
+/// How many bytes come before the first `=` or `;`.
 #[tactic(auto, using(crate::proofs::ParamLemmas::place_some, crate::proofs::ParamLemmas::place_none))]
 fn name_len(text: &[u8]) -> usize
     ensures value { result ≡ position_or_len ends_name text.now }

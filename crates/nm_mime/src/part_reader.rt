@@ -4,17 +4,17 @@ ghost use Rattle.std.specs.Prelude.{◌≡◌, ◌∷◌, ◌++◌, [], IfOk, If
 ghost use Rattle.nm_header.specs.Fields.{header_of};
 ghost use Rattle.nm_mime.specs.PartReader.{StandInside, mail_of, parts_to_come};
 ghost use Rattle.nm_mime.specs.Parts.{IsInside, IsWithin, opening_of, parts_of, whole_of};
-ghost use Rattle.nm_mime.specs.Pending.{pending_in};
+ghost use Rattle.nm_mime.specs.OpenParts.{pending_in};
 
 use crate::entity::{Entity, Opening, Part};
-use crate::pending::{Pending, next_entity, push_pending};
-use crate::reading::{read_fields, read_opening};
+use crate::open_parts::{Pending, next_entity, push_pending};
+use crate::part_header::{read_fields, read_opening};
 use nm_base::{Many, NoMemory};
 use nm_header::HeaderList;
 use std::alloc::Global;
 
-/// Reads the parts of a mail one by one, each before those in it. Its memory follows how deep the parts stand, not
-/// how many there are. Once it ran out of memory it tells nothing.
+/// Reads the parts of a mail one by one, each before those in it. Its memory follows how deep the parts are, not how
+/// many there are. Once it ran out of memory it tells nothing.
 #[derive(Drop)]
 pub struct PartReader<'a> {
     mail: &'a [u8],

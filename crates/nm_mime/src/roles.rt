@@ -1,4 +1,4 @@
-//! How a part is encoded, whether it is attached, and what becomes of it, for `reading`.
+//! How a part is encoded, whether it is attached, and what becomes of it, for `part_header`.
 
 ghost use Rattle.std.specs.Prelude.{◌≡◌, ◌&&◌, ◌||◌, IfOk, position};
 ghost use Rattle.std.specs.List.{before_first};

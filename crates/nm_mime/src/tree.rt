@@ -10,9 +10,9 @@ use nm_base::{Many, NoMemory};
 use nm_header::fields;
 use std::alloc::Global;
 
-/// The parts of a mail (RFC 2046, section 5), each before those in it. The mail itself is the first, at
-/// depth 0. At depth 32 no part is opened, so that any bytes are read in a time linear in their number.
-/// The content of every part stands inside the bytes, from `from` up to `to`.
+/// The parts of a mail (RFC 2046, section 5), each before those in it. The mail itself is the first, at depth 0. At
+/// depth 32 no part is opened, so that any bytes are read in a time linear in their number. The content of every part
+/// is inside the bytes, from `from` up to `to`.
 pub fn parts(alloc: Global, bytes: &[u8]) -> Result<Many<Part>, NoMemory>
     ensures value { IfOk result (λ parts. parts ≡ parts_of bytes.now) }
     ensures inside { IfOk result (λ parts. All (IsInside (length bytes.now)) parts) }

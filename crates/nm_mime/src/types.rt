@@ -1,4 +1,4 @@
-//! Content types: `reading` reads that of each part, and a row of `test_mail` may read one alone.
+//! Content types: `part_header` reads that of each part, and a row of `test_mail` may read one alone.
 
 ghost use Rattle.std.specs.Prelude.{◌≡◌, IfOk, IsUtf8, map, position, true};
 ghost use Rattle.std.specs.Char.{to_ascii_lowercase};
@@ -16,19 +16,19 @@ use std::alloc::Global;
 pub struct ContentType {
     /// `type/subtype`, in lower case.
     pub kind: Text,
-    /// Of a name that stands twice the first counts.
+    /// Of a name that occurs twice the first counts.
     pub params: Many<Param>,
 }
 
-/// Reads the text of a Content-Type field (RFC 2045, section 5.1). Where no `type/subtype` stands at its
-/// front it is text/plain in US-ASCII. A parameter with a `*` in its name is passed over.
+/// Reads the text of a Content-Type field (RFC 2045, section 5.1). Where no `type/subtype` is at its front it is
+/// text/plain in US-ASCII. A parameter with a `*` in its name is passed over.
 pub fn content_type(alloc: Global, text: &str) -> Result<ContentType, NoMemory>
     ensures { IfOk result (λ content_type. content_type ≡ content_type_of text.now) }
 {
     part_type(alloc, text, false)
 }
 
-/// The type of a part, which may stand in a digest.
+/// The type of a part, which may be in a digest.
 pub(crate) fn part_type(alloc: Global, text: &str, digest: bool) -> Result<ContentType, NoMemory>
     ensures { IfOk result (λ content_type. content_type ≡ type_of digest text.now) }
 {

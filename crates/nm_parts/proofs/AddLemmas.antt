@@ -15,7 +15,7 @@ use Rattle.nm_index.specs.Index.{first_tags, is_held, row_of, rows_of, with_mail
 use Rattle.nm_index.specs.declared.base.Base.{Base}
 use Rattle.nm_threads.specs.Labels.{AreLabelsOf, Label, Labelling, entries_of, numbered}
 use Rattle.nm_threads.specs.Labels as labels
-use Rattle.nm_tables.specs.Filing.{AreFiled, files_in}
+use Rattle.nm_tables.specs.FileTable.{AreFiled, files_in}
 use Rattle.nm_tables.specs.Kept.{AreKept}
 use Rattle.nm_parts.specs.Parts.{AreHeld, AreParts, AreTagged, base_of}
 use Rattle.nm_parts.specs.ThreadLaws.{ThreadLaws}
@@ -100,11 +100,11 @@ module _ (laws : ThreadLaws) (old new : Base) (path : List ℕ) (facts : Facts) 
       }
 
 -- the parts once the mail is there
-pub mail_added : (laws : ThreadLaws) (old new : Parts) (path : List ℕ) (facts : Facts) → AreParts old → new.revision ≡ old.revision → new.kept ≡ old.kept → AreFiled new.filing → files_in new.filing ≡ files_in old.filing ++ (path, facts) ∷ []
+pub mail_added : (laws : ThreadLaws) (old new : Parts) (path : List ℕ) (facts : Facts) → AreParts old → new.revision ≡ old.revision → new.kept ≡ old.kept → AreFiled new.file_table → files_in new.file_table ≡ files_in old.file_table ++ (path, facts) ∷ []
     → (entries_of new.labels.labels, new.labels.next) ≡ numbered (entries_of old.labels.labels) old.labels.next (facts.id ∷ facts.links)
     → ((rows : List LinkRow) → AreLabelsOf rows old.labels.labels → AreLabelsOf (row_of facts ∷ rows) new.labels.labels)
-    → new.tags ≡ (if has_id (files_in old.filing) facts.id then old.tags else insert_entry (slice_cmp nat_cmp) old.tags facts.id (first_tags facts.marks))
-    → AreTagged (files_in old.filing ++ (path, facts) ∷ []) new.tags → AreParts new × (base_of new ≡ with_mail (base_of old) path facts)
+    → new.tags ≡ (if has_id (files_in old.file_table) facts.id then old.tags else insert_entry (slice_cmp nat_cmp) old.tags facts.id (first_tags facts.marks))
+    → AreTagged (files_in old.file_table ++ (path, facts) ∷ []) new.tags → AreParts new × (base_of new ≡ with_mail (base_of old) path facts)
 mail_added laws old new path facts are revision kept filed files numbers label tags tagged = (
   record {
     filed = filed;
@@ -131,14 +131,14 @@ same_rows [] from to = refl
 same_rows (file ∷ files) from to = ap (λ rows. row_of file.1 ∷ rows) (same_rows files from to)
 
 -- the parts once a file has another path
-pub file_moved : (laws : ThreadLaws) (old new : Parts) (from to : List ℕ) → AreParts old → new.kept ≡ old.kept → new.labels ≡ old.labels → new.tags ≡ old.tags → AreFiled new.filing → files_in new.filing ≡ with_moved (files_in old.filing) from to → AreParts new
+pub file_moved : (laws : ThreadLaws) (old new : Parts) (from to : List ℕ) → AreParts old → new.kept ≡ old.kept → new.labels ≡ old.labels → new.tags ≡ old.tags → AreFiled new.file_table → files_in new.file_table ≡ with_moved (files_in old.file_table) from to → AreParts new
 file_moved laws old new from to are kept labels tags filed files =
-    let rows : rows_of (base_of new) ≡ rows_of (base_of old) = ap (λ fs. map (λ (file : List ℕ × Facts). row_of file.1) fs ++ values_of new.kept) files ∙ (λ i. same_rows (files_in old.filing) from to i ++ values_of (kept i)) in
+    let rows : rows_of (base_of new) ≡ rows_of (base_of old) = ap (λ fs. map (λ (file : List ℕ × Facts). row_of file.1) fs ++ values_of new.kept) files ∙ (λ i. same_rows (files_in old.file_table) from to i ++ values_of (kept i)) in
     let more : (id : List ℕ) → is_held (base_of old) id ≡ true → is_held (base_of new) id ≡ true =
     held_more laws (base_of old) (base_of new) (λ row among. subst (λ all. Contains all row) (sym rows) among)
     (λ file among. (
       (moved_path from to file.0, file.1),
-      subst (λ fs. Contains fs (moved_path from to file.0, file.1)) (sym files) (Contains_map (λ (f : List ℕ × Facts). (moved_path from to f.0, f.1)) (files_in old.filing) file among),
+      subst (λ fs. Contains fs (moved_path from to file.0, file.1)) (sym files) (Contains_map (λ (f : List ℕ × Facts). (moved_path from to f.0, f.1)) (files_in old.file_table) file among),
       refl,
     )) in
     record {
@@ -149,5 +149,5 @@ file_moved laws old new from to are kept labels tags filed files =
         rows = λ row among. more row.id (are.held.rows row (subst (λ all. Contains (values_of all) row) kept among));
         entries = λ entry among. more entry.0 (are.held.entries entry (subst (λ (l : Labelling). Contains (entries_of l.labels) entry) labels among));
       };
-      tagged = subst (λ all. AreTagged (files_in new.filing) all) (sym tags) (subst (λ fs. AreTagged fs old.tags) (sym files) (moved_tagged (files_in old.filing) from to old.tags are.tagged));
+      tagged = subst (λ all. AreTagged (files_in new.file_table) all) (sym tags) (subst (λ fs. AreTagged fs old.tags) (sym files) (moved_tagged (files_in old.file_table) from to old.tags are.tagged));
     }

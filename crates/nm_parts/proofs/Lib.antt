@@ -1,7 +1,7 @@
 pub mod AddLemmas
+pub mod HalfLemmas
 pub mod HeldLemmas
 pub mod ListLemmas
 pub mod PruneLemmas
-pub mod SideLemmas
 pub mod TagLemmas
 pub mod TakeLemmas

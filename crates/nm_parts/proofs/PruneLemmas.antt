@@ -13,12 +13,12 @@ use Rattle.nm_index.specs.Index.{is_held, pruned, row_of, rows_of}
 use Rattle.nm_index.specs.declared.base.Base.{Base}
 use Rattle.nm_threads.specs.Labels.{AreLabelsOf, Labelling, entries_of, has_entry, is_in_rows}
 use Rattle.nm_threads.specs.Same.{IsChain, Same, ids_of, is_same, stand_together}
-use Rattle.nm_tables.specs.Filing.{AreFiled, files_in}
+use Rattle.nm_tables.specs.FileTable.{AreFiled, files_in}
 use Rattle.nm_tables.specs.Hints.{thread_ids}
 use Rattle.nm_tables.specs.Kept.{AreKept}
 use Rattle.nm_parts.specs.Parts.{AreLoose, AreParts, AreTagged, base_of}
 use Rattle.nm_parts.specs.ThreadLaws.{ThreadLaws}
-use Rattle.nm_tables.specs.declared.filing.Filing.{Filing}
+use Rattle.nm_tables.specs.declared.file_table.FileTable.{FileTable}
 use Rattle.nm_parts.specs.declared.parts.Parts.{Parts}
 use Rattle.nm_tables.specs.FilterLaws.{filter_same, from_filter, in_filter}
 use Rattle.nm_tables.specs.KeyLaws.{any_one, any_of, Contains_map, Contains_from_map, same_text_from, same_text_of}
@@ -87,7 +87,7 @@ module _ (laws : ThreadLaws) (old : Parts) (id : List ℕ) (loose : AreLoose old
         (record { filed = loose.filed; kept = loose.kept; labels = loose.labels; held = record { rows = kept; entries = entries }; tagged = loose.tagged }, λ i. record whole { kept = kept_is i; entries = entries_is i })
 
   -- where the message of the id has another file, all stays
-  pub stays_by_itself : has_id (files_in old.filing) id ≡ true → AreParts old × (base_of old ≡ pruned (base_of old))
+  pub stays_by_itself : has_id (files_in old.file_table) id ≡ true → AreParts old × (base_of old ≡ pruned (base_of old))
   stays_by_itself live =
       let file = live_file (base_of old).files id live in all_stays file.0 file.1 (subst (Same (rows_of (base_of old)) id) file.2 (laws.itself (rows_of (base_of old)) id))
 
@@ -132,7 +132,7 @@ module _ (laws : ThreadLaws) (old : Parts) (id : List ℕ) (loose : AreLoose old
           | inr same ↦ absurd (true≢false (sym ((laws.computed rows id x).1 (laws.turned rows x id same)) ∙ not-true (is_same rows id x) other))
         ])
 
-    module _ (new : Parts) (revision : new.revision ≡ old.revision) (filing : new.filing ≡ old.filing) (tags : new.tags ≡ old.tags) (next : new.labels.next ≡ old.labels.next)
+    module _ (new : Parts) (revision : new.revision ≡ old.revision) (file_table : new.file_table ≡ old.file_table) (tags : new.tags ≡ old.tags) (next : new.labels.next ≡ old.labels.next)
         (entries : entries_of new.labels.labels ≡ filter (λ entry. not (is_same (rows_of (base_of old)) id entry.0)) (entries_of old.labels.labels))
         (labels : AreLabelsOf (filter (λ row. not (is_same (rows_of (base_of old)) id row.id)) (rows_of (base_of old))) new.labels.labels) (kept : AreKept new.kept)
         (kept_is : values_of new.kept ≡ filter (λ row. not (has_text ids row.id)) (values_of old.kept)) where
@@ -143,7 +143,7 @@ module _ (laws : ThreadLaws) (old : Parts) (id : List ℕ) (loose : AreLoose old
       row_member row among = member row.id (in_rows rows row (kept_row index row among))
 
       files_same : after.files ≡ index.files
-      files_same = ap (λ f. values_of f.files) filing
+      files_same = ap (λ f. values_of f.files) file_table
 
       pruned_kept : after.kept ≡ filter (λ row. is_held index row.id) index.kept
       pruned_kept =
@@ -181,7 +181,7 @@ module _ (laws : ThreadLaws) (old : Parts) (id : List ℕ) (loose : AreLoose old
       thread_gone : AreParts new × (after ≡ pruned index)
       thread_gone = (
         record {
-          filed = subst (λ f. AreFiled f) (sym filing) loose.filed;
+          filed = subst (λ f. AreFiled f) (sym file_table) loose.filed;
           kept = kept;
           labels = laws.unordered (filter (λ row. not (is_same rows id row.id)) rows) (rows_of after) new.labels.labels
               (λ row among. let before = from_filter (λ (r : LinkRow). not (is_same rows id r.id)) rows row among in stays row before.0 (not-true (is_same rows id row.id) before.1)) stayed labels;
@@ -189,7 +189,7 @@ module _ (laws : ThreadLaws) (old : Parts) (id : List ℕ) (loose : AreLoose old
             rows = λ row among. held_after row.id (from_filter (λ (r : LinkRow). is_held index r.id) index.kept row (subst (λ all. Contains all row) pruned_kept among)).1;
             entries = λ entry among. held_after entry.0 (from_filter (λ (e : List ℕ × ℕ). is_held index e.0) index.entries entry (subst (λ all. Contains all entry) pruned_entries among)).1;
           };
-          tagged = subst (λ (f : Filing). AreTagged (files_in f) new.tags) (sym filing) (subst (λ all. AreTagged (files_in old.filing) all) (sym tags) loose.tagged);
+          tagged = subst (λ (f : FileTable). AreTagged (files_in f) new.tags) (sym file_table) (subst (λ all. AreTagged (files_in old.file_table) all) (sym tags) loose.tagged);
         },
         λ i. record {
           revision = revision i;
@@ -238,25 +238,25 @@ module _ (laws : ThreadLaws) (old : Parts) (id : List ℕ) (loose : AreLoose old
   ids = thread_ids (rows_of (base_of old)) (entries_of old.labels.labels) id
 
   abbrev handed : Parts
-  handed = record { revision = old.revision; filing = old.filing; kept = old.kept; labels = labels; tags = old.tags }
+  handed = record { revision = old.revision; file_table = old.file_table; kept = old.kept; labels = labels; tags = old.tags }
 
   own : AreLabelsOf (rows_of (base_of old)) labels.labels
   own = subst (λ (l : Labelling). AreLabelsOf (rows_of (base_of old)) l.labels) (sym same) loose.labels
 
   -- where one of the thread is live, all stays
-  pub live_stays : list_any (has_id (files_in old.filing)) (thread_ids (rows_of (base_of old)) (entries_of old.labels.labels) id) ≡ true → AreParts handed × (base_of handed ≡ pruned (base_of old))
+  pub live_stays : list_any (has_id (files_in old.file_table)) (thread_ids (rows_of (base_of old)) (entries_of old.labels.labels) id) ≡ true → AreParts handed × (base_of handed ≡ pruned (base_of old))
   live_stays live =
       let all = stays_by_one laws old id loose ids (members_are old id) live in
       subst (λ (l : Labelling). AreParts (record old { labels = l }) × (base_of (record old { labels = l }) ≡ pruned (base_of old))) (sym same) all
 
   -- where none is, the thread is dropped
-  module _ (dead : List (List ℕ)) (are : (dead ≡ thread_ids (rows_of (base_of old)) (entries_of old.labels.labels) id) × (list_any (has_id (files_in old.filing)) dead ≡ false))
-      (new : Parts) (revision : new.revision ≡ old.revision) (filing : new.filing ≡ old.filing) (tags : new.tags ≡ old.tags) (next : new.labels.next ≡ labels.next)
+  module _ (dead : List (List ℕ)) (are : (dead ≡ thread_ids (rows_of (base_of old)) (entries_of old.labels.labels) id) × (list_any (has_id (files_in old.file_table)) dead ≡ false))
+      (new : Parts) (revision : new.revision ≡ old.revision) (file_table : new.file_table ≡ old.file_table) (tags : new.tags ≡ old.tags) (next : new.labels.next ≡ labels.next)
       (entries : (rows : List LinkRow) → AreLabelsOf rows labels.labels → entries_of new.labels.labels ≡ filter (λ entry. not (is_same rows id entry.0)) (entries_of labels.labels))
       (left : (rows : List LinkRow) → AreLabelsOf rows labels.labels → AreLabelsOf (filter (λ row. not (is_same rows id row.id)) rows) new.labels.labels) (kept : AreKept new.kept)
       (kept_is : values_of new.kept ≡ filter (λ row. not (has_text dead row.id)) (values_of old.kept)) where
     pub dead_goes : AreParts new × (base_of new ≡ pruned (base_of old))
     dead_goes =
-        thread_gone laws old id loose ids (members_are old id) (ap (list_any (has_id (files_in old.filing))) (sym are.0) ∙ are.1) new revision filing tags (next ∙ ap (λ (l : Labelling). l.next) same)
+        thread_gone laws old id loose ids (members_are old id) (ap (list_any (has_id (files_in old.file_table))) (sym are.0) ∙ are.1) new revision file_table tags (next ∙ ap (λ (l : Labelling). l.next) same)
         (entries (rows_of (base_of old)) own ∙ ap (λ (l : Labelling). filter (λ (entry : List ℕ × ℕ). not (is_same (rows_of (base_of old)) id entry.0)) (entries_of l.labels)) same) (left (rows_of (base_of old)) own) kept
         (kept_is ∙ ap (λ (all : List (List ℕ)). filter (λ (row : LinkRow). not (has_text all row.id)) (values_of old.kept)) are.0)

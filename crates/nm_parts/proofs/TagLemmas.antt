@@ -1,4 +1,4 @@
--- Tags stand beside the messages that have a file, whatever comes and goes.
+-- Tags are beside the messages that have a file, whatever comes and goes.
 -- For the proofs of `tag_message`, `untag`, `tag_first` and others.
 use Rattle.std.proofs.Common.{◌≡◌, ◌≢◌, refl, sym, ap, subst, ◌∙◌, ℕ, Bool, true, false, ◌||◌, not, cond, List, [], ◌∷◌, ◌++◌, inl, inr, if◌then◌else◌}
 use Rattle.std.proofs.Math.Bool.{or-false}
@@ -11,13 +11,13 @@ use Rattle.std.proofs.lemmas.Option.{none-some, same_Some}
 use Rattle.nm_base.specs.Order.{IsSorted, same_text}
 use Rattle.nm_base.specs.declared.facts.Facts.{Facts}
 use Rattle.nm_commit.specs.Files.{has_id, with_moved, without_path}
-use Rattle.nm_tables.specs.Filing.{at_text, lying_in}
+use Rattle.nm_tables.specs.FileTable.{at_text, lying_in}
 use Rattle.nm_parts.specs.Parts.{AreTagged}
 use Rattle.nm_tables.specs.KeyLaws.{Contains_first, Contains_there, Contains_cases, Contains_none, text_same, text_other, same_id, other_id, cases_id}
 use Rattle.nm_tables.specs.FilterLaws.{in_filter}
 
-abbrev Tagging : Type 0
-Tagging = List (List ℕ × List (List ℕ))
+abbrev TagChange : Type 0
+TagChange = List (List ℕ × List (List ℕ))
 
 abbrev Arrivals : Type 0
 Arrivals = List (List ℕ × Facts)
@@ -29,7 +29,7 @@ none_tagged = record { live = λ id. refl; sets = λ id set is. absurd (none-som
 
 -- ---- a message that has a file gets other tags
 
-module _ (files : Arrivals) (old new : Tagging) (id : List ℕ) (set : List (List ℕ)) (sorted : IsSorted set)
+module _ (files : Arrivals) (old new : TagChange) (id : List ℕ) (set : List (List ℕ)) (sorted : IsSorted set)
     (found : (other : List ℕ) → at_text other new ≡ (if is_eq (slice_cmp nat_cmp other id) then Some set else at_text other old)) where
   set_here : (other : List ℕ) → other ≡ id → at_text other new ≡ Some set
   set_here other same = found other ∙ cond-true (is_eq (slice_cmp nat_cmp other id)) (Some set) (at_text other old) (same_id other id same)
@@ -73,14 +73,14 @@ module _ (files : Arrivals) (path : List ℕ) (facts : Facts) where
   has_there id not = has_more files (path, facts) id ∙ ap (λ test. has_id files id || test) (text_other id facts.id not) ∙ or-false (has_id files id)
 
   -- of a message that had a file: its tags stay
-  pub mailed_again : (tags : Tagging) → AreTagged files tags → has_id files facts.id ≡ true → AreTagged (files ++ (path, facts) ∷ []) tags
+  pub mailed_again : (tags : TagChange) → AreTagged files tags → has_id files facts.id ≡ true → AreTagged (files ++ (path, facts) ∷ []) tags
   mailed_again tags are there = record {
     live = λ id. elim (cases_id id facts.id) [ inl same ↦ are.live id ∙ ap (has_id files) same ∙ there ∙ sym (has_here id same) | inr not ↦ are.live id ∙ sym (has_there id not) ];
     sets = are.sets;
   }
 
   -- of a new message
-  pub mailed_first : (old new : Tagging) (set : List (List ℕ)) → IsSorted set
+  pub mailed_first : (old new : TagChange) (set : List (List ℕ)) → IsSorted set
       → ((other : List ℕ) → at_text other new ≡ (if is_eq (slice_cmp nat_cmp other facts.id) then Some set else at_text other old)) → AreTagged files old → AreTagged (files ++ (path, facts) ∷ []) new
   mailed_first old new set sorted found are = record {
     live = λ id. elim (cases_id id facts.id) [
@@ -112,7 +112,7 @@ others_live files path facts lying id not =
 
 module _ (files after : Arrivals) (id : List ℕ) (others : (other : List ℕ) → other ≢ id → has_id after other ≡ has_id files other) where
   -- its message has another file: its tags stay
-  pub still_live : (tags : Tagging) → AreTagged files tags → has_id files id ≡ true → has_id after id ≡ true → AreTagged after tags
+  pub still_live : (tags : TagChange) → AreTagged files tags → has_id files id ≡ true → has_id after id ≡ true → AreTagged after tags
   still_live tags are was is = record {
     live = λ other. elim (cases_id other id) [
       | inl same ↦ are.live other ∙ ap (has_id files) same ∙ was ∙ sym (ap (has_id after) same ∙ is)
@@ -122,7 +122,7 @@ module _ (files after : Arrivals) (id : List ℕ) (others : (other : List ℕ) �
   }
 
   -- it has none
-  pub no_longer_live : (old new : Tagging) → AreTagged files old → has_id after id ≡ false → ((other : List ℕ) → at_text other new ≡ (if is_eq (slice_cmp nat_cmp other id) then None else at_text other old)) → AreTagged after new
+  pub no_longer_live : (old new : TagChange) → AreTagged files old → has_id after id ≡ false → ((other : List ℕ) → at_text other new ≡ (if is_eq (slice_cmp nat_cmp other id) then None else at_text other old)) → AreTagged after new
   no_longer_live old new are is found = record {
     live = λ other. elim (cases_id other id) [
       | inl same ↦ ap is_some (found other ∙ cond-true (is_eq (slice_cmp nat_cmp other id)) None (at_text other old) (same_id other id same)) ∙ sym (ap (has_id after) same ∙ is)
@@ -140,5 +140,5 @@ moved_live : (files : Arrivals) (from to id : List ℕ) → has_id (with_moved f
 moved_live [] from to id = refl
 moved_live (f ∷ files) from to id = ap (λ rest. same_text id f.1.id || rest) (moved_live files from to id)
 
-pub moved_tagged : (files : Arrivals) (from to : List ℕ) (tags : Tagging) → AreTagged files tags → AreTagged (with_moved files from to) tags
+pub moved_tagged : (files : Arrivals) (from to : List ℕ) (tags : TagChange) → AreTagged files tags → AreTagged (with_moved files from to) tags
 moved_tagged files from to tags are = record { live = λ id. are.live id ∙ sym (moved_live files from to id); sets = are.sets }

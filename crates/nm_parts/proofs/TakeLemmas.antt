@@ -15,7 +15,7 @@ use Rattle.nm_index.specs.Index.{is_held, row_cmp, row_of, rows_of}
 use Rattle.nm_index.specs.declared.base.Base.{Base}
 use Rattle.nm_threads.specs.Labels.{AreLabelsOf, Labelling, entries_of}
 use Rattle.nm_threads.specs.Same.{Same, ids_of}
-use Rattle.nm_tables.specs.Filing.{AreFiled, files_in, lying_in}
+use Rattle.nm_tables.specs.FileTable.{AreFiled, files_in, lying_in}
 use Rattle.nm_tables.specs.Kept.{AreKept}
 use Rattle.nm_parts.specs.Parts.{AreLoose, AreParts, AreTagged, base_of}
 use Rattle.nm_parts.specs.ThreadLaws.{ThreadLaws}
@@ -58,10 +58,10 @@ new_row row (e ∷ rows) x among = new_by row e rows (row_cmp row e) x among (ne
 
 -- ---- the index without the file
 
-module _ (laws : ThreadLaws) (old new : Parts) (path : List ℕ) (facts : Facts) (are : AreParts old) (filed : AreFiled new.filing) (kept : AreKept new.kept) (labels : new.labels ≡ old.labels)
-    (files : files_in new.filing ≡ without_path (files_in old.filing) path) (lying : lying_in (files_in old.filing) path ≡ (path, facts) ∷ [])
+module _ (laws : ThreadLaws) (old new : Parts) (path : List ℕ) (facts : Facts) (are : AreParts old) (filed : AreFiled new.file_table) (kept : AreKept new.kept) (labels : new.labels ≡ old.labels)
+    (files : files_in new.file_table ≡ without_path (files_in old.file_table) path) (lying : lying_in (files_in old.file_table) path ≡ (path, facts) ∷ [])
     (rows : values_of new.kept ≡ insert_key row_cmp (values_of old.kept) (row_of facts)) (there : Contains (values_of new.kept) (row_of facts))
-    (untagged : (files : List (List ℕ × Facts)) → AreTagged files old.tags → has_id files facts.id ≡ true → ((other : List ℕ) → other ≢ facts.id → has_id (files_in new.filing) other ≡ has_id files other) → AreTagged (files_in new.filing) new.tags) where
+    (untagged : (files : List (List ℕ × Facts)) → AreTagged files old.tags → has_id files facts.id ≡ true → ((other : List ℕ) → other ≢ facts.id → has_id (files_in new.file_table) other ≡ has_id files other) → AreTagged (files_in new.file_table) new.tags) where
   abbrev before : Base
   before = base_of old
 

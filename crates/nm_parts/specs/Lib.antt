@@ -1,5 +1,5 @@
 pub mod ChangeLaws
+pub mod Halves
 pub mod MailLaws
 pub mod Parts
-pub mod Sides
 pub mod ThreadLaws

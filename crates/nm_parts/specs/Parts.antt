@@ -1,4 +1,4 @@
--- The parts of a snapshot, and the index that they make. Cited by `applying`, `changes`, `dropping` and others.
+-- The parts of a snapshot, and the index that they make. Cited by `commit_changes`, `changes`, `removal` and others.
 use Rattle.std.specs.Prelude.{◌≡◌, ◌⊎◌, ℕ, true, List, Some, Contains, if◌then◌else◌}
 use Rattle.std.specs.BTreeMap.{is_at}
 use Rattle.std.specs.BTreeSet.{insert_key}
@@ -14,7 +14,7 @@ use Rattle.nm_index.specs.Index.{is_held, row_cmp, row_of, rows_of}
 use Rattle.nm_index.specs.declared.base.Base.{Base}
 use Rattle.nm_threads.specs.Labels.{AreLabelsOf, entries_of, is_in_rows}
 use Rattle.nm_threads.specs.Same.{Same}
-use Rattle.nm_tables.specs.Filing.{AreFiled, at_text, files_in}
+use Rattle.nm_tables.specs.FileTable.{AreFiled, at_text, files_in}
 use Rattle.nm_tables.specs.Kept.{AreKept}
 use Rattle.nm_parts.specs.declared.parts.Parts.{Parts}
 
@@ -24,7 +24,7 @@ base_of parts =
     record {
       revision = parts.revision;
       next = parts.labels.next;
-      files = files_in parts.filing;
+      files = files_in parts.file_table;
       kept = values_of parts.kept;
       entries = entries_of parts.labels.labels;
       tags = parts.tags;
@@ -40,14 +40,14 @@ pub record AreTagged (files : List (List ℕ × Facts)) (tags : List (List ℕ �
   pub live : (id : List ℕ) → is_some (at_text id tags) ≡ has_id files id
   pub sets : (id : List ℕ) (set : List (List ℕ)) → at_text id tags ≡ Some set → IsSorted set
 
--- the parts tell one thing: the files by their maps, the kept rows by their bytes, the labels by the rows of both, the tags
--- by the messages of the files
+-- the parts agree: the files by their maps, the kept rows by their bytes, the labels by the rows of both, the tags by the
+-- messages of the files
 pub record AreParts (parts : Parts) : Type 0 where
-  pub filed : AreFiled parts.filing
+  pub filed : AreFiled parts.file_table
   pub kept : AreKept parts.kept
   pub labels : AreLabelsOf (rows_of (base_of parts)) parts.labels.labels
   pub held : AreHeld (base_of parts)
-  pub tagged : AreTagged (files_in parts.filing) parts.tags
+  pub tagged : AreTagged (files_in parts.file_table) parts.tags
 
 -- the index with other files
 abbrev pub with_files : Base → List (List ℕ × Facts) → Base
@@ -68,10 +68,10 @@ without_file index path facts =
 
 -- the same parts while the thread of an id may have lost its last live message
 pub record AreLoose (parts : Parts) (id : List ℕ) : Type 0 where
-  pub filed : AreFiled parts.filing
+  pub filed : AreFiled parts.file_table
   pub kept : AreKept parts.kept
   pub labels : AreLabelsOf (rows_of (base_of parts)) parts.labels.labels
   pub known : is_in_rows (rows_of (base_of parts)) id ≡ true
   pub rows : (row : LinkRow) → Contains (values_of parts.kept) row → (is_held (base_of parts) row.id ≡ true) ⊎ Same (rows_of (base_of parts)) row.id id
   pub entries : (entry : List ℕ × ℕ) → Contains (entries_of parts.labels.labels) entry → (is_held (base_of parts) entry.0 ≡ true) ⊎ Same (rows_of (base_of parts)) entry.0 id
-  pub tagged : AreTagged (files_in parts.filing) parts.tags
+  pub tagged : AreTagged (files_in parts.file_table) parts.tags

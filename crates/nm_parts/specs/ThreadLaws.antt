@@ -1,4 +1,4 @@
--- What is known of threads, in one: the test of one thread, and that no order of rows counts. Cited by `labelling`.
+-- What is known of threads, in one: the test of one thread, and that no order of rows counts. Cited by `thread_ids`.
 use Rattle.std.specs.Prelude.{ℕ, ◌↔◌, List, IsTrue, Contains}
 use Rattle.nm_base.specs.declared.facts.LinkRow.{LinkRow}
 use Rattle.nm_threads.specs.Labels.{AreLabelsOf, Label}

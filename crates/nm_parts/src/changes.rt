@@ -1,4 +1,4 @@
-//! What each change does to the parts of a snapshot, for `applying`. Where there is no memory the parts are of no use any more.
+//! What each change does to the parts of a snapshot, for `commit_changes`. Where there is no memory the parts are of no use any more.
 
 ghost use Rattle.std.specs.Prelude.{◌≡◌, ◌≤◌, ◌^◌, false, true, OnOk};
 ghost use Rattle.nm_base.specs.Limits.{IsDate};
@@ -6,9 +6,9 @@ ghost use Rattle.nm_commit.specs.Files.{has_id, has_path, with_moved};
 ghost use Rattle.nm_index.specs.Index.{with_mail, with_tags};
 ghost use Rattle.nm_parts.specs.Parts.{AreParts, base_of, with_files};
 
-use crate::labelling::{label_mail, tag_mail, thread_laws};
+use crate::message_tags::set_tags;
 use crate::parts::Parts;
-use crate::tagging::set_tags;
+use crate::thread_ids::{label_mail, tag_mail, thread_laws};
 use nm_base::{Copies, Facts, MailPath, MessageId, NoMemory, Tags};
 use nm_shared::Shared;
 use nm_tables::{add_file, move_file};
@@ -29,9 +29,9 @@ pub fn add_mail(
     ensures base { OnOk result (base_of parts.new ≡ with_mail (base_of parts.old) path.now facts.now) }
 {
     thread_laws();
-    tag_mail(alloc, &parts.filing, &mut parts.tags, facts)?;
+    tag_mail(alloc, &parts.file_table, &mut parts.tags, facts)?;
     label_mail(alloc, &mut parts.labels, facts)?;
-    add_file(alloc, &mut parts.filing, path, facts)?;
+    add_file(alloc, &mut parts.file_table, path, facts)?;
     Ok(())
 }
 
@@ -44,7 +44,7 @@ pub fn move_mail(parts: &mut Parts, from: &MailPath, to: &MailPath) -> Result<()
     ensures base { OnOk result (base_of parts.new ≡ with_files (base_of parts.old) (with_moved (base_of parts.old).files from.now to.now)) }
 {
     thread_laws();
-    move_file(&mut parts.filing, from, to)?;
+    move_file(&mut parts.file_table, from, to)?;
     Ok(())
 }
 

@@ -1,17 +1,17 @@
 //! Searching: the parts of a snapshot, and what the changes of a commit make of them, one after the other or by two threads.
 #![tactic(auto)]
 
-mod applying;
 mod changes;
-mod dropping;
-mod labelling;
+mod commit_changes;
+mod halves;
+mod message_tags;
 mod parts;
-mod sides;
-mod tagging;
+mod removal;
+mod thread_ids;
 
-pub use applying::apply_changes;
 pub use changes::tag_message;
-pub use labelling::row_of;
+pub use commit_changes::apply_changes;
+pub use halves::{apply_by_halves, take_none_out};
+pub use message_tags::set_tags;
 pub use parts::Parts;
-pub use sides::{apply_by_sides, take_none_out};
-pub use tagging::set_tags;
+pub use thread_ids::row_of;

@@ -6,13 +6,13 @@ ghost use Rattle.nm_parts.specs.Parts.{AreParts, base_of};
 
 use nm_base::{Copies, LinkRow, NoMemory};
 use nm_shared::Shared;
-use nm_tables::{Filing, MeasuredLabels, MeasuredMap, MessageTags, RowBytes};
+use nm_tables::{FileTable, MeasuredLabels, MeasuredMap, MessageTags, RowBytes};
 use std::alloc::Global;
 
 /// Files, rows of mails that went, labels and tags.
 pub struct Parts {
     pub revision: u64,
-    pub filing: Filing,
+    pub file_table: FileTable,
     pub kept: MeasuredMap<RowBytes, Shared<LinkRow>>,
     pub labels: MeasuredLabels,
     pub tags: MessageTags,
@@ -22,7 +22,7 @@ impl Drop for Parts {
     fn drop(self) {
         let Parts {
             revision: _,
-            filing: _,
+            file_table: _,
             kept: _,
             labels: _,
             tags: _,
@@ -38,20 +38,20 @@ impl Parts {
     {
         Parts {
             revision: 0,
-            filing: Filing::new(alloc),
+            file_table: FileTable::new(alloc),
             kept: MeasuredMap::new(alloc),
             labels: MeasuredLabels::new(alloc),
             tags: MessageTags::new(alloc),
         }
     }
 
-    /// Second handles on all parts.
+    /// Clones of all parts.
     pub fn share(&self) -> Result<Parts, NoMemory>
         ensures { IfOk result (λ parts. parts ≡ self.now) }
     {
         Ok(Parts {
             revision: self.revision,
-            filing: self.filing.share()?,
+            file_table: self.file_table.share()?,
             kept: self.kept.share()?,
             labels: self.labels.copy()?,
             tags: self.tags.share()?,

@@ -1,4 +1,4 @@
--- No two files lie at one path: what comes and what moves goes where none lies. For the proof of `files_stay_apart`.
+-- No two files are at one path: what comes and what moves goes where none is. For the proof of `files_stay_apart`.
 use Rattle.std.proofs.Common.{◌≡◌, ℕ, Bool, true, false, ◌||◌, cond, not, List, [], ◌∷◌, ◌++◌, fold, filter, refl, sym, ap, ◌∙◌, subst}
 use Rattle.std.specs.Cmp.Lexicographic.{nat_list_eq_equiv}
 use Rattle.std.proofs.lemmas.Bool.{or_from, or_parts}
@@ -41,7 +41,7 @@ pub files-filter : (keep : File → Bool) (files : List File) → AreApart files
 files-filter keep [] h = tt
 files-filter keep (file ∷ files) h = apart-cond (keep file) file (filter keep files) (none-filter keep files file.0 h.0) (files-filter keep files h.1)
 
--- one more, where none lies
+-- one more, where none is
 files-push : (files : List File) (path : List ℕ) (facts : Facts) → AreApart files → has_path files path ≡ false → AreApart (files ++ (path, facts) ∷ [])
 files-push [] path facts h none = (refl, tt)
 files-push (file ∷ files) path facts h none =
@@ -54,21 +54,21 @@ moved-by : (b : Bool) (to old path : List ℕ) → same_text path to ≡ false �
 moved-by true to old path other apart = other
 moved-by false to old path other apart = apart
 
--- where nothing lies after a move
+-- where nothing is after a move
 moved-none : (files : List File) (from to path : List ℕ) → has_path files path ≡ false → same_text path to ≡ false → has_path (with_moved files from to) path ≡ false
 moved-none [] from to path h other = refl
 moved-none (file ∷ files) from to path h other =
     let apart = or_parts (same_text path file.0) (has_path files path) h in
     or_from _ _ (moved-by (same_text from file.0) to file.0 path other apart.0) (moved-none files from to path apart.1 other)
 
--- a move from where none lies changes nothing
+-- a move from where none is changes nothing
 unmoved : (files : List File) (from to : List ℕ) → has_path files from ≡ false → with_moved files from to ≡ files
 unmoved [] from to h = refl
 unmoved (file ∷ files) from to h =
     let apart = or_parts (same_text from file.0) (has_path files from) h in
     ap (λ (b : Bool). (cond b to file.0, file.1) ∷ with_moved files from to) apart.0 ∙ ap (λ (l : List File). file ∷ l) (unmoved files from to apart.1)
 
--- what lies elsewhere stays
+-- what is elsewhere stays
 still-by : (file : File) (from to path : List ℕ) (b : Bool) (rest : Bool) → same_text path file.0 ≡ b → same_text from path ≡ false → (b ≡ false → rest ≡ true) → (same_text path (moved_path from to file.0) || rest) ≡ true
 still-by file from to path true rest is apart more =
     let one : path ≡ file.0 = bytes_same path file.0 (sym is) in
@@ -91,7 +91,7 @@ first-moved file files from to true is first apart none =
     ap (λ (l : List File). has_path l to) (unmoved files from to (ap (has_path files) (bytes_same from file.0 (sym is)) ∙ first)) ∙ none
 first-moved file files from to false is first apart none = moved-none files from to file.0 first (turned to file.0 false apart)
 
--- and what moves goes where none lies
+-- and what moves goes where none is
 files-moved : (files : List File) (from to : List ℕ) → AreApart files → has_path files to ≡ false → AreApart (with_moved files from to)
 files-moved [] from to h none = tt
 files-moved (file ∷ files) from to h none =

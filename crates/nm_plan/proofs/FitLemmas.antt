@@ -1,4 +1,4 @@
--- The commits of a `new` fit: what has come lies where none lay, and what is gone lay there.
+-- The commits of a `new` fit: what is added goes where no file was, and what is missing was there.
 -- For the proofs of `new_commits_fit` and `new_leaves_what_is_listed`.
 use Rattle.std.proofs.Common.{◌≡◌, ℕ, Bool, true, false, ◌||◌, ◌&&◌, not, cond, List, [], ◌∷◌, ◌++◌, fold, map, filter, refl, sym, ap, ◌∙◌, subst, arith, IsTrue}
 use Rattle.std.specs.List.{AllByRecursion, IsDistinct, flat_map}
@@ -26,7 +26,7 @@ use Rattle.nm_plan.proofs.FoldLemmas.{batch-files, new-files, next-files}
 use Rattle.nm_base.specs.OrderLaws.{IsSorted-sorted}
 use Rattle.nm_base.specs.SetLaws.{bytes_same, has_text-filter, has_text-sorted}
 
--- no text stands twice
+-- no text occurs twice
 abbrev pub IsApart : List (List ℕ) → Type 0
 IsApart [] = Unit {0}
 IsApart (text ∷ texts) = AllByRecursion (λ other. same_text text other ≡ false) texts × IsApart texts
@@ -43,12 +43,12 @@ apart-distinct : (texts : List (List ℕ)) → IsDistinct (eq_by_cmp (slice_cmp 
 apart-distinct [] h = tt
 apart-distinct (text ∷ texts) h = (unequal text texts (IsDistinct-head _ text texts h), apart-distinct texts (IsDistinct-tail _ text texts h))
 
--- distinct texts stand once each
+-- distinct texts occur once each
 apart-once : (texts : List (List ℕ)) → IsDistinct same_text texts → IsApart texts
 apart-once [] h = tt
 apart-once (text ∷ texts) h = (IsDistinct-head _ text texts h, apart-once texts (IsDistinct-tail _ text texts h))
 
--- rising texts stand once each
+-- rising texts occur once each
 apart-rising : (texts : List (List ℕ)) → IsStrictlySortedBy (slice_cmp nat_cmp) texts → IsApart texts
 apart-rising texts h = apart-distinct texts (IsDistinct-from_sorted (slice_cmp nat_cmp) texts h)
 
@@ -90,14 +90,14 @@ paths-append : (files more : List (List ℕ × Facts)) → paths_of (files ++ mo
 paths-append [] more = refl
 paths-append (file ∷ files) more = ap (λ (l : List (List ℕ)). file.0 ∷ l) (paths-append files more)
 
--- none of the others lies where one more lies
+-- none of the others is where one more is
 pub not_there : (files : List (List ℕ × Facts)) (file : List ℕ × Facts) (path : List ℕ) → has_path files path ≡ false → same_text file.0 path ≡ false → has_path (files ++ file ∷ []) path ≡ false
 not_there files file path none other =
     ap (λ (l : List (List ℕ)). has_text l path) (paths-append files (file ∷ []))
     ∙ (has_text-append (paths_of files) (file.0 ∷ []) path
     ∙ (ap (λ b. b || (same_text path file.0 || false)) none ∙ ap (λ b. b || false) (nat_list_eq_equiv.symm path file.0 ∙ other)))
 
--- what has come lies where none lay
+-- what has come is where none was
 fit-adds : (files added : List (List ℕ × Facts)) → IsApart (paths_of added) → AllByRecursion (λ path. has_path files path ≡ false) (paths_of added) → AllByRecursion (λ arrival. IsDate arrival.1.date) added → FitChanges files (map add_of added)
 fit-adds files [] apart none dated = tt
 fit-adds files (arrival ∷ added) apart none dated = (
@@ -114,13 +114,13 @@ paths-filter : (keep : List ℕ → Bool) (files : List (List ℕ × Facts)) →
 paths-filter keep [] = refl
 paths-filter keep (file ∷ files) = paths-cond (keep file.0) file (filter (λ other. keep other.0) files) ∙ ap (λ (l : List (List ℕ)). cond (keep file.0) (file.0 ∷ l) l) (paths-filter keep files)
 
--- one that is another still lies there
+-- one that is another still is there
 still_there : (files : List (List ℕ × Facts)) (path other : List ℕ) → has_path files other ≡ true → same_text path other ≡ false → has_path (without_path files path) other ≡ true
 still_there files path other there apart =
     ap (λ (l : List (List ℕ)). has_text l other) (paths-filter (λ p. not (same_text path p)) files)
     ∙ (has_text-filter (λ p. not (same_text path p)) (paths_of files) other ∙ (ap (λ b. b && not (same_text path other)) there ∙ ap not apart))
 
--- what goes lay there
+-- what goes was there
 fit-drops : (files : List (List ℕ × Facts)) (paths : List (List ℕ)) → IsApart paths → AllByRecursion (λ path. has_path files path ≡ true) paths → FitChanges files (map drop_of paths)
 fit-drops files [] apart there = tt
 fit-drops files (path ∷ paths) apart there = (
@@ -129,7 +129,7 @@ fit-drops files (path ∷ paths) apart there = (
       (every-both (λ other. has_path files other ≡ true) (λ other. same_text path other ≡ false) (λ other. has_path (without_path files path) other ≡ true) paths (λ other. still_there files path other) there.1 apart.0),
 )
 
--- every text of a list stands in it
+-- every text of a list is in it
 same_as_itself : (text : List ℕ) → same_text text text ≡ true
 same_as_itself text = nat_list_eq_equiv.refl text
 

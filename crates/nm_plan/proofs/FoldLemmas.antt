@@ -1,4 +1,5 @@
--- The files after the commits of a `new`: what has come stands behind what was there, and what is gone is away.
+-- The files after the commits of a `new`: what was added comes after what was there, and what is missing is no longer
+-- there.
 -- For the proofs of `the_files_after_batches` and `the_files_after_new`.
 use Rattle.std.proofs.Common.{◌≡◌, ℕ, Bool, true, false, ◌||◌, ◌&&◌, not, cond, List, [], ◌∷◌, ◌++◌, map, filter, fold, refl, sym, ap, ◌∙◌, append-nil, append_assoc}
 use Rattle.std.specs.Cmp.Lexicographic.{nat_list_eq_equiv, pointwise}
@@ -42,7 +43,7 @@ pub filter-all : (files : List (List ℕ × Facts)) → filter (λ file. not fal
 filter-all [] = refl
 filter-all (file ∷ files) = ap (λ (l : List (List ℕ × Facts)). file ∷ l) (filter-all files)
 
--- what is gone, one by one
+-- what is missing, one by one
 fold-drops : (files : List (List ℕ × Facts)) (paths : List (List ℕ)) → fold changed files (map drop_of paths) ≡ filter (λ file. not (has_text paths file.0)) files
 fold-drops files [] = sym (filter-all files)
 fold-drops files (path ∷ paths) = fold-drops (without_path files path) paths ∙ (filter-filter (λ file. not (same_text path file.0)) (λ file. not (has_text paths file.0)) files ∙ filter_agree _ _ (λ file. not-or (same_text path file.0) (has_text paths file.0) ∙ ap (λ b. not (b || has_text paths file.0)) (nat_list_eq_equiv.symm path file.0)) files)

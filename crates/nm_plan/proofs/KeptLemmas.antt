@@ -21,7 +21,7 @@ use Rattle.nm_commit.specs.Files.{changed, files_after, has_id, without_path}
 use Rattle.nm_commit.specs.declared.change.Change.{Change}
 use Rattle.nm_commit.specs.declared.change.Change.TheVariants.{Add, Drop, SetTags}
 use Rattle.nm_commit.specs.declared.change.Commit.{Commit}
-use Rattle.nm_flags.specs.Following.{five_tags, name_ops, tags_by_names}
+use Rattle.nm_flags.specs.FlagTags.{five_tags, name_ops, tags_by_names}
 use Rattle.nm_index.specs.Index.{applied, committed, files_at, first_tags, folded, has_entry, pruned, row_cmp, row_of, with_entry, with_mail, with_tags, without_first}
 use Rattle.nm_index.specs.declared.base.Base.{Base}
 use Rattle.nm_tags.specs.Operations.{after_ops}

@@ -2,7 +2,7 @@ pub mod ApartLemmas
 pub mod FitLemmas
 pub mod FoldLemmas
 pub mod KeptLemmas
-pub mod MovingLemmas
+pub mod MoveLemmas
 pub mod NumberLemmas
+pub mod TagCommitLemmas
 pub mod TagLemmas
-pub mod TaggingLemmas

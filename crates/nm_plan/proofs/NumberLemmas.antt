@@ -19,7 +19,7 @@ Entry = List ℕ × ℕ
 abbrev IsBelow : Entry → Entry → Type 0
 IsBelow entry other = (same_text entry.0 other.0 ≡ false) × (entry.1 < other.1)
 
--- one more, behind all others
+-- one more, after all others
 below-push : (entry last : Entry) (more : List Entry) → AllByRecursion (IsBelow entry) more → IsBelow entry last → AllByRecursion (IsBelow entry) (more ++ last ∷ [])
 below-push entry last [] h is = (is, tt)
 below-push entry last (other ∷ more) h is = (h.0, below-push entry last more h.1 is)

@@ -49,7 +49,7 @@ lookup-own id tags (entry ∷ entries) = own-by id tags entry entries (slice_cmp
 pub tags-own : (index : Base) (id : List ℕ) (tags : Texts) → tags_of (with_tags index id tags) id ≡ tags
 tags-own index id tags = ap (λ (o : Option Texts). unwrap_or o []) (lookup-own id tags index.tags)
 
--- lists of texts that are told to be the same are
+-- lists of texts that compare as the same are
 same-by : (x y : List ℕ) (xs ys : Texts) (b : Bool) → same_text x y ≡ b → (b && pointwise same_text xs ys) ≡ true → (pointwise same_text xs ys ≡ true → xs ≡ ys) → x ∷ xs ≡ y ∷ ys
 same-by x y xs ys true is h more = ap (λ (t : List ℕ). t ∷ xs) (bytes_same x y (sym is)) ∙ ap (λ (l : Texts). y ∷ l) (more h)
 same-by x y xs ys false is h more = absurd (cc)

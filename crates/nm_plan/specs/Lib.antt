@@ -1,6 +1,6 @@
 pub mod Apart
-pub mod Moving
+pub mod Moves
 pub mod NameTags
 pub mod Numbering
 pub mod Plan
-pub mod Tagging
+pub mod TagCommit

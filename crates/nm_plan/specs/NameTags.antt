@@ -1,4 +1,4 @@
--- The tags that follow the names of files: what a commit sets, behind the changes that it makes of a message's files.
+-- The tags that follow the names of files: what a commit sets, after the changes that it makes of a message's files.
 -- Cited by `laws` and `nm_writer`.
 use Rattle.std.specs.Prelude.{ℕ, List, [], ◌∷◌, ◌++◌, filter, fold, if◌then◌else◌}
 use Rattle.std.specs.Cmp.Lexicographic.{pointwise}
@@ -8,7 +8,7 @@ use Rattle.nm_base.specs.Order.{has_text, same_text}
 use Rattle.nm_commit.specs.declared.change.Change.{Change}
 use Rattle.nm_commit.specs.declared.change.Change.TheVariants.{SetTags}
 use Rattle.nm_commit.specs.declared.change.Commit.{Commit}
-use Rattle.nm_flags.specs.Following.{tags_by_names}
+use Rattle.nm_flags.specs.FlagTags.{tags_by_names}
 use Rattle.nm_index.specs.Index.{applied, live_ids}
 use Rattle.nm_index.specs.declared.base.Base.{Base}
 

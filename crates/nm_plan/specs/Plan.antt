@@ -1,5 +1,5 @@
--- The commits of a command: first those of what has come, one for each batch of files that was read, then that of what is gone.
--- Each is made on the index that those before it leave.
+-- The commits of a command: first those of what has come, one for each batch of files that was read, then that of what is
+-- missing. Each is made on the index that those before it leave.
 -- Cited by `laws`, `nm_scan`, `nm_writer` and others.
 use Rattle.std.specs.Prelude.{◌≡◌, ℕ, ℤ, false, not, List, [], ◌∷◌, ◌++◌, map, filter}
 use Rattle.std.specs.List.{AllByRecursion, IsDistinct, flat_map}
@@ -17,7 +17,7 @@ use Rattle.nm_commit.specs.declared.change.Commit.{Commit}
 use Rattle.nm_index.specs.Index.{folded}
 use Rattle.nm_index.specs.declared.base.Base.{Base}
 use Rattle.nm_maildir.specs.declared.given.Given.{Given}
-use Rattle.nm_plan.specs.Moving.{tag_commits}
+use Rattle.nm_plan.specs.Moves.{tag_commits}
 use Rattle.nm_plan.specs.NameTags.{commit_of}
 
 -- the listed paths that the index lacks
@@ -77,7 +77,7 @@ due_commits (Show ask) input moment index given batches left = []
 due_commits (Tag ask) input moment index given batches left = tag_commits index (wanted_for (Tag ask) input moment index) given
 due_commits (Restore ask) input moment index given batches left = tag_commits index (wanted_for (Restore ask) input moment index) given
 
--- the files after a `new`: what has come stands behind what was there, and what is gone is away
+-- the files after a `new`: what was added comes after what was there, and what is missing is no longer there
 abbrev pub files_after_new : List (List ℕ × Facts) → List (List ℕ) → List (List ℕ × Facts) → List (List ℕ × Facts)
 files_after_new files listed added = filter (λ file. not (has_text (gone files listed) file.0)) (files ++ added)
 

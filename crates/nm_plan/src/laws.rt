@@ -8,7 +8,7 @@ ghost use Rattle.nm_base.specs.declared.facts.Facts.{Facts};
 ghost use Rattle.nm_commit.specs.Files.{has_id, has_path, paths_of};
 ghost use Rattle.nm_commit.specs.declared.change.Change.{Change};
 ghost use Rattle.nm_commit.specs.declared.change.Commit.{Commit};
-ghost use Rattle.nm_flags.specs.Following.{five_tags};
+ghost use Rattle.nm_flags.specs.FlagTags.{five_tags};
 ghost use Rattle.nm_index.specs.Index.{applied, empty_index, folded};
 ghost use Rattle.nm_index.specs.declared.base.Base.{Base};
 ghost use Rattle.nm_index.specs.Fits.{FitInTurn};
@@ -30,7 +30,8 @@ pub fn new_commits_fit()
     files_follow_their_commits();
 }
 
-/// However the mails are parted into batches, what has come stands behind what was there, and what is gone is away.
+/// However the mails are parted into batches, what was added comes after what was there, and what is missing is no
+/// longer there.
 pub fn the_files_after_new()
     ensures { (index : Base) (listed : List (List ℕ)) (batches : List (List (List ℕ × Facts)))
         → (folded index (new_commits index listed batches)).files ≡ files_after_new index.files listed (all_added batches) }
@@ -38,7 +39,7 @@ pub fn the_files_after_new()
     files_follow_their_commits();
 }
 
-/// And before what is gone is away, the files are those that were there and those of the batches.
+/// And before the missing files are removed, the files are those that were there and those of the batches.
 pub fn the_files_after_batches()
     ensures { (index : Base) (batches : List (List (List ℕ × Facts)))
         → (folded index (batch_commits index batches)).files ≡ index.files ++ all_added batches }
@@ -62,7 +63,7 @@ pub fn numbers_stay_in_order()
     ensures kept { (index : Base) (commits : List Commit) → AreNumbered index → AreNumbered (folded index commits) }
 {}
 
-/// No two files lie at one path, whatever commits that fit.
+/// No two files are at one path, whatever commits that fit.
 pub fn files_stay_apart()
     ensures empty { AreApart empty_index.files }
     ensures kept { (index : Base) (commits : List Commit) → AreApart index.files → FitInTurn index commits → AreApart (folded index commits).files }
@@ -71,8 +72,8 @@ pub fn files_stay_apart()
 }
 
 /// A commit gives each message that it is about, and that has a file, the tags that the names of its files say; it sets no tags of
-/// any other message. So what has come leaves the tags of all messages that none of it is of, and what is gone those of each that
-/// loses no file.
+/// any other message. So what has come leaves the tags of all messages that none of it is of, and what is missing those of each
+/// that loses no file.
 pub fn tags_follow_the_names()
     ensures followed { (index : Base) (change : Change) (changes : List Change) (ids : List (List ℕ)) (id : List ℕ) → AreNumbered index
         → IsTrue (has_text (live_of (fold applied index (change ∷ changes)) ids) id)

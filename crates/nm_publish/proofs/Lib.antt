@@ -1,4 +1,4 @@
-pub mod PrefixLemmas
 pub mod EventLemmas
-pub mod AddingLemmas
+pub mod PrefixLemmas
+pub mod PublicationLemmas
 pub mod RuleLemmas

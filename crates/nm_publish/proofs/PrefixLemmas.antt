@@ -1,4 +1,4 @@
--- Beginnings of one list. For `AddingLemmas`, `EventLemmas` and `RuleLemmas`.
+-- Beginnings of one list. For `PublicationLemmas`, `EventLemmas` and `RuleLemmas`.
 use Rattle.std.proofs.Common.{◌≡◌, ◌<◌, ◌≤◌, List, [], ◌∷◌, ◌++◌, length, map, refl, ap, sym, ◌∙◌, arith, append_assoc, length-append}
 use Rattle.std.proofs.lemmas.List.{map-append}
 use mathlib.Core.List.{IsPrefix}

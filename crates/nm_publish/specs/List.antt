@@ -1,5 +1,5 @@
 -- The list of what was published: the index at the opening, and then commits.
--- Cited by `adding`, `list`, `seats` and others.
+-- Cited by `publication`, `list`, `seats` and others.
 use Rattle.std.specs.Prelude.{◌≡◌, ℕ, ◌<◌, List, [], ◌∷◌, ◌++◌, true, length, map, drop}
 use Rattle.logbook.specs.Pages.{Cell, Step, View, Book, Named}
 use Rattle.nm_commit.specs.declared.change.Commit.{Commit}

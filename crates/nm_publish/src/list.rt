@@ -1,5 +1,5 @@
 //! The list of what was published, which the proofs alone hold: a word says how many commits it has, and tokens
-//! without bytes say how far it was seen. `adding` makes it longer.
+//! without bytes say how far it was seen. `publication` makes it longer.
 
 use crate::event::Event;
 use logbook::{Gain, Opening, Plain, Play, Rule, Seen, Word};

@@ -1,7 +1,7 @@
 //! The rule over what is shown and over what each seat knows, for `seats`.
 
 use crate::list::Token;
-use crate::shelf::Shelf;
+use crate::slot::Slot;
 use atomic_table::{Join, Split};
 use crossbeam_utils::rule::{Outcome, Protocol};
 
@@ -13,7 +13,7 @@ pub struct Known {
 /// What is shown is the index after the commits of its list, and each seat knows a beginning of that list.
 pub struct Rule;
 
-impl Protocol<Shelf, Option<Known>> for Rule {
+impl Protocol<Slot, Option<Known>> for Rule {
     ghost use Rattle.std.specs.Prelude.{None};
     ghost use Rattle.nm_publish.specs.Rule.{Holds};
 
@@ -25,10 +25,10 @@ impl Protocol<Shelf, Option<Known>> for Rule {
 /// What a seat that enters or publishes knows afterwards: the list of what is then shown.
 pub struct Sees;
 
-impl Outcome<Shelf, Option<Known>> for Sees {
-    ghost use Rattle.nm_publish.specs.Rule.{IsSight};
+impl Outcome<Slot, Option<Known>> for Sees {
+    ghost use Rattle.nm_publish.specs.Rule.{IsObservation};
 
-    ghost then = { IsSight };
+    ghost then = { IsObservation };
 }
 
 /// What the writer's seat knows, handed on to another.

@@ -1,4 +1,4 @@
-//! The seats of the writer and of the readers, and what each does there: `shower` and `reader` sit in them.
+//! The seats of the writer and of the readers, and what each does there: `publisher` and `reader` sit in them.
 
 ghost use Rattle.std.specs.Prelude.{◌≡◌, ◌<◌, [], ◌∷◌, None, Some, drop, IfOk, IfSome, IsTrue, length};
 ghost use Rattle.std.specs.Arc.{arc_value};
@@ -7,11 +7,11 @@ ghost use Rattle.nm_publish.specs.List.{index_at};
 ghost use Rattle.nm_publish.specs.Published.{index_of};
 ghost use Rattle.nm_publish.specs.Rule.{Follows, KnowsOf};
 
-use crate::halt::halt;
+use crate::block::block_forever;
 use crate::list::Token;
 use crate::rule::{Known, Notes, Rule, Sees};
-use crate::shelf::{Next, Shelf};
 use crate::shown::Shown;
+use crate::slot::{Next, Slot};
 use core::mem;
 use left_right::{reader, writer};
 use nm_base::NoMemory;
@@ -20,10 +20,10 @@ use std::alloc::Global;
 use std::sync::{Arc, Wait};
 
 /// A reader's seat.
-pub type ReaderSeat = reader::Reader<Shelf, Option<Known>, Rule>;
+pub type ReaderSeat = reader::Reader<Slot, Option<Known>, Rule>;
 
 /// The writer's seat, with both copies of what it shows.
-pub type WriterSeat = writer::Writer<Shelf, Next, Option<Known>, Rule>;
+pub type WriterSeat = writer::Writer<Slot, Next, Option<Known>, Rule>;
 
 /// Makes a reader's seat, which knows what the writer's does.
 pub fn another_seat(writer: &mut WriterSeat) -> Result<ReaderSeat, NoMemory>
@@ -53,8 +53,8 @@ pub fn writer_seat<R: Wait>(
     ensures shown { IfOk result (λ writer. writer.desk.shown.value.seen ≡ token.now) }
     ensures known { IfOk result (λ writer. view writer.desk.place ≡ Some (record { seen = token.now })) }
 {
-    let one = shelf_of(first, token)?;
-    let other = shelf_of(first, token)?;
+    let one = slot_of(first, token)?;
+    let other = slot_of(first, token)?;
     let next = Next {
         snap: copy_of(first)?,
         seen: token.again(),
@@ -68,11 +68,11 @@ pub fn writer_seat<R: Wait>(
     Ok(writer)
 }
 
-fn shelf_of(snap: &Arc<Snapshot, Global>, token: &Token) -> Result<Shelf, NoMemory>
-    ensures snap { IfOk result (λ shelf. arc_value shelf.snap ≡ arc_value snap.now) }
-    ensures seen { IfOk result (λ shelf. shelf.seen ≡ token.now) }
+fn slot_of(snap: &Arc<Snapshot, Global>, token: &Token) -> Result<Slot, NoMemory>
+    ensures snap { IfOk result (λ slot. arc_value slot.snap ≡ arc_value snap.now) }
+    ensures seen { IfOk result (λ slot. slot.seen ≡ token.now) }
 {
-    Ok(Shelf {
+    Ok(Slot {
         snap: copy_of(snap)?,
         seen: token.again(),
     })
@@ -105,7 +105,7 @@ pub fn turn<R: Wait>(rt: &R, writer: &mut WriterSeat, next: Next)
 {
     // There is room for the operation, and an `Arc` with another owner; the proofs don't know that.
     if !mem::replace_with(writer, (rt, next), publish) {
-        halt(rt);
+        block_forever(rt);
     }
 }
 
@@ -134,10 +134,10 @@ pub fn look(seat: ReaderSeat, known: &Shown) -> (ReaderSeat, Option<Found>)
 {
     match seat.enter_as::<Sees>() {
         Ok(reading) => {
-            let shelf = reading.get();
+            let slot = reading.get();
             let found = Found {
-                snap: copy_of(&shelf.snap),
-                shown: Shown::new(shelf.seen.again(), shelf.snap.revision()),
+                snap: copy_of(&slot.snap),
+                shown: Shown::new(slot.seen.again(), slot.snap.revision()),
             };
             (reading.leave(), Some(found))
         }

@@ -1,4 +1,4 @@
--- White space or the end after a text leaves what the text begins with as it is, wherever it stands.
+-- White space or the end after a text leaves what the text begins with as it is, wherever it is.
 -- For `LexemeLemmas`.
 use Rattle.std.proofs.Common.{◌≡◌, ℕ, zero, suc, ◌+◌, ◌<◌, ◌≤◌, Bool, true, false, cond, not, ◌&&◌, ◌==◌, List, [], ◌∷◌, ◌++◌, length, take, drop, refl, ap, ◌∙◌, arith, length-append}
 use Rattle.std.specs.Prelude.{Result, Ok, Err, nat_eq}
@@ -28,7 +28,7 @@ differs dark white d w = grind (arith, nat_tests)
 differs_too : (dark white : ℕ) → is_white_space dark ≡ false → not (is_white_space white) ≡ false → (white == dark) ≡ false
 differs_too dark white d w = grind (arith, nat_tests)
 
--- no such byte stands at the front of white space or the end
+-- no such byte is at the front of white space or the end
 pub begins-blank : (byte : ℕ) (blank : List ℕ) → is_white_space byte ≡ false → goes_on blank ≡ false → begins_with byte blank ≡ false
 begins-blank byte [] dark h = refl
 begins-blank byte (w ∷ more) dark h = differs_too byte w dark h

@@ -30,7 +30,7 @@ two_on b c more k = sym (get_or-drop 2 (b ∷ c ∷ more) k 0)
 one_on : (b c : ℕ) (more : List ℕ) (k : ℕ) → get_or (b ∷ c ∷ more) (1 + k) 0 ≡ get_or (c ∷ more) k 0
 one_on b c more k = sym (get_or-drop 1 (b ∷ c ∷ more) k 0)
 
--- a `"` stands where a quoted text ends
+-- a `"` is where a quoted text ends
 closing_quote : (n : ℕ) (text : List ℕ) → length text ≤ n → closing text < length text → get_or text (closing text) 0 ≡ 34
 closing_quote n [] most within = absurd (omega arith)
 closing_quote n (b ∷ []) most within =
@@ -83,7 +83,7 @@ run_cut ends text bytes at same place most =
 white_small : (b : ℕ) → not (is_white_space b) ≡ false → b < 128
 white_small b e = grind (arith, nat_tests)
 
--- one ASCII character stands at the front
+-- one ASCII character is at the front
 pub one_cut : (byte : ℕ) (text bytes : List ℕ) → byte < 128 → bytes ≡ text → begins_with byte bytes ≡ true → IsUtf8 text → CutsOff text 1
 one_cut byte text bytes low same begins u =
     let h = begins_long byte text (subst (λ x. begins_with byte x ≡ true) same begins) in
@@ -101,7 +101,7 @@ cut_after text rest prefix len off same long cut =
     let sum : prefix + (len - prefix) ≡ len = omega arith in
     (omega (arith, off.0), subst (IsCharBoundary text) sum (IsCharBoundary-from_rest text prefix (len - prefix) off.1.0 (subst (λ x. IsCharBoundary x (len - prefix)) same cut)))
 
--- white space stands at the front
+-- white space is at the front
 pub space_cut : (text bytes : List ℕ) → bytes ≡ text → goes_on bytes ≡ false → 0 < length text → IsUtf8 text → CutsOff text 1
 space_cut [] bytes same h some u = absurd (omega arith)
 space_cut (b ∷ more) bytes same h some u =

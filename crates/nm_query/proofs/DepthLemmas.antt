@@ -23,7 +23,7 @@ use Rattle.nm_query.proofs.AnswerLemmas.{answer-read}
 
 -- ---- depths
 
--- no negation waits in any of so many parentheses
+-- no negation waits in any of n parentheses
 abbrev zeros : ℕ → List ℕ
 zeros zero = []
 zeros (suc n) = 0 ∷ zeros n
@@ -50,7 +50,7 @@ deep_at n depth is few = grind (arith, nat_tests)
 abbrev all : ℕ → Placed
 all at = placed at (Term (other_item tree.All))
 
--- the tokens of `*` in so many parentheses
+-- the tokens of `*` in n pairs of parentheses
 abbrev pair_tokens : ℕ → ℕ → List Placed
 pair_tokens zero at = all at ∷ []
 pair_tokens (suc n) at = placed at Open ∷ (pair_tokens n (at + 1) ++ placed (at + (2 * n + 2)) Close ∷ [])

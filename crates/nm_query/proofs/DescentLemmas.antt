@@ -24,7 +24,7 @@ abbrev Closed : ℕ → List Placed → Type 0
 Closed zero tokens = Unit {0}
 Closed (suc opened) tokens = is_closed opened tokens ≡ true
 
--- no fault is told of the tokens
+-- no fault is reported of the tokens
 record Good (opened : ℕ) (before : Bool) (tokens : List Placed) : Type 0 where
   closed : Closed opened tokens
   matched : unmatched_from opened tokens ≡ None
@@ -338,7 +338,7 @@ mutual
       let least = more.fits in
       record { front = first.front ++ more.front; rest = more.rest; value = more.value; all = extend tokens first.front first.rest more.front more.rest first.all more.all; is = more.is; good = more.good; shorter = omega arith; stops = more.stops }
 
--- what the grammar reads in tokens of which no fault is told
+-- what the grammar reads in tokens of which no fault is reported
 record ReadQuery (tokens : List Placed) : Type 0 where
   query : Query
   is : IsQuery tokens query

@@ -1,4 +1,4 @@
--- Where the first `..` of a text stands. For the proofs of `before_dots` and `date_query`.
+-- Where the first `..` of a text is. For the proofs of `before_dots` and `date_query`.
 use Rattle.std.proofs.Common.{◌≡◌, ℕ, ◌+◌, ◌<◌, true, false, cond, List, [], ◌∷◌, length, drop, get_or, sym, ap, ◌∙◌, arith, length-drop}
 use Rattle.std.proofs.lemmas.Bool.Decides.{nat_tests}
 use Rattle.std.proofs.lemmas.List.{at_drop_more, get_or-drop}
@@ -7,7 +7,7 @@ use Rattle.std.specs.Prelude.{IsUtf8}
 use Rattle.std.proofs.lemmas.Str.{IsCharBoundary-after_ascii, IsCharBoundary-before_ascii}
 use Rattle.nm_query.specs.Terms.{before_dots, begins_with_dots}
 
--- where none stands at the front, the first one stands further on
+-- where none is at the front, the first one is further on
 pub dots_further : (text : List ℕ) (at : ℕ) → at < length text → begins_with_dots (drop at text) ≡ false → before_dots (drop at text) ≡ 1 + before_dots (drop (at + 1) text)
 dots_further text at within h =
     let rest : List ℕ = get_or text at 0 ∷ drop (at + 1) text in

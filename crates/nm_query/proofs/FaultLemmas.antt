@@ -1,4 +1,4 @@
--- Where a fault of structure is told beside queries. For the proof of `a_fault_of_structure_is_told_at_its_place`.
+-- Where a fault of structure is reported beside queries. For the proof of `a_fault_of_structure_is_told_at_its_place`.
 use Rattle.std.proofs.Common.{◌≡◌, ℕ, Bool, true, false, cond, not, List, [], ◌∷◌, ◌++◌, refl, sym, ap, ◌∙◌, arith}
 use Rattle.std.specs.Prelude.{Option, Some, None, nat_le}
 use Rattle.std.proofs.lemmas.Bool.Decides.{nat_tests}
@@ -13,7 +13,7 @@ use Rattle.nm_query.specs.declared.token.Placed.{Placed}
 use Rattle.nm_query.specs.declared.token.Token.TheVariants.{Binary, Close, Negation, Open}
 use Rattle.nm_query.proofs.StructureLemmas.{fine-or}
 
--- what a query before these tokens leaves to be told of them
+-- what a query before these tokens leaves to be reported of them
 matched-after : (first rest : List Placed) (query : Query) → IsQuery first query → unmatched_from 0 (first ++ rest) ≡ unmatched_from 0 rest
 matched-after first rest query nothing = refl
 matched-after first rest query (an_or tokens queries is) = (fine-or tokens queries is).matches 0 rest
@@ -22,7 +22,7 @@ lacking-after : (first rest : List Placed) (query : Query) → IsQuery first que
 lacking-after first rest query nothing same = refl
 lacking-after first rest query (an_or tokens queries is) same = (fine-or tokens queries is).lacks false rest ∙ same
 
--- a query closes no parenthesis before it, and nothing is told of it
+-- a query closes no parenthesis before it, and nothing is reported of it
 never-closes : (tokens : List Placed) (query : Query) → IsQuery tokens query → is_closed 0 tokens ≡ false
 never-closes tokens query nothing = refl
 never-closes tokens query (an_or tokens' queries is) = ap (is_closed 0) (sym (append-nil tokens')) ∙ (fine-or tokens' queries is).closes 0 []

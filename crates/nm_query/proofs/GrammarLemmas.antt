@@ -9,7 +9,7 @@ use Rattle.nm_query.specs.Levels.{after, blank, end_conjunction, end_exclusion, 
 use Rattle.nm_query.specs.declared.level.Level.{Level}
 use Rattle.nm_query.specs.declared.query.Query.{Query}
 use Rattle.nm_query.specs.declared.query.Query.TheVariants as tree
-use Rattle.nm_query.specs.declared.reading.Reading.{Reading}
+use Rattle.nm_query.specs.declared.tree_reader.Reading.{Reading}
 use Rattle.nm_query.specs.declared.token.Item.{Item}
 use Rattle.nm_query.specs.declared.token.Operator.TheVariants.{Conjunction, Disjunction, Exclusion}
 use Rattle.nm_query.specs.declared.token.Placed.{Placed}

@@ -11,7 +11,7 @@ use Rattle.nm_text.specs.Case.{same_ignoring_case}
 use Rattle.nm_query.specs.Grammar.{placed}
 use Rattle.nm_query.specs.Lexemes.{field_term, further_at, goes_on, lexeme_at, name_term, passed, quoted_term, run_lexeme, run_token, term_of, token_of, unfielded_at, unprefixed_at, word_at}
 use Rattle.nm_query.specs.Prefixes.{begins_what_is_not_here, field_prefix, folder_prefix, tag_prefix}
-use Rattle.nm_query.specs.Printing.{IsTerm, kind_of}
+use Rattle.nm_query.specs.PrintedTree.{IsTerm, kind_of}
 use Rattle.nm_query.specs.Terms.{before_dots, date_query, dates_of, ends_with, field_query, is_pattern, is_same_end, lacks_value, name_query, named_query, one_date, optional_end, other_item, path_query, range_query, run_query, said_query, second_place, takes_pattern, term_kind, thread_number, two_dates, with_from, without_last, words_query}
 use Rattle.nm_query.specs.Tokens.{after_token, before_tokens, followed, tokens_from}
 use Rattle.nm_query.specs.Values.{begins_with, ends_run, ends_value, quoted_value, value_at}

@@ -1,4 +1,4 @@
--- White space or the end after a text leaves its first lexeme as it is, wherever it stands. For `MoveLemmas`.
+-- White space or the end after a text leaves its first lexeme as it is, wherever it is. For `MoveLemmas`.
 use Rattle.std.proofs.Common.{◌≡◌, ℕ, ◌+◌, ◌≤◌, Bool, true, false, cond, not, ◌&&◌, ◌||◌, ◌==◌, List, [], ◌∷◌, ◌++◌, length, drop, refl, ap, ◌∙◌, arith}
 use Rattle.std.specs.Prelude.{Option, Some, None, Result, Ok, Err, codes}
 use Rattle.std.specs.List.{before_first, position_or_len}
@@ -25,7 +25,7 @@ use Rattle.nm_query.specs.declared.values.Value.{Value}
 use Rattle.nm_query.proofs.BlankLemmas.{before-blank, begins-blank, prefix-blank, prefix-long, quoted-blank, run_len-within, value-blank}
 use Rattle.nm_query.proofs.PlaceLemmas.{Keeps, keeps-field, keeps-name}
 
--- the one lexeme is read where the other is, and is no longer than so many bytes
+-- the one lexeme is read where the other is, and is no longer than n bytes
 abbrev pub Stays : ℕ → Result Lexeme QueryError → Result Lexeme QueryError → Type 0
 Stays most first second = (lexeme : Lexeme) → first ≡ Ok lexeme → (second ≡ Ok lexeme) × (lexeme.len ≤ most)
 
@@ -177,7 +177,7 @@ module _ (text blank : List ℕ) (h : goes_on blank ≡ false) where
       ∙ ap (λ v. folder_of (begins (codes "folder:") text) (begins (codes "path:") text) v (begins (codes "date:") (text ++ blank))) (prefix-blank (codes "mimetype:") text blank refl h)
       ∙ ap (λ v. folder_of (begins (codes "folder:") text) (begins (codes "path:") text) (begins (codes "mimetype:") text) v) (prefix-blank (codes "date:") text blank refl h)
 
--- a prefix that is found lies in the text
+-- a prefix that is found is in the text
 abbrev Lies : {A : Type 0} → (A → ℕ) → List ℕ → Option A → Type 0
 Lies {A} len text found = (prefix : A) → found ≡ Some prefix → len prefix ≤ length text
 

@@ -1,4 +1,4 @@
--- The tokens of a text that white space follows are those of the text and those of what follows, wherever they stand.
+-- The tokens of a text that white space follows are those of the text and those of what follows, wherever they are.
 -- For `PrintLemmas`.
 use Rattle.std.proofs.Common.{◌≡◌, ℕ, zero, suc, ◌+◌, ◌-◌, ◌≤◌, false, List, [], ◌∷◌, ◌++◌, length, refl, sym, ap, subst, ◌∙◌, arith}
 use Rattle.std.specs.Prelude.{Option, Some, None, Result, Ok, Err}
@@ -16,7 +16,7 @@ use Rattle.nm_query.specs.declared.token.Token.TheVariants.{Binary, Close, Open}
 use Rattle.nm_query.proofs.LexemeLemmas.{lexeme-stays}
 use Rattle.nm_query.proofs.TokenLemmas.{with_tokens}
 
--- the tokens, so many bytes further on
+-- the tokens, n bytes further on
 abbrev pub moved : ℕ → List Placed → List Placed
 moved by [] = []
 moved by (first ∷ more) = placed (first.at + by) first.token ∷ moved by more
@@ -76,7 +76,7 @@ tokens-follow (b ∷ text) by zero at place blank tokens h moves within read =
       | Err refusal ↦ λ here read. absurd (cc)
     ] refl read
 
--- the grammar reads tokens wherever they stand
+-- the grammar reads tokens wherever they are
 mutual
   operand-moved : (by : ℕ) (tokens : List Placed) (item : Item) → IsOperand tokens item → IsOperand (moved by tokens) item
   operand-moved by tokens item (a_term at item') = a_term (at + by) item'

@@ -6,7 +6,7 @@ use Rattle.std.proofs.lemmas.Bool.Decides.{nat_tests}
 use Rattle.std.proofs.Math.Seq.{drop-length}
 use Rattle.std.proofs.lemmas.List.{take_at}
 use Rattle.nm_query.specs.Lexemes.{lexeme_at, name_value_term, token_of}
-use Rattle.nm_query.specs.Printing.{IsTerm, doubled, in_quotes}
+use Rattle.nm_query.specs.PrintedTree.{IsTerm, doubled, in_quotes}
 use Rattle.nm_query.specs.Terms.{may_be_empty, name_query, named_query, term_kind}
 use Rattle.nm_query.specs.Tokens.{before_tokens, tokens_from}
 use Rattle.nm_query.specs.Values.{closing, quoted_value, undoubled}
@@ -27,7 +27,7 @@ use Rattle.nm_query.proofs.TokenLemmas.{lexeme_first}
 other : (b : ℕ) → (b == 34) ≡ false → b ≡ 34 → ⊥
 other b h same = absurd (grind (arith, nat_tests))
 
--- the quote that ends a quoted text stands after it
+-- the quote that ends a quoted text comes after it
 closing-doubled : (text : List ℕ) → closing (doubled text ++ 34 ∷ []) ≡ length (doubled text)
 closing-doubled [] = refl
 closing-doubled (b ∷ text) =

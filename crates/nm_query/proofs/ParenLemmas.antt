@@ -1,4 +1,4 @@
--- The first parenthesis without its fellow is told by the outermost one that is open. For the proof of `unmatched`.
+-- The first parenthesis without its fellow is reported by the outermost one that is open. For the proof of `unmatched`.
 use Rattle.std.proofs.Common.{◌≡◌, ℕ, zero, suc, Bool, true, false, cond, List, [], ◌∷◌, refl, sym, ap, ◌∙◌}
 use Rattle.std.specs.Prelude.{Option, Some, None}
 use Rattle.nm_query.specs.Faults.{closed_at, is_closed, unmatched_at, unmatched_from}
@@ -23,7 +23,7 @@ abbrev pub told_last : ℕ → ℕ → Option ℕ
 told_last zero outermost = None
 told_last (suc opened) outermost = Some outermost
 
--- the place that is told, where so many are open and the outermost of them stands there
+-- the place that is reported, where n are open and the outermost of them is there
 abbrev pub told : ℕ → ℕ → List Placed → Option ℕ
 told opened outermost [] = told_last opened outermost
 told opened outermost (placed ∷ more) = told_at opened outermost placed.at placed.token (λ opened outermost. told opened outermost more)
@@ -34,7 +34,7 @@ closes more opened = is_closed opened more
 abbrev tells : List Placed → ℕ → ℕ → Option ℕ
 tells more opened outermost = told opened outermost more
 
--- what is not closed is told by its outermost parenthesis
+-- what is not closed is reported by its outermost parenthesis
 not_closed : (tokens : List Placed) (opened outermost : ℕ) → is_closed opened tokens ≡ false → told (suc opened) outermost tokens ≡ Some outermost
 not_closed [] opened outermost h = refl
 not_closed (placed ∷ more) opened outermost h =
@@ -68,7 +68,7 @@ closes_innermost : (tokens : List Placed) (opened : ℕ) → is_closed opened to
 closes_innermost tokens zero h = h
 closes_innermost tokens (suc opened) h = closes_innermost tokens opened (closes_inner tokens opened h)
 
--- the first parenthesis without its fellow is told, where all that are open are closed
+-- the first parenthesis without its fellow is reported, where all that are open are closed
 told_first : (tokens : List Placed) → ((outermost : ℕ) → told 0 outermost tokens ≡ unmatched_from 0 tokens) × ((opened outermost : ℕ) → is_closed opened tokens ≡ true → told (suc opened) outermost tokens ≡ unmatched_from (suc opened) tokens)
 told_first [] = ((λ outermost. refl), (λ opened outermost h. absurd (cc)))
 told_first (placed ∷ more) =

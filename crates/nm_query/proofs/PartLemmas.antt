@@ -1,11 +1,11 @@
--- A group that was gone over for one kind of terms, joined again, has them in one Or at the place of the first.
+-- A group that was split for one kind of terms, joined again, has them in one Or at the place of the first.
 -- For the proof of `with_joined`.
 use Rattle.std.proofs.Common.{◌≡◌, ℕ, suc, arith, true, false, cond, not, List, [], ◌∷◌, ◌++◌, ◌==◌, length, map, filter, sym, ap, ◌∙◌, append_assoc}
 use Rattle.std.specs.Prelude.{fold}
 use Rattle.std.proofs.lemmas.Bool.Decides.{nat_tests}
 use Rattle.std.proofs.lemmas.List.{append-nil}
 use Rattle.nm_query.specs.Groups.{is_of, joined, others, queries_of, with_joined}
-use Rattle.nm_query.specs.Parting.{part, rejoined, unparted}
+use Rattle.nm_query.specs.GroupTerms.{part, rejoined, unparted}
 use Rattle.nm_query.specs.declared.group.Parted.{Parted}
 use Rattle.nm_query.specs.declared.query.Query.{Query}
 use Rattle.nm_query.specs.declared.token.Item.{Item}

@@ -10,7 +10,7 @@ use Rattle.nm_query.specs.Answers.{answer_of, structured, tokened}
 use Rattle.nm_query.specs.Grammar.{IsAnd, IsOperand, IsOr, IsQuery, IsXor, a_term, alone, an_or, enclosed, more_ands, more_groups, more_xors, negated, nothing, one_and, one_group, one_operand, one_xor, placed}
 use Rattle.nm_query.specs.Groups.{group_query, joined}
 use Rattle.nm_query.specs.Nesting.{is_too_deep}
-use Rattle.nm_query.specs.Printing.{IsPrinted, IsPrintedList, IsTerm, a_list, a_negation, IsReadOrPasses, a_term as term_printed, beside, in_parentheses, more_printed, one_printed, side_by_side, word_of}
+use Rattle.nm_query.specs.PrintedTree.{IsPrinted, IsPrintedList, IsTerm, a_list, a_negation, IsReadOrPasses, a_term as term_printed, beside, in_parentheses, more_printed, one_printed, side_by_side, word_of}
 use Rattle.nm_query.specs.Tokens.{tokens_from, tokens_of}
 use Rattle.nm_query.specs.declared.query.Query.{Query}
 use Rattle.nm_query.specs.declared.query.Query.TheVariants as tree
@@ -28,7 +28,7 @@ use Rattle.nm_query.proofs.TokenLemmas.{with_tokens}
 
 -- Tokens of a text that others follow.
 
--- the text, wherever it stands
+-- the text, wherever it is
 pub tokens-moved : (text : List ℕ) (at place by : ℕ) (tokens : List Placed) → place ≡ at + by → tokens_from 0 at text ≡ Ok tokens → tokens_from 0 place text ≡ Ok (moved by tokens)
 tokens-moved text at place by tokens moves read =
     sym (ap (tokens_from 0 place) (append-nil text)) ∙ tokens-follow text by 0 at place [] tokens refl moves (omega arith) read ∙ ap Ok (append-nil (moved by tokens))
@@ -151,7 +151,7 @@ list-moved Conjunction = and-moved 0
 list-moved Exclusion = xor-moved 0
 list-moved Disjunction = or-moved 0
 
--- a list as what stands in parentheses
+-- a list as what is in parentheses
 record Whole (tokens : List Placed) (query : Query) : Type 0 where
   queries : List Query
   is : IsOr tokens queries
@@ -167,7 +167,7 @@ word-read Conjunction at = refl
 word-read Exclusion at = refl
 word-read Disjunction at = refl
 
--- a printed tree is an operand, wherever it stands
+-- a printed tree is an operand, wherever it is
 record Reads (text : List ℕ) (query : Query) (at : ℕ) : Type 0 where
   tokens : List Placed
   item : Item

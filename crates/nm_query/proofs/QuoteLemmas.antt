@@ -1,4 +1,4 @@
--- Quoted texts, byte by byte: what stands for their first byte, and that what they say is text.
+-- Quoted texts, byte by byte: what represents their first byte, and that what they say is text.
 -- For the proofs of `said_len`, `doubled_len` and `undoubled`.
 use Rattle.std.proofs.Common.{◌≡◌, ℕ, zero, suc, ◌+◌, ◌<◌, ◌≤◌, true, false, cond, ◌&&◌, ◌==◌, List, [], ◌∷◌, ◌++◌, length, take, drop, get_or, refl, sym, ap, subst, ◌∙◌, arith, append_assoc}
 use Rattle.std.specs.Prelude.{IsUtf8}
@@ -52,7 +52,7 @@ undoubled_one (b ∷ c ∷ more) some single =
       | false ↦ λ h. refl
     ] refl
 
--- what stands before an ASCII character is text, and what stands after it
+-- what comes before an ASCII character is text, and what comes after it
 pub split_ascii : (xs ys : List ℕ) (b : ℕ) → b < 128 → IsUtf8 (xs ++ b ∷ ys) → IsUtf8 xs × IsUtf8 ys
 split_ascii xs ys b small u =
     let at : get_or (xs ++ b ∷ ys) (length xs) 0 ≡ b = get_or_at xs b ys 0 (length xs) refl in

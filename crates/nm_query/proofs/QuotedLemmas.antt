@@ -5,7 +5,7 @@ use Rattle.std.proofs.lemmas.Bool.Decides.{nat_tests}
 use Rattle.nm_base.specs.declared.facts.Field.{Field}
 use Rattle.nm_base.specs.declared.facts.Field.TheVariants as field
 use Rattle.nm_query.specs.Lexemes.{field_value_term, lexeme_at, quoted_term, token_of}
-use Rattle.nm_query.specs.Printing.{IsTerm, doubled, in_quotes}
+use Rattle.nm_query.specs.PrintedTree.{IsTerm, doubled, in_quotes}
 use Rattle.nm_query.specs.Terms.{field_query, is_pattern, other_item, takes_pattern, words_query}
 use Rattle.nm_query.specs.Values.{quoted_value}
 use Rattle.nm_query.specs.declared.prefixes.FieldPrefix.{FieldPrefix}

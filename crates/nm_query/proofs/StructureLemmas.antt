@@ -10,7 +10,7 @@ use Rattle.nm_query.specs.declared.token.Operator.{Operator}
 use Rattle.nm_query.specs.declared.token.Placed.{Placed}
 use Rattle.nm_query.specs.declared.token.Token.TheVariants.{Binary, Close, Negation, Open, Term}
 
--- these tokens are an operand: what is told of them and others after them is told of the others alone
+-- these tokens are an operand: what is reported of them and others after them is reported of the others alone
 pub record Fine (tokens : List Placed) : Type 0 where
   pub closes : (opened : ℕ) (rest : List Placed) → is_closed opened (tokens ++ rest) ≡ is_closed opened rest
   pub matches : (opened : ℕ) (rest : List Placed) → unmatched_from opened (tokens ++ rest) ≡ unmatched_from opened rest

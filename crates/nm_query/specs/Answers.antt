@@ -1,4 +1,4 @@
--- What a text is as a query: a tree, or the one refusal. Cited by `parsing`, `nm_core`, `nm_top` and others.
+-- What a text is as a query: a tree, or the one refusal. Cited by `parser`, `nm_core`, `nm_top` and others.
 use Rattle.std.specs.Prelude.{◌≡◌, ℕ, ◌≤◌, false, List, length, nat_lt, Some, None, Result, Ok, Err, if◌then◌else◌}
 use Rattle.nm_base.specs.Limits.{max_query_bytes}
 use Rattle.nm_base.specs.declared.limit.Limit.TheVariants.{QueryBytes, QueryDepth}
@@ -16,7 +16,7 @@ use Rattle.nm_query.specs.declared.token.Placed.{Placed}
 abbrev pub structured : List Placed → Result Query QueryError
 structured tokens = elim (structure_fault tokens) [ None ↦ Ok (tree_of tokens) | Some fault ↦ Err fault ]
 
--- depth is told before structure
+-- depth is reported before structure
 abbrev pub nested : List Placed → Result Query QueryError
 nested tokens = if is_too_deep tokens then Err (Limit QueryDepth) else structured tokens
 

@@ -17,7 +17,7 @@ closed_at opened Negation after = after opened
 closed_at opened (Binary operator) after = after opened
 closed_at opened (Term item) after = after opened
 
--- a `)` stands in these tokens that closes a `(` before them, in which so many others are open
+-- a `)` is in these tokens that closes a `(` before them, in which n others are open
 abbrev pub is_closed : ℕ → List Placed → Bool
 is_closed opened [] = false
 is_closed opened (placed ∷ more) = closed_at opened placed.token (λ opened. is_closed opened more)
@@ -31,7 +31,7 @@ unmatched_at opened at Negation closed after = after opened
 unmatched_at opened at (Binary operator) closed after = after opened
 unmatched_at opened at (Term item) closed after = after opened
 
--- the first parenthesis without its fellow, where so many are open
+-- the first parenthesis without its fellow, where n are open
 abbrev pub unmatched_from : ℕ → List Placed → Option ℕ
 unmatched_from opened [] = None
 unmatched_from opened (placed ∷ more) = unmatched_at opened placed.at placed.token (is_closed 0 more) (λ opened. unmatched_from opened more)

@@ -1,4 +1,4 @@
--- Lists of queries that an operator joins, and the queries of a group, which stand side by side.
+-- Lists of queries that an operator joins, and the queries of a group, which are side by side.
 -- Cited by `group` and `joined`.
 use Rattle.std.specs.Prelude.{ℕ, Bool, ◌==◌, not, List, [], ◌∷◌, filter, map, if◌then◌else◌}
 use Rattle.nm_query.specs.declared.query.Query.{Query}
@@ -58,6 +58,6 @@ grouped items = with_joined joins.Path (with_joined joins.Folder (with_joined jo
 abbrev pub query_of : Item → Query
 query_of item = item.query
 
--- what a group asks: all that stands in it
+-- what a group asks: all that is in it
 abbrev pub group_query : List Item → Query
 group_query items = joined Conjunction (map query_of (grouped items))

@@ -1,11 +1,11 @@
 -- The tree of a list of tokens, read from the left: a level for each parenthesis that is open.
--- Cited by `level` and `reading`.
+-- Cited by `level` and `tree_reader`.
 use Rattle.std.specs.Prelude.{ℕ, zero, suc, ◌+◌, ◌==◌, List, [], ◌∷◌, ◌++◌, fold, if◌then◌else◌}
 use Rattle.nm_query.specs.Groups.{group_query, joined}
 use Rattle.nm_query.specs.declared.level.Level.{Level}
 use Rattle.nm_query.specs.declared.query.Query.{Query}
 use Rattle.nm_query.specs.declared.query.Query.TheVariants as tree
-use Rattle.nm_query.specs.declared.reading.Reading.{Reading}
+use Rattle.nm_query.specs.declared.tree_reader.Reading.{Reading}
 use Rattle.nm_query.specs.declared.token.Item.{Item}
 use Rattle.nm_query.specs.declared.token.Operator.{Operator}
 use Rattle.nm_query.specs.declared.token.Operator.TheVariants.{Conjunction, Disjunction, Exclusion}
@@ -18,7 +18,7 @@ use Rattle.nm_query.specs.declared.token.Token.TheVariants.{Binary, Close, Negat
 abbrev pub blank : Level
 blank = record { disjuncts = []; exclusives = []; conjuncts = []; items = []; negations = 0 }
 
--- negated so many times
+-- negated n times
 abbrev pub negated : ℕ → Query → Query
 negated zero query = query
 negated (suc n) query = negated n (tree.Not query)

@@ -22,39 +22,39 @@ use Rattle.nm_query.specs.declared.token.Token.{Token}
 use Rattle.nm_query.specs.declared.token.Token.TheVariants.{Binary, Close, Negation, Open, Term}
 use Rattle.nm_query.specs.declared.values.Value.{Value}
 
--- so many bytes that are no token
+-- n bytes that are no token
 abbrev pub passed : ℕ → Lexeme
 passed len = record { token = None; len = len }
 
--- a token of so many bytes
+-- a token of n bytes
 abbrev pub token_of : Token → ℕ → Lexeme
 token_of token len = record { token = Some token; len = len }
 
--- a term of so many bytes, or why it is none
+-- a term of n bytes, or why it is none
 abbrev pub term_of : TermKind → ℕ → Result Query QueryError → Result Lexeme QueryError
 term_of kind len query = elim query [ Ok query ↦ Ok (token_of (Term (record { kind = kind; query = query })) len) | Err refusal ↦ Err refusal ]
 
--- a term of a field whose prefix has so many bytes
+-- a term of a field whose prefix has n bytes
 abbrev pub field_value_term : ℕ → FieldPrefix → Result Value QueryError → Result Lexeme QueryError
 field_value_term at prefix value = elim value [
   | Ok value ↦ term_of joins.Other (prefix.len + value.len) (field_query at (at + prefix.len) prefix.field value)
   | Err refusal ↦ Err refusal
 ]
 
--- the term of a field at this place, by its prefix and what stands after that
+-- the term of a field at this place, by its prefix and what comes after that
 abbrev pub field_term : ℕ → FieldPrefix → List ℕ → Result Lexeme QueryError
 field_term at prefix text =
     if begins_with 40 text then Err (BadQuery at kind.NotHere)
     else field_value_term at prefix (value_at ends_run (at + prefix.len) text)
 
--- a term of a name whose prefix has so many bytes
+-- a term of a name whose prefix has n bytes
 abbrev pub name_value_term : ℕ → NamePrefix → Result Value QueryError → Result Lexeme QueryError
 name_value_term at prefix value = elim value [
   | Ok value ↦ term_of (term_kind prefix.name) (prefix.len + value.len) (name_query at (at + prefix.len) prefix.name value)
   | Err refusal ↦ Err refusal
 ]
 
--- the term of a name at this place, by its prefix and what stands after that
+-- the term of a name at this place, by its prefix and what comes after that
 abbrev pub name_term : ℕ → NamePrefix → List ℕ → Result Lexeme QueryError
 name_term at prefix text = name_value_term at prefix (value_at ends_value (at + prefix.len) text)
 
@@ -104,7 +104,7 @@ word_at at text = elim (field_prefix text) [
   | None ↦ unfielded_at at text
 ]
 
--- a byte that is no white space stands at the front
+-- a byte that is no white space is at the front
 abbrev pub goes_on : List ℕ → Bool
 goes_on [] = false
 goes_on (b ∷ more) = not (is_white_space b)

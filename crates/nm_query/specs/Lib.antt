@@ -1,13 +1,13 @@
 pub mod Answers
 pub mod Faults
 pub mod Grammar
+pub mod GroupTerms
 pub mod Groups
 pub mod Levels
 pub mod Lexemes
 pub mod Nesting
-pub mod Parting
 pub mod Prefixes
-pub mod Printing
+pub mod PrintedTree
 pub mod Samples
 pub mod Terms
 pub mod Tokens

@@ -21,7 +21,7 @@ field_prefix text =
     else (if begins (codes "attachment:") text then Some (record { field = field.Attachment; len = 11 })
     else None))))
 
--- a name whose value is taken as it stands, the first half of them
+-- a name whose value is taken as it is, the first half of them
 abbrev pub tag_prefix : List ℕ → Option NamePrefix
 tag_prefix text =
     if begins (codes "tag:") text then Some (record { name = name.Tag; len = 4 })
@@ -44,6 +44,6 @@ folder_prefix text =
 abbrev pub begins_what_is_not_here : List ℕ → Bool
 begins_what_is_not_here text = begins (codes "lastmod:") text || begins (codes "query:") text || begins (codes "property:") text
 
--- a character ends after so many bytes, which are some
+-- a character ends after n bytes, which are some
 abbrev pub CutsOff : List ℕ → ℕ → Type 0
 CutsOff text len = (0 < len) × IsCharBoundary text len

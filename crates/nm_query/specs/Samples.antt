@@ -1,4 +1,4 @@
--- Texts that laws are told by: `*` in parentheses and after signs, and terms of words. Cited by `token_laws`.
+-- Texts by which laws are stated: `*` in parentheses and after signs, and terms of words. Cited by `token_laws`.
 use Rattle.std.specs.Prelude.{ℕ, zero, suc, ◌+◌, true, false, List, [], ◌∷◌, ◌++◌, Option}
 use Rattle.nm_base.specs.declared.facts.Field.{Field}
 use Rattle.nm_query.specs.Grammar.{placed}
@@ -10,12 +10,12 @@ use Rattle.nm_query.specs.declared.token.Token.{Token}
 use Rattle.nm_query.specs.declared.token.Token.TheVariants.{Term}
 use Rattle.nm_words.specs.Words.{words_of}
 
--- `*` in so many pairs of parentheses
+-- `*` in n pairs of parentheses
 abbrev pub in_pairs : ℕ → List ℕ
 in_pairs zero = 42 ∷ []
 in_pairs (suc n) = 40 ∷ (in_pairs n ++ 41 ∷ [])
 
--- `*` after so many `-`
+-- `*` after n `-`
 abbrev pub after_signs : ℕ → List ℕ
 after_signs zero = 42 ∷ []
 after_signs (suc n) = 45 ∷ after_signs n
@@ -33,6 +33,6 @@ words_term field text = Term (other_item (tree.Words field (words_of text) false
 abbrev pub front_term : Option Field → List ℕ → Token
 front_term field text = Term (other_item (tree.Words field (words_of text) true))
 
--- a token so many bytes further on
+-- a token n bytes further on
 abbrev pub further : ℕ → Placed → Placed
 further by token = placed (token.at + by) token.token

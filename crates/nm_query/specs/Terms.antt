@@ -27,7 +27,7 @@ ends_with b text = nat_lt 0 (length text) && slice_index text (length text - 1) 
 abbrev pub without_last : List ℕ → List ℕ
 without_last text = take (length text - 1) text
 
--- the words of a text, as they stand
+-- the words of a text, as they are
 abbrev pub words_query : Option Field → List ℕ → Query
 words_query field text = tree.Words field (words_of text) false
 
@@ -39,7 +39,7 @@ run_query field run = if ends_with 42 run then tree.Words field (words_of (witho
 abbrev pub is_pattern : List ℕ → Bool
 is_pattern text = nat_le 2 (length text) && slice_index text 0 == 47 && ends_with 47 text
 
--- the fields that a pattern may stand in
+-- the fields that a pattern may be in
 abbrev pub takes_pattern : Field → Bool
 takes_pattern field.From = true
 takes_pattern field.To = false
@@ -85,13 +85,13 @@ path_query text =
     else (if nat_le 3 (length text) && bytes_eq (drop (length text - 3) text) (codes "/**") then tree.Path (take (length text - 3) text) true
     else tree.Path text false)
 
--- `..` stands at the front
+-- `..` is at the front
 abbrev pub begins_with_dots : List ℕ → Bool
 begins_with_dots [] = false
 begins_with_dots (b ∷ []) = false
 begins_with_dots (b ∷ c ∷ more) = b == 46 && c == 46
 
--- how many bytes stand before the first `..`; all of them where none does
+-- how many bytes come before the first `..`; all of them where none does
 abbrev pub before_dots : List ℕ → ℕ
 before_dots [] = 0
 before_dots (b ∷ more) = if begins_with_dots (b ∷ more) then 0 else 1 + before_dots more
@@ -100,11 +100,11 @@ before_dots (b ∷ more) = if begins_with_dots (b ∷ more) then 0 else 1 + befo
 abbrev pub dates_of : Option End → Option End → Query
 dates_of from to = tree.Dates from to
 
--- the end that stands there
+-- the end that is there
 abbrev pub end_at : ℕ → List ℕ → Result End QueryError
 end_at at text = elim (end_of text) [ Some end ↦ Ok end | None ↦ Err (BadDate at) ]
 
--- the end that stands there, if one does
+-- the end that is there, if one does
 abbrev pub optional_end : ℕ → List ℕ → Result (Option End) QueryError
 optional_end at text = if length text == 0 then Ok None else elim (end_at at text) [ Ok end ↦ Ok (Some end) | Err refusal ↦ Err refusal ]
 
@@ -124,7 +124,7 @@ two_dates at from at_to to = elim (optional_end at from) [ Ok end ↦ with_from 
 abbrev pub second_place : ℕ → Bool → ℕ → ℕ
 second_place from quoted dots = if quoted then from else from + dots + 2
 
--- `!` after an end stands for that end
+-- `!` after an end represents that end
 abbrev pub is_same_end : List ℕ → List ℕ → Bool
 is_same_end from to = nat_lt 0 (length from) && bytes_eq to (codes "!")
 
@@ -172,7 +172,7 @@ may_be_empty name.Path = true
 may_be_empty name.Mime = false
 may_be_empty name.Date = false
 
--- nothing that may stand as a value: an empty one, but for a quoted one of a folder
+-- nothing that may be a value: an empty one, but for a quoted one of a folder
 abbrev pub lacks_value : Name → Value → Bool
 lacks_value name value = length value.said == 0 && not (value.quoted && may_be_empty name)
 

@@ -19,7 +19,7 @@ before_tokens at lexeme tokens = elim tokens [ Ok tokens ↦ Ok (after_token at 
 abbrev pub followed : ℕ → Result Lexeme QueryError → (ℕ → Result (List Placed) QueryError) → Result (List Placed) QueryError
 followed at lexeme after = elim lexeme [ Ok lexeme ↦ before_tokens at lexeme (after lexeme.len) | Err refusal ↦ Err refusal ]
 
--- the tokens of a text that stands at this place, where so many of its bytes still belong to the lexeme before
+-- the tokens of a text that is at this place, where n of its bytes still belong to the lexeme before
 abbrev pub tokens_from : ℕ → ℕ → List ℕ → Result (List Placed) QueryError
 tokens_from inside at [] = Ok []
 tokens_from (suc inside) at (b ∷ more) = tokens_from inside (at + 1) more

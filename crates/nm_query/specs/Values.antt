@@ -22,12 +22,12 @@ abbrev pub ends_of : Ends → ℕ → Bool
 ends_of Run = ends_run
 ends_of Name = ends_value
 
--- this byte stands at the front
+-- this byte is at the front
 abbrev pub begins_with : ℕ → List ℕ → Bool
 begins_with byte [] = false
 begins_with byte (first ∷ more) = first == byte
 
--- how many bytes stand before the `"` that ends a quoted text, which is the first that isn't doubled; all of them where none does
+-- how many bytes come before the `"` that ends a quoted text, which is the first that isn't doubled; all of them where none does
 abbrev pub closing : List ℕ → ℕ
 closing [] = 0
 closing (b ∷ []) = if b == 34 then 0 else 1
@@ -39,7 +39,7 @@ undoubled [] = []
 undoubled (b ∷ []) = b ∷ []
 undoubled (b ∷ c ∷ more) = if b == 34 && c == 34 then b ∷ undoubled more else b ∷ undoubled (c ∷ more)
 
--- the quoted text that begins at this place, by what stands after its `"`
+-- the quoted text that begins at this place, by what comes after its `"`
 abbrev pub quoted_value : ℕ → List ℕ → Result Value QueryError
 quoted_value at text =
     if closing text == length text then Err (BadQuery at Quote)

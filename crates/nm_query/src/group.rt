@@ -1,8 +1,8 @@
-//! The queries that stand side by side: terms of one kind are joined by Or, and all of them by And, for `level`.
+//! The queries that are side by side: terms of one kind are joined by Or, and all of them by And, for `level`.
 
 ghost use Rattle.std.specs.Prelude.{◌≡◌, IfOk, OnOk, fold, map};
 ghost use Rattle.nm_query.specs.Groups.{group_query, grouped, is_of, kind_number, queries_of, query_of, with_joined};
-ghost use Rattle.nm_query.specs.Parting.{part, rejoined, unparted};
+ghost use Rattle.nm_query.specs.GroupTerms.{part, rejoined, unparted};
 
 use crate::Query;
 use crate::joined::joined;
@@ -40,8 +40,8 @@ fn grouped(alloc: Global, items: Many<Item>) -> Result<Many<Item>, NoMemory>
     with_joined(alloc, TermKind::Path, items)
 }
 
-/// A group as one kind of terms parts it: what stands before the first of them, these terms, and what else
-/// stands after it.
+/// A group as one kind of terms parts it: what comes before the first of them, these terms, and what else comes after
+/// it.
 #[derive(Drop)]
 pub(crate) struct Parted {
     pub before: Many<Item>,

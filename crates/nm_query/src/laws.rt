@@ -6,7 +6,7 @@ ghost use Rattle.nm_query.specs.Answers.{IsRead, answer_of};
 ghost use Rattle.nm_query.specs.Faults.{structure_fault};
 ghost use Rattle.nm_query.specs.Grammar.{IsQuery};
 ghost use Rattle.nm_query.specs.Levels.{tree_of};
-ghost use Rattle.nm_query.specs.Printing.{IsPrinted, IsReadOrPasses, IsTerm, beside, in_parentheses, in_quotes, kind_of, side_by_side};
+ghost use Rattle.nm_query.specs.PrintedTree.{IsPrinted, IsReadOrPasses, IsTerm, beside, in_parentheses, in_quotes, kind_of, side_by_side};
 ghost use Rattle.nm_query.specs.Tokens.{tokens_of};
 ghost use Rattle.nm_query.specs.declared.query.Query.{Query};
 ghost use Rattle.nm_query.specs.declared.query.Query.TheVariants as tree;
@@ -19,7 +19,7 @@ pub fn a_text_is_read_as_the_grammar_reads_it()
     ensures { (text : List ℕ) → (query : Query) → (answer_of text ≡ Ok query) ↔ IsRead text query }
 {}
 
-/// The grammar reads tokens exactly where no fault of structure is told of them, and reads their tree.
+/// The grammar reads tokens exactly where no fault of structure is reported of them, and reads their tree.
 pub fn tokens_without_a_fault_are_a_query()
     ensures tree { (tokens : List Placed) → (query : Query) → IsQuery tokens query → tree_of tokens ≡ query }
     ensures fault { (tokens : List Placed) → (query : Query) → IsQuery tokens query → structure_fault tokens ≡ None }

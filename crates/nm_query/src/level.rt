@@ -1,4 +1,4 @@
-//! What was read inside one parenthesis, or outside of all, for `reading`.
+//! What was read inside one parenthesis, or outside of all, for `tree_reader`.
 
 ghost use Rattle.std.specs.Prelude.{◌≡◌, ◌+◌, IfOk, OnOk};
 ghost use Rattle.nm_query.specs.Levels.{after_operator, blank, end_conjunction, end_exclusion, end_group, level_query, negated, operand, with_item};
@@ -49,7 +49,7 @@ impl Level {
         Ok(())
     }
 
-    /// A `not` or `-`. A text has fewer of them than the number can count: one more is told as out of memory.
+    /// A `not` or `-`. A text has fewer of them than the number can count: one more is reported as out of memory.
     pub fn negate(&mut self) -> Result<(), NoMemory>
         ensures { OnOk result (self.new ≡ record self.old { negations = self.old.negations + 1 }) }
     {

@@ -66,7 +66,7 @@ fn term_of(kind: TermKind, query: Query, len: usize) -> Lexeme
     token_of(Token::Term(Item { kind, query }), len)
 }
 
-/// Whether a byte that is no white space stands at the front.
+/// Whether a byte that is no white space is at the front.
 fn goes_on(text: &[u8]) -> bool
     ensures { result ≡ goes_on text.now }
 {
@@ -76,7 +76,7 @@ fn goes_on(text: &[u8]) -> bool
     }
 }
 
-/// A quoted text by itself, by what stands after its `"`.
+/// A quoted text by itself, by what comes after its `"`.
 fn quoted_term(alloc: Global, at: u32, text: &str) -> Result<Result<Lexeme, QueryError>, NoMemory>
     ensures value { IfOk result (λ lexeme. lexeme ≡ quoted_term (quoted_value at text.now)) }
     ensures cut { IfOk result (λ lexeme. IfOk lexeme (λ lexeme. (2 ≤ lexeme.len) × IsCharBoundary text.now (lexeme.len - 1))) }
@@ -168,7 +168,7 @@ fn not_here(at: u32) -> Result<Lexeme, QueryError>
     })
 }
 
-/// The term of a field, by its prefix and what stands after that.
+/// The term of a field, by its prefix and what comes after that.
 fn field_term(
     alloc: Global,
     at: u32,
@@ -192,7 +192,7 @@ fn field_term(
     }
 }
 
-/// The term of a name, by its prefix and what stands after that.
+/// The term of a name, by its prefix and what comes after that.
 fn name_term(
     alloc: Global,
     at: u32,

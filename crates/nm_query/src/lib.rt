@@ -9,16 +9,16 @@ mod laws;
 mod level;
 mod lexeme;
 mod nesting;
-mod parsing;
+mod parser;
 mod prefixes;
 mod query;
 mod query_error;
-mod reading;
 mod stack;
 mod terms;
 mod token;
 mod token_laws;
 mod tokens;
+mod tree_reader;
 mod values;
 
 pub use laws::{
@@ -26,7 +26,7 @@ pub use laws::{
     a_text_is_read_as_the_grammar_reads_it, parentheses_change_nothing,
     tokens_without_a_fault_are_a_query, two_terms_of_a_kind_are_joined_by_or,
 };
-pub use parsing::parse;
+pub use parser::parse;
 pub use query::Query;
 pub use query_error::{QueryError, QueryKind};
 pub use token_laws::{

@@ -33,7 +33,7 @@ pub(crate) struct NamePrefix {
     pub len: usize,
 }
 
-/// What stands after the front, where the text begins with that.
+/// What comes after the front, where the text begins with that.
 fn after<'a>(text: &'a str, front: &str) -> Option<&'a str>
     requires { 0 < length front.now }
     ensures { MatchOption result (begins front.now text.now ≡ false)
@@ -45,7 +45,7 @@ fn after<'a>(text: &'a str, front: &str) -> Option<&'a str>
     Some(&text[front.len()..])
 }
 
-/// The field with whose prefix the text begins, and what stands after that.
+/// The field with whose prefix the text begins, and what comes after that.
 pub(crate) fn field_prefix(text: &str) -> Option<(FieldPrefix, &str)>
     ensures { MatchOption result (field_prefix text.now ≡ None)
         (λ found. (field_prefix text.now ≡ Some found.0) × (found.1.now ≡ drop found.0.len text.now) × CutsOff text.now found.0.len) }
@@ -98,7 +98,7 @@ pub(crate) fn field_prefix(text: &str) -> Option<(FieldPrefix, &str)>
     None
 }
 
-/// The tag, id or thread with whose prefix the text begins, and what stands after that.
+/// The tag, id or thread with whose prefix the text begins, and what comes after that.
 pub(crate) fn tag_prefix(text: &str) -> Option<(NamePrefix, &str)>
     ensures { MatchOption result (tag_prefix text.now ≡ None)
         (λ found. (tag_prefix text.now ≡ Some found.0) × (found.1.now ≡ drop found.0.len text.now) × CutsOff text.now found.0.len) }
@@ -151,7 +151,7 @@ pub(crate) fn tag_prefix(text: &str) -> Option<(NamePrefix, &str)>
     None
 }
 
-/// The folder, path, type or date with whose prefix the text begins, and what stands after that.
+/// The folder, path, type or date with whose prefix the text begins, and what comes after that.
 pub(crate) fn folder_prefix(text: &str) -> Option<(NamePrefix, &str)>
     ensures { MatchOption result (folder_prefix text.now ≡ None)
         (λ found. (folder_prefix text.now ≡ Some found.0) × (found.1.now ≡ drop found.0.len text.now) × CutsOff text.now found.0.len) }

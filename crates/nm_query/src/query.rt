@@ -11,8 +11,8 @@ use std::alloc::Global;
 pub enum Query {
     /// Every message.
     All,
-    /// These words one behind the other in one list of the field, or of any field. The last is the front of a
-    /// word where `starts` is set. No words are in every message.
+    /// These words one after the other in one list of the field, or of any field. The last is the front of a word where
+    /// `starts` is set. No words are in every message.
     Words {
         field: Option<Field>,
         words: WordList,
@@ -24,7 +24,7 @@ pub enum Query {
     Thread(Option<u64>),
     /// A Maildir, by the path of its folder.
     Folder(Text),
-    /// A folder, and with `deep` all that lies below.
+    /// A folder, and with `deep` all that is below.
     Path {
         dir: Text,
         deep: bool,

@@ -1,4 +1,4 @@
-//! A list that grows at its front: the levels of parentheses stand in one, for `reading` and `nesting`.
+//! A list that grows at its front: the levels of parentheses are in one, for `tree_reader` and `nesting`.
 
 ghost use Rattle.std.specs.Prelude.{◌≡◌, [], ◌∷◌, MatchOption, OnOk};
 

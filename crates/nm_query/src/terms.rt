@@ -80,7 +80,7 @@ fn said_query(alloc: Global, field: Option<Field>, value: &Value) -> Result<Quer
     run_query(alloc, field, value.said.as_str())
 }
 
-/// The words of a text, as they stand.
+/// The words of a text, as they are.
 pub(crate) fn words_query(
     alloc: Global,
     field: Option<Field>,
@@ -254,7 +254,7 @@ fn folder_path_query(
     Ok(Ok(query))
 }
 
-/// A folder, and all below it where `**` or `/**` stands at the end.
+/// A folder, and all below it where `**` or `/**` is at the end.
 fn path_query(alloc: Global, text: &str) -> Result<Query, NoMemory>
     ensures { IfOk result (λ query. query ≡ path_query text.now) }
 {
@@ -297,7 +297,7 @@ fn second_place(from: u32, quoted: bool, dots: usize) -> u32
     from + dots as u32 + 2
 }
 
-/// How many bytes stand before the first `..`.
+/// How many bytes come before the first `..`.
 #[tactic(auto, using(crate::proofs::DotLemmas::dots_further, crate::proofs::DotLemmas::dots_here, crate::proofs::DotLemmas::dots_found))]
 fn before_dots(text: &[u8]) -> usize
     ensures place { result ≡ before_dots text.now }

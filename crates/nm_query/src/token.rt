@@ -1,4 +1,4 @@
-//! What the text of a query is made of: `tokens` cuts it into these, and `reading` takes them.
+//! What the text of a query is made of: `tokens` cuts it into these, and `tree_reader` takes them.
 
 use crate::Query;
 

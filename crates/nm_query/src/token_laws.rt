@@ -10,7 +10,7 @@ ghost use Rattle.nm_dates.specs.declared.end.End.TheVariants.{Year};
 ghost use Rattle.nm_query.specs.Answers.{answer_of};
 ghost use Rattle.nm_query.specs.Faults.{structure_fault};
 ghost use Rattle.nm_query.specs.Grammar.{IsQuery, placed};
-ghost use Rattle.nm_query.specs.Printing.{IsTerm, in_quotes};
+ghost use Rattle.nm_query.specs.PrintedTree.{IsTerm, in_quotes};
 ghost use Rattle.nm_query.specs.Samples.{after_signs, front_term, further, in_pairs, nots, words_term};
 ghost use Rattle.nm_query.specs.Terms.{is_pattern, other_item, words_query};
 ghost use Rattle.nm_query.specs.Tokens.{tokens_of};
@@ -36,8 +36,8 @@ pub fn depth_ends_at_64_levels()
     ensures too_many_signs { (n : ℕ) → 64 < n → n ≤ 65535 → answer_of (after_signs n) ≡ Err (Limit QueryDepth) }
 {}
 
-/// Between two queries a parenthesis without its fellow is told at its own place, and so are an operator and a `(` that
-/// lack what should be before or after them.
+/// Between two queries a parenthesis without its fellow is reported at its own place, and so are an operator and a `(`
+/// that lack what should be before or after them.
 pub fn a_fault_of_structure_is_told_at_its_place()
     ensures open { (at : ℕ) → (first second : List Placed) → (query other : Query) → IsQuery first query → IsQuery second other → structure_fault (first ++ placed at Open ∷ second) ≡ Some (BadQuery at kind.Paren) }
     ensures close { (at : ℕ) → (first second : List Placed) → (query other : Query) → IsQuery first query → IsQuery second other → structure_fault (first ++ placed at Close ∷ second) ≡ Some (BadQuery at kind.Paren) }
@@ -90,7 +90,8 @@ pub fn an_operator_is_a_word_in_any_case()
     ensures binding { answer_of (codes "tag:a or tag:b xor not tag:c and tag:d") ≡ Ok (tree.Or (tree.Tag (codes "a") ∷ tree.Xor (tree.Tag (codes "b") ∷ tree.And (tree.Not (tree.Tag (codes "c")) ∷ tree.Tag (codes "d") ∷ []) ∷ []) ∷ [])) }
 {}
 
-/// A refusal is told with the place of its cause; of the faults of tokens the least place, and else of those of structure.
+/// A refusal is reported with the place of its cause; of the faults of tokens the least place, and else of those of
+/// structure.
 pub fn a_refusal_is_told_at_its_cause()
     ensures quotes { (answer_of (codes "a \"b") ≡ Err (BadQuery 2 kind.Quote)) × (answer_of (codes "tag:\"b") ≡ Err (BadQuery 4 kind.Quote)) }
     ensures values { (answer_of (codes "a subject: b") ≡ Err (BadQuery 10 kind.Value)) × (answer_of (codes "tag:") ≡ Err (BadQuery 4 kind.Value)) × (answer_of (codes "id:\"\"") ≡ Err (BadQuery 3 kind.Value)) }

@@ -27,7 +27,7 @@ pub(crate) enum Ends {
     Name,
 }
 
-/// The value with which the text begins, which stands at this place.
+/// The value with which the text begins, which is at this place.
 pub(crate) fn read_value(
     alloc: Global,
     at: u32,
@@ -50,7 +50,7 @@ pub(crate) fn read_value(
     }))
 }
 
-/// Whether this byte stands at the front.
+/// Whether this byte is at the front.
 pub(crate) fn begins_with(byte: u8, text: &[u8]) -> bool
     ensures { result ≡ begins_with byte text.now }
 {
@@ -60,7 +60,7 @@ pub(crate) fn begins_with(byte: u8, text: &[u8]) -> bool
     }
 }
 
-/// How many bytes stand before the first that ends a value.
+/// How many bytes come before the first that ends a value.
 pub(crate) fn run_len(text: &[u8], ends: Ends) -> usize
     ensures len { result ≡ position_or_len (ends_of ends) text.now }
     ensures within { result ≤ length text.now }
@@ -84,7 +84,7 @@ fn is_end(byte: u8, ends: Ends) -> bool
     }
 }
 
-/// The quoted text whose `"` stands at this place, by what stands after that.
+/// The quoted text whose `"` is at this place, by what comes after that.
 pub(crate) fn read_quoted(
     alloc: Global,
     at: u32,
@@ -109,7 +109,7 @@ pub(crate) fn read_quoted(
     }))
 }
 
-/// How many bytes stand before the `"` that ends a quoted text: the first that is not doubled.
+/// How many bytes come before the `"` that ends a quoted text: the first that is not doubled.
 fn closing(text: &[u8]) -> usize
     ensures place { result ≡ closing text.now }
     ensures within { result ≤ length text.now }
@@ -161,7 +161,7 @@ fn undoubled_bytes(alloc: Global, text: &[u8]) -> Result<Vec<u8>, NoMemory>
     Ok(said)
 }
 
-/// How many bytes stand for the first one: two for `""`.
+/// How many bytes represent the first one: two for `""`.
 #[tactic(auto, using(crate::proofs::QuoteLemmas::undoubled_one, crate::proofs::QuoteLemmas::undoubled_two))]
 fn doubled_len(text: &[u8]) -> usize
     requires { 0 < length text.now }

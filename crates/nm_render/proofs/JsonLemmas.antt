@@ -19,7 +19,7 @@ escape_same (byte ∷ text) = ap (λ front. front ++ flat_map escape_byte text) 
 pub quoted_same : (text : List ℕ) → quoted text ≡ json_string text
 quoted_same text = ap (λ inside. 34 ∷ (inside ++ 34 ∷ [])) (escape_same text)
 
--- what stands behind the first value
+-- what comes after the first value
 after_first : (values : List Data) → List ℕ
 after_first values = items_text true (items_of values)
 

@@ -6,7 +6,7 @@ pub mod OnceLemmas
 pub mod OrderLemmas
 pub mod RankLemmas
 pub mod ShowLemmas
+pub mod ShowTextLemmas
 pub mod SubjectLemmas
 pub mod TagLemmas
-pub mod TellingLemmas
 pub mod Utf8Lemmas

@@ -16,7 +16,7 @@ use Rattle.nm_answer.specs.declared.summary.ThreadSummary.{ThreadSummary}
 use Rattle.nm_render.specs.SummaryData.{summary_data}
 use Rattle.nm_render.proofs.JsonLemmas.{array_same, no_depth, no_floats, quoted_same, strings_same}
 
--- values behind their names
+-- values after their names
 abbrev members_of : List (List ℕ × Data) → Members
 members_of [] = no_members
 members_of (named ∷ more) = member named.0 named.1 (members_of more)

@@ -8,7 +8,7 @@ use Rattle.std.proofs.lemmas.List.Sums.{fold-append}
 use Rattle.nm_answer.specs.Listing.{each_once, with_new}
 
 module _ {X : Type 0} (same : X → X → Bool) where
-  -- what stands so far stays at the front
+  -- what is so far stays at the front
   more_by : (once : List X) (item : X) (items : List X) (old : Bool) → ((one : List X) → (more : List X) × (fold (with_new same) one items ≡ one ++ more))
       → (more : List X) × (fold (with_new same) (if old then once else once ++ item ∷ []) items ≡ once ++ more)
   more_by once item items true rest = rest once
@@ -20,7 +20,7 @@ module _ {X : Type 0} (same : X → X → Bool) where
   at_front [] once = ([], sym (append-nil once))
   at_front (item ∷ items) once = more_by once item items (list_any (same item) once) (λ one. at_front items one)
 
-  -- of as many as are asked, what is gathered after so many items that there are as many
+  -- of as many as are asked, what is gathered after n items that there are as many
   pub enough : {Y : Type 0} (f : Y → Option X) (items : List Y) (i most : ℕ) (once : List X) → once ≡ each_once same (filter_map f (take i items)) → length once ≤ most → most ≤ length once
       → once ≡ take most (each_once same (filter_map f items))
   enough f items i most once is few many =

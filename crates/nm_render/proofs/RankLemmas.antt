@@ -119,7 +119,7 @@ module _ {X : Type 0} (rank : X → ℤ) (r : ℤ) where
 pub by_rank_is : {X : Type 0} (rank : X → ℤ) (items : List X) → IsByRank rank items (by_rank rank items)
 by_rank_is rank items = record { rising = rises_all rank [] items tt; same = λ r. same_all rank r [] items tt }
 
--- ---- items behind their ranks
+-- ---- items after their ranks
 
 module _ {X : Type 0} (rank : X → ℤ) where
   abbrev pub ranked : X → ℤ × X
@@ -145,6 +145,6 @@ module _ {X : Type 0} (rank : X → ℤ) where
   without_ranks [] = refl
   without_ranks (item ∷ items) = ap (λ more. item ∷ more) (without_ranks items)
 
-  -- sorted by the ranks that are told, they stand as by their own
+  -- sorted by the ranks that are known, they are in the order of their own
   pub told_by_rank : (items : List X) → map (λ (message : ℤ × X). message.1) (by_rank told_rank (map ranked items)) ≡ by_rank rank items
   told_by_rank items = ap (map (λ (message : ℤ × X). message.1)) (all_ranked [] items) ∙ without_ranks (by_rank rank items)

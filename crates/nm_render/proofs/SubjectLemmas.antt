@@ -36,7 +36,7 @@ unfolding without_replies
 no_more zero s is = refl
 no_more (suc n) s is = ap (λ b. if b then without_replies n (after_reply s) else s) is
 
--- texts that are joined: the first one, and each other behind what stands between
+-- texts that are joined: the first one, and each other after what is between
 pub joined-cons : (between first : List ℕ) (more : List (List ℕ)) → joined between (first ∷ more) ≡ first ++ after_first between more
 joined-cons between first [] = sym (append-nil first)
 joined-cons between first (next ∷ more) = ap (λ rest. first ++ (between ++ rest)) (joined-cons between next more) ∙ ap (λ rest. first ++ rest) (sym (append_assoc between next (after_first between more)))

@@ -48,7 +48,7 @@ all_chars (c ∷ cs) e =
 pub shown_utf8 : (text : List ℕ) → IsUtf8 text → IsUtf8 (shown text)
 shown_utf8 text u = subst (λ bytes. IsUtf8 (shown bytes)) u.1.1 (all_chars u.0 u.1.0)
 
--- ---- behind marks
+-- ---- after marks
 
 after_low : (x : ℕ) (xs : List ℕ) → x < 128 → IsUtf8 (x ∷ xs) → IsUtf8 xs
 after_low x xs low u = IsUtf8-drop (x ∷ xs) 1 u (IsCharBoundary-after_ascii (x ∷ xs) 0 u (omega arith) low)
@@ -62,7 +62,7 @@ white_low b is = elim (or_cases (b == 32 || b == 9 || b == 13) (b == 10) is) [
   | inr e ↦ omega (arith, eqb-true b 10 e)
 ]
 
--- the rest behind the white space at the front
+-- the rest after the white space at the front
 trimmed_utf8 : (text : List ℕ) → IsUtf8 text → IsUtf8 (trimmed_start text)
 trimmed_utf8 [] u = u
 trimmed_utf8 (x ∷ xs) u = by (is_white_space x) (λ is. trimmed_utf8 xs (after_low x xs (white_low x is) u)) refl where

@@ -2,6 +2,6 @@
 use Rattle.std.specs.Prelude.{ℕ, List, ◌++◌}
 use Rattle.std.specs.List.{flat_map}
 
--- each of the texts behind what stands between them
+-- each of the texts after what is between them
 abbrev pub after_first : List ℕ → List (List ℕ) → List ℕ
 after_first between texts = flat_map (λ text. between ++ text) texts

@@ -1,4 +1,4 @@
--- JSON replies as the library's own reader reads them. Cited by `items`, `printing`, `search` and others.
+-- JSON replies as the library's own reader reads them. Cited by `items`, `text_lists`, `search` and others.
 use Rattle.std.specs.Prelude.{◌≡◌, ℕ, List, [], ◌∷◌, ◌++◌, map, Some}
 use Rattle.serde_json.specs.Data.{Data, array, string}
 use Rattle.serde_json.specs.Read.{read}
@@ -15,7 +15,8 @@ use Rattle.nm_render.specs.SummaryData.{summary_data}
 abbrev pub ReadsBack : List Data → List ℕ → Type 0
 ReadsBack values text = (json : List ℕ) × (text ≡ json ++ 10 ∷ []) × (read json ≡ Some (array (items_of values)))
 
--- what a search tells of messages in order, as values: an object for each thread, or a string for each thread, message, file or tag
+-- what a search prints of messages in order, as values: an object for each thread, or a string for each thread, message, file or
+-- tag
 abbrev pub found_data : Output → SearchAsk → Base → List (List ℕ) → List Data
 found_data Summary ask index ids = map summary_data (map (summary_of index ids) (part_asked ask (threads_of index ids)))
 found_data Threads ask index ids = map string (map thread_digits (part_asked ask (threads_of index ids)))

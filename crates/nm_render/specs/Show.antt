@@ -6,7 +6,7 @@ use Rattle.nm_answer.specs.Show.{first_lost, gone_path, is_not_one}
 use Rattle.nm_render.specs.declared.show.ShowError.{ShowError}
 use Rattle.nm_render.specs.declared.show.ShowError.TheVariants.{NotOne, Gone, NoMemory}
 
--- the file with this path is gone
+-- the file with this path is missing
 abbrev pub IsGone : List ℕ → ShowError → Type 0
 IsGone path (NotOne found) = ⊥
 IsGone path (Gone told) = told ≡ path
@@ -18,7 +18,7 @@ IsIdsFault ask ids (NotOne found) = IsTrue (is_not_one ask ids) × (found ≡ le
 IsIdsFault ask ids (Gone path) = ⊥
 IsIdsFault ask ids NoMemory = ⊤
 
--- of what the folder gave: the file that raw form asks for is gone
+-- of what the folder gave: the file that raw form asks for is missing
 abbrev pub IsTextFault : ShowAsk → List Given → ShowError → Type 0
 IsTextFault ask given (NotOne found) = ⊥
 IsTextFault ask given (Gone path) = gone_path ask given ≡ Some path

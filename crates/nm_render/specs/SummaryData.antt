@@ -25,7 +25,7 @@ summary_data summary =
     (member (codes "total") (number (unsigned summary.total))
     no_members))))))))
 
--- members, and what is told of the mail of a thread
+-- members, and what is reported of the mail of a thread
 abbrev pub with_mail : ThreadSummary → Members → Members
 with_mail summary members =
     put (codes "thread") (string (thread_digits summary.thread))

@@ -111,7 +111,7 @@ fn author_of(
 ) -> Result<(u64, Text), NoMemory>
     ensures { IfOk result (λ told. told.1 ≡ author_of snapshot.now id.now) }
 {
-    let Some((next, mut files)) = snapshot.files_near(id, near) else {
+    let Some((next, mut files)) = snapshot.files_by_hint(id, near) else {
         return Ok((near, Text::new(alloc)));
     };
     let author = match files.next() {

@@ -1,5 +1,5 @@
-//! The body of a message as `show` tells it, for `message`: the texts that a read of its lead file found, or why
-//! there are none.
+//! The body of a message as `show` prints it, for `message`: the texts that a read of its lead file found, or why there
+//! are none.
 
 ghost use Rattle.std.specs.Prelude.{◌≡◌, ◌++◌, OnOk};
 ghost use Rattle.std.specs.List.{flat_map};

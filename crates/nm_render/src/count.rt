@@ -11,7 +11,7 @@ ghost use Rattle.nm_dates.specs.Seconds.{IsMoment};
 ghost use Rattle.nm_index.specs.Index.{rows_of};
 ghost use Rattle.nm_threads.specs.Name.{thread_name};
 
-use crate::trail::Trail;
+use crate::cursor::Cursor;
 use itoa::Buffer;
 use nm_base::{CountAsk, Many, MessageId, NoMemory, Output};
 use nm_eval::matches;
@@ -36,7 +36,7 @@ pub fn count_reply(
     count_text(alloc, snapshot, ids.as_slice(), ask.output)
 }
 
-/// The replies to a count for each of these queries, one behind the other.
+/// The replies to a count for each of these queries, one after the other.
 pub fn counts_reply(
     alloc: Global,
     snapshot: &Snapshot,
@@ -89,9 +89,9 @@ fn count_threads(alloc: Global, snapshot: &Snapshot, ids: &[MessageId]) -> Resul
     ensures { IfOk result (λ number. number ≡ length (thread_names snapshot.now ids.now)) }
 {
     let mut names = BTreeSet::new(alloc);
-    let mut trail = Trail::new();
+    let mut cursor = Cursor::new();
     'ids: for id in ids {
-        trail = add_thread(&mut names, snapshot, id, trail)?;
+        cursor = add_thread(&mut names, snapshot, id, cursor)?;
     }
     Ok(names.len() as u64)
 }
@@ -101,15 +101,15 @@ fn add_thread(
     names: &mut BTreeSet<u64>,
     snapshot: &Snapshot,
     id: &MessageId,
-    trail: Trail,
-) -> Result<Trail, NoMemory>
+    cursor: Cursor,
+) -> Result<Cursor, NoMemory>
     ensures { OnOk result (names.new.keys ≡ fold (insert_key nat_cmp) names.old.keys (filter_map (thread_name (rows_of snapshot.now) snapshot.now.entries) (id.now ∷ []))) }
 {
-    let (behind, thread) = snapshot.thread_near(id, trail.guess());
+    let (behind, thread) = snapshot.thread_by_hint(id, cursor.guess());
     if let Some(name) = thread {
         names.insert(name)?;
     }
-    Ok(trail.with(behind))
+    Ok(cursor.with(behind))
 }
 
 /// How many files the messages have. Those of the first one are looked for at `near` first.
@@ -131,7 +131,7 @@ pub(crate) fn count_files(
 }
 
 /// The number with the files of a message counted too, and where those of the next one are looked for first. More than a number
-/// tells finds no memory.
+/// can count finds no memory.
 fn add_files(
     before: u64,
     snapshot: &Snapshot,
@@ -140,7 +140,7 @@ fn add_files(
 ) -> Result<(u64, u64), NoMemory>
     ensures { IfOk result (λ told. told.0 ≡ before + length (files_of snapshot.now id.now)) }
 {
-    let Some((next, mut rest)) = snapshot.files_near(id, near) else {
+    let Some((next, mut rest)) = snapshot.files_by_hint(id, near) else {
         return Ok((before, near));
     };
     let mut number = before;

@@ -6,8 +6,8 @@ ghost use Rattle.nm_answer.specs.Summary.{in_thread};
 ghost use Rattle.nm_answer.specs.Test.{is_thread};
 ghost use Rattle.nm_render.specs.Groups.{listed};
 
+use crate::cursor::Cursor;
 use crate::lists::set_of;
-use crate::trail::Trail;
 use nm_base::{Copies, Many, MessageId, NoMemory, TextSet};
 use nm_state::Snapshot;
 use std::alloc::Global;
@@ -27,10 +27,10 @@ pub(crate) fn groups_of(
 {
     let set = set_of(alloc, names)?;
     let mut groups = BTreeMap::new(alloc);
-    let mut trail = Trail::new();
+    let mut cursor = Cursor::new();
     'ids: for id in ids {
-        let (behind, thread) = snapshot.thread_near(id, trail.guess());
-        trail = trail.with(behind);
+        let (behind, thread) = snapshot.thread_by_hint(id, cursor.guess());
+        cursor = cursor.with(behind);
         add_message(alloc, &mut groups, &set, thread, id)?;
     }
     Ok(groups)

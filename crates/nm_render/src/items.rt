@@ -6,12 +6,12 @@ ghost use Rattle.nm_answer.specs.Search.{part_asked, paths_of_all, tags_of_all, 
 ghost use Rattle.nm_render.specs.ReadBack.{ReadsBack};
 
 use crate::lists::{part_of, paths_of_all, tags_of_all, threads_asked};
-use crate::printing::texts_printed;
+use crate::text_lists::texts_printed;
 use nm_base::{Copies, Many, MessageId, NoMemory, SearchAsk, Tag, Text};
 use nm_state::Snapshot;
 use std::alloc::Global;
 
-/// The threads of messages that stand in order, as far as they are asked for.
+/// The threads of messages that are in order, as far as they are asked for.
 pub(crate) fn threads_text(
     alloc: Global,
     snapshot: &Snapshot,

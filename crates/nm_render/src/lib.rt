@@ -4,19 +4,19 @@
 mod authors;
 mod body;
 mod count;
+mod cursor;
 mod groups;
 mod items;
 mod lists;
 mod mailboxes;
 mod message;
 mod order;
-mod printing;
 mod search;
 mod show;
 mod shown;
 mod summary;
 mod summary_json;
-mod trail;
+mod text_lists;
 
 pub use count::{count_reply, counts_reply};
 pub use search::search_reply;

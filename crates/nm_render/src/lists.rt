@@ -8,7 +8,7 @@ ghost use Rattle.nm_answer.specs.Listing.{each_once, part_of};
 ghost use Rattle.nm_answer.specs.Search.{part_asked, paths_of_all, tags_of_all, threads_of};
 ghost use Rattle.nm_answer.specs.View.{files_of, tags_of};
 
-use crate::trail::Trail;
+use crate::cursor::Cursor;
 use nm_base::{Copies, Many, MessageId, NoMemory, SearchAsk, Tag, Tags, Text, TextSet};
 use nm_state::Snapshot;
 use std::alloc::Global;
@@ -24,8 +24,8 @@ pub(crate) fn part_of<T>(items: &[T], offset: u32, limit: Option<u32>) -> &[T]
     }
 }
 
-/// The threads of the messages that are asked for, each once, where the first of its messages stands. Behind the first message
-/// of the last of them none is looked at.
+/// The threads of the messages that are asked for, each once, where the first of its messages is. After the first message of
+/// the last of them none is looked at.
 pub(crate) fn threads_asked(
     alloc: Global,
     snapshot: &Snapshot,
@@ -34,13 +34,13 @@ pub(crate) fn threads_asked(
 ) -> Result<Many<u64>, NoMemory>
     ensures { IfOk result (λ names. names ≡ part_asked ask.now (threads_of snapshot.now ids.now)) }
 {
-    let most = most_threads(ask.offset, ask.limit, ids);
+    let most = max_threads(ask.offset, ask.limit, ids);
     let names = first_threads(alloc, snapshot, ids, most)?;
     Many::from_slice(alloc, part_of(names.as_slice(), ask.offset, ask.limit))
 }
 
-/// How many of the threads the part stands among that is asked for.
-fn most_threads(offset: u32, limit: Option<u32>, ids: &[MessageId]) -> usize
+/// How many of the threads the part is among that is asked for.
+fn max_threads(offset: u32, limit: Option<u32>, ids: &[MessageId]) -> usize
     ensures { (names : List ℕ) → length names ≤ length ids.now → part_of offset limit (take result names) ≡ part_of offset limit names }
 {
     match limit {
@@ -49,7 +49,7 @@ fn most_threads(offset: u32, limit: Option<u32>, ids: &[MessageId]) -> usize
     }
 }
 
-/// The first threads of the messages, as many as this at most, each once, where the first of its messages stands.
+/// The first threads of the messages, as many as this at most, each once, where the first of its messages is.
 fn first_threads(
     alloc: Global,
     snapshot: &Snapshot,
@@ -60,13 +60,13 @@ fn first_threads(
 {
     let mut names = Many::new(alloc);
     let mut seen = TextSet::new(alloc);
-    let mut trail = Trail::new();
+    let mut cursor = Cursor::new();
     'ids: for id in ids {
         if most <= names.len() {
             return Ok(names);
         }
-        let (behind, thread) = snapshot.thread_near(id, trail.guess());
-        trail = trail.with(behind);
+        let (behind, thread) = snapshot.thread_by_hint(id, cursor.guess());
+        cursor = cursor.with(behind);
         let Some(name) = thread else {
             continue;
         };
@@ -77,7 +77,7 @@ fn first_threads(
     Ok(names)
 }
 
-/// Each item once, where it first stands.
+/// Each item once, where it first is.
 pub(crate) fn each_once<T: Ord + Copies>(alloc: Global, items: &[T]) -> Result<Many<T>, NoMemory>
     ensures { IfOk result (λ once. once ≡ each_once T.eq items.now) }
 {
@@ -128,10 +128,10 @@ pub(crate) fn paths_of_all(
     ensures { IfOk result (λ paths. paths ≡ paths_of_all snapshot.now ids.now) }
 {
     let mut paths = Many::new(alloc);
-    let mut trail = Trail::new();
+    let mut cursor = Cursor::new();
     'ids: for id in ids {
-        let behind = push_paths(&mut paths, snapshot, id, trail.guess())?;
-        trail = trail.with(behind);
+        let behind = push_paths(&mut paths, snapshot, id, cursor.guess())?;
+        cursor = cursor.with(behind);
     }
     Ok(paths)
 }
@@ -145,7 +145,7 @@ fn push_paths(
 ) -> Result<u64, NoMemory>
     ensures { IfOk result (λ _. paths.new ≡ paths.old ++ map (λ file. file.0) (files_of snapshot.now id.now)) }
 {
-    let Some((next, mut rest)) = snapshot.files_near(id, near) else {
+    let Some((next, mut rest)) = snapshot.files_by_hint(id, near) else {
         return Ok(near);
     };
     'files: while let Some((path, _)) = rest.next() {
@@ -180,7 +180,7 @@ fn add_tags(
 ) -> Result<u64, NoMemory>
     ensures { IfOk result (λ _. tags.new ≡ fold insert tags.old (tags_of snapshot.now id.now)) }
 {
-    let Some((next, more)) = snapshot.tags_near(id, near) else {
+    let Some((next, more)) = snapshot.tags_by_hint(id, near) else {
         return Ok(near);
     };
     let mut rest = more.iter();

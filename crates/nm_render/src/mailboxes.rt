@@ -1,4 +1,4 @@
-//! Mailboxes as `show` tells them, for `message`: `NAME <ADDRESS>`, or the address alone.
+//! Mailboxes as `show` prints them, for `message`: `NAME <ADDRESS>`, or the address alone.
 
 ghost use Rattle.std.specs.Prelude.{◌≡◌, ◌++◌, codes, map, IfOk, OnOk};
 ghost use Rattle.nm_answer.specs.Show.{lead_from, mailbox_text, mailboxes_text};

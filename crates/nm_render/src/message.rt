@@ -1,4 +1,4 @@
-//! Messages as `show` tells them, for `show_text`: the lines of their fields, and their bodies.
+//! Messages as `show` prints them, for `show_text`: the lines of their fields, and their bodies.
 
 ghost use Rattle.std.specs.Prelude.{◌≡◌, ◌++◌, codes, map, IfOk, OnOk};
 ghost use Rattle.nm_answer.specs.Json.{joined};
@@ -18,7 +18,7 @@ use nm_maildir::Given;
 use nm_state::Snapshot;
 use std::alloc::Global;
 
-/// The messages one behind the other, each with what the folder gave for it.
+/// The messages one after the other, each with what the folder gave for it.
 pub(crate) fn messages_text(
     alloc: Global,
     snapshot: &Snapshot,

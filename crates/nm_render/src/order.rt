@@ -24,7 +24,7 @@ pub(crate) fn ordered(
     ids_of(alloc, sorted)
 }
 
-/// The messages, each behind its rank. They come by their numbers, so the files of one are mostly next to those of the last.
+/// The messages, each after its rank. They come by their numbers, so the files of one are mostly next to those of the last.
 fn ranked(
     alloc: Global,
     snapshot: &Snapshot,
@@ -37,7 +37,7 @@ fn ranked(
     let mut ranked = Vec::with_capacity(alloc, ids.len())?;
     let mut near = near;
     'ids: for id in ids.into_vec() {
-        let (next, date) = date_near(snapshot, &id, near);
+        let (next, date) = date_by_hint(snapshot, &id, near);
         ranked.push((rank_by(oldest, date), id))?;
         near = next;
     }
@@ -65,10 +65,10 @@ fn ids_of(alloc: Global, ranked: Vec<(i128, MessageId)>) -> Result<Many<MessageI
 }
 
 /// The date of a message, and where the files of the next one are looked for first.
-pub(crate) fn date_near(snapshot: &Snapshot, id: &MessageId, near: u64) -> (u64, i64)
+pub(crate) fn date_by_hint(snapshot: &Snapshot, id: &MessageId, near: u64) -> (u64, i64)
     ensures { result.1 ≡ message_date snapshot.now id.now }
 {
-    let Some((next, files)) = snapshot.files_near(id, near) else {
+    let Some((next, files)) = snapshot.files_by_hint(id, near) else {
         return (near, 0);
     };
     (next, lead_date(files))

@@ -18,7 +18,7 @@ use nm_state::Snapshot;
 use std::alloc::Global;
 
 /// The reply to a search whose query has this tree, of any kind and in either form. As JSON it is read back by the library as
-/// what the plain index has.
+/// what the model has.
 pub fn search_reply(
     alloc: Global,
     snapshot: &Snapshot,
@@ -39,7 +39,7 @@ pub fn search_reply(
     found_text(alloc, snapshot, ask, sorted.as_slice())
 }
 
-/// What is asked of messages that stand in order.
+/// What is asked of messages that are in order.
 fn found_text(
     alloc: Global,
     snapshot: &Snapshot,

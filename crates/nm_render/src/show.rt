@@ -1,5 +1,5 @@
-//! What `show` tells, for `nm_line`: which messages it finds, which files it reads for them, and the text over
-//! what those reads gave.
+//! What `show` prints, for `nm_line`: which messages it finds, which files it reads for them, and the text over what
+//! those reads gave.
 
 ghost use Rattle.std.specs.Prelude.{◌≡◌, ◌++◌, false, length, IfErr, IfOk, None, OnOk, is_ok};
 ghost use Rattle.nm_answer.specs.Show.{first_lost, gone_path, is_not_one, lead_path, lead_paths, raw_text, show_text, shown_ids};
@@ -20,7 +20,7 @@ use thiserror::Error;
 /// Why there is nothing to show.
 #[derive(Debug, Drop, Error)]
 pub enum ShowError {
-    /// Raw form shows one message, and the query finds so many.
+    /// Raw form shows one message, and the query finds n.
     #[error("not one message")]
     NotOne { found: u64 },
     /// The file that raw form asks for is not there any more, or it is too long.
@@ -54,7 +54,7 @@ pub fn shown_ids(
     // There is one path to read for each.
     ensures lead { IfOk result (λ ids. length (lead_paths snapshot.now ids) ≡ length ids) }
 
-    // NotOne is told exactly where raw form is asked of more or fewer than one.
+    // NotOne is reported exactly where raw form is asked of more or fewer than one.
     ensures one { OnOk result (is_not_one ask.now (shown_ids ask.now snapshot.now moment query.now) ≡ false) }
     ensures err { IfErr result (IsIdsFault ask.now (shown_ids ask.now snapshot.now moment query.now)) }
 {
@@ -119,7 +119,7 @@ fn push_lead(
 }
 
 /// The text of messages, each with what the read of its lead file gave. In raw form it is the bytes of the one file, and Gone
-/// is told exactly where the read found none.
+/// is reported exactly where the read found none.
 pub fn show_text(
     alloc: Global,
     snapshot: &Snapshot,
@@ -159,7 +159,7 @@ fn raw_text(alloc: Global, given: &[Given]) -> Result<Many<u8>, ShowError>
     }
 }
 
-/// The answer that the file is gone, where there is memory for its path.
+/// The answer that the file is missing, where there is memory for its path.
 fn gone(path: &MailPath) -> Result<Many<u8>, ShowError>
     ensures err { IfErr result (IsGone path.now) }
     ensures none { is_ok result ≡ false }

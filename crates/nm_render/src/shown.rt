@@ -80,7 +80,7 @@ fn in_range(date: i64) -> i64
     date
 }
 
-/// The texts one behind the other, with `between` between them.
+/// The texts one after the other, with `between` between them.
 pub(crate) fn joined(alloc: Global, between: &str, texts: &[Text]) -> Result<String, NoMemory>
     ensures { IfOk result (λ whole. string_bytes whole ≡ joined between.now texts.now) }
 {

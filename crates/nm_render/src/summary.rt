@@ -15,7 +15,7 @@ use crate::count::count_files;
 use crate::groups::{Groups, groups_of};
 use crate::items::{texts_of_tags, thread_digits};
 use crate::lists::{others_of, tags_of_all, threads_asked};
-use crate::order::date_near;
+use crate::order::date_by_hint;
 use crate::shown::{bare_subject, joined, shown, shown_day};
 use itoa::Buffer;
 use nm_answer::ThreadSummary;
@@ -23,7 +23,7 @@ use nm_base::{Many, MessageId, NoMemory, SearchAsk};
 use nm_state::Snapshot;
 use std::alloc::Global;
 
-/// The lines of the threads of messages that stand in order.
+/// The lines of the threads of messages that are in order.
 pub(crate) fn summary_lines(
     alloc: Global,
     snapshot: &Snapshot,
@@ -86,13 +86,13 @@ pub(crate) fn thread_summary(
     Ok(summary)
 }
 
-/// Where the messages of a thread are looked for first: where its first one stands. Numbers begin at 1, and come as messages do.
+/// Where the messages of a thread are looked for first: where its first one is. Numbers begin at 1, and come as messages do.
 fn place_near(snapshot: &Snapshot, members: &[MessageId], name: u64) -> u64 {
     let guess = name.saturating_sub(1);
     let Some(first) = members.first() else {
         return guess;
     };
-    match snapshot.files_near(first, guess) {
+    match snapshot.files_by_hint(first, guess) {
         Some((behind, _)) => behind.saturating_sub(1),
         None => guess,
     }
@@ -137,7 +137,7 @@ fn first_date(snapshot: &Snapshot, ids: &[MessageId], near: u64) -> i64
     ensures { result ≡ first_date snapshot.now ids.now }
 {
     match ids.first() {
-        Some(id) => date_near(snapshot, id, near).1,
+        Some(id) => date_by_hint(snapshot, id, near).1,
         None => 0,
     }
 }
@@ -175,7 +175,7 @@ fn subject_of(
 pub(crate) fn lead_subject<'a>(snapshot: &'a Snapshot, id: &MessageId, near: u64) -> &'a str
     ensures { result.now ≡ lead_subject (files_of snapshot.now id.now) }
 {
-    let Some((_, mut files)) = snapshot.files_near(id, near) else {
+    let Some((_, mut files)) = snapshot.files_by_hint(id, near) else {
         return "";
     };
     match files.next() {

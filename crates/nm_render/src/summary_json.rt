@@ -13,8 +13,8 @@ ghost use Rattle.nm_render.specs.SummaryData.{summary_data, with_mail, with_numb
 use crate::groups::{Groups, groups_of};
 use crate::items::{texts_of_tags, thread_digits};
 use crate::lists::threads_asked;
-use crate::printing::{array_text, strings};
 use crate::summary::thread_summary;
+use crate::text_lists::{array_text, strings};
 use nm_answer::ThreadSummary;
 use nm_base::{Many, MessageId, NoMemory, SearchAsk};
 use nm_state::Snapshot;
@@ -22,7 +22,7 @@ use nm_text::as_text;
 use serde_json::{Map, Value, put};
 use std::alloc::Global;
 
-/// The threads of messages that stand in order, as an array of objects, and LF. The library reads the array as these objects.
+/// The threads of messages that are in order, as an array of objects, and LF. The library reads the array as these objects.
 pub(crate) fn summaries_json(
     alloc: Global,
     snapshot: &Snapshot,

@@ -26,7 +26,7 @@ opened-index (Some o) (Some n) bodies shown records h = record {
   within = h.2;
 }
 
--- the journal stands with them, whatever a stop leaves
+-- the journal is on the disk with them, whatever a crash leaves
 pub opened-stands : (old new : Option Moments) (bodies : List (List ℕ)) (journal : JournalState) (index : Base) → GoesOn (λ o n. StandsOn n.present journal bodies) old new → Replayed bodies index
     → GoesOn (λ o n. (bodies : List (List ℕ)) × (commits : List Commit) × StandsOn n.present journal bodies × HasCommits bodies commits index) old new
 opened-stands None None bodies journal index stands h = tt

@@ -33,7 +33,7 @@ same-commits (x ∷ xs) (y ∷ ys) first second fit e =
     let here : x ≡ y = same-commit x y first.0 second.0 fit.0 (head-of (commit_grammar.bytes x) (commit_grammar.bytes y) (bodies_of xs) (bodies_of ys) e) in
     ap (λ (c : Commit). c ∷ xs) here ∙ ap (λ (l : List Commit). y ∷ l) (same-commits xs ys first.1 second.1 fit.1 (tail-of (commit_grammar.bytes x) (commit_grammar.bytes y) (bodies_of xs) (bodies_of ys) e))
 
--- the commit that stands after these, with this body, fits the index after them
+-- the commit that comes after these, with this body, fits the index after them
 next-fits : (index : Base) (xs ys : List Commit) (body : List ℕ) (more : List (List ℕ)) → AreCommits xs → AreCommits ys → AreBodies (bodies_of ys) → bodies_of ys ≡ bodies_of xs ++ body ∷ more → FitInTurn index ys
     → (commit : Commit) × (commit_grammar.is_value commit ≡ true) × (body ≡ commit_grammar.bytes commit) × Fits (folded index xs).files commit
 next-fits index [] [] body more first second fit e turn = let none = ap length e in absurd (omega (arith, none))

@@ -14,7 +14,7 @@ use Rattle.nm_index.specs.declared.base.Base.{Base}
 use Rattle.nm_journal.specs.Records.{AreBodies, record_of, records_of}
 use Rattle.nm_record.specs.CommitGrammar.{commit_grammar}
 use Rattle.nm_record.specs.Room.{limit_passed}
-use Rattle.nm_replay.specs.Opening.{HasBodyFault, IsAfterRead, IsRead, IsRefusedRead, IsToldAt, IsTooMuch}
+use Rattle.nm_replay.specs.OpenFaults.{HasBodyFault, IsAfterRead, IsRead, IsRefusedRead, IsToldAt, IsTooMuch}
 use Rattle.nm_replay.specs.declared.open_error.OpenError.{OpenError}
 use Rattle.nm_replay.specs.declared.open_error.OpenError.TheVariants.{BadIndex, DiskFault, Limit, NoMemory}
 use Rattle.nm_replay.specs.StoredIndex.{AreCommits, HasBadBody, HasCommits, HasPassed, IsNoCommit, StayWithin, bodies_of}
@@ -130,7 +130,7 @@ IsRefusedBody index body (Limit limit) = (commit : Commit) × (body ≡ commit_g
 IsRefusedBody index body DiskFault = ⊥
 IsRefusedBody index body NoMemory = Unit {0}
 
--- a bad body is told of all bodies
+-- a bad body is reported of all bodies
 pub body-fault : (bodies : List (List ℕ)) (i : ℕ) (body seen : List ℕ) (index : Base) (gate : ℕ) (error : OpenError) → i < length bodies → body ≡ get_or bodies i body → seen ≡ body → Replayed (take i bodies) index
     → gate ≡ min (length (records_of (take i bodies))) max_count → IsRefusedBody index seen error → IsToldAt gate error → HasBodyFault bodies error
 body-fault bodies i body seen index gate (BadIndex file at) within is same before place bad told = (bad.0, λ fit. bad-body bodies i body seen index gate at within is same before place told bad.1 fit)

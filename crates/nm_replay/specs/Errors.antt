@@ -1,4 +1,4 @@
--- An error of the journal, as it is told of the index. Cited by `open_error`.
+-- An error of the journal, as it is reported for the index. Cited by `open_error`.
 use Rattle.nm_journal.specs.declared.journal.JournalError.{JournalError}
 use Rattle.nm_journal.specs.declared.journal.JournalError.TheVariants as journal
 use Rattle.nm_replay.specs.declared.open_error.OpenError.{OpenError}

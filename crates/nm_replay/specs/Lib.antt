@@ -1,3 +1,3 @@
 pub mod Errors
-pub mod Opening
+pub mod OpenFaults
 pub mod StoredIndex

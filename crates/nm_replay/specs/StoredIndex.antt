@@ -1,6 +1,7 @@
 -- Which index the bytes of a head file hold: records from the first byte on, each the bytes of a commit that fits the index
--- which those before it leave. And which limit such an index passes, the first record that is bad or passes one being told.
--- Cited by `head`, `replaying`, `nm_history` and others.
+-- which those before it leave. And which limit such an index passes, the first record that is bad or passes one being
+-- reported.
+-- Cited by `head`, `replay`, `nm_history` and others.
 use Rattle.std.specs.Prelude.{◌≡◌, ◌⊎◌, ℕ, true, min, List, [], ◌∷◌, ◌++◌, None, Some, length, map}
 use Rattle.std.specs.List.{AllByRecursion}
 use Rattle.nm_base.specs.Limits.{max_count}
@@ -38,7 +39,7 @@ abbrev pub StayWithin : Base → List Commit → Type 0
 StayWithin index [] = Unit {0}
 StayWithin index (commit ∷ commits) = (limit_passed (committed index commit) ≡ None) × StayWithin (committed index commit) commits
 
--- After these bodies stands one that is no commit which fits the index they leave; `at` is the place of its gate. No index before it passes a limit.
+-- After these bodies comes one that is no commit which fits the index they leave; `at` is the place of its gate. No index before it passes a limit.
 pub record HasBadBody (bodies : List (List ℕ)) (at : ℕ) : Type 0 where
   pub front : List (List ℕ)
   pub body : List ℕ
@@ -51,7 +52,7 @@ pub record HasBadBody (bodies : List (List ℕ)) (at : ℕ) : Type 0 where
   pub bad : IsNoCommit index body
   pub at_is : at ≡ min (length (records_of front)) max_count
 
--- After these bodies stands that of a commit which fits, and the index with it passes this limit. No index before it passes one.
+-- After these bodies comes that of a commit which fits, and the index with it passes this limit. No index before it passes one.
 pub record HasPassed (bodies : List (List ℕ)) (limit : Limit) : Type 0 where
   pub front : List (List ℕ)
   pub commit : Commit

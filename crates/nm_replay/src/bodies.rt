@@ -1,8 +1,8 @@
-//! What the bodies of records spell, which several workers read at once, for `head`.
+//! What the bodies of records encode, which several workers read at once, for `head`.
 
 ghost use Rattle.std.specs.Prelude.{◌<◌, ◌≤◌, IfOk};
 ghost use Rattle.std.specs.List.{AllZip};
-ghost use Rattle.nm_replay.specs.Opening.{IsRead};
+ghost use Rattle.nm_replay.specs.OpenFaults.{IsRead};
 
 use nm_base::{Many, NoMemory};
 use nm_codec::ReadError;
@@ -13,7 +13,7 @@ use std::alloc::Global;
 use std::sync::Wait;
 use std::thread::Threads;
 
-/// The job of the workers: a body is read as the commit that it spells, or as none.
+/// The job of the workers: a body is read as the commit that it encodes, or as none.
 #[derive(Clone, Copy)]
 struct ReadBody {
     alloc: Global,
@@ -24,7 +24,7 @@ impl Job for ReadBody {
 
     type Out = Option<Commit>;
 
-    ghost use Rattle.nm_replay.specs.Opening.{IsRead};
+    ghost use Rattle.nm_replay.specs.OpenFaults.{IsRead};
 
     ghost gives = { λ _ body read. IsRead body read };
 
@@ -37,7 +37,7 @@ impl Job for ReadBody {
     }
 }
 
-/// The commits that the bodies spell, each in the place of its body.
+/// The commits that the bodies encode, each in the place of its body.
 pub(crate) fn read_bodies<R: Threads + Wait + Sync>(
     rt: &R,
     alloc: Global,

@@ -9,12 +9,12 @@ ghost use Rattle.nm_faults.specs.Faults.{HasCauseOf};
 ghost use Rattle.nm_index.specs.Index.{empty_index};
 ghost use Rattle.nm_journal.specs.Journal.{StandsOn};
 ghost use Rattle.nm_journal.specs.Moments.{GoesThrough, IsSynced, SyncsOrFails};
-ghost use Rattle.nm_replay.specs.Opening.{HasOpenFault, IsOfHead, is_disk_fault};
+ghost use Rattle.nm_replay.specs.OpenFaults.{HasOpenFault, IsOfHead, is_disk_fault};
 ghost use Rattle.nm_replay.specs.StoredIndex.{HasCommits, HoldsWithin, StayWithin};
 
 use crate::OpenError;
 use crate::bodies::read_bodies;
-use crate::replaying::replayed;
+use crate::replay::replayed;
 use nm_disk::{Disk, FileNo};
 use nm_journal::Journal;
 use nm_state::Snapshot;
@@ -44,25 +44,25 @@ pub fn replay_head<R: Threads + Wait + Sync, D: Disk>(
     // On any disk it is that after some commits, none of which passes a limit.
     ensures held { IfOk result (λ replayed. (bodies : List (List ℕ)) × (commits : List Commit) × HasCommits bodies commits replayed.index × StayWithin empty_index commits) }
 
-    // And so it is whatever a stop leaves from then on.
+    // And so it is whatever a crash leaves from then on.
     ensures stands { GoesOn (λ old new. IfOk result (λ replayed. (bodies : List (List ℕ)) × (commits : List Commit) × StandsOn new.present replayed.journal bodies × HasCommits bodies commits replayed.index))
         (D.observed disk.old).told (D.observed disk.new).told }
 
     ensures journal { IfOk result (λ replayed. (replayed.journal.file ≡ FileNo.Head) × (replayed.journal.start ≡ 0) × (replayed.journal.failed ≡ false)) }
 
-    // A bad index is told only where what a read gives is none, and then at the stated place; a limit only where an index on the way
-    // passes it. The first record that fails decides.
+    // A bad index is reported only where what a read gives is none, and then at the stated place; a limit only where an index on the
+    // way passes it. The first record that fails decides.
     ensures bad { GoesOn (λ old new. IfErr result (HasOpenFault (bytes_now old FileNo.Head)))
         (D.observed disk.old).told (D.observed disk.new).told }
 
-    // On any disk a bad index is told of the head.
+    // On any disk a bad index is reported of the head.
     ensures file { IfErr result IsOfHead }
 
     // The disk is synced once, and nothing is written; where the call fails that sync may have failed.
     ensures synced { GoesOn (λ old new. IfOk result (λ _. IsSynced old new)) (D.observed disk.old).told (D.observed disk.new).told }
     ensures syncs { GoesOn SyncsOrFails (D.observed disk.old).told (D.observed disk.new).told }
 
-    // At every moment of the call a stop leaves only what it might have left before.
+    // At every moment of the call a crash leaves only what it might have left before.
     ensures any_moment { GoesOn (λ old new. GoesThrough FileNo.Head (MayLeave old.present FileNo.Head) old new)
         (D.observed disk.old).told (D.observed disk.new).told }
 

@@ -27,7 +27,7 @@ pub fn what_holds_an_index_is_not_bad()
     records_are_not_broken();
 }
 
-/// Bytes that pass a limit, told of the record that passes it, are bad nowhere.
+/// Bytes that pass a limit, reported of the record that passes it, are bad nowhere.
 pub fn what_passes_a_limit_is_not_bad()
     ensures { (bytes : List ℕ) (limit : Limit) (at : ℕ) → PassesLimit bytes limit → HoldsNoIndex bytes at → ⊥ }
 {
@@ -49,7 +49,7 @@ pub fn one_limit_is_passed()
     records_are_read_in_one_way();
 }
 
-/// The bodies of commits, and behind them that of one more which fits, are those of the commits up to this one.
+/// The bodies of commits, and after them that of one more which fits, are those of the commits up to this one.
 pub fn one_commit_more_is_held()
     ensures { (bodies : List (List ℕ)) (commits : List Commit) (index : Base) (body : List ℕ) (commit : Commit) (new : Base)
         → HasCommits bodies commits index → body ≡ commit_grammar.bytes commit → commit_grammar.is_value commit ≡ true → Fits index.files commit

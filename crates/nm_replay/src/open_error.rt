@@ -1,4 +1,4 @@
-//! Why an index can't be opened: `head` and `replaying` answer so, and `nm_top` makes a refusal of it.
+//! Why an index can't be opened: `head` and `replay` answer so, and `nm_top` makes a refusal of it.
 
 use nm_base::{Limit, NoMemory};
 use nm_disk::FileNo;

@@ -14,9 +14,9 @@ use Rattle.nm_maildir.specs.declared.given.Given.{Given}
 use Rattle.nm_scan.proofs.LawLemmas.{len-front}
 use Rattle.nm_scan.proofs.ReadLemmas.{AllByRecursion-append, read_with-more, read_with-none, same_mail}
 use Rattle.nm_scan.specs.Batches.{HasReadBatch, IsBatch, IsOpen, StopsInBatch, len_at, len_at_all}
-use Rattle.nm_scan.specs.Found.{AreTold, HasFound, HasFoundBatch, HasNotedAll, HasNotedSome, InBatch, IsBegun, IsClosed, StopsFinding, lacks_all, paths_found}
+use Rattle.nm_scan.specs.Found.{AreKnown, HasFound, HasFoundBatch, HasNotedAll, HasNotedSome, InBatch, IsBegun, IsClosed, StopsFinding, lacks_all, paths_found}
 use Rattle.nm_scan.specs.declared.files.Lacks.{Lacks}
-use Rattle.nm_scan.specs.Reading.{AsksOnce, NotesReads, after_reads, full_answers, read_with}
+use Rattle.nm_scan.specs.FileReads.{AsksOnce, NotesReads, after_reads, full_answers, read_with}
 
 abbrev Found : Type 0
 Found = List (List ℕ × Got)
@@ -37,7 +37,7 @@ more_found : (m0 m1 m2 : ObservedMail) (xs ys : Found) → HasFound m0 m1 xs →
 more_found m0 m1 m2 xs ys h k =
     let tree : m1.tree ≡ m0.tree = ap (λ (m : ObservedMail). m.tree) h.mail in
     record {
-      told = AllByRecursion-append (λ (one : List ℕ × Got). IfSome m0.tree (λ t. one.1 ≡ got_of t one.0 max_mail_bytes)) xs ys h.told (subst (λ (t : Option Tree). AreTold t ys) tree k.told);
+      told = AllByRecursion-append (λ (one : List ℕ × Got). IfSome m0.tree (λ t. one.1 ≡ got_of t one.0 max_mail_bytes)) xs ys h.told (subst (λ (t : Option Tree). AreKnown t ys) tree k.told);
       mail = k.mail ∙ (ap (λ (m : ObservedMail). after_reads m (paths_found ys)) h.mail
           ∙ (ap (λ (r : Option (List (List ℕ))). record { tree = m0.tree; reads = r; faults = m0.faults }) (read_with-more m0.reads (paths_found xs) (paths_found ys))
           ∙ ap (after_reads m0) (sym (paths-more xs ys))));

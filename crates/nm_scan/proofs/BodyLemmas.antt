@@ -10,7 +10,7 @@ use Rattle.nm_maildir.specs.declared.given.Given.TheVariants as givens
 use Rattle.nm_maildir.specs.declared.given.ReadAnswer.{ReadAnswer}
 use Rattle.nm_scan.proofs.ReadLemmas.{read_with-more, read_with-none, same_mail}
 use Rattle.nm_scan.specs.Bodies.{AreBodies, HasReadBodies, HasReadBody, IsBody, StopsAtBody, StopsInBodies, body_len, bytes_given, given_len, left_after}
-use Rattle.nm_scan.specs.Reading.{after_reads}
+use Rattle.nm_scan.specs.FileReads.{after_reads}
 use Rattle.nm_scan.specs.declared.bodies_error.BodiesError.{BodiesError}
 use Rattle.nm_scan.specs.declared.bodies_error.BodiesError.TheVariants.{NoMemory}
 
@@ -51,7 +51,7 @@ bodies-more tree left given (first ∷ paths) path answer (found, more, is, one,
       (subst (λ (n : ℕ). IsBody tree n path answer) (omega (arith, ap bytes_given is)) body),
 )
 
--- The reading goes on: these paths were read, and so many bytes are left.
+-- The reading goes on: these paths were read, and n bytes are left.
 pub record InBodies (old now : ObservedMail) (left rest : ℕ) (old_given given : List Given) (read : List (List ℕ)) : Type 0 where
   pub all : HasReadBodies old now left old_given given read
   pub rest_is : rest ≡ left_after left all.given

@@ -11,12 +11,12 @@ use Rattle.nm_base.specs.declared.limit.Limit.{Limit}
 use Rattle.nm_base.specs.declared.limit.Limit.TheVariants as limits
 use Rattle.nm_maildir.specs.Tree.{Tree, listing_of}
 use Rattle.nm_scan.specs.Mail.{IsMailAt, IsReached, below, mail_of, paths_met, root}
-use Rattle.nm_scan.specs.Walking.{Met, counts, file, folder, inside, is_walked, mail_met, met_in, not_begun, part_met, paths_in, paths_walked, scanned, walked, walked_through, with_met}
-use Rattle.nm_scan.specs.declared.walking.Walk.{Walk}
+use Rattle.nm_scan.specs.Walk.{Met, counts, file, folder, inside, is_walked, mail_met, met_in, not_begun, part_met, paths_in, paths_walked, scanned, walked, walked_through, with_met}
+use Rattle.nm_scan.specs.declared.walk.Walk.{Walk}
 use Rattle.nm_scan.proofs.MailLemmas.{meets, meets-both, met-files, same-is, same-self}
 use Rattle.nm_scan.proofs.WalkLemmas.{err-stays}
 
--- a folder that lies too deep
+-- a folder that is too deep
 abbrev is_end : Met → Bool
 is_end (folder zero) = true
 is_end (folder (suc levels)) = false
@@ -68,7 +68,7 @@ met-first : (met : Met) (all : List Met) (paths : List (List ℕ)) → fold inse
 met-first (folder levels) all paths = refl
 met-first (file path) all paths = refl
 
--- what was met is listed, and no folder lay too deep
+-- what was met is listed, and no folder was too deep
 pub all-counted : (all : List Met) (from to : Walk) → walked from all ≡ Ok to → (to.paths ≡ fold insert from.paths (paths_met all)) × (list_any is_end all ≡ false)
 all-counted [] from to e = (ap paths_or (sym e), refl)
 all-counted (met ∷ all) from to e =
@@ -78,7 +78,7 @@ all-counted (met ∷ all) from to e =
           (rest.0 ∙ (ap (λ l. fold insert l (paths_met all)) c.paths ∙ met-first met all from.paths), ap (λ b. b || list_any is_end all) c.goes_on ∙ rest.1))
     ]
 
--- where none of the folders holds one that lies too deep, none of them does
+-- where none of the folders holds one that is too deep, none of them does
 flat-none : (f : List ℕ → List Met) (names : List (List ℕ)) (name : List ℕ) → has_text names name ≡ true → list_any is_end (flat_map f names) ≡ false → list_any is_end (f name) ≡ false
 flat-none f [] name h e = absurd (cc)
 flat-none f (first ∷ names) name h e =
@@ -127,7 +127,7 @@ record Within (tree : Tree) (dir path : List ℕ) (all : List Met) : Type 0 wher
   goes_on : list_any is_end (met_in (suc under) tree dir) ≡ false
   holds : meets (met_in (suc under) tree dir) path ≡ true → meets all path ≡ true
 
--- a folder that is listed lies at a level above the last
+-- a folder that is listed is at a level above the last
 deeper : (tree : Tree) (dir path : List ℕ) (all : List Met) (levels : ℕ) → list_any is_end (met_in levels tree dir) ≡ false → (meets (met_in levels tree dir) path ≡ true → meets all path ≡ true) → Within tree dir path all
 deeper tree dir path all zero none holds = absurd (cc)
 deeper tree dir path all (suc levels) none holds = record { under = levels; goes_on = none; holds = holds }
@@ -145,7 +145,7 @@ child tree dir name path all levels there none holds =
     (λ k. holds (meets-both one (two ++ flat_map f names) path ∙ or_right (meets one path) (meets (two ++ flat_map f names) path)
     (meets-both two (flat_map f names) path ∙ or_right (meets two path) (meets (flat_map f names) path) (flat-meets f names name path there k))))
 
--- a walk that meets no folder that lies too deep meets each that it comes to
+-- a walk that meets no folder that is too deep meets each that it comes to
 reach : (tree : Tree) (dir path : List ℕ) (levels : ℕ) → IsReached tree dir → list_any is_end (met_in levels tree []) ≡ false → Within tree dir path (met_in levels tree [])
 reach tree dir path levels root none = deeper tree [] path (met_in levels tree []) levels none (λ k. k)
 reach tree dir path levels (below above name reached there walks) none =
@@ -158,7 +158,7 @@ part-met levels tree dir part path there has =
     ap (λ b. meets (cond b (mail_met levels tree (inside dir part)) []) path) there
     ∙ (ap (λ l. has_text l path) (met-files (paths_in (inside dir part) (listing_of tree (inside dir part)).files)) ∙ has)
 
--- where no folder lies too deep, all mail is met
+-- where no folder is too deep, all mail is met
 pub mail-met : (tree : Tree) (path : List ℕ) (levels : ℕ) → list_any is_end (met_in levels tree []) ≡ false → IsMailAt tree path → meets (met_in levels tree []) path ≡ true
 mail-met tree path levels none m =
     let within : Within tree m.dir path (met_in levels tree []) = reach tree m.dir path levels m.reached none in

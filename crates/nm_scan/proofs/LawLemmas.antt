@@ -11,7 +11,7 @@ use Rattle.nm_maildir.specs.declared.given.Given.{Given}
 use Rattle.nm_plan.specs.Plan.{all_added}
 use Rattle.nm_scan.proofs.ReadLemmas.{NotesReads-append, Reads-append, begun_read, more_read, no_added, notes-none, read_with-more}
 use Rattle.nm_scan.specs.Batches.{HasReadBatch, HasReadBatches, HasReadSome, IsBatch, IsFull, IsOpen, IsUnfinished, ReadsBatches, StopsInBatch, len_at_all}
-use Rattle.nm_scan.specs.Reading.{HasReadAll, NotesReads, Reads, full_answers, read_with}
+use Rattle.nm_scan.specs.FileReads.{HasReadAll, NotesReads, Reads, full_answers, read_with}
 
 abbrev Batches : Type 0
 Batches = List (List (List ℕ × Facts))

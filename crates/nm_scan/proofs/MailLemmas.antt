@@ -9,9 +9,9 @@ use Rattle.nm_base.specs.MailPath.{is_mail_path}
 use Rattle.nm_base.specs.Order.{has_text, same_text}
 use Rattle.nm_maildir.specs.Tree.{Tree, listing_of}
 use Rattle.nm_scan.specs.Mail.{IsMailAt, IsReached, below, paths_met}
-use Rattle.nm_scan.specs.Walking.{Met, counts, file, folder, inside, is_walked, mail_met, met_in, part_met, paths_in}
+use Rattle.nm_scan.specs.Walk.{Met, counts, file, folder, inside, is_walked, mail_met, met_in, part_met, paths_in}
 
--- texts that are told to be the same are
+-- texts that compare as the same are
 pub same-is : (a b : List ℕ) → same_text a b ≡ true → a ≡ b
 same-is a b h = lexicographic.same_text a b (sym h)
 

@@ -12,9 +12,9 @@ use Rattle.nm_maildir.specs.declared.answers.Got.{Got}
 use Rattle.nm_maildir.specs.declared.given.Given.{Given}
 use Rattle.nm_maildir.specs.declared.given.Given.TheVariants as givens
 use Rattle.nm_scan.proofs.ReadLemmas.{Reads-append, no_added, notes-none, one_read}
-use Rattle.nm_scan.specs.Found.{AreTold, HasNotedAll, HasNotedFront, HasNotedSome, IsClassified, given_of, mail_found, paths_found}
-use Rattle.nm_scan.specs.Reading.{NotesReads, Reads, arrival}
-use Rattle.nm_scan.specs.declared.classifying.Classified.{Classified}
+use Rattle.nm_scan.specs.Found.{AreKnown, HasNotedAll, HasNotedFront, HasNotedSome, IsClassified, given_of, mail_found, paths_found}
+use Rattle.nm_scan.specs.FileReads.{NotesReads, Reads, arrival}
+use Rattle.nm_scan.specs.declared.classes.Classified.{Classified}
 
 abbrev Found : Type 0
 Found = List (List ℕ × Got)
@@ -27,7 +27,7 @@ one_noted tree found classified is told =
     (one_read tree found.0 found.1 (classified.answer, classified.facts) is.classes told)
 
 -- all files
-all_noted : (tree : Option Tree) (found : Found) (all : List Classified) → AllZip IsClassified found all → AreTold tree found → Reads tree (map given_of all) (paths_found found) (flat_map mail_found all)
+all_noted : (tree : Option Tree) (found : Found) (all : List Classified) → AllZip IsClassified found all → AreKnown tree found → Reads tree (map given_of all) (paths_found found) (flat_map mail_found all)
 all_noted tree [] [] are told = record { notes = notes-none tree; mails = refl; dated = tt; told = no_added tree }
 all_noted tree [] (one ∷ all) are told = absurd are
 all_noted tree (one ∷ found) [] are told = absurd are
@@ -49,13 +49,13 @@ front_zip R xs [] rest are = tt
 front_zip R [] (y ∷ front) rest are = absurd are
 front_zip R (x ∷ xs) (y ∷ front) rest are = (are.0, front_zip R xs front rest are.1)
 
-told_front : (tree : Option Tree) (found : Found) (n : ℕ) → AreTold tree found → AreTold tree (take n found)
+told_front : (tree : Option Tree) (found : Found) (n : ℕ) → AreKnown tree found → AreKnown tree (take n found)
 told_front tree [] zero told = tt
 told_front tree [] (suc n) told = tt
 told_front tree (one ∷ found) zero told = tt
 told_front tree (one ∷ found) (suc n) told = (told.0, told_front tree found n told.1)
 
-front_noted : (tree : Option Tree) (found : Found) (front rest : List Classified) → AllZip IsClassified found (front ++ rest) → AreTold tree found
+front_noted : (tree : Option Tree) (found : Found) (front rest : List Classified) → AllZip IsClassified found (front ++ rest) → AreKnown tree found
     → NotesReads tree (map given_of front) (take (length front) (paths_found found))
 front_noted tree found front rest are told =
     subst (λ (l : List (List ℕ)). NotesReads tree (map given_of front) l) (sym (take-map (λ (one : List ℕ × Got). one.0) (length front) found))

@@ -1,4 +1,5 @@
--- A batch is read part by part, and each part is classified; where the reading or memory stops it, the first parts are told.
+-- A batch is read part by part, and each part is classified; where the reading or memory stops it, the first parts are
+-- reported.
 -- For the proofs of `read_part`, `classify_batch` and `classify_and_read`.
 use Rattle.std.proofs.Common.{◌≡◌, ◌⊎◌, inl, inr, ℕ, ◌+◌, ◌-◌, ◌<◌, ◌≤◌, List, [], ◌∷◌, ◌++◌, Option, IfErr, IfOk, IfSome, Result, Ok, Err, false, true, length, take, drop, refl, sym, ap, ◌∙◌, subst, append-nil, append_assoc, length-append, take-append-drop, arith}
 use Rattle.std.specs.Prelude.{IsErr, IsOk, OnOk}
@@ -13,9 +14,9 @@ use Rattle.nm_maildir.specs.declared.answers.Got.{Got}
 use Rattle.nm_maildir.specs.declared.answers.MailError.{MailError}
 use Rattle.nm_scan.proofs.BatchLemmas.{closed_batch, in_batch, long_found, next_in_batch, open_front, open_take, paths-more, stops_finding}
 use Rattle.nm_scan.specs.Batches.{IsOpen, len_at}
-use Rattle.nm_scan.specs.Found.{AreTold, HasClassifiedBatch, HasFound, HasFoundBatch, InBatch, IsClassified, IsClosed, IsReading, ReadsOn, StopsClassifying, StopsFinding, lacks_all, paths_found}
-use Rattle.nm_scan.specs.Reading.{AsksOnce, full_answers, read_with}
-use Rattle.nm_scan.specs.declared.classifying.Classified.{Classified}
+use Rattle.nm_scan.specs.Found.{AreKnown, HasClassifiedBatch, HasFound, HasFoundBatch, InBatch, IsClassified, IsClosed, IsReading, ReadsOn, StopsClassifying, StopsFinding, lacks_all, paths_found}
+use Rattle.nm_scan.specs.FileReads.{AsksOnce, full_answers, read_with}
+use Rattle.nm_scan.specs.declared.classes.Classified.{Classified}
 use Rattle.nm_scan.specs.declared.files.Lacks.{Lacks}
 
 abbrev Found : Type 0
@@ -79,7 +80,7 @@ part_is_closed most left rest after less some whole same (inr closed) = subst (�
 
 -- the first of what was found
 
-told_first : (tree : Option Tree) (xs ys : Found) → AreTold tree (xs ++ ys) → AreTold tree xs
+told_first : (tree : Option Tree) (xs ys : Found) → AreKnown tree (xs ++ ys) → AreKnown tree xs
 told_first tree [] ys told = tt
 told_first tree (x ∷ xs) ys told = (told.0, told_first tree xs ys told.1)
 
@@ -133,7 +134,7 @@ module _ (m0 m1 : ObservedMail) (paths : List (List ℕ)) (xs ys : Found) where
         is_open = first_open rest lacks h some;
       }
 
--- parts are told behind one another
+-- parts are listed one after the other
 
 told_more : (xs ys : Found) (front more : List Classified) → AllZip IsClassified xs front → AllZip IsClassified ys more → AllZip IsClassified (xs ++ ys) (front ++ more)
 told_more [] ys [] more told next = next
@@ -141,7 +142,7 @@ told_more [] ys (one ∷ front) more told next = absurd told
 told_more (x ∷ xs) ys [] more told next = absurd told
 told_more (x ∷ xs) ys (one ∷ front) more told next = (told.0, told_more xs ys front more told.1 next)
 
--- Parts are classified in turn: those before are told, and this one is not yet.
+-- Parts are classified in turn: those before are reported, and this one is not yet.
 pub record IsUnderWay (m0 m1 : ObservedMail) (paths rest : List (List ℕ)) (lacks : Lacks) (found : List (List ℕ × Got)) (all : List Classified) (read : Result (Unit {0}) MailError) : Type 0 where
   pub gone : List (List ℕ × Got)
   pub each : AllZip IsClassified gone all

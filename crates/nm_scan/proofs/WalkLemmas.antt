@@ -7,11 +7,11 @@ use Rattle.std.proofs.lemmas.List.Elements.{filter-append}
 use Rattle.nm_base.specs.declared.limit.Limit.{Limit}
 use Rattle.nm_base.specs.MailPath.{is_mail_path}
 use Rattle.nm_maildir.specs.Tree.{Tree, listing_of}
-use Rattle.nm_scan.specs.Walking.{Met, Walks, counts, file, folder, folder_inside, inside, is_walked, mail_met, met_in, not_begun, part_met, paths_in, paths_walked, scanned, to_come, walked, walked_through, with_folder, with_met}
+use Rattle.nm_scan.specs.Walk.{Met, Walks, counts, file, folder, folder_inside, inside, is_walked, mail_met, met_in, not_begun, part_met, paths_in, paths_walked, scanned, to_come, walked, walked_through, with_folder, with_met}
 use Rattle.nm_scan.specs.declared.scan_error.ScanError.{ScanError}
 use Rattle.nm_scan.specs.declared.scan_error.ScanError.TheVariants as errors
-use Rattle.nm_scan.specs.declared.walking.Folder.{Folder}
-use Rattle.nm_scan.specs.declared.walking.Walk.{Walk}
+use Rattle.nm_scan.specs.declared.walk.Folder.{Folder}
+use Rattle.nm_scan.specs.declared.walk.Walk.{Walk}
 
 -- a limit that was passed stays so
 pub err-stays : (limit : Limit) (all : List Met) → fold with_met (Err limit) all ≡ Err limit
@@ -70,7 +70,7 @@ others-come levels tree dir (name ∷ names) pending =
     append_assoc (met_in levels tree (inside dir name)) (flat_map (λ name. met_in levels tree (inside dir name)) names) (to_come tree pending)
     ∙ ap (λ l. met_in levels tree (inside dir name) ++ l) (others-come levels tree dir names pending)
 
--- what a folder holds behind itself
+-- what a folder holds after itself
 abbrev behind : ℕ → Tree → List ℕ → List Met
 behind zero tree dir = []
 behind (suc levels) tree dir = part_met levels tree dir (codes "new") ++ (part_met levels tree dir (codes "cur") ++ flat_map (λ name. met_in levels tree (inside dir name)) (filter is_walked (listing_of tree dir).dirs))
@@ -79,11 +79,11 @@ folder-first : (levels : ℕ) (tree : Tree) (dir : List ℕ) → met_in levels t
 folder-first zero tree dir = refl
 folder-first (suc levels) tree dir = refl
 
--- what is told is this error
+-- what is reported is this error
 abbrev Told : ScanError → ScanError → Type 0
 Told error other = ◌≡◌ {A = Result (Unit {0}) ScanError} (Err error) (Err other)
 
--- a step that told a limit expected it
+-- a step that reported a limit expected it
 limit-is : (expected : Result Walk Limit) (error : ScanError) (limit : Limit) (new : Walk) → Walks {T = Unit {0}} expected (Err error) new → Told error (errors.Limit limit) → expected ≡ Err limit
 limit-is expected error limit new h e = subst (λ (r : Result (Unit {0}) ScanError). Walks {T = Unit {0}} expected r new) e h
 
@@ -107,7 +107,7 @@ folder-stops (Some t) walk new levels dir error h limit e =
     ap (walked walk) (folder-first levels t dir)
     ∙ (ap (λ (r : Result Walk Limit). fold with_met r (behind levels t dir)) (limit-is (with_folder levels walk) error limit new h e) ∙ err-stays limit (behind levels t dir))
 
--- what is met behind a folder that is listed
+-- what is met after a folder that is listed
 in-folder : (walk at : Walk) (levels : ℕ) (tree : Tree) (dir : List ℕ) → with_folder levels walk ≡ Ok at → walked walk (met_in levels tree dir) ≡ walked at (behind levels tree dir)
 in-folder walk at levels tree dir h = ap (walked walk) (folder-first levels tree dir) ∙ ap (λ (r : Result Walk Limit). fold with_met r (behind levels tree dir)) h
 
@@ -182,7 +182,7 @@ err-of (Err error) = error
 abbrev err-with : {B : Type 0} → ScanError → Result B ScanError
 err-with error = Err error
 
--- the same error, told of another result
+-- the same error, of another result
 pub told-again : {A B : Type 0} (error other : ScanError) → ◌≡◌ {A = Result A ScanError} (Err error) (Err other) → ◌≡◌ {A = Result B ScanError} (Err error) (Err other)
 told-again error other e = ap err-with (ap err-of e)
 

@@ -1,6 +1,6 @@
 -- How a `new` reads the files that the index lacks: in batches, one after the other. A batch is closed at 256 answers, or once the
 -- bytes that it found reach 67,108,864, or where no file is left.
--- Cited by `reading` and `nm_writer`.
+-- Cited by `batch_reader` and `nm_writer`.
 use Rattle.std.specs.Prelude.{◌≡◌, ◌⊎◌, ℕ, ◌+◌, ◌<◌, ◌≤◌, List, [], ◌∷◌, ◌++◌, length, take, Option, IfSome}
 use Rattle.nm_base.specs.Limits.{full_bytes, max_mail_bytes}
 use Rattle.nm_base.specs.declared.facts.Facts.{Facts}
@@ -10,7 +10,7 @@ use Rattle.nm_maildir.specs.declared.answers.Got.{Got}
 use Rattle.nm_maildir.specs.declared.answers.Got.TheVariants as got
 use Rattle.nm_maildir.specs.declared.given.Given.{Given}
 use Rattle.nm_plan.specs.Plan.{all_added}
-use Rattle.nm_scan.specs.Reading.{HasRead, HasReadAll, NotesReads, Reads, full_answers}
+use Rattle.nm_scan.specs.FileReads.{HasRead, HasReadAll, NotesReads, Reads, full_answers}
 
 -- how many bytes a read finds
 abbrev pub found_len : Got → ℕ
@@ -36,7 +36,7 @@ pub record IsOpen (tree : Option Tree) (read : List (List ℕ)) : Type 0 where
 abbrev pub IsFull : Option Tree → List (List ℕ) → Type 0
 IsFull tree read = (full_answers ≤ length read) ⊎ IfSome tree (λ t. full_bytes ≤ len_at_all t read)
 
--- These paths are one batch, and those are behind it: it was open before the last of its paths, and with it is full, or none is left.
+-- These paths are one batch, and those are after it: it was open before the last of its paths, and with it is full, or none is left.
 pub record IsBatch (tree : Option Tree) (read rest : List (List ℕ)) : Type 0 where
   pub before : List (List ℕ)
   pub last : List ℕ
@@ -57,20 +57,20 @@ pub record IsUnfinished (tree : Option Tree) (given : List Given) (paths : List 
   pub notes : NotesReads tree given (take answered paths)
   pub is_open : IsOpen tree (take answered paths)
 
--- One batch of the paths was read, which is noted behind what was noted before; these are behind it, and these mails were found.
+-- One batch of the paths was read, which is noted after what was noted before; these are after it, and these mails were found.
 pub record HasReadBatch (old new : ObservedMail) (old_given new_given : List Given) (paths rest : List (List ℕ)) (added : List (List ℕ × Facts)) : Type 0 where
   pub read : List (List ℕ)
   pub paths_are : paths ≡ read ++ rest
   pub batch : IsBatch old.tree read rest
   pub all : HasReadAll old new old_given new_given read added
 
--- The reading stopped in a batch: of its paths the first were read, no more than a batch has, which is noted behind what was noted before.
+-- The reading stopped in a batch: of its paths the first were read, no more than a batch has, which is noted after what was noted before.
 pub record StopsInBatch (old new : ObservedMail) (old_given new_given : List Given) (paths : List (List ℕ)) : Type 0 where
   pub first : HasRead old new old_given new_given paths
   pub few : first.reading.asked ≤ full_answers
   pub is_open : IsOpen old.tree (take first.reading.answered paths)
 
--- The first of the paths were read in batches, and nothing else was asked; that is noted behind what was noted before.
+-- The first of the paths were read in batches, and nothing else was asked; that is noted after what was noted before.
 pub record HasReadBatches (old new : ObservedMail) (old_given new_given : List Given) (paths : List (List ℕ)) (batches : List (List (List ℕ × Facts)))
     (left : List (List ℕ)) : Type 0 where
   pub read : List (List ℕ)

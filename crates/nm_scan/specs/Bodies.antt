@@ -1,4 +1,4 @@
--- What `show` reads of a mail folder: files one after the other, of so many bytes in all.
+-- What `show` reads of a mail folder: files one after the other, of n bytes in all.
 -- Cited by `bodies`, `bodies_error`, `nm_session` and others.
 use Rattle.std.specs.Prelude.{◌≡◌, ℕ, ◌+◌, ◌-◌, ◌<◌, ◌≤◌, Bool, true, false, List, [], ◌∷◌, ◌++◌, length, take, Option, IfSome, IsTrue, nat_lt}
 use Rattle.nm_base.specs.Limits.{max_mail_bytes}
@@ -12,7 +12,7 @@ use Rattle.nm_maildir.specs.declared.given.Given.{Given}
 use Rattle.nm_maildir.specs.declared.given.Given.TheVariants as givens
 use Rattle.nm_maildir.specs.declared.given.ReadAnswer.{ReadAnswer}
 use Rattle.nm_maildir.specs.declared.given.ReadAnswer.TheVariants as answers
-use Rattle.nm_scan.specs.Reading.{after_reads, read_with}
+use Rattle.nm_scan.specs.FileReads.{after_reads, read_with}
 use Rattle.nm_scan.specs.declared.bodies_error.BodiesError.{BodiesError}
 use Rattle.nm_scan.specs.declared.bodies_error.BodiesError.TheVariants.{MailFault, ShowBytes, NoMemory}
 
@@ -37,13 +37,13 @@ abbrev pub bytes_given : List Given → ℕ
 bytes_given [] = 0
 bytes_given (first ∷ given) = given_len first + bytes_given given
 
--- how many of so many bytes these leave
+-- how many of n bytes these leave
 abbrev pub left_after : ℕ → List Given → ℕ
 left_after left given = left - bytes_given given
 
 -- ---- one file
 
--- what a read tells of a file whose bytes are shown
+-- what a read says of a file whose bytes are shown
 abbrev pub body_of : Got → ReadAnswer
 body_of (got.Found bytes) = answers.Body bytes
 body_of got.Missing = answers.Missing
@@ -65,7 +65,7 @@ is_over left answers.Missing = false
 is_over left answers.TooLong = nat_lt left max_mail_bytes
 is_over left (answers.Body bytes) = false
 
--- What a read of the path gave, of at most the bytes that are left; a tree that is told says what that is.
+-- What a read of the path gave, of at most the bytes that are left; a tree that is known says what that is.
 pub record IsBody (tree : Option Tree) (left : ℕ) (path : List ℕ) (answer : ReadAnswer) : Type 0 where
   pub read : IsTrue (is_body_answer answer)
   pub within : is_over left answer ≡ false
@@ -80,7 +80,7 @@ AreBodies tree left given (path ∷ paths) =
     (answer : ReadAnswer) × (more : List Given) × (given ≡ givens.Read path answer ∷ more)
     × IsBody tree left path answer × AreBodies tree (left - body_len answer) more paths
 
--- All the paths were read, and nothing else was asked; that is noted behind what was noted before.
+-- All the paths were read, and nothing else was asked; that is noted after what was noted before.
 pub record HasReadBodies (old new : ObservedMail) (left : ℕ) (old_given new_given : List Given) (paths : List (List ℕ)) : Type 0 where
   pub given : List Given
   pub given_is : new_given ≡ old_given ++ given
@@ -88,7 +88,7 @@ pub record HasReadBodies (old new : ObservedMail) (left : ℕ) (old_given new_gi
   pub mail : new ≡ after_reads old paths
 
 -- Why the reading stops at a path, how often it was asked for, and what is noted of it: the folder failed, or the file has more bytes
--- than are left, or memory was wanting.
+-- than are left, or memory ran out.
 abbrev pub IsStop : BodiesError → Option Tree → ℕ → List ℕ → ℕ → List Given → Type 0
 IsStop MailFault tree left path asked given = (asked ≡ 1) × (given ≡ [])
 IsStop ShowBytes tree left path asked given =
@@ -121,7 +121,7 @@ is_folder_fault MailFault = true
 is_folder_fault ShowBytes = false
 is_folder_fault NoMemory = false
 
--- a file was read, and so many bytes are left
+-- a file was read, and n bytes are left
 pub record HasReadBody (old new : ObservedMail) (left rest : ℕ) (old_given new_given : List Given) (path : List ℕ) : Type 0 where
   pub answer : ReadAnswer
   pub given_is : new_given ≡ old_given ++ givens.Read path answer ∷ []

@@ -1,5 +1,5 @@
 -- The files of a batch as they were found, before it is known which of them are mail; and what is made of each.
--- Cited by `classifying`, `files` and `parts`.
+-- Cited by `classes`, `files` and `parts`.
 use Rattle.std.specs.Prelude.{◌≡◌, ◌⊎◌, ℕ, ◌+◌, ◌-◌, ◌<◌, ◌≤◌, List, [], ◌∷◌, ◌++◌, length, map, take, Option, IfSome, Result, OnErr, OnOk}
 use Rattle.std.specs.List.{AllByRecursion, AllZip}
 use Rattle.nm_base.specs.declared.facts.Facts.{Facts}
@@ -11,24 +11,24 @@ use Rattle.nm_maildir.specs.declared.answers.MailError.{MailError}
 use Rattle.nm_maildir.specs.declared.given.Given.{Given}
 use Rattle.nm_maildir.specs.declared.given.Given.TheVariants as givens
 use Rattle.nm_scan.specs.Batches.{IsBatch, IsOpen, len_at_all}
-use Rattle.nm_scan.specs.Reading.{Classifies, NotesReads, Reads, after_reads, arrival, full_answers, read_with}
-use Rattle.nm_scan.specs.declared.classifying.Classified.{Classified}
+use Rattle.nm_scan.specs.FileReads.{Classifies, NotesReads, Reads, after_reads, arrival, full_answers, read_with}
+use Rattle.nm_scan.specs.declared.classes.Classified.{Classified}
 use Rattle.nm_scan.specs.declared.files.Lacks.{Lacks}
 
 -- the paths of these files
 abbrev pub paths_found : List (List ℕ × Got) → List (List ℕ)
 paths_found found = map (λ one. one.0) found
 
--- a tree that is told says what each read found
-abbrev pub AreTold : Option Tree → List (List ℕ × Got) → Type 0
-AreTold tree found = AllByRecursion (λ one. IfSome tree (λ t. one.1 ≡ got_of t one.0 max_mail_bytes)) found
+-- a tree that is known says what each read found
+abbrev pub AreKnown : Option Tree → List (List ℕ × Got) → Type 0
+AreKnown tree found = AllByRecursion (λ one. IfSome tree (λ t. one.1 ≡ got_of t one.0 max_mail_bytes)) found
 
 -- Each of these paths was read, in order, and this was found.
 pub record HasFound (old new : ObservedMail) (found : List (List ℕ × Got)) : Type 0 where
-  pub told : AreTold old.tree found
+  pub told : AreKnown old.tree found
   pub mail : new ≡ after_reads old (paths_found found)
 
--- One batch of the paths was read, and this was found; these are behind it.
+-- One batch of the paths was read, and this was found; these are after it.
 pub record HasFoundBatch (old new : ObservedMail) (paths rest : List (List ℕ)) (found : List (List ℕ × Got)) : Type 0 where
   pub paths_are : paths ≡ paths_found found ++ rest
   pub batch : IsBatch old.tree (paths_found found) rest
@@ -40,7 +40,7 @@ pub record StopsFinding (old new : ObservedMail) (paths : List (List ℕ)) (foun
   pub within : asked ≤ length paths
   pub last : (length found ≤ asked) × (asked ≤ full_answers)
   pub front : paths_found found ≡ take (length found) paths
-  pub told : AreTold old.tree found
+  pub told : AreKnown old.tree found
   pub read : new.reads ≡ read_with old.reads (take asked paths)
   pub tree : new.tree ≡ old.tree
   pub is_open : IsOpen old.tree (paths_found found)
@@ -81,13 +81,13 @@ pub record IsClassified (found : List ℕ × Got) (classified : Classified) : Ty
   pub path : classified.path ≡ found.0
   pub classes : Classifies found.1 (classified.answer, classified.facts)
 
--- One batch of the paths was read, and each of its files is told.
+-- One batch of the paths was read, and each of its files is listed.
 pub record HasClassifiedBatch (old new : ObservedMail) (paths rest : List (List ℕ)) (all : List Classified) : Type 0 where
   pub found : List (List ℕ × Got)
   pub batch : HasFoundBatch old new paths rest found
   pub each : AllZip IsClassified found all
 
--- The reading stopped in a batch, or memory did; of what was found the first are told.
+-- The reading stopped in a batch, or memory did; of what was found the first are reported.
 pub record StopsClassifying (old new : ObservedMail) (paths : List (List ℕ)) (all : List Classified) : Type 0 where
   pub found : List (List ℕ × Got)
   pub stops : StopsFinding old new paths found
@@ -101,7 +101,7 @@ given_of classified = givens.Read classified.path classified.answer
 abbrev pub mail_found : Classified → List (List ℕ × Facts)
 mail_found classified = arrival classified.path classified.facts
 
--- The first of these are noted behind what was noted before, and another is not.
+-- The first of these are noted after what was noted before, and another is not.
 pub record HasNotedFront (all : List Classified) (old new : List Given) : Type 0 where
   pub front : List Classified
   pub next : Classified
@@ -109,16 +109,16 @@ pub record HasNotedFront (all : List Classified) (old new : List Given) : Type 0
   pub all_are : all ≡ front ++ next ∷ rest
   pub given_is : new ≡ old ++ map given_of front
 
--- All of these files are noted behind what was noted before, and these of them are mail.
+-- All of these files are noted after what was noted before, and these of them are mail.
 pub record HasNotedAll (found : List (List ℕ × Got)) (old new : List Given) (added : List (List ℕ × Facts)) : Type 0 where
   pub given : List Given
   pub given_is : new ≡ old ++ given
-  pub reading : (tree : Option Tree) → AreTold tree found → Reads tree given (paths_found found) added
+  pub reading : (tree : Option Tree) → AreKnown tree found → Reads tree given (paths_found found) added
 
--- The first of these files are noted behind what was noted before, or none of them, and never all.
+-- The first of these files are noted after what was noted before, or none of them, and never all.
 pub record HasNotedSome (found : List (List ℕ × Got)) (old new : List Given) : Type 0 where
   pub given : List Given
   pub given_is : new ≡ old ++ given
   pub answered : ℕ
   pub some : (answered ≡ 0) ⊎ (answered < length found)
-  pub reading : (tree : Option Tree) → AreTold tree found → NotesReads tree given (take answered (paths_found found))
+  pub reading : (tree : Option Tree) → AreKnown tree found → NotesReads tree given (take answered (paths_found found))

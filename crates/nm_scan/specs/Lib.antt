@@ -1,8 +1,8 @@
 pub mod Batches
 pub mod Bodies
+pub mod FileReads
 pub mod Found
 pub mod Listing
-pub mod Reading
-pub mod Scanning
-pub mod Walking
 pub mod Mail
+pub mod Scan
+pub mod Walk

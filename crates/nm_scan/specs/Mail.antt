@@ -4,7 +4,7 @@ use Rattle.nm_base.specs.Limits.{max_depth}
 use Rattle.nm_base.specs.MailPath.{is_mail_path}
 use Rattle.nm_base.specs.Order.{has_text}
 use Rattle.nm_maildir.specs.Tree.{Tree, listing_of}
-use Rattle.nm_scan.specs.Walking.{Met, counts, file, folder, inside, is_walked, met_in}
+use Rattle.nm_scan.specs.Walk.{Met, counts, file, folder, inside, is_walked, met_in}
 
 -- the paths of the files that were met
 abbrev pub paths_met : List Met → List (List ℕ)
@@ -16,7 +16,7 @@ paths_met (file path ∷ all) = path ∷ paths_met all
 abbrev pub mail_of : Tree → List (List ℕ)
 mail_of tree = paths_met (met_in (1 + max_depth) tree [])
 
--- A walk comes to the folder: it is the root, or lies in one that a walk comes to and is one that is walked through.
+-- A walk comes to the folder: it is the root, or is in one that a walk comes to and is one that is walked through.
 pub data IsReached (tree : Tree) : List ℕ → Type 0 where
   root : IsReached tree []
   below : (dir name : List ℕ) → IsReached tree dir → IsTrue (has_text (listing_of tree dir).dirs name) → IsTrue (is_walked name) → IsReached tree (inside dir name)

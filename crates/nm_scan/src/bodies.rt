@@ -12,7 +12,7 @@ use nm_maildir::{Given, Got, Maildir, ReadAnswer};
 /// The most bytes of a file that is shown.
 const MAX_BYTES: u64 = 67_108_864;
 
-/// How many of so many bytes are left when the folder has given this.
+/// How many of n bytes are left when the folder has given this.
 pub fn left_after(left: u64, given: &[Given]) -> u64
     ensures { result ≡ left_after left given.now }
 {
@@ -45,7 +45,7 @@ fn body_len(answer: &ReadAnswer) -> u64
     }
 }
 
-/// Reads the files in order, of at most so many bytes in all, and notes what is answered of each.
+/// Reads the files in order, of at most n bytes in all, and notes what is answered of each.
 pub fn read_bodies<M: Maildir>(
     mail: &mut M,
     paths: &[MailPath],

@@ -6,7 +6,7 @@ ghost use Rattle.nm_maildir.specs.Observed.{HasMailCause};
 ghost use Rattle.nm_maildir.specs.declared.answers.Got.{Got};
 ghost use Rattle.nm_scan.specs.Batches.{found_len, len_at};
 ghost use Rattle.nm_scan.specs.Found.{HasFound, IsClosed, ReadsOn, lacks_all};
-ghost use Rattle.nm_scan.specs.Reading.{AsksOnce};
+ghost use Rattle.nm_scan.specs.FileReads.{AsksOnce};
 
 use nm_base::{MailPath, Many};
 use nm_maildir::{Got, MailError, Maildir};
@@ -39,7 +39,7 @@ impl Lacks {
         }
     }
 
-    /// An answer with so many bytes has come.
+    /// An answer with n bytes has come.
     fn take(&mut self, len: u64)
         ensures answers { self.new.answers ≡ self.old.answers - 1 }
         ensures bytes { self.new.bytes ≡ self.old.bytes - len }
@@ -76,7 +76,7 @@ pub(crate) fn read_part<M: Maildir>(
     Ok(())
 }
 
-/// The next path of a batch, of which so many may still be read.
+/// The next path of a batch, of which n may still be read.
 fn next_path(paths: &mut IntoIter<MailPath, Global>, lacks: &Lacks, left: usize) -> Option<MailPath>
     requires whole { into_iter_len paths.old ≡ length (into_iter_items paths.old) }
     ensures next { MatchOption result

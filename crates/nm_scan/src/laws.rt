@@ -11,9 +11,9 @@ ghost use Rattle.nm_plan.specs.Plan.{all_added};
 ghost use Rattle.nm_scan.specs.Batches.{HasReadBatch, HasReadBatches, HasReadSome, ReadsBatches, StopsInBatch, len_at_all};
 ghost use Rattle.nm_base.specs.Order.{has_text, sorted};
 ghost use Rattle.nm_scan.specs.Bodies.{left_after};
-ghost use Rattle.nm_scan.specs.Walking.{scanned};
+ghost use Rattle.nm_scan.specs.Walk.{scanned};
 ghost use Rattle.nm_scan.specs.Mail.{IsMailAt, mail_of};
-ghost use Rattle.nm_scan.specs.Reading.{Reads, full_answers};
+ghost use Rattle.nm_scan.specs.FileReads.{Reads, full_answers};
 
 /// Batches are the reads of their paths in one: none is read twice, none is passed over, and no mail of one is lost.
 pub fn batches_are_what_was_read()

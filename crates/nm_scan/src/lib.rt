@@ -2,16 +2,17 @@
 //! and in which batches they are read.
 #![tactic(auto)]
 
+mod batch_reader;
 mod bodies;
 mod bodies_error;
-mod classifying;
+mod classes;
 mod files;
 mod laws;
 mod parts;
-mod reading;
 mod scan_error;
-mod walking;
+mod walk;
 
+pub use batch_reader::{Mail, read_batch};
 pub use bodies::{left_after, read_bodies};
 pub use bodies_error::BodiesError;
 pub use laws::{
@@ -19,6 +20,5 @@ pub use laws::{
     batches_are_finished, batches_are_what_was_read, bytes_left_go_down_in_turn,
     few_small_files_are_one_batch, no_batch_is_read_at_first,
 };
-pub use reading::{Mail, read_batch};
 pub use scan_error::ScanError;
-pub use walking::list_paths;
+pub use walk::list_paths;

@@ -6,7 +6,7 @@ ghost use Rattle.std.specs.Vec.Iter.{into_iter_items, into_iter_len};
 ghost use Rattle.nm_maildir.specs.Observed.{HasMailCause};
 ghost use Rattle.nm_scan.specs.Found.{HasClassifiedBatch, IsClassified, IsClosed, ReadsOn, StopsClassifying};
 
-use crate::classifying::{Classified, Classifying, classify_all, take_part};
+use crate::classes::{Classified, Classifying, classify_all, take_part};
 use crate::files::{Lacks, read_part};
 use nm_base::{MailPath, Many, NoMemory};
 use nm_maildir::{Got, MailError, Maildir};
@@ -23,8 +23,8 @@ const FIRST_PART: usize = 18;
 /// No part is larger.
 const MAX_PART: usize = 256;
 
-/// Reads the next batch part by part, and finds which of its files are mail; each is told in `all`, in order. Where the reading or
-/// memory stops it, so are the first of what was read.
+/// Reads the next batch part by part, and finds which of its files are mail; each is listed in `all`, in order. Where the reading
+/// or memory stops it, so are the first of what was read.
 pub(crate) fn classify_batch<R: Threads + Wait + Sync, M: Maildir, G: Gate + Sync>(
     rt: &R,
     alloc: Global,
@@ -63,7 +63,7 @@ pub(crate) fn classify_batch<R: Threads + Wait + Sync, M: Maildir, G: Gate + Syn
     read
 }
 
-/// The error of a reading whose files could not be told: its own, if it has one.
+/// The error of a reading whose files could not be reported: its own, if it has one.
 fn stopped_by_memory(read: Result<(), MailError>) -> Result<(), MailError>
     ensures err { IsErr result }
     ensures cause { (before now : ℕ) → HasMailCause before now read → HasMailCause before now result }

@@ -13,7 +13,7 @@ pub enum ScanError {
     /// The mail folder failed.
     #[error("mail fault")]
     MailFault,
-    /// It has more folders or files than are listed, or folders that lie deeper.
+    /// It has more folders or files than are listed, or folders that are deeper.
     #[error("a limit is passed")]
     Limit(Limit),
     #[error("no memory")]
@@ -29,7 +29,7 @@ impl From<NoMemory> for ScanError {
 }
 
 impl From<MailError> for ScanError {
-    ghost use Rattle.nm_scan.specs.Walking.{scan_error_of};
+    ghost use Rattle.nm_scan.specs.Walk.{scan_error_of};
 
     ghost from_gives = { λ error e. e ≡ scan_error_of error };
 

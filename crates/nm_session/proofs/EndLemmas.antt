@@ -21,7 +21,7 @@ use Rattle.nm_log.specs.declared.log.SessionLog.{SessionLog}
 use Rattle.nm_machine.specs.declared.step.Step.{Step}
 use Rattle.nm_maildir.specs.Observed.{ObservedMail}
 use Rattle.nm_session.specs.Loop.{HasNoted, HasRunSome, StandFor, lines_at, steps_at}
-use Rattle.nm_trace.specs.Marks.{steps_of}
+use Rattle.nm_trace.specs.Trace.{steps_of}
 use Rattle.nm_session.specs.Phases.{HasRunPhases}
 use Rattle.nm_trace.specs.ReservedLog.{HasRoom}
 use Rattle.nm_session.specs.Run.{HasRun, IsKept}
@@ -29,7 +29,7 @@ use Rattle.nm_session.specs.TurnLaws.{FirstLaws}
 use Rattle.nm_session.specs.Turns.{Planned, ends_in, lines_in, planned_from}
 use Rattle.nm_trace.specs.declared.trace.Mark.{Mark}
 use Rattle.nm_trace.specs.declared.reserved_log.ReservedLog.{ReservedLog}
-use Rattle.nm_session.proofs.MarkLemmas.{begun-are}
+use Rattle.nm_session.proofs.TraceLemmas.{begun-are}
 use Rattle.nm_session.proofs.TurnLemmas.{ends-planned, lines-planned, placed-cut, take-within}
 use Rattle.nm_writer.specs.Durable.{IsDurable, KeptSince}
 

@@ -1,13 +1,13 @@
+pub mod BarrierLemmas
 pub mod EndLemmas
+pub mod LaneReadLemmas
 pub mod LineLemmas
-pub mod LookLemmas
 pub mod LoopLemmas
-pub mod MarkLemmas
+pub mod ObservationLemmas
 pub mod PhaseLemmas
 pub mod PlaceLemmas
 pub mod PrintLemmas
 pub mod RunLemmas
 pub mod SessionLemmas
-pub mod SettleLemmas
-pub mod SightLemmas
+pub mod TraceLemmas
 pub mod TurnLemmas

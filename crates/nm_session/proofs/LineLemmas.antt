@@ -20,12 +20,12 @@ use Rattle.nm_log.specs.declared.outcome.Outcome.TheVariants as outcomes
 use Rattle.nm_maildir.specs.declared.given.Given.{Given}
 use Rattle.nm_line.specs.Line.{Ends, IsEven, IsLineAnswer, IsSaid, newly_closed}
 use Rattle.nm_session.specs.LineLog.{IsRun}
-use Rattle.nm_trace.specs.Marks.{begun_mark, line_marks, made_mark, marks_for, reply_mark, said_marks}
+use Rattle.nm_trace.specs.Trace.{begun_mark, line_marks, made_mark, marks_for, reply_mark, said_marks}
 use Rattle.nm_line.specs.declared.line_answer.LineAnswer.{LineAnswer}
 use Rattle.nm_trace.specs.declared.trace.Mark.{Mark}
 use Rattle.nm_trace.specs.declared.trace.Mark.TheVariants as marks
 use Rattle.nm_log.specs.declared.log.Said.{Said}
-use Rattle.nm_session.proofs.MarkLemmas.{mapped, said-marks}
+use Rattle.nm_session.proofs.TraceLemmas.{mapped, said-marks}
 
 -- the answer, also where there was no memory for it
 

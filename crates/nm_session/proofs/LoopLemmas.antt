@@ -1,4 +1,4 @@
--- A turn more keeps what is so of the turns before it. For `PhaseLemmas`, `SettleLemmas` and `RunLemmas`.
+-- A turn more keeps what is so of the turns before it. For `PhaseLemmas`, `BarrierLemmas` and `RunLemmas`.
 use Rattle.std.proofs.Common.{◌≡◌, inl, inr, ℕ, ℤ, ◌+◌, ◌*◌, ◌==◌, ◌<◌, ◌≤◌, Bool, true, false, not, cond, List, [], ◌∷◌, ◌++◌, drop, length, take, refl, sym, ap, ◌∙◌, subst, arith, append-nil}
 use Rattle.std.proofs.lemmas.Bool.Decides.{nat_tests}
 use Rattle.std.proofs.lemmas.Grind.{flat_map-append}
@@ -10,7 +10,7 @@ use Rattle.nm_history.specs.CrashPrefix.{appends}
 use Rattle.nm_history.specs.Given.{GivenAlong}
 use Rattle.nm_history.specs.LineAnswers.{LaneAnswers, LineAnswers}
 use Rattle.nm_history.specs.LineCommits.{LineCommits}
-use Rattle.nm_history.specs.LineResult.{CommitNothing, IsLineResult, IsLookResult, Place, StandsAt, line_steps, look_steps, reply_step}
+use Rattle.nm_history.specs.LineResult.{CommitNothing, IsLineResult, IsLaneReadResult, Place, StandsAt, line_steps, lane_read_steps, reply_step}
 use Rattle.nm_history.specs.Lines.{RunLine, at_first, is_in_lane_zero, lane_zero_lines, other_lane_lines, run_lines}
 use Rattle.nm_history.specs.MachineRun.{MachineRun, Replied, lane_count, reply_to}
 use Rattle.nm_history.specs.PrintedOut.{AreLogsOf, IsNumbered}
@@ -22,9 +22,9 @@ use Rattle.nm_log.specs.declared.log.LineLog.{LineLog}
 use Rattle.nm_machine.specs.declared.step.Step.{Step}
 use Rattle.nm_machine.specs.declared.step.Step.TheVariants.{Meet}
 use Rattle.nm_session.specs.LineLog.{IsNoted}
-use Rattle.nm_session.specs.LaneLog.{IsLookNoted}
-use Rattle.nm_session.specs.Loop.{HasNoted, HasRunSome, IsMeetingNoted, IsTurn, StandFor, lines_at, steps_at}
-use Rattle.nm_trace.specs.Marks.{line_marks, look_marks, steps_of}
+use Rattle.nm_session.specs.LaneLog.{IsLaneReadNoted}
+use Rattle.nm_session.specs.Loop.{HasNoted, HasRunSome, IsBarrierNoted, IsTurn, StandFor, lines_at, steps_at}
+use Rattle.nm_trace.specs.Trace.{line_marks, lane_read_marks, steps_of}
 use Rattle.nm_trace.specs.ReservedLog.{AreFallbacks, HasSpare}
 use Rattle.nm_session.specs.TurnLaws.{TurnLaws}
 use Rattle.nm_session.specs.Turns.{Meets, Planned, Runs, ends_in, line_in, lines_in}
@@ -32,7 +32,7 @@ use Rattle.nm_trace.specs.declared.trace.Mark.{Mark}
 use Rattle.nm_trace.specs.declared.trace.Mark.TheVariants as marks
 use Rattle.nm_trace.specs.declared.reserved_log.ReservedLog.{ReservedLog}
 use Rattle.nm_session.proofs.LineLemmas.{reply-few, still-even}
-use Rattle.nm_session.proofs.MarkLemmas.{line-length, line-stands, line-steps, look-stands, look-steps-are, mapped, stand-append, steps-append}
+use Rattle.nm_session.proofs.TraceLemmas.{line-length, line-stands, line-steps, lane_read-stands, lane_read-steps-are, mapped, stand-append, steps-append}
 use Rattle.nm_session.proofs.PlaceLemmas.{IsCut, others-alone, shows-made, stand-between, stand-cut, steps-between, steps-cut}
 use Rattle.nm_session.proofs.TurnLemmas.{IsNext}
 
@@ -192,7 +192,7 @@ module _ (moment : ℤ) (planned : List Planned) (phase : ℕ) (line : ScriptLin
           (laws.answers opening moment phase entry (steps_at before old) taken zeros some.acknowledged old new (line, h.log) some.at is-result some.line_answers));
       lane_answers = both (λ steps ran. LaneAnswers opening moment steps (other_lane_lines ran))
           (subst (λ (l : List RunLine). LaneAnswers opening moment (steps_at before old ++ taken) l) (sym (others-same lines (line, h.log) zero-is))
-          (laws.still_looks opening moment (steps_at before old) taken (other_lane_lines lines) some.lane_answers));
+          (laws.still_lane_reads opening moment (steps_at before old) taken (other_lane_lines lines) some.lane_answers));
       given = both (λ steps ran. GivenAlong opening moment steps (at_first opening entry) (lane_zero_lines ran) entry.mail new.mail)
           (subst (λ (l : List RunLine). GivenAlong opening moment (steps_at before old ++ taken) (at_first opening entry) l entry.mail new.mail) (sym zeros-are)
           (laws.given opening moment phase entry (steps_at before old) taken zeros some.acknowledged old new (line, h.log) some.at is-result some.given));
@@ -203,7 +203,7 @@ module _ (moment : ℤ) (planned : List Planned) (phase : ℕ) (line : ScriptLin
 -- ---- a line of another lane
 
 module _ (moment : ℤ) (planned : List Planned) (phase : ℕ) (line : ScriptLine) (before after : ReservedLog) (place : Place) (noted : HasNoted planned before place) (another : 1 ≤ line.lane)
-    (h : IsLookNoted moment phase place.writer line before after) where
+    (h : IsLaneReadNoted moment phase place.writer line before after) where
   abbrev log : LineLog
   log = h.noted.log
 
@@ -211,7 +211,7 @@ module _ (moment : ℤ) (planned : List Planned) (phase : ℕ) (line : ScriptLin
   replies = reply_to (line, log)
 
   abbrev looking : List Step
-  looking = look_steps line.lane replies
+  looking = lane_read_steps line.lane replies
 
   abbrev ms : List Mark
   ms = take h.at before.marks.0
@@ -230,22 +230,22 @@ module _ (moment : ℤ) (planned : List Planned) (phase : ℕ) (line : ScriptLin
 
   steps-before : steps_at before place ≡ front ++ back
   steps-before =
-      ap (λ (l : List Mark). steps_of l place.writer.begun) (sym (take-append-drop h.at before.marks.0)) ∙ steps-cut ms (look_marks line.lane replies) ns place.writer.begun cut (look-stands line.lane replies)
+      ap (λ (l : List Mark). steps_of l place.writer.begun) (sym (take-append-drop h.at before.marks.0)) ∙ steps-cut ms (lane_read_marks line.lane replies) ns place.writer.begun cut (lane_read-stands line.lane replies)
 
-  steps-looked : steps_at after place ≡ front ++ (looking ++ back)
-  steps-looked =
+  steps-lane_answer : steps_at after place ≡ front ++ (looking ++ back)
+  steps-lane_answer =
       ap (λ (l : List Mark). steps_of l place.writer.begun) h.noted.marks
-      ∙ (steps-between ms (look_marks line.lane replies) ns place.writer.begun cut (look-stands line.lane replies) ∙ ap (λ (l : List Step). front ++ (l ++ back)) (look-steps-are line.lane replies))
+      ∙ (steps-between ms (lane_read_marks line.lane replies) ns place.writer.begun cut (lane_read-stands line.lane replies) ∙ ap (λ (l : List Step). front ++ (l ++ back)) (lane_read-steps-are line.lane replies))
 
-  lines-looked : lines_at (planned ++ Runs phase line ∷ []) after ≡ lines_at planned before ++ (line, log) ∷ []
-  lines-looked =
+  lines-lane_answer : lines_at (planned ++ Runs phase line ∷ []) after ≡ lines_at planned before ++ (line, log) ∷ []
+  lines-lane_answer =
       ap (λ (l : List PlacedLine). run_lines l after.logs.0) (lines-more planned phase line)
       ∙ (ap (λ (l : List LineLog). run_lines (lines_in planned ++ (phase, line) ∷ []) l) h.noted.logs ∙ zip-more (lines_in planned) before.logs.0 (phase, line) log noted.logs)
 
-  few-looked : length (steps_at after place) ≤ 2 * length (planned ++ Runs phase line ∷ []) + 3 * length place.writer.begun
-  few-looked = omega (
+  few-lane_answer : length (steps_at after place) ≤ 2 * length (planned ++ Runs phase line ∷ []) + 3 * length place.writer.begun
+  few-lane_answer = omega (
     arith,
-    ap length steps-looked ∙ length-append front (looking ++ back),
+    ap length steps-lane_answer ∙ length-append front (looking ++ back),
     length-append looking back,
     ap length steps-before ∙ length-append front back,
     length-append planned (Runs phase line ∷ []),
@@ -254,42 +254,42 @@ module _ (moment : ℤ) (planned : List Planned) (phase : ℕ) (line : ScriptLin
     noted.few,
   )
 
-  look-noted : HasNoted (planned ++ Runs phase line ∷ []) after place
-  look-noted = record {
+  lane_read-noted : HasNoted (planned ++ Runs phase line ∷ []) after place
+  lane_read-noted = record {
     logs = subst (λ (l : List PlacedLine). AreLogsOf l after.logs.0) (sym (lines-more planned phase line))
-        (subst (λ (l : List LineLog). AreLogsOf (lines_in planned ++ (phase, line) ∷ []) l) (sym h.noted.logs) (logs-more (lines_in planned) before.logs.0 (phase, line) log noted.logs h.noted.look.numbers));
-    stand = subst (λ (l : List Mark). StandFor l place.writer.begun) (sym h.noted.marks) (stand-between ms (look_marks line.lane replies) ns place.writer.begun cut (look-stands line.lane replies));
-    few = few-looked;
+        (subst (λ (l : List LineLog). AreLogsOf (lines_in planned ++ (phase, line) ∷ []) l) (sym h.noted.logs) (logs-more (lines_in planned) before.logs.0 (phase, line) log noted.logs h.noted.lane_read.numbers));
+    stand = subst (λ (l : List Mark). StandFor l place.writer.begun) (sym h.noted.marks) (stand-between ms (lane_read_marks line.lane replies) ns place.writer.begun cut (lane_read-stands line.lane replies));
+    few = few-lane_answer;
     within = noted.within;
     even = noted.even;
   }
 
-  both-looked : (P : List Step → List RunLine → Type 0) → P (front ++ (looking ++ back)) (lines_at planned before ++ (line, log) ∷ []) → P (steps_at after place) (lines_at (planned ++ Runs phase line ∷ []) after)
-  both-looked P p = subst (λ (l : List Step). P l (lines_at (planned ++ Runs phase line ∷ []) after)) (sym steps-looked) (subst (λ (l : List RunLine). P (front ++ (looking ++ back)) l) (sym lines-looked) p)
+  both-lane_answer : (P : List Step → List RunLine → Type 0) → P (front ++ (looking ++ back)) (lines_at planned before ++ (line, log) ∷ []) → P (steps_at after place) (lines_at (planned ++ Runs phase line ∷ []) after)
+  both-lane_answer P p = subst (λ (l : List Step). P l (lines_at (planned ++ Runs phase line ∷ []) after)) (sym steps-lane_answer) (subst (λ (l : List RunLine). P (front ++ (looking ++ back)) l) (sym lines-lane_answer) p)
 
   module _ (laws : TurnLaws) (opening : Base) (entry : Devices) (some : HasRunSome moment opening entry planned before place) (place_is : phase ≡ ends_in planned) (exists : line.lane < lane_count) where
     abbrev lines-before : List RunLine
     lines-before = lines_at planned before
 
-    look-result : IsLookResult moment phase opening some.acknowledged h.index (line, log) looking back
-    look-result = record {
+    lane_read-result : IsLaneReadResult moment phase opening some.acknowledged h.index (line, log) looking back
+    lane_read-result = record {
       another = another;
       exists = exists;
-      numbers = h.noted.look.numbers;
+      numbers = h.noted.lane_read.numbers;
       alone = others-alone line.lane ns cut.second cut.back h.place.others;
       seen = h.seen;
       later = h.later;
       both = sym some.at.published ∙ h.both;
       shown = sym h.place.made ∙ sym (shows-made ns cut.second cut.back);
       index_is = h.index_is ∙ ap (λ (b : Base). folded b h.seen) some.at.opens;
-      revision = h.noted.look.revision;
-      cause = h.noted.look.cause;
-      status = h.noted.look.status;
-      text = h.noted.look.text;
-      given = h.noted.look.given;
-      mail = h.noted.look.mail;
-      disk = h.noted.look.disk;
-      well = h.noted.look.well;
+      revision = h.noted.lane_read.revision;
+      cause = h.noted.lane_read.cause;
+      status = h.noted.lane_read.status;
+      text = h.noted.lane_read.text;
+      given = h.noted.lane_read.given;
+      mail = h.noted.lane_read.mail;
+      disk = h.noted.lane_read.disk;
+      well = h.noted.lane_read.well;
       steps = refl;
     }
 
@@ -297,7 +297,7 @@ module _ (moment : ℤ) (planned : List Planned) (phase : ℕ) (line : ScriptLin
     other-is = not-zero line.lane another
 
     nothing : CommitNothing looking
-    nothing = laws.look_nothing line.lane replies
+    nothing = laws.lane_read_nothing line.lane replies
 
     zeros-same : lane_zero_lines (lines-before ++ (line, log) ∷ []) ≡ lane_zero_lines lines-before
     zeros-same = zero-same lines-before (line, log) other-is
@@ -305,39 +305,39 @@ module _ (moment : ℤ) (planned : List Planned) (phase : ℕ) (line : ScriptLin
     stood : StandsAt opening entry (front ++ back) (lane_zero_lines lines-before) some.acknowledged place
     stood = subst (λ (l : List Step). StandsAt opening entry l (lane_zero_lines lines-before) some.acknowledged place) steps-before some.at
 
-    look-some : HasRunSome moment opening entry (planned ++ Runs phase line ∷ []) after place
-    look-some = record {
+    lane_read-some : HasRunSome moment opening entry (planned ++ Runs phase line ∷ []) after place
+    lane_read-some = record {
       acknowledged = some.acknowledged;
-      at = both-looked (λ steps ran. StandsAt opening entry steps (lane_zero_lines ran) some.acknowledged place)
+      at = both-lane_answer (λ steps ran. StandsAt opening entry steps (lane_zero_lines ran) some.acknowledged place)
           (subst (λ (l : List RunLine). StandsAt opening entry (front ++ (looking ++ back)) l some.acknowledged place) (sym zeros-same)
           (laws.between_stands opening entry front back looking (lane_zero_lines lines-before) some.acknowledged place nothing stood));
-      machine_run = both-looked (λ steps ran. MachineRun opening moment (at_first opening entry) steps ran some.acknowledged (ends_in (planned ++ Runs phase line ∷ [])))
+      machine_run = both-lane_answer (λ steps ran. MachineRun opening moment (at_first opening entry) steps ran some.acknowledged (ends_in (planned ++ Runs phase line ∷ [])))
           (subst (λ (n : ℕ). MachineRun opening moment (at_first opening entry) (front ++ (looking ++ back)) (lines-before ++ (line, log) ∷ []) some.acknowledged n) (place_is ∙ sym (ends-line planned phase line))
-          (laws.look_run opening moment phase (at_first opening entry) front back looking lines-before some.acknowledged h.index (line, log) look-result
+          (laws.lane_read_run opening moment phase (at_first opening entry) front back looking lines-before some.acknowledged h.index (line, log) lane_read-result
           (subst (λ (n : ℕ). MachineRun opening moment (at_first opening entry) (front ++ back) lines-before some.acknowledged n) (sym place_is)
           (subst (λ (l : List Step). MachineRun opening moment (at_first opening entry) l lines-before some.acknowledged (ends_in planned)) steps-before some.machine_run))));
-      line_commits = both-looked (λ steps ran. LineCommits opening moment entry.mail.tree steps (lane_zero_lines ran) some.acknowledged)
+      line_commits = both-lane_answer (λ steps ran. LineCommits opening moment entry.mail.tree steps (lane_zero_lines ran) some.acknowledged)
           (subst (λ (l : List RunLine). LineCommits opening moment entry.mail.tree (front ++ (looking ++ back)) l some.acknowledged) (sym zeros-same)
           (laws.between_commits opening moment entry.mail.tree front back looking (lane_zero_lines lines-before) some.acknowledged nothing
           (subst (λ (l : List Step). LineCommits opening moment entry.mail.tree l (lane_zero_lines lines-before) some.acknowledged) steps-before some.line_commits)));
-      line_answers = both-looked (λ steps ran. LineAnswers opening moment (at_first opening entry) steps (lane_zero_lines ran))
+      line_answers = both-lane_answer (λ steps ran. LineAnswers opening moment (at_first opening entry) steps (lane_zero_lines ran))
           (subst (λ (l : List RunLine). LineAnswers opening moment (at_first opening entry) (front ++ (looking ++ back)) l) (sym zeros-same)
           (laws.between_answers opening moment front back looking (at_first opening entry) (lane_zero_lines lines-before) nothing
           (subst (λ (l : List Step). LineAnswers opening moment (at_first opening entry) l (lane_zero_lines lines-before)) steps-before some.line_answers)));
-      lane_answers = both-looked (λ steps ran. LaneAnswers opening moment steps (other_lane_lines ran))
+      lane_answers = both-lane_answer (λ steps ran. LaneAnswers opening moment steps (other_lane_lines ran))
           (subst (λ (l : List RunLine). LaneAnswers opening moment (front ++ (looking ++ back)) l) (sym (others-more lines-before (line, log) other-is))
-          (laws.look_answers opening moment phase entry front back looking (lane_zero_lines lines-before) (other_lane_lines lines-before) some.acknowledged place h.index (line, log) stood look-result
+          (laws.lane_read_answers opening moment phase entry front back looking (lane_zero_lines lines-before) (other_lane_lines lines-before) some.acknowledged place h.index (line, log) stood lane_read-result
           (subst (λ (l : List Step). LaneAnswers opening moment l (other_lane_lines lines-before)) steps-before some.lane_answers)));
-      given = both-looked (λ steps ran. GivenAlong opening moment steps (at_first opening entry) (lane_zero_lines ran) entry.mail place.mail)
+      given = both-lane_answer (λ steps ran. GivenAlong opening moment steps (at_first opening entry) (lane_zero_lines ran) entry.mail place.mail)
           (subst (λ (l : List RunLine). GivenAlong opening moment (front ++ (looking ++ back)) (at_first opening entry) l entry.mail place.mail) (sym zeros-same)
           (laws.between_given opening moment front back looking (at_first opening entry) (lane_zero_lines lines-before) entry.mail place.mail nothing
           (subst (λ (l : List Step). GivenAlong opening moment l (at_first opening entry) (lane_zero_lines lines-before) entry.mail place.mail) steps-before some.given)));
-      clocks = both-looked (λ steps ran. length place.writer.acked ≡ appends steps) (some.clocks ∙ (ap appends steps-before ∙ sym (laws.between_acknowledged front back looking nothing)));
+      clocks = both-lane_answer (λ steps ran. length place.writer.acked ≡ appends steps) (some.clocks ∙ (ap appends steps-before ∙ sym (laws.between_acknowledged front back looking nothing)));
     }
 
 -- ---- the end of a phase
 
-module _ (moment : ℤ) (planned : List Planned) (before after : ReservedLog) (place : Place) (noted : HasNoted planned before place) (h : IsMeetingNoted before after) where
+module _ (moment : ℤ) (planned : List Planned) (before after : ReservedLog) (place : Place) (noted : HasNoted planned before place) (h : IsBarrierNoted before after) where
   logs-are : after.logs.0 ≡ before.logs.0
   logs-are = ap (λ (l : List LineLog × ℕ). l.0) h.logs
 
@@ -370,13 +370,13 @@ module _ (moment : ℤ) (planned : List Planned) (before after : ReservedLog) (p
           (laws.still_stands opening entry (steps_at before place) (Meet ∷ []) (lane_zero_lines (lines_at planned before)) some.acknowledged place (refl, refl) some.at);
       machine_run = both-met (λ steps ran. MachineRun opening moment (at_first opening entry) steps ran some.acknowledged (ends_in (planned ++ Meets ∷ [])))
           (subst (λ (n : ℕ). MachineRun opening moment (at_first opening entry) (steps_at before place ++ Meet ∷ []) (lines_at planned before) some.acknowledged n) (sym (ends-meet planned))
-          (laws.meeting opening moment (ends_in planned) (at_first opening entry) (steps_at before place) (lines_at planned before) some.acknowledged some.machine_run));
+          (laws.last_barrier opening moment (ends_in planned) (at_first opening entry) (steps_at before place) (lines_at planned before) some.acknowledged some.machine_run));
       line_commits = both-met (λ steps ran. LineCommits opening moment entry.mail.tree steps (lane_zero_lines ran) some.acknowledged)
           (laws.still_commits opening moment entry.mail.tree (steps_at before place) (Meet ∷ []) (lane_zero_lines (lines_at planned before)) some.acknowledged (refl, refl) some.line_commits);
       line_answers = both-met (λ steps ran. LineAnswers opening moment (at_first opening entry) steps (lane_zero_lines ran))
           (laws.still_answers opening moment (steps_at before place) (Meet ∷ []) (at_first opening entry) (lane_zero_lines (lines_at planned before)) some.line_answers);
       lane_answers = both-met (λ steps ran. LaneAnswers opening moment steps (other_lane_lines ran))
-          (laws.still_looks opening moment (steps_at before place) (Meet ∷ []) (other_lane_lines (lines_at planned before)) some.lane_answers);
+          (laws.still_lane_reads opening moment (steps_at before place) (Meet ∷ []) (other_lane_lines (lines_at planned before)) some.lane_answers);
       given = both-met (λ steps ran. GivenAlong opening moment steps (at_first opening entry) (lane_zero_lines ran) entry.mail place.mail)
           (laws.still_given opening moment (steps_at before place) (Meet ∷ []) (at_first opening entry) (lane_zero_lines (lines_at planned before)) entry.mail place.mail some.given);
       clocks = both-met (λ steps ran. length place.writer.acked ≡ appends steps) (some.clocks ∙ sym (laws.still_acknowledged (steps_at before place) (Meet ∷ []) (refl, refl)));
@@ -387,7 +387,7 @@ module _ (moment : ℤ) (planned : List Planned) (before after : ReservedLog) (p
 pub noted-more : (moment : ℤ) (planned : List Planned) (turn : Planned) (before after : ReservedLog) (old new : Place) → HasNoted planned before old → IsTurn moment turn old before after new → HasNoted (planned ++ turn ∷ []) after new
 noted-more moment planned (Runs phase line) before after old new noted (inl h) = line-noted moment planned phase line before after old new noted h.0 h.1
 noted-more moment planned (Runs phase line) before after old new noted (inr h) =
-    subst (λ (place : Place). HasNoted (planned ++ Runs phase line ∷ []) after place) (sym h.2) (look-noted moment planned phase line before after old noted h.0 h.1)
+    subst (λ (place : Place). HasNoted (planned ++ Runs phase line ∷ []) after place) (sym h.2) (lane_read-noted moment planned phase line before after old noted h.0 h.1)
 noted-more moment planned Meets before after old new noted h = subst (λ (place : Place). HasNoted (planned ++ Meets ∷ []) after place) (sym h.1) (meet-noted moment planned before after old noted h.0)
 
 pub some-more : (laws : TurnLaws) (moment : ℤ) (opening : Base) (entry : Devices) (planned : List Planned) (turn : Planned) (before after : ReservedLog) (old new : Place) → HasNoted planned before old → IsTurn moment turn old before after new
@@ -398,7 +398,7 @@ some-more laws moment opening entry planned (Runs phase line) before after old n
 some-more laws moment opening entry planned (Runs phase line) before after old new noted (inr h) next some =
     let here : phase ≡ ends_in planned = omega (arith, next.0) in
     subst (λ (place : Place). HasRunSome moment opening entry (planned ++ Runs phase line ∷ []) after place) (sym h.2)
-    (look-some moment planned phase line before after old noted h.0 h.1 laws opening entry some here next.1)
+    (lane_read-some moment planned phase line before after old noted h.0 h.1 laws opening entry some here next.1)
 some-more laws moment opening entry planned Meets before after old new noted h next some =
     subst (λ (place : Place). HasRunSome moment opening entry (planned ++ Meets ∷ []) after place) (sym h.1) (meet-some moment planned before after old noted h.0 laws opening entry some)
 

@@ -1,15 +1,15 @@
--- The place of a look in the marks, and which steps are before it and after it. For `LoopLemmas` and the proofs of `barrier`.
+-- The place of a read in the marks, and which steps are before it and after it. For `LoopLemmas` and the proofs of `barrier`.
 use Rattle.std.proofs.Common.{◌≡◌, ℕ, ◌≤◌, true, false, List, [], ◌∷◌, ◌++◌, drop, length, take, zero, suc, refl, sym, ap, ◌∙◌, subst, arith}
 use Rattle.nm_commit.specs.declared.change.Commit.{Commit}
 use Rattle.nm_history.specs.LineResult.{LeaveAlone, shows}
 use Rattle.nm_machine.specs.declared.step.Step.{Step}
 use Rattle.nm_session.specs.Loop.{StandFor}
-use Rattle.nm_trace.specs.Marks.{AreOfOthers, made_in, steps_of}
+use Rattle.nm_trace.specs.Trace.{AreOfOthers, made_in, steps_of}
 use Rattle.nm_trace.specs.declared.trace.Mark.{Mark}
 use Rattle.nm_trace.specs.declared.trace.Mark.TheVariants as marks
-use Rattle.nm_session.proofs.MarkLemmas.{stand-append, steps-append}
+use Rattle.nm_session.proofs.TraceLemmas.{stand-append, steps-append}
 
--- the commits for which the marks in front stand, and those behind
+-- the commits that the marks in front represent, and those after them
 pub record IsCut (ms ns : List Mark) (commits : List Commit) : Type 0 where
   pub first : List Commit
   pub second : List Commit
@@ -30,25 +30,25 @@ stand-cut (marks.Begun ∷ ms) ns [] h = absurd h
 stand-cut (marks.Begun ∷ ms) ns (commit ∷ commits) h =
     let rest = stand-cut ms ns commits h in
     record { first = commit ∷ rest.first; second = rest.second; are = more-cut ms ns commit commits rest; front = rest.front; back = rest.back }
-stand-cut (marks.Look lane ∷ ms) ns commits h = let rest = stand-cut ms ns commits h in record { first = rest.first; second = rest.second; are = rest.are; front = rest.front; back = rest.back }
+stand-cut (marks.LaneRead lane ∷ ms) ns commits h = let rest = stand-cut ms ns commits h in record { first = rest.first; second = rest.second; are = rest.are; front = rest.front; back = rest.back }
 stand-cut (marks.Reply lane said ∷ ms) ns commits h = let rest = stand-cut ms ns commits h in record { first = rest.first; second = rest.second; are = rest.are; front = rest.front; back = rest.back }
 stand-cut (marks.Met ∷ ms) ns commits h = let rest = stand-cut ms ns commits h in record { first = rest.first; second = rest.second; are = rest.are; front = rest.front; back = rest.back }
 
--- marks between them that stand for no commit
+-- marks between them that represent no commit
 
-module _ (ms look ns : List Mark) (commits : List Commit) (cut : IsCut ms ns commits) (stand : StandFor look []) where
+module _ (ms lane_read ns : List Mark) (commits : List Commit) (cut : IsCut ms ns commits) (stand : StandFor lane_read []) where
   pub steps-cut : steps_of (ms ++ ns) commits ≡ steps_of ms cut.first ++ steps_of ns cut.second
   steps-cut = ap (steps_of (ms ++ ns)) cut.are ∙ steps-append ms ns cut.first cut.second cut.front
 
-  pub steps-between : steps_of (ms ++ (look ++ ns)) commits ≡ steps_of ms cut.first ++ (steps_of look [] ++ steps_of ns cut.second)
+  pub steps-between : steps_of (ms ++ (lane_read ++ ns)) commits ≡ steps_of ms cut.first ++ (steps_of lane_read [] ++ steps_of ns cut.second)
   steps-between =
-      ap (steps_of (ms ++ (look ++ ns))) cut.are
-      ∙ (steps-append ms (look ++ ns) cut.first cut.second cut.front ∙ ap (λ (l : List Step). steps_of ms cut.first ++ l) (steps-append look ns [] cut.second stand))
+      ap (steps_of (ms ++ (lane_read ++ ns))) cut.are
+      ∙ (steps-append ms (lane_read ++ ns) cut.first cut.second cut.front ∙ ap (λ (l : List Step). steps_of ms cut.first ++ l) (steps-append lane_read ns [] cut.second stand))
 
-  pub stand-between : StandFor (ms ++ (look ++ ns)) commits
-  stand-between = subst (StandFor (ms ++ (look ++ ns))) (sym cut.are) (stand-append ms (look ++ ns) cut.first cut.second cut.front (stand-append look ns [] cut.second stand cut.back))
+  pub stand-between : StandFor (ms ++ (lane_read ++ ns)) commits
+  stand-between = subst (StandFor (ms ++ (lane_read ++ ns))) (sym cut.are) (stand-append ms (lane_read ++ ns) cut.first cut.second cut.front (stand-append lane_read ns [] cut.second stand cut.back))
 
--- the steps behind
+-- the steps after
 
 pub others-alone : (lane : ℕ) (ns : List Mark) (commits : List Commit) → StandFor ns commits → AreOfOthers lane ns → LeaveAlone lane (steps_of ns commits)
 others-alone lane [] commits h others = tt
@@ -56,7 +56,7 @@ others-alone lane (marks.Made ∷ ns) [] h others = absurd h
 others-alone lane (marks.Made ∷ ns) (commit ∷ commits) h others = (refl, (refl, (refl, others-alone lane ns commits h others.1)))
 others-alone lane (marks.Begun ∷ ns) [] h others = absurd h
 others-alone lane (marks.Begun ∷ ns) (commit ∷ commits) h others = (refl, others-alone lane ns commits h others.1)
-others-alone lane (marks.Look other ∷ ns) commits h others = (others.0, others-alone lane ns commits h others.1)
+others-alone lane (marks.LaneRead other ∷ ns) commits h others = (others.0, others-alone lane ns commits h others.1)
 others-alone lane (marks.Reply other said ∷ ns) commits h others = (others.0, others-alone lane ns commits h others.1)
 others-alone lane (marks.Met ∷ ns) commits h others = let no : false ≡ true = others.0 in absurd (cc)
 
@@ -66,7 +66,7 @@ shows-made (marks.Made ∷ ns) [] h = absurd h
 shows-made (marks.Made ∷ ns) (commit ∷ commits) h = omega (arith, shows-made ns commits h)
 shows-made (marks.Begun ∷ ns) [] h = absurd h
 shows-made (marks.Begun ∷ ns) (commit ∷ commits) h = omega (arith, shows-made ns commits h)
-shows-made (marks.Look other ∷ ns) commits h = omega (arith, shows-made ns commits h)
+shows-made (marks.LaneRead other ∷ ns) commits h = omega (arith, shows-made ns commits h)
 shows-made (marks.Reply other said ∷ ns) commits h = omega (arith, shows-made ns commits h)
 shows-made (marks.Met ∷ ns) commits h = omega (arith, shows-made ns commits h)
 
@@ -82,9 +82,9 @@ drop-front zero ms ys within = refl
 drop-front (suc n) [] ys within = absurd (omega (arith, within))
 drop-front (suc n) (m ∷ ms) ys within = drop-front n ms ys (omega (arith, within))
 
-pub put-both : (ms between after : List Mark) (at : ℕ) (look reply : Mark) → at ≤ length ms → between ≡ take at ms ++ reply ∷ drop at ms → after ≡ take at between ++ look ∷ drop at between
-    → after ≡ take at ms ++ (look ∷ reply ∷ drop at ms)
-put-both ms between after at look reply within first second =
+pub put-both : (ms between after : List Mark) (at : ℕ) (lane_read reply : Mark) → at ≤ length ms → between ≡ take at ms ++ reply ∷ drop at ms → after ≡ take at between ++ lane_read ∷ drop at between
+    → after ≡ take at ms ++ (lane_read ∷ reply ∷ drop at ms)
+put-both ms between after at lane_read reply within first second =
     let front : take at between ≡ take at ms = ap (take at) first ∙ take-front at ms (reply ∷ drop at ms) within in
     let back : drop at between ≡ reply ∷ drop at ms = ap (drop at) first ∙ drop-front at ms (reply ∷ drop at ms) within in
-    second ∙ (ap (λ (l : List Mark). l ++ look ∷ drop at between) front ∙ ap (λ (l : List Mark). take at ms ++ look ∷ l) back)
+    second ∙ (ap (λ (l : List Mark). l ++ lane_read ∷ drop at between) front ∙ ap (λ (l : List Mark). take at ms ++ lane_read ∷ l) back)

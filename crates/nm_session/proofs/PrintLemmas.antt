@@ -10,7 +10,7 @@ use Rattle.nm_io.specs.Observed.{ObservedSink, StreamAppends}
 use Rattle.nm_lanes.specs.declared.script.Phase.{Phase}
 use Rattle.nm_log.specs.Replies.{printed_line, reply_of}
 use Rattle.nm_log.specs.declared.log.LineLog.{LineLog}
-use Rattle.nm_session.specs.Printing.{PrintsRest}
+use Rattle.nm_session.specs.PrintedReplies.{PrintsRest}
 
 -- ---- bytes
 

@@ -10,8 +10,8 @@ use Rattle.nm_index.specs.declared.base.Base.{Base}
 use Rattle.nm_io.specs.Observed.{ObservedSink}
 use Rattle.nm_lanes.specs.declared.script.Phase.{Phase}
 use Rattle.nm_log.specs.declared.log.LineLog.{LineLog}
-use Rattle.nm_session.specs.Loop.{AreTaken, HasNoted, HasRunSome, IsMeetingNoted}
-use Rattle.nm_session.specs.Printing.{PrintsRest}
+use Rattle.nm_session.specs.Loop.{AreTaken, HasNoted, HasRunSome, IsBarrierNoted}
+use Rattle.nm_session.specs.PrintedReplies.{PrintsRest}
 use Rattle.nm_trace.specs.ReservedLog.{HasSpare}
 use Rattle.nm_session.specs.TurnLaws.{TurnLaws}
 use Rattle.nm_session.specs.Turns.{AreInPlace, Meets, Planned, other_lanes, places_in, planned_from, planned_line, planned_phase}
@@ -100,17 +100,17 @@ module _ (moment : ℤ) (number : ℕ) (phase : Phase) (old mid : Place) (reserv
         spare-fewer (length others + 1) (length (flat_map (lines_of_lane phase.lines) other_lanes)) (length mid.writer.begun) worked
         (omega (arith, mapped-length (planned_line number) (flat_map (lines_of_lane phase.lines) other_lanes))) after-zeros
 
-    module _ (settled : ReservedLog) (looked : AreTaken moment others mid worked settled mid) where
+    module _ (settled : ReservedLog) (lane_answer : AreTaken moment others mid worked settled mid) where
       one-left : HasSpare 1 (length mid.writer.begun) settled
       one-left =
           let more : length others + 1 ≡ 1 + length others = omega arith in
-          spare-all moment 1 others mid mid worked settled (subst (λ (n : ℕ). HasSpare n (length mid.writer.begun) worked) more after-zeros) looked
+          spare-all moment 1 others mid mid worked settled (subst (λ (n : ℕ). HasSpare n (length mid.writer.begun) worked) more after-zeros) lane_answer
 
       pub room-to-meet : length mid.writer.begun ≤ max_commits → 0 < settled.marks.1
       room-to-meet few = omega (arith, one-left.marks, few)
 
-      pub phase-taken : (met : ReservedLog) → IsMeetingNoted settled met → AreTaken moment (planned_phase number phase) old reserved met mid
-      phase-taken met meeting =
+      pub phase-taken : (met : ReservedLog) → IsBarrierNoted settled met → AreTaken moment (planned_phase number phase) old reserved met mid
+      phase-taken met last_barrier =
           subst (λ (l : List Planned). AreTaken moment l old reserved met mid) (sym (phase-cut number phase))
           (taken-append moment zeros (others ++ Meets ∷ []) old mid mid reserved worked met taken
-          (taken-append moment others (Meets ∷ []) mid mid mid worked settled met looked (taken-one moment Meets mid mid settled met (meeting, refl))))
+          (taken-append moment others (Meets ∷ []) mid mid mid worked settled met lane_answer (taken-one moment Meets mid mid settled met (last_barrier, refl))))

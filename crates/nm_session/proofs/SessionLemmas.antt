@@ -1,5 +1,5 @@
 -- What a session leaves on the disk, from its opening and its lines.
--- For the proofs of `open_and_run` and `run_session`.
+-- For the proofs of `run_session`.
 use Rattle.std.proofs.Common.{◌≡◌, inl, ℕ, List, [], Option, None, Some, IfSome, length, refl, arith}
 use Rattle.nm_base.specs.declared.limit.Limit.{Limit}
 use Rattle.nm_commit.specs.declared.change.Commit.{Commit}
@@ -18,12 +18,12 @@ use Rattle.nm_journal.specs.Moments.{IsSynced, SyncsOrFails}
 use Rattle.nm_machine.specs.declared.step.Step.{Step}
 use Rattle.nm_session.specs.Session.{HasOpenCause}
 use Rattle.nm_writer.specs.Durable.{KeptSince, NeverFall}
-use Rattle.nm_replay.specs.Opening.{HasOpenFault, IsOfHead, is_disk_fault}
+use Rattle.nm_replay.specs.OpenFaults.{HasOpenFault, IsOfHead, is_disk_fault}
 use Rattle.nm_replay.specs.StoredIndex.{HoldsIndex, HoldsNoIndex, HoldsWithin, PassesLimit}
 use Rattle.nm_replay.specs.declared.open_error.OpenError.{OpenError}
 use Rattle.nm_replay.specs.declared.open_error.OpenError.TheVariants as errors
 
--- what a read gives is an image
+-- what a read gives is a crash state
 abbrev ReadsAnImage : Option Moments → Type 0
 ReadsAnImage told = IfSome told (λ moments. IsImage moments.present moments.present.now)
 

@@ -1,4 +1,4 @@
--- The turns of phases: their lines, how many phases end with them, and where each line stands.
+-- The turns of phases: their lines, how many phases end with them, and where each line is.
 -- For the proofs of `first_lane`, `barrier` and `phases`.
 use Rattle.std.proofs.Common.{◌≡◌, ℕ, ◌+◌, ◌<◌, ◌==◌, Bool, true, false, cond, not, List, [], ◌∷◌, ◌++◌, ◌≤◌, Some, drop, filter, length, map, slice_get, take, get_or, zero, suc, refl, sym, ap, ◌∙◌, subst, arith, append-nil, append_assoc}
 use Rattle.std.proofs.lemmas.Bool.{eqb-true}
@@ -44,7 +44,7 @@ ends-planned number (phase ∷ more) =
     ap ends_in (append_assoc (map (planned_line number) (lines_by_lane phase)) (Meets ∷ []) (planned_from (number + 1) more))
     ∙ (ends-before number (lines_by_lane phase) (Meets ∷ planned_from (number + 1) more) ∙ omega (arith, rest))
 
--- where the lines stand
+-- where the lines are
 
 abbrev AreThere : List ScriptLine → Type 0
 AreThere lines = AllByRecursion (λ (line : ScriptLine). line.lane < lane_count) lines
@@ -77,7 +77,7 @@ in-place number (phase ∷ more) =
     subst (AreInPlace number) (sym (append_assoc (map (planned_line number) (lines_by_lane phase)) (Meets ∷ []) (planned_from (number + 1) more)))
     (place-lines number (lines_by_lane phase) (Meets ∷ planned_from (number + 1) more) (by-lane-there phase.lines 0 16 (omega arith)) (in-place (number + 1) more))
 
--- the next turn stands in its phase
+-- the next turn is in its phase
 abbrev pub IsNext : ℕ → List Planned → Planned → Type 0
 IsNext number front (Runs phase line) = (phase ≡ number + ends_in front) × (line.lane < lane_count)
 IsNext number front Meets = Unit {0}

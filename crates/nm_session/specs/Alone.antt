@@ -10,7 +10,7 @@ use Rattle.nm_line.specs.declared.prepared.Prepared.{Prepared}
 use Rattle.nm_log.specs.ParsedLine.{parse_line}
 use Rattle.nm_maildir.specs.Observed.{ObservedMail}
 use Rattle.nm_session.specs.LineLog.{IsNoted}
-use Rattle.nm_session.specs.Loop.{IsMeetingNoted}
+use Rattle.nm_session.specs.Loop.{IsBarrierNoted}
 use Rattle.nm_trace.specs.declared.reserved_log.ReservedLog.{ReservedLog}
 use Rattle.nm_writer.specs.Writer.{WriterState}
 
@@ -23,4 +23,4 @@ pub record HasRunAlone (moment : ℤ) (old : Place) (line : ScriptLine) (before 
   pub left : ℕ
   pub between : ReservedLog
   pub noted : IsNoted moment 0 old line before between (place_at writer mail disk left)
-  pub ended : IsMeetingNoted between after
+  pub ended : IsBarrierNoted between after

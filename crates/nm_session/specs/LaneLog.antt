@@ -4,7 +4,7 @@ use Rattle.std.specs.Option.{option_to_list}
 use Rattle.nm_base.specs.Limits.{max_commits}
 use Rattle.nm_commit.specs.declared.change.Commit.{Commit}
 use Rattle.nm_dates.specs.Seconds.{IsMoment}
-use Rattle.nm_history.specs.LineAnswers.{ends_by, line_text, refused_look}
+use Rattle.nm_history.specs.LineAnswers.{ends_by, line_text, refused_lane_read}
 use Rattle.nm_history.specs.LineResult.{said_of}
 use Rattle.nm_history.specs.Lines.{RunLine}
 use Rattle.nm_history.specs.MachineRun.{reply_to}
@@ -18,7 +18,7 @@ use Rattle.nm_log.specs.declared.log.LineLog.{LineLog}
 use Rattle.nm_log.specs.declared.log.Said.{Said}
 use Rattle.nm_log.specs.declared.outcome.Outcome.TheVariants as outcomes
 use Rattle.nm_publish.specs.Published.{index_of}
-use Rattle.nm_trace.specs.Marks.{AreOfOthers, look_marks, made_in}
+use Rattle.nm_trace.specs.Trace.{AreOfOthers, lane_read_marks, made_in}
 use Rattle.nm_trace.specs.ReservedLog.{AreFallbacks}
 use Rattle.nm_trace.specs.declared.reserved_log.ReservedLog.{ReservedLog}
 use Rattle.nm_trace.specs.declared.trace.Mark.{Mark}
@@ -32,10 +32,10 @@ pub record IsPhaseEnd (end : PhaseEnd) : Type 0 where
   pub shown : index_of end.writer.now.published ≡ end.writer.now.shown
 
 -- A line was run in this phase over this index, and its log says so.
-pub record IsLooked (moment : ℤ) (phase : ℕ) (index : Base) (ran : RunLine) (reply : Option Said) : Type 0 where
+pub record IsLaneAnswered (moment : ℤ) (phase : ℕ) (index : Base) (ran : RunLine) (reply : Option Said) : Type 0 where
   pub numbers : IsNumbered (phase, ran.0) ran.1
   pub revision : ran.1.revision ≡ index.revision
-  pub cause : (ran.1.outcome ≡ ends_by (refused_look (parse_line ran.0) ran.0.input)) ⊎ (ran.1.outcome ≡ outcomes.NoMemory)
+  pub cause : (ran.1.outcome ≡ ends_by (refused_lane_read (parse_line ran.0) ran.0.input)) ⊎ (ran.1.outcome ≡ outcomes.NoMemory)
   pub status : ran.1.status ≡ status_of ran.1.outcome
   pub text : ran.1.text ≡ line_text ran.1.outcome (parse_line ran.0) ran.0.input index index moment []
   pub reply_is : option_to_list reply ≡ map said_of (reply_to ran)
@@ -48,23 +48,23 @@ pub record IsLooked (moment : ℤ) (phase : ℕ) (index : Base) (ran : RunLine) 
 pub record IsAnswerNoted (moment : ℤ) (phase : ℕ) (index : Base) (line : ScriptLine) (at : ℕ) (before after : ReservedLog) : Type 0 where
   pub log : LineLog
   pub reply : Option Said
-  pub look : IsLooked moment phase index (line, log) reply
+  pub lane_read : IsLaneAnswered moment phase index (line, log) reply
   pub logs : after.logs.0 ≡ before.logs.0 ++ log ∷ []
-  pub marks : after.marks.0 ≡ take at before.marks.0 ++ (look_marks line.lane (reply_to (line, log)) ++ drop at before.marks.0)
+  pub marks : after.marks.0 ≡ take at before.marks.0 ++ (lane_read_marks line.lane (reply_to (line, log)) ++ drop at before.marks.0)
   pub steps : after.steps ≡ before.steps
   pub logs_spare : after.logs.1 + 1 ≡ before.logs.1
   pub marks_spare : before.marks.1 ≤ after.marks.1 + 2
   pub fallbacks : length after.fallbacks + 1 ≡ length before.fallbacks
   pub texts : AreFallbacks after.fallbacks
 
--- a look of this lane has its place there, where all commits were shown but the last ones, so many: behind it no phase ends, and the lane does nothing
+-- a read of this lane has its place there, where all commits were shown but the last ones, n: after it no phase ends, and the lane does nothing
 pub record IsPlaceOf (lane behind : ℕ) (marks : List Mark) (at : ℕ) : Type 0 where
   pub within : at ≤ length marks
   pub others : AreOfOthers lane (drop at marks)
   pub made : made_in (drop at marks) ≡ behind
 
--- A line of another lane was run over an index that the writer has shown, and its look is noted where it saw that.
-pub record IsLookNoted (moment : ℤ) (phase : ℕ) (writer : WriterState) (line : ScriptLine) (before after : ReservedLog) : Type 0 where
+-- A line of another lane was run over an index that the writer has shown, and its read is noted where it saw that.
+pub record IsLaneReadNoted (moment : ℤ) (phase : ℕ) (writer : WriterState) (line : ScriptLine) (before after : ReservedLog) : Type 0 where
   pub index : Base
   pub at : ℕ
   pub noted : IsAnswerNoted moment phase index line at before after

@@ -15,7 +15,7 @@ use Rattle.nm_log.specs.Replies.{status_of}
 use Rattle.nm_log.specs.declared.log.LineLog.{LineLog}
 use Rattle.nm_log.specs.declared.log.Said.{Said}
 use Rattle.nm_session.specs.declared.line.AskedLine.{AskedLine}
-use Rattle.nm_trace.specs.Marks.{line_marks}
+use Rattle.nm_trace.specs.Trace.{line_marks}
 use Rattle.nm_trace.specs.ReservedLog.{AreFallbacks}
 use Rattle.nm_trace.specs.declared.reserved_log.ReservedLog.{ReservedLog}
 

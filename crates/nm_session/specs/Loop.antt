@@ -1,4 +1,4 @@
--- Where a session stands after its first turns. Cited by `barrier`, `first_lane` and `phases`.
+-- Where a session comes after its first turns. Cited by `barrier`, `first_lane` and `phases`.
 use Rattle.std.specs.Prelude.{◌≡◌, ◌⊎◌, ℤ, ◌+◌, ◌*◌, ◌≤◌, List, [], ◌∷◌, ◌++◌, length}
 use Rattle.nm_base.specs.Limits.{max_commits}
 use Rattle.nm_commit.specs.declared.change.Commit.{Commit}
@@ -15,14 +15,14 @@ use Rattle.nm_index.specs.declared.base.Base.{Base}
 use Rattle.nm_machine.specs.declared.step.Step.{Step}
 use Rattle.nm_line.specs.Line.{IsEven}
 use Rattle.nm_session.specs.LineLog.{IsNoted}
-use Rattle.nm_session.specs.LaneLog.{IsLookNoted}
-use Rattle.nm_trace.specs.Marks.{steps_of}
+use Rattle.nm_session.specs.LaneLog.{IsLaneReadNoted}
+use Rattle.nm_trace.specs.Trace.{steps_of}
 use Rattle.nm_session.specs.Turns.{Meets, Planned, Runs, ends_in, lines_in}
 use Rattle.nm_trace.specs.declared.trace.Mark.{Mark}
 use Rattle.nm_trace.specs.declared.trace.Mark.TheVariants as marks
 use Rattle.nm_trace.specs.declared.reserved_log.ReservedLog.{ReservedLog}
 
--- the marks stand for these commits, no more and no fewer
+-- the marks represent these commits, no more and no fewer
 abbrev pub StandFor : List Mark → List Commit → Type 0
 StandFor [] [] = Unit {0}
 StandFor [] (commit ∷ commits) = ⊥
@@ -30,7 +30,7 @@ StandFor (marks.Made ∷ more) [] = ⊥
 StandFor (marks.Made ∷ more) (commit ∷ commits) = StandFor more commits
 StandFor (marks.Begun ∷ more) [] = ⊥
 StandFor (marks.Begun ∷ more) (commit ∷ commits) = StandFor more commits
-StandFor (marks.Look lane ∷ more) commits = StandFor more commits
+StandFor (marks.LaneRead lane ∷ more) commits = StandFor more commits
 StandFor (marks.Reply lane said ∷ more) commits = StandFor more commits
 StandFor (marks.Met ∷ more) commits = StandFor more commits
 
@@ -62,7 +62,7 @@ pub record HasRunSome (moment : ℤ) (opening : Base) (entry : Devices) (planned
   pub clocks : length place.writer.acked ≡ appends (steps_at reserved place)
 
 -- A phase ended, and nothing else did.
-pub record IsMeetingNoted (before after : ReservedLog) : Type 0 where
+pub record IsBarrierNoted (before after : ReservedLog) : Type 0 where
   pub marks : after.marks.0 ≡ before.marks.0 ++ marks.Met ∷ []
   pub marks_spare : after.marks.1 + 1 ≡ before.marks.1
   pub logs : after.logs ≡ before.logs
@@ -73,8 +73,8 @@ pub record IsMeetingNoted (before after : ReservedLog) : Type 0 where
 abbrev pub IsTurn : ℤ → Planned → Place → ReservedLog → ReservedLog → Place → Type 0
 IsTurn moment (Runs phase line) old before after new =
     ((line.lane ≡ 0) × IsNoted moment phase old line before after new)
-    ⊎ ((1 ≤ line.lane) × IsLookNoted moment phase old.writer line before after × (new ≡ old))
-IsTurn moment Meets old before after new = IsMeetingNoted before after × (new ≡ old)
+    ⊎ ((1 ≤ line.lane) × IsLaneReadNoted moment phase old.writer line before after × (new ≡ old))
+IsTurn moment Meets old before after new = IsBarrierNoted before after × (new ≡ old)
 
 -- these turns were taken, one after the other
 abbrev pub AreTaken : ℤ → List Planned → Place → ReservedLog → ReservedLog → Place → Type 0

@@ -1,4 +1,4 @@
--- What a session leaves, from the opening of the index to the last line; and what stands where no index is opened.
+-- What a session leaves, from the opening of the index to the last line; and what is where no index is opened.
 -- Cited by `plan` and `session`.
 use Rattle.std.specs.Prelude.{◌≡◌, ℤ, ◌≤◌, Bool, List, [], IfSome, length}
 use Rattle.nm_disk.specs.Observed.{ObservedDisk, bytes_now}

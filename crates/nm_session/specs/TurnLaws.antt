@@ -7,7 +7,7 @@ use Rattle.nm_history.specs.CrashPrefix.{appends}
 use Rattle.nm_history.specs.Given.{GivenAlong}
 use Rattle.nm_history.specs.LineAnswers.{LaneAnswers, LineAnswers}
 use Rattle.nm_history.specs.LineCommits.{LineCommits}
-use Rattle.nm_history.specs.LineResult.{CommitNothing, IsLineResult, IsLookResult, Place, StandsAt, look_steps}
+use Rattle.nm_history.specs.LineResult.{CommitNothing, IsLineResult, IsLaneReadResult, Place, StandsAt, lane_read_steps}
 use Rattle.nm_history.specs.Lines.{Before, RunLine, at_first, lane_zero_lines}
 use Rattle.nm_history.specs.MachineRun.{MachineRun, Replied}
 use Rattle.nm_index.specs.declared.base.Base.{Base}
@@ -25,7 +25,7 @@ pub record FirstLaws : Type 0 where
   pub answers : (opening : Base) (moment : ℤ) (entry : Devices) → LineAnswers opening moment (at_first opening entry) [] []
   pub given : (opening : Base) (moment : ℤ) (entry : Devices) → GivenAlong opening moment [] (at_first opening entry) [] entry.mail entry.mail
 
--- Of a line more, of a look more, and of the end of a phase.
+-- Of one more line, of one more read, and of the end of a phase.
 pub record TurnLaws : Type 0 where
   pub stands : (opening : Base) (moment : ℤ) (phase : ℕ) (entry : Devices) (steps taken : List Step) (lines : List RunLine) (acknowledged : List Commit) (old new : Place) (ran : RunLine) → StandsAt opening entry steps lines acknowledged old
       → (result : IsLineResult moment phase old ran taken new) → StandsAt opening entry (steps ++ taken) (lines ++ ran ∷ []) (acknowledged ++ result.made) new
@@ -43,13 +43,13 @@ pub record TurnLaws : Type 0 where
       → GivenAlong opening moment (steps ++ taken) (at_first opening entry) (lines ++ ran ∷ []) entry.mail new.mail
   pub clocks : (opening : Base) (moment : ℤ) (phase : ℕ) (entry : Devices) (steps taken : List Step) (lines : List RunLine) (acknowledged : List Commit) (old new : Place) (ran : RunLine) → StandsAt opening entry steps lines acknowledged old
       → IsLineResult moment phase old ran taken new → length old.writer.acked ≡ appends steps → length new.writer.acked ≡ appends (steps ++ taken)
-  pub look_run : (opening : Base) (moment : ℤ) (phase : ℕ) (first : Before) (front back taken : List Step) (lines : List RunLine) (acknowledged : List Commit) (index : Base) (ran : RunLine)
-      → IsLookResult moment phase opening acknowledged index ran taken back → MachineRun opening moment first (front ++ back) lines acknowledged phase
+  pub lane_read_run : (opening : Base) (moment : ℤ) (phase : ℕ) (first : Before) (front back taken : List Step) (lines : List RunLine) (acknowledged : List Commit) (index : Base) (ran : RunLine)
+      → IsLaneReadResult moment phase opening acknowledged index ran taken back → MachineRun opening moment first (front ++ back) lines acknowledged phase
       → MachineRun opening moment first (front ++ (taken ++ back)) (lines ++ ran ∷ []) acknowledged phase
-  pub look_answers : (opening : Base) (moment : ℤ) (phase : ℕ) (entry : Devices) (front back taken : List Step) (lines others : List RunLine) (acknowledged : List Commit) (place : Place) (index : Base) (ran : RunLine)
-      → StandsAt opening entry (front ++ back) lines acknowledged place → IsLookResult moment phase opening acknowledged index ran taken back
+  pub lane_read_answers : (opening : Base) (moment : ℤ) (phase : ℕ) (entry : Devices) (front back taken : List Step) (lines others : List RunLine) (acknowledged : List Commit) (place : Place) (index : Base) (ran : RunLine)
+      → StandsAt opening entry (front ++ back) lines acknowledged place → IsLaneReadResult moment phase opening acknowledged index ran taken back
       → LaneAnswers opening moment (front ++ back) others → LaneAnswers opening moment (front ++ (taken ++ back)) (others ++ ran ∷ [])
-  pub look_nothing : (lane : ℕ) (replies : List Replied) → CommitNothing (look_steps lane replies)
+  pub lane_read_nothing : (lane : ℕ) (replies : List Replied) → CommitNothing (lane_read_steps lane replies)
   pub between_stands : (opening : Base) (entry : Devices) (front back taken : List Step) (lines : List RunLine) (acknowledged : List Commit) (place : Place)
       → CommitNothing taken → StandsAt opening entry (front ++ back) lines acknowledged place → StandsAt opening entry (front ++ (taken ++ back)) lines acknowledged place
   pub between_commits : (opening : Base) (moment : ℤ) (tree : Option Tree) (front back taken : List Step) (lines : List RunLine) (acknowledged : List Commit)
@@ -59,7 +59,7 @@ pub record TurnLaws : Type 0 where
       → CommitNothing taken → LineAnswers opening moment before (front ++ back) lines → LineAnswers opening moment before (front ++ (taken ++ back)) lines
   pub between_given : (opening : Base) (moment : ℤ) (front back taken : List Step) (before : Before) (lines : List RunLine) (old new : ObservedMail)
       → CommitNothing taken → GivenAlong opening moment (front ++ back) before lines old new → GivenAlong opening moment (front ++ (taken ++ back)) before lines old new
-  pub meeting : (opening : Base) (moment : ℤ) (phase : ℕ) (first : Before) (steps : List Step) (lines : List RunLine) (acknowledged : List Commit)
+  pub last_barrier : (opening : Base) (moment : ℤ) (phase : ℕ) (first : Before) (steps : List Step) (lines : List RunLine) (acknowledged : List Commit)
       → MachineRun opening moment first steps lines acknowledged phase → MachineRun opening moment first (steps ++ Meet ∷ []) lines acknowledged (phase + 1)
   pub still_stands : (opening : Base) (entry : Devices) (steps taken : List Step) (lines : List RunLine) (acknowledged : List Commit) (place : Place)
       → CommitNothing taken → StandsAt opening entry steps lines acknowledged place → StandsAt opening entry (steps ++ taken) lines acknowledged place
@@ -67,6 +67,6 @@ pub record TurnLaws : Type 0 where
       → CommitNothing taken → LineCommits opening moment tree steps lines acknowledged → LineCommits opening moment tree (steps ++ taken) lines acknowledged
   pub still_acknowledged : (steps taken : List Step) → CommitNothing taken → appends (steps ++ taken) ≡ appends steps
   pub still_answers : (opening : Base) (moment : ℤ) (steps taken : List Step) (before : Before) (lines : List RunLine) → LineAnswers opening moment before steps lines → LineAnswers opening moment before (steps ++ taken) lines
-  pub still_looks : (opening : Base) (moment : ℤ) (steps taken : List Step) (lines : List RunLine) → LaneAnswers opening moment steps lines → LaneAnswers opening moment (steps ++ taken) lines
+  pub still_lane_reads : (opening : Base) (moment : ℤ) (steps taken : List Step) (lines : List RunLine) → LaneAnswers opening moment steps lines → LaneAnswers opening moment (steps ++ taken) lines
   pub still_given : (opening : Base) (moment : ℤ) (steps taken : List Step) (before : Before) (lines : List RunLine) (old new : ObservedMail) → GivenAlong opening moment steps before lines old new
       → GivenAlong opening moment (steps ++ taken) before lines old new

@@ -1,4 +1,5 @@
--- The turns of a session: each phase has its lines, one lane after the other, and then all lanes meet. Cited by `plan`, `barrier` and `phases`.
+-- The turns of a session: each phase has its lines, one lane after the other, and then comes the barrier of all lanes. Cited by `plan`,
+-- `barrier` and `phases`.
 use Rattle.std.specs.Prelude.{◌≡◌, ℕ, ◌+◌, ◌<◌, List, [], ◌∷◌, ◌++◌, length, map}
 use Rattle.std.specs.List.{flat_map, range_with_len}
 use Rattle.nm_history.specs.Call.{PlacedLine, lines_by_lane}
@@ -38,7 +39,7 @@ ends_in [] = 0
 ends_in (Runs phase line ∷ more) = ends_in more
 ends_in (Meets ∷ more) = ends_in more + 1
 
--- each line stands in its phase, from this one on, and its lane is there
+-- each line is in its phase, from this one on, and its lane is there
 abbrev pub AreInPlace : ℕ → List Planned → Type 0
 AreInPlace number [] = Unit {0}
 AreInPlace number (Runs phase line ∷ more) = (phase ≡ number) × (line.lane < lane_count) × AreInPlace number more

@@ -7,21 +7,21 @@ ghost use Rattle.nm_history.specs.Call.{lines_of_lane};
 ghost use Rattle.nm_history.specs.LineResult.{Place};
 ghost use Rattle.nm_lanes.specs.declared.script.ScriptLine.{ScriptLine};
 ghost use Rattle.nm_publish.specs.Published.{GoesOn, index_of};
-ghost use Rattle.nm_session.specs.LaneLog.{IsLookNoted, IsPhaseEnd, IsPlaceOf};
+ghost use Rattle.nm_session.specs.LaneLog.{IsLaneReadNoted, IsPhaseEnd, IsPlaceOf};
 ghost use Rattle.nm_session.specs.Loop.{AreTaken};
-ghost use Rattle.nm_trace.specs.Marks.{is_of_others, made_by};
+ghost use Rattle.nm_trace.specs.Trace.{is_of_others, made_by};
 ghost use Rattle.nm_trace.specs.ReservedLog.{HasSpare};
-ghost use Rattle.nm_session.specs.Sights.{AreKnown, HasLooked, IsSeenAt, KeepsLane, MayBeOf};
+ghost use Rattle.nm_session.specs.Observations.{AreKnown, HasAnswered, IsSeenAt, KeepsLane, MayBeOf};
 ghost use Rattle.nm_session.specs.Turns.{other_lanes, planned_line};
 
 use crate::lane_log::PhaseEnd;
 use crate::plan::LANES;
-use crate::reader_lane::{ReaderLane, Sight};
+use crate::reader_lane::{Observation, ReaderLane};
 use core::mem;
 use nm_base::Many;
 use nm_index::the_revision_counts_the_commits;
 use nm_lanes::ScriptLine;
-use nm_line::look;
+use nm_line::lane_read;
 use nm_log::Crew;
 use nm_publish::Shown;
 use nm_trace::{Mark, ReservedLog};
@@ -38,7 +38,7 @@ pub(crate) fn settle<R>(
     reserved: &mut ReservedLog,
     writer: &mut Writer,
 )
-    requires looked { All (HasLooked crew.now.setting.now.moment lines.now writer.old.published.book) lanes.old }
+    requires lane_answer { All (HasAnswered crew.now.setting.now.moment lines.now writer.old.published.book) lanes.old }
     requires spare { HasSpare (length (flat_map (lines_of_lane lines.now) other_lanes)) (length writer.old.begun) reserved.old }
     requires few { length writer.old.begun ≤ max_commits }
     ensures writer { writer.new ≡ writer.old }
@@ -47,30 +47,30 @@ pub(crate) fn settle<R>(
         → AreTaken crew.now.setting.now.moment (map (planned_line phase) (flat_map (lines_of_lane lines.now) other_lanes)) place reserved.old reserved.new place }
 {
     'lanes: for lane in 1..LANES {
-        let sights = sights_of(crew.alloc, lane, lanes, writer);
+        let observations = observations_of(crew.alloc, lane, lanes, writer);
         let end = PhaseEnd {
             alloc: crew.alloc,
             setting: crew.setting,
             phase,
             writer,
         };
-        settle_lane(&end, lane, lines, sights, reserved);
+        settle_lane(&end, lane, lines, observations, reserved);
     }
 }
 
 /// What this lane saw, if it is there; its reader learns what is shown.
-fn sights_of(
+fn observations_of(
     alloc: Global,
     lane: u32,
     lanes: &mut [ReaderLane<'_>],
     writer: &mut Writer,
-) -> Many<Sight>
+) -> Many<Observation>
     requires books { All (λ each. each.reader.book ≡ writer.old.published.book) lanes.old }
     ensures writer { writer.new ≡ writer.old }
     ensures shown { index_of writer.old.published ≡ writer.old.shown }
     ensures lanes { AllZip KeepsLane lanes.old lanes.new }
-    ensures looked { (moment : ℤ) (lines : List ScriptLine) → All (HasLooked moment lines writer.old.published.book) lanes.old
-        → All (HasLooked moment lines writer.old.published.book) lanes.new × AreKnown moment lines writer.old.published result }
+    ensures lane_answer { (moment : ℤ) (lines : List ScriptLine) → All (HasAnswered moment lines writer.old.published.book) lanes.old
+        → All (HasAnswered moment lines writer.old.published.book) lanes.new × AreKnown moment lines writer.old.published result }
 {
     let shown = writer.tell();
     'lanes: for at in 0..lanes.len() {
@@ -81,14 +81,14 @@ fn sights_of(
     Many::new(alloc)
 }
 
-fn hand_over(alloc: Global, lane: &mut ReaderLane<'_>, shown: Shown) -> Many<Sight>
+fn hand_over(alloc: Global, lane: &mut ReaderLane<'_>, shown: Shown) -> Many<Observation>
     requires book { shown.book ≡ lane.old.reader.book }
     ensures kept { KeepsLane lane.old lane.new }
-    ensures looked { (moment : ℤ) (lines : List ScriptLine) → HasLooked moment lines shown.book lane.old
-        → HasLooked moment lines shown.book lane.new × AreKnown moment lines shown result }
+    ensures lane_answer { (moment : ℤ) (lines : List ScriptLine) → HasAnswered moment lines shown.book lane.old
+        → HasAnswered moment lines shown.book lane.new × AreKnown moment lines shown result }
 {
     lane.reader.learn(shown);
-    mem::replace(&mut lane.sights, Many::new(alloc))
+    mem::replace(&mut lane.observations, Many::new(alloc))
 }
 
 /// Notes the lines of one lane, of which it saw these in their order.
@@ -96,17 +96,17 @@ fn settle_lane(
     end: &PhaseEnd<'_>,
     lane: u32,
     lines: &[ScriptLine],
-    sights: Many<Sight>,
+    observations: Many<Observation>,
     reserved: &mut ReservedLog,
 )
     requires end { IsPhaseEnd end.now }
     requires another { 1 ≤ lane }
-    requires sights { AreKnown end.now.setting.now.moment lines.now end.now.writer.now.published sights }
+    requires observations { AreKnown end.now.setting.now.moment lines.now end.now.writer.now.published observations }
     requires spare { HasSpare (length (lines_of_lane lines.now lane)) (length end.now.writer.now.begun) reserved.old }
     ensures taken { (place : Place) → place.writer ≡ end.now.writer.now
         → AreTaken end.now.setting.now.moment (map (planned_line end.now.phase) (lines_of_lane lines.now lane)) place reserved.old reserved.new place }
 {
-    let mut rest = sights.into_vec().into_iter();
+    let mut rest = observations.into_vec().into_iter();
     'lines: for (at, line) in lines.iter().enumerate() {
         if line.lane != lane {
             continue;
@@ -120,22 +120,28 @@ fn settle_line(
     end: &PhaseEnd<'_>,
     at: usize,
     line: &ScriptLine,
-    sight: Option<Sight>,
+    observation: Option<Observation>,
     reserved: &mut ReservedLog,
 )
     requires end { IsPhaseEnd end.now }
     requires another { 1 ≤ line.now.lane }
     requires spare { HasSpare 1 (length end.now.writer.now.begun) reserved.old }
-    requires sight { IfSome sight (λ sight. MayBeOf end.now.setting.now.moment at line.now end.now.writer.now.published sight) }
-    ensures { IsLookNoted end.now.setting.now.moment end.now.phase end.now.writer.now line.now reserved.old reserved.new }
+    requires observation { IfSome observation (λ observation. MayBeOf end.now.setting.now.moment at line.now end.now.writer.now.published observation) }
+    ensures { IsLaneReadNoted end.now.setting.now.moment end.now.phase end.now.writer.now line.now reserved.old reserved.new }
 {
     the_revision_counts_the_commits();
-    let Some(sight) = sight else {
+    let Some(observation) = observation else {
         return answer_anew(end, line, reserved);
     };
     let now = end.writer.snapshot().revision();
-    match seen_at(at, &sight, line.lane, reserved.marks.as_slice(), now) {
-        Some(place) => end.note_answer(line, sight.revision, sight.answered, reserved, place),
+    match seen_at(at, &observation, line.lane, reserved.marks.as_slice(), now) {
+        Some(place) => end.note_answer(
+            line,
+            observation.revision,
+            observation.answered,
+            reserved,
+            place,
+        ),
         None => answer_anew(end, line, reserved),
     }
 }
@@ -145,26 +151,32 @@ fn answer_anew(end: &PhaseEnd<'_>, line: &ScriptLine, reserved: &mut ReservedLog
     requires end { IsPhaseEnd end.now }
     requires another { 1 ≤ line.now.lane }
     requires spare { HasSpare 1 (length end.now.writer.now.begun) reserved.old }
-    ensures { IsLookNoted end.now.setting.now.moment end.now.phase end.now.writer.now line.now reserved.old reserved.new }
+    ensures { IsLaneReadNoted end.now.setting.now.moment end.now.phase end.now.writer.now line.now reserved.old reserved.new }
 {
     let snapshot = end.writer.snapshot();
-    let answered = look(end.alloc, end.setting, line, snapshot);
+    let answered = lane_read(end.alloc, end.setting, line, snapshot);
     let last = reserved.marks.as_slice().len();
     end.note_answer(line, snapshot.revision(), answered, reserved, last);
 }
 
 /// Where in the marks the lane saw this, where it is of the line at this place and no more than was shown at this revision.
-fn seen_at(at: usize, sight: &Sight, lane: u32, marks: &[Mark], now: u64) -> Option<usize>
-    ensures { IfSome result (λ place. IsSeenAt at lane marks.now now sight.now place) }
+fn seen_at(
+    at: usize,
+    observation: &Observation,
+    lane: u32,
+    marks: &[Mark],
+    now: u64,
+) -> Option<usize>
+    ensures { IfSome result (λ place. IsSeenAt at lane marks.now now observation.now place) }
 {
-    if sight.at != at {
+    if observation.at != at {
         return None;
     }
-    let behind = now.checked_sub(sight.revision)?;
+    let behind = now.checked_sub(observation.revision)?;
     place_of(marks, lane, behind)
 }
 
-/// Where in the marks a look of this lane stands that saw all commits but the last ones, so many.
+/// Where in the marks a read of this lane is that saw all commits but the last ones, n.
 fn place_of(marks: &[Mark], lane: u32, behind: u64) -> Option<usize>
     ensures { IfSome result (IsPlaceOf lane behind marks.now) }
 {
@@ -190,7 +202,7 @@ fn is_of_others(lane: u32, mark: &Mark) -> bool
     match mark {
         Mark::Made => true,
         Mark::Begun => true,
-        Mark::Look { lane: other } => *other != lane,
+        Mark::LaneRead { lane: other } => *other != lane,
         Mark::Reply { lane: other, .. } => *other != lane,
         Mark::Met => false,
     }

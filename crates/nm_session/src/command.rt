@@ -92,5 +92,5 @@ fn run_alone<R: Threads + Wait + Sync, M: Maildir, D: Disk>(
         prepared: Ok(prepared),
     };
     let _ = run_line(crew, 0, asked, MAX_SHOWN, reserved, &mut desk);
-    reserved.note_meeting();
+    reserved.note_barrier();
 }

@@ -2,14 +2,14 @@
 
 ghost use Rattle.std.specs.Prelude.{◌≡◌, ◌≤◌, ℤ, codes, length};
 ghost use Rattle.nm_index.specs.declared.base.Base.{Base};
-ghost use Rattle.nm_line.specs.Look.{IsAnswerOn};
-ghost use Rattle.nm_session.specs.LaneLog.{IsAnswerNoted, IsLooked};
+ghost use Rattle.nm_line.specs.LaneRead.{IsAnswerOn};
+ghost use Rattle.nm_session.specs.LaneLog.{IsAnswerNoted, IsLaneAnswered};
 ghost use Rattle.nm_trace.specs.ReservedLog.{AreFallbacks};
 
 use crate::line::answered_or;
 use nm_base::{Many, NoMemory};
 use nm_lanes::ScriptLine;
-use nm_line::{LineAnswer, what_is_looked_is_said};
+use nm_line::{LineAnswer, what_a_lane_reads_is_said};
 use nm_log::{LineLog, Said, Setting, line_status};
 use nm_trace::{ReservedLog, take_fallback};
 use nm_writer::Writer;
@@ -25,7 +25,7 @@ pub(crate) struct PhaseEnd<'a> {
 }
 
 impl PhaseEnd<'_> {
-    /// Notes what a line was answered on an index of this revision, its look at this place of the marks.
+    /// Notes what a line was answered on an index of this revision, its read at this place of the marks.
     pub(crate) fn note_answer(
         &self,
         line: &ScriptLine,
@@ -43,12 +43,12 @@ impl PhaseEnd<'_> {
             → IsAnswerNoted moment self.now.phase index line.now at reserved.old reserved.new }
     {
         let fallback = take_fallback(&mut reserved.fallbacks);
-        let (log, reply) = self.look_log(line, revision, answered, fallback);
-        reserved.note_look(log, reply, at);
+        let (log, reply) = self.lane_read_log(line, revision, answered, fallback);
+        reserved.note_lane_read(log, reply, at);
     }
 
     /// The log of a line that was answered so. `fallback` is its text where it ran out of memory.
-    fn look_log(
+    fn lane_read_log(
         &self,
         line: &ScriptLine,
         revision: u64,
@@ -57,9 +57,9 @@ impl PhaseEnd<'_> {
     ) -> (LineLog, Option<Said>)
         requires fallback { fallback ≡ codes "notmuch: no memory\n" }
         ensures { (moment : ℤ) (index : Base) → revision ≡ index.revision → IsAnswerOn moment index line.now answered
-            → IsLooked moment self.now.phase index (line.now, result.0) result.1 }
+            → IsLaneAnswered moment self.now.phase index (line.now, result.0) result.1 }
     {
-        what_is_looked_is_said();
+        what_a_lane_reads_is_said();
         let LineAnswer {
             outcome,
             text,

@@ -3,14 +3,13 @@
 ghost use Rattle.nm_session.specs.TurnLaws.{FirstLaws, TurnLaws};
 
 use nm_history::{
-    a_line_more_keeps_the_answers, a_line_more_keeps_the_clocks, a_line_more_keeps_the_commits,
-    a_line_more_keeps_the_given, a_line_more_keeps_the_machine_run,
-    a_line_more_keeps_where_it_stands, a_look_commits_nothing, a_look_keeps_the_answers,
-    a_look_keeps_the_machine_run, a_meeting_keeps_the_machine_run, later_steps_keep_the_answers,
-    no_line_is_answered, no_line_makes_no_commit, no_line_stands_at_the_opening,
-    no_step_is_a_run_of_the_machine, nothing_is_given_to_no_line,
-    what_commits_nothing_keeps_the_commits, what_stands_between_keeps_the_answers,
-    what_stands_between_keeps_the_commits,
+    a_barrier_keeps_the_machine_run, a_lane_read_commits_nothing, a_lane_read_keeps_the_answers,
+    a_lane_read_keeps_the_machine_run, a_line_more_keeps_the_answers, a_line_more_keeps_the_clocks,
+    a_line_more_keeps_the_commits, a_line_more_keeps_the_given, a_line_more_keeps_the_machine_run,
+    a_line_more_keeps_where_it_stands, later_steps_keep_the_answers, no_line_is_answered,
+    no_line_makes_no_commit, no_line_stands_at_the_opening, no_step_is_a_run_of_the_machine,
+    nothing_is_given_to_no_line, what_commits_nothing_keeps_the_commits,
+    what_stands_between_keeps_the_answers, what_stands_between_keeps_the_commits,
 };
 
 /// Those before the first line.
@@ -24,7 +23,7 @@ pub(crate) fn first_laws()
     nothing_is_given_to_no_line();
 }
 
-/// Those of a line more, of a look more, and of the end of a phase.
+/// Those of a line more, of one more read, and of the end of a phase.
 pub(crate) fn turn_laws()
     ensures { TurnLaws }
 {
@@ -34,10 +33,10 @@ pub(crate) fn turn_laws()
     a_line_more_keeps_the_answers();
     a_line_more_keeps_the_given();
     a_line_more_keeps_the_clocks();
-    a_look_keeps_the_machine_run();
-    a_look_keeps_the_answers();
-    a_look_commits_nothing();
-    a_meeting_keeps_the_machine_run();
+    a_lane_read_keeps_the_machine_run();
+    a_lane_read_keeps_the_answers();
+    a_lane_read_commits_nothing();
+    a_barrier_keeps_the_machine_run();
     what_commits_nothing_keeps_the_commits();
     what_stands_between_keeps_the_commits();
     what_stands_between_keeps_the_answers();

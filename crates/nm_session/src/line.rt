@@ -21,7 +21,7 @@ use std::alloc::Global;
 use std::sync::Wait;
 use std::thread::Threads;
 
-/// A line whose turn has come: where it stands, and what it asks for.
+/// A line whose turn has come: where it is, and what it asks for.
 #[derive(Drop)]
 pub(crate) struct AskedLine {
     pub(crate) lane: u32,
@@ -67,7 +67,7 @@ pub(crate) fn run_line<R: Threads + Wait + Sync, M: Maildir, D: Disk>(
     left
 }
 
-/// How many commits were acknowledged since there were so many.
+/// How many commits were acknowledged since there were n.
 fn made_since(before: usize, writer: &Writer) -> usize
     ensures count { result ≡ length writer.now.acked - before }
     ensures few { length writer.now.begun ≤ max_commits }

@@ -12,10 +12,10 @@ ghost use Rattle.nm_line.specs.Desk.{Stands};
 ghost use Rattle.nm_line.specs.Line.{IsEven, place_at};
 ghost use Rattle.nm_session.specs.Loop.{AreTaken};
 ghost use Rattle.nm_session.specs.Phases.{HasRunPhases, HasWorked, IsReady};
-ghost use Rattle.nm_session.specs.Sights.{HasSeen, IsLaneAt};
+ghost use Rattle.nm_session.specs.Observations.{HasSeen, IsLaneAt};
 ghost use Rattle.nm_session.specs.Stage.{KeepsLoans, StaysDurable, place_in};
 ghost use Rattle.nm_session.specs.Turns.{places_in, planned_phase};
-ghost use Rattle.nm_trace.specs.Marks.{steps_of};
+ghost use Rattle.nm_trace.specs.Trace.{steps_of};
 ghost use Rattle.nm_trace.specs.ReservedLog.{HasRoom, HasSpare};
 ghost use Rattle.nm_writer.specs.Durable.{IsDurable};
 
@@ -158,7 +158,7 @@ impl<M: Maildir, D: Disk, O: Sink> Stage<'_, '_, '_, '_, '_, M, D, O> {
         let lines = asked.phases[number as usize].lines.as_slice();
         let left = self.work(asked, number, lines, lanes, left);
         settle(asked.crew, number, lines, lanes, self.reserved, self.writer);
-        self.reserved.note_meeting();
+        self.reserved.note_barrier();
         left
     }
 

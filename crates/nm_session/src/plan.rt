@@ -4,7 +4,7 @@ ghost use Rattle.std.specs.Prelude.{◌≡◌, ◌+◌, ◌≤◌, IfOk, IfSome,
 ghost use Rattle.std.specs.List.{All, AllByRecursion};
 ghost use Rattle.logbook.specs.Pages.{Book};
 ghost use Rattle.nm_session.specs.Session.{IsPlanned};
-ghost use Rattle.nm_session.specs.Sights.{IsLaneAt};
+ghost use Rattle.nm_session.specs.Observations.{IsLaneAt};
 ghost use Rattle.nm_session.specs.Turns.{places_in};
 
 use crate::reader_lane::ReaderLane;
@@ -162,7 +162,7 @@ fn add_lane<'a>(
             phases,
             at: 0,
             reader,
-            sights: Many::new(alloc),
+            observations: Many::new(alloc),
         });
     }
 }

@@ -3,12 +3,12 @@
 ghost use Rattle.std.specs.Prelude.{◌≤◌, length};
 ghost use Rattle.nm_history.specs.PrintedOut.{printed_by};
 ghost use Rattle.nm_io.specs.Observed.{StreamAppends};
-ghost use Rattle.nm_session.specs.Printing.{PrintsRest};
+ghost use Rattle.nm_session.specs.PrintedReplies.{PrintsRest};
 
 use nm_io::Sink;
 use nm_log::{LineLog, print_lines, print_replies};
 
-/// Prints the replies behind the first ones, of which so many were printed. It says how many are then, or nothing where the output
+/// Prints the replies after the first ones, of which n were printed. It says how many are then, or nothing where the output
 /// failed.
 pub(crate) fn print_rest<O: Sink>(
     session: bool,

@@ -11,7 +11,7 @@ use std::alloc::Global;
 
 /// What a lane was answered to a line.
 #[derive(Drop)]
-pub(crate) struct Sight {
+pub(crate) struct Observation {
     /// The place of the line in its phase.
     pub(crate) at: usize,
     /// The revision of the index that it saw.
@@ -28,6 +28,6 @@ pub(crate) struct ReaderLane<'a> {
     pub(crate) phases: &'a [Phase],
     pub(crate) at: usize,
     pub(crate) reader: Reader,
-    pub(crate) sights: Many<Sight>,
+    pub(crate) observations: Many<Observation>,
     ghost in_range: { (1 ≤ lane) × (lane ≤ 15) },
 }

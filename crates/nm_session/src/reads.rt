@@ -4,12 +4,12 @@
 ghost use Rattle.std.specs.Prelude.{◌≡◌, ◌≤◌};
 ghost use Rattle.nm_dates.specs.Seconds.{IsMoment};
 ghost use Rattle.nm_publish.specs.Published.{GoesOn};
-ghost use Rattle.nm_session.specs.Sights.{AreSights, HasSeen, IsSeen};
+ghost use Rattle.nm_session.specs.Observations.{AreObservations, HasSeen, IsSeen};
 
-use crate::reader_lane::{ReaderLane, Sight};
+use crate::reader_lane::{Observation, ReaderLane};
 use nm_base::{Many, NoMemory};
 use nm_lanes::{LaneWork, ScriptLine};
-use nm_line::look;
+use nm_line::lane_read;
 use nm_log::Setting;
 use nm_publish::Reader;
 use std::alloc::Global;
@@ -27,7 +27,7 @@ impl<'a> LaneWork for ReaderLane<'a> {
 
     fn work<R: Threads + Wait + Sync>(&mut self, _rt: &R) {
         if let Some(phase) = self.phases.get(self.at) {
-            self.sights = see_lines(
+            self.observations = see_lines(
                 self.alloc,
                 self.setting,
                 self.lane,
@@ -46,22 +46,22 @@ fn see_lines(
     lane: u32,
     lines: &[ScriptLine],
     reader: &mut Reader,
-) -> Many<Sight>
+) -> Many<Observation>
     requires moment { IsMoment setting.now.moment }
     requires another { 1 ≤ lane }
     ensures grown { GoesOn reader.old reader.new }
-    ensures sights { AreSights setting.now.moment lines.now reader.new result }
+    ensures observations { AreObservations setting.now.moment lines.now reader.new result }
 {
-    let mut sights = Many::new(alloc);
+    let mut observations = Many::new(alloc);
     'lines: for (at, line) in lines.iter().enumerate() {
         if line.lane != lane {
             continue;
         }
-        let sight = see_line(alloc, setting, at, line, reader);
-        // A sight that finds no place is missing, and the line is answered when the phase ends.
-        let _ = sights.push(sight);
+        let observation = see_line(alloc, setting, at, line, reader);
+        // An observation that finds no place is missing, and the line is answered when the phase ends.
+        let _ = observations.push(observation);
     }
-    sights
+    observations
 }
 
 fn see_line(
@@ -70,7 +70,7 @@ fn see_line(
     at: usize,
     line: &ScriptLine,
     reader: &mut Reader,
-) -> Sight
+) -> Observation
     requires moment { IsMoment setting.now.moment }
     requires another { 1 ≤ line.now.lane }
     ensures grown { GoesOn reader.old reader.new }
@@ -78,12 +78,12 @@ fn see_line(
     ensures seen { IsSeen setting.now.moment line.now reader.new result }
 {
     match reader.see() {
-        Ok(snapshot) => Sight {
+        Ok(snapshot) => Observation {
             at,
             revision: snapshot.revision(),
-            answered: look(alloc, setting, line, &snapshot),
+            answered: lane_read(alloc, setting, line, &snapshot),
         },
-        Err(NoMemory) => Sight {
+        Err(NoMemory) => Observation {
             at,
             revision: reader.revision(),
             answered: Err(NoMemory),

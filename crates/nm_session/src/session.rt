@@ -22,7 +22,7 @@ use std::thread::Threads;
 
 /// Opens the index that the disk holds, and runs the phases over it and the mail folder: of each all lanes at once, lane 0 here and
 /// each other lane that the script names in a thread of its own, with a reader; then it prints the replies of the phase, those of a
-/// session behind headers. Where the output fails no further phase is run. It tells the log and whether the output failed. All
+/// session after headers. Where the output fails no further phase is run. It tells the log and whether the output failed. All
 /// memory of the log is taken before the index is opened; a line that runs out of memory says so, and the next one runs. No reader
 /// ever waits; a commit may wait until readers have left the snapshot from before.
 pub fn run_session<R: Threads + Wait + Sync, M: Maildir, D: Disk, O: Sink, G: Gate + Sync>(

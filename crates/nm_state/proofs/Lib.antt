@@ -1,5 +1,5 @@
+pub mod LoadLemmas
 pub mod NumberLemmas
-pub mod OpeningLemmas
 pub mod RenumberLemmas
 pub mod RoomLemmas
 pub mod TagLemmas

@@ -10,7 +10,7 @@ named_push : (xs : List Change) (x : Change) → ids_named (xs ++ x ∷ []) ≡ 
 named_push [] x = omega arith
 named_push (y ∷ xs) x = omega (arith, named_push xs x)
 
--- one change more, as far as a number tells it
+-- one change more, as far as a number can count it
 pub one_more_named : (xs : List Change) (i : ℕ) (x : Change) (count names new : ℕ) → i < length xs → x ≡ slice_index_or xs i x → count ≡ min (ids_named (take i xs)) max_count → names ≡ min (named_ids x) max_count
     → new ≡ min (count + names) max_count → new ≡ min (ids_named (take (i + 1) xs)) max_count
 one_more_named xs i x count names new lt item counted named more =

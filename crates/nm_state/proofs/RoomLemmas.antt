@@ -62,13 +62,13 @@ tagged_len (t ∷ tags) =
 -- the sums that the parts keep are those of the index
 pub parts_len : (parts : Parts) → AreKept parts.kept
     → ((index : Base) → base_len index ≡ 32 + sum_by (λ file. length (arrival_grammar.bytes file)) index.files + sum_by (λ row. length (row_bytes row)) index.kept + sum_by (λ entry. length (entry_bytes entry)) index.entries + sum_by (λ tagged. length (tagging_grammar.bytes tagged)) index.tags)
-    → (files kept entries tags : ℕ) → files ≡ pairs_len (λ (place : ℕ). 0) (λ (file : List ℕ × Facts). length (arrival_grammar.bytes (file.0, file.1))) parts.filing.files
+    → (files kept entries tags : ℕ) → files ≡ pairs_len (λ (place : ℕ). 0) (λ (file : List ℕ × Facts). length (arrival_grammar.bytes (file.0, file.1))) parts.file_table.files
     → kept ≡ pairs_len (λ (bytes : List ℕ). length bytes) (λ (row : LinkRow). 0) parts.kept → entries ≡ entries_len (entries_of parts.labels.labels)
     → tags ≡ pairs_len (λ (id : List ℕ). length (text_bytes id)) (λ (set : List (List ℕ)). length (tags_grammar.bytes set)) parts.tags
     → 32 + files + kept + entries + tags ≡ base_len (base_of parts)
 parts_len parts are law files kept entries tags files_is kept_is entries_is tags_is =
     let all = law (base_of parts) in
-    let of_files = files_is ∙ files_len parts.filing.files in
+    let of_files = files_is ∙ files_len parts.file_table.files in
     let of_kept = kept_is ∙ kept_len parts.kept are.keyed in
     let of_tags = tags_is ∙ tagged_len parts.tags in
     omega (arith, all, of_files, of_kept, entries_is, of_tags)

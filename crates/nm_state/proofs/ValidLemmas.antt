@@ -16,7 +16,7 @@ use Rattle.nm_index.specs.Index.{has_entry, is_held, row_bytes, row_cmp, rows_of
 use Rattle.nm_index.specs.Valid.{IsValid}
 use Rattle.nm_threads.specs.Labels.{IsLabelling, Label, entries_of}
 use Rattle.nm_threads.specs.Same.{ids_of}
-use Rattle.nm_tables.specs.Filing.{AreFiled, at_text, files_in}
+use Rattle.nm_tables.specs.FileTable.{AreFiled, at_text, files_in}
 use Rattle.nm_parts.specs.Parts.{AreParts, base_of}
 use Rattle.nm_parts.specs.declared.parts.Parts.{Parts}
 use Rattle.nm_tables.specs.KeyLaws.{Contains_first, Contains_there, Contains_map, Contains_from_map, all_at, all_from, any_of, same_number, same_text_of, text_other}
@@ -25,7 +25,7 @@ use Rattle.nm_tables.specs.FoundLaws.{found_at, not_first, sorted_rest, value_fo
 use Rattle.std.proofs.lemmas.Option.{same_Some}
 use Rattle.std.specs.Prelude.{Some}
 
--- ---- no two files lie at one path
+-- ---- no two files are at one path
 
 distinct_by : (es : List (ℕ × (List ℕ × Facts))) → IsStrictlySortedBy nat_cmp (keys_of es)
     → ((a b : ℕ × (List ℕ × Facts)) → Contains es a → Contains es b → a.1.0 ≡ b.1.0 → a.0 ≡ b.0) → IsDistinct same_text (paths_of (values_of es))
@@ -41,13 +41,13 @@ distinct_by (e ∷ es) sorted one = (
   distinct_by es (sorted_rest e es sorted) (λ a b first second. one a b (Contains_there e es a first) (Contains_there e es b second)),
 )
 
-distinct_paths : (parts : Parts) → AreFiled parts.filing → IsDistinct same_text (paths_of (files_in parts.filing))
+distinct_paths : (parts : Parts) → AreFiled parts.file_table → IsDistinct same_text (paths_of (files_in parts.file_table))
 distinct_paths parts are =
-    distinct_by parts.filing.files are.sorted
+    distinct_by parts.file_table.files are.sorted
     (λ a b first second same.
-    let at_a : at_text a.1.0 parts.filing.places ≡ Some a.0 = are.kept a.0 a.1.0 a.1.1 (found_at parts.filing.files are.sorted a first) in
-    let at_b : at_text b.1.0 parts.filing.places ≡ Some b.0 = are.kept b.0 b.1.0 b.1.1 (found_at parts.filing.files are.sorted b second) in
-    same_Some a.0 b.0 (sym at_a ∙ ap (λ path. at_text path parts.filing.places) same ∙ at_b))
+    let at_a : at_text a.1.0 parts.file_table.places ≡ Some a.0 = are.kept a.0 a.1.0 a.1.1 (found_at parts.file_table.files are.sorted a first) in
+    let at_b : at_text b.1.0 parts.file_table.places ≡ Some b.0 = are.kept b.0 b.1.0 b.1.1 (found_at parts.file_table.files are.sorted b second) in
+    same_Some a.0 b.0 (sym at_a ∙ ap (λ path. at_text path parts.file_table.places) same ∙ at_b))
 
 -- ---- kept rows are in order
 
@@ -94,10 +94,10 @@ parts_valid parts are labelling least sorted =
     let entries : List (List ℕ × ℕ) = entries_of parts.labels.labels in
     record {
       paths = distinct_paths parts are.filed;
-      dates = all_from (λ file. IsDate file.1.date) (files_in parts.filing)
+      dates = all_from (λ file. IsDate file.1.date) (files_in parts.file_table)
           (λ file among.
-          let entry = Contains_from_map (λ (x : ℕ × (List ℕ × Facts)). x.1) parts.filing.files file among in
-          subst (λ (f : List ℕ × Facts). IsDate f.1.date) entry.2 (are.filed.dated entry.0.0 entry.0.1 (found_at parts.filing.files are.filed.sorted entry.0 entry.1)));
+          let entry = Contains_from_map (λ (x : ℕ × (List ℕ × Facts)). x.1) parts.file_table.files file among in
+          subst (λ (f : List ℕ × Facts). IsDate f.1.date) entry.2 (are.filed.dated entry.0.0 entry.0.1 (found_at parts.file_table.files are.filed.sorted entry.0 entry.1)));
       rows = sorted_rows parts.kept are.kept.sorted are.kept.keyed;
       ids = distinct_ids parts.labels.labels labelling.rising labelling.ids;
       rising = subst (IsStrictlySortedBy nat_cmp) (numbers_same parts.labels.labels) labelling.rising;
@@ -115,7 +115,7 @@ parts_valid parts are labelling least sorted =
       kept = all_from (λ row. IsTrue (is_held index row.id)) index.kept are.held.rows;
       held = all_from (λ id. IsTrue (is_held index id)) (map (λ entry. entry.0) entries)
           (λ id among. let entry = Contains_from_map (λ (e : List ℕ × ℕ). e.0) entries id among in subst (λ x. is_held index x ≡ true) entry.2 (are.held.entries entry.0 entry.1));
-      live = λ id. let same : has_text (keys_of parts.tags) id ≡ has_id (files_in parts.filing) id = sym (found_is parts.tags id) ∙ are.tagged.live id in (λ has. sym same ∙ has, λ has. same ∙ has);
+      live = λ id. let same : has_text (keys_of parts.tags) id ≡ has_id (files_in parts.file_table) id = sym (found_is parts.tags id) ∙ are.tagged.live id in (λ has. sym same ∙ has, λ has. same ∙ has);
       in_order = sorted;
       sets = all_from (λ tagged. IsSorted tagged.1) parts.tags (λ tagged among. are.tagged.sets tagged.0 tagged.1 (value_found parts.tags sorted tagged among));
     }

@@ -5,7 +5,7 @@ use Rattle.nm_index.specs.declared.base.Base.{Base}
 use Rattle.nm_record.specs.BaseBytes.{base_len}
 use Rattle.nm_state.specs.declared.room.Counts.{Counts}
 
--- so many files, so many bytes and this next number, as far as a number tells them
+-- these numbers of files and bytes, and this next number, as far as a number can count them
 pub record AreCounts (index : Base) (counts : Counts) : Type 0 where
   pub files : counts.files ≡ length index.files
   pub bytes : counts.bytes ≡ min (base_len index) max_count

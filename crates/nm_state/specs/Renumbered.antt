@@ -1,4 +1,4 @@
--- An index whose ids are numbered anew: it takes as many bytes. Cited by `renumbering`.
+-- An index whose ids are numbered anew: it takes as many bytes. Cited by `fresh_numbers`.
 use Rattle.std.specs.Prelude.{ℕ, ◌+◌, List, [], ◌∷◌, length}
 use Rattle.nm_index.specs.declared.base.Base.{Base}
 

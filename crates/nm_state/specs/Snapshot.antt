@@ -1,4 +1,4 @@
--- Words on snapshots, which are seen as the plain index. Cited by `messages`, `retagging` and `snapshot`.
+-- Words on snapshots, which are seen as the model's index. Cited by `messages`, `tag_overlay` and `snapshot`.
 use Rattle.std.specs.Prelude.{ℕ, Bool, false, ◌==◌, List, Option, Some, None, fold}
 use Rattle.std.specs.List.{filter}
 use Rattle.nm_index.specs.Index.{live_ids, rows_of, with_tags}

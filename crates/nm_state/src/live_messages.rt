@@ -3,11 +3,11 @@
 ghost use Rattle.std.specs.Prelude.{◌≡◌, length};
 ghost use Rattle.std.specs.Iterator.{at_most};
 ghost use Rattle.std.specs.Map.Iter.{TakesFirst};
-ghost use Rattle.nm_tables.specs.Filing.{AreFiled, files_in};
+ghost use Rattle.nm_tables.specs.FileTable.{AreFiled, files_in};
 ghost use Rattle.nm_state.specs.Messages.{id_and_files, live_messages};
 
 use nm_base::MessageId;
-use nm_tables::{Filing, MessageFiles, files_near};
+use nm_tables::{FileTable, MessageFiles, files_by_hint};
 use nm_threads::Entries;
 use std::marker::Model;
 
@@ -15,7 +15,7 @@ use std::marker::Model;
 #[derive(Drop)]
 pub struct LiveMessages<'a> {
     rest: Entries<'a>,
-    filing: &'a Filing,
+    file_table: &'a FileTable,
     /// Where the files of the next one are looked for first: messages mostly came in the order of their numbers.
     near: u64,
 }
@@ -23,29 +23,29 @@ pub struct LiveMessages<'a> {
 impl<'a> Model for LiveMessages<'a> {
     ghost use Rattle.std.specs.Prelude.{List, ℕ};
     ghost use Rattle.nm_base.specs.declared.facts.Facts.{Facts};
-    ghost use Rattle.nm_tables.specs.Filing.{AreFiled, files_in};
+    ghost use Rattle.nm_tables.specs.FileTable.{AreFiled, files_in};
     ghost use Rattle.nm_state.specs.Messages.{live_messages};
 
     ghost Value = { List (List ℕ × List (List ℕ × Facts)) };
 
-    ghost view = { λ l. live_messages (files_in l.filing.now) l.rest };
+    ghost view = { λ l. live_messages (files_in l.file_table.now) l.rest };
 
-    ghost invariant = { λ l. AreFiled l.filing.now };
+    ghost invariant = { λ l. AreFiled l.file_table.now };
 }
 
 impl<'a> LiveMessages<'a> {
-    pub(crate) fn of(rest: Entries<'a>, filing: &'a Filing) -> LiveMessages<'a>
-        requires { AreFiled filing.now }
-        ensures { result ≡ live_messages (files_in filing.now) rest.entry }
+    pub(crate) fn of(rest: Entries<'a>, file_table: &'a FileTable) -> LiveMessages<'a>
+        requires { AreFiled file_table.now }
+        ensures { result ≡ live_messages (files_in file_table.now) rest.entry }
     {
         LiveMessages {
             rest,
-            filing,
+            file_table,
             near: 0,
         }
     }
 
-    /// Where the message that was read last came among all messages, or about there: its tags stand near this too.
+    /// Where the message that was read last came among all messages, or about there: its tags are near this too.
     pub fn near(&self) -> u64 {
         self.near.saturating_sub(1)
     }
@@ -61,7 +61,7 @@ impl<'a> Iterator for LiveMessages<'a> {
     fn next(&mut self) -> Option<(&'a MessageId, MessageFiles<'a>)> {
         'entries: loop {
             let (id, _) = self.rest.next()?;
-            if let Some((near, files)) = files_near(self.filing, id, self.near) {
+            if let Some((near, files)) = files_by_hint(self.file_table, id, self.near) {
                 self.near = near;
                 return Some((id, files));
             }

@@ -3,13 +3,13 @@
 ghost use Rattle.std.specs.Prelude.{◌≡◌, IfOk};
 ghost use Rattle.std.specs.List.{filter};
 ghost use Rattle.nm_commit.specs.Files.{has_id};
-ghost use Rattle.nm_tables.specs.Filing.{AreFiled, files_in};
+ghost use Rattle.nm_tables.specs.FileTable.{AreFiled, files_in};
 ghost use Rattle.nm_parts.specs.Parts.{AreParts, base_of};
 ghost use Rattle.nm_state.specs.Snapshot.{thread_messages};
 
 use nm_base::{Many, MessageId, NoMemory};
 use nm_parts::Parts;
-use nm_tables::{Filing, files_near};
+use nm_tables::{FileTable, files_by_hint};
 use std::alloc::Global;
 
 /// The messages of the thread of a name that have a file, by their numbers.
@@ -18,24 +18,24 @@ pub fn messages_of(alloc: Global, parts: &Parts, thread: u64) -> Result<Many<Mes
     ensures { IfOk result (λ ids. ids ≡ thread_messages (base_of parts.now) thread) }
 {
     let ids = parts.labels.members(thread)?;
-    let live = live_of(alloc, &parts.filing, ids)?;
+    let live = live_of(alloc, &parts.file_table, ids)?;
     Ok(live)
 }
 
 /// Those of the ids that have a file, in their order.
 fn live_of(
     alloc: Global,
-    filing: &Filing,
+    file_table: &FileTable,
     ids: Many<MessageId>,
 ) -> Result<Many<MessageId>, NoMemory>
-    requires { AreFiled filing.now }
-    ensures { IfOk result (λ live. live ≡ filter (has_id (files_in filing.now)) ids) }
+    requires { AreFiled file_table.now }
+    ensures { IfOk result (λ live. live ≡ filter (has_id (files_in file_table.now)) ids) }
 {
     let mut live = Many::new(alloc);
     // Messages mostly came in the order of their numbers.
     let mut near = 0;
     'ids: for id in ids.into_vec() {
-        if let Some((next, _)) = files_near(filing, &id, near) {
+        if let Some((next, _)) = files_by_hint(file_table, &id, near) {
             near = next;
             live.push(id)?;
         }

@@ -20,7 +20,7 @@ pub fn has_ids(parts: &Parts, commit: &Commit) -> bool
     ids_named(commit.changes.as_slice()) <= left
 }
 
-/// How many ids the changes name, as far as a number tells it.
+/// How many ids the changes name, as far as a number can count it.
 fn ids_named(changes: &[Change]) -> u64
     ensures { result ≡ min (ids_named changes.now) max_count }
 {

@@ -10,8 +10,8 @@ ghost use Rattle.nm_record.specs.Room.{limit_passed};
 ghost use Rattle.nm_state.specs.Counts.{AreCounts};
 ghost use Rattle.nm_parts.specs.Parts.{AreParts, base_of};
 
+use crate::fresh_numbers::renumbered;
 use crate::numbers::has_ids;
-use crate::renumbering::renumbered;
 use nm_base::{Limit, NoMemory};
 use nm_commit::Commit;
 use nm_index::numbers_never_fall;
@@ -50,7 +50,8 @@ const MAX_INDEX_BYTES: u64 = 1_073_741_824;
 /// The most that the next number and the revision come to.
 const MAX_NUMBER: u64 = 1 << 63;
 
-/// What an index comes to, as far as a number tells it: how many files, how many bytes as data, and the next number.
+/// What an index comes to, as far as a number can count it: how many files, how many bytes as data, and the next
+/// number.
 #[derive(Clone, Copy, Drop)]
 pub struct Counts {
     pub files: u64,
@@ -65,12 +66,12 @@ pub fn counts_of(parts: &Parts) -> Counts
 {
     a_base_takes_what_its_parts_take();
     let bytes = 32u64
-        .saturating_add(parts.filing.files.bytes())
+        .saturating_add(parts.file_table.files.bytes())
         .saturating_add(parts.kept.bytes())
         .saturating_add(parts.labels.bytes())
         .saturating_add(parts.tags.bytes());
     Counts {
-        files: parts.filing.files.pairs().len() as u64,
+        files: parts.file_table.files.pairs().len() as u64,
         bytes,
         next: parts.labels.next(),
     }
@@ -88,7 +89,8 @@ fn counts_made(alloc: Global, parts: &Parts, commit: &Commit) -> Result<Counts, 
     Ok(counts_of(&after))
 }
 
-/// The same where there may be no number for each id that the commit names: told by the index whose ids are numbered anew.
+/// The same where there may be no number for each id that the commit names: given by the index whose ids are numbered
+/// anew.
 fn counts_anew(alloc: Global, parts: &Parts, commit: &Commit) -> Result<Counts, NoMemory>
     requires parts { AreParts parts.now }
     requires fits { FitChanges (base_of parts.now).files commit.now.changes }

@@ -19,29 +19,29 @@ ghost use Rattle.nm_threads.specs.Name.{thread_name};
 ghost use Rattle.nm_state.specs.Messages.{live_messages};
 ghost use Rattle.nm_state.specs.Snapshot.{retagged, thread_messages};
 
-use crate::exporting::base_of;
-use crate::fitting::fit;
+use crate::commit_fit::fit;
+use crate::export::base_of;
 use crate::live_messages::LiveMessages;
+use crate::load::parts_of;
 use crate::messages::messages_of;
 use crate::numbers::has_ids;
-use crate::opening::parts_of;
-use crate::retagging::retag;
 use crate::room::{RoomError, counts_after, counts_of, limit_passed};
+use crate::tag_overlay::retag;
 use nm_base::{Copies, Limit, MailPath, Many, MessageId, NoMemory, Tags};
 use nm_commit::Commit;
 use nm_index::Base;
-use nm_parts::{Parts, apply_by_sides, apply_changes, take_none_out};
+use nm_parts::{Parts, apply_by_halves, apply_changes, take_none_out};
 use nm_tables::{
-    Files, MessageFiles, Paths, Tagged, files_near, files_of, has_file, is_live, paths_of,
+    Files, MessageFiles, Paths, Tagged, files_by_hint, files_of, has_file, is_live, paths_of,
 };
 use std::alloc::Global;
 use std::marker::Model;
 use std::thread::Threads;
 
-/// So many changes are worth a thread.
+/// This many changes are worth a thread.
 const MANY_CHANGES: usize = 32;
 
-/// An index that doesn't change. A contract sees it as the plain index.
+/// An index that doesn't change. A contract sees it as the model's index.
 pub struct Snapshot {
     alloc: Global,
     parts: Parts,
@@ -123,7 +123,7 @@ impl Snapshot {
         if changes.len() < MANY_CHANGES || !take_none_out(changes) {
             return self.apply(commit);
         }
-        let mut parts = apply_by_sides(rt, self.alloc, &self.parts, changes)?;
+        let mut parts = apply_by_halves(rt, self.alloc, &self.parts, changes)?;
         parts.revision = self.revision() + 1;
         Ok(Snapshot {
             alloc: self.alloc,
@@ -207,9 +207,9 @@ impl Snapshot {
         Some(tags.get())
     }
 
-    /// The same, for less work where messages are asked for in the order in which they came. Beside the tags stands where the
-    /// next ones are looked for first; wherever a look begins, it finds the same.
-    pub fn tags_near(&self, id: &MessageId, near: u64) -> Option<(u64, &Tags)>
+    /// The same, for less work where messages are asked for in the order in which they came. Beside the tags is where the
+    /// next ones are looked for first; wherever a search begins, it finds the same.
+    pub fn tags_by_hint(&self, id: &MessageId, near: u64) -> Option<(u64, &Tags)>
         ensures { MatchOption result (lookup (is_at (slice_cmp nat_cmp id.now)) self.now.tags ≡ None) (λ found. lookup (is_at (slice_cmp nat_cmp id.now)) self.now.tags ≡ Some found.1.now) }
     {
         match self.parts.tags.get_near(id, near) {
@@ -218,7 +218,7 @@ impl Snapshot {
         }
     }
 
-    /// The messages that have a file, in no order that is told, each with its tags.
+    /// The messages that have a file, in no particular order, each with its tags.
     pub fn tagged(&self) -> Tagged<'_>
         ensures { IsPermutation self.now.tags result }
     {
@@ -240,8 +240,8 @@ impl Snapshot {
     }
 
     /// Where the thread of the next id is looked for first, and the name of this one's, for less work where ids are asked for in
-    /// the order of their numbers; wherever a look begins, it finds the same.
-    pub fn thread_near(&self, id: &MessageId, near: u64) -> (u64, Option<u64>)
+    /// the order of their numbers; wherever a search begins, it finds the same.
+    pub fn thread_by_hint(&self, id: &MessageId, near: u64) -> (u64, Option<u64>)
         ensures { result.1 ≡ thread_name (rows_of self.now) self.now.entries id.now }
     {
         self.parts.labels.name_near(id, near)
@@ -262,14 +262,18 @@ impl Snapshot {
         if commit.changes.is_empty() {
             return Ok(false);
         }
-        fit(self.alloc, &self.parts.filing, commit.changes.as_slice())
+        fit(
+            self.alloc,
+            &self.parts.file_table,
+            commit.changes.as_slice(),
+        )
     }
 
     /// The messages that have a file, by their numbers, each with its files: nobody has to look these up again.
     pub fn messages(&self) -> LiveMessages<'_>
         ensures { result ≡ live_messages self.now.files self.now.entries }
     {
-        LiveMessages::of(self.parts.labels.entries(), &self.parts.filing)
+        LiveMessages::of(self.parts.labels.entries(), &self.parts.file_table)
     }
 
     /// The paths of all files, in the order of their bytes.
@@ -277,47 +281,47 @@ impl Snapshot {
         ensures sorted { IsSorted result }
         ensures paths { (path : List ℕ) → has_text result path ≡ has_path self.now.files path }
     {
-        paths_of(&self.parts.filing)
+        paths_of(&self.parts.file_table)
     }
 
     /// All files, in the order of their arrival.
     pub fn files_in_order(&self) -> Files<'_>
         ensures { result ≡ self.now.files }
     {
-        Files::of(self.parts.filing.files.pairs())
+        Files::of(self.parts.file_table.files.pairs())
     }
 
     /// Says whether a message has a file.
     pub fn is_live(&self, id: &MessageId) -> bool
         ensures { result ≡ has_id self.now.files id.now }
     {
-        is_live(&self.parts.filing, id)
+        is_live(&self.parts.file_table, id)
     }
 
     /// The files of a message, the lead file first; none where the id has no file.
     pub fn files(&self, id: &MessageId) -> Option<MessageFiles<'_>>
         ensures { MatchOption result (has_id self.now.files id.now ≡ false) (λ files. files ≡ filter (λ file. same_text id.now file.1.id) self.now.files) }
     {
-        files_of(&self.parts.filing, id)
+        files_of(&self.parts.file_table, id)
     }
 
-    /// The same as `files`, for less work where messages are asked for in the order in which they came. Beside the files stands
-    /// where the next ones are looked for first; wherever a look begins, it finds the same.
-    pub fn files_near(&self, id: &MessageId, near: u64) -> Option<(u64, MessageFiles<'_>)>
+    /// The same as `files`, for less work where messages are asked for in the order in which they came. Beside the files is
+    /// where the next ones are looked for first; wherever a search begins, it finds the same.
+    pub fn files_by_hint(&self, id: &MessageId, near: u64) -> Option<(u64, MessageFiles<'_>)>
         ensures { MatchOption result (has_id self.now.files id.now ≡ false) (λ found. found.1 ≡ filter (λ file. same_text id.now file.1.id) self.now.files) }
     {
-        files_near(&self.parts.filing, id, near)
+        files_by_hint(&self.parts.file_table, id, near)
     }
 
-    /// Says whether a file lies there.
+    /// Says whether a file is there.
     pub fn has_path(&self, path: &MailPath) -> bool
         ensures { result ≡ has_path self.now.files path.now }
     {
-        has_file(&self.parts.filing, path)
+        has_file(&self.parts.file_table, path)
     }
 }
 
-/// What a snapshot holds is an index: no id stands in it twice, and each id of a mail has a number.
+/// What a snapshot holds is an index: no id is in it twice, and each id of a mail has a number.
 pub fn a_snapshot_is_a_valid_index(snapshot: &Snapshot)
     ensures { IsValid snapshot.now }
 {
@@ -326,7 +330,7 @@ pub fn a_snapshot_is_a_valid_index(snapshot: &Snapshot)
     snapshot.parts.tags.order();
 }
 
-/// The copy is a second handle.
+/// The copy is a clone.
 impl Copies for Snapshot {
     fn copy(&self) -> Result<Snapshot, NoMemory> {
         Ok(Snapshot {

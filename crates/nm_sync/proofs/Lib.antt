@@ -1,6 +1,6 @@
 pub mod MergeLemmas
 pub mod NotedLemmas
-pub mod RenamingLemmas
+pub mod RenameLemmas
 pub mod ReportLemmas
 pub mod SameLemmas
 pub mod ScanLemmas

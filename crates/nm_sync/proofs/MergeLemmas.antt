@@ -10,7 +10,7 @@ use Rattle.std.specs.declared.cmp.Ordering.TheVariants.{Less, Equal, Greater}
 use Rattle.nm_base.specs.Order.{IsSorted, has_text, same_text}
 use Rattle.nm_base.specs.OrderLaws.{above_all, turned}
 use Rattle.nm_sync.proofs.SameLemmas.{lacks}
-use Rattle.nm_sync.specs.Merging.{begins_with, from_on}
+use Rattle.nm_sync.specs.Merge.{begins_with, from_on}
 
 abbrev Texts : Type 0
 Texts = List (List ℕ)

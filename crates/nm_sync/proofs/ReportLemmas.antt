@@ -1,4 +1,4 @@
--- A report where no commit lies between the index before and the one after. For the proof of `messages_changed`.
+-- A report where no commit is between the index before and the one after. For the proof of `messages_changed`.
 use Rattle.std.proofs.Common.{◌≡◌, ℕ, ◌+◌, Bool, true, false, ◌||◌, ◌&&◌, not, List, [], ◌∷◌, length, refl, sym, ap, ◌∙◌, arith}
 use Rattle.std.specs.Cmp.Lexicographic.{nat_list_eq_equiv}
 use Rattle.std.proofs.lemmas.List.{nil_from_length}

@@ -1,4 +1,4 @@
--- What a scan asks, notes and finds, from its parts. For the proofs of `compare`, `gone_ids`, `side_by_side` and others.
+-- What a scan asks, notes and finds, from its parts. For the proofs of `compare`, `removed_ids`, `side_by_side` and others.
 use Rattle.std.proofs.Common.{◌≡◌, inr, ℕ, ◌<◌, Bool, true, false, ◌||◌, ◌&&◌, ◌==◌, not, cond, length, List, [], ◌∷◌, ◌++◌, Option, None, Some, Ok, IfSome, filter, take, refl, sym, ap, ◌∙◌, subst, append-nil, arith}
 use Rattle.nm_answer.specs.NewText.{gone}
 use Rattle.std.specs.Cmp.Lexicographic.{nat_list_eq_equiv}
@@ -14,15 +14,15 @@ use Rattle.nm_maildir.specs.Tree.{Tree}
 use Rattle.nm_maildir.specs.declared.given.Given.{Given}
 use Rattle.nm_maildir.specs.declared.given.Given.TheVariants as givens
 use Rattle.nm_plan.specs.Plan.{message_ids, removed_files, to_read}
-use Rattle.nm_scan.specs.Walking.{scanned}
+use Rattle.nm_scan.specs.Walk.{scanned}
 use Rattle.nm_scan.specs.Batches.{HasReadSome, IsUnfinished, ReadsBatches}
-use Rattle.nm_scan.specs.Reading.{NotesReads, answers_at, read_with}
-use Rattle.nm_scan.specs.Scanning.{AsksNew}
+use Rattle.nm_scan.specs.FileReads.{NotesReads, answers_at, read_with}
+use Rattle.nm_scan.specs.Scan.{AsksNew}
 use Rattle.nm_sync.proofs.NotedLemmas.{since-then}
 use Rattle.nm_sync.proofs.SameLemmas.{paths-are}
 use Rattle.nm_sync.specs.Listed.{HasListed}
 use Rattle.nm_sync.specs.Noted.{since}
-use Rattle.nm_sync.specs.declared.scanning.Compared.{Compared}
+use Rattle.nm_sync.specs.declared.comparison.Compared.{Compared}
 
 -- the mail folder that tells the same
 pub same_mail : (a b : ObservedMail) → a.tree ≡ b.tree → a.reads ≡ b.reads → a.faults ≡ b.faults → a ≡ b
@@ -72,7 +72,7 @@ pub known-rising : (paths start rest known : List (List ℕ)) → IsSorted paths
 known-rising paths start rest known rising begins none so_far =
     subst IsSorted (sym (sym (append-nil known) ∙ (ap (λ (l : List (List ℕ)). known ++ l) (sym none) ∙ (so_far ∙ begins)))) rising
 
--- a path is known where a file of the index lies there
+-- a path is known where a file of the index is there
 known-at : (files : List (List ℕ × Facts)) (path : List ℕ) → has_text (sorted (paths_of files)) path ≡ has_path files path
 known-at files path = has_text-sorted (paths_of files) path
 
@@ -90,13 +90,13 @@ unknown-are files listed known paths others found is paths_are others_are found_
     ∙ (filter_by (λ path. not (has_text (sorted (paths_of files)) path)) (λ path. not (has_path files path)) (λ path. ap not (known-at files path)) paths
     ∙ ap (to_read files) paths_are))
 
--- what is known and not listed is gone
+-- what is known and not listed is missing
 pub gone-are : (files : List (List ℕ × Facts)) (listed known paths others found : List (List ℕ)) → known ≡ sorted (paths_of files) → paths ≡ known → others ≡ listed
     → found ≡ filter (λ path. not (has_text others path)) paths → found ≡ gone files listed
 gone-are files listed known paths others found is paths_are others_are found_is =
     found_is ∙ (ap (λ (l : List (List ℕ)). filter (λ path. not (has_text l path)) paths) others_are ∙ ap (filter (λ path. not (has_text listed path))) (paths_are ∙ is))
 
--- where none is gone, no file is unlisted
+-- where none is missing, no file is unlisted
 is-there : (b : Bool) → not b ≡ false → b ≡ true
 is-there true h = refl
 is-there false h = absurd cc
@@ -170,7 +170,7 @@ asked_listing old mid files before given listed same_tree same is rising told =
 -- what was listed is compared with the index
 pub has_listed : (tree : Option Tree) (files : List (List ℕ × Facts)) (before given : List Given) (listed unknown away ids : List (List ℕ)) → given ≡ before ++ givens.Listed listed ∷ [] → IsSorted listed
     → IfSome tree (λ t. scanned t ≡ Ok listed) → unknown ≡ to_read files listed → away ≡ gone files listed → ids ≡ message_ids (removed_files files listed)
-    → HasListed tree files before given (record { unknown = unknown; gone = away; gone_ids = ids })
+    → HasListed tree files before given (record { unknown = unknown; gone = away; removed_ids = ids })
 has_listed tree files before given listed unknown away ids is rising told unknown_are gone_are ids_are = record {
   listed = listed;
   listing = record { rising = rising; told = told };

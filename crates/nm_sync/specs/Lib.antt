@@ -1,5 +1,5 @@
 pub mod Listed
-pub mod Merging
+pub mod Merge
 pub mod Noted
 pub mod Renamed
 pub mod Report

@@ -1,5 +1,5 @@
--- The renames behind a commit of tags, one after the other: what each becomes, what is kept of those that are done, and what the folder is asked.
--- Cited by `renaming`, `nm_writer`, `nm_history` and others.
+-- The renames after a commit of tags, one after the other: what each becomes, what is kept of those that are done, and what the folder is asked.
+-- Cited by `renames`, `nm_writer`, `nm_history` and others.
 use Rattle.std.specs.Prelude.{◌≡◌, ℕ, Bool, List, [], ◌∷◌, ◌++◌, Option, None, Some, Ok, fold, unwrap_or}
 use Rattle.std.specs.BTreeMap.{BTreeMap, get}
 use Rattle.std.specs.Cmp.Lexicographic.{slice_cmp}
@@ -14,9 +14,9 @@ use Rattle.nm_maildir.specs.declared.answers.MailError.{MailError}
 use Rattle.nm_maildir.specs.declared.answers.Renamed.{Renamed}
 use Rattle.nm_maildir.specs.declared.given.Given.{Given}
 use Rattle.nm_maildir.specs.declared.given.Given.TheVariants as givens
-use Rattle.nm_answer.specs.Renaming.{Outcome, answer_given, note_of, outcomes}
-use Rattle.nm_plan.specs.Moving.{move_given}
-use Rattle.nm_sync.specs.declared.renaming.Renaming.{Renaming}
+use Rattle.nm_answer.specs.RenameOutcomes.{Outcome, answer_given, note_of, outcomes}
+use Rattle.nm_plan.specs.Moves.{move_given}
+use Rattle.nm_sync.specs.declared.renames.Renaming.{Renaming}
 
 -- the files of the index once the moves that were noted are made
 abbrev pub files_given : List (List ℕ × Facts) → List Given → List (List ℕ × Facts)
@@ -30,13 +30,13 @@ outcomes_given files plan given = outcomes files plan (flat_map answer_given giv
 abbrev pub AreTried : List (List ℕ × Facts) → List Rename → List Given → Type 0
 AreTried files plan given = given ≡ flat_map note_of (outcomes_given files plan given)
 
--- what became of a rename, whatever stands behind it, and what is noted of it
+-- what became of a rename, whatever comes after it, and what is noted of it
 pub record IsDone (files : List (List ℕ × Facts)) (rename : Rename) (old new : List Given) : Type 0 where
   pub outcome : Outcome
   pub first : (more : List Rename) (told : List Renamed) → outcomes files (rename ∷ more) (flat_map answer_given (note_of outcome) ++ told) ≡ outcome ∷ outcomes (files_given files (note_of outcome)) more told
   pub given_is : new ≡ old ++ note_of outcome
 
--- whether a file lies there, as it is kept of the paths that moves freed and took, and else as it was before them
+-- whether a file is there, as it is kept of the paths that moves freed and took, and else as it was before them
 abbrev pub HasPlaces : List (List ℕ × Facts) → List (List ℕ × Facts) → BTreeMap (List ℕ) Bool → Type 0
 HasPlaces before files places = (path : List ℕ) → has_path files path ≡ unwrap_or (get (slice_cmp nat_cmp) places path) (has_path before path)
 
@@ -44,14 +44,14 @@ HasPlaces before files places = (path : List ℕ) → has_path files path ≡ un
 abbrev pub IsKept : List (List ℕ × Facts) → Renaming → Type 0
 IsKept files done = HasPlaces files (fold changed files done.moves) done.places
 
--- the tree after renames, each answered as the tree then stood
+-- the tree after renames, each answered as the tree then was
 abbrev pub AnswersAlong : Tree → List Given → Tree → Type 0
 AnswersAlong tree [] after = after ≡ tree
 AnswersAlong tree (givens.Listed paths ∷ more) after = ⊥
 AnswersAlong tree (givens.Read path answer ∷ more) after = ⊥
 AnswersAlong tree (givens.Renamed from to answer ∷ more) after = (answer ≡ renamed_of tree from to) × AnswersAlong (tree_with {E = MailError} tree from to (Ok answer)) more after
 
--- the same, where the folder tells its tree
+-- the same, where the folder's tree is known
 abbrev pub TreesAlong : Option Tree → List Given → Option Tree → Type 0
 TreesAlong None given after = after ≡ None
 TreesAlong (Some tree) given after = (left : Tree) × (after ≡ Some left) × AnswersAlong tree given left

@@ -1,4 +1,4 @@
--- What a `new` reports, from the files before and after it. Cited by `reporting` and `nm_writer`.
+-- What a `new` reports, from the files before and after it. Cited by `new_report` and `nm_writer`.
 use Rattle.std.specs.Prelude.{ℕ, List, [], ◌∷◌, length, if◌then◌else◌}
 use Rattle.std.specs.List.{flat_map}
 use Rattle.nm_answer.specs.NewText.{mail_given, only_in, skip_given}
@@ -11,7 +11,7 @@ use Rattle.nm_maildir.specs.declared.given.Given.{Given}
 abbrev pub lacking : List (List ℕ × Facts) → List ℕ → List (List ℕ)
 lacking files id = if has_id files id then [] else id ∷ []
 
--- the report where so many files were removed; those that were added are the mails noted
+-- the report where n files were removed; those that were added are the mails noted
 abbrev pub report_with : ℕ → List (List ℕ × Facts) → List (List ℕ × Facts) → List Given → NewReport
 report_with removed before after given = record {
   added = length (flat_map mail_given given);

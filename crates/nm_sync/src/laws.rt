@@ -6,11 +6,11 @@ ghost use Rattle.nm_flags.specs.declared.renames.Rename.{Rename};
 ghost use Rattle.nm_maildir.specs.Observed.{ObservedMail};
 ghost use Rattle.nm_maildir.specs.declared.given.Given.{Given};
 ghost use Rattle.nm_scan.specs.Batches.{HasReadSome};
-ghost use Rattle.nm_scan.specs.Scanning.{AsksNew};
+ghost use Rattle.nm_scan.specs.Scan.{AsksNew};
 ghost use Rattle.nm_sync.specs.Listed.{HasListed};
 ghost use Rattle.nm_sync.specs.Noted.{since};
 ghost use Rattle.nm_sync.specs.Renamed.{AreTried};
-ghost use Rattle.nm_sync.specs.declared.scanning.Compared.{Compared};
+ghost use Rattle.nm_sync.specs.declared.comparison.Compared.{Compared};
 
 /// A `new` asks the folder for the listing, and for the first of the paths that the index lacks; and so much was noted.
 pub fn a_new_asks_what_it_notes()

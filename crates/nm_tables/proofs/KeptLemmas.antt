@@ -1,5 +1,5 @@
 -- Rows at their bytes: an insertion among them, and a row that is there already.
--- For the proofs of `keep_row` and `shared_tags`.
+-- For the proofs of `keep_row`.
 use Rattle.std.proofs.Common.{◌≡◌, refl, sym, ap, subst, ◌∙◌, ℕ, Bool, true, false, ◌&&◌, not, cond, List, [], ◌∷◌, inl, inr, ◌⊎◌, true≢false}
 use Rattle.std.specs.Prelude.{Contains, Option, Some, None}
 use Rattle.std.specs.BTreeMap.{insert_entry, is_at}

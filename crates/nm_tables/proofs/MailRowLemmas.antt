@@ -1,4 +1,4 @@
--- The kept rows of one mail stand side by side: their bytes begin alike.
+-- The kept rows of one mail are side by side: their bytes begin alike.
 -- For the proofs of `forget_mail`, `forget_rows` and `row_of_mail`.
 use Rattle.std.proofs.Common.{◌≡◌, refl, sym, ap, subst, ◌∙◌, ℕ, ◌+◌, Bool, true, false, ◌||◌, not, cond, List, [], ◌∷◌, ◌++◌, length, take, arith, inl, inr, true≢false, eq-eqb}
 use Rattle.std.proofs.Math.Bool.{or-false}
@@ -34,7 +34,7 @@ begins_below [] [] = refl
 begins_below [] (y ∷ rest) = refl
 begins_below (x ∷ start) rest = ap (λ answer. is_le (ordering_then answer (slice_cmp nat_cmp start (start ++ rest)))) (equal_is x x refl) ∙ begins_below start rest
 
--- what lies between two texts that begin alike begins so too
+-- what is between two texts that begin alike begins so too
 pub between : (start text rest : List ℕ) → is_le (slice_cmp nat_cmp start text) ≡ true → slice_cmp nat_cmp text (start ++ rest) ≡ Less → (more : List ℕ) × (text ≡ start ++ more)
 between [] text rest low high = (text, refl)
 between (x ∷ start) [] rest low high = absurd (true≢false (sym low))

@@ -1,5 +1,5 @@
--- Pairs in the order of their keys: what an insertion and a removal leave in order, and what stands where.
--- For `FilingLemmas`, `KeptLemmas`, `MailRowLemmas` and others.
+-- Pairs in the order of their keys: what an insertion and a removal leave in order, and what is where.
+-- For `FileTableLemmas`, `KeptLemmas`, `MailRowLemmas` and others.
 use Rattle.std.proofs.Common.{◌≡◌, ◌≢◌, refl, sym, ap, subst, ◌∙◌, ℕ, ◌<◌, cond, true≢false, Bool, true, false, List, [], ◌∷◌, ◌++◌, map, inl, inr}
 use Rattle.std.specs.Prelude.{Contains, Some, if◌then◌else◌}
 use Rattle.std.specs.declared.cmp.Ordering.{Ordering}

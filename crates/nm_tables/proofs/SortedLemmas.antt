@@ -1,4 +1,4 @@
--- Pairs with texts for keys as they stand in their order. For the proofs of `MessageTags`.
+-- Pairs with texts for keys as they are in their order. For the proofs of `MessageTags`.
 use Rattle.std.proofs.Common.{◌≡◌, refl, sym, ap, ◌∙◌, ℕ, Bool, true, false, cond, true≢false, List, [], ◌∷◌}
 use Rattle.std.specs.Prelude.{Option, None, Some, if◌then◌else◌}
 use Rattle.std.specs.BTreeMap.{insert_entry, is_at}
@@ -15,7 +15,7 @@ use Rattle.std.proofs.lemmas.List.Sorted.{IsPermutation-cons, IsPermutation-midd
 use Rattle.std.proofs.lemmas.Map.Keys.{IsDistinct-from_sorted, IsDistinct-head, IsDistinct-tail}
 use Rattle.std.proofs.lemmas.Option.{none-some}
 use Rattle.nm_base.specs.Order.{IsSorted}
-use Rattle.nm_tables.specs.Filing.{at_text}
+use Rattle.nm_tables.specs.FileTable.{at_text}
 use Rattle.nm_tables.specs.Sorted.{sorted_pairs}
 use Rattle.nm_tables.specs.SortedLaws.{by_bytes, equal_by, find_is, put_is, same_pairs}
 use Rattle.nm_tables.proofs.OrderLemmas.{sorted_insert, sorted_none, sorted_remove}
@@ -89,7 +89,7 @@ module _ {V : Type 0} where
   inserted key value [] none = IsPermutation-refl ((key, value) ∷ [])
   inserted key value (e ∷ es) none = inserted_by key value e es (by_bytes key e.0) refl none (inserted key value es)
 
-  -- where each key stands once, the order holds just the pairs
+  -- where each key occurs once, the order holds just the pairs
   pub sorted_permuted : (es : List (List ℕ × V)) → IsDistinct (eq_by_cmp by_bytes) (keys_of es) → IsPermutation (sorted_pairs es) es
   sorted_permuted [] once = IsPermutation-refl []
   sorted_permuted (e ∷ es) once =

@@ -8,13 +8,13 @@ use Rattle.std.specs.Map.{keys_of, lookup}
 use Rattle.std.specs.Ordering.{is_eq, nat_cmp}
 use Rattle.std.specs.declared.cmp.Ordering.TheVariants.{Less}
 use Rattle.nm_base.specs.Order.{IsSorted}
-use Rattle.nm_tables.specs.Filing.{at_text}
+use Rattle.nm_tables.specs.FileTable.{at_text}
 use Rattle.nm_tables.specs.KeyLaws.{Contains_cases, Contains_map, Contains_none, all_at, other_id, other_number, same_id, same_number}
 
 -- ---- keys that are numbers
 
 module _ {V : Type 0} where
-  -- the pairs after the first stand above it
+  -- the pairs after the first are above it
   pub above_first : (e : ℕ × V) (es : List (ℕ × V)) → IsStrictlySortedBy nat_cmp (keys_of (e ∷ es)) → (x : ℕ × V) → Contains es x → nat_cmp e.0 x.0 ≡ Less
   unfolding IsStrictlySortedBy
   above_first e es sorted x among = all_at (λ n. nat_cmp e.0 n ≡ Less) (keys_of es) sorted.0 x.0 (Contains_map (λ y. y.0) es x among)

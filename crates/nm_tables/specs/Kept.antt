@@ -1,4 +1,4 @@
--- Kept rows in the map that they are kept in: each stands at its bytes. Cited by `kept`, `nm_parts` and `nm_state`.
+-- Kept rows in the map that they are kept in: each is at its bytes. Cited by `kept`, `nm_parts` and `nm_state`.
 use Rattle.std.specs.Prelude.{◌≡◌, ℕ, false, List, Contains}
 use Rattle.std.specs.Map.{keys_of}
 use Rattle.nm_base.specs.Order.{IsSorted, same_text}

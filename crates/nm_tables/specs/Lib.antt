@@ -1,4 +1,4 @@
-pub mod Filing
+pub mod FileTable
 pub mod FilterLaws
 pub mod FoundLaws
 pub mod Hints

@@ -29,7 +29,7 @@ entries_len entries = sum_by (λ entry. length (entry_bytes entry)) entries
 abbrev pub ids_len : List (List ℕ) → ℕ
 ids_len ids = sum_by (λ id. length (entry_bytes (id, 0))) ids
 
--- of the ids so far these had no number, and take so many bytes with it
+-- of the ids so far these had no number, and take n bytes with it
 pub record AreSeen (labels : Labelling) (ids seen : List (List ℕ)) (bytes : ℕ) : Type 0 where
   pub known : (id : List ℕ) → has_entry (numbered (entries_of labels.labels) labels.next ids).0 id ≡ (has_entry (entries_of labels.labels) id || has_text seen id)
   pub counted : entries_len (numbered (entries_of labels.labels) labels.next ids).0 ≡ entries_len (entries_of labels.labels) + bytes

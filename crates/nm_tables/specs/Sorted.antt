@@ -1,4 +1,4 @@
--- Pairs in any order as they stand in the order of their keys. Cited by `message_tags`.
+-- Pairs in any order as they are in the order of their keys. Cited by `message_tags`.
 use Rattle.std.specs.Prelude.{ℕ, List, [], ◌∷◌}
 use Rattle.std.specs.BTreeMap.{insert_entry}
 use Rattle.std.specs.Cmp.Lexicographic.{slice_cmp}

@@ -8,10 +8,10 @@ ghost use Rattle.std.specs.List.{list_any};
 ghost use Rattle.nm_base.specs.declared.facts.LinkRow.{LinkRow};
 ghost use Rattle.nm_commit.specs.Files.{has_id};
 ghost use Rattle.nm_threads.specs.Labels.{AreLabelsOf, entries_of};
-ghost use Rattle.nm_tables.specs.Filing.{AreFiled, files_in};
+ghost use Rattle.nm_tables.specs.FileTable.{AreFiled, files_in};
 ghost use Rattle.nm_tables.specs.Hints.{LivesIn, thread_ids};
 
-use crate::filing::{Filing, is_live};
+use crate::file_table::{FileTable, is_live};
 use nm_base::{Copies, MessageId, NoMemory};
 use nm_shared::SharedMap;
 use nm_threads::{Labels, a_thread_has_one_name, same_is_what_is_computed};
@@ -36,11 +36,11 @@ fn is_named(labels: &Labels, name: u64, id: &MessageId) -> bool
     }
 }
 
-fn lives_in(labels: &Labels, filing: &Filing, name: u64, id: &MessageId) -> bool
-    requires { AreFiled filing.now }
-    ensures { OnTrue result (LivesIn (files_in filing.now) labels.now.labels name id.now) }
+fn lives_in(labels: &Labels, file_table: &FileTable, name: u64, id: &MessageId) -> bool
+    requires { AreFiled file_table.now }
+    ensures { OnTrue result (LivesIn (files_in file_table.now) labels.now.labels name id.now) }
 {
-    if !is_live(filing, id) {
+    if !is_live(file_table, id) {
         return false;
     }
     is_named(labels, name, id)
@@ -50,11 +50,11 @@ fn lives_in(labels: &Labels, filing: &Filing, name: u64, id: &MessageId) -> bool
 pub fn knows_live(
     labels: &Labels,
     hints: &mut Hints,
-    filing: &Filing,
+    file_table: &FileTable,
     id: &MessageId,
 ) -> Result<bool, NoMemory>
-    requires { AreFiled filing.now }
-    ensures { IfOk result (λ live. OnTrue live ((rows : List LinkRow) → AreLabelsOf rows labels.now.labels → list_any (has_id (files_in filing.now)) (thread_ids rows (entries_of labels.now.labels) id.now) ≡ true)) }
+    requires { AreFiled file_table.now }
+    ensures { IfOk result (λ live. OnTrue live ((rows : List LinkRow) → AreLabelsOf rows labels.now.labels → list_any (has_id (files_in file_table.now)) (thread_ids rows (entries_of labels.now.labels) id.now) ≡ true)) }
 {
     a_thread_has_one_name();
     same_is_what_is_computed();
@@ -63,7 +63,7 @@ pub fn knows_live(
     let Some(name) = labels.name_of(id) else {
         return Ok(false);
     };
-    let live = hints_live(labels, hints, filing, name)?;
+    let live = hints_live(labels, hints, file_table, name)?;
     Ok(live)
 }
 
@@ -71,17 +71,17 @@ pub fn knows_live(
 fn hints_live(
     labels: &Labels,
     hints: &mut Hints,
-    filing: &Filing,
+    file_table: &FileTable,
     name: u64,
 ) -> Result<bool, NoMemory>
-    requires { AreFiled filing.now }
-    ensures { IfOk result (λ live. OnTrue live ((id : List ℕ) × LivesIn (files_in filing.now) labels.now.labels name id)) }
+    requires { AreFiled file_table.now }
+    ensures { IfOk result (λ live. OnTrue live ((id : List ℕ) × LivesIn (files_in file_table.now) labels.now.labels name id)) }
 {
     'hints: for _ in 0..hints.len() {
         let Some(hint) = first_hint(hints, name) else {
             return Ok(false);
         };
-        if lives_in(labels, filing, name, &hint.1) {
+        if lives_in(labels, file_table, name, &hint.1) {
             return Ok(true);
         }
         let key = hint.0;
@@ -104,15 +104,15 @@ fn add_hint(labels: &Labels, hints: &mut Hints, id: &MessageId) -> Result<(), No
 pub fn add_hints(
     labels: &Labels,
     hints: &mut Hints,
-    filing: &Filing,
+    file_table: &FileTable,
     ids: &[MessageId],
 ) -> Result<bool, NoMemory>
-    requires { AreFiled filing.now }
-    ensures { IfOk result (λ live. live ≡ list_any (has_id (files_in filing.now)) ids.now) }
+    requires { AreFiled file_table.now }
+    ensures { IfOk result (λ live. live ≡ list_any (has_id (files_in file_table.now)) ids.now) }
 {
     let mut live = false;
     'ids: for id in ids {
-        if is_live(filing, id) {
+        if is_live(file_table, id) {
             live = true;
             add_hint(labels, hints, id)?;
         }

@@ -11,10 +11,10 @@ ghost use Rattle.nm_threads.specs.Labels.{AreLabelsOf, IsLabelling, entries_of, 
 ghost use Rattle.nm_threads.specs.Name.{thread_name};
 ghost use Rattle.nm_threads.specs.Same.{ids_of, is_same};
 ghost use Rattle.nm_tables.specs.Hints.{IsDeadThread};
-ghost use Rattle.nm_tables.specs.Filing.{AreFiled, files_in};
+ghost use Rattle.nm_tables.specs.FileTable.{AreFiled, files_in};
 ghost use Rattle.nm_tables.specs.Measures.{AreSeen, entries_len, ids_len};
 
-use crate::filing::Filing;
+use crate::file_table::FileTable;
 use crate::hints::{Hints, add_hints, add_new_hint, knows_live};
 use crate::measured_map::{plus, sum};
 use nm_base::{Copies, LinkRow, Many, MessageId, NoMemory, Steps, TextSet};
@@ -237,7 +237,8 @@ impl MeasuredLabels {
         self.labels.name_of(id)
     }
 
-    /// Where the name of the next id is looked for first, and that of this one; wherever a look begins, it finds the same.
+    /// Where the name of the next id is looked for first, and that of this one; wherever a search begins, it finds the
+    /// same.
     pub fn name_near(&self, id: &MessageId, near: u64) -> (u64, Option<u64>)
         ensures { (rows : List LinkRow) → AreLabelsOf rows self.now.labels → result.1 ≡ thread_name rows (entries_of self.now.labels) id.now }
     {
@@ -284,19 +285,19 @@ impl MeasuredLabels {
     /// one is walked as it loses the first, and as it goes.
     pub fn dead_thread(
         &mut self,
-        filing: &Filing,
+        file_table: &FileTable,
         id: &MessageId,
     ) -> Result<Option<Many<MessageId>>, NoMemory>
-        requires { AreFiled filing.now }
+        requires { AreFiled file_table.now }
         ensures labels { OnOk result (self.new ≡ self.old) }
-        ensures dead { IfOk result (IsDeadThread self.old.labels (files_in filing.now) id.now) }
+        ensures dead { IfOk result (IsDeadThread self.old.labels (files_in file_table.now) id.now) }
     {
-        let known = knows_live(&self.labels, &mut self.hints, filing, id)?;
+        let known = knows_live(&self.labels, &mut self.hints, file_table, id)?;
         if known {
             return Ok(None);
         }
         let ids = thread_uncounted::<Brand>(&self.labels, id, Blank::new(1))?;
-        let live = add_hints(&self.labels, &mut self.hints, filing, ids.as_slice())?;
+        let live = add_hints(&self.labels, &mut self.hints, file_table, ids.as_slice())?;
         if live {
             return Ok(None);
         }
@@ -320,7 +321,7 @@ impl MeasuredLabels {
     }
 }
 
-/// The copy is a second handle.
+/// The copy is a clone.
 impl Copies for MeasuredLabels {
     fn copy(&self) -> Result<MeasuredLabels, NoMemory> {
         Ok(MeasuredLabels {

@@ -1,4 +1,4 @@
-//! Maps that count what their pairs take in an index as data: the files of a `filing` and the rows that are `kept` are such.
+//! Maps that count what their pairs take in an index as data: the files of a `file_table` and the rows that are `kept` are such.
 
 ghost use Rattle.std.specs.Prelude.{◌≡◌, ◌+◌, ◌≤◌, ℕ, [], None, Some, true, min, if◌then◌else◌, IfOk, OnErr, OnOk};
 ghost use Rattle.std.specs.BTreeMap.{insert_entry, is_at};
@@ -13,20 +13,20 @@ use nm_shared::{InOrder, SharedMap};
 use std::alloc::Global;
 use std::marker::Model;
 
-/// A value that takes so many bytes in an index as data.
+/// A value that takes n bytes in an index as data.
 pub trait Measured {
     ghost measure: { Self → ℕ };
 
-    /// How many, as far as a number tells it.
+    /// How many, as far as a number can count it.
     fn value_len(&self) -> u64
         ensures { result ≡ min (measure self.now) max_count };
 }
 
-/// A key that takes so many bytes in an index as data, and as many as those that are the same in its order.
+/// A key that takes n bytes in an index as data, and as many as those that are the same in its order.
 pub trait MeasuredKey: Ord {
     ghost key_measure: { Self → ℕ };
 
-    /// How many, as far as a number tells it.
+    /// How many, as far as a number can count it.
     fn key_len(&self) -> u64
         ensures { result ≡ min (key_measure self.now) max_count };
 
@@ -54,7 +54,7 @@ impl<K: MeasuredKey, V: Measured> Model for MeasuredMap<K, V> {
     ghost invariant = { λ m. m.bytes ≡ pairs_len K.key_measure V.measure m.map };
 }
 
-/// The sum, where a number tells it.
+/// The sum, where a number can hold it.
 pub fn sum(bytes: u64, more: u64) -> Result<u64, NoMemory>
     ensures { (exact : ℕ) → more ≡ min exact max_count → IfOk result (λ sum. sum ≡ bytes + exact) }
 {
@@ -64,7 +64,7 @@ pub fn sum(bytes: u64, more: u64) -> Result<u64, NoMemory>
     Ok(bytes + more)
 }
 
-/// The same of a number that is told.
+/// The same of a number that is known.
 pub fn plus(bytes: u64, more: u64) -> Result<u64, NoMemory>
     ensures { IfOk result (λ sum. sum ≡ bytes + more) }
 {
@@ -147,7 +147,7 @@ impl<K: MeasuredKey, V: Measured> MeasuredMap<K, V> {
 }
 
 impl<K: MeasuredKey + Drop, V: Measured + Drop> MeasuredMap<K, V> {
-    /// A second handle, for far less than a copy. No change of one shows in the other.
+    /// A clone, for far less than a copy. No change of one shows in the other.
     pub fn share(&self) -> Result<MeasuredMap<K, V>, NoMemory>
         ensures { IfOk result (λ map. map ≡ self.now) }
     {

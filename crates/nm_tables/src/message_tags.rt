@@ -9,11 +9,11 @@ ghost use Rattle.std.specs.Map.{keys_of, lookup, remove_entry};
 ghost use Rattle.std.specs.Option.{option_copied};
 ghost use Rattle.std.specs.Ordering.{is_eq, nat_cmp};
 ghost use Rattle.nm_base.specs.Order.{IsSorted};
-ghost use Rattle.nm_tables.specs.Filing.{at_text};
+ghost use Rattle.nm_tables.specs.FileTable.{at_text};
 ghost use Rattle.nm_tables.specs.Measures.{all_tags_len};
 
+use crate::iterators::Tagged;
 use crate::measured_map::sum;
-use crate::reading::Tagged;
 use nm_base::{Copies, MessageId, NoMemory, Tags};
 use nm_record::{id_len, tags_len};
 use nm_shared::{HashedMap, Shared};
@@ -72,7 +72,7 @@ impl MessageTags {
         self.bytes
     }
 
-    /// The ids stand in order. No code runs.
+    /// The ids are in order. No code runs.
     pub fn order(&self)
         ensures { IsSorted (keys_of self.now) }
     {
@@ -86,22 +86,22 @@ impl MessageTags {
         self.map.get(id)
     }
 
-    /// The same, for less work where messages are asked for in the order in which they came. Beside the tags stands where the
-    /// next ones are looked for first; wherever a look begins, it finds the same.
+    /// The same, for less work where messages are asked for in the order in which they came. Beside the tags is where the
+    /// next ones are looked for first; wherever a search begins, it finds the same.
     pub fn get_near(&self, id: &MessageId, near: u64) -> Option<(u64, &Shared<Tags>)>
         ensures { MatchOption result (at_text id.now self.now ≡ None) (λ found. at_text id.now self.now ≡ Some found.1.now) }
     {
         self.map.get_near(id, near)
     }
 
-    /// The messages, in no order that is told, each with its tags.
+    /// The messages, in no particular order, each with its tags.
     pub fn iter(&self) -> Tagged<'_>
         ensures { IsPermutation self.now result }
     {
         Tagged::of(&self.map)
     }
 
-    /// A second handle, for far less than a copy. No change of one shows in the other.
+    /// A clone, for far less than a copy. No change of one shows in the other.
     pub fn share(&self) -> Result<MessageTags, NoMemory>
         ensures { IfOk result (λ tags. tags ≡ self.now) }
     {
@@ -137,7 +137,7 @@ impl MessageTags {
         Ok(())
     }
 
-    /// These tags: the handle of those that came last where they are the same, so that most messages share one set.
+    /// These tags: a clone of those that came last where they are the same, so that most messages share one set.
     fn shared(&self, alloc: Global, tags: Tags) -> Result<Shared<Tags>, NoMemory>
         ensures { IfOk result (λ shared. shared ≡ tags) }
     {

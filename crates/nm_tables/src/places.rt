@@ -1,9 +1,9 @@
-//! The places of the files of each message, by the message's id, for `filing`.
+//! The places of the files of each message, by the message's id, for `file_table`.
 
 ghost use Rattle.std.specs.Prelude.{◌≡◌, [], ◌∷◌, ◌++◌, List, ℕ, Some, if◌then◌else◌, IfOk, OnOk};
 ghost use Rattle.std.specs.Cmp.Lexicographic.{slice_cmp};
 ghost use Rattle.std.specs.Ordering.{is_eq, nat_cmp};
-ghost use Rattle.nm_tables.specs.Filing.{at_text, told, told_places, without_place};
+ghost use Rattle.nm_tables.specs.FileTable.{at_text, told, told_places, without_place};
 
 use nm_base::{Copies, Many, MessageId, NoMemory};
 use nm_shared::{HashedMap, Shared};
@@ -23,7 +23,7 @@ fn places_of(
     }
 }
 
-/// A file of the message stands at the place, behind its other ones.
+/// A file of the message is at the place, after its other ones.
 pub fn add_place(
     alloc: Global,
     of_id: &mut HashedMap<MessageId, Shared<Many<u64>>>,
@@ -49,7 +49,7 @@ fn without(alloc: Global, places: &[u64], place: u64) -> Result<Many<u64>, NoMem
     Ok(Many::from_vec(others))
 }
 
-/// No file of the message stands at the place any more.
+/// No file of the message is at the place any more.
 pub fn remove_place(
     alloc: Global,
     of_id: &mut HashedMap<MessageId, Shared<Many<u64>>>,

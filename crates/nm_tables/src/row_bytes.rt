@@ -35,7 +35,7 @@ impl Drop for RowBytes {
 }
 
 impl RowBytes {
-    /// The spelling of the row.
+    /// The words of the row.
     pub fn of(alloc: Global, row: &LinkRow) -> Result<RowBytes, NoMemory>
         ensures { IfOk result (λ bytes. bytes ≡ row_bytes row.now) }
     {

@@ -9,19 +9,19 @@ use Rattle.nm_base.specs.Tag.{is_tag}
 use Rattle.nm_tags.specs.Decoding.{decoded_bytes, decoded_tag, joined, tag_of_bytes}
 use Rattle.nm_tags.specs.Encoding.{encoded_byte, encoded_tag, escaped, is_written}
 
--- a byte behind others
+-- a byte after others
 pub joined_one_more : (before : List ℕ) (byte : ℕ) (more : Option (List ℕ)) → joined (Ok (before ++ byte ∷ [])) more ≡ joined (Ok before) (joined (Ok (byte ∷ [])) more)
 joined_one_more before byte (Some more) = ap Some (append_assoc before (byte ∷ []) more)
 joined_one_more before byte None = refl
 
--- a byte other than `%` stands for itself
+-- a byte other than `%` represents itself
 plain_byte : (byte : ℕ) (more : List ℕ) → (byte == 37) ≡ false → decoded_bytes (byte ∷ more) ≡ joined (Ok (byte ∷ [])) (decoded_bytes more)
 plain_byte byte [] e = ap (λ b. cond b None (Some (byte ∷ []))) e
 plain_byte byte (high ∷ []) e = ap (λ b. cond b None (joined (Ok (byte ∷ [])) (decoded_bytes (high ∷ [])))) e
 plain_byte byte (high ∷ low ∷ more) e =
     ap (λ b. cond b (joined (decode_of (high ∷ low ∷ [])) (decoded_bytes more)) (joined (Ok (byte ∷ [])) (decoded_bytes (high ∷ low ∷ more)))) e
 
--- a byte that stands for itself is no `%`
+-- a byte that represents itself is no `%`
 no_percent : (byte : ℕ) → is_written byte ≡ true → (byte == 37) ≡ false
 no_percent byte e = grind (arith, nat_tests)
 
@@ -35,11 +35,11 @@ two_digits : (byte : ℕ) → encode_lower (byte ∷ []) ≡ slice_index lower_d
 unfolding encode_with
 two_digits byte = refl
 
--- `%` and two digits stand for what the digits are
+-- `%` and two digits represent what the digits are
 digits_read : (digits : List ℕ) (high low : ℕ) (more : List ℕ) → digits ≡ high ∷ low ∷ [] → decoded_bytes ((37 ∷ digits) ++ more) ≡ joined (decode_of digits) (decoded_bytes more)
 digits_read digits high low more e = subst (λ d. decoded_bytes ((37 ∷ d) ++ more) ≡ joined (decode_of d) (decoded_bytes more)) (sym e) refl
 
--- `%` and the digits of a byte stand for it
+-- `%` and the digits of a byte represent it
 escape_read : (byte : ℕ) (more : List ℕ) → byte < 256 → decoded_bytes (escaped byte ++ more) ≡ joined (Ok (byte ∷ [])) (decoded_bytes more)
 escape_read byte more small =
     digits_read (encode_lower (byte ∷ [])) _ _ more (two_digits byte)

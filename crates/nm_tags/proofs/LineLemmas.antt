@@ -23,7 +23,7 @@ some_byte : (word : List ℕ) → is_tag_word word ≡ true → 0 < length word
 some_byte [] e = absurd (cc)
 some_byte (b ∷ bs) e = omega arith
 
--- what stands behind a word is shorter
+-- what comes after a word is shorter
 pub after_word_is_shorter : (text : List ℕ) → 0 < length (first_word text) → length (after_first_word text) < length text
 after_word_is_shorter text word =
     let rest = trimmed_start text in
@@ -31,7 +31,7 @@ after_word_is_shorter text word =
     let within : length rest ≤ length text = omega (arith, length-drop (prefix_len is_white_space text) text) in
     omega (arith, length-drop (length (first_word text)) rest)
 
--- and what stands behind a tag word
+-- and what comes after a tag word
 pub after_is_shorter : (text : List ℕ) → is_tag_word (first_word text) ≡ true → length (after_first_word text) < length text
 after_is_shorter text e = after_word_is_shorter text (some_byte (first_word text) e)
 
@@ -52,7 +52,7 @@ same_words (suc n) (suc m) text small smaller =
           ap (λ words. cond (length (first_word text) == 0) [] (first_word text ∷ words)) (same_words n m (after_first_word text) (omega arith) (omega arith))
     ]
 
--- the first word, and those behind it
+-- the first word, and those after it
 pub words_first : (text : List ℕ) → 0 < length (first_word text) → words_in text ≡ first_word text ∷ words_in (after_first_word text)
 words_first text some =
     let short = after_word_is_shorter text some in
@@ -103,18 +103,18 @@ abbrev pub with_lines : List TagLine → Result (List TagLine) (ℕ × LineKind)
 with_lines before (Ok read) = Ok (before ++ read)
 with_lines before (Err fault) = Err fault
 
--- an operation behind others
+-- an operation after others
 pub with_one_more : (ops : List TagOp) (op : TagOp) (asked : Option (List TagOp × List ℕ)) → with_ops (ops ++ op ∷ []) asked ≡ with_ops ops (with_op (Some op) asked)
 with_one_more ops op (Some asked) = ap (λ l. Some (l, asked.1)) (append_assoc ops (op ∷ []) asked.0)
 with_one_more ops op None = refl
 
--- a line behind others
+-- a line after others
 pub with_one_line : (before : List TagLine) (number : ℕ) (ops : List TagOp) (query : List ℕ) (read : Result (List TagLine) (ℕ × LineKind))
     → with_lines (before ++ record { line = number; ops = ops; query = query } ∷ []) read ≡ with_lines before (then_lines number (Ok (Some (ops, query))) read)
 with_one_line before number ops query (Ok read) = ap Ok (append_assoc before (record { line = number; ops = ops; query = query } ∷ []) read)
 with_one_line before number ops query (Err fault) = refl
 
--- a tag word may be cut behind its sign
+-- a tag word may be cut after its sign
 pub cut_after_sign : (word : List ℕ) → IsUtf8 word → is_tag_word word ≡ true → IsCharBoundary word 1
 cut_after_sign [] u e = absurd (cc)
 cut_after_sign (sign ∷ encoded) u e = IsCharBoundary-after_ascii (sign ∷ encoded) 0 u (omega arith) (sign_below sign (and_parts (sign == 43 || sign == 45) _ e).0)

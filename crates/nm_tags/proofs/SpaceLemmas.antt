@@ -45,7 +45,7 @@ utf8_trimmed_end text u =
 pub utf8_trimmed : (text : List ℕ) → IsUtf8 text → IsUtf8 (trimmed text)
 utf8_trimmed text u = utf8_trimmed_end (trimmed_start text) (utf8_trimmed_start text u)
 
--- a text may be cut behind white space in front
+-- a text may be cut after white space in front
 pub cut_after_space : (text : List ℕ) → IsUtf8 text → begins_with_space text ≡ true → IsCharBoundary text 1
 cut_after_space [] u e = absurd (cc)
 cut_after_space (b ∷ more) u e = IsCharBoundary-after_ascii (b ∷ more) 0 u (omega arith) (space_below b e)
@@ -68,7 +68,7 @@ cut_before_space text end at within =
       | inr done ↦ let all : length text ≡ end = omega arith in subst (λ (n : ℕ). IsCharBoundary text n) all (IsCharBoundary-end text)
     ]
 
--- a byte that is no white space stands before the first white space
+-- a byte that is no white space comes before the first white space
 byte_before : (b : ℕ) (more : List ℕ) → is_white_space b ≡ false → 0 < length (before_first is_white_space (b ∷ more))
 byte_before b more e =
     subst (λ (t : Bool). 0 < length (take (cond (not t) (1 + position_or_len is_white_space more) 0) (b ∷ more))) (sym e)

@@ -38,13 +38,13 @@ or_swap : (a b c : Bool) → (a || (b || c)) ≡ (b || (a || c))
 or_swap a b c = sym (or_assoc a b c) ∙ (ap (λ t. t || c) (or_comm a b) ∙ or_assoc b a c)
 
 module _ (key other x : List ℕ) (xs : List (List ℕ)) where
-  -- the removal of a tag that stands first
+  -- the removal of a tag that comes first
   first_removed : (is_same : Bool) → same_text other key ≡ is_same → same_text key x ≡ true → IsSorted (x ∷ xs)
       → has_tag xs other ≡ (not is_same && (same_text other x || has_tag xs other))
   first_removed true o e s = in_both other x xs (sym (alike other key x e) ∙ o) ∙ absent x xs (sorted_head (slice_cmp nat_cmp) x xs s)
   first_removed false o e s = ap (λ b. b || has_tag xs other) (sym o ∙ alike other key x e)
 
-  -- the removal of one that stands later
+  -- the removal of one that comes later
   later_removed : (is_same : Bool) (has : Bool) → same_text other key ≡ is_same → same_text key x ≡ false → has ≡ (not is_same && has_tag xs other)
       → (same_text other x || has) ≡ (not is_same && (same_text other x || has_tag xs other))
   later_removed true has o e h = ap (λ b. b || has) (nat_list_eq_equiv.congr other key x o ∙ e) ∙ h

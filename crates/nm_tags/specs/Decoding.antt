@@ -1,4 +1,4 @@
--- What an encoded tag stands for. Cited by `decode`.
+-- What an encoded tag represents. Cited by `decode`.
 use Rattle.std.specs.Prelude.{ℕ, ◌==◌, ◌&&◌, List, [], ◌∷◌, ◌++◌, Option, Some, None, Result, Ok, Err, if◌then◌else◌}
 use Rattle.std.specs.Str.{is_utf8}
 use Rattle.hex.specs.Hex.{decode_of}
@@ -11,7 +11,7 @@ joined (Ok bytes) (Some more) = Some (bytes ++ more)
 joined (Ok bytes) None = None
 joined (Err fault) more = None
 
--- `%` and two hex digits are a byte, every other byte stands for itself; a `%` without two digits behind it stands for nothing
+-- `%` and two hex digits are a byte, every other byte represents itself; a `%` without two digits after it represents nothing
 abbrev pub decoded_bytes : List ℕ → Option (List ℕ)
 decoded_bytes [] = Some []
 decoded_bytes (byte ∷ []) = if byte == 37 then None else Some (byte ∷ [])

@@ -1,4 +1,4 @@
--- A tag in a line of text: percent signs and two digits stand for the bytes that the line could not hold.
+-- A tag in a line of text: percent signs and two digits represent the bytes that the line could not hold.
 -- Cited by `encode` and `nm_answer`.
 use Rattle.std.specs.Prelude.{ℕ, Bool, ◌||◌, ◌==◌, List, [], ◌∷◌, if◌then◌else◌, codes}
 use Rattle.std.specs.List.{flat_map, list_any}
@@ -9,7 +9,7 @@ use Rattle.hex.specs.Hex.{encode_lower}
 abbrev pub is_sign : ℕ → Bool
 is_sign byte = list_any (λ sign. byte == sign) (codes "@=.,_+-")
 
--- the byte stands for itself
+-- the byte represents itself
 abbrev pub is_written : ℕ → Bool
 is_written byte = is_ascii_alphanumeric byte || is_sign byte
 

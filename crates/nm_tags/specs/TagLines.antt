@@ -21,11 +21,11 @@ abbrev pub begins_with_space : List ℕ → Bool
 begins_with_space [] = false
 begins_with_space (first ∷ others) = is_white_space first
 
--- what stands before the first white space that is not at the front
+-- what comes before the first white space that is not at the front
 abbrev pub first_word : List ℕ → List ℕ
 first_word text = before_first is_white_space (trimmed_start text)
 
--- the text behind it
+-- the text after it
 abbrev pub after_first_word : List ℕ → List ℕ
 after_first_word text = drop (length (first_word text)) (trimmed_start text)
 
@@ -48,7 +48,7 @@ abbrev pub op_of : List ℕ → Option TagOp
 op_of [] = None
 op_of (sign ∷ encoded) = elim (decoded_tag encoded) [ Some tag ↦ Some (record { add = sign == 43; tag = tag }) | None ↦ None ]
 
--- a `--` may stand before the query
+-- a `--` may come before the query
 abbrev pub query_after : List ℕ → List ℕ
 query_after text = trimmed (if same_text (first_word text) (codes "--") then after_first_word text else text)
 
@@ -58,13 +58,13 @@ with_op (Some op) (Some (ops, query)) = Some (op ∷ ops, query)
 with_op (Some op) None = None
 with_op None asked = None
 
--- what at most n tag words at the front ask for, and the query behind them; nothing where one of them has no tag
+-- what at most n tag words at the front ask for, and the query after them; nothing where one of them has no tag
 abbrev pub asked_upto : ℕ → List ℕ → Option (List TagOp × List ℕ)
 asked_upto zero text = Some ([], query_after text)
 asked_upto (suc n) text =
     if is_tag_word (first_word text) then with_op (op_of (first_word text)) (asked_upto n (after_first_word text)) else Some ([], query_after text)
 
--- what all tag words at the front ask for, and the query behind them; a text has fewer words than bytes
+-- what all tag words at the front ask for, and the query after them; a text has fewer words than bytes
 abbrev pub asked_in : List ℕ → Option (List TagOp × List ℕ)
 asked_in text = asked_upto (length text) text
 
@@ -94,7 +94,7 @@ classified clear line =
     else (if is_passed_over line then Ok None
     else elim (read_line clear line) [ Ok asked ↦ Ok (Some asked) | Err kind ↦ Err kind ])
 
--- what one line asks for, before what is read of the lines behind it
+-- what one line asks for, before what is read of the lines after it
 abbrev pub then_lines : ℕ → Result (Option (List TagOp × List ℕ)) LineKind → Result (List TagLine) (ℕ × LineKind) → Result (List TagLine) (ℕ × LineKind)
 then_lines number (Ok None) read = read
 then_lines number (Ok (Some asked)) (Ok read) = Ok (record { line = number; ops = asked.0; query = asked.1 } ∷ read)
@@ -110,7 +110,7 @@ read_lines clear number (line ∷ more) = then_lines number (classified clear li
 abbrev pub batch_lines : List ℕ → Bool → Result (List TagLine) (ℕ × LineKind)
 batch_lines bytes clear = read_lines clear 1 (lines bytes)
 
--- why lines may be refused: the first fault that they have, or memory was wanting
+-- why lines may be refused: the first fault that they have, or memory ran out
 abbrev pub IsLineFault : Result (List TagLine) (ℕ × LineKind) → LineError → Type 0
 IsLineFault answer (faults.BadLine line kind) = answer ≡ Err (line, kind)
 IsLineFault answer faults.NoMemory = Unit {0}

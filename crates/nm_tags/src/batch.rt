@@ -13,7 +13,7 @@ use nm_text::next_content;
 use std::alloc::Global;
 
 /// Reads lines of tag changes, each ended by LF or CR LF. Empty lines and comments are passed over; the first line that is none
-/// is told by its number, counted from 1. A line needs no changes where `clear` is set, since all tags are taken off then.
+/// is reported by its number, counted from 1. A line needs no changes where `clear` is set, since all tags are taken off then.
 #[tactic(auto, using(crate::proofs::LineLemmas::with_one_line))]
 pub fn batch_lines(alloc: Global, bytes: &[u8], clear: bool) -> Result<Many<TagLine>, LineError>
     ensures { MatchResult result (λ read. batch_lines bytes.now clear ≡ Ok read) (IsLineFault (batch_lines bytes.now clear)) }
@@ -37,7 +37,7 @@ pub fn batch_lines(alloc: Global, bytes: &[u8], clear: bool) -> Result<Many<TagL
     Ok(read)
 }
 
-/// The number of the next line; more lines than a number tells find no memory.
+/// The number of the next line; more lines than a number can count find no memory.
 fn next_number(number: u32) -> Result<u32, NoMemory>
     ensures { IfOk result (λ next. next ≡ number + 1) }
 {
@@ -103,7 +103,7 @@ fn read_line(
     Ok(Ok((ops, query)))
 }
 
-/// What the tag words at the front of a text ask for, and the query behind them; nothing where one of them has no tag.
+/// What the tag words at the front of a text ask for, and the query after them; nothing where one of them has no tag.
 pub fn changes_of(alloc: Global, text: &str) -> Result<Option<(Many<TagOp>, Text)>, NoMemory>
     ensures { IfOk result (λ asked. asked ≡ asked_in text.now) }
 {
@@ -116,7 +116,7 @@ pub fn changes_of(alloc: Global, text: &str) -> Result<Option<(Many<TagOp>, Text
     }
 }
 
-/// What the tag words at the front ask for, and the text behind them; nothing where one of them has no tag.
+/// What the tag words at the front ask for, and the text after them; nothing where one of them has no tag.
 #[tactic(auto, using(crate::proofs::LineLemmas::with_one_more))]
 fn read_ops(alloc: Global, text: &str) -> Result<Option<(Many<TagOp>, &str)>, NoMemory>
     ensures { IfOk result (λ found. MatchOption found (asked_in text.now ≡ None) (λ found. asked_in text.now ≡ Some (found.0, query_after found.1.now))) }
@@ -133,7 +133,7 @@ fn read_ops(alloc: Global, text: &str) -> Result<Option<(Many<TagOp>, &str)>, No
     Ok(Some((ops, rest)))
 }
 
-/// The first word where it is a tag word, and the text behind it.
+/// The first word where it is a tag word, and the text after it.
 fn next_tag_word(text: &str) -> Option<(&str, &str)>
     ensures asked { MatchOption result (asked_in text.now ≡ Some ([], query_after text.now)) (λ cut. asked_in text.now ≡ with_op (op_of cut.0.now) (asked_in cut.1.now)) }
     ensures word { IfSome result (λ cut. is_tag_word cut.0.now ≡ true) }

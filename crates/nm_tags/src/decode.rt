@@ -1,4 +1,4 @@
-//! What an encoded tag stands for: `batch` reads words of lines with it, and `nm_dump` the ids of a dump.
+//! What an encoded tag represents: `batch` reads words of lines with it, and `nm_dump` the ids of a dump.
 
 ghost use Rattle.std.specs.Prelude.{◌≡◌, ◌<◌, [], ◌∷◌, true, false, length, IfOk, IfSome, IsErr, MatchOption, None, Some, Ok};
 ghost use Rattle.std.specs.Str.{is_utf8};
@@ -8,8 +8,8 @@ ghost use Rattle.nm_tags.specs.Decoding.{decoded_bytes, decoded_tag, joined, tag
 use nm_base::{Many, NoMemory, Tag, Text};
 use std::alloc::Global;
 
-/// The tag that is written so: `%` and two hex digits of either case are a byte, every other byte stands for itself. Nothing
-/// where a `%` has no two digits behind it, or where the bytes are not UTF-8 or no tag.
+/// The tag that is written so: `%` and two hex digits of either case are a byte, every other byte represents itself. Nothing
+/// where a `%` has no two digits after it, or where the bytes are not UTF-8 or no tag.
 pub fn decode_tag(alloc: Global, encoded: &str) -> Result<Option<Tag>, NoMemory>
     ensures { IfOk result (λ tag. tag ≡ decoded_tag encoded.now) }
 {
@@ -59,7 +59,7 @@ fn decoded_bytes(alloc: Global, encoded: &[u8]) -> Result<Option<Many<u8>>, NoMe
     Ok(Some(decoded))
 }
 
-/// The first byte that is said, and the text behind; nothing where a `%` has no two digits behind it.
+/// The first byte that is said, and the text after; nothing where a `%` has no two digits after it.
 fn next_byte(encoded: &[u8]) -> Option<(u8, &[u8])>
     requires { 0 < length encoded.now }
     ensures value { MatchOption result (decoded_bytes encoded.now ≡ None) (λ cut. decoded_bytes encoded.now ≡ joined (Ok (cut.0 ∷ [])) (decoded_bytes cut.1.now)) }

@@ -10,7 +10,7 @@ use thiserror::Error;
 pub enum LineKind {
     /// It is not UTF-8.
     Utf8,
-    /// A word with a sign has no tag behind it.
+    /// A word with a sign has no tag after it.
     Tag,
     /// It has no query, or one that can't be read.
     Query,

@@ -10,7 +10,7 @@ use nm_base::{NoMemory, Text};
 use nm_text::{as_text, is_white_space};
 use std::alloc::Global;
 
-/// The first word of a text and the text behind it; nothing where there is white space alone.
+/// The first word of a text and the text after it; nothing where there is white space alone.
 pub fn next_word(text: &str) -> Option<(&str, &str)>
     ensures first { MatchOption result (first_word text.now ≡ []) (λ cut. cut.0.now ≡ first_word text.now) }
     ensures after { IfSome result (λ cut. cut.1.now ≡ after_first_word text.now) }
@@ -69,7 +69,7 @@ fn word_len(text: &[u8]) -> usize
     at
 }
 
-/// The query that a text without tag words at its front is: a `--` may stand before it.
+/// The query that a text without tag words at its front is: a `--` may come before it.
 pub(crate) fn query_after(alloc: Global, text: &str) -> Result<Text, NoMemory>
     ensures { IfOk result (λ query. query ≡ query_after text.now) }
 {

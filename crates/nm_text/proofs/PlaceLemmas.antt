@@ -40,7 +40,7 @@ module _ (wanted : ℕ) (text bytes : List ℕ) (at : ℕ) (same : bytes ≡ tex
       let here = first in
       slice_split_first (is_byte wanted) text 0 (omega arith) ∙ ap (λ n. take n text ∷ slice_split (is_byte wanted) (drop (n + 1) text)) (sym here)
 
--- what stands before an ASCII character of a text is text, and so is what stands after it
+-- what comes before an ASCII character of a text is text, and so is what comes after it
 pub before_utf8 : (wanted : ℕ) (bytes : List ℕ) (at : ℕ) → at ≡ position_or_len (is_byte wanted) bytes → wanted < 128 → IsUtf8 bytes → IsUtf8 (take at bytes)
 before_utf8 wanted bytes at place ascii u =
     elim (cases_lt at (length bytes)) [

@@ -6,12 +6,12 @@ use Rattle.std.specs.Prelude.{ℕ, zero, suc, ◌+◌, ◌-◌, Bool, false, ◌
 abbrev pub is_byte : ℕ → ℕ → Bool
 is_byte wanted b = b == wanted
 
--- the byte stands first
+-- the byte comes first
 abbrev pub begins_with : ℕ → List ℕ → Bool
 begins_with byte [] = false
 begins_with byte (first ∷ more) = first == byte
 
--- the byte stands last
+-- the byte comes last
 abbrev pub ends_with : ℕ → List ℕ → Bool
 ends_with byte text = nat_lt 0 (length text) && slice_index text (length text - 1) == byte
 
@@ -25,7 +25,7 @@ cut_upto (suc n) more (x ∷ xs) = (x ∷ take (more x xs) xs) ∷ cut_upto n mo
 unfoldable pub cut : (ℕ → List ℕ → ℕ) → List ℕ → List (List ℕ)
 cut more xs = cut_upto (length xs) more xs
 
--- how many bytes stand in the lexemes up to the first that passes the test, and in that one
+-- how many bytes are in the lexemes up to the first that passes the test, and in that one
 abbrev pub len_through : (List ℕ → Bool) → List (List ℕ) → ℕ
 len_through test [] = 0
 len_through test (x ∷ xs) = if test x then length x else length x + len_through test xs

@@ -19,7 +19,7 @@ is_special special [] = false
 is_special special (b ∷ []) = b == special
 is_special special (b ∷ c ∷ more) = false
 
--- a quoted string goes on behind its `"` to the next `"`, or to the end
+-- a quoted string goes on after its `"` to the next `"`, or to the end
 abbrev pub quoted_len : List ℕ → ℕ
 quoted_len text = len_through (is_special 34) (pairs_of text)
 

@@ -6,7 +6,7 @@ ghost use Rattle.nm_text.specs.Cuts.{begins_with, ends_with, is_byte};
 
 use bstr::ByteSlice;
 
-/// Whether this byte stands first.
+/// Whether this byte comes first.
 pub fn begins_with(byte: u8, text: &[u8]) -> bool
     ensures { result ≡ begins_with byte text.now }
 {
@@ -16,7 +16,7 @@ pub fn begins_with(byte: u8, text: &[u8]) -> bool
     }
 }
 
-/// Whether this byte stands last.
+/// Whether this byte comes last.
 pub fn ends_with(byte: u8, text: &[u8]) -> bool
     ensures { result ≡ ends_with byte text.now }
 {
@@ -31,7 +31,7 @@ pub fn first_place(bytes: &[u8], wanted: u8) -> usize
     bytes.find_byte(wanted).unwrap_or(bytes.len())
 }
 
-/// What stands before the first such ASCII character and what stands after it.
+/// What comes before the first such ASCII character and what comes after it.
 pub fn cut_at(text: &str, wanted: u8) -> Option<(&str, &str)>
     requires { wanted < 128 }
     ensures place { MatchOption result (length text.now ≤ position_or_len (is_byte wanted) text.now)
@@ -50,7 +50,7 @@ pub fn cut_at(text: &str, wanted: u8) -> Option<(&str, &str)>
     Some((&text[..at], &text[at + 1..]))
 }
 
-/// What stands before the first such byte, or all.
+/// What comes before the first such byte, or all.
 pub fn before_first(bytes: &[u8], wanted: u8) -> &[u8]
     ensures value { result.now ≡ before_first (is_byte wanted) bytes.now }
     ensures text { wanted < 128 → IsUtf8 bytes.now → IsUtf8 result.now }
@@ -58,7 +58,7 @@ pub fn before_first(bytes: &[u8], wanted: u8) -> &[u8]
     &bytes[..first_place(bytes, wanted)]
 }
 
-/// What stands after the first such byte, or nothing.
+/// What comes after the first such byte, or nothing.
 pub fn after_first(bytes: &[u8], wanted: u8) -> &[u8]
     ensures value { result.now ≡ after_first (is_byte wanted) bytes.now }
     ensures within { length result.now ≤ length bytes.now }

@@ -1,6 +1,6 @@
-//! Values: the rules about bytes and texts that the readers share: white space, lines, cuts, quoted strings, case.
-//! Each rule stands here once. A contract sees bytes and texts as lists of bytes.
-//! Searches, damaged UTF-8 and ASCII case are the library `bstr`'s; DECISIONS says why the rest is our own.
+//! Values: the rules about bytes and texts that the readers share: white space, lines, cuts, quoted strings, case. Each
+//! rule is here once. A contract sees bytes and texts as lists of bytes. Searches, damaged UTF-8 and ASCII case are the
+//! library `bstr`'s; DECISIONS says why the rest is our own.
 #![tactic(auto)]
 
 mod case;

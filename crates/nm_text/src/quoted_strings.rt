@@ -32,7 +32,7 @@ pub fn is_special(special: u8, pair: &[u8]) -> bool
     }
 }
 
-/// How many bytes stand up to the `"` that closes a quoted string, and with it.
+/// How many bytes there are up to the `"` that closes a quoted string, and with it.
 pub fn quoted_len(text: &[u8]) -> usize
     ensures value { result ≡ quoted_len text.now }
     ensures within { result ≤ length text.now }

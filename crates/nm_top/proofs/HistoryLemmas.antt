@@ -35,7 +35,7 @@ use Rattle.nm_session.specs.Run.{HasRun}
 use Rattle.nm_session.specs.Session.{HasOpenCause, IsSession, IsUnopened}
 use Rattle.nm_top.specs.CallPhases.{HasPhases, RefusesFor, session_of}
 use Rattle.nm_top.specs.declared.call_phases.CallPhases.{CallPhases}
-use Rattle.nm_top.specs.Ending.{EndsRun, Refuses, RefusesAlone, ended_with, refusal_of}
+use Rattle.nm_top.specs.CallEnd.{EndsRun, Refuses, RefusesAlone, ended_with, refusal_of}
 use Rattle.nm_top.specs.RefusalLaws.{RefusalLaws}
 use Rattle.nm_replay.specs.declared.open_error.OpenError.{OpenError}
 use Rattle.nm_replay.specs.declared.open_error.OpenError.TheVariants as errors

@@ -20,7 +20,7 @@ use Rattle.nm_log.specs.declared.log.SessionLog.{SessionLog}
 use Rattle.nm_log.specs.declared.log.Setting.{Setting}
 use Rattle.nm_log.specs.declared.refusal.Refusal.TheVariants as refusals
 use Rattle.nm_maildir.specs.Still.{observed_still}
-use Rattle.nm_top.specs.Ending.{Refuses}
+use Rattle.nm_top.specs.CallEnd.{Refuses}
 
 -- the words ask for a drill: the first of them is `drill`
 abbrev pub is_drill : List (List ℕ) → Bool
@@ -36,7 +36,7 @@ in_memory held = record { bytes = Some held; faults = 0 }
 abbrev pub empty_sink : ObservedSink
 empty_sink = record { bytes = Some []; put = 0; handed = 0; faults = 0 }
 
--- the devices of its session: the store of so many mails, a disk that holds nothing, the script, and two outputs
+-- the devices of its session: the store of n mails, a disk that holds nothing, the script, and two outputs
 abbrev pub drill_devices : ℕ → Devices
 drill_devices count =
     devices (observed_still (drill_tree count)) (observed_mem (fresh_disk (record { head = replicate 128 0; bank_a = []; bank_b = [] }))) (in_memory drill_script)
@@ -91,7 +91,7 @@ pub record AnswersAll (logs : List LineLog) : Type 0 where
   pub six : length logs ≡ 6
   pub well : list_all (λ log. is_well log.outcome) logs ≡ true
 
--- How a drill ends whose session was run: its summary was printed; the output failed in that; or memory was wanting, in the session, in its
+-- How a drill ends whose session was run: its summary was printed; the output failed in that; or memory ran out, in the session, in its
 -- devices or for the summary, and nothing was printed.
 pub data EndsAfterRun (count : ℕ) (logs : List LineLog) (status : ℕ) (out printed err said : ObservedSink) : Type 0 where
   well : status ≡ 0 → AnswersAll logs → StreamAppends false out printed (summary_of count logs) → said ≡ err → EndsAfterRun count logs status out printed err said

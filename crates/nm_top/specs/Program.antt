@@ -1,10 +1,10 @@
--- The statement of the program: its leading options, the folders that they name, and the call of the words behind them.
--- Cited by `starting`.
+-- The statement of the program: its leading options, the folders that they name, and the call of the words after them.
+-- Cited by `program_start`.
 use Rattle.std.specs.Prelude.{◌≡◌, ℕ, List, drop, codes, Option, Some, Ok, Err}
-use Rattle.nm_command.specs.Leading.{leading_of}
+use Rattle.nm_command.specs.LeadingOptions.{leading_of}
 use Rattle.nm_command.specs.Settings.{or_default}
-use Rattle.nm_command.specs.declared.leading.HeadError.TheVariants as faults
-use Rattle.nm_command.specs.declared.leading.Leading.{Leading}
+use Rattle.nm_command.specs.declared.leading_options.HeadError.TheVariants as faults
+use Rattle.nm_command.specs.declared.leading_options.Leading.{Leading}
 use Rattle.nm_disk.specs.Observed.{Moments, ObservedDisk}
 use Rattle.nm_faults.specs.Faults.{HasRisen}
 use Rattle.nm_history.specs.Call.{Devices, call_of, devices}
@@ -15,14 +15,14 @@ use Rattle.nm_log.specs.declared.log.Setting.{Setting}
 use Rattle.nm_maildir.specs.Observed.{ObservedMail}
 use Rattle.nm_maildir.specs.Tree.{Tree}
 use Rattle.nm_top.specs.Drill.{CallHistory}
-use Rattle.nm_top.specs.Ending.{ended_with}
-use Rattle.nm_top.specs.declared.starting.Start.{Start}
+use Rattle.nm_top.specs.CallEnd.{ended_with}
+use Rattle.nm_top.specs.declared.program_start.Start.{Start}
 
 -- what the options say; where they name no present second, it is that of the start
 abbrev pub setting_by : Start → Leading → Setting
 setting_by start leading = record { moment = or_default leading.moment start.moment; seed = start.seed; workers = leading.workers }
 
--- the words behind the options
+-- the words after the options
 abbrev pub command_words : List (List ℕ) → Leading → List (List ℕ)
 command_words words leading = drop leading.rest words
 
@@ -38,12 +38,12 @@ pub record StaysUnread (entry after : ObservedMail) : Type 0 where
   pub tree : after.tree ≡ entry.tree
   pub reads : after.reads ≡ entry.reads
 
--- What lies at each path before the program opens anything, where that is told: trees of mail, and disks.
+-- What is at each path before the program opens anything, where that is known: trees of mail, and disks.
 pub record Paths : Type 0 where
   pub mail : List ℕ → Option Tree
   pub index : List ℕ → Option Moments
 
--- what lies at each path, by what the two devices tell of it
+-- what is at each path, by what the two devices tell of it
 abbrev pub paths : (List ℕ → Option Tree) → (List ℕ → Option Moments) → Paths
 paths trees disks = record { mail = trees; index = disks }
 
@@ -63,8 +63,8 @@ with_mail there entry = devices (opened_mail there entry.mail) entry.disk entry.
 abbrev pub with_disk : Option Moments → Devices → Devices
 with_disk there entry = devices entry.mail (opened_disk there entry.disk) entry.input entry.out entry.err
 
--- How the program goes on once the mail folder is open: the index is not opened; or it is what lies at the path, and the call of the words
--- behind the options is made over it.
+-- How the program goes on once the mail folder is open: the index is not opened; or it is what is at the path, and the call of the words
+-- after the options is made over it.
 pub data GoesOnWith (start : Start) (words : List (List ℕ)) (leading : Leading) (there : Option Moments) (entry after : Devices) (done : Done) : Type 0 where
   no_index : after.mail ≡ entry.mail → HasRisen entry.disk.faults after.disk.faults → after.disk.told ≡ entry.disk.told →
       EndsBefore 4 (codes "notmuch: cannot open\n") entry after done → GoesOnWith start words leading there entry after done

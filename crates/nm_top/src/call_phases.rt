@@ -4,7 +4,7 @@ ghost use Rattle.std.specs.Prelude.{◌≡◌, ℕ, List, IfErr, IfOk, true, Non
 ghost use Rattle.nm_history.specs.Call.{call_fault, call_reads};
 ghost use Rattle.nm_history.specs.Refusals.{IsRead};
 ghost use Rattle.nm_top.specs.CallPhases.{HasError};
-ghost use Rattle.nm_top.specs.Ending.{take_refusal};
+ghost use Rattle.nm_top.specs.CallEnd.{take_refusal};
 
 use nm_base::{Limit, Many, NoMemory};
 use nm_io::{Source, TakeError, take_all};

@@ -9,8 +9,8 @@ ghost use Rattle.nm_top.specs.CallPhases.{HasPhases, IsReadAs, WasRead};
 ghost use Rattle.nm_top.specs.Devices.{KeepsLoans, devices_of};
 ghost use Rattle.nm_top.specs.declared.call_phases.CallPhases.TheVariants.{Command, Script};
 
+use crate::call_end::{end_run, refuse, refuse_line};
 use crate::call_phases::{CallError, CallPhases};
-use crate::ending::{end_run, refuse, refuse_line};
 use crate::laws::refusal_laws;
 use nm_base::Many;
 use nm_disk::Disk;

@@ -8,8 +8,8 @@ ghost use Rattle.nm_command.specs.declared.request.Request.TheVariants as asked;
 ghost use Rattle.nm_log.specs.Replies.{is_well};
 ghost use Rattle.nm_top.specs.Drill.{AnswersAll, DrillEnds, EndsAfterRun, IsLogOfDrill, is_drill, log_of_line, reply_of_line, revision_of_line, summary_of};
 
+use crate::call_end::{refuse, say};
 use crate::devices::Devices;
-use crate::ending::{refuse, say};
 use crate::session_call::read_phases;
 use nm_base::{Many, NoMemory, Text};
 use nm_command::{

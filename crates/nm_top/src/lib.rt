@@ -2,19 +2,19 @@
 //! prints the replies, and gives the status.
 #![tactic(auto)]
 
+mod call_end;
 mod call_phases;
 mod command_call;
 mod devices;
 mod drill;
-mod ending;
 mod laws;
+mod program_start;
 mod session_call;
-mod starting;
 mod top_call;
 
 pub use nm_answer::Request;
 pub use nm_log::{Done, LineLog, Outcome, SessionLog, Setting};
 pub use nm_machine::Step;
 pub use nm_maildir::{Given, ReadAnswer};
-pub use starting::{Start, program};
+pub use program_start::{Start, program};
 pub use top_call::notmuch;

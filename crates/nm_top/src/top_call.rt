@@ -23,13 +23,12 @@ use std::alloc::Global;
 use std::sync::Wait;
 use std::thread::Threads;
 
-/// Runs the command that the words name over the index that the disk holds and the mail folder. `session` reads a script from `input`,
-/// runs its phases, and at the end of each prints the replies of its lines, each behind a header, to `out`; where that fails it runs no further one.
-/// `drill` runs a session over a store, an index and a script of its own, all in memory, and prints a summary of it.
-/// Any other is run as the one line, over the lines of `input` where it reads some, and its reply stands alone. `err` gains at most one line. It takes
-/// what memory it needs. It may wait: as readers leave a snapshot, as the lanes of a phase are joined, and as an opening, a `new` or a large commit joins its workers.
-/// Each lane of a script passes the gate under its number before its work in a phase, and under that and 16 after it; a single command passes
-/// none. A gate changes no answer.
+/// Runs the command that the words name over the index that the disk holds and the mail folder. `session` reads a script from `input`, runs its phases, and at the end
+/// of each prints the replies of its lines, each after a header, to `out`; where that fails it runs no further one. `drill` runs a session over a store, an index and
+/// a script of its own, all in memory, and prints a summary of it. Any other is run as the one line, over the lines of `input` where it reads some, and its reply is
+/// alone. `err` gains at most one line. It takes what memory it needs. It may wait: as readers leave a snapshot, as the lanes of a phase are joined, and as an
+/// opening, a `new` or a large commit joins its workers. Each lane of a script passes the gate under its number before its work in a phase, and under that and 16
+/// after it; a single command passes none. A gate changes no answer.
 pub fn notmuch<
     R: Threads + Wait + Sync,
     M: Maildir,

@@ -1,4 +1,4 @@
--- A mark is put in before others. For the proof of `put_look`.
+-- A mark is put in before others. For the proof of `put_lane_read`.
 use Rattle.std.proofs.Common.{◌≡◌, ℕ, ◌≤◌, List, [], ◌∷◌, ◌++◌, drop, length, take, zero, suc, refl, ap, ◌∙◌, arith}
 use Rattle.nm_trace.specs.declared.trace.Mark.{Mark}
 
@@ -12,9 +12,9 @@ drop-front zero ms ys within = refl
 drop-front (suc n) [] ys within = absurd (omega (arith, within))
 drop-front (suc n) (m ∷ ms) ys within = drop-front n ms ys (omega (arith, within))
 
-pub put-both : (ms between after : List Mark) (at : ℕ) (look reply : Mark) → at ≤ length ms → between ≡ take at ms ++ reply ∷ drop at ms → after ≡ take at between ++ look ∷ drop at between
-    → after ≡ take at ms ++ (look ∷ reply ∷ drop at ms)
-put-both ms between after at look reply within first second =
+pub put-both : (ms between after : List Mark) (at : ℕ) (lane_read reply : Mark) → at ≤ length ms → between ≡ take at ms ++ reply ∷ drop at ms → after ≡ take at between ++ lane_read ∷ drop at between
+    → after ≡ take at ms ++ (lane_read ∷ reply ∷ drop at ms)
+put-both ms between after at lane_read reply within first second =
     let front : take at between ≡ take at ms = ap (take at) first ∙ take-front at ms (reply ∷ drop at ms) within in
     let back : drop at between ≡ reply ∷ drop at ms = ap (drop at) first ∙ drop-front at ms (reply ∷ drop at ms) within in
-    second ∙ (ap (λ (l : List Mark). l ++ look ∷ drop at between) front ∙ ap (λ (l : List Mark). take at ms ++ look ∷ l) back)
+    second ∙ (ap (λ (l : List Mark). l ++ lane_read ∷ drop at between) front ∙ ap (λ (l : List Mark). take at ms ++ lane_read ∷ l) back)

@@ -8,15 +8,15 @@ use Rattle.nm_trace.specs.declared.reserved_log.ReservedLog.{ReservedLog}
 abbrev pub AreFallbacks : List (List ℕ) → Type 0
 AreFallbacks fallbacks = AllByRecursion (λ (text : List ℕ). text ≡ codes "notmuch: no memory\n") fallbacks
 
--- Places are spare for so many turns, where so many commits were begun: for each turn a log, two marks and a text, and a mark for each
--- commit that may still be begun.
+-- Places are spare for n turns, where m commits were begun: for each turn a log, two marks and a text, and a mark for each commit that
+-- may still be begun.
 pub record HasSpare (turns begun : ℕ) (reserved : ReservedLog) : Type 0 where
   pub logs : turns ≤ reserved.logs.1
   pub marks : 2 * turns + max_commits ≤ reserved.marks.1 + begun
   pub fallbacks : turns ≤ length reserved.fallbacks
   pub texts : AreFallbacks reserved.fallbacks
 
--- Room for so many turns, and nothing in it yet.
+-- Room for n turns, and nothing in it yet.
 pub record HasRoom (turns : ℕ) (reserved : ReservedLog) : Type 0 where
   pub logs : reserved.logs.0 ≡ []
   pub marks : reserved.marks.0 ≡ []

@@ -2,7 +2,7 @@
 
 ghost use Rattle.std.specs.Prelude.{◌≡◌, ◌+◌, ◌≤◌, ◌++◌, length};
 ghost use Rattle.std.specs.Vec.Iter.{into_iter_items, into_iter_len};
-ghost use Rattle.nm_trace.specs.Marks.{after_first_commit, begin_of_first, left_by, steps_by, steps_of, steps_of_first};
+ghost use Rattle.nm_trace.specs.Trace.{after_first_commit, begin_of_first, left_by, steps_by, steps_of, steps_of_first};
 
 use crate::trace::Mark;
 use nm_base::{Many, Room};
@@ -12,7 +12,7 @@ use nm_machine::Step;
 use std::alloc::Global;
 use std::vec::IntoIter;
 
-/// Pushes the steps that the marks stand for, with these commits.
+/// Pushes the steps that the marks represent, with these commits.
 pub fn push_steps(marks: Many<Mark>, commits: Many<Commit>, steps: &mut Room<Step>)
     requires { length (steps_of marks commits) ≤ steps.old.1 }
     ensures { steps.new.0 ≡ steps.old.0 ++ steps_of marks commits }
@@ -36,7 +36,7 @@ fn push_mark(mark: Mark, commits: &mut IntoIter<Commit, Global>, steps: &mut Roo
     match mark {
         Mark::Made => push_made(commits, steps),
         Mark::Begun => push_begun(commits, steps),
-        Mark::Look { lane } => steps.push_spare(Step::See { lane }),
+        Mark::LaneRead { lane } => steps.push_spare(Step::See { lane }),
         Mark::Reply { lane, said } => steps.push_spare(reply_step(lane, said)),
         Mark::Met => steps.push_spare(Step::Meet),
     }

@@ -3,7 +3,7 @@
 
 ghost use Rattle.std.specs.Prelude.{◌≡◌, ◌+◌, ◌*◌, ◌<◌, ◌≤◌, ◌++◌, ◌∷◌, [], codes, drop, length, replicate, take, IfOk, if◌then◌else◌};
 ghost use Rattle.std.specs.Option.{option_to_list};
-ghost use Rattle.nm_trace.specs.Marks.{marks_for, said_marks};
+ghost use Rattle.nm_trace.specs.Trace.{marks_for, said_marks};
 ghost use Rattle.nm_trace.specs.ReservedLog.{AreFallbacks, HasRoom};
 
 use crate::trace::{Mark, Trace};
@@ -47,7 +47,7 @@ impl ReservedLog {
         })
     }
 
-    /// Notes a line of lane 0: its log, and its marks, where it made so many commits.
+    /// Notes a line of lane 0: its log, and its marks, where it made n commits.
     pub fn note(&mut self, log: LineLog, made: usize, reply: Option<Said>)
         requires logs { 0 < self.old.logs.1 }
         requires marks { length (marks_for made log.disk_failed log.lane (option_to_list reply)) ≤ self.old.marks.1 }
@@ -62,24 +62,24 @@ impl ReservedLog {
         self.logs.push_spare(log);
     }
 
-    /// Notes a line of another lane: its log, and at this place of the marks a look and its reply.
-    pub fn note_look(&mut self, log: LineLog, reply: Option<Said>, at: usize)
+    /// Notes a line of another lane: its log, and at this place of the marks a read and its reply.
+    pub fn note_lane_read(&mut self, log: LineLog, reply: Option<Said>, at: usize)
         requires logs { 0 < self.old.logs.1 }
         requires marks { 2 ≤ self.old.marks.1 }
         requires at { at ≤ length self.old.marks.0 }
         ensures logs { self.new.logs.0 ≡ self.old.logs.0 ++ log ∷ [] }
         ensures logs_spare { self.new.logs.1 + 1 ≡ self.old.logs.1 }
-        ensures marks { self.new.marks.0 ≡ take at self.old.marks.0 ++ ((Mark.Look log.lane ∷ said_marks log.lane (option_to_list reply)) ++ drop at self.old.marks.0) }
+        ensures marks { self.new.marks.0 ≡ take at self.old.marks.0 ++ ((Mark.LaneRead log.lane ∷ said_marks log.lane (option_to_list reply)) ++ drop at self.old.marks.0) }
         ensures marks_spare { self.old.marks.1 ≤ self.new.marks.1 + 2 }
         ensures steps { self.new.steps ≡ self.old.steps }
         ensures fallbacks { self.new.fallbacks ≡ self.old.fallbacks }
     {
-        put_look(&mut self.marks, log.lane, reply, at);
+        put_lane_read(&mut self.marks, log.lane, reply, at);
         self.logs.push_spare(log);
     }
 
     /// Notes that a phase ended.
-    pub fn note_meeting(&mut self)
+    pub fn note_barrier(&mut self)
         requires { 0 < self.old.marks.1 }
         ensures marks { self.new.marks.0 ≡ self.old.marks.0 ++ Mark.Met ∷ [] }
         ensures marks_spare { self.new.marks.1 + 1 ≡ self.old.marks.1 }
@@ -136,18 +136,18 @@ pub fn take_fallback(fallbacks: &mut Many<Many<u8>>) -> Many<u8>
     }
 }
 
-fn put_look(marks: &mut Trace, lane: u32, reply: Option<Said>, at: usize)
+fn put_lane_read(marks: &mut Trace, lane: u32, reply: Option<Said>, at: usize)
     requires spare { 2 ≤ marks.old.1 }
     requires at { at ≤ length marks.old.0 }
-    ensures list { marks.new.0 ≡ take at marks.old.0 ++ ((Mark.Look lane ∷ said_marks lane (option_to_list reply)) ++ drop at marks.old.0) }
+    ensures list { marks.new.0 ≡ take at marks.old.0 ++ ((Mark.LaneRead lane ∷ said_marks lane (option_to_list reply)) ++ drop at marks.old.0) }
     ensures spare { marks.old.1 ≤ marks.new.1 + 2 }
 {
     match reply {
         Some(said) => {
             marks.insert_spare(at, Mark::Reply { lane, said });
-            marks.insert_spare(at, Mark::Look { lane });
+            marks.insert_spare(at, Mark::LaneRead { lane });
         }
-        None => marks.insert_spare(at, Mark::Look { lane }),
+        None => marks.insert_spare(at, Mark::LaneRead { lane }),
     }
 }
 

@@ -17,7 +17,7 @@ pub enum Mark {
     /// A commit was begun, and the disk failed.
     Begun,
     /// A lane other than 0 saw what was shown.
-    Look { lane: u32 },
+    LaneRead { lane: u32 },
     /// A lane replied.
     Reply { lane: u32, said: Said },
     /// A phase ended.
@@ -43,7 +43,7 @@ impl Model for Trace {
 }
 
 impl Trace {
-    /// None yet, with so many spare places.
+    /// None yet, with n spare places.
     pub fn with_room(alloc: Global, spare: usize) -> Result<Trace, NoMemory>
         ensures { IfOk result (λ marks. marks ≡ ([], spare)) }
     {
@@ -64,7 +64,7 @@ impl Trace {
         self.spare -= 1;
     }
 
-    /// Puts a mark before the one that stands at this place.
+    /// Puts a mark before the one that is at this place.
     pub fn insert_spare(&mut self, at: usize, mark: Mark)
         requires spare { 0 < self.old.1 }
         requires at { at ≤ length self.old.0 }

@@ -14,7 +14,7 @@ use Rattle.nm_commit.specs.Files.{has_path, paths_of}
 use Rattle.nm_maildir.specs.declared.given.ReadAnswer.{ReadAnswer}
 use Rattle.nm_maildir.specs.declared.given.ReadAnswer.TheVariants as answers
 use Rattle.nm_plan.specs.Plan.{AreAdded, to_read}
-use Rattle.nm_scan.specs.Reading.{mail_in}
+use Rattle.nm_scan.specs.FileReads.{mail_in}
 use Rattle.nm_writer.specs.Batch.{AreUnknown}
 
 -- each text passes the test, or none does
@@ -30,7 +30,7 @@ unfolding IsDistinct
 distinct-same [] h = tt
 distinct-same (text ∷ texts) h = (unequal text texts h.0, distinct-same texts h.1)
 
--- rising texts stand once each
+-- rising texts occur once each
 distinct-rising : (texts : List (List ℕ)) → IsSorted texts → IsDistinct same_text texts
 distinct-rising texts h = distinct-same texts (IsDistinct-from_sorted (slice_cmp nat_cmp) texts h)
 
@@ -83,7 +83,7 @@ distinct-mail ((path, answers.Missing) ∷ reads) h = distinct-mail reads h.1
 distinct-mail ((path, answers.TooLong) ∷ reads) h = distinct-mail reads h.1
 distinct-mail ((path, answers.Body bytes) ∷ reads) h = distinct-mail reads h.1
 
--- every text of a list stands in it
+-- every text of a list is in it
 same_as_itself : (text : List ℕ) → same_text text text ≡ true
 same_as_itself text = nat_list_eq_equiv.refl text
 

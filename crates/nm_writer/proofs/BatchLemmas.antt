@@ -12,12 +12,12 @@ use Rattle.nm_maildir.specs.Observed.{ObservedMail}
 use Rattle.nm_maildir.specs.declared.given.Given.{Given}
 use Rattle.nm_plan.specs.Plan.{AreAdded, all_added, batch_commit, batch_commits, new_commits}
 use Rattle.nm_scan.specs.Batches.{HasReadBatch, HasReadBatches, HasReadSome, StopsInBatch}
-use Rattle.nm_scan.specs.Reading.{HasRead}
+use Rattle.nm_scan.specs.FileReads.{HasRead}
 use Rattle.nm_writer.proofs.ArrivalLemmas.{are-added}
 use Rattle.nm_writer.proofs.DoneLemmas.{fit-first, fit-second, made-made, none-made, then-made}
 use Rattle.nm_writer.specs.Batch.{AreUnknown, BatchFits, IsAfterBatch, IsAfterBatches, Reading}
 use Rattle.nm_writer.specs.Writer.{WriterState}
-use Rattle.nm_writer.specs.Writing.{HasCommitted, IsAfterCommits, is_read_fault}
+use Rattle.nm_writer.specs.AfterCommit.{HasCommitted, IsAfterCommits, is_read_fault}
 use Rattle.nm_writer.specs.declared.write_error.WriteError.{WriteError}
 use Rattle.nm_writer.specs.declared.write_error.WriteError.TheVariants as errors
 

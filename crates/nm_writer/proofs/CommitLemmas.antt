@@ -1,4 +1,4 @@
--- What a commit makes of a disk that a writer stands on. For the proof of `Writer::make`.
+-- What a commit makes of a disk that a writer is on. For the proof of `Writer::make`.
 use Rattle.std.proofs.Common.{◌≡◌, inl, inr, ℕ, true, List, [], ◌∷◌, ◌++◌, Option, None, Some, IfSome, refl, sym, ap, ◌∙◌, subst}
 use Rattle.std.specs.List.{AllByRecursion}
 use Rattle.std.proofs.lemmas.List.Sums.{fold-append}
@@ -18,7 +18,7 @@ use Rattle.nm_publish.specs.Published.{Published, ShowerState, index_of, with_co
 use Rattle.nm_record.specs.CommitGrammar.{commit_grammar}
 use Rattle.nm_replay.specs.StoredIndex.{HasCommits, HoldsIndex}
 use Rattle.nm_writer.specs.Writer.{StandsOnIndex, WriterState}
-use Rattle.nm_writer.specs.Writing.{HoldsEither}
+use Rattle.nm_writer.specs.AfterCommit.{HoldsEither}
 
 -- the law of one commit more
 abbrev pub HoldsMore : Type 0
@@ -52,8 +52,7 @@ each-map file P Q f (state ∷ states) h = (λ bytes left. f bytes (h.0 bytes le
 through-map : (file : FileNo) (P Q : List ℕ → Type 0) (old new : Moments) → ((bytes : List ℕ) → P bytes → Q bytes) → GoesThrough file P old new → GoesThrough file Q old new
 through-map file P Q old new f h = record { states = h.states; each = each-map file P Q f h.states h.each; are = h.are }
 
--- at every moment of an append the disk holds one of the two indices
--- a writer that stands on a disk has its journal there
+-- at every moment of an append the disk holds one of the two indices a writer that is on a disk has its journal there
 pub journal-stands : (told : Option Moments) (writer : WriterState) (journal : JournalState) → writer.journal ≡ journal → IfSome told (λ m. StandsOnIndex m.present writer)
     → IfSome told (λ m. (bodies : List (List ℕ)) × StandsOn m.present journal bodies)
 journal-stands None writer journal same stands = tt
@@ -80,7 +79,7 @@ others None (Some n) writer journal same stands h = h
 others (Some o) None writer journal same stands h = h
 others (Some o) (Some n) writer journal same stands h = subst (λ (f : FileNo). TouchesOnly f o n) (ap (λ (j : JournalState). j.file) (sym same) ∙ stands.file) h
 
--- after an append the writer stands on the disk with the commit
+-- after an append the writer is on the disk with the commit
 pub stands-after : (law : HoldsMore) (old new : Option Moments) (writer after : WriterState) (journal : JournalState) (commit : Commit) (frame : List ℕ) → writer.journal ≡ journal → IfSome old (λ m. StandsOnIndex m.present writer)
     → frame ≡ commit_grammar.bytes commit → commit_grammar.is_value commit ≡ true → Fits writer.shown.files commit → after.shown ≡ committed writer.shown commit → after.journal.file ≡ journal.file → after.journal.start ≡ journal.start
     → GoesOn (λ o n. (bodies : List (List ℕ)) → StandsOn o.present journal bodies → StandsOn n.present after.journal (bodies ++ frame ∷ [])) old new

@@ -12,7 +12,7 @@ use Rattle.nm_index.specs.declared.base.Base.{Base}
 use Rattle.nm_plan.specs.NameTags.{commit_of, follow_names, with_names}
 use Rattle.nm_publish.specs.Published.{Published}
 use Rattle.nm_writer.specs.Writer.{WriterState}
-use Rattle.nm_writer.specs.Writing.{AreWithin, HasCommitted, IsAfterCommit, IsAfterCommits, IsPassed, StopsWithin, is_write_fault, with_commits}
+use Rattle.nm_writer.specs.AfterCommit.{AreWithin, HasCommitted, IsAfterCommit, IsAfterCommits, IsPassed, StopsWithin, is_write_fault, with_commits}
 use Rattle.nm_writer.specs.declared.write_error.WriteError.{WriteError}
 use Rattle.nm_writer.specs.declared.write_error.WriteError.TheVariants as errors
 
@@ -211,7 +211,7 @@ front-fits index changes ids some fit = record {
   each = fit-front index.files changes (follow_names (fold applied index changes) ids) (subst (FitInTurn index) (one-commit index changes ids some) fit).0.each;
 }
 
--- a fault behind what had none
+-- a fault after what had none
 pub cause-then : {T : Type 0} (before mid now : ℕ) (result : Result T WriteError) → mid ≡ before → HasCauseOf is_write_fault mid now result → HasCauseOf is_write_fault before now result
 cause-then before mid now result same h = subst (λ (n : ℕ). HasCauseOf is_write_fault n now result) same h
 

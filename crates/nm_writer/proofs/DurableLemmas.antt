@@ -22,7 +22,7 @@ use Rattle.nm_publish.specs.Published.{Published, with_commit}
 use Rattle.nm_writer.specs.Durable.{EachKeeps, HoldsPrefix, IsDurable, KeptSince, NeverFall, acked_by}
 use Rattle.nm_replay.specs.StoredIndex.{HoldsIndex}
 use Rattle.nm_writer.specs.Writer.{StandsOnIndex, WriterState}
-use Rattle.nm_writer.specs.Writing.{HoldsEither, IsAfterCommit, is_write_fault}
+use Rattle.nm_writer.specs.AfterCommit.{HoldsEither, IsAfterCommit, is_write_fault}
 use Rattle.nm_writer.specs.declared.write_error.WriteError.{WriteError}
 use Rattle.nm_writer.specs.declared.write_error.WriteError.TheVariants as errors
 use Rattle.nm_writer.proofs.CommitLemmas.{folded-more, holds}
@@ -212,7 +212,7 @@ never-later : (from mid to : ℕ) (acked : List ℕ) → NeverFall from acked mi
 never-later from mid to [] h le = omega (arith, h, le)
 never-later from mid to (clock ∷ acked) h le = (h.0, never-later clock mid to acked h.1 le)
 
--- whatever a stop leaves of a disk that the writer stands on holds the index shown
+-- whatever a crash leaves of a disk that the writer is on holds the index shown
 pub stands-holds : (state : DiskState) (writer : WriterState) → StandsOnIndex state writer → LeavesOnly Head (λ bytes. HoldsIndex bytes writer.shown) state
 stands-holds state writer s =
     let every : LeavesOnly Head (HasRecords 0 s.bodies) state =
@@ -317,7 +317,7 @@ stands-now None (Some n) after h = absurd h
 stands-now (Some o) None after h = tt
 stands-now (Some o) (Some n) after h = h
 
--- a writer that is not closed stands on the disk, whatever a commit answers
+-- a writer that is not closed is on the disk, whatever a commit answers
 pub stands-alive : {T : Type 0} (old new : ObservedDisk) (w after : WriterState) (commit : Commit) (result : Result T WriteError) → IfSome old.told (λ m. StandsOnIndex m.present w)
     → IsAfterCommit w commit new.clock new.faults result after → GoesOn (λ o n. OnOk result (StandsOnIndex n.present after)) old.told new.told
     → IfErr result (λ e. is_write_fault e ≡ false → new ≡ old) → after.closed ≡ None → IfSome new.told (λ m. StandsOnIndex m.present after)

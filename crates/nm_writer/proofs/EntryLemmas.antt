@@ -19,7 +19,7 @@ use Rattle.nm_journal.specs.Moments.{GoesThrough, LeavesNothingNew, LeavesOnly, 
 use Rattle.nm_writer.specs.Durable.{EachKeeps, HoldsPrefix, IsDurable, KeptSince, NeverFall}
 use Rattle.nm_replay.specs.StoredIndex.{HasCommits, HoldsIndex, HoldsWithin}
 use Rattle.nm_replay.specs.declared.open_error.OpenError.{OpenError}
-use Rattle.nm_writer.specs.declared.opening.Opened.{Opened}
+use Rattle.nm_writer.specs.declared.startup.Opened.{Opened}
 use Rattle.nm_writer.specs.Writer.{StandsOnIndex, WriterState}
 use Rattle.nm_writer.proofs.DurableLemmas.{stands-holds}
 
@@ -41,7 +41,7 @@ kept-here (Some m) writer h = record {
   others = λ other apart. record { states = []; each = tt; are = refl };
 }
 
--- where nothing is pending a stop leaves what a read gives
+-- where nothing is pending a crash leaves what a read gives
 left-synced : (synced bytes : List ℕ) (written : List Range) → written ≡ [] → IsLeft synced (is_written written Head) (reach written Head (length synced)) bytes → bytes ≡ synced
 left-synced synced bytes written none left' =
     let left : IsLeft synced (is_written [] Head) (length synced) bytes = subst (λ (w : List Range). IsLeft synced (is_written w Head) (reach w Head (length synced)) bytes) none left' in
@@ -85,7 +85,7 @@ IsFresh w = (w.begun ≡ []) × (w.acked ≡ []) × (w.closed ≡ None)
 abbrev PublishesShown : WriterState → Type 0
 PublishesShown w = (w.published.opening ≡ w.shown) × (w.published.commits ≡ [])
 
--- a writer that was opened is durable from an entry on, where what a stop leaves since then is its index
+-- a writer that was opened is durable from an entry on, where what a crash leaves since then is its index
 module _ (entry new : ObservedDisk) (writer : WriterState) (begun : writer.begun ≡ []) (acked : writer.acked ≡ []) (published : PublishesShown writer) (clock : new.clock ≤ max_count) where
   pub durable-none : GoesOn (KeptSince writer.shown [] []) entry.told new.told → IsDurable entry writer.shown new writer
   durable-none kept =
@@ -126,7 +126,7 @@ durable-entry law old new (Ok opened) image fresh published clock index through 
     durable-none old new w fresh.0 fresh.1 published clock (kept-entry law old.told new.told w.shown none image index through syncs)
 durable-entry law old new (Err error) image fresh published clock index through syncs none = tt
 
--- a writer whose index the records leave stands on the disk
+-- a writer whose index the records leave is on the disk
 pub opened-stands : (old new : Option Moments) (writer : WriterState) → writer.journal.file ≡ Head → writer.journal.start ≡ 0
     → GoesOn (λ o n. (bodies : List (List ℕ)) × (commits : List Commit) × StandsOn n.present writer.journal bodies × HasCommits bodies commits writer.shown) old new → GoesOn (λ o n. StandsOnIndex n.present writer) old new
 opened-stands None None writer file start h = tt

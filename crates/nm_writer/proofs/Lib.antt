@@ -5,7 +5,7 @@ pub mod DoneLemmas
 pub mod DurableLemmas
 pub mod EntryLemmas
 pub mod MailLemmas
-pub mod NamingLemmas
+pub mod NameTagLemmas
 pub mod NewLemmas
 pub mod NotedLemmas
-pub mod TaggingLemmas
+pub mod TagCommandLemmas

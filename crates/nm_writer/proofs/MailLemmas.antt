@@ -1,4 +1,5 @@
--- After a `new` that went well over a tree that is told the index has the listed files that are mail, each new one with the facts of its bytes.
+-- After a `new` that went well over a tree that is known the index has the listed files that are mail, each new one with the facts of its
+-- bytes.
 -- For the proof of `Writer::new_mail`.
 use Rattle.std.proofs.Common.{◌≡◌, ◌⊎◌, inl, inr, ℕ, Bool, true, false, ◌||◌, ◌&&◌, not, cond, List, [], ◌∷◌, ◌++◌, Option, None, Some, IfSome, IfOk, Result, Ok, Err, is_some, filter, refl, sym, ap, ◌∙◌, subst, append-nil}
 use Rattle.std.proofs.lemmas.List.Elements.{All-contains_itself, recursion_from_All}
@@ -19,7 +20,7 @@ use Rattle.nm_maildir.specs.declared.answers.Got.TheVariants as got
 use Rattle.nm_maildir.specs.declared.given.Given.{Given}
 use Rattle.nm_plan.specs.Plan.{all_added, files_after_new, new_commits, to_read}
 use Rattle.nm_scan.specs.Batches.{ReadsBatches}
-use Rattle.nm_scan.specs.Reading.{Reads, arrival, arrival_at, arrival_of, found_in}
+use Rattle.nm_scan.specs.FileReads.{Reads, arrival, arrival_at, arrival_of, found_in}
 use Rattle.nm_writer.proofs.ArrivalLemmas.{are-unknown, every-in, every-filter}
 use Rattle.nm_base.specs.SetLaws.{bytes_same, has_text-filter}
 use Rattle.nm_writer.specs.New.{HasCome, HoldsTheMail, IsAfterNew, StillHolds, facts_at}

@@ -1,4 +1,4 @@
--- What a `new` leaves, from what was listed, what the batches left, and what the commit of what is gone left.
+-- What a `new` leaves, from what was listed, what the batches left, and what the commit of what is missing left.
 -- For the proof of `Writer::scan_and_take_in`.
 use Rattle.std.proofs.Common.{◌≡◌, inr, ℕ, List, [], ◌∷◌, ◌++◌, Option, IfOk, Result, Ok, Err, length, map, refl, sym, ap, ◌∙◌, subst}
 use Rattle.nm_answer.specs.NewText.{gone, listed_in, report_of}
@@ -15,8 +15,8 @@ use Rattle.nm_index.specs.Index.{folded}
 use Rattle.nm_plan.specs.NameTags.{commit_of}
 use Rattle.nm_plan.specs.Plan.{AreAdded, all_added, batch_commits, commits_so_far, drop_of, message_ids, new_commits, removed_commit, removed_files}
 use Rattle.nm_scan.specs.Batches.{HasReadSome, ReadsBatches}
-use Rattle.nm_scan.specs.Reading.{Reads}
-use Rattle.nm_scan.specs.Scanning.{AsksNew, FindsBatches}
+use Rattle.nm_scan.specs.FileReads.{Reads}
+use Rattle.nm_scan.specs.Scan.{AsksNew, FindsBatches}
 use Rattle.nm_writer.proofs.ArrivalLemmas.{are-added, are-unknown}
 use Rattle.nm_writer.proofs.DoneLemmas.{fit-first, fit-second, refused-more, then-made}
 use Rattle.nm_writer.proofs.NotedLemmas.{since-then}
@@ -26,8 +26,8 @@ use Rattle.nm_sync.specs.Noted.{since}
 use Rattle.nm_sync.specs.Report.{report_with}
 use Rattle.nm_writer.specs.New.{AreNewCommits, IsAfterNew}
 use Rattle.nm_writer.specs.Writer.{WriterState}
-use Rattle.nm_writer.specs.Writing.{HasCommitted, IsAfterCommits}
-use Rattle.nm_sync.specs.declared.scanning.Compared.{Compared}
+use Rattle.nm_writer.specs.AfterCommit.{HasCommitted, IsAfterCommits}
+use Rattle.nm_sync.specs.declared.comparison.Compared.{Compared}
 use Rattle.nm_writer.specs.declared.write_error.WriteError.{WriteError}
 use Rattle.nm_writer.specs.declared.write_error.WriteError.TheVariants as errors
 
@@ -120,25 +120,25 @@ module _ (laws : Laws) (front : List Given) (before now : Reading) (compared : C
     gone-are : compared.gone ≡ gone old.shown.files (listed_in noted)
     gone-are = h.gone_are ∙ ap (λ (l : List Given). gone old.shown.files (listed_in l)) (sym (noted-are batches [] some))
 
-    ids-are : compared.gone_ids ≡ message_ids (removed_files old.shown.files (listed_in noted))
+    ids-are : compared.removed_ids ≡ message_ids (removed_files old.shown.files (listed_in noted))
     ids-are = h.ids_are ∙ ap (λ (l : List Given). message_ids (removed_files old.shown.files (listed_in l))) (sym (noted-are batches [] some))
 
-    -- the commit of what is gone, on the index that the batches leave
+    -- the commit of what is missing, on the index that the batches leave
     abbrev last : List Commit
     last = removed_commit (folded old.shown (batch_commits old.shown batches)) old.shown.files (listed_in noted)
 
-    last-is : commit_of mid.shown (map drop_of compared.gone) compared.gone_ids ≡ last
+    last-is : commit_of mid.shown (map drop_of compared.gone) compared.removed_ids ≡ last
     last-is =
-        ap (λ (b : Base). commit_of b (map drop_of compared.gone) compared.gone_ids) made.shown
-        ∙ (ap (λ (l : List (List ℕ)). commit_of (folded old.shown (batch_commits old.shown batches)) (map drop_of l) compared.gone_ids) gone-are
+        ap (λ (b : Base). commit_of b (map drop_of compared.gone) compared.removed_ids) made.shown
+        ∙ (ap (λ (l : List (List ℕ)). commit_of (folded old.shown (batch_commits old.shown batches)) (map drop_of l) compared.removed_ids) gone-are
         ∙ ap (λ (l : List (List ℕ)). commit_of (folded old.shown (batch_commits old.shown batches)) (map drop_of (gone old.shown.files (listed_in noted))) l) ids-are)
 
-    pub gone-fit : FitInTurn mid.shown (commit_of mid.shown (map drop_of compared.gone) compared.gone_ids)
+    pub gone-fit : FitInTurn mid.shown (commit_of mid.shown (map drop_of compared.gone) compared.removed_ids)
     gone-fit =
         subst (FitInTurn mid.shown) (sym last-is)
         (subst (λ (b : Base). FitInTurn b last) (sym made.shown) (fit-second old.shown (batch_commits old.shown batches) last (all-fit batches [] some (listed_in noted))))
 
-    all-made : (new : WriterState) (faults : ℕ) (result : Result NewReport WriteError) → IsAfterCommits mid (commit_of mid.shown (map drop_of compared.gone) compared.gone_ids) faults result new
+    all-made : (new : WriterState) (faults : ℕ) (result : Result NewReport WriteError) → IsAfterCommits mid (commit_of mid.shown (map drop_of compared.gone) compared.removed_ids) faults result new
         → IsAfterCommits old (new_commits old.shown (listed_in noted) batches) faults result new
     all-made new faults result after = then-made old mid new (batch_commits old.shown batches) last faults result made (subst (λ (l : List Commit). IsAfterCommits mid l faults result new) last-is after)
 
@@ -161,5 +161,5 @@ module _ (laws : Laws) (front : List Given) (before now : Reading) (compared : C
         ∙ ap (λ (l : List Given). report_with (length (gone old.shown.files (listed_in noted))) old.shown.files new.shown.files l) given))
 
     pub after-let_go : (new : WriterState) (faults : ℕ) (result : Result NewReport WriteError) (removed : ℕ) (was : Base) (lent : List Given) → removed ≡ length compared.gone → was ≡ old.shown → lent ≡ noted
-        → IsAfterCommits mid (commit_of mid.shown (map drop_of compared.gone) compared.gone_ids) faults result new → IfOk result (λ report. report ≡ report_with removed was.files new.shown.files lent) → IsAfterNew before.mail.tree noted old faults result new
+        → IsAfterCommits mid (commit_of mid.shown (map drop_of compared.gone) compared.removed_ids) faults result new → IfOk result (λ report. report ≡ report_with removed was.files new.shown.files lent) → IsAfterNew before.mail.tree noted old faults result new
     after-let_go new faults result removed was lent count same given after said = after-all new faults result (all-made new faults result after) (report-of new result removed was lent count same given said)

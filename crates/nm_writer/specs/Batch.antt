@@ -11,7 +11,7 @@ use Rattle.nm_maildir.specs.declared.given.Given.{Given}
 use Rattle.nm_plan.specs.Plan.{batch_commit, batch_commits}
 use Rattle.nm_scan.specs.Batches.{HasReadBatch, HasReadSome, StopsInBatch}
 use Rattle.nm_writer.specs.Writer.{WriterState}
-use Rattle.nm_writer.specs.Writing.{FailsWithin, HasCommitted, PassesWithin, StopsWithin}
+use Rattle.nm_writer.specs.AfterCommit.{FailsWithin, HasCommitted, PassesWithin, StopsWithin}
 use Rattle.nm_writer.specs.declared.write_error.WriteError.{WriteError}
 use Rattle.nm_writer.specs.declared.write_error.WriteError.TheVariants as errors
 

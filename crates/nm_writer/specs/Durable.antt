@@ -1,6 +1,6 @@
--- What is never lost: whatever a stop leaves, at each moment since an entry, holds the commits begun since then that were acknowledged by
--- that moment, with or without the one that comes next. No file but the head is written.
--- Cited by `committing`, `new`, `nm_history` and others.
+-- What is never lost: whatever a crash leaves, at each moment since an entry, holds the commits begun since then that were acknowledged
+-- by that moment, with or without the one that comes next. No file but the head is written.
+-- Cited by `commit`, `new`, `nm_history` and others.
 use Rattle.std.specs.Prelude.{◌≡◌, ℕ, ◌+◌, ◌<◌, ◌≤◌, min, ◌&&◌, nat_le, nat_lt, List, [], ◌∷◌, ◌++◌, filter, length, take, None}
 use Rattle.std.specs.List.{AllByRecursion}
 use Rattle.nm_base.specs.Limits.{max_count}
@@ -15,12 +15,12 @@ use Rattle.nm_journal.specs.Moments.{LeavesOnly, TouchesOnly, all_moments}
 use Rattle.nm_replay.specs.StoredIndex.{HoldsIndex}
 use Rattle.nm_writer.specs.Writer.{WriterState}
 
--- how many of these clocks are at most that of a moment; a clock that stands at the end of its type tells nothing
+-- how many of these clocks are at most that of a moment; a clock that is at the end of its type tells nothing
 abbrev pub acked_by : ℕ → List ℕ → ℕ
 acked_by clock acked = length (filter (λ own. nat_le own clock && nat_lt own max_count) acked)
 
 -- The bytes hold the index after some of the commits, the first ones: all that were acknowledged by this clock, and at most one more. How many
--- more there may be isn't told by a clock that stands at the end of its type.
+-- more there may be isn't reported by a clock that is at the end of its type.
 pub record HoldsPrefix (opening : Base) (begun : List Commit) (clock acknowledged : ℕ) (bytes : List ℕ) : Type 0 where
   pub count : ℕ
   pub within : count ≤ length begun
@@ -28,7 +28,7 @@ pub record HoldsPrefix (opening : Base) (begun : List Commit) (clock acknowledge
   pub most : clock < max_count → count ≤ acknowledged + 1
   pub holds : HoldsIndex bytes (folded opening (take count begun))
 
--- whatever a stop leaves at the moment of this clock holds what was acknowledged by then, and at most one commit more
+-- whatever a crash leaves at the moment of this clock holds what was acknowledged by then, and at most one commit more
 abbrev pub KeepsAcknowledged : Base → List Commit → List ℕ → ℕ → DiskState → Type 0
 KeepsAcknowledged opening begun acked clock state = LeavesOnly Head (HoldsPrefix opening begun clock (acked_by clock acked)) state
 

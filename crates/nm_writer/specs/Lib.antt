@@ -1,7 +1,7 @@
+pub mod AfterCommit
 pub mod Batch
 pub mod Durable
-pub mod Naming
+pub mod NameTags
 pub mod New
 pub mod Tagged
 pub mod Writer
-pub mod Writing

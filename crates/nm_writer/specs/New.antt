@@ -14,10 +14,10 @@ use Rattle.nm_maildir.specs.Tree.{Tree, got_of}
 use Rattle.nm_maildir.specs.declared.given.Given.{Given}
 use Rattle.nm_plan.specs.Plan.{commits_so_far}
 use Rattle.nm_scan.specs.Listing.{PassesListing}
-use Rattle.nm_scan.specs.Reading.{found_in}
-use Rattle.nm_scan.specs.Scanning.{FindsBatches}
+use Rattle.nm_scan.specs.FileReads.{found_in}
+use Rattle.nm_scan.specs.Scan.{FindsBatches}
 use Rattle.nm_writer.specs.Writer.{WriterState}
-use Rattle.nm_writer.specs.Writing.{FailsWithin, HasCommitted, PassesWithin, StopsWithin}
+use Rattle.nm_writer.specs.AfterCommit.{FailsWithin, HasCommitted, PassesWithin, StopsWithin}
 use Rattle.nm_writer.specs.declared.write_error.WriteError.{WriteError}
 use Rattle.nm_writer.specs.declared.write_error.WriteError.TheVariants as errors
 
@@ -30,7 +30,7 @@ pub record AreNewCommits (tree : Option Tree) (shown : Base) (given : List Given
 
 -- What a `new` leaves. All paths are read, all commits due are made, and the report is that of the index before and after; or by its
 -- error: the folder failed or passed a limit as it was listed, or it failed in a batch, and the commits of the batches before it stay;
--- the commit at which the disk failed, or that would pass a limit, is of the last batch read or of what is gone; memory may be wanting
+-- the commit at which the disk failed, or that would pass a limit, is of the last batch read or of what is missing; memory may run out
 -- anywhere.
 abbrev pub IsAfterNew : Option Tree → List Given → WriterState → ℕ → Result NewReport WriteError → WriterState → Type 0
 IsAfterNew tree given old faults (Ok report) new =
@@ -57,11 +57,11 @@ facts_at tree path = found_in (got_of tree path max_mail_bytes)
 abbrev pub StillHolds : Tree → List (List ℕ × Facts) → List (List ℕ) → Type 0
 StillHolds tree files listed = (path : List ℕ) → has_path files path ≡ true → has_text listed path ≡ true → is_some (facts_at tree path) ≡ true
 
--- none of the files lay there before, and it has the facts of its bytes
+-- none of the files was there before, and it has the facts of its bytes
 abbrev pub HasCome : Tree → List (List ℕ × Facts) → List ℕ × Facts → Type 0
 HasCome tree before file = (has_path before file.0 ≡ false) × (facts_at tree file.0 ≡ Some file.1)
 
--- The paths are the listed ones at which the tree has mail, given that it still has where a file lay before. Each file is one of those before,
+-- The paths are the listed ones at which the tree has mail, given that it still has where a file was before. Each file is one of those before,
 -- or has come and has the facts of its bytes.
 pub record HoldsTheMail (tree : Tree) (listed : List (List ℕ)) (before after : List (List ℕ × Facts)) : Type 0 where
   pub paths : StillHolds tree before listed → (path : List ℕ) → has_path after path ≡ (has_text listed path && is_some (facts_at tree path))

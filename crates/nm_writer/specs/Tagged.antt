@@ -6,13 +6,13 @@ use Rattle.nm_commit.specs.declared.change.Commit.{Commit}
 use Rattle.nm_flags.specs.declared.renames.Rename.{Rename}
 use Rattle.nm_index.specs.declared.base.Base.{Base}
 use Rattle.nm_maildir.specs.declared.given.Given.{Given}
-use Rattle.nm_answer.specs.Renaming.{sync_report, unmoved_in}
-use Rattle.nm_plan.specs.Moving.{HasDoneAll, HasTried, move_commit, tag_commits}
-use Rattle.nm_plan.specs.Tagging.{tag_commit}
+use Rattle.nm_answer.specs.RenameOutcomes.{sync_report, unmoved_in}
+use Rattle.nm_plan.specs.Moves.{HasDoneAll, HasTried, move_commit, tag_commits}
+use Rattle.nm_plan.specs.TagCommit.{tag_commit}
 use Rattle.nm_answer.specs.declared.sync_report.SyncReport.{SyncReport}
 use Rattle.nm_sync.specs.Renamed.{outcomes_given}
 use Rattle.nm_writer.specs.Writer.{WriterState}
-use Rattle.nm_writer.specs.Writing.{FailsWithin, HasCommitted, IsAfterCommits, PassesWithin, StopsWithin}
+use Rattle.nm_writer.specs.AfterCommit.{FailsWithin, HasCommitted, IsAfterCommits, PassesWithin, StopsWithin}
 use Rattle.nm_writer.specs.declared.write_error.WriteError.{WriteError}
 use Rattle.nm_writer.specs.declared.write_error.WriteError.TheVariants as errors
 

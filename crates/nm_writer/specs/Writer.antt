@@ -1,4 +1,4 @@
--- A writer, and what it means that it stands on a disk. Cited by `committing`, `new`, `nm_session` and others.
+-- A writer, and what it means that it is on a disk. Cited by `commit`, `new`, `nm_session` and others.
 use Rattle.std.specs.Prelude.{◌≡◌, ℕ, List, Option}
 use Rattle.nm_commit.specs.declared.change.Commit.{Commit}
 use Rattle.nm_disk.specs.declared.disk.FileNo.TheVariants.{Head}
@@ -18,7 +18,7 @@ pub record WriterState : Type 0 where
   pub acked : List ℕ
   pub closed : Option ℕ
 
--- whatever a stop leaves has records of these commits, and the index shown is the one after them
+-- whatever a crash leaves has records of these commits, and the index shown is the one after them
 pub record StandsOnIndex (state : DiskState) (writer : WriterState) : Type 0 where
   pub bodies : List (List ℕ)
   pub commits : List Commit

@@ -2,14 +2,14 @@
 //! readers after each.
 #![tactic(auto)]
 
-mod committing;
-mod naming;
+mod commit;
+mod name_tags;
 mod new;
-mod opening;
+mod startup;
 mod tag;
 mod write_error;
 mod writer;
 
-pub use opening::Opened;
+pub use startup::Opened;
 pub use write_error::WriteError;
 pub use writer::Writer;

@@ -1,5 +1,5 @@
 //! The command `new`, for `nm_line` and `test_index`: it lists the mail folder, takes in what has come, batch by batch, and lets go
-//! what is gone.
+//! what is missing.
 
 ghost use Rattle.std.specs.Prelude.{◌≡◌, ◌<◌, ◌≤◌, ◌++◌, List, Err, IfOk, IfSome, None, length, map};
 ghost use Rattle.std.specs.Vec.Iter.{into_iter_items, into_iter_len};
@@ -12,16 +12,16 @@ ghost use Rattle.nm_index.specs.Index.{folded};
 ghost use Rattle.nm_index.specs.declared.base.Base.{Base};
 ghost use Rattle.nm_plan.specs.NameTags.{commit_of};
 ghost use Rattle.nm_plan.specs.Plan.{add_of, batch_commit, drop_of, message_ids};
-ghost use Rattle.nm_scan.specs.Scanning.{AsksNew};
+ghost use Rattle.nm_scan.specs.Scan.{AsksNew};
 ghost use Rattle.nm_sync.specs.Noted.{since};
 ghost use Rattle.nm_sync.specs.Report.{report_with};
 ghost use Rattle.nm_writer.specs.Batch.{AreUnknown, BatchFits, IsAfterBatch, IsAfterBatches};
 ghost use Rattle.nm_writer.specs.Durable.{IsDurable};
 ghost use Rattle.nm_writer.specs.New.{HoldsTheMail, IsAfterNew};
 ghost use Rattle.nm_writer.specs.Writer.{StandsOnIndex};
-ghost use Rattle.nm_writer.specs.Writing.{IsAfterCommits, is_read_fault, is_write_fault};
+ghost use Rattle.nm_writer.specs.AfterCommit.{IsAfterCommits, is_read_fault, is_write_fault};
 
-use crate::naming::with_names;
+use crate::name_tags::with_names;
 use crate::{WriteError, Writer};
 use nm_answer::NewReport;
 use nm_base::{Copies, MailPath, Many, MessageId};
@@ -42,7 +42,7 @@ use std::sync::Wait;
 use std::thread::Threads;
 use std::vec::IntoIter;
 
-/// What is gone: the changes that remove it, and the messages of its files.
+/// What is missing: the changes that remove it, and the messages of its files.
 #[derive(Drop)]
 struct Gone {
     changes: Many<Change>,
@@ -51,8 +51,8 @@ struct Gone {
 
 impl Writer {
     /// Reads what has come to the mail folder, batch by batch, and makes a commit of each batch that has mail; then one of what is
-    /// gone, where there is something. 1 to 16 workers, who pass the gate, parse the mails of a batch at once; no clause knows how many
-    /// they are. What the folder answered is noted. A closed writer asks nothing.
+    /// missing, where there is something. 1 to 16 workers, who pass the gate, parse the mails of a batch at once; no clause knows how
+    /// many they are. What the folder answered is noted. A closed writer asks nothing.
     pub fn new_mail<R: Threads + Wait + Sync, M: Maildir, D: Disk, G: Gate + Sync>(
         &mut self,
         rt: &R,
@@ -72,8 +72,8 @@ impl Writer {
         // Whatever the error, the commits of the batches before it stay.
         ensures after { IsAfterNew (M.observed mail.old).tree (since given.old given.new) self.old (D.observed disk.new).faults result self.new }
 
-        // After all went well over a tree that is told, the files are the listed ones that are mail, those that have come with the facts of
-        // their bytes.
+        // After all went well over a tree that is known, the files are the listed ones that are mail, those that have come with the facts
+        // of their bytes.
         ensures mail { IfSome (M.observed mail.old).tree (λ tree. IfOk result (λ _. HoldsTheMail tree (listed_in (since given.old given.new)) self.old.shown.files self.new.shown.files)) }
 
         // A writer that is closed says so, and no device is asked.
@@ -84,7 +84,8 @@ impl Writer {
         ensures mail_cause { HasCauseOf is_read_fault (M.observed mail.old).faults (M.observed mail.new).faults result }
         ensures disk_cause { HasCauseOf is_write_fault (D.observed disk.old).faults (D.observed disk.new).faults result }
 
-        // Whatever a stop leaves then holds the index that is shown, unless the disk failed; and what was acknowledged is never lost.
+        // Whatever a crash leaves then holds the index that is shown, unless the disk failed; and what was acknowledged is never
+        // lost.
         ensures stands { self.new.closed ≡ None → IfSome (D.observed disk.new).told (λ moments. StandsOnIndex moments.present self.new) }
         ensures durable { (entry : ObservedDisk) (opening : Base) → IsDurable entry opening (D.observed disk.old) self.old
             → IsDurable entry opening (D.observed disk.new) self.new }
@@ -98,7 +99,7 @@ impl Writer {
         }
     }
 
-    /// Lists the folder, takes in what has come, lets go what is gone, and reports both.
+    /// Lists the folder, takes in what has come, lets go what is missing, and reports both.
     fn scan_and_take_in<R: Threads + Wait + Sync, M: Maildir, D: Disk, G: Gate + Sync>(
         &mut self,
         rt: &R,
@@ -135,7 +136,7 @@ impl Writer {
         let Compared {
             unknown,
             gone,
-            gone_ids,
+            removed_ids,
         } = compared;
         let removed = gone.len() as u64;
         let went = drops(self.alloc, gone)?;
@@ -143,7 +144,7 @@ impl Writer {
             Ok(()) => {
                 let gone = Gone {
                     changes: went,
-                    ids: gone_ids,
+                    ids: removed_ids,
                 };
                 let given = given.as_slice().split_at(given_before).1;
                 self.let_go(rt, disk, &before, gone, removed, given)
@@ -245,7 +246,7 @@ impl Writer {
         self.commit_some(rt, disk, came, &ids)
     }
 
-    /// Makes a commit of what is gone, where there is something, and reports what the `new` did.
+    /// Makes a commit of what is missing, where there is something, and reports what the `new` did.
     #[tactic(auto, using(crate::proofs::DoneLemmas::stops))]
     fn let_go<R: Threads + Wait + Sync, D: Disk>(
         &mut self,

@@ -8,19 +8,19 @@ ghost use Rattle.nm_faults.specs.Faults.{Counts, HasCauseOf};
 ghost use Rattle.nm_index.specs.Fits.{FitInTurn};
 ghost use Rattle.nm_index.specs.declared.base.Base.{Base};
 ghost use Rattle.nm_maildir.specs.declared.given.Given.{Given};
-ghost use Rattle.nm_plan.specs.Moving.{move_commit};
-ghost use Rattle.nm_plan.specs.Tagging.{commit_with};
-ghost use Rattle.nm_answer.specs.Tagging.{wanted_by};
-ghost use Rattle.nm_changes.specs.Wanting.{AreTouched};
+ghost use Rattle.nm_plan.specs.Moves.{move_commit};
+ghost use Rattle.nm_plan.specs.TagCommit.{commit_with};
+ghost use Rattle.nm_answer.specs.WantedTags.{wanted_by};
+ghost use Rattle.nm_changes.specs.WantedTags.{AreTouched};
 ghost use Rattle.nm_sync.specs.Noted.{since};
 ghost use Rattle.nm_sync.specs.Renamed.{AreTried, AsksRenames};
 ghost use Rattle.nm_writer.specs.Durable.{IsDurable};
 ghost use Rattle.nm_writer.specs.Tagged.{IsAfterRenames, IsAfterTags};
 ghost use Rattle.nm_writer.specs.Writer.{StandsOnIndex};
-ghost use Rattle.nm_writer.specs.Writing.{IsAfterCommits, is_read_fault, is_write_fault};
+ghost use Rattle.nm_writer.specs.AfterCommit.{IsAfterCommits, is_read_fault, is_write_fault};
 
 use crate::{WriteError, Writer};
-use nm_answer::{SyncReport, Tagging};
+use nm_answer::{SyncReport, TagChange};
 use nm_base::Many;
 use nm_changes::{Planned, Wanted, plan_tags, wanted_by};
 use nm_commit::{Change, Commit};
@@ -40,7 +40,7 @@ impl Writer {
         rt: &R,
         mail: &mut M,
         disk: &mut D,
-        lines: &Many<Tagging>,
+        lines: &Many<TagChange>,
         moment: i64,
         given: &mut Many<Given>,
     ) -> Result<SyncReport, WriteError>
@@ -60,7 +60,8 @@ impl Writer {
         // The disk's count rose exactly where the writer is closed now; after a fault of the folder that may be so too.
         ensures disk_cause { self.old.closed ≡ None → Counts (is_some self.new.closed) (D.observed disk.old).faults (D.observed disk.new).faults }
 
-        // Whatever a stop leaves then holds the index that is shown, unless the disk failed; and what was acknowledged is never lost.
+        // Whatever a crash leaves then holds the index that is shown, unless the disk failed; and what was acknowledged is never
+        // lost.
         ensures stands { self.new.closed ≡ None → IfSome (D.observed disk.new).told (λ moments. StandsOnIndex moments.present self.new) }
         ensures durable { (entry : ObservedDisk) (opening : Base) → IsDurable entry opening (D.observed disk.old) self.old
             → IsDurable entry opening (D.observed disk.new) self.new }
@@ -77,7 +78,7 @@ impl Writer {
         rt: &R,
         mail: &mut M,
         disk: &mut D,
-        lines: &Many<Tagging>,
+        lines: &Many<TagChange>,
         moment: i64,
         given: &mut Many<Given>,
     ) -> Result<SyncReport, WriteError>

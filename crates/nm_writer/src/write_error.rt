@@ -12,7 +12,7 @@ pub enum WriteError {
     /// The disk failed: it may hold the commit or not, and the writer is closed.
     #[error("disk fault")]
     DiskFault,
-    /// The disk had failed before, when it had so many faults; no device is asked.
+    /// The disk had failed before, when it had n faults; no device is asked.
     #[error("closed by a disk fault")]
     Closed { fault: u64 },
     #[error("a limit is passed")]

@@ -19,7 +19,7 @@ use std::sync::Wait;
 /// `finish`.
 pub struct Writer {
     pub(crate) alloc: Global,
-    /// So many threads may work at once.
+    /// This many threads may work at once.
     pub(crate) workers: u32,
     pub(crate) journal: Journal,
     /// Nothing is staged between two calls.
@@ -67,7 +67,7 @@ impl Writer {
         self.shower.tell()
     }
 
-    /// The index that is shown numbers its messages in order, and no two of its files lie at one path: its clauses are the law.
+    /// The index that is shown numbers its messages in order, and no two of its files are at one path: its clauses are the law.
     pub fn shows_an_ordered_index(&self)
         ensures numbered { AreNumbered self.now.shown }
         ensures apart { AreApart self.now.shown.files }
@@ -99,8 +99,9 @@ impl Writer {
         self.closed
     }
 
-    /// Ends the showing: it waits until no reader is at a snapshot, and readers find none after it. Gives the commits begun since the
-    /// opening, and the clocks of those that were acknowledged; it takes no memory. The last commit has no clock where the disk failed.
+    /// Ends the publishing: it waits until no reader is at a snapshot, and readers find none after it. Gives the commits begun since
+    /// the opening, and the clocks of those that were acknowledged; it takes no memory. The last commit has no clock where the disk
+    /// failed.
     pub fn finish<R: Wait>(self, rt: &R) -> (Many<Commit>, Many<u64>)
         ensures begun { result.0 ≡ self.begun }
         ensures acked { result.1 ≡ self.acked }

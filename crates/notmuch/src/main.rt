@@ -111,7 +111,7 @@ fn refuse<E: Sink>(err: &mut E, fault: &StartFault) -> ExitCode {
     }
 }
 
-/// The words behind the program's own name.
+/// The words after the program's own name.
 fn read_words<R: Env + AllocGlobal>(rt: &R, alloc: Global) -> Result<Many<Text>, StartFault> {
     let mut words = Many::new(alloc);
     let args = match env::args(rt) {

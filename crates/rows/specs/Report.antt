@@ -11,7 +11,7 @@ pub record Reported : Type 0 where
   pub wrong : ℕ
   pub broken : ℕ
 
--- how many rows were told
+-- how many rows were reported
 abbrev pub told : Reported → ℕ
 told report = report.ok + report.wrong + report.broken
 
@@ -33,7 +33,7 @@ with_broken old number why = record old {
   broken = one_more old.broken;
 }
 
--- one row more was told; a count stops at its type's end
+-- one row more was reported; a count stops at its type's end
 abbrev pub TellsOneMore : Reported → Reported → Type 0
 TellsOneMore old new = told old < max_count → told new ≡ told old + 1
 

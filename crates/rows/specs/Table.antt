@@ -3,7 +3,7 @@
 use Rattle.std.specs.Prelude.{ℕ, ◌+◌, Bool, ◌==◌, ◌&&◌, ◌||◌, not, false, List, [], ◌∷◌, if◌then◌else◌}
 use Rattle.std.specs.List.{slice_split}
 
--- whether a paragraph goes on behind a line: an empty one ends it, a comment leaves it as it was, any other is of one
+-- whether a paragraph goes on after a line: an empty one ends it, a comment leaves it as it was, any other is of one
 abbrev pub is_inside : Bool → List ℕ → Bool
 is_inside inside [] = false
 is_inside inside (byte ∷ bytes) = not (byte == 35) || inside

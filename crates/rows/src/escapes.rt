@@ -7,7 +7,7 @@ use std::alloc::{AllocError, Global};
 #[derive(Clone, Copy, PartialEq, Eq)]
 enum State {
     Plain,
-    /// A backslash stands before it.
+    /// A backslash comes before it.
     Escape,
     /// The first digit of `\xNN`.
     High,
@@ -17,7 +17,7 @@ enum State {
     Times(usize),
 }
 
-/// A text that is repeated: where it begins, and how often it stands.
+/// A text that is repeated: where it begins, and how often it occurs.
 #[derive(Clone, Copy)]
 struct Repeat {
     from: usize,
@@ -31,7 +31,7 @@ struct Unescaping {
     repeat: Option<Repeat>,
 }
 
-/// The bytes that a line stands for.
+/// The bytes that a line represents.
 pub fn unescaped(alloc: Global, line: &[u8]) -> Result<Vec<u8>, RowError> {
     let mut unescaping = Unescaping {
         bytes: Vec::new(alloc),
@@ -156,7 +156,7 @@ fn hex_value(byte: u8) -> Option<u8> {
     }
 }
 
-/// The bytes in one line, as a table would have them. Bytes that are no UTF-8 stand as `\xNN`.
+/// The bytes in one line, as a table would have them. Bytes that are no UTF-8 are written as `\xNN`.
 pub fn escaped(alloc: Global, bytes: &[u8]) -> Result<Vec<u8>, AllocError> {
     let is_text = str::from_utf8(bytes).is_ok();
     let mut line = Vec::new(alloc);

@@ -3,8 +3,8 @@
 use crate::RowError;
 use std::alloc::Global;
 
-/// Lines that are joined by LF: the last one has none. A piece that found no memory is told once, where the answer is taken, so that
-/// a row's program has no way out of each line.
+/// Lines that are joined by LF: the last one has none. A piece that found no memory is reported once, where the answer is taken, so
+/// that a row's program has no way out of each line.
 #[derive(Drop)]
 pub struct Lines {
     alloc: Global,

@@ -6,7 +6,7 @@ ghost use Rattle.rows.specs.Table.{begun, is_inside, paragraph_count};
 
 use std::alloc::{AllocError, Global};
 
-/// The lines of a row, as they stand in the table.
+/// The lines of a row, as they are in the table.
 #[derive(Drop)]
 pub struct Paragraph<'a> {
     /// The number of the first line in the table, from 1.

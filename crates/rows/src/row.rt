@@ -14,7 +14,7 @@ pub struct Row<'a> {
     pub lines: Vec<RowLine<'a>>,
 }
 
-/// A line of a row: what stands before its first space, and the bytes that the rest stands for.
+/// A line of a row: what comes before its first space, and the bytes that the rest represents.
 #[derive(Drop)]
 pub struct RowLine<'a> {
     pub mark: &'a [u8],
@@ -44,7 +44,7 @@ pub fn read_row<'a>(alloc: Global, paragraph: &Paragraph<'a>) -> Result<Row<'a>,
     })
 }
 
-/// What stands before the first such byte, and what stands after it.
+/// What comes before the first such byte, and what comes after it.
 pub fn cut(line: &[u8], byte: u8) -> (&[u8], &[u8]) {
     (before_first(line, byte), after_first(line, byte))
 }

@@ -53,7 +53,7 @@ pub fn words_of(alloc: Global, line: &[u8]) -> Result<Many<Text>, RowError> {
     Ok(words)
 }
 
-/// What stands beside the name in a table.
+/// What is beside the name in a table.
 pub fn named<T: Copy>(table: &[(&[u8], T)], name: &[u8]) -> Result<T, RowError> {
     'table: for entry in table {
         if entry.0 == name {

@@ -1,4 +1,4 @@
-//! What each kind of row asks stands in the modules beside this one: `main` runs a table by it.
+//! What each kind of row asks is in the modules beside this one: `main` runs a table by it.
 
 use crate::disk_rows::Asked;
 use crate::{

@@ -1,21 +1,21 @@
 //! Rows on a disk to which the bodies of the lines `|` are appended, for `answers`.
 
+use crate::crash_rows::{faults, stops};
 use crate::disks::{fresh, head_of};
 use crate::index_rows;
 use crate::journal_rows::{append_all, written};
-use crate::stop_rows::{faults, stops};
 use nm_disk::MemDisk;
 use rows::{Row, RowError};
 use std::alloc::Global;
 use std::sync::Wait;
 use std::thread::Threads;
 
-/// What is told once the bodies are appended.
+/// What is reported once the bodies are appended.
 #[derive(Clone, Copy)]
 pub enum Asked {
     /// The bytes of `Head`.
     Head,
-    /// What a stop within each call of the last append leaves.
+    /// What a crash within each call of the last append leaves.
     Stops,
     /// How an append goes where one of its calls fails.
     Faults,
@@ -23,7 +23,7 @@ pub enum Asked {
     Index,
 }
 
-/// What is told of a fresh disk after an append of each body.
+/// What is reported of a fresh disk after an append of each body.
 pub fn after_appends<R: Threads + Wait + Sync>(
     rt: &R,
     alloc: Global,

@@ -43,7 +43,7 @@ pub fn fail_at(alloc: Global, disk: &mut MemDisk, call: u64) -> Result<(), NoMem
     Ok(())
 }
 
-/// The disk after a stop within this call.
+/// The disk after a crash within this call.
 pub fn stopped(disk: &MemDisk, call: u64, pick: Pick) -> Result<Owned, RowError> {
     if call == 0 || call > disk.calls() {
         return Err(RowError::Broken("no such call"));

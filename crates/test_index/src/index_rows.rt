@@ -11,10 +11,10 @@ use std::alloc::Global;
 use std::sync::Wait;
 use std::thread::Threads;
 
-/// So many workers read the records.
+/// This many workers read the records.
 const WORKERS: u32 = 2;
 
-/// What the index that the disk holds answers to what stands behind `?`, or the place of the bad record.
+/// What the index that the disk holds answers to what comes after `?`, or the place of the bad record.
 pub fn opened<R: Threads + Wait + Sync, D: Disk>(
     rt: &R,
     alloc: Global,

@@ -11,7 +11,7 @@ use nm_journal::{Frame, Journal, JournalError};
 use rows::{Lines, Row, RowError};
 use std::alloc::Global;
 
-/// The bytes of `Head` in hexadecimal digits, up to the last gate behind the records of the lines `|`.
+/// The bytes of `Head` in hexadecimal digits, up to the last gate after the records of the lines `|`.
 pub fn written(alloc: Global, row: &Row<'_>, head: &[u8]) -> Result<Vec<u8>, RowError> {
     let front = &head[..len_of(row).min(head.len())];
     let digits = hex::encode(alloc, front)?;
@@ -40,7 +40,7 @@ pub fn append_all<D: Disk>(alloc: Global, disk: &mut D, row: &Row<'_>) -> Result
     Ok(acknowledged)
 }
 
-/// The bodies that are found where the lines `|` are `Head`, from the place behind `?` on.
+/// The bodies that are found where the lines `|` are `Head`, from the place after `?` on.
 pub fn opened(alloc: Global, row: &Row<'_>) -> Result<Vec<u8>, RowError> {
     let at = row.number(b"?", 0)?;
     let head = row.text(alloc, b"|")?;

@@ -1,10 +1,11 @@
-//! Committing and publishing: the program that runs the rows on the index: threads, journals, stops of the disk, commits, tags, snapshots,
-//! workers. The table stands on the standard input, and the standard output has a line for each row.
+//! Committing and publishing: the program that runs the rows on the index: threads, journals, crashes of the disk, commits, tags,
+//! snapshots, workers. The table is on the standard input, and the standard output has a line for each row.
 #![tactic(auto)]
 
 mod answers;
 mod commit_lines;
 mod commit_rows;
+mod crash_rows;
 mod disk_rows;
 mod disks;
 mod index_rows;
@@ -13,7 +14,6 @@ mod names;
 mod new_rows;
 mod room_rows;
 mod snapshot_rows;
-mod stop_rows;
 mod store;
 mod tag_rows;
 mod thread_rows;

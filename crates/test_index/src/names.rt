@@ -24,14 +24,14 @@ fn add_id(alloc: Global, ids: &mut Many<MessageId>, word: &Text) {
     }
 }
 
-/// Goes on with the line by each id behind a blank.
+/// Goes on with the line by each id after a blank.
 pub fn push_ids(lines: &mut Lines, ids: &[MessageId]) {
     'ids: for id in ids {
         lines.push_after_blank(id.text().as_bytes());
     }
 }
 
-/// Goes on with the line by each tag behind a blank.
+/// Goes on with the line by each tag after a blank.
 pub fn push_tags(lines: &mut Lines, tags: &Tags) {
     'tags: for tag in tags.iter() {
         lines.push_after_blank(tag.text().as_bytes());

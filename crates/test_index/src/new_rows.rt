@@ -34,7 +34,7 @@ struct Added {
     commits: u64,
 }
 
-/// What a `new` over the mails of the drill leaves, for each number of workers in a line `|`; behind `?` stands how many mails.
+/// What a `new` over the mails of the drill leaves, for each number of workers in a line `|`; after `?` comes how many mails.
 pub fn by_workers<R: Threads + Wait + Sync>(
     rt: &R,
     alloc: Global,
@@ -100,7 +100,7 @@ fn push_left(lines: &mut Lines, left: &Left, alone: &[u8]) {
     }
 }
 
-/// What is left of so many mails by so many workers, of whom the first two meet.
+/// What a number of workers leave of a number of mails. The first two workers meet.
 fn after_new<R: Threads + Wait + Sync>(
     rt: &R,
     alloc: Global,

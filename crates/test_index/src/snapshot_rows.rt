@@ -29,7 +29,7 @@ const ASKED: [(&[u8], Asked); 7] = [
     (b"revision", Asked::Revision),
 ];
 
-/// What the snapshot after the commits of the lines `|` answers to what stands behind `?`, or why one of them was not made.
+/// What the snapshot after the commits of the lines `|` answers to what comes after `?`, or why one of them was not made.
 pub fn answered(alloc: Global, row: &Row<'_>) -> Result<Vec<u8>, RowError> {
     let mut store = Store::new(alloc);
     commit_all(&mut store, row);

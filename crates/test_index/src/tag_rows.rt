@@ -6,7 +6,7 @@ use nm_tags::{apply_ops, changes_of, encode_tag};
 use rows::{Lines, Row, RowError, tag_of, tags_of, text_of};
 use std::alloc::Global;
 
-/// The tags behind `?` after the operations of each line `|`, or from none after those of each line `clear`.
+/// The tags after `?` after the operations of each line `|`, or from none after those of each line `clear`.
 pub fn operations(alloc: Global, row: &Row<'_>) -> Result<Vec<u8>, RowError> {
     let before = row.text(alloc, b"?")?;
     let tags = tags_of(alloc, before.as_slice())?;

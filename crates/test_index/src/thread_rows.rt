@@ -46,7 +46,8 @@ const COMMANDS: [(&[u8], Command); 12] = [
     (b"thread", Command::Thread),
 ];
 
-/// Labels, to which commands are done. What finds no memory or no number is passed over, and shows in what is told later.
+/// Labels, to which commands are done. What finds no memory or no number is passed over, and shows in what is reported
+/// later.
 #[derive(Drop)]
 struct Trial<'a, L: Ledger> {
     alloc: Global,
@@ -144,7 +145,7 @@ impl<L: Ledger> Trial<'_, L> {
         }
     }
 
-    /// Adds a row to a copy, which is let go.
+    /// Adds a row to a copy, which is dropped.
     fn add_to_copy(&mut self, words: &[Text]) {
         if let Ok(mut copy) = self.labels.copy() {
             add_row(self.alloc, &mut copy, words, self.steps);
@@ -157,7 +158,7 @@ impl<L: Ledger> Trial<'_, L> {
         let _ = self.labels.drop_dead(&ids);
     }
 
-    /// Adds the rows of so many ids alone, and then rows that join threads of the same size two by two.
+    /// Adds the rows of n ids alone, and then rows that join threads of the same size two by two.
     fn add_pairs(&mut self, count: u64) {
         'sizes: for power in 0..64u32 {
             self.join_threads((1u64 << power) / 2, count);

@@ -1,4 +1,4 @@
-//! Rows on the header of a mail: its fields, and what stands after it, for `answers`.
+//! Rows on the header of a mail: its fields, and what comes after it, for `answers`.
 
 use crate::question::Question;
 use crate::shown::{Shown, push_lines, show_each};
@@ -52,7 +52,7 @@ impl Shown for HeaderField {
     }
 }
 
-/// What stands after the header.
+/// What comes after the header.
 fn push_body(mail: &[u8], rest: usize, lines: &mut Lines) -> Result<(), RowError> {
     let Some(body) = mail.get(rest..) else {
         return Err(RowError::Broken("the header ends after the mail"));
@@ -70,7 +70,7 @@ fn push_texts(
     show_each(header.texts(question.alloc, name), b"", lines)
 }
 
-/// Whether a field of the name stands there, and its text.
+/// Whether a field of the name is there, and its text.
 fn push_first(
     question: &Question<'_>,
     header: &HeaderList,

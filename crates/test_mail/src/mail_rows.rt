@@ -93,7 +93,7 @@ fn push_parts(facts: &Facts, lines: &mut Lines) {
     push_marks(facts.marks, lines);
 }
 
-/// The words behind the field that they belong to.
+/// The words after the field that they belong to.
 impl Shown for FieldWords {
     fn push(&self, lines: &mut Lines) {
         lines.push(field_name(self.field));

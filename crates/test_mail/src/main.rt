@@ -1,5 +1,5 @@
-//! Reading one mail: the program that runs the rows on it. The table stands on the standard input, and the
-//! standard output has a line for each row.
+//! Reading one mail: the program that runs the rows on it. The table is on the standard input, and the standard output
+//! has a line for each row.
 #![tactic(auto)]
 
 mod answers;

@@ -39,7 +39,7 @@ pub fn show_each<T: Shown + Drop>(
     }
 }
 
-/// A line for each of the list, behind the front.
+/// A line for each of the list, after the front.
 pub fn push_lines<T: Shown>(list: &[T], front: &[u8], lines: &mut Lines) {
     'list: for item in list {
         lines.line(front);

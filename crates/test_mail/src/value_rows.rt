@@ -83,7 +83,7 @@ fn word_verdict(text: &Text) -> &'static [u8] {
     }
 }
 
-/// A tag behind `+` is added, behind `-` removed, and behind `?` its line says whether it is there.
+/// A tag after `+` is added, after `-` removed, and after `?` its line says whether it is there.
 fn push_tags(question: &Question<'_>, lines: &mut Lines) -> Result<(), RowError> {
     let mut tags = Tags::new(question.alloc);
     run(&mut tags, question, lines)

@@ -71,7 +71,7 @@ fn push_asked(lines: &mut Lines, number: u32, ops: &[TagOp], query: &[u8]) {
     lines.push(query);
 }
 
-/// The changes, each with a blank behind it.
+/// The changes, each with a blank after it.
 pub fn push_ops(lines: &mut Lines, ops: &[TagOp]) {
     'ops: for op in ops {
         lines.push(if op.add { b"+" } else { b"-" });

@@ -5,7 +5,7 @@ use crate::values::moment_of;
 use nm_dates::{DateUnit, End, day_text, first_second, last_second, read_end};
 use rows::{Lines, Row, RowError, signed_of};
 
-/// `END: FIRST to LAST`, the seconds at the moment behind `?`, or `no end`.
+/// `END: FIRST to LAST`, the seconds at the moment after `?`, or `no end`.
 pub fn push_seconds(lines: &mut Lines, row: &Row<'_>, text: &str) -> Result<(), RowError> {
     let moment = moment_of(row)?;
     lines.begin();

@@ -1,4 +1,4 @@
-//! Rows on drills, for `answers`: what lies in the store of one, or its script.
+//! Rows on drills, for `answers`: what is in the store of one, or its script.
 
 ghost use Rattle.std.specs.Prelude.{◌≤◌, IfOk};
 
@@ -11,7 +11,7 @@ use std::alloc::Global;
 /// The most bytes that a mail of a row has.
 const MAX_MAIL: u64 = 65_536;
 
-/// What lies at the path in a store of as many mails as `?` says: a mail is told whole, a folder by the names in it.
+/// What is at the path in a store of as many mails as `?` says: a mail is printed whole, a folder by the names in it.
 pub fn push_place(
     alloc: Global,
     lines: &mut Lines,
@@ -49,7 +49,7 @@ fn push_mail_or_names(
     Ok(())
 }
 
-/// The mail that lies there, if one does.
+/// The mail that is there, if one does.
 fn mail_at(tree: &mut StillTree, path: &Text) -> Result<Option<Many<u8>>, RowError> {
     let Ok(path) = MailPath::new(path.copy()?) else {
         return Ok(None);
@@ -68,7 +68,7 @@ fn row_error(error: MailError) -> RowError {
     }
 }
 
-/// A line for each name, that of a folder with `/` behind it; or a dash where there is none.
+/// A line for each name, that of a folder with `/` after it; or a dash where there is none.
 fn push_names(lines: &mut Lines, listing: &Listing) {
     if listing.dirs.is_empty() && listing.files.is_empty() {
         lines.line(b"-");
@@ -81,7 +81,7 @@ fn push_names(lines: &mut Lines, listing: &Listing) {
     }
 }
 
-/// The script as it stands.
+/// The script as it is.
 pub fn push_drill_script(alloc: Global, lines: &mut Lines) -> Result<(), RowError> {
     let script = drill_script(alloc)?;
     lines.line(script.as_slice());

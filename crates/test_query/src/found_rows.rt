@@ -7,7 +7,7 @@ use nm_state::Snapshot;
 use rows::{Lines, Row, RowError, text_of};
 use std::alloc::Global;
 
-/// The ids that the query finds at the moment behind `?`, by their numbers, or a dash.
+/// The ids that the query finds at the moment after `?`, by their numbers, or a dash.
 pub fn push_found(
     alloc: Global,
     lines: &mut Lines,
@@ -24,7 +24,7 @@ pub fn push_found(
     Ok(())
 }
 
-/// The ids with blanks between them, or what stands for none.
+/// The ids with blanks between them, or what represents none.
 pub fn push_ids(lines: &mut Lines, ids: &[MessageId], none: &[u8]) {
     match ids {
         [] => lines.push(none),

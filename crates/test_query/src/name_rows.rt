@@ -57,7 +57,7 @@ fn push_flag(lines: &mut Lines, is_set: bool, word: &[u8], any: bool) -> bool {
     true
 }
 
-/// The path, renamed to carry the flags behind `?`.
+/// The path, renamed to carry the flags after `?`.
 pub fn push_target(
     alloc: Global,
     lines: &mut Lines,
@@ -74,7 +74,7 @@ pub fn push_target(
     Ok(())
 }
 
-/// The flags behind `?`.
+/// The flags after `?`.
 fn flags_of(alloc: Global, row: &Row<'_>) -> Result<Flags, RowError> {
     let asked = row.text(alloc, b"?")?;
     let mut flags = Flags {
@@ -108,7 +108,7 @@ fn set_flag(flags: &mut Flags, flag: Flag) {
     }
 }
 
-/// Of a message with the tags behind `?` and with files at the lines `|`: the tags that it then has, or what has to be renamed.
+/// Of a message with the tags after `?` and with files at the lines `|`: the tags that it then has, or what has to be renamed.
 pub fn push_message(
     alloc: Global,
     lines: &mut Lines,

@@ -77,7 +77,7 @@ fn push_query(lines: &mut Lines, query: &Query) {
     }
 }
 
-/// A list stands in brackets.
+/// A list is in brackets.
 #[cycle(tree)]
 fn push_list(lines: &mut Lines, front: &[u8], queries: &[Query]) {
     lines.push(front);

@@ -4,7 +4,7 @@ use crate::change_rows::{push_fault, push_ops};
 use crate::found_rows::push_ids;
 use crate::show_rows::push_shown;
 use crate::values::{query_of, words_of};
-use nm_answer::Tagging;
+use nm_answer::TagChange;
 use nm_base::{Boxed, CountAsk, DumpForm, SearchAsk};
 use nm_batch::{read_queries, read_taggings};
 use nm_command::{Request, command};
@@ -18,7 +18,7 @@ use std::alloc::Global;
 
 const FORMS: [(&[u8], DumpForm); 2] = [(b"batch-tag", DumpForm::BatchTag), (b"sup", DumpForm::Sup)];
 
-/// The reply to a call: the words stand after the command, which `front` is.
+/// The reply to a call: the words come after the command, which `front` is.
 pub fn push_reply(
     alloc: Global,
     lines: &mut Lines,
@@ -78,7 +78,7 @@ fn push_search(
     Ok(())
 }
 
-/// The reply to a count whose words stand behind `?`.
+/// The reply to a count whose words come after `?`.
 pub fn push_count(
     alloc: Global,
     lines: &mut Lines,
@@ -135,7 +135,7 @@ fn push_all(
     alloc: Global,
     lines: &mut Lines,
     index: &Snapshot,
-    read: &[Tagging],
+    read: &[TagChange],
 ) -> Result<(), RowError> {
     if read.is_empty() {
         lines.line(b"-");
@@ -151,7 +151,7 @@ fn push_tagging(
     alloc: Global,
     lines: &mut Lines,
     index: &Snapshot,
-    tagging: &Tagging,
+    tagging: &TagChange,
 ) -> Result<(), RowError> {
     let ids = matches(alloc, index, &tagging.query, 0, false)?;
     lines.begin();
@@ -161,7 +161,7 @@ fn push_tagging(
     Ok(())
 }
 
-/// The dump of all messages, in the form behind `?`.
+/// The dump of all messages, in the form after `?`.
 pub fn push_dump(
     alloc: Global,
     lines: &mut Lines,

@@ -1,4 +1,4 @@
-//! Rows on what `show` tells, for `reply_rows`.
+//! Rows on what `show` prints, for `reply_rows`.
 
 use crate::values::query_of;
 use nm_base::{Copies, MailPath, Many, MessageId, ShowAsk};
@@ -96,7 +96,7 @@ fn answer_of(alloc: Global, row: &Row<'_>, path: &MailPath) -> Result<ReadAnswer
     Err(RowError::Broken("no answer to a read"))
 }
 
-/// What stands behind the path in a line that begins with it, but for that of the file itself.
+/// What comes after the path in a line that begins with it, but for that of the file itself.
 fn behind<'a>(line: &'a RowLine<'_>, path: &MailPath) -> Option<&'a [u8]> {
     let (front, bytes) = cut(line.bytes.as_slice(), b' ');
     if line.mark == b"file".as_slice() || front != path.text().as_bytes() {

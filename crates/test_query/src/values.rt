@@ -8,7 +8,7 @@ use nm_query::{Query, parse};
 use rows::{Row, RowError, text_of};
 use std::alloc::Global;
 
-/// The moment behind `?`, or the first of 1970.
+/// The moment after `?`, or the first of 1970.
 pub fn moment_of(row: &Row<'_>) -> Result<i64, RowError>
     ensures { IfOk result (λ moment. IsMoment moment) }
 {

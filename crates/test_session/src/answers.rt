@@ -1,6 +1,6 @@
-//! What each kind of row asks stands in the modules beside this one: `main` runs a table by it.
+//! What each kind of row asks is in the modules beside this one: `main` runs a table by it.
 
-use crate::{line_rows, machine_rows, reply_rows, session_rows, stop_rows};
+use crate::{crash_rows, line_rows, machine_rows, reply_rows, session_rows};
 use rows::{Program, Row, RowError, named};
 use std::alloc::Global;
 use std::sync::Wait;
@@ -39,7 +39,7 @@ impl<R: Threads + Wait + Sync> Program for Sessions<'_, R> {
     fn answer(&self, alloc: Global, row: &Row<'_>) -> Result<Vec<u8>, RowError> {
         match named(&KINDS, row.kind)? {
             Kind::Sessions => session_rows::answer(self.rt, alloc, row),
-            Kind::Stops => stop_rows::answer(self.rt, alloc, row),
+            Kind::Stops => crash_rows::answer(self.rt, alloc, row),
             Kind::Lines => line_rows::answer(alloc, row),
             Kind::Reply => reply_rows::answer(alloc, row),
             Kind::Machine => machine_rows::answer(alloc, row),

@@ -1,4 +1,4 @@
-//! Disks in memory for `session_rows` and `stop_rows`. These functions say nothing of what they give, so the rows'
+//! Disks in memory for `session_rows` and `crash_rows`. These functions say nothing of what they give, so the rows'
 //! proofs carry no model of a disk. A disk is in a box, which drops it by one call: without one, each way out of what owns it would
 //! drop it field by field.
 
@@ -32,7 +32,7 @@ pub fn calls(disk: &MemDisk) -> u64 {
     disk.calls()
 }
 
-/// The disk after a stop within this call, the first one since it was made being 1.
+/// The disk after a crash within this call, the first one since it was made being 1.
 pub fn stopped(
     alloc: Global,
     disk: &MemDisk,

@@ -113,7 +113,7 @@ fn output_name(output: Output) -> &'static [u8] {
     }
 }
 
-/// `search QUERY` behind what is printed, and how.
+/// `search QUERY` after what is printed, and how.
 fn add_search(answers: &mut Lines, ask: &SearchAsk) {
     answers.line(b"search");
     answers.push_after_blank(output_name(ask.output));
@@ -123,7 +123,7 @@ fn add_search(answers: &mut Lines, ask: &SearchAsk) {
     answers.push_after_blank(ask.query.as_bytes());
 }
 
-/// `dump QUERY` behind its form.
+/// `dump QUERY` after its form.
 fn add_dump(answers: &mut Lines, ask: &DumpAsk) {
     answers.line(match ask.form {
         DumpForm::BatchTag => b"dump batch-tag:".as_slice(),
@@ -132,7 +132,7 @@ fn add_dump(answers: &mut Lines, ask: &DumpAsk) {
     answers.push_after_blank(ask.query.as_bytes());
 }
 
-/// `show QUERY` behind its form.
+/// `show QUERY` after its form.
 fn add_show(answers: &mut Lines, ask: &ShowAsk) {
     answers.line(if ask.raw {
         b"show raw".as_slice()
@@ -143,7 +143,7 @@ fn add_show(answers: &mut Lines, ask: &ShowAsk) {
     answers.push_after_blank(ask.query.as_bytes());
 }
 
-/// `tag CHANGES: QUERY`, behind whether it clears and whether it reads lines.
+/// `tag CHANGES: QUERY`, after whether it clears and whether it reads lines.
 fn add_tag(answers: &mut Lines, ask: &TagAsk) {
     answers.line(b"tag");
     push_if(answers, ask.clear, b" clear");
@@ -160,7 +160,7 @@ fn push_op(answers: &mut Lines, op: &TagOp) {
     answers.push(op.tag.text().as_bytes());
 }
 
-/// `restore`, behind it the form that it reads and whether tags stay.
+/// `restore`, after it the form that it reads and whether tags stay.
 fn add_restore(answers: &mut Lines, ask: &RestoreAsk) {
     answers.line(match ask.form {
         ReadForm::Auto => b"restore form=auto".as_slice(),

@@ -7,10 +7,11 @@ use rows::{Lines, RowError, RowLine, cut, number_of, path_of};
 use std::alloc::Global;
 use std::mem;
 
-/// Where a mail file lies, and its bytes.
+/// Where a mail file is, and its bytes.
 pub type File = (MailPath, Many<u8>);
 
-/// The mail files of the sessions of a row, one session after the other. What can't be read is noted and told once, at the end.
+/// The mail files of the sessions of a row, one session after the other. What can't be read is noted and reported once, at the
+/// end.
 #[derive(Drop)]
 pub struct MailFiles {
     alloc: Global,
@@ -77,7 +78,7 @@ impl MailFiles {
         }
     }
 
-    /// A mail folder with the folders `new` and `cur`, the files, and the folders that these lie in.
+    /// A mail folder with the folders `new` and `cur`, the files, and the folders that these are in.
     fn add_tree(&mut self, trees: &mut Many<StillTree>, lines: &[RowLine<'_>]) {
         let mut dirs = Many::new(self.alloc);
         let listed = add_dirs(self.alloc, &mut dirs, self.files.as_slice());
@@ -136,7 +137,7 @@ fn remove_file(alloc: Global, files: &mut Many<File>, path: &[u8]) -> Result<(),
 }
 
 /// A line has how many files there are, and their bytes after a blank. The first is `new/1001`, the next `new/1002`; each `#` of the
-/// bytes stands for the number of the file.
+/// bytes represents the number of the file.
 fn add_many(alloc: Global, files: &mut Many<File>, line: &[u8]) -> Result<(), RowError> {
     let (count, bytes) = cut(line, b' ');
     let count = number_of(count)?;
@@ -209,7 +210,7 @@ fn add_dirs(alloc: Global, dirs: &mut Many<Text>, files: &[File]) -> Result<(), 
     add_folders(alloc, dirs, "cur/")
 }
 
-/// The folders that a path lies in, at most 64; one that stands twice is one.
+/// The folders that a path is in, at most 64; one that occurs twice is one.
 fn add_folders(alloc: Global, dirs: &mut Many<Text>, path: &str) -> Result<(), NoMemory> {
     let mut rest = path;
     'levels: for _level in 0..64 {

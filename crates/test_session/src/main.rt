@@ -1,8 +1,9 @@
-//! Commands and replies: the program that runs the rows on sessions and their stops, on the program, on the lines of scripts, on
-//! replies, and on the machine of commits and replies. The table stands on the standard input; the standard output has a line for each row.
+//! Commands and replies: the program that runs the rows on sessions and their crashes, on the program, on the lines of scripts, on replies,
+//! and on the machine of commits and replies. The table is on the standard input; the standard output has a line for each row.
 #![tactic(auto)]
 
 mod answers;
+mod crash_rows;
 mod devices;
 mod disks;
 mod line_rows;
@@ -14,7 +15,6 @@ mod session_rows;
 mod session_run;
 mod sessions;
 mod step_rows;
-mod stop_rows;
 mod transcripts;
 
 use answers::Sessions;

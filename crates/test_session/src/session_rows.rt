@@ -1,5 +1,5 @@
-//! Rows on whole sessions, for `answers`: one after the other over one disk, alone or behind the options of the
-//! program: what each call prints and says, its status, and the steps of its log.
+//! Rows on whole sessions, for `answers`: one after the other over one disk, alone or after the options of the program:
+//! what each call prints and says, its status, and the steps of its log.
 
 use crate::disks::{calls, fresh, head_of, with_head};
 use crate::row_lines::line_of;

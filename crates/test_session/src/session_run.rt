@@ -1,4 +1,4 @@
-//! A session, or the program before it, run over its devices: `session_rows` and `stop_rows` run each so.
+//! A session, or the program before it, run over its devices: `session_rows` and `crash_rows` run each so.
 
 use crate::devices::Folder;
 use crate::disks::fail_at;

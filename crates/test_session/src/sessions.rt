@@ -1,4 +1,4 @@
-//! The sessions of a row, for `session_rows` and `stop_rows`: a line `then` begins the next one, over the same disk. It has the mail
+//! The sessions of a row, for `session_rows` and `crash_rows`: a line `then` begins the next one, over the same disk. It has the mail
 //! files with which the one before it ended, with those that come by a line `file` or `many`, and without those that go by a line `gone`.
 
 use crate::devices::{Folder, folder_of, gate_of, open_gate};
@@ -23,8 +23,8 @@ pub struct Session<'a> {
     pub gate: MeetGate,
 }
 
-/// Reads sessions. What can't be read is noted and told once, where the sessions are taken, so that few places have a way out of all
-/// that was read.
+/// Reads sessions. What can't be read is noted and reported once, where the sessions are taken, so that few places have a way out of
+/// all that was read.
 #[derive(Drop)]
 struct SessionReader<'a> {
     alloc: Global,

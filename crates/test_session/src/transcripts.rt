@@ -4,8 +4,8 @@ use crate::row_lines::says;
 use nm_top::{Done, LineLog, Step};
 use rows::{Lines, RowLine, cut};
 
-/// What was printed, what was said behind `err: `, and a last line with the status, the steps, and the numbers that the session asks
-/// for by its lines `tell`: by `tell acked` the clocks at which commits were acknowledged, by `tell calls` how many calls the disk had.
+/// What was printed, what was said after `err: `, and a last line with the status, the steps, and the numbers that the session asks for
+/// by its lines `tell`: by `tell acked` the clocks at which commits were acknowledged, by `tell calls` how many calls the disk had.
 pub fn push_transcript(
     lines: &mut Lines,
     told: &[RowLine<'_>],
@@ -69,7 +69,7 @@ fn push_steps(lines: &mut Lines, steps: &[Step]) {
     }
 }
 
-/// It is begun, it is there, it is shown; a look, a meeting, a reply.
+/// It is begun, it is there, it is shown; a read, a barrier, a reply.
 fn letter_of(step: &Step) -> &'static [u8] {
     match step {
         Step::Begin { .. } => b"B",
@@ -108,7 +108,7 @@ fn push_logs(lines: &mut Lines, logs: &[LineLog]) {
     }
 }
 
-/// Where the line stands, how it ended, how much the mail folder gave, how often the devices had failed, and its text.
+/// Where the line is, how it ended, how much the mail folder gave, how often the devices had failed, and its text.
 fn push_log(lines: &mut Lines, log: &LineLog) {
     push_place(lines, log);
     push_named(lines, b" status", u64::from(log.status));

@@ -6,7 +6,7 @@ use nm_base::Failed;
 use nm_disk::{Disk, DiskFolder, FileDisk, FileNo};
 use rows::{Lines, Row, RowError, cut, named, number_of};
 
-/// A read asks for so many bytes.
+/// A read asks for this many bytes.
 const READ: usize = 16;
 
 /// One of the two disks.

@@ -58,7 +58,7 @@ impl Called for FolderRow<'_> {
     }
 }
 
-/// Opens what stands under the path behind that of the folder.
+/// Opens what is under the path after that of the folder.
 fn open(
     alloc: Global,
     folder: &str,
@@ -108,7 +108,7 @@ fn push_faults(mail: &Mail, lines: &mut Lines) -> Result<(), RowError> {
     Ok(())
 }
 
-/// The names of folders, with `/` behind each, and then those of files.
+/// The names of folders, with `/` after each, and then those of files.
 impl Shown for Listing {
     fn push(&self, lines: &mut Lines) {
         lines.push(b"listed");

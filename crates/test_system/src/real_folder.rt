@@ -7,7 +7,7 @@ use std::io::{self, ErrorKind};
 use std::rt::Files;
 use std::{env, fs};
 
-/// So many names are tried for a folder that was not there.
+/// This many names are tried for a folder that was not there.
 const TRIES: u32 = 1_000;
 
 /// A folder that is a row's own.
@@ -70,7 +70,7 @@ fn is_done(answer: io::Result<()>) -> Result<(), RowError> {
     answer.map_err(refused)
 }
 
-/// The two texts behind one another.
+/// The two texts after one another.
 pub fn joined(alloc: Global, front: &str, end: &[u8]) -> Result<Text, RowError> {
     let whole = format!(in alloc; "{}{}", front, text_of(end)?)?;
     Ok(Text::from_string(whole)?)

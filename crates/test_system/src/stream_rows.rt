@@ -9,7 +9,7 @@ use rows::{Lines, Row, RowError, cut, named, number_of};
 use std::alloc::Global;
 use std::fs::File;
 
-/// A call that takes asks for so many bytes.
+/// A call that takes asks for this many bytes.
 const TAKEN: usize = 3;
 
 /// A call of a sink, or of the file that it fills.

@@ -1,4 +1,4 @@
-use Rattle.nm_command.proofs.LeadingLemmas.{repeated-refused, word-refused}
+use Rattle.nm_command.proofs.LeadingOptionLemmas.{repeated-refused, word-refused}
 use Rattle.nm_command.proofs.laws.leading_words_are_refused.Goals as goal
 
 pub returns-clause-repeated : goal.returns-clause-repeated

@@ -4,7 +4,7 @@ use Rattle.std.specs.Cmp.Lexicographic.{slice_cmp}
 use Rattle.std.specs.Map.{lookup}
 use Rattle.std.specs.Option.{is_some}
 use Rattle.std.specs.Ordering.{nat_cmp}
-use Rattle.nm_dump.proofs.RestoringLemmas.{names_more}
+use Rattle.nm_dump.proofs.RestoreLineLemmas.{names_more}
 use Rattle.nm_dump.proofs.restore.is_first.Goals as goal
 
 pub returns : goal.returns

@@ -1,5 +1,5 @@
 use Rattle.std.proofs.Common.{rules}
-use Rattle.nm_dump.proofs.RestoringLemmas.{line_more}
+use Rattle.nm_dump.proofs.RestoreLineLemmas.{line_more}
 use Rattle.nm_dump.proofs.restore.restoring.Goals as goal
 
 pub wanted-preserved : goal.wanted-preserved

@@ -1,4 +1,4 @@
-use Rattle.nm_dump.proofs.RestoringLemmas.{InRestoring}
+use Rattle.nm_dump.proofs.RestoreLineLemmas.{InRestoring}
 use Rattle.nm_dump.proofs.restore.restoring.Given as goal
 
 abbrev pub invariant-wanted : goal.invariant-wanted

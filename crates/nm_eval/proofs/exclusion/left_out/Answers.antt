@@ -3,7 +3,7 @@ use Rattle.std.specs.List.{list_any}
 use Rattle.std.proofs.Math.Bool.{or-false}
 use Rattle.std.proofs.lemmas.List.Sorted.{list_any-IsPermutation}
 use Rattle.nm_base.specs.Order.{has_text, same_text}
-use Rattle.nm_eval.specs.Excluding.{is_among}
+use Rattle.nm_eval.specs.Exclusion.{is_among}
 use Rattle.nm_eval.proofs.LeftOutLemmas.{is_out, none_out, one_out, out_by_tags}
 use Rattle.nm_eval.proofs.exclusion.left_out.Goals as goal
 

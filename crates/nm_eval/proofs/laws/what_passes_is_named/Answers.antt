@@ -1,4 +1,4 @@
-use Rattle.nm_eval.proofs.NamingLemmas.{named_has}
+use Rattle.nm_eval.proofs.NamedIdLemmas.{named_has}
 use Rattle.nm_eval.proofs.laws.what_passes_is_named.Goals as goal
 
 pub returns : goal.returns

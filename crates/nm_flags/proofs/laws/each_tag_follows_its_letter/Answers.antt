@@ -1,5 +1,5 @@
 use Rattle.std.proofs.Common.{ℕ, List, [], ◌∷◌, codes, drop, not, refl, take}
-use Rattle.nm_flags.specs.Following.{any_draft, any_flagged, any_passed, any_replied, any_seen, name_ops, op_of}
+use Rattle.nm_flags.specs.FlagTags.{any_draft, any_flagged, any_passed, any_replied, any_seen, name_ops, op_of}
 use Rattle.nm_flags.proofs.laws.each_tag_follows_its_letter.Goals as goal
 
 pub returns-clause-draft : goal.returns-clause-draft

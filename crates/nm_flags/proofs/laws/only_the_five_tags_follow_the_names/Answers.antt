@@ -1,4 +1,4 @@
-use Rattle.nm_flags.specs.Following.{name_ops}
+use Rattle.nm_flags.specs.FlagTags.{name_ops}
 use Rattle.nm_flags.proofs.laws.only_the_five_tags_follow_the_names.Goals as goal
 
 pub returns : goal.returns

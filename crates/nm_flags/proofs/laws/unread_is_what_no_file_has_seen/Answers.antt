@@ -1,5 +1,5 @@
 use Rattle.std.proofs.Common.{[], ◌∷◌, codes, not, refl}
-use Rattle.nm_flags.specs.Following.{any_draft, any_flagged, any_passed, any_replied, any_seen, op_of}
+use Rattle.nm_flags.specs.FlagTags.{any_draft, any_flagged, any_passed, any_replied, any_seen, op_of}
 use Rattle.nm_flags.proofs.laws.unread_is_what_no_file_has_seen.Goals as goal
 
 pub returns : goal.returns

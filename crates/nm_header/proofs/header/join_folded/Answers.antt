@@ -1,4 +1,4 @@
--- A line that continues a field adds to it; what is left behind it holds the same fields.
+-- A line that continues a field adds to it; what is left after it holds the same fields.
 use Rattle.std.proofs.Common.{sym, ◌∙◌, ap, subst, ◌++◌}
 use Rattle.nm_header.specs.Fields.{fields_in}
 use Rattle.nm_header.specs.HeaderLines.{LeavesOf, header_lines}

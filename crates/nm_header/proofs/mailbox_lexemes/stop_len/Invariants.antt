@@ -2,7 +2,7 @@ use Rattle.std.proofs.Common.{ℕ, ◌≤◌, List, length}
 use Rattle.nm_header.proofs.LexemeLemmas.{GoneTo}
 use Rattle.nm_header.proofs.mailbox_lexemes.stop_len.Given as goal
 
--- some lexemes are gone through, none of which begins with such a special
+-- some lexemes are passed, none of which begins with such a special
 abbrev pub invariant-lexemes : goal.invariant-lexemes
 invariant-lexemes l = ((before : List (List ℕ)) × GoneTo l.specials l.text l.left before) × (length l.left ≤ length l.text)
 

@@ -5,7 +5,7 @@ use Rattle.nm_lanes.specs.Script.{numbered}
 use Rattle.nm_lanes.specs.declared.reader.Reader.{Reader}
 use Rattle.nm_lanes.specs.declared.script.Phase.{Phase}
 use Rattle.nm_lanes.specs.declared.script.Script.{Script}
-use Rattle.nm_lanes.proofs.ReadingLemmas.{all-phases, none-left, phases_with, with_line}
+use Rattle.nm_lanes.proofs.ReaderLemmas.{all-phases, none-left, phases_with, with_line}
 use Rattle.nm_lanes.proofs.script.read_script.Goals as goal
 
 pub lines-init : goal.lines-init

@@ -3,7 +3,7 @@ use Rattle.std.specs.List.{enumerate_from}
 use Rattle.std.specs.Str.Lines.{lines}
 use Rattle.nm_base.specs.Limits.{max_lines}
 use Rattle.nm_lanes.specs.Script.{script_of}
-use Rattle.nm_lanes.proofs.ReadingLemmas.{phases_with}
+use Rattle.nm_lanes.proofs.ReaderLemmas.{phases_with}
 use Rattle.nm_lanes.proofs.script.read_script.Given as goal
 
 -- what was read, and what is left, are all the lines

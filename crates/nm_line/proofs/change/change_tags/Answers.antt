@@ -1,13 +1,13 @@
 use Rattle.std.proofs.Common.{rules, ℕ, ℤ, ◌≡◌, List, Ok, Err, refl, ap, ◌∙◌, subst, w64, to_z, of_z}
 use Rattle.nm_answer.specs.Changes.{taggings_for, wanted_for}
-use Rattle.nm_answer.specs.Tagging.{wanted_by}
+use Rattle.nm_answer.specs.WantedTags.{wanted_by}
 use Rattle.nm_answer.specs.declared.request.Request.{Request}
-use Rattle.nm_answer.specs.declared.tagging.Tagging.{Tagging}
+use Rattle.nm_answer.specs.declared.tag_change.TagChange.{TagChange}
 use Rattle.nm_disk.specs.Observed.{ObservedDisk}
 use Rattle.nm_index.specs.Fits.{FitInTurn}
 use Rattle.nm_index.specs.declared.base.Base.{Base}
 use Rattle.nm_maildir.specs.declared.given.Given.{Given}
-use Rattle.nm_plan.specs.Moving.{HasTried, tag_commits}
+use Rattle.nm_plan.specs.Moves.{HasTried, tag_commits}
 use Rattle.nm_log.specs.declared.outcome.Outcome.TheVariants as outcomes
 use Rattle.nm_scan.specs.Bodies.{left_after}
 use Rattle.nm_line.specs.Line.{place_at}
@@ -24,7 +24,7 @@ returns-in_err-texts-clause-ends g c = λ left line is asked.
     failed-ends c.args.crew.now.setting.now.moment (place_at c.args.desk.now.writer.now (g.M.Maildir.observed c.args.desk.now.mail.now) (g.D.Disk.observed c.args.desk.now.disk.now) left) line c.args.given.now c.from_residual.result c.from_residual.ensures.0 c.requires.fresh
 
 -- what is wanted by the lines
-wanted-is : (request : Request) (input : List ℕ) (lines : List Tagging) (one moment : ℤ) (index : Base) → one ≡ moment → lines ≡ taggings_for request input → wanted_by one index lines ≡ wanted_for request input moment index
+wanted-is : (request : Request) (input : List ℕ) (lines : List TagChange) (one moment : ℤ) (index : Base) → one ≡ moment → lines ≡ taggings_for request input → wanted_by one index lines ≡ wanted_for request input moment index
 wanted-is request input lines one moment index second are = ap (λ m. wanted_by m index lines) second ∙ ap (wanted_by moment index) are
 
 pub returns-in-Ok-clause-ends : goal.returns-in-Ok-clause-ends

@@ -2,7 +2,7 @@ use Rattle.std.proofs.Common.{List, Ok, Err, refl, subst}
 use Rattle.nm_log.specs.declared.outcome.Outcome.TheVariants as outcomes
 use Rattle.nm_maildir.specs.declared.given.Given.{Given}
 use Rattle.nm_scan.specs.Bodies.{left_after}
-use Rattle.nm_scan.specs.Scanning.{AsksNew}
+use Rattle.nm_scan.specs.Scan.{AsksNew}
 use Rattle.nm_sync.specs.Noted.{since}
 use Rattle.nm_writer.specs.New.{IsAfterNew}
 use Rattle.nm_line.specs.Line.{place_at}

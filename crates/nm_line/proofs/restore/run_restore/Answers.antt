@@ -1,6 +1,6 @@
 use Rattle.std.proofs.Common.{◌≡◌, ℕ, List, [], Result, Ok, Err, None, refl, sym, ap, ◌∙◌, subst}
 use Rattle.nm_answer.specs.Restore.{dump_lines, restorings_by, strangers}
-use Rattle.nm_history.specs.LineAnswers.{refused_look}
+use Rattle.nm_history.specs.LineAnswers.{refused_lane_read}
 use Rattle.nm_index.specs.declared.base.Base.{Base}
 use Rattle.nm_line.specs.Line.{place_at}
 use Rattle.nm_line.proofs.AnswerLemmas.{failed-ends}
@@ -18,7 +18,7 @@ returns-clause-ends g c = λ left line h.
     let are : c.as_slice.result.now ≡ dump_lines c.args.ask line.input = c.as_slice.ensures ∙ sym (ap (λ (r : Result (List Wanted) (ℕ × LineKind)). elim r [ Ok lines ↦ lines | Err fault ↦ [] ]) h.made) in
     c.change_tags.ensures.ends left line h.asks (record {
       tags = refl;
-      right = subst (λ (p : ParsedLine). refused_look p line.input ≡ None) h.asks h.sound;
+      right = subst (λ (p : ParsedLine). refused_lane_read p line.input ≡ None) h.asks h.sound;
       lines = c.in_ok-asked.ensures.lines ∙ ap (restorings_by c.args.ask.accumulate) are;
       strangers = c.in_ok-asked.ensures.strangers ∙ (ap (λ (b : Base). strangers b c.as_slice.result.now) c.snapshot.ensures ∙ ap (strangers c.args.desk.now.writer.now.shown) are);
     })

@@ -1,7 +1,7 @@
 use Rattle.std.proofs.Common.{◌≡◌, ℕ, List, [], ◌∷◌, ◌++◌, codes, ap, ◌∙◌, append_assoc}
 use Rattle.nm_log.proofs.replies.add_stranger.Goals as goal
 
--- three texts behind another
+-- three texts after another
 three-after : (t a b d : List ℕ) → ((t ++ a) ++ b) ++ d ≡ t ++ ((a ++ b) ++ d)
 three-after t a b d = ap (λ l. l ++ d) (append_assoc t a b) ∙ append_assoc t (a ++ b) d
 

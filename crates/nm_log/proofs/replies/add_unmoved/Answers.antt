@@ -1,8 +1,8 @@
 use Rattle.std.proofs.Common.{◌≡◌, ℕ, List, [], ◌∷◌, ◌++◌, codes, ap, ◌∙◌, append_assoc}
-use Rattle.nm_answer.specs.Renaming.{unmoved_name}
+use Rattle.nm_answer.specs.RenameOutcomes.{unmoved_name}
 use Rattle.nm_log.proofs.replies.add_unmoved.Goals as goal
 
--- five texts behind another
+-- five texts after another
 five-after : (t a b d e f : List ℕ) → ((((t ++ a) ++ b) ++ d) ++ e) ++ f ≡ t ++ ((((a ++ b) ++ d) ++ e) ++ f)
 five-after t a b d e f =
     ap (λ l. ((l ++ d) ++ e) ++ f) (append_assoc t a b)

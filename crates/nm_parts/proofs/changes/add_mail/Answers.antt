@@ -12,7 +12,7 @@ returns-clause-parts c =
     (mail_added c.thread_laws.ensures c.args.parts.now
     (record {
       revision = c.args.parts.now.revision;
-      filing = c.add_file.new.filing;
+      file_table = c.add_file.new.file_table;
       kept = c.args.parts.now.kept;
       labels = c.label_mail.new.labels;
       tags = c.tag_mail.new.tags;
@@ -23,7 +23,7 @@ returns-clause-base c =
     (mail_added c.thread_laws.ensures c.args.parts.now
     (record {
       revision = c.args.parts.now.revision;
-      filing = c.add_file.new.filing;
+      file_table = c.add_file.new.file_table;
       kept = c.args.parts.now.kept;
       labels = c.label_mail.new.labels;
       tags = c.tag_mail.new.tags;

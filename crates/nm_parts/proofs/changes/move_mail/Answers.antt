@@ -7,7 +7,7 @@ returns-clause-parts c =
     file_moved c.thread_laws.ensures c.args.parts.now
     (record {
       revision = c.args.parts.now.revision;
-      filing = c.move_file.new.filing;
+      file_table = c.move_file.new.file_table;
       kept = c.args.parts.now.kept;
       labels = c.args.parts.now.labels;
       tags = c.args.parts.now.tags;

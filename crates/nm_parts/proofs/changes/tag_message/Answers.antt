@@ -1,4 +1,4 @@
-use Rattle.nm_tables.specs.Filing.{files_in}
+use Rattle.nm_tables.specs.FileTable.{files_in}
 use Rattle.nm_parts.proofs.TagLemmas.{retagged_one}
 use Rattle.nm_parts.proofs.changes.tag_message.Goals as goal
 
@@ -10,5 +10,5 @@ returns-clause-parts c =
       kept = are.kept;
       labels = are.labels;
       held = record { rows = are.held.rows; entries = are.held.entries };
-      tagged = retagged_one (files_in c.args.parts.now.filing) c.args.parts.now.tags c.set_tags.new.all c.args.id.now c.in_ok-copy.field-0 c.in_ok-set_tags.ensures.sorted c.in_ok-set_tags.ensures.found are.tagged c.requires.live;
+      tagged = retagged_one (files_in c.args.parts.now.file_table) c.args.parts.now.tags c.set_tags.new.all c.args.id.now c.in_ok-copy.field-0 c.in_ok-set_tags.ensures.sorted c.in_ok-set_tags.ensures.found are.tagged c.requires.live;
     }

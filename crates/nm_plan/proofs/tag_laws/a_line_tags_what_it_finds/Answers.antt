@@ -1,4 +1,4 @@
-use Rattle.nm_plan.proofs.TaggingLemmas.{line-found, line-live, line-others, lines-kept, lines-rest}
+use Rattle.nm_plan.proofs.TagCommitLemmas.{line-found, line-live, line-others, lines-kept, lines-rest}
 use Rattle.nm_plan.proofs.tag_laws.a_line_tags_what_it_finds.Goals as goal
 
 pub returns-clause-found : goal.returns-clause-found

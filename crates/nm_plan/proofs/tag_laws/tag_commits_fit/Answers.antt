@@ -1,4 +1,4 @@
-use Rattle.nm_plan.proofs.MovingLemmas.{commits-fit}
+use Rattle.nm_plan.proofs.MoveLemmas.{commits-fit}
 use Rattle.nm_plan.proofs.tag_laws.tag_commits_fit.Goals as goal
 
 pub returns : goal.returns

@@ -1,4 +1,4 @@
-use Rattle.nm_plan.proofs.TaggingLemmas.{tags-files, tags-fit, wanted-lines, wanted-live}
+use Rattle.nm_plan.proofs.TagCommitLemmas.{tags-files, tags-fit, wanted-lines, wanted-live}
 use Rattle.nm_plan.proofs.tag_laws.the_commit_of_tags_leaves_what_is_wanted.Goals as goal
 
 pub returns-clause-fits : goal.returns-clause-fits

@@ -13,5 +13,5 @@ returns c =
     let names = threads_of index c.args.ids.now in
     let asked : c.part_of.result.now ≡ part_asked c.args.ask.now names =
     c.part_of.ensures ∙ ap (part_of c.args.ask.now.offset c.args.ask.now.limit) (c.as_slice.ensures ∙ c.in_ok-names.ensures)
-    ∙ c.most_threads-most.ensures names (no_more nat_eq name c.args.ids.now) in
+    ∙ c.max_threads-most.ensures names (no_more nat_eq name c.args.ids.now) in
     search (rules, asked)

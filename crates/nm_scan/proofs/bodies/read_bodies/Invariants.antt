@@ -2,7 +2,7 @@ use Rattle.std.proofs.Common.{take}
 use Rattle.nm_scan.proofs.BodyLemmas.{InBodies}
 use Rattle.nm_scan.proofs.bodies.read_bodies.Given as goal
 
--- the first paths were read, and so many bytes are left
+-- the first paths were read, and n bytes are left
 abbrev pub invariant-paths : goal.invariant-paths
 invariant-paths g l =
     let mail = g.M.Maildir in

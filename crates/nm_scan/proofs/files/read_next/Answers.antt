@@ -1,6 +1,6 @@
 use Rattle.nm_scan.proofs.BatchLemmas.{one_found}
 use Rattle.nm_scan.proofs.ReadLemmas.{asked_once, if_err}
-use Rattle.nm_scan.specs.Reading.{AsksOnce}
+use Rattle.nm_scan.specs.FileReads.{AsksOnce}
 use Rattle.nm_scan.proofs.files.read_next.Goals as goal
 
 pub returns-in_err-push-clause-err : goal.returns-in_err-push-clause-err

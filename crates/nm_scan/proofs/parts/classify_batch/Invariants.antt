@@ -2,7 +2,7 @@ use Rattle.std.proofs.Common.{◌≡◌, ◌-◌, ◌<◌, [], length, OnOk}
 use Rattle.std.specs.Vec.Iter.{into_iter_items, into_iter_len}
 use Rattle.nm_scan.proofs.PartLemmas.{IsUnderWay}
 use Rattle.nm_scan.specs.Found.{IsClosed}
-use Rattle.nm_scan.specs.Reading.{full_answers}
+use Rattle.nm_scan.specs.FileReads.{full_answers}
 use Rattle.nm_scan.proofs.parts.classify_batch.Given as goal
 
 -- parts are classified in turn

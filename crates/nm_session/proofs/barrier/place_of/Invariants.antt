@@ -1,5 +1,5 @@
 use Rattle.std.proofs.Common.{◌-◌, length}
-use Rattle.nm_session.proofs.SightLemmas.{IsBehind}
+use Rattle.nm_session.proofs.ObservationLemmas.{IsBehind}
 use Rattle.nm_session.proofs.barrier.place_of.Given as goal
 
 abbrev pub invariant-marks : goal.invariant-marks

@@ -4,19 +4,19 @@ use Rattle.nm_history.specs.Call.{lines_of_lane}
 use Rattle.nm_history.specs.LineResult.{Place}
 use Rattle.nm_session.specs.Loop.{AreTaken}
 use Rattle.nm_trace.specs.ReservedLog.{HasSpare}
-use Rattle.nm_session.specs.Sights.{HasLooked, KeepsLane}
+use Rattle.nm_session.specs.Observations.{HasAnswered, KeepsLane}
 use Rattle.nm_session.specs.Turns.{planned_line}
 use Rattle.nm_writer.specs.Writer.{WriterState}
-use Rattle.nm_session.proofs.SettleLemmas.{any-place, lane-left, lane-spare, lane-taken}
-use Rattle.nm_session.proofs.SightLemmas.{lane-far, lane-same, zip-far, zip-same}
+use Rattle.nm_session.proofs.BarrierLemmas.{any-place, lane-left, lane-spare, lane-taken}
+use Rattle.nm_session.proofs.ObservationLemmas.{lane-far, lane-same, zip-far, zip-same}
 use Rattle.nm_session.proofs.barrier.settle.Goals as goal
 
 pub lanes-init : goal.lanes-init
-lanes-init g c = record { writer = refl; kept = zip-same KeepsLane lane-same c.args.lanes.now; looked = c.requires.looked; spare = c.requires.spare; taken = λ place here. (refl, refl) }
+lanes-init g c = record { writer = refl; kept = zip-same KeepsLane lane-same c.args.lanes.now; lane_answer = c.requires.lane_answer; spare = c.requires.spare; taken = λ place here. (refl, refl) }
 
 pub settle_lane-requires-clause-spare : goal.settle_lane-requires-clause-spare
 settle_lane-requires-clause-spare g c =
-    let same : c.sights_of-sights.new.writer ≡ c.args.writer.now = c.sights_of-sights.ensures.writer ∙ c.lanes.invariant.writer in
+    let same : c.observations_of-observations.new.writer ≡ c.args.writer.now = c.observations_of-observations.ensures.writer ∙ c.lanes.invariant.writer in
     subst (λ (w : WriterState). HasSpare (length (lines_of_lane c.args.lines.now c.lanes.lane)) (length w.begun) c.lanes.reserved) (sym same)
     (lane-spare (length c.args.writer.now.begun) c.args.lines.now c.lanes.lane c.lanes.reserved c.lanes-test.true c.lanes.invariant.spare)
 
@@ -27,16 +27,16 @@ lanes-preserved g c =
     let lane = c.lanes.lane in
     let writer = c.args.writer.now in
     let so_far = c.lanes.invariant in
-    let sights = c.sights_of-sights in
-    let same : sights.new.writer ≡ writer = sights.ensures.writer ∙ so_far.writer in
+    let observations = c.observations_of-observations in
+    let same : observations.new.writer ≡ writer = observations.ensures.writer ∙ so_far.writer in
     let least : 1 ≤ lane = omega (arith, c.lanes.auto.lane) in
-    let seen : All (HasLooked moment lines c.lanes.writer.published.book) c.lanes.lanes =
-    subst (λ (w : WriterState). All (HasLooked moment lines w.published.book) c.lanes.lanes) (sym so_far.writer) so_far.looked in
+    let seen : All (HasAnswered moment lines c.lanes.writer.published.book) c.lanes.lanes =
+    subst (λ (w : WriterState). All (HasAnswered moment lines w.published.book) c.lanes.lanes) (sym so_far.writer) so_far.lane_answer in
     let here : WriterState → Place = any-place in
     record {
       writer = same;
-      kept = zip-far KeepsLane lane-far c.args.lanes.now c.lanes.lanes sights.new.lanes so_far.kept sights.ensures.lanes;
-      looked = subst (λ (w : WriterState). All (HasLooked moment lines w.published.book) sights.new.lanes) so_far.writer (sights.ensures.looked moment lines seen).0;
+      kept = zip-far KeepsLane lane-far c.args.lanes.now c.lanes.lanes observations.new.lanes so_far.kept observations.ensures.lanes;
+      lane_answer = subst (λ (w : WriterState). All (HasAnswered moment lines w.published.book) observations.new.lanes) so_far.writer (observations.ensures.lane_answer moment lines seen).0;
       spare = lane-left moment c.args.phase lines lane (here writer) c.lanes.reserved c.settle_lane.new.reserved c.lanes-test.true so_far.spare (c.settle_lane.ensures.taken (here writer) (sym same));
       taken = λ place is. lane-taken moment c.args.phase lines lane place c.args.reserved.now c.lanes.reserved c.settle_lane.new.reserved least (so_far.taken place is) (c.settle_lane.ensures.taken place (is ∙ sym same));
     }

@@ -4,7 +4,7 @@ use Rattle.nm_history.specs.Call.{lines_of_lane}
 use Rattle.nm_history.specs.LineResult.{Place}
 use Rattle.nm_session.specs.Loop.{AreTaken}
 use Rattle.nm_trace.specs.ReservedLog.{HasSpare}
-use Rattle.nm_session.specs.Sights.{HasLooked, KeepsLane}
+use Rattle.nm_session.specs.Observations.{HasAnswered, KeepsLane}
 use Rattle.nm_session.specs.Turns.{planned_line}
 use Rattle.nm_session.proofs.barrier.settle.Given as goal
 
@@ -13,7 +13,7 @@ abbrev pub invariant-lanes : goal.invariant-lanes
 invariant-lanes g l = record {
   writer : l.writer ≡ l.initial.writer;
   kept : AllZip KeepsLane l.initial.lanes l.lanes;
-  looked : All (HasLooked l.crew.setting.now.moment l.lines l.initial.writer.published.book) l.lanes;
+  lane_answer : All (HasAnswered l.crew.setting.now.moment l.lines l.initial.writer.published.book) l.lanes;
   spare : HasSpare (length (flat_map (lines_of_lane l.lines) (range_with_len l.lane (16 - l.lane)))) (length l.initial.writer.begun) l.reserved;
   taken : (place : Place) → place.writer ≡ l.initial.writer
       → AreTaken l.crew.setting.now.moment (map (planned_line l.phase) (flat_map (lines_of_lane l.lines) (range_with_len 1 (l.lane - 1)))) place l.initial.reserved l.reserved place;

@@ -2,24 +2,24 @@ use Rattle.std.proofs.Common.{rules, ◌≡◌, ◌==◌, true, ◌++◌, length
 use Rattle.std.specs.Option.{option_to_list}
 use Rattle.std.specs.Vec.Iter.{into_iter_items}
 use Rattle.std.proofs.lemmas.Bool.Decides.{nat_tests}
-use Rattle.nm_session.specs.LaneLog.{IsLookNoted}
-use Rattle.nm_session.proofs.SettleLemmas.{look-spare, look-taken}
-use Rattle.nm_session.proofs.SightLemmas.{got, known-next, known-rest}
+use Rattle.nm_session.specs.LaneLog.{IsLaneReadNoted}
+use Rattle.nm_session.proofs.BarrierLemmas.{lane_read-spare, lane_read-taken}
+use Rattle.nm_session.proofs.ObservationLemmas.{got, known-next, known-rest}
 use Rattle.nm_session.proofs.barrier.settle_lane.Goals as goal
 
-pub settle_line-requires-clause-sight : goal.settle_line-requires-clause-sight
-settle_line-requires-clause-sight c =
+pub settle_line-requires-clause-observation : goal.settle_line-requires-clause-observation
+settle_line-requires-clause-observation c =
     let are : into_iter_items c.lines.rest ≡ option_to_list c.next.result ++ into_iter_items c.next.new.self = search rules in
     let line = c.index-lines-at.result in
     let may = known-next c.args.end.now.setting.now.moment c.args.lines.now c.lines.at line c.args.end.now.writer.now.published (into_iter_items c.lines.rest) (into_iter_items c.next.new.self) c.next.result
-    (got c.args.lines.now c.lines.at line c.lines-test.true c.index-lines-at.is) are c.lines.invariant.sights in
+    (got c.args.lines.now c.lines.at line c.lines-test.true c.index-lines-at.is) are c.lines.invariant.observations in
     search (rules, may)
 
 pub settle_line-requires-clause-spare : goal.settle_line-requires-clause-spare
 settle_line-requires-clause-spare c =
     let line = c.index-lines-at.result in
     let own : (line.lane == c.args.lane) ≡ true = grind (arith, nat_tests, c.if-line-lane.false) in
-    let one = look-spare (length c.args.end.now.writer.now.begun) c.args.lane c.args.lines.now c.lines.at line c.lines.reserved c.lines-test.true c.index-lines-at.is own c.lines.invariant.spare in
+    let one = lane_read-spare (length c.args.end.now.writer.now.begun) c.args.lane c.args.lines.now c.lines.at line c.lines.reserved c.lines-test.true c.index-lines-at.is own c.lines.invariant.spare in
     search (rules, one)
 
 pub lines-preserved : goal.lines-preserved
@@ -32,11 +32,11 @@ lines-preserved c =
     let own : (line.lane == lane) ≡ true = grind (arith, nat_tests, c.if-line-lane.false) in
     let is_lane : line.lane ≡ lane = grind (arith, nat_tests, own) in
     let are : into_iter_items c.lines.rest ≡ option_to_list c.next.result ++ into_iter_items c.next.new.self = search rules in
-    let looked : IsLookNoted moment c.args.end.now.phase c.args.end.now.writer.now line c.lines.reserved c.settle_line.new.reserved = search rules in
-    let done = look-taken moment c.args.end.now.phase c.args.end.now.writer.now lane lines c.lines.at line c.args.reserved.now c.lines.reserved c.settle_line.new.reserved c.lines-test.true c.index-lines-at.is own
-    (omega (arith, is_lane, c.requires.another)) looked so_far.spare so_far.taken in
+    let lane_answer : IsLaneReadNoted moment c.args.end.now.phase c.args.end.now.writer.now line c.lines.reserved c.settle_line.new.reserved = search rules in
+    let done = lane_read-taken moment c.args.end.now.phase c.args.end.now.writer.now lane lines c.lines.at line c.args.reserved.now c.lines.reserved c.settle_line.new.reserved c.lines-test.true c.index-lines-at.is own
+    (omega (arith, is_lane, c.requires.another)) lane_answer so_far.spare so_far.taken in
     record {
-      sights = known-rest moment lines c.args.end.now.writer.now.published (into_iter_items c.lines.rest) (into_iter_items c.next.new.self) c.next.result are so_far.sights;
+      observations = known-rest moment lines c.args.end.now.writer.now.published (into_iter_items c.lines.rest) (into_iter_items c.next.new.self) c.next.result are so_far.observations;
       whole = search rules;
       spare = done.spare;
       taken = done.taken;

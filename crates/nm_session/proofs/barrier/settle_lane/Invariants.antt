@@ -4,14 +4,14 @@ use Rattle.nm_history.specs.Call.{lines_of_lane}
 use Rattle.nm_history.specs.LineResult.{Place}
 use Rattle.nm_session.specs.Loop.{AreTaken}
 use Rattle.nm_trace.specs.ReservedLog.{HasSpare}
-use Rattle.nm_session.specs.Sights.{AreKnown}
+use Rattle.nm_session.specs.Observations.{AreKnown}
 use Rattle.nm_session.specs.Turns.{planned_line}
 use Rattle.nm_session.proofs.barrier.settle_lane.Given as goal
 
 -- the lines so far are noted, and for the others there are places
 abbrev pub invariant-lines : goal.invariant-lines
 invariant-lines l = record {
-  sights : AreKnown l.end.setting.now.moment l.lines l.end.writer.now.published (into_iter_items l.rest);
+  observations : AreKnown l.end.setting.now.moment l.lines l.end.writer.now.published (into_iter_items l.rest);
   whole : into_iter_len l.rest ≡ length (into_iter_items l.rest);
   spare : HasSpare (length (lines_of_lane (drop l.at l.lines) l.lane)) (length l.end.writer.now.begun) l.reserved;
   taken : (place : Place) → place.writer ≡ l.end.writer.now

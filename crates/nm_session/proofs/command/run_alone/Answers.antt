@@ -28,15 +28,15 @@ run_line-requires-clause-spare g c =
     } in
     search (rules, spare)
 
-pub note_meeting-requires : goal.note_meeting-requires
-note_meeting-requires g c =
+pub note_barrier-requires : goal.note_barrier-requires
+note_barrier-requires g c =
     let noted = c.run_line.ensures.noted (in_lane 1 0 c.requires.asked.0 c.requires.asked.1.0) (alone c.requires.asked.0 c.requires.asked.1.0 c.args.prepared c.requires.asked.1.1) in
     omega (arith, noted.marks_spare, noted.within, c.requires.spare.marks, c.requires.few)
 
 pub returns-clause-ran : goal.returns-clause-ran
 returns-clause-ran g c = λ words input asked.
     let done = c.run_line in
-    let met = c.note_meeting in
+    let met = c.note_barrier in
     let desk = done.new.desk in
     let all : HasRunAlone c.args.crew.now.setting.now.moment (place_at c.args.writer.now (g.M.Maildir.observed c.args.mail.now) (g.D.Disk.observed c.args.disk.now) _) (in_lane 1 0 words input) c.args.reserved.now met.new.self
     desk.writer.now (g.M.Maildir.observed desk.mail.now) (g.D.Disk.observed desk.disk.now) = record {

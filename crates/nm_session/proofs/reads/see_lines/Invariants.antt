@@ -1,9 +1,9 @@
 use Rattle.nm_publish.specs.Published.{GoesOn}
-use Rattle.nm_session.specs.Sights.{AreSights}
+use Rattle.nm_session.specs.Observations.{AreObservations}
 use Rattle.nm_session.proofs.reads.see_lines.Given as goal
 
 abbrev pub invariant-lines : goal.invariant-lines
 invariant-lines l = record {
   grown : GoesOn l.initial.reader l.reader;
-  sights : AreSights l.setting.moment l.lines l.reader l.sights;
+  observations : AreObservations l.setting.moment l.lines l.reader l.observations;
 }

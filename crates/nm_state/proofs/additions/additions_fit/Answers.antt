@@ -6,18 +6,18 @@ use Rattle.nm_base.specs.declared.facts.Facts.{Facts}
 use Rattle.nm_commit.specs.Files.{changed}
 use Rattle.nm_commit.specs.declared.change.Change.{Change}
 use Rattle.nm_state.specs.Additions.{AreWith, IsTried}
-use Rattle.nm_tables.specs.Filing.{files_in}
+use Rattle.nm_tables.specs.FileTable.{files_in}
 use Rattle.nm_state.specs.declared.additions.Added.{Added}
 use Rattle.nm_parts.specs.ChangeLaws.{fit_at, fit_more}
 use Rattle.nm_state.proofs.additions.additions_fit.Goals as goal
 
--- what was told of a change
+-- what was known of a change
 abbrev Told : List (List ℕ × Facts) → Change → Added → Added → Option Bool → Type 0
 Told before change old new told = IfSome told (λ fits. IsTried before change old new fits)
 
 pub returns-then-not-fits : goal.returns-then-not-fits
 returns-then-not-fits c =
-    let before = files_in c.args.filing.now in
+    let before = files_in c.args.file_table.now in
     let after = fold changed before (take c.changes.change-index c.args.changes.now) in
     let tried = subst (Told before c.change-item.result c.changes.added c.try_change.new.added) c.in-Some.is c.in_ok-fits.ensures in (
       λ none. absurd (cc none),
@@ -26,7 +26,7 @@ returns-then-not-fits c =
 
 pub changes-preserved : goal.changes-preserved
 changes-preserved c =
-    let before = files_in c.args.filing.now in
+    let before = files_in c.args.file_table.now in
     let after = fold changed before (take c.changes.change-index c.args.changes.now) in
     let tried = subst (Told before c.change-item.result c.changes.added c.try_change.new.added) c.in-Some.is c.in_ok-fits.ensures in
     let more : fold changed before (take (c.changes.change-index + 1) c.args.changes.now) ≡ changed after c.change-item.result =

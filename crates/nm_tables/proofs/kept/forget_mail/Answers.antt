@@ -6,7 +6,7 @@ use Rattle.std.specs.List.{filter}
 use Rattle.std.specs.Map.{values_of}
 use Rattle.std.specs.Ordering.{nat_cmp}
 use Rattle.nm_base.specs.declared.facts.LinkRow.{LinkRow}
-use Rattle.nm_tables.specs.Filing.{at_text}
+use Rattle.nm_tables.specs.FileTable.{at_text}
 use Rattle.nm_tables.specs.Kept.{HasNoRow}
 use Rattle.nm_tables.proofs.MailRowLemmas.{kept_less, no_more, one_less, others, shorter}
 use Rattle.nm_tables.proofs.kept.forget_mail.Goals as goal

@@ -1,6 +1,6 @@
 use Rattle.std.proofs.Common.{◌≡◌, ◌≤◌, ◌++◌, length}
 use Rattle.std.specs.Vec.Iter.{into_iter_items, into_iter_len}
-use Rattle.nm_trace.specs.Marks.{steps_of}
+use Rattle.nm_trace.specs.Trace.{steps_of}
 use Rattle.nm_trace.proofs.machine_steps.push_steps.Given as goal
 
 -- the steps so far, and those of the marks that are left, are all

@@ -1,5 +1,5 @@
 use Rattle.std.proofs.Common.{reverse}
-use Rattle.nm_mime.specs.Pending.{entities_to_come}
+use Rattle.nm_mime.specs.OpenParts.{entities_to_come}
 use Rattle.nm_mime.proofs.PartReaderLemmas.{next_inside, next_stand, no_parts}
 use Rattle.nm_mime.proofs.TreeLemmas.{part_then_rest}
 use Rattle.nm_mime.proofs.part_reader.PartReader.next.Goals as goal

@@ -5,14 +5,14 @@ use Rattle.nm_history.specs.Call.{lines_of_lane}
 use Rattle.nm_lanes.specs.declared.script.Phase.{Phase}
 use Rattle.nm_lanes.specs.declared.script.ScriptLine.{ScriptLine}
 use Rattle.nm_line.specs.Line.{place_at}
-use Rattle.nm_session.specs.Loop.{AreTaken, IsMeetingNoted}
+use Rattle.nm_session.specs.Loop.{AreTaken, IsBarrierNoted}
 use Rattle.nm_session.specs.Phases.{IsReady}
 use Rattle.nm_trace.specs.ReservedLog.{HasSpare}
-use Rattle.nm_session.specs.Sights.{HasLooked, HasSeen, IsLaneAt, KeepsLane}
+use Rattle.nm_session.specs.Observations.{HasAnswered, HasSeen, IsLaneAt, KeepsLane}
 use Rattle.nm_session.specs.Turns.{other_lanes, planned_line, planned_phase}
 use Rattle.nm_session.proofs.PhaseLemmas.{book-all}
 use Rattle.nm_session.proofs.RunLemmas.{phase-taken, room-to-meet, spare-others, spare-zeros}
-use Rattle.nm_session.proofs.SightLemmas.{all-through, got, lane-kept, lane-looked, lane-seen, some-same}
+use Rattle.nm_session.proofs.ObservationLemmas.{all-through, got, lane-kept, lane-lane_answer, lane-seen, some-same}
 use Rattle.nm_session.proofs.phases.Stage.run_one.Goals as goal
 use Rattle.nm_writer.specs.Writer.{WriterState}
 
@@ -35,8 +35,8 @@ work-left-requires-clause-ready g c =
     }) in
     search (rules, ready)
 
-pub settle-requires-clause-looked : goal.settle-requires-clause-looked
-settle-requires-clause-looked g c =
+pub settle-requires-clause-lane_answer : goal.settle-requires-clause-lane_answer
+settle-requires-clause-lane_answer g c =
     let mail = g.M.Maildir in
     let disk = g.D.Disk in
     let moment = c.args.asked.now.crew.now.setting.now.moment in
@@ -51,12 +51,12 @@ settle-requires-clause-looked g c =
     let worked = work.ensures.worked in
     let taken = subst (λ (l : List ScriptLine). AreTaken moment (map (planned_line number) (lines_of_lane l 0)) old c.args.self.now.reserved.now work.new.self.reserved.now mid) lines_are worked.taken in
     let book : work.new.self.writer.now.published.book ≡ c.args.self.now.writer.now.published.book = book-all moment (map (planned_line number) (lines_of_lane phase.lines 0)) old mid c.args.self.now.reserved.now work.new.self.reserved.now taken in
-    let all = all-through (IsLaneAt moment phases number c.args.self.now.writer.now.published.book) HasSeen (HasLooked moment phase.lines c.args.self.now.writer.now.published.book)
-    (λ before after at seen. lane-looked moment phases number c.args.self.now.writer.now.published.book phase here before after at seen) c.args.lanes.now work.new.lanes c.requires.lanes work.ensures.seen in
-    let looked =
-    subst (λ (l : List ScriptLine). All (HasLooked moment l work.new.self.writer.now.published.book) work.new.lanes) (sym lines_are)
-    (subst (λ (b : Book). All (HasLooked moment phase.lines b) work.new.lanes) (sym book) all) in
-    search (rules, looked)
+    let all = all-through (IsLaneAt moment phases number c.args.self.now.writer.now.published.book) HasSeen (HasAnswered moment phase.lines c.args.self.now.writer.now.published.book)
+    (λ before after at seen. lane-lane_answer moment phases number c.args.self.now.writer.now.published.book phase here before after at seen) c.args.lanes.now work.new.lanes c.requires.lanes work.ensures.seen in
+    let lane_answer =
+    subst (λ (l : List ScriptLine). All (HasAnswered moment l work.new.self.writer.now.published.book) work.new.lanes) (sym lines_are)
+    (subst (λ (b : Book). All (HasAnswered moment phase.lines b) work.new.lanes) (sym book) all) in
+    search (rules, lane_answer)
 
 pub settle-requires-clause-spare : goal.settle-requires-clause-spare
 settle-requires-clause-spare g c =
@@ -77,8 +77,8 @@ settle-requires-clause-spare g c =
     subst (λ (l : List ScriptLine). HasSpare (length (flat_map (lines_of_lane l) other_lanes)) (length work.new.self.writer.now.begun) work.new.self.reserved.now) (sym lines_are)
     (spare-others moment number phase old mid c.args.self.now.reserved.now work.new.self.reserved.now taken (c.requires.spare phase here))
 
-pub note_meeting-requires : goal.note_meeting-requires
-note_meeting-requires g c =
+pub note_barrier-requires : goal.note_barrier-requires
+note_barrier-requires g c =
     let mail = g.M.Maildir in
     let disk = g.D.Disk in
     let moment = c.args.asked.now.crew.now.setting.now.moment in
@@ -94,10 +94,10 @@ note_meeting-requires g c =
     let taken = subst (λ (l : List ScriptLine). AreTaken moment (map (planned_line number) (lines_of_lane l 0)) old c.args.self.now.reserved.now work.new.self.reserved.now mid) lines_are worked.taken in
     let book : work.new.self.writer.now.published.book ≡ c.args.self.now.writer.now.published.book = book-all moment (map (planned_line number) (lines_of_lane phase.lines 0)) old mid c.args.self.now.reserved.now work.new.self.reserved.now taken in
     let settle = c.settle in
-    let looked = subst (λ (l : List ScriptLine). AreTaken moment (map (planned_line number) (flat_map (lines_of_lane l) other_lanes)) mid work.new.self.reserved.now settle.new.reserved mid) lines_are
+    let lane_answer = subst (λ (l : List ScriptLine). AreTaken moment (map (planned_line number) (flat_map (lines_of_lane l) other_lanes)) mid work.new.self.reserved.now settle.new.reserved mid) lines_are
     (settle.ensures.taken mid refl) in
     let spare = c.requires.spare phase here in
-    room-to-meet moment number phase old mid c.args.self.now.reserved.now work.new.self.reserved.now taken spare settle.new.reserved looked worked.few
+    room-to-meet moment number phase old mid c.args.self.now.reserved.now work.new.self.reserved.now taken spare settle.new.reserved lane_answer worked.few
 
 pub returns-clause-taken : goal.returns-clause-taken
 returns-clause-taken g c = λ asked is.
@@ -116,16 +116,16 @@ returns-clause-taken g c = λ asked is.
     let taken = subst (λ (l : List ScriptLine). AreTaken moment (map (planned_line number) (lines_of_lane l 0)) old c.args.self.now.reserved.now work.new.self.reserved.now mid) lines_are worked.taken in
     let book : work.new.self.writer.now.published.book ≡ c.args.self.now.writer.now.published.book = book-all moment (map (planned_line number) (lines_of_lane phase.lines 0)) old mid c.args.self.now.reserved.now work.new.self.reserved.now taken in
     let settle = c.settle in
-    let looked = subst (λ (l : List ScriptLine). AreTaken moment (map (planned_line number) (flat_map (lines_of_lane l) other_lanes)) mid work.new.self.reserved.now settle.new.reserved mid) lines_are
+    let lane_answer = subst (λ (l : List ScriptLine). AreTaken moment (map (planned_line number) (flat_map (lines_of_lane l) other_lanes)) mid work.new.self.reserved.now settle.new.reserved mid) lines_are
     (settle.ensures.taken mid refl) in
     let spare = c.requires.spare phase here in
     let same : phase ≡ asked = some-same phase asked (sym here ∙ is) in
-    let met = c.note_meeting in
-    let meeting : IsMeetingNoted settle.new.reserved met.new.self =
+    let met = c.note_barrier in
+    let last_barrier : IsBarrierNoted settle.new.reserved met.new.self =
     record { marks = met.ensures.marks; marks_spare = met.ensures.marks_spare; logs = met.ensures.logs; steps = met.ensures.steps; fallbacks = met.ensures.fallbacks } in
     subst (λ (p : Phase). AreTaken moment (planned_phase number p) old c.args.self.now.reserved.now met.new.self (place_at settle.new.writer (mail.observed work.new.self.mail.now) (disk.observed work.new.self.disk.now) work.result)) same
     (subst (λ (w : WriterState). AreTaken moment (planned_phase number phase) old c.args.self.now.reserved.now met.new.self (place_at w (mail.observed work.new.self.mail.now) (disk.observed work.new.self.disk.now) work.result)) (sym settle.ensures.writer)
-    (phase-taken moment number phase old mid c.args.self.now.reserved.now work.new.self.reserved.now taken spare settle.new.reserved looked met.new.self meeting))
+    (phase-taken moment number phase old mid c.args.self.now.reserved.now work.new.self.reserved.now taken spare settle.new.reserved lane_answer met.new.self last_barrier))
 
 pub returns-clause-lanes : goal.returns-clause-lanes
 returns-clause-lanes g c =

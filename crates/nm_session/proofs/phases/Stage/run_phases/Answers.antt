@@ -5,14 +5,14 @@ use Rattle.nm_io.specs.Observed.{ObservedSink}
 use Rattle.nm_lanes.specs.declared.script.Phase.{Phase}
 use Rattle.nm_log.specs.declared.log.LineLog.{LineLog}
 use Rattle.nm_line.specs.Line.{place_at}
-use Rattle.nm_session.specs.Printing.{PrintsRest}
+use Rattle.nm_session.specs.PrintedReplies.{PrintsRest}
 use Rattle.nm_trace.specs.ReservedLog.{HasSpare}
 use Rattle.nm_session.specs.Turns.{places_in, planned_phase}
 use Rattle.nm_session.proofs.EndLemmas.{noted-none, some-none}
 use Rattle.nm_session.proofs.PhaseLemmas.{steps-all}
 use Rattle.nm_session.proofs.PrintLemmas.{printed-none}
 use Rattle.nm_session.proofs.RunLemmas.{failed-there, noted-there, printed-there, printed-within, some-there, spare-here, spare-there}
-use Rattle.nm_session.proofs.SightLemmas.{some-same}
+use Rattle.nm_session.proofs.ObservationLemmas.{some-same}
 use Rattle.nm_session.proofs.TurnLemmas.{get-some}
 use Rattle.nm_session.proofs.phases.Stage.run_phases.Goals as goal
 

@@ -8,7 +8,7 @@ use Rattle.nm_line.specs.Line.{place_at}
 use Rattle.nm_session.specs.Loop.{HasNoted, HasRunSome}
 use Rattle.nm_line.specs.Desk.{Stands}
 use Rattle.nm_trace.specs.ReservedLog.{HasSpare}
-use Rattle.nm_session.specs.Sights.{IsLaneAt}
+use Rattle.nm_session.specs.Observations.{IsLaneAt}
 use Rattle.nm_session.specs.Turns.{places_in, planned_from}
 use Rattle.nm_session.specs.Stage.{KeepsLoans}
 use Rattle.nm_session.proofs.phases.Stage.run_phases.Given as goal

@@ -1,5 +1,5 @@
 use Rattle.std.proofs.Common.{◌∙◌, ap, sym}
-use Rattle.nm_tables.specs.Filing.{at_text}
+use Rattle.nm_tables.specs.FileTable.{at_text}
 use Rattle.nm_tables.proofs.SortedLemmas.{found_sorted}
 use Rattle.nm_tables.proofs.message_tags.MessageTags.get.Goals as goal
 

@@ -1,6 +1,6 @@
 use Rattle.std.proofs.Common.{◌≡◌, ◌∙◌, ap, subst, sym, ℕ, List}
 use Rattle.std.specs.Prelude.{MatchOption, Option, None, Some}
-use Rattle.nm_tables.specs.Filing.{at_text}
+use Rattle.nm_tables.specs.FileTable.{at_text}
 use Rattle.nm_tables.proofs.SortedLemmas.{found_sorted}
 use Rattle.nm_tables.proofs.message_tags.MessageTags.get_near.Goals as goal
 

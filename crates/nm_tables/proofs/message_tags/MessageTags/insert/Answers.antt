@@ -2,7 +2,7 @@ use Rattle.std.proofs.Common.{◌∙◌, ap, sym, cond, Some}
 use Rattle.std.specs.BTreeMap.{insert_entry}
 use Rattle.std.specs.Cmp.Lexicographic.{slice_cmp}
 use Rattle.std.specs.Ordering.{is_eq, nat_cmp}
-use Rattle.nm_tables.specs.Filing.{at_text}
+use Rattle.nm_tables.specs.FileTable.{at_text}
 use Rattle.nm_tables.specs.Measures.{all_tags_len}
 use Rattle.nm_tables.proofs.SortedLemmas.{found_with, sorted_with}
 use Rattle.nm_tables.proofs.message_tags.MessageTags.insert.Goals as goal

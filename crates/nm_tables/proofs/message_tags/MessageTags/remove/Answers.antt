@@ -3,7 +3,7 @@ use Rattle.std.specs.BTreeMap.{is_at}
 use Rattle.std.specs.Cmp.Lexicographic.{slice_cmp}
 use Rattle.std.specs.Map.{remove_entry}
 use Rattle.std.specs.Ordering.{is_eq, nat_cmp}
-use Rattle.nm_tables.specs.Filing.{at_text}
+use Rattle.nm_tables.specs.FileTable.{at_text}
 use Rattle.nm_tables.specs.Measures.{all_tags_len}
 use Rattle.nm_tables.proofs.SortedLemmas.{found_without, sorted_without}
 use Rattle.nm_tables.proofs.message_tags.MessageTags.remove.Goals as goal

@@ -1,9 +1,9 @@
 use Rattle.std.proofs.Common.{rules, List, sym, subst, ◌∙◌}
 use Rattle.std.proofs.lemmas.Bool.{eqb-true, eqb-false}
 use Rattle.nm_commit.specs.declared.change.Commit.{Commit}
-use Rattle.nm_writer.specs.Writing.{HasCommitted, IsAfterCommits}
+use Rattle.nm_writer.specs.AfterCommit.{HasCommitted, IsAfterCommits}
 use Rattle.nm_writer.proofs.DoneLemmas.{none-made, one-made}
-use Rattle.nm_writer.proofs.TaggingLemmas.{commit-of-none, commit-of-some, fits-alone}
+use Rattle.nm_writer.proofs.TagCommandLemmas.{commit-of-none, commit-of-some, fits-alone}
 use Rattle.nm_writer.proofs.writer.Writer.commit_changes.Goals as goal
 
 pub returns-then-is_empty-clause-after : goal.returns-then-is_empty-clause-after

@@ -10,7 +10,7 @@ use Rattle.nm_index.specs.Index.{committed}
 use Rattle.nm_journal.specs.Journal.{JournalState, ReceiptState}
 use Rattle.nm_publish.specs.Published.{index_of, with_commit}
 use Rattle.nm_writer.specs.Writer.{WriterState}
-use Rattle.nm_writer.specs.Writing.{IsWithin}
+use Rattle.nm_writer.specs.AfterCommit.{IsWithin}
 use Rattle.nm_writer.proofs.CommitLemmas.{any-moment, index-more, journal-stands, others, staged-published, stands-after}
 use Rattle.nm_writer.proofs.writer.Writer.make.Goals as goal
 

@@ -8,7 +8,7 @@ use Rattle.nm_sync.specs.Listed.{HasListed}
 use Rattle.nm_sync.specs.Noted.{since}
 use Rattle.nm_writer.proofs.NewLemmas.{after-let_go, after-refused, asks-refused, gone-fit, unknown-listed}
 use Rattle.nm_writer.specs.Batch.{IsAfterBatches}
-use Rattle.nm_writer.specs.Writing.{IsAfterCommits}
+use Rattle.nm_writer.specs.AfterCommit.{IsAfterCommits}
 use Rattle.nm_writer.proofs.writer.Writer.scan_and_take_in.Goals as goal
 
 pub take_in_batches-requires-clause-unknown : goal.take_in_batches-requires-clause-unknown
@@ -26,7 +26,7 @@ let_go-requires-clause-fit g c =
     let listed = subst (λ (b : Base). HasListed old.tree b.files c.args.given.now c.compare.new.given c.in-Ok.compared) c.snapshot.ensures here.ok in
     let made = subst (λ (m : ObservedMail). IsAfterBatches {T = Unit {0}} (record { mail = m; given = c.compare.new.given }) (record { mail = mail.observed new.mail; given = new.given })
     c.in-Ok.compared.unknown c.args.self.now 0 (Ok tt) new.self) here.mail c.in-Ok-take_in_batches.ensures.after in
-    let fit = subst (λ (l : List Change). FitInTurn new.self.shown (commit_of new.self.shown l c.in-Ok.compared.gone_ids)) (sym c.in_ok-went.ensures)
+    let fit = subst (λ (l : List Change). FitInTurn new.self.shown (commit_of new.self.shown l c.in-Ok.compared.removed_ids)) (sym c.in_ok-went.ensures)
     (gone-fit (record { fits = c.new_commits_fit.ensures; in_one = c.batches_are_what_was_read.ensures }) c.args.given.now
     (record { mail = old; given = c.compare.new.given }) (record { mail = mail.observed new.mail; given = new.given })
     c.in-Ok.compared c.args.self.now listed new.self made.0 made.1 made.2) in
@@ -48,7 +48,7 @@ returns-in-Ok-take_in_batches-clause-after g c =
     compared c.args.self.now listed new.self made.0 made.1 made.2 c.let_go.new.self faults c.let_go.result c.len-removed.result c.in_ok-before.before c.split_at.result.1.now
     c.len-removed.ensures (c.in_ok-before.ensures ∙ c.snapshot-2.ensures)
     (c.split_at.ensures.back ∙ (ap (λ (n : ℕ). drop n c.as_slice.result.now) c.len-given_before.ensures ∙ ap (since c.args.given.now) c.as_slice.ensures))
-    (subst (λ (l : List Change). IsAfterCommits new.self (commit_of new.self.shown l compared.gone_ids) faults c.let_go.result c.let_go.new.self) c.in_ok-went.ensures c.let_go.ensures.after) c.let_go.ensures.report
+    (subst (λ (l : List Change). IsAfterCommits new.self (commit_of new.self.shown l compared.removed_ids) faults c.let_go.result c.let_go.new.self) c.in_ok-went.ensures c.let_go.ensures.after) c.let_go.ensures.report
 
 pub returns-clause-after : goal.returns-clause-after
 returns-clause-after g c =

@@ -3,16 +3,16 @@ use Rattle.nm_commit.specs.declared.change.Change.{Change}
 use Rattle.nm_index.specs.Fits.{FitInTurn}
 use Rattle.nm_index.specs.declared.base.Base.{Base}
 use Rattle.nm_plan.specs.Apart.{AreApart}
-use Rattle.nm_answer.specs.Renaming.{renames_for}
+use Rattle.nm_answer.specs.RenameOutcomes.{renames_for}
 use Rattle.nm_plan.specs.Numbering.{AreNumbered}
-use Rattle.nm_plan.specs.Tagging.{commit_with, tag_changes, tag_commit}
+use Rattle.nm_plan.specs.TagCommit.{commit_with, tag_changes, tag_commit}
 use Rattle.nm_sync.specs.Noted.{since}
 use Rattle.nm_writer.specs.Tagged.{IsAfterTags}
 use Rattle.nm_writer.specs.Writer.{WriterState}
-use Rattle.nm_writer.specs.Writing.{HasCommitted, IsAfterCommits}
+use Rattle.nm_writer.specs.AfterCommit.{HasCommitted, IsAfterCommits}
 use Rattle.nm_writer.specs.declared.write_error.WriteError.TheVariants as errors
 use Rattle.nm_writer.proofs.NotedLemmas.{since-none}
-use Rattle.nm_writer.proofs.TaggingLemmas.{moves-fit, nothing-set, tags-refused, tags-then}
+use Rattle.nm_writer.proofs.TagCommandLemmas.{moves-fit, nothing-set, tags-refused, tags-then}
 use Rattle.nm_writer.proofs.writer.Writer.set_tags.Goals as goal
 
 pub returns-in_err-planned-clause-after : goal.returns-in_err-planned-clause-after

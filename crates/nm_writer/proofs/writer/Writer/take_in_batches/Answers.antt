@@ -4,7 +4,7 @@ use Rattle.std.proofs.lemmas.List.{nil_from_length}
 use Rattle.nm_faults.specs.Faults.{Counts}
 use Rattle.nm_writer.proofs.BatchLemmas.{all_batches, batch_smaller, in_batches, next_fits, next_in_batches, refused_batches}
 use Rattle.nm_writer.specs.Batch.{AreUnknown, IsAfterBatches}
-use Rattle.nm_writer.specs.Writing.{is_read_fault, is_write_fault}
+use Rattle.nm_writer.specs.AfterCommit.{is_read_fault, is_write_fault}
 use Rattle.nm_writer.proofs.writer.Writer.take_in_batches.Goals as goal
 
 pub batches-init : goal.batches-init

@@ -1,10 +1,10 @@
 use Rattle.std.proofs.Common.{rules, ◌≡◌, Err, refl, sym, subst}
-use Rattle.nm_answer.specs.Tagging.{wanted_by}
+use Rattle.nm_answer.specs.WantedTags.{wanted_by}
 use Rattle.nm_sync.specs.Noted.{since}
 use Rattle.nm_writer.specs.Tagged.{IsAfterTags}
 use Rattle.nm_writer.specs.declared.write_error.WriteError.TheVariants as errors
 use Rattle.nm_writer.proofs.NotedLemmas.{since-none}
-use Rattle.nm_writer.proofs.TaggingLemmas.{nothing-set}
+use Rattle.nm_writer.proofs.TagCommandLemmas.{nothing-set}
 use Rattle.nm_writer.proofs.writer.Writer.want_and_set.Goals as goal
 
 pub returns-in-Err-clause-after : goal.returns-in-Err-clause-after

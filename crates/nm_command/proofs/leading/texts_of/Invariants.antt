@@ -1,5 +1,0 @@
-use Rattle.std.proofs.Common.{◌≡◌, map, take}
-use Rattle.nm_command.proofs.leading.texts_of.Given as goal
-
-abbrev pub invariant-words : goal.invariant-words
-invariant-words l = map (λ text. text.now) l.texts.items ≡ take l.word-index l.words

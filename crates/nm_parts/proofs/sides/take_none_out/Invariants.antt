@@ -1,7 +1,0 @@
-use Rattle.std.proofs.Common.{take}
-use Rattle.std.specs.List.{AllByRecursion}
-use Rattle.nm_parts.specs.Sides.{TakesNoneOut}
-use Rattle.nm_parts.proofs.sides.take_none_out.Given as goal
-
-abbrev pub invariant-changes : goal.invariant-changes
-invariant-changes l = AllByRecursion TakesNoneOut (take l.change-index l.changes)

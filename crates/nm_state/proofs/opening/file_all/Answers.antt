@@ -1,6 +1,0 @@
-use Rattle.nm_tables.specs.Filing.{files_in}
-use Rattle.nm_state.proofs.OpeningLemmas.{next_is_free}
-use Rattle.nm_state.proofs.opening.file_all.Goals as goal
-
-pub add_file-requires-clause-new : goal.add_file-requires-clause-new
-add_file-requires-clause-new c = next_is_free c.args.files.now (files_in c.files.filing) c.files.file-index c.file-item.result c.requires.paths c.files-test.true c.files.invariant.files c.file-item.is

@@ -1,5 +1,0 @@
-use Rattle.std.proofs.Common.{◌≡◌, take}
-use Rattle.nm_state.proofs.opening.tag_all.Given as goal
-
-abbrev pub invariant-tags : goal.invariant-tags
-invariant-tags l = l.all ≡ take l.tagged-index l.tags
