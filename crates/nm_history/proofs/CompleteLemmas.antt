@@ -13,6 +13,7 @@ use Rattle.nm_disk.specs.declared.disk.FileNo.TheVariants.{Head}
 use Rattle.nm_index.specs.declared.base.Base.{Base}
 use Rattle.nm_io.specs.Observed.{ObservedSink}
 use Rattle.nm_lanes.specs.declared.script.Phase.{Phase}
+use Rattle.nm_log.specs.Kind.{DumpLines, NoQuery, OwnQuery, QueryLines, Source, TaggingLines, reads_lines, source_of}
 use Rattle.nm_log.specs.ParsedLine.{parse_line, parse_single, reads_input}
 use Rattle.nm_log.specs.declared.line_parser.ParsedLine.{ParsedLine}
 use Rattle.nm_log.specs.declared.line_parser.ParsedLine.TheVariants as asked
@@ -24,9 +25,7 @@ use Rattle.nm_machine.specs.declared.step.Step.{Step}
 use Rattle.nm_maildir.specs.Observed.{ObservedMail}
 use Rattle.nm_maildir.specs.declared.given.Given.{Given}
 use Rattle.nm_faults.specs.Faults.{Counts}
-use Rattle.nm_answer.specs.BatchLines.{queries_in, taggings_in}
 use Rattle.nm_answer.specs.declared.request.Request.{Request}
-use Rattle.nm_answer.specs.declared.request.Request.TheVariants as requests
 use Rattle.nm_query.specs.Answers.{answer_of}
 use Rattle.nm_query.specs.declared.query.Query.{Query}
 use Rattle.nm_query.specs.declared.query_error.QueryError.{QueryError}
@@ -41,7 +40,7 @@ use Rattle.nm_history.specs.LineAnswers.{HasAnswer, HasCause, LaneAnswers, LineA
 use Rattle.nm_history.specs.Lines.{Along, Before, RunLine, after_line, after_lines, at_first, is_in_lane_zero, lane_zero_lines, lines_run, other_lane_lines}
 use Rattle.nm_history.specs.PrintedOut.{AreLogsOf, GainsReplies, PrintedOut}
 use Rattle.nm_history.specs.Refusals.{IsInputPassed, IsRead, IsRefusedFor, PassesBefore, RefusesLine, TakesInput}
-use Rattle.nm_history.specs.Requests.{bad_line_in, first_bad_line, first_refusal, own_query, refused_line, refused_query, refused_text}
+use Rattle.nm_history.specs.Requests.{bad_line_of, first_bad_line, first_refusal, own_query, refused_line, refused_query, refused_text}
 use Rattle.nm_history.specs.Status.{Status, any_is_out_of_memory, fault_of, fault_or, first_fault, session_status, single_status, status_by, status_of_fault, write_fault}
 
 -- each line has its log
@@ -226,14 +225,15 @@ not-passed limit read input call right within passed =
     within-limits limit read input call passed.2 (subst (λ (b : Bool). MayRead b input call) passed.1 within)
 
 -- a call that reads no input is not refused for it
+no-lines : (source : Source) (input : List ℕ) → reads_lines source ≡ false → bad_line_of source input ≡ None
+no-lines NoQuery input reads = refl
+no-lines (OwnQuery text) input reads = refl
+no-lines QueryLines input reads = absurd (cc)
+no-lines (TaggingLines clear) input reads = absurd (cc)
+no-lines (DumpLines form) input reads = absurd (cc)
+
 pub unread-lines : (request : Request) (input : List ℕ) → reads_input request ≡ false → first_bad_line request input ≡ None
-unread-lines requests.New input reads = refl
-unread-lines (requests.Count ask) input reads = ap (λ (b : Bool). if b then bad_line_in (queries_in input) else None) reads
-unread-lines (requests.Search ask) input reads = refl
-unread-lines (requests.Dump ask) input reads = refl
-unread-lines (requests.Show ask) input reads = refl
-unread-lines (requests.Tag ask) input reads = ap (λ (b : Bool). if b then bad_line_in (taggings_in ask.clear input) else None) reads
-unread-lines (requests.Restore ask) input reads = absurd (cc)
+unread-lines request input reads = no-lines (source_of request) input reads
 
 unread-command : (parsed : ParsedLine) (input : List ℕ) → command_reads parsed ≡ false → fault_of_input parsed input ≡ None
 unread-command (asked.Usage word kind) input reads = refl

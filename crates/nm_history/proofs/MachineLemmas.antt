@@ -8,7 +8,6 @@ use Rattle.nm_base.specs.Order.{same_text}
 use Rattle.nm_answer.specs.declared.request.Request.{Request}
 use Rattle.nm_answer.specs.declared.request.Request.TheVariants as requests
 use Rattle.nm_answer.specs.Answer.{answer, is_reply}
-use Rattle.nm_answer.specs.BatchLines.{queries_in}
 use Rattle.nm_answer.specs.Count.{batch_answer, words_answer}
 use Rattle.nm_answer.specs.Dump.{dump_answer}
 use Rattle.nm_answer.specs.Found.{search_answer}
@@ -32,11 +31,11 @@ use Rattle.nm_history.specs.LineAnswers.{HasCause, line_text}
 use Rattle.nm_history.specs.LineResult.{IsLineResult, Place, StandsAt, before_at, begin_step, commit_steps, line_steps, reply_step}
 use Rattle.nm_history.specs.Lines.{Before, RunLine, after_lines, at_first, is_in_lane_zero, lane_zero_lines}
 use Rattle.nm_history.specs.MachineRun.{IsAtRest, LaneStep, MachineRun, NeverStops, Replied, commit_phases_from, commit_phases_of, commit_steps_in, is_of_lane, is_stop, lane_count, lane_steps_from, next, phase_after, replied_where, reply_in, reply_to}
-use Rattle.nm_history.specs.Requests.{bad_line_in, first_refusal, refused_closed, refused_line, refused_query, refused_text, refused_unasked}
+use Rattle.nm_log.specs.Kind.{OwnQuery, QueryLines}
+use Rattle.nm_history.specs.Requests.{bad_line_of, first_refusal, query_in, refused_closed, refused_line, refused_query, refused_text, refused_unasked}
 use Rattle.nm_query.specs.Answers.{answer_of}
 use Rattle.nm_query.specs.declared.query.Query.{Query}
 use Rattle.nm_query.specs.declared.query_error.QueryError.{QueryError}
-use Rattle.nm_tags.specs.declared.line_error.LineKind.{LineKind}
 use Rattle.nm_history.proofs.LineLemmas.{apart, before-next, begun-all, fold-append, one-on-way, revision-after, shown-all}
 use Rattle.nm_history.proofs.PhaseLemmas.{lane-more, lane-steps-append, phases-append, phases-line, phases-of-more, steps-in, zero-more, zero-steps}
 
@@ -241,18 +240,18 @@ module _ (moment : ℤ) where
   read-well (Err refusal) other text said e is = absurd (cc)
 
   -- and where it is read from an input, the machine takes any text
-  own-well : (batch : Bool) (query : List ℕ) (bad : Option (ℕ × LineKind)) (other : Option Outcome) (text many said none : List ℕ)
-      → first_refusal (first_refusal (refused_line (if batch then bad else None)) (refused_query (if batch then None else Some query))) other ≡ None
+  own-well : (batch : Bool) (query input : List ℕ) (other : Option Outcome) (text many said none : List ℕ)
+      → first_refusal (first_refusal (refused_line (bad_line_of (if batch then QueryLines else OwnQuery query) input)) (refused_query (query_in (if batch then QueryLines else OwnQuery query)))) other ≡ None
       → text ≡ (if batch then many else said) → (not (not batch) || (is_ok (answer_of query) && same_text text (if batch then none else said))) ≡ true
-  own-well true query bad other text many said none e is = refl
-  own-well false query bad other text many said none e is = read-well (answer_of query) other text said e is
+  own-well true query input other text many said none e is = refl
+  own-well false query input other text many said none e is = read-well (answer_of query) other text said e is
 
   -- the answer to a line is a reply that the machine takes
   pub right-reply : (request : Request) (input : List ℕ) (closed : Option ℕ) (before index : Base) (noted : List Given) (text : List ℕ) → refused_unasked (asked.Request request) input closed ≡ None
       → text ≡ answer request input before index moment noted → is_reply index moment request text ≡ true
   right-reply requests.New input closed before index noted text e is = refl
   right-reply (requests.Count ask) input closed before index noted text e is =
-      own-well ask.batch ask.query (bad_line_in (queries_in input)) (refused_closed closed false) text (batch_answer ask input index moment) (words_answer ask index moment) (batch_answer ask [] index moment) e is
+      own-well ask.batch ask.query input (refused_closed closed false) text (batch_answer ask input index moment) (words_answer ask index moment) (batch_answer ask [] index moment) e is
   right-reply (requests.Search ask) input closed before index noted text e is = read-well (answer_of ask.query) (refused_closed closed false) text (search_answer ask index moment) e is
   right-reply (requests.Dump ask) input closed before index noted text e is = read-well (answer_of ask.query) (refused_closed closed false) text (dump_answer ask index moment) e is
   right-reply (requests.Show ask) input closed before index noted text e is = refl

@@ -2,9 +2,8 @@
 -- For the proof of `a_refused_line_is_a_history`.
 use Rattle.std.proofs.Common.{◌≡◌, inl, inr, ℕ, ℤ, ◌||◌, ◌==◌, Bool, true, false, List, [], ◌∷◌, Option, None, Some, IfSome, if◌then◌else◌, codes, length, map, fold, Result, Ok, Err, refl, sym, ap, ◌∙◌, subst, arith}
 use Rattle.std.specs.Option.{option_map}
-use Rattle.nm_history.specs.Kind.{Kind, ReadsIndex, SetsTags, ShowsFiles, TakesMail, kind_of}
+use Rattle.nm_log.specs.Kind.{DumpLines, Kind, NoQuery, OwnQuery, QueryLines, ReadsIndex, SetsTags, ShowsFiles, Source, TaggingLines, TakesMail, kind_of, reads_lines, source_of}
 use Rattle.nm_answer.specs.declared.request.Request.{Request}
-use Rattle.nm_answer.specs.declared.request.Request.TheVariants as requests
 use Rattle.nm_base.specs.Limits.{max_mail_bytes}
 use Rattle.nm_base.specs.declared.refusals.UsageKind.TheVariants as kinds
 use Rattle.nm_disk.specs.Images.{IsImage}
@@ -43,7 +42,7 @@ use Rattle.nm_history.specs.Lines.{RunLine, after_lines, at_first, given_in, lan
 use Rattle.nm_history.specs.MachineRun.{MachineRun, Replied, replied_where}
 use Rattle.nm_history.specs.PrintedOut.{AreLogsOf, Prints}
 use Rattle.nm_history.specs.Refusals.{RefusesLine}
-use Rattle.nm_history.specs.Requests.{first_bad_line, first_refusal, is_writing, own_query, refused_closed, refused_line, refused_query, refused_text, refused_unasked}
+use Rattle.nm_history.specs.Requests.{first_bad_line, first_refusal, is_writing, own_query, query_in, refused_closed, refused_line, refused_query, refused_text, refused_unasked}
 use Rattle.nm_history.specs.UnaskedLine.{refused_done, refused_log}
 use Rattle.nm_history.proofs.BankLemmas.{refused-disk}
 use Rattle.nm_history.proofs.CompleteLemmas.{unread-lines}
@@ -66,18 +65,15 @@ fed-read : (request : Request) (input : List ℕ) → reads_input request ≡ tr
 fed-read request input reads = ap (λ (b : Bool). fed-by (b || length input == 0) request) reads
 
 -- what has a query of its own reads no lines
-batch-unread : (batch : Bool) (query : List ℕ) (why : Outcome) → refused_query (if batch then None else Some query) ≡ Some why → batch ≡ false
-batch-unread true query why e = absurd (cc)
-batch-unread false query why e = refl
+own-lines : (source : Source) (why : Outcome) → refused_query (query_in source) ≡ Some why → reads_lines source ≡ false
+own-lines NoQuery why e = refl
+own-lines (OwnQuery text) why e = refl
+own-lines QueryLines why e = absurd (cc)
+own-lines (TaggingLines clear) why e = absurd (cc)
+own-lines (DumpLines form) why e = absurd (cc)
 
 own-unread : (request : Request) (why : Outcome) → refused_query (own_query request) ≡ Some why → reads_input request ≡ false
-own-unread requests.New why e = refl
-own-unread (requests.Count ask) why e = batch-unread ask.batch ask.query why e
-own-unread (requests.Search ask) why e = refl
-own-unread (requests.Dump ask) why e = refl
-own-unread (requests.Show ask) why e = refl
-own-unread (requests.Tag ask) why e = batch-unread ask.batch ask.query why e
-own-unread (requests.Restore ask) why e = absurd (cc)
+own-unread request why e = own-lines (source_of request) why e
 
 -- how a request ends by the refusals of its lines, its query and its writing
 abbrev ends-by : Option Outcome → Option Outcome → Option Outcome → Option Outcome

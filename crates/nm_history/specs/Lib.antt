@@ -3,7 +3,6 @@ pub mod Complete
 pub mod CrashPrefix
 pub mod Given
 pub mod History
-pub mod Kind
 pub mod LineAnswers
 pub mod LineCommits
 pub mod LineResult

@@ -2,7 +2,7 @@
 -- Cited by `lane_zero_laws`, `nm_session` and `nm_top`.
 use Rattle.std.specs.Prelude.{◌≡◌, ◌⊎◌, ℕ, ℤ, ◌+◌, Bool, false, List, [], ◌∷◌, ◌++◌, drop, length, map, Option, None, Some, ⊤, if◌then◌else◌}
 use Rattle.nm_answer.specs.Changes.{wanted_for}
-use Rattle.nm_history.specs.Kind.{Kind, ReadsIndex, SetsTags, ShowsFiles, TakesMail, kind_of}
+use Rattle.nm_log.specs.Kind.{Kind, ReadsIndex, SetsTags, ShowsFiles, TakesMail, kind_of}
 use Rattle.nm_answer.specs.RenameOutcomes.{renames_done, renames_for}
 use Rattle.nm_answer.specs.declared.request.Request.{Request}
 use Rattle.nm_answer.specs.declared.request.Request.TheVariants.{New}

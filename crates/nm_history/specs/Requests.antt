@@ -3,13 +3,12 @@
 use Rattle.std.specs.Prelude.{ℕ, ℤ, ◌-◌, ◌||◌, List, [], ◌∷◌, length, Bool, true, false, Option, None, Some, Result, Ok, Err, if◌then◌else◌}
 use Rattle.nm_answer.specs.BatchLines.{queries_in, taggings_in}
 use Rattle.nm_answer.specs.DumpLines.{read_dump}
-use Rattle.nm_history.specs.Kind.{Kind, ReadsIndex, SetsTags, ShowsFiles, TakesMail, kind_of}
 use Rattle.nm_answer.specs.Show.{gone_path, is_not_one, lead_paths, shown_ids}
 use Rattle.nm_answer.specs.declared.request.Request.{Request}
-use Rattle.nm_answer.specs.declared.request.Request.TheVariants.{New, Count, Search, Dump, Show, Tag, Restore}
 use Rattle.nm_base.specs.declared.asks.ShowAsk.{ShowAsk}
 use Rattle.nm_base.specs.declared.limit.Limit.TheVariants.{ShowBytes}
 use Rattle.nm_index.specs.declared.base.Base.{Base}
+use Rattle.nm_log.specs.Kind.{DumpLines, Kind, NoQuery, OwnQuery, QueryLines, ReadsIndex, SetsTags, ShowsFiles, Source, TaggingLines, TakesMail, kind_of, source_of}
 use Rattle.nm_log.specs.declared.line_parser.ParsedLine.{ParsedLine}
 use Rattle.nm_log.specs.declared.line_parser.ParsedLine.TheVariants as asked
 use Rattle.nm_log.specs.declared.outcome.Outcome.{Outcome}
@@ -71,15 +70,17 @@ abbrev pub asks_to_tag : ParsedLine → Bool
 asks_to_tag (asked.Request request) = is_tagging request
 asks_to_tag (asked.Usage word kind) = false
 
+-- the query of the request's own words
+abbrev pub query_in : Source → Option (List ℕ)
+query_in NoQuery = None
+query_in (OwnQuery text) = Some text
+query_in QueryLines = None
+query_in (TaggingLines clear) = None
+query_in (DumpLines form) = None
+
 -- the text of its own query, where it has one: what reads its queries from an input has none
 abbrev pub own_query : Request → Option (List ℕ)
-own_query New = None
-own_query (Count ask) = if ask.batch then None else Some ask.query
-own_query (Search ask) = Some ask.query
-own_query (Dump ask) = Some ask.query
-own_query (Show ask) = Some ask.query
-own_query (Tag ask) = if ask.batch then None else Some ask.query
-own_query (Restore ask) = None
+own_query request = query_in (source_of request)
 
 -- how a line ends whose query has no tree
 abbrev pub query_outcome : QueryError → Outcome
@@ -101,15 +102,17 @@ refused_query (Some text) = refused_text (answer_of text)
 abbrev pub bad_line_in : {T : Type 0} → Result T (ℕ × LineKind) → Option (ℕ × LineKind)
 bad_line_in read = elim read [ Ok lines ↦ None | Err fault ↦ Some fault ]
 
+-- that of lines of this form
+abbrev pub bad_line_of : Source → List ℕ → Option (ℕ × LineKind)
+bad_line_of NoQuery input = None
+bad_line_of (OwnQuery text) input = None
+bad_line_of QueryLines input = bad_line_in (queries_in input)
+bad_line_of (TaggingLines clear) input = bad_line_in (taggings_in clear input)
+bad_line_of (DumpLines form) input = bad_line_in (read_dump input form)
+
 -- that of the lines that a request reads
 abbrev pub first_bad_line : Request → List ℕ → Option (ℕ × LineKind)
-first_bad_line New input = None
-first_bad_line (Count ask) input = if ask.batch then bad_line_in (queries_in input) else None
-first_bad_line (Search ask) input = None
-first_bad_line (Dump ask) input = None
-first_bad_line (Show ask) input = None
-first_bad_line (Tag ask) input = if ask.batch then bad_line_in (taggings_in ask.clear input) else None
-first_bad_line (Restore ask) input = bad_line_in (read_dump input ask.form)
+first_bad_line request input = bad_line_of (source_of request) input
 
 -- a request is refused that reads lines of which one is not of its form
 abbrev pub refused_line : Option (ℕ × LineKind) → Option Outcome

@@ -4,7 +4,7 @@ use Rattle.std.proofs.Common.{◌≡◌, ◌&&◌, inl, ℕ, ℤ, ◌+◌, Bool,
 use Rattle.std.specs.Option.{option_map, option_to_list}
 use Rattle.std.specs.Result.{IsErr}
 use Rattle.nm_answer.specs.Answer.{answer}
-use Rattle.nm_history.specs.Kind.{Kind, ReadsIndex, SetsTags, ShowsFiles, TakesMail, kind_of}
+use Rattle.nm_log.specs.Kind.{Kind, ReadsIndex, SetsTags, ShowsFiles, TakesMail, kind_of}
 use Rattle.nm_answer.specs.declared.request.Request.{Request}
 use Rattle.nm_answer.specs.declared.request.Request.TheVariants as requests
 use Rattle.nm_base.specs.declared.memory.NoMemory.{NoMemory}

@@ -4,7 +4,7 @@ use Rattle.std.proofs.lemmas.List.{drop_all, length-append}
 use Rattle.std.specs.Option.{option_map}
 use Rattle.nm_answer.specs.Answer.{answer}
 use Rattle.nm_answer.specs.Changes.{change_answer, strangers_for, wanted_for}
-use Rattle.nm_history.specs.Kind.{Kind, ReadsIndex, SetsTags, ShowsFiles, TakesMail, kind_of}
+use Rattle.nm_log.specs.Kind.{Kind, ReadsIndex, SetsTags, ShowsFiles, TakesMail, kind_of}
 use Rattle.nm_answer.specs.RenameOutcomes.{renames_for, sync_report, sync_text}
 use Rattle.nm_answer.specs.Restore.{strangers_text}
 use Rattle.nm_answer.specs.declared.request.Request.{Request}

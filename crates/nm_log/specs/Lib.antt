@@ -1,3 +1,4 @@
+pub mod Kind
 pub mod LineGrammar
 pub mod ParsedLine
 pub mod Refusals

@@ -15,6 +15,7 @@ use Rattle.nm_command.specs.declared.request.Request.TheVariants as asked
 use Rattle.nm_command.specs.declared.table.CommandName.{CommandName}
 use Rattle.nm_command.specs.declared.table.CommandName.TheVariants as names
 use Rattle.nm_lanes.specs.declared.script.ScriptLine.{ScriptLine}
+use Rattle.nm_log.specs.Kind.{kind_of, may_run_anywhere, reads_lines, source_of}
 use Rattle.nm_log.specs.declared.line_parser.ParsedLine.{ParsedLine}
 use Rattle.nm_log.specs.declared.line_parser.ParsedLine.TheVariants.{Request, Usage}
 
@@ -103,23 +104,11 @@ asked_by line = asked_unless line.flaw line.lane line.words
 
 -- the request reads lines from its input
 abbrev pub reads_input : requests.Request → Bool
-reads_input asks_for.New = false
-reads_input (asks_for.Count ask) = ask.batch
-reads_input (asks_for.Search ask) = false
-reads_input (asks_for.Dump ask) = false
-reads_input (asks_for.Show ask) = false
-reads_input (asks_for.Tag ask) = ask.batch
-reads_input (asks_for.Restore ask) = true
+reads_input request = reads_lines (source_of request)
 
 -- the request is one of every lane
 abbrev pub is_of_every_lane : requests.Request → Bool
-is_of_every_lane asks_for.New = false
-is_of_every_lane (asks_for.Count ask) = true
-is_of_every_lane (asks_for.Search ask) = true
-is_of_every_lane (asks_for.Dump ask) = true
-is_of_every_lane (asks_for.Show ask) = false
-is_of_every_lane (asks_for.Tag ask) = false
-is_of_every_lane (asks_for.Restore ask) = false
+is_of_every_lane request = may_run_anywhere (kind_of request)
 
 -- a command that reads no input has none
 abbrev pub fed : List ℕ → ParsedLine → ParsedLine

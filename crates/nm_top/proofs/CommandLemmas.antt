@@ -1,16 +1,16 @@
 -- A single command whose request is prepared over its input, or refused. For the proofs of `read_command` and `read_request`.
 use Rattle.std.proofs.Common.{◌≡◌, ◌⊎◌, inl, inr, ℕ, ◌==◌, ◌||◌, Bool, true, false, List, [], Option, None, Some, codes, if◌then◌else◌, length, refl, sym, ap, ◌∙◌, subst}
 use Rattle.nm_answer.specs.declared.request.Request.{Request}
-use Rattle.nm_answer.specs.declared.request.Request.TheVariants as requests
 use Rattle.nm_base.specs.declared.refusals.UsageKind.{UsageKind}
 use Rattle.nm_base.specs.declared.refusals.UsageKind.TheVariants as kinds
 use Rattle.nm_history.specs.Call.{call_fault, call_reads, command_reads, fault_by, fault_of_command, fault_of_input, input_fault, input_fault_by, is_session, reads_by}
 use Rattle.nm_history.specs.Refusals.{TakesInput}
-use Rattle.nm_history.specs.Requests.{first_bad_line, first_refusal, own_query, refused_line, refused_query, refused_text_of}
+use Rattle.nm_history.specs.Requests.{first_bad_line, first_refusal, own_query, query_in, refused_line, refused_query, refused_text_of}
 use Rattle.nm_io.specs.Observed.{ObservedStream}
 use Rattle.nm_lanes.specs.Lines.{in_lane}
 use Rattle.nm_line.specs.Prepared.{IsPrepared}
 use Rattle.nm_line.specs.declared.prepared.Prepared.{Prepared}
+use Rattle.nm_log.specs.Kind.{DumpLines, NoQuery, OwnQuery, QueryLines, Source, TaggingLines, reads_lines, source_of}
 use Rattle.nm_log.specs.ParsedLine.{fed, parse_line, parse_single, reads_input, refused}
 use Rattle.nm_log.specs.declared.line_parser.ParsedLine.{ParsedLine}
 use Rattle.nm_log.specs.declared.line_parser.ParsedLine.TheVariants as asked
@@ -23,18 +23,16 @@ use Rattle.nm_top.specs.declared.call_phases.CallPhases.TheVariants.{Command}
 
 -- ---- a request
 
-abbrev query-unless : List ℕ → Bool → Option (List ℕ)
-query-unless text lines = if lines then None else Some text
-
 -- what reads lines has no query of its own
+lines-no-query : (source : Source) → reads_lines source ≡ true → query_in source ≡ None
+lines-no-query NoQuery reads = refl
+lines-no-query (OwnQuery text) reads = absurd (cc)
+lines-no-query QueryLines reads = refl
+lines-no-query (TaggingLines clear) reads = refl
+lines-no-query (DumpLines form) reads = refl
+
 reads-no-query : (request : Request) → reads_input request ≡ true → own_query request ≡ None
-reads-no-query requests.New reads = absurd (cc)
-reads-no-query (requests.Count ask) reads = ap (query-unless ask.query) reads
-reads-no-query (requests.Search ask) reads = absurd (cc)
-reads-no-query (requests.Dump ask) reads = absurd (cc)
-reads-no-query (requests.Show ask) reads = absurd (cc)
-reads-no-query (requests.Tag ask) reads = ap (query-unless ask.query) reads
-reads-no-query (requests.Restore ask) reads = refl
+reads-no-query request reads = lines-no-query (source_of request) reads
 
 -- neither its lines nor its query is refused, or one is
 both-none : (bad : Option (ℕ × LineKind)) (own : Option (List ℕ)) → first_refusal (refused_line bad) (refused_query own) ≡ None → (refused_line bad ≡ None) × (refused_query own ≡ None)
