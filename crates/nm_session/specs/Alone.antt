@@ -1,22 +1,14 @@
--- What a single command asks for and leaves, whose line is alone in its phase. Cited by `command` and `nm_top`.
-use Rattle.std.specs.Prelude.{ℕ, ℤ, List}
+-- What a single command leaves, whose line is alone in its phase. Cited by `command`.
+use Rattle.std.specs.Prelude.{ℕ, ℤ}
 use Rattle.nm_disk.specs.Observed.{ObservedDisk}
 use Rattle.nm_history.specs.LineResult.{Place}
-use Rattle.nm_lanes.specs.Lines.{in_lane}
 use Rattle.nm_lanes.specs.declared.script.ScriptLine.{ScriptLine}
 use Rattle.nm_line.specs.Line.{place_at}
-use Rattle.nm_line.specs.Prepared.{IsPrepared}
-use Rattle.nm_line.specs.declared.prepared.Prepared.{Prepared}
-use Rattle.nm_log.specs.ParsedLine.{parse_line}
 use Rattle.nm_maildir.specs.Observed.{ObservedMail}
 use Rattle.nm_session.specs.LineLog.{IsNoted}
 use Rattle.nm_session.specs.Loop.{IsBarrierNoted}
 use Rattle.nm_trace.specs.declared.reserved_log.ReservedLog.{ReservedLog}
 use Rattle.nm_writer.specs.Writer.{WriterState}
-
--- the words of a single command, over the input that it reads, ask for this
-abbrev pub AsksAlone : List (List ℕ) → List ℕ → Prepared → Type 0
-AsksAlone words input prepared = IsPrepared (parse_line (in_lane 1 0 words input)) input prepared
 
 -- The line was run and noted in the first phase, and then the phase ended.
 pub record HasRunAlone (moment : ℤ) (old : Place) (line : ScriptLine) (before after : ReservedLog) (writer : WriterState) (mail : ObservedMail) (disk : ObservedDisk) : Type 0 where

@@ -33,8 +33,8 @@ use Rattle.nm_io.specs.Observed.{ObservedSink, ObservedStream}
 use Rattle.nm_maildir.specs.Observed.{ObservedMail}
 use Rattle.nm_session.specs.Run.{HasRun}
 use Rattle.nm_session.specs.Session.{HasOpenCause, IsSession, IsUnopened}
-use Rattle.nm_top.specs.CallPhases.{HasPhases, RefusesFor, session_of}
-use Rattle.nm_top.specs.declared.call_phases.CallPhases.{CallPhases}
+use Rattle.nm_call.specs.PreparedCall.{HasPhases, RefusesFor, session_of}
+use Rattle.nm_call.specs.declared.prepared_call.PreparedCall.{PreparedCall}
 use Rattle.nm_top.specs.CallEnd.{EndsRun, Refuses, RefusesAlone, ended_with, refusal_of}
 use Rattle.nm_top.specs.RefusalLaws.{RefusalLaws}
 use Rattle.nm_replay.specs.declared.open_error.OpenError.{OpenError}
@@ -120,7 +120,7 @@ open-cause (errors.Limit limit) input words setting entry after done sound takes
 open-cause errors.NoMemory input words setting entry after done sound takes right cause = tt
 
 -- a call for which no index is opened
-unopened-history : RefusalLaws → (error : OpenError) (call : CallPhases) (words : List (List ℕ)) (setting : Setting) (mail new_mail : ObservedMail) (disk new_disk : ObservedDisk) (old new : ObservedStream) (out new_out err said : ObservedSink)
+unopened-history : RefusalLaws → (error : OpenError) (call : PreparedCall) (words : List (List ℕ)) (setting : Setting) (mail new_mail : ObservedMail) (disk new_disk : ObservedDisk) (old new : ObservedStream) (out new_out err said : ObservedSink)
     → HasPhases words old new call → IsUnopened mail new_mail disk new_disk error → new_out ≡ out
     → (done : Done) → Refuses (refusal_of error) err said done → History (call_of words setting (devices mail disk old out err) (devices new_mail new_disk new new_out said) done)
 unopened-history laws error call words setting mail new_mail disk new_disk old new out new_out err said read unopened still done ends =
@@ -129,7 +129,7 @@ unopened-history laws error call words setting mail new_mail disk new_disk old n
     unopened.crash_prefix unopened.unwritten unopened.mail still done ends
 
 -- a call that runs its phases
-ran-history : (call : CallPhases) (words : List (List ℕ)) (setting : Setting) (entry after : Devices) (phases : List Phase) (log : SessionLog) (out_failed : Bool)
+ran-history : (call : PreparedCall) (words : List (List ℕ)) (setting : Setting) (entry after : Devices) (phases : List Phase) (log : SessionLog) (out_failed : Bool)
     → (read : HasPhases words entry.input after.input call) → phases ≡ call_phases words read.input
     → IsSession setting.moment entry phases (session_of call) after.mail after.disk after.out out_failed log → Prints (final_message (session_of call) log.lines out_failed) entry.err after.err
     → History (call_of words setting entry after (record { status = status_by (session_of call) log.lines out_failed; log = log }))
@@ -160,7 +160,7 @@ ran-history call words setting entry after phases log out_failed read same sessi
     )
 
 -- a call that was read, whose lines are run or whose index is not opened
-pub run-history : RefusalLaws → (call : CallPhases) (words : List (List ℕ)) (setting : Setting) (mail new_mail : ObservedMail) (disk new_disk : ObservedDisk) (old new : ObservedStream) (out new_out err said : ObservedSink)
+pub run-history : RefusalLaws → (call : PreparedCall) (words : List (List ℕ)) (setting : Setting) (mail new_mail : ObservedMail) (disk new_disk : ObservedDisk) (old new : ObservedStream) (out new_out err said : ObservedSink)
     → (read : HasPhases words old new call) (phases : List Phase) (run : Result (SessionLog × Bool) OpenError) → phases ≡ call_phases words read.input
     → IfOk run (λ ran. (source : ObservedStream) (sink : ObservedSink) → IsSession setting.moment (devices mail disk source out sink) phases (session_of call) new_mail new_disk new_out ran.1 ran.0)
     → IfErr run (IsUnopened mail new_mail disk new_disk) → IfErr run (λ _. new_out ≡ out)

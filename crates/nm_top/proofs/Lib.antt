@@ -1,4 +1,3 @@
-pub mod CommandLemmas
 pub mod DrillLemmas
 pub mod HistoryLemmas
 pub mod ProgramLemmas

@@ -1,12 +1,9 @@
--- How a call ends: over a run of its lines, or with none. Cited by `call_phases`, `devices`, `call_end` and others.
+-- How a call ends: over a run of its lines, or with none. Cited by `devices`, `call_end` and others.
 use Rattle.std.specs.Prelude.{◌≡◌, ◌⊎◌, ℕ, Bool, List, [], Some, Result, Ok, Err}
 use Rattle.nm_history.specs.PrintedOut.{Prints, final_message}
 use Rattle.nm_history.specs.Status.{status_by}
 use Rattle.nm_history.specs.UnaskedLine.{refused_done}
-use Rattle.nm_base.specs.declared.limit.Limit.TheVariants.{InputBytes}
 use Rattle.nm_io.specs.Observed.{ObservedSink}
-use Rattle.nm_io.specs.declared.taking.TakeError.{TakeError}
-use Rattle.nm_io.specs.declared.taking.TakeError.TheVariants as takes
 use Rattle.nm_log.specs.Refusals.{refused_line, refused_status}
 use Rattle.nm_log.specs.Replies.{refusal_line}
 use Rattle.nm_log.specs.declared.log.Done.{Done}
@@ -52,9 +49,3 @@ abbrev pub EndsRun : Bool → Result (SessionLog × Bool) OpenError → Observed
 EndsRun session (Ok (log, out_failed)) old new done =
     (done ≡ record { status = status_by session log.lines out_failed; log = log }) × Prints (final_message session log.lines out_failed) old new
 EndsRun session (Err error) old new done = Refuses (refusal_of error) old new done
-
--- an error of reading the input, as the call is refused for it
-abbrev pub take_refusal : TakeError → Refusal
-take_refusal takes.ReadFault = refusals.ReadFault
-take_refusal takes.TooLong = refusals.Limit InputBytes
-take_refusal takes.NoMemory = refusals.NoMemory

@@ -1,5 +1,4 @@
 pub mod CallEnd
-pub mod CallPhases
 pub mod Devices
 pub mod Drill
 pub mod Program

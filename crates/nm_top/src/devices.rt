@@ -4,15 +4,15 @@ ghost use Rattle.std.specs.Prelude.{◌≡◌, ℕ, List};
 ghost use Rattle.nm_history.specs.Call.{call_of};
 ghost use Rattle.nm_history.specs.History.{History};
 ghost use Rattle.nm_io.specs.Observed.{ObservedStream};
-ghost use Rattle.nm_session.specs.Alone.{AsksAlone};
-ghost use Rattle.nm_top.specs.CallPhases.{HasPhases, IsReadAs, WasRead};
+ghost use Rattle.nm_line.specs.Prepared.{AsksAlone};
 ghost use Rattle.nm_top.specs.Devices.{KeepsLoans, devices_of};
-ghost use Rattle.nm_top.specs.declared.call_phases.CallPhases.TheVariants.{Command, Script};
+ghost use Rattle.nm_call.specs.PreparedCall.{HasPhases, IsReadAs, WasRead};
+ghost use Rattle.nm_call.specs.declared.prepared_call.PreparedCall.TheVariants.{Command, Script};
 
 use crate::call_end::{end_run, refuse, refuse_line};
-use crate::call_phases::{CallError, CallPhases};
 use crate::laws::refusal_laws;
 use nm_base::Many;
+use nm_call::{CallError, PreparedCall};
 use nm_disk::Disk;
 use nm_io::Sink;
 use nm_lanes::Phase;
@@ -39,7 +39,7 @@ impl<M: Maildir, D: Disk, O: Sink, E: Sink> Devices<'_, '_, '_, '_, M, D, O, E> 
         &mut self,
         crew: &Crew<'_, R>,
         gate: &G,
-        call: Result<CallPhases, CallError>,
+        call: Result<PreparedCall, CallError>,
     ) -> Done
         requires { WasRead call }
         ensures history { (words : List (List ℕ)) (old new : ObservedStream) → IsReadAs words old new call → History (call_of words crew.now.setting.now
@@ -48,8 +48,8 @@ impl<M: Maildir, D: Disk, O: Sink, E: Sink> Devices<'_, '_, '_, '_, M, D, O, E> 
     {
         refusal_laws();
         match call {
-            Ok(CallPhases::Script(phases)) => self.run_script(crew, gate, phases),
-            Ok(CallPhases::Command(prepared)) => self.run_single(crew, prepared),
+            Ok(PreparedCall::Script(phases)) => self.run_script(crew, gate, phases),
+            Ok(PreparedCall::Command(prepared)) => self.run_single(crew, prepared),
             Err(CallError::Unasked(outcome)) => refuse_line(
                 crew.alloc,
                 self.err,

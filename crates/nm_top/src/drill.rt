@@ -10,8 +10,8 @@ ghost use Rattle.nm_top.specs.Drill.{AnswersAll, DrillEnds, EndsAfterRun, IsLogO
 
 use crate::call_end::{refuse, say};
 use crate::devices::Devices;
-use crate::session_call::read_phases;
 use nm_base::{Many, NoMemory, Text};
+use nm_call::read_phases;
 use nm_command::{
     CommandError, Request, a_request_that_is_written_out_is_read_back, command,
     words_are_read_as_the_grammar_says,

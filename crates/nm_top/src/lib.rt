@@ -1,15 +1,12 @@
-//! Commands and replies: the top call: reads the words and a script, runs its lines or a single command over the index that the disk holds and a mail folder,
-//! prints the replies, and gives the status.
+//! Commands and replies: the top call: runs the lines of a script or a single command over the index that the disk holds and a mail folder, prints the
+//! replies, and gives the status.
 #![tactic(auto)]
 
 mod call_end;
-mod call_phases;
-mod command_call;
 mod devices;
 mod drill;
 mod laws;
 mod program_start;
-mod session_call;
 mod top_call;
 
 pub use nm_answer::Request;

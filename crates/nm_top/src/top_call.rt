@@ -2,17 +2,14 @@
 
 ghost use Rattle.std.specs.Prelude.{◌≡◌, ◌≤◌, pos, ◌≤ℤ◌};
 ghost use Rattle.nm_base.specs.Limits.{max_date};
-ghost use Rattle.nm_history.specs.Call.{call_of, devices, is_first, is_session};
+ghost use Rattle.nm_history.specs.Call.{call_of, devices};
 ghost use Rattle.nm_history.specs.Complete.{IsComplete};
-ghost use Rattle.nm_top.specs.CallPhases.{IsReadAs};
 ghost use Rattle.nm_top.specs.Drill.{CallHistory, is_drill};
 
-use crate::call_phases::{CallError, CallPhases};
-use crate::command_call::read_command;
 use crate::devices::Devices;
 use crate::drill::drill;
-use crate::session_call::read_session;
 use nm_base::Text;
+use nm_call::{is_first, read_call};
 use nm_disk::Disk;
 use nm_history::a_history_is_complete;
 use nm_io::{Sink, Source};
@@ -79,39 +76,9 @@ pub fn notmuch<
     devices.run(&crew, gate, call)
 }
 
-/// Reads a session or a single command, before another device than its input is asked.
-fn read_call<I: Source>(
-    alloc: Global,
-    words: &[Text],
-    input: &mut I,
-) -> Result<CallPhases, CallError>
-    ensures { IsReadAs words.now (I.observed input.old) (I.observed input.new) result }
-{
-    if is_session(words) {
-        return read_session(alloc, words, input);
-    }
-    read_command(alloc, words, input)
-}
-
-/// Whether the words begin a session.
-fn is_session(words: &[Text]) -> bool
-    ensures { result ≡ is_session words.now }
-{
-    is_first(words, "session")
-}
-
 /// Whether the words ask for a drill.
 fn is_drill(words: &[Text]) -> bool
     ensures { result ≡ is_drill words.now }
 {
     is_first(words, "drill")
-}
-
-fn is_first(words: &[Text], word: &str) -> bool
-    ensures { result ≡ is_first word.now words.now }
-{
-    match words.first() {
-        Some(first) => first.as_str() == word,
-        None => false,
-    }
 }

@@ -2,8 +2,9 @@ use Rattle.std.proofs.Common.{rules, ℕ, List, Ok, arith, length, refl}
 use Rattle.nm_lanes.specs.Lines.{in_lane}
 use Rattle.nm_lanes.specs.declared.script.ScriptLine.{ScriptLine}
 use Rattle.nm_line.specs.Line.{place_at}
+use Rattle.nm_line.specs.Prepared.{AsksAlone}
 use Rattle.nm_line.specs.declared.prepared.Prepared.{Prepared}
-use Rattle.nm_session.specs.Alone.{AsksAlone, HasRunAlone}
+use Rattle.nm_session.specs.Alone.{HasRunAlone}
 use Rattle.nm_session.specs.LineLog.{IsAskedBy}
 use Rattle.nm_session.proofs.command.run_alone.Goals as goal
 use Rattle.nm_trace.specs.ReservedLog.{HasSpare}

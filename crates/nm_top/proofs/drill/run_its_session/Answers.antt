@@ -1,6 +1,6 @@
 use Rattle.std.proofs.Common.{rules, ℕ, List, [], ◌∷◌, codes, refl, ap, ◌∙◌}
 use Rattle.nm_drill.specs.Drill.{drill_script}
-use Rattle.nm_top.specs.CallPhases.{WasRead}
+use Rattle.nm_call.specs.PreparedCall.{WasRead}
 use Rattle.nm_top.proofs.DrillLemmas.{log-is, sink_of, source_of}
 use Rattle.nm_top.proofs.drill.run_its_session.Goals as goal
 

@@ -1,7 +1,7 @@
 use Rattle.std.proofs.Common.{rules, refl, sym, ◌∙◌, subst}
 use Rattle.nm_history.specs.Call.{call_of, devices}
 use Rattle.nm_log.specs.declared.log.Setting.{Setting}
-use Rattle.nm_top.specs.CallPhases.{WasRead}
+use Rattle.nm_call.specs.PreparedCall.{WasRead}
 use Rattle.nm_top.specs.Drill.{DrillEnds}
 use Rattle.nm_top.proofs.DrillLemmas.{as-drill}
 use Rattle.nm_top.proofs.top_call.notmuch.Goals as goal

@@ -1,6 +1,6 @@
 use Rattle.std.proofs.Common.{◌∙◌}
 use Rattle.nm_top.proofs.HistoryLemmas.{run-history}
-use Rattle.nm_top.specs.declared.call_phases.CallPhases.TheVariants.{Script}
+use Rattle.nm_call.specs.declared.prepared_call.PreparedCall.TheVariants.{Script}
 use Rattle.nm_top.proofs.devices.Devices.run_script.Goals as goal
 
 pub returns-clause-history : goal.returns-clause-history

@@ -1,7 +1,7 @@
 use Rattle.std.proofs.Common.{Bool, ◌∷◌, [], ap}
 use Rattle.nm_history.specs.Call.{phases_by, single_phase}
 use Rattle.nm_top.proofs.HistoryLemmas.{run-history}
-use Rattle.nm_top.specs.declared.call_phases.CallPhases.TheVariants.{Command}
+use Rattle.nm_call.specs.declared.prepared_call.PreparedCall.TheVariants.{Command}
 use Rattle.nm_top.proofs.devices.Devices.run_single.Goals as goal
 
 pub returns-clause-history : goal.returns-clause-history

@@ -5,17 +5,17 @@ use Rattle.nm_line.specs.declared.prepared.AskError.{AskError}
 use Rattle.nm_line.specs.declared.prepared.Prepared.{Prepared}
 use Rattle.nm_log.specs.ParsedLine.{reads_input}
 use Rattle.nm_log.specs.declared.line_parser.ParsedLine.TheVariants as asked
-use Rattle.nm_top.specs.CallPhases.{IsReadAs}
-use Rattle.nm_top.specs.declared.call_phases.CallError.{CallError}
-use Rattle.nm_top.specs.declared.call_phases.CallPhases.{CallPhases}
-use Rattle.nm_top.proofs.CommandLemmas.{is-read, is-refused, reading-sound}
-use Rattle.nm_top.proofs.command_call.read_request.Goals as goal
+use Rattle.nm_call.specs.PreparedCall.{IsReadAs}
+use Rattle.nm_call.specs.declared.prepared_call.CallError.{CallError}
+use Rattle.nm_call.specs.declared.prepared_call.PreparedCall.{PreparedCall}
+use Rattle.nm_call.proofs.CommandLemmas.{is-read, is-refused, reading-sound}
+use Rattle.nm_call.proofs.command_call.read_request.Goals as goal
 
 pub returns-in_err-lines : goal.returns-in_err-lines
 returns-in_err-lines g c = λ words single is.
     let e : c.from_residual.result ≡ Err c.in_err-lines.field-0.0 = search rules in
     let sound = reading-sound words c.args.request single is (g.I.Source.observed c.args.input.now) (g.I.Source.observed c.read_lines.new.input) [] c.in_err-lines.ensures.reads in
-    subst (λ (r : Result CallPhases CallError). IsReadAs words (g.I.Source.observed c.args.input.now) (g.I.Source.observed c.read_lines.new.input) r) (sym e) (c.in_err-lines.ensures.err words single sound is)
+    subst (λ (r : Result PreparedCall CallError). IsReadAs words (g.I.Source.observed c.args.input.now) (g.I.Source.observed c.read_lines.new.input) r) (sym e) (c.in_err-lines.ensures.err words single sound is)
 
 pub returns-in-Ok : goal.returns-in-Ok
 returns-in-Ok g c = λ words single is.

@@ -1,32 +1,36 @@
 -- What is read of a call before another device than its input is asked: the phases that it runs, or why it runs none.
--- Cited by `call_phases`, `command_call`, `devices` and others.
+-- Cited by `prepared_call`, `session_call`, `command_call` and `nm_top`.
 use Rattle.std.specs.Prelude.{◌≡◌, ℕ, Bool, false, true, List, None, Result, MatchResult}
 use Rattle.nm_disk.specs.Observed.{ObservedDisk}
 use Rattle.nm_history.specs.Call.{call_fault, call_of, call_phases, call_reads, devices, input_fault, is_session}
 use Rattle.nm_history.specs.Refusals.{IsRefusedFor, RefusesLine, TakesInput}
+use Rattle.nm_base.specs.declared.limit.Limit.TheVariants.{InputBytes}
 use Rattle.nm_io.specs.Observed.{ObservedSink, ObservedStream}
+use Rattle.nm_io.specs.declared.taking.TakeError.{TakeError}
+use Rattle.nm_io.specs.declared.taking.TakeError.TheVariants as takes
+use Rattle.nm_line.specs.Prepared.{AsksAlone}
 use Rattle.nm_log.specs.declared.log.Done.{Done}
 use Rattle.nm_log.specs.declared.log.Setting.{Setting}
 use Rattle.nm_log.specs.declared.refusal.Refusal.{Refusal}
+use Rattle.nm_log.specs.declared.refusal.Refusal.TheVariants as refusals
 use Rattle.nm_maildir.specs.Observed.{ObservedMail}
-use Rattle.nm_session.specs.Alone.{AsksAlone}
-use Rattle.nm_top.specs.declared.call_phases.CallError.{CallError}
-use Rattle.nm_top.specs.declared.call_phases.CallError.TheVariants.{Refused, Unasked}
-use Rattle.nm_top.specs.declared.call_phases.CallPhases.{CallPhases}
-use Rattle.nm_top.specs.declared.call_phases.CallPhases.TheVariants.{Command, Script}
+use Rattle.nm_call.specs.declared.prepared_call.CallError.{CallError}
+use Rattle.nm_call.specs.declared.prepared_call.CallError.TheVariants.{Refused, Unasked}
+use Rattle.nm_call.specs.declared.prepared_call.PreparedCall.{PreparedCall}
+use Rattle.nm_call.specs.declared.prepared_call.PreparedCall.TheVariants.{Command, Script}
 
 -- whether the call is a session
-abbrev pub session_of : CallPhases → Bool
+abbrev pub session_of : PreparedCall → Bool
 session_of (Script _) = true
 session_of (Command _) = false
 
 -- these are the phases of the script, or what the words of a single command ask for
-abbrev pub AsksFor : List (List ℕ) → List ℕ → CallPhases → Type 0
+abbrev pub AsksFor : List (List ℕ) → List ℕ → PreparedCall → Type 0
 AsksFor words input (Script phases) = phases ≡ call_phases words input
 AsksFor words input (Command prepared) = AsksAlone words input prepared
 
 -- The words are right, this was taken of the input, each line that a single command reads is right, and this is asked for.
-pub record HasPhases (words : List (List ℕ)) (old new : ObservedStream) (call : CallPhases) : Type 0 where
+pub record HasPhases (words : List (List ℕ)) (old new : ObservedStream) (call : PreparedCall) : Type 0 where
   pub input : List ℕ
   pub session : session_of call ≡ is_session words
   pub sound : call_fault words ≡ None
@@ -46,12 +50,18 @@ HasError words old new (Refused refusal) = (input : List ℕ) × RefusesFor refu
 HasError words old new (Unasked outcome) = (is_session words ≡ false) × ((input : List ℕ) × RefusesLine outcome input words old new)
 
 -- the call was read so
-abbrev pub IsReadAs : List (List ℕ) → ObservedStream → ObservedStream → Result CallPhases CallError → Type 0
+abbrev pub IsReadAs : List (List ℕ) → ObservedStream → ObservedStream → Result PreparedCall CallError → Type 0
 IsReadAs words old new read = MatchResult read (HasPhases words old new) (HasError words old new)
 
 -- it was read so of some words and their input
-pub record WasRead (read : Result CallPhases CallError) : Type 0 where
+pub record WasRead (read : Result PreparedCall CallError) : Type 0 where
   pub words : List (List ℕ)
   pub old : ObservedStream
   pub new : ObservedStream
   pub is : IsReadAs words old new read
+
+-- an error of reading the input, as the call is refused for it
+abbrev pub take_refusal : TakeError → Refusal
+take_refusal takes.ReadFault = refusals.ReadFault
+take_refusal takes.TooLong = refusals.Limit InputBytes
+take_refusal takes.NoMemory = refusals.NoMemory

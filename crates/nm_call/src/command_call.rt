@@ -1,13 +1,13 @@
-//! A single command, for `top_call`: its words become a request, the lines that this asks for are read, and all of it is prepared.
+//! A single command, for `prepared_call`: its words become a request, the lines that this asks for are read, and all of it is prepared.
 
 ghost use Rattle.std.specs.Prelude.{◌≡◌, ℕ, List, IfErr, IfOk, None, false, true};
 ghost use Rattle.nm_history.specs.Call.{call_fault, is_session};
 ghost use Rattle.nm_history.specs.Refusals.{TakesInput};
 ghost use Rattle.nm_log.specs.ParsedLine.{parse_single, reads_input};
 ghost use Rattle.nm_log.specs.declared.line_parser.ParsedLine.TheVariants as asked;
-ghost use Rattle.nm_top.specs.CallPhases.{HasError, IsReadAs};
+ghost use Rattle.nm_call.specs.PreparedCall.{HasError, IsReadAs};
 
-use crate::call_phases::{CallError, CallPhases, read_input};
+use crate::prepared_call::{CallError, PreparedCall, read_input};
 use nm_answer::Request;
 use nm_base::{Many, Text};
 use nm_history::a_call_that_reads_nothing_is_not_refused_for_its_input;
@@ -21,7 +21,7 @@ pub(crate) fn read_command<I: Source>(
     alloc: Global,
     words: &[Text],
     input: &mut I,
-) -> Result<CallPhases, CallError>
+) -> Result<PreparedCall, CallError>
     requires { is_session words.now ≡ false }
     ensures { IsReadAs words.now (I.observed input.old) (I.observed input.new) result }
 {
@@ -36,14 +36,14 @@ fn read_request<I: Source>(
     alloc: Global,
     request: Request,
     input: &mut I,
-) -> Result<CallPhases, CallError>
+) -> Result<PreparedCall, CallError>
     ensures { (words : List (List ℕ)) → is_session words ≡ false → parse_single words ≡ asked.Request request
         → IsReadAs words (I.observed input.old) (I.observed input.new) result }
 {
     a_call_that_reads_nothing_is_not_refused_for_its_input();
     let lines = read_lines(alloc, &request, input)?;
     match prepare(alloc, request, lines.as_slice()) {
-        Ok(prepared) => Ok(CallPhases::Command(prepared)),
+        Ok(prepared) => Ok(PreparedCall::Command(prepared)),
         Err(AskError::Refused(outcome)) => Err(CallError::Unasked(outcome)),
         Err(AskError::NoMemory) => Err(CallError::Refused(Refusal::NoMemory)),
     }

@@ -1,12 +1,13 @@
-//! What is read of a call before another device than its input is asked, for `session_call` and `command_call`: its phases, or why it has none.
+//! A call as it is read, for `devices` of `nm_top` to run: the phases of its script, what its single command asks for, or why it has neither.
 
 ghost use Rattle.std.specs.Prelude.{◌≡◌, ℕ, List, IfErr, IfOk, true, None};
-ghost use Rattle.nm_history.specs.Call.{call_fault, call_reads};
+ghost use Rattle.nm_history.specs.Call.{call_fault, call_reads, is_first, is_session};
 ghost use Rattle.nm_history.specs.Refusals.{IsRead};
-ghost use Rattle.nm_top.specs.CallPhases.{HasError};
-ghost use Rattle.nm_top.specs.CallEnd.{take_refusal};
+ghost use Rattle.nm_call.specs.PreparedCall.{HasError, IsReadAs, take_refusal};
 
-use nm_base::{Limit, Many, NoMemory};
+use crate::command_call::read_command;
+use crate::session_call::read_session;
+use nm_base::{Limit, Many, NoMemory, Text};
 use nm_io::{Source, TakeError, take_all};
 use nm_lanes::Phase;
 use nm_line::Prepared;
@@ -18,14 +19,14 @@ const MAX_INPUT: u64 = 67_108_864;
 
 /// The phases of a script; or what a single command asks for, which is the one line of one phase.
 #[derive(Drop)]
-pub(crate) enum CallPhases {
+pub enum PreparedCall {
     Script(Many<Phase>),
     Command(Prepared),
 }
 
 /// Why a call runs no phase.
 #[derive(Drop)]
-pub(crate) enum CallError {
+pub enum CallError {
     /// It is refused as a whole.
     Refused(Refusal),
     /// The one line of a single command ends so.
@@ -34,12 +35,43 @@ pub(crate) enum CallError {
 
 impl From<NoMemory> for CallError {
     ghost use Rattle.nm_log.specs.declared.refusal.Refusal.TheVariants as refusals;
-    ghost use Rattle.nm_top.specs.declared.call_phases.CallError.TheVariants as errors;
+    ghost use Rattle.nm_call.specs.declared.prepared_call.CallError.TheVariants as errors;
 
     ghost from_gives = { λ _ e. e ≡ errors.Refused refusals.NoMemory };
 
     fn from(_: NoMemory) -> CallError {
         CallError::Refused(Refusal::NoMemory)
+    }
+}
+
+/// Reads a session or a single command, before another device than its input is asked.
+pub fn read_call<I: Source>(
+    alloc: Global,
+    words: &[Text],
+    input: &mut I,
+) -> Result<PreparedCall, CallError>
+    ensures { IsReadAs words.now (I.observed input.old) (I.observed input.new) result }
+{
+    if is_session(words) {
+        return read_session(alloc, words, input);
+    }
+    read_command(alloc, words, input)
+}
+
+/// Whether the words begin a session.
+fn is_session(words: &[Text]) -> bool
+    ensures { result ≡ is_session words.now }
+{
+    is_first(words, "session")
+}
+
+/// Whether this is the first word.
+pub fn is_first(words: &[Text], word: &str) -> bool
+    ensures { result ≡ is_first word.now words.now }
+{
+    match words.first() {
+        Some(first) => first.as_str() == word,
+        None => false,
     }
 }
 

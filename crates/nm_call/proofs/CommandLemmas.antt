@@ -17,9 +17,9 @@ use Rattle.nm_log.specs.declared.line_parser.ParsedLine.TheVariants as asked
 use Rattle.nm_log.specs.declared.outcome.Outcome.{Outcome}
 use Rattle.nm_log.specs.declared.outcome.Outcome.TheVariants as outcomes
 use Rattle.nm_tags.specs.declared.line_error.LineKind.{LineKind}
-use Rattle.nm_top.specs.CallPhases.{HasError, HasPhases}
-use Rattle.nm_top.specs.declared.call_phases.CallError.TheVariants.{Unasked}
-use Rattle.nm_top.specs.declared.call_phases.CallPhases.TheVariants.{Command}
+use Rattle.nm_call.specs.PreparedCall.{HasError, HasPhases}
+use Rattle.nm_call.specs.declared.prepared_call.CallError.TheVariants.{Unasked}
+use Rattle.nm_call.specs.declared.prepared_call.PreparedCall.TheVariants.{Command}
 
 -- ---- a request
 
