@@ -1,4 +1,4 @@
-//! Reading an input to its end: `nm_top` reads its script so.
+//! Reading an input to its end: `nm_call` reads scripts and lines so.
 
 ghost use Rattle.std.specs.Prelude.{◌≡◌, ℕ, ◌<◌, ◌≤◌, List, length, IfOk, OnOk, OnErr, IsErrOf, IfSome};
 ghost use Rattle.std.specs.Io.KnownBytes.{Consumes, IsAtEnd};

@@ -1,4 +1,4 @@
-//! The work of a phase, which `nm_session` has done: all lanes at once, and each passes a gate before its work and after it.
+//! The work of a phase, which `nm_phase` has done: all lanes at once, and each passes a gate before its work and after it.
 
 ghost use Rattle.std.specs.Prelude.{◌≤◌, ◌<◌, ℕ, length, slice_index_or};
 ghost use Rattle.std.specs.List.{All, AllZip};

@@ -1,4 +1,4 @@
-//! A line of lane 0: what it asks for is done, by a file for each command. `nm_session` asks for it.
+//! A line of lane 0: what it asks for is done, by a file for each command. `nm_phase` asks for it.
 
 ghost use Rattle.std.specs.Prelude.{◌≡◌, []};
 ghost use Rattle.nm_lanes.specs.declared.script.ScriptLine.{ScriptLine};

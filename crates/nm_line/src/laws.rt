@@ -1,4 +1,4 @@
-//! A law of what a line of another lane is answered, which `nm_session` calls. No code runs.
+//! A law of what a line of another lane is answered, which `nm_phase` calls. No code runs.
 
 ghost use Rattle.std.specs.Prelude.{ℤ, ℕ, List};
 ghost use Rattle.nm_index.specs.declared.base.Base.{Base};

@@ -1,4 +1,4 @@
-//! A line of a lane other than 0: it is answered on an index, and asks no device. `nm_session` asks for it.
+//! A line of a lane other than 0: it is answered on an index, and asks no device. `nm_phase` asks for it.
 
 ghost use Rattle.std.specs.Prelude.{◌≡◌, ◌≤◌, true};
 ghost use Rattle.nm_dates.specs.Seconds.{IsMoment};

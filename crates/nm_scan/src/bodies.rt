@@ -1,5 +1,5 @@
 //! Reading the files that `show` asks for, whose bytes are noted, up to as many bytes as a session may show:
-//! `nm_session` reads them.
+//! `nm_line` reads them.
 
 ghost use Rattle.std.specs.Prelude.{◌≡◌, ◌∷◌, [], ◌++◌, IfErr, IfOk, OnErr, OnOk};
 ghost use Rattle.nm_faults.specs.Faults.{HasCauseOf};

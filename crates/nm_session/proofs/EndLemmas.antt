@@ -26,7 +26,8 @@ use Rattle.nm_session.specs.Phases.{HasRunPhases}
 use Rattle.nm_trace.specs.ReservedLog.{HasRoom}
 use Rattle.nm_session.specs.Run.{HasRun, IsKept}
 use Rattle.nm_session.specs.TurnLaws.{FirstLaws}
-use Rattle.nm_session.specs.Turns.{Planned, ends_in, lines_in, planned_from}
+use Rattle.nm_phase.specs.Turns.{Planned}
+use Rattle.nm_session.specs.Turns.{ends_in, lines_in, planned_from}
 use Rattle.nm_trace.specs.declared.trace.Mark.{Mark}
 use Rattle.nm_trace.specs.declared.reserved_log.ReservedLog.{ReservedLog}
 use Rattle.nm_session.proofs.TraceLemmas.{begun-are}

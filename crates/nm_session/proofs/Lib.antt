@@ -1,12 +1,9 @@
-pub mod BarrierLemmas
 pub mod EndLemmas
-pub mod LaneReadLemmas
-pub mod LineLemmas
 pub mod LoopLemmas
-pub mod ObservationLemmas
 pub mod PhaseLemmas
 pub mod PlaceLemmas
 pub mod PrintLemmas
+pub mod ReaderLemmas
 pub mod RunLemmas
 pub mod SessionLemmas
 pub mod TraceLemmas

@@ -1,4 +1,4 @@
--- A turn more keeps what is so of the turns before it. For `PhaseLemmas`, `BarrierLemmas` and `RunLemmas`.
+-- A turn more keeps what is so of the turns before it. For `PhaseLemmas`.
 use Rattle.std.proofs.Common.{◌≡◌, inl, inr, ℕ, ℤ, ◌+◌, ◌*◌, ◌==◌, ◌<◌, ◌≤◌, Bool, true, false, not, cond, List, [], ◌∷◌, ◌++◌, drop, length, take, refl, sym, ap, ◌∙◌, subst, arith, append-nil}
 use Rattle.std.proofs.lemmas.Bool.Decides.{nat_tests}
 use Rattle.std.proofs.lemmas.Grind.{flat_map-append}
@@ -21,17 +21,18 @@ use Rattle.nm_log.specs.ParsedLine.{parse_line}
 use Rattle.nm_log.specs.declared.log.LineLog.{LineLog}
 use Rattle.nm_machine.specs.declared.step.Step.{Step}
 use Rattle.nm_machine.specs.declared.step.Step.TheVariants.{Meet}
-use Rattle.nm_session.specs.LineLog.{IsNoted}
-use Rattle.nm_session.specs.LaneLog.{IsLaneReadNoted}
-use Rattle.nm_session.specs.Loop.{HasNoted, HasRunSome, IsBarrierNoted, IsTurn, StandFor, lines_at, steps_at}
+use Rattle.nm_phase.specs.LineLog.{IsNoted}
+use Rattle.nm_phase.specs.LaneLog.{IsLaneReadNoted}
+use Rattle.nm_phase.specs.Taken.{IsBarrierNoted, IsTurn}
+use Rattle.nm_session.specs.Loop.{HasNoted, HasRunSome, StandFor, lines_at, steps_at}
 use Rattle.nm_trace.specs.Trace.{line_marks, lane_read_marks, steps_of}
 use Rattle.nm_trace.specs.ReservedLog.{AreFallbacks, HasSpare}
 use Rattle.nm_session.specs.TurnLaws.{TurnLaws}
-use Rattle.nm_session.specs.Turns.{Meets, Planned, Runs, ends_in, line_in, lines_in}
+use Rattle.nm_phase.specs.Turns.{Meets, Planned, Runs}
+use Rattle.nm_session.specs.Turns.{ends_in, line_in, lines_in}
 use Rattle.nm_trace.specs.declared.trace.Mark.{Mark}
 use Rattle.nm_trace.specs.declared.trace.Mark.TheVariants as marks
 use Rattle.nm_trace.specs.declared.reserved_log.ReservedLog.{ReservedLog}
-use Rattle.nm_session.proofs.LineLemmas.{reply-few, still-even}
 use Rattle.nm_session.proofs.TraceLemmas.{line-length, line-stands, line-steps, lane_read-stands, lane_read-steps-are, mapped, stand-append, steps-append}
 use Rattle.nm_session.proofs.PlaceLemmas.{IsCut, others-alone, shows-made, stand-between, stand-cut, steps-between, steps-cut}
 use Rattle.nm_session.proofs.TurnLemmas.{IsNext}
@@ -86,7 +87,7 @@ not-zero lane h = grind (arith, nat_tests)
 
 -- ---- a line of lane 0
 
-module _ (moment : ℤ) (planned : List Planned) (phase : ℕ) (line : ScriptLine) (before after : ReservedLog) (old new : Place) (noted : HasNoted planned before old) (first : line.lane ≡ 0) (h : IsNoted moment phase old line before after new) where
+module _ (laws : TurnLaws) (moment : ℤ) (planned : List Planned) (phase : ℕ) (line : ScriptLine) (before after : ReservedLog) (old new : Place) (noted : HasNoted planned before old) (first : line.lane ≡ 0) (h : IsNoted moment phase old line before after new) where
   abbrev taken : List Step
   taken = line_steps h.run.answered.made h.run.answered.in_flight (reply_to (line, h.log))
 
@@ -133,7 +134,7 @@ module _ (moment : ℤ) (planned : List Planned) (phase : ℕ) (line : ScriptLin
     arith,
     line-length h.run.answered.made h.run.answered.in_flight (reply_to (line, h.log)),
     length-append h.run.answered.made h.run.answered.in_flight,
-    reply-few h.log.outcome (parse_line line) h.log.lane h.log.revision h.log.text,
+    laws.replies h.log.outcome (parse_line line) h.log.lane h.log.revision h.log.text,
   )
 
   few-steps : length (steps_at after new) ≤ 2 * length (planned ++ Runs phase line ∷ []) + 3 * length new.writer.begun
@@ -154,13 +155,13 @@ module _ (moment : ℤ) (planned : List Planned) (phase : ℕ) (line : ScriptLin
         (line-stands h.run.answered.made h.run.answered.in_flight (reply_to (line, h.log)))));
     few = few-steps;
     within = h.within;
-    even = still-even moment old new line h.log.given h.log.outcome h.log.disk_failed h.run.answered noted.even;
+    even = laws.even moment old new line h.log.given h.log.outcome h.log.disk_failed h.run.answered noted.even;
   }
 
   both : (P : List Step → List RunLine → Type 0) → P (steps_at before old ++ taken) (lines_at planned before ++ (line, h.log) ∷ []) → P (steps_at after new) (lines_at (planned ++ Runs phase line ∷ []) after)
   both P p = subst (λ (l : List Step). P l (lines_at (planned ++ Runs phase line ∷ []) after)) (sym steps-are) (subst (λ (l : List RunLine). P (steps_at before old ++ taken) l) (sym lines-are) p)
 
-  module _ (laws : TurnLaws) (opening : Base) (entry : Devices) (some : HasRunSome moment opening entry planned before old) (place_is : phase ≡ ends_in planned) where
+  module _ (opening : Base) (entry : Devices) (some : HasRunSome moment opening entry planned before old) (place_is : phase ≡ ends_in planned) where
     abbrev lines : List RunLine
     lines = lines_at planned before
 
@@ -202,7 +203,7 @@ module _ (moment : ℤ) (planned : List Planned) (phase : ℕ) (line : ScriptLin
 
 -- ---- a line of another lane
 
-module _ (moment : ℤ) (planned : List Planned) (phase : ℕ) (line : ScriptLine) (before after : ReservedLog) (place : Place) (noted : HasNoted planned before place) (another : 1 ≤ line.lane)
+module _ (laws : TurnLaws) (moment : ℤ) (planned : List Planned) (phase : ℕ) (line : ScriptLine) (before after : ReservedLog) (place : Place) (noted : HasNoted planned before place) (another : 1 ≤ line.lane)
     (h : IsLaneReadNoted moment phase place.writer line before after) where
   abbrev log : LineLog
   log = h.noted.log
@@ -250,7 +251,7 @@ module _ (moment : ℤ) (planned : List Planned) (phase : ℕ) (line : ScriptLin
     ap length steps-before ∙ length-append front back,
     length-append planned (Runs phase line ∷ []),
     mapped reply_step replies,
-    reply-few log.outcome (parse_line line) log.lane log.revision log.text,
+    laws.replies log.outcome (parse_line line) log.lane log.revision log.text,
     noted.few,
   )
 
@@ -267,7 +268,7 @@ module _ (moment : ℤ) (planned : List Planned) (phase : ℕ) (line : ScriptLin
   both-lane_answer : (P : List Step → List RunLine → Type 0) → P (front ++ (looking ++ back)) (lines_at planned before ++ (line, log) ∷ []) → P (steps_at after place) (lines_at (planned ++ Runs phase line ∷ []) after)
   both-lane_answer P p = subst (λ (l : List Step). P l (lines_at (planned ++ Runs phase line ∷ []) after)) (sym steps-lane_answer) (subst (λ (l : List RunLine). P (front ++ (looking ++ back)) l) (sym lines-lane_answer) p)
 
-  module _ (laws : TurnLaws) (opening : Base) (entry : Devices) (some : HasRunSome moment opening entry planned before place) (place_is : phase ≡ ends_in planned) (exists : line.lane < lane_count) where
+  module _ (opening : Base) (entry : Devices) (some : HasRunSome moment opening entry planned before place) (place_is : phase ≡ ends_in planned) (exists : line.lane < lane_count) where
     abbrev lines-before : List RunLine
     lines-before = lines_at planned before
 
@@ -384,50 +385,23 @@ module _ (moment : ℤ) (planned : List Planned) (before after : ReservedLog) (p
 
 -- ---- any turn
 
-pub noted-more : (moment : ℤ) (planned : List Planned) (turn : Planned) (before after : ReservedLog) (old new : Place) → HasNoted planned before old → IsTurn moment turn old before after new → HasNoted (planned ++ turn ∷ []) after new
-noted-more moment planned (Runs phase line) before after old new noted (inl h) = line-noted moment planned phase line before after old new noted h.0 h.1
-noted-more moment planned (Runs phase line) before after old new noted (inr h) =
-    subst (λ (place : Place). HasNoted (planned ++ Runs phase line ∷ []) after place) (sym h.2) (lane_read-noted moment planned phase line before after old noted h.0 h.1)
-noted-more moment planned Meets before after old new noted h = subst (λ (place : Place). HasNoted (planned ++ Meets ∷ []) after place) (sym h.1) (meet-noted moment planned before after old noted h.0)
+pub noted-more : (laws : TurnLaws) (moment : ℤ) (planned : List Planned) (turn : Planned) (before after : ReservedLog) (old new : Place) → HasNoted planned before old → IsTurn moment turn old before after new → HasNoted (planned ++ turn ∷ []) after new
+noted-more laws moment planned (Runs phase line) before after old new noted (inl h) = line-noted laws moment planned phase line before after old new noted h.0 h.1
+noted-more laws moment planned (Runs phase line) before after old new noted (inr h) =
+    subst (λ (place : Place). HasNoted (planned ++ Runs phase line ∷ []) after place) (sym h.2) (lane_read-noted laws moment planned phase line before after old noted h.0 h.1)
+noted-more laws moment planned Meets before after old new noted h = subst (λ (place : Place). HasNoted (planned ++ Meets ∷ []) after place) (sym h.1) (meet-noted moment planned before after old noted h.0)
 
 pub some-more : (laws : TurnLaws) (moment : ℤ) (opening : Base) (entry : Devices) (planned : List Planned) (turn : Planned) (before after : ReservedLog) (old new : Place) → HasNoted planned before old → IsTurn moment turn old before after new
     → IsNext 0 planned turn → HasRunSome moment opening entry planned before old → HasRunSome moment opening entry (planned ++ turn ∷ []) after new
 some-more laws moment opening entry planned (Runs phase line) before after old new noted (inl h) next some =
     let here : phase ≡ ends_in planned = omega (arith, next.0) in
-    line-some moment planned phase line before after old new noted h.0 h.1 laws opening entry some here
+    line-some laws moment planned phase line before after old new noted h.0 h.1 opening entry some here
 some-more laws moment opening entry planned (Runs phase line) before after old new noted (inr h) next some =
     let here : phase ≡ ends_in planned = omega (arith, next.0) in
     subst (λ (place : Place). HasRunSome moment opening entry (planned ++ Runs phase line ∷ []) after place) (sym h.2)
-    (lane_read-some moment planned phase line before after old noted h.0 h.1 laws opening entry some here next.1)
+    (lane_read-some laws moment planned phase line before after old noted h.0 h.1 opening entry some here next.1)
 some-more laws moment opening entry planned Meets before after old new noted h next some =
     subst (λ (place : Place). HasRunSome moment opening entry (planned ++ Meets ∷ []) after place) (sym h.1) (meet-some moment planned before after old noted h.0 laws opening entry some)
-
--- ---- places
-
-pub spare-fewer : (turns fewer begun : ℕ) (reserved : ReservedLog) → fewer ≤ turns → HasSpare turns begun reserved → HasSpare fewer begun reserved
-spare-fewer turns fewer begun reserved few h =
-    record { logs = omega (arith, h.logs, few); marks = omega (arith, h.marks, few); fallbacks = omega (arith, h.fallbacks, few); texts = h.texts }
-
-pub spare-turn : (moment : ℤ) (turns : ℕ) (turn : Planned) (before after : ReservedLog) (old new : Place) → HasSpare (turns + 1) (length old.writer.begun) before → IsTurn moment turn old before after new
-    → HasSpare turns (length new.writer.begun) after
-spare-turn moment turns (Runs phase line) before after old new h (inl turn) = record {
-  logs = omega (arith, h.logs, turn.1.logs_spare);
-  marks = omega (arith, h.marks, turn.1.marks_spare);
-  fallbacks = omega (arith, h.fallbacks, turn.1.fallbacks);
-  texts = turn.1.texts;
-}
-spare-turn moment turns (Runs phase line) before after old new h (inr turn) = record {
-  logs = omega (arith, h.logs, turn.1.noted.logs_spare);
-  marks = omega (arith, h.marks, turn.1.noted.marks_spare, ap (λ (place : Place). length place.writer.begun) turn.2);
-  fallbacks = omega (arith, h.fallbacks, turn.1.noted.fallbacks);
-  texts = turn.1.noted.texts;
-}
-spare-turn moment turns Meets before after old new h turn = record {
-  logs = omega (arith, h.logs, ap (λ (l : List LineLog × ℕ). l.1) turn.0.logs);
-  marks = omega (arith, h.marks, turn.0.marks_spare, ap (λ (place : Place). length place.writer.begun) turn.1);
-  fallbacks = omega (arith, h.fallbacks, ap (λ (l : List (List ℕ)). length l) turn.0.fallbacks);
-  texts = subst AreFallbacks (sym turn.0.fallbacks) h.texts;
-}
 
 -- the steps that were made so far
 pub steps-same : (moment : ℤ) (turn : Planned) (before after : ReservedLog) (old new : Place) → IsTurn moment turn old before after new → after.steps ≡ before.steps

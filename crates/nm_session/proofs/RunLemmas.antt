@@ -1,4 +1,4 @@
--- One phase more of a session. For the proofs of `run_phases` and `run_one`.
+-- One phase more of a session. For the proofs of `run_phases` and `run_command`.
 use Rattle.std.proofs.Common.{◌≡◌, ℕ, ℤ, ◌+◌, ◌<◌, ◌≤◌, Bool, true, List, [], ◌∷◌, ◌++◌, None, Some, drop, get_or, length, map, take, refl, sym, ap, ◌∙◌, subst, arith}
 use Rattle.std.specs.List.{flat_map}
 use Rattle.std.proofs.lemmas.List.{length-append}
@@ -10,16 +10,22 @@ use Rattle.nm_index.specs.declared.base.Base.{Base}
 use Rattle.nm_io.specs.Observed.{ObservedSink}
 use Rattle.nm_lanes.specs.declared.script.Phase.{Phase}
 use Rattle.nm_log.specs.declared.log.LineLog.{LineLog}
-use Rattle.nm_session.specs.Loop.{AreTaken, HasNoted, HasRunSome, IsBarrierNoted}
+use Rattle.nm_phase.specs.Taken.{AreTaken, IsBarrierNoted}
+use Rattle.nm_session.specs.Loop.{HasNoted, HasRunSome}
 use Rattle.nm_session.specs.PrintedReplies.{PrintsRest}
 use Rattle.nm_trace.specs.ReservedLog.{HasSpare}
 use Rattle.nm_session.specs.TurnLaws.{TurnLaws}
-use Rattle.nm_session.specs.Turns.{AreInPlace, Meets, Planned, other_lanes, places_in, planned_from, planned_line, planned_phase}
+use Rattle.nm_phase.specs.Turns.{Meets, Planned, other_lanes, planned_line, planned_phase}
+use Rattle.nm_session.specs.Turns.{AreInPlace, places_in, planned_from}
 use Rattle.nm_trace.specs.declared.reserved_log.ReservedLog.{ReservedLog}
-use Rattle.nm_session.proofs.LoopLemmas.{spare-fewer}
-use Rattle.nm_session.proofs.PhaseLemmas.{logs-all, noted-all, some-all, spare-all, taken-append, taken-one}
+use Rattle.nm_session.proofs.PhaseLemmas.{logs-all, noted-all, some-all}
 use Rattle.nm_session.proofs.PrintLemmas.{printed-failed, printed-more}
-use Rattle.nm_session.proofs.TurnLemmas.{in-place, lines-planned, mapped-length, phase-cut, phase-more, phase-within, places-left}
+use Rattle.nm_session.proofs.TurnLemmas.{in-place, lines-planned, phase-more, phase-within, places-left}
+
+-- fewer places are spare, too
+spare-fewer : (turns fewer begun : ℕ) (reserved : ReservedLog) → fewer ≤ turns → HasSpare turns begun reserved → HasSpare fewer begun reserved
+spare-fewer turns fewer begun reserved few h =
+    record { logs = omega (arith, h.logs, few); marks = omega (arith, h.marks, few); fallbacks = omega (arith, h.fallbacks, few); texts = h.texts }
 
 module _ (moment : ℤ) (phases : List Phase) (number : ℕ) (phase : Phase) (within : number < length phases) (is : phase ≡ get_or phases number phase) (old new : Place) (before after : ReservedLog) where
   abbrev front : List Planned
@@ -39,15 +45,15 @@ module _ (moment : ℤ) (phases : List Phase) (number : ℕ) (phase : Phase) (wi
       spare-fewer (places_in (drop number phases)) (length turns) begun before (omega (arith, places-left phases number phase within is, phase-within number phase)) spare
 
   module _ (taken : AreTaken moment turns old before after new) where
-    pub spare-there : HasSpare (places_in (drop number phases)) (length old.writer.begun) before → HasSpare (places_in (drop (number + 1) phases)) (length new.writer.begun) after
-    spare-there spare =
-        spare-all moment (places_in (drop (number + 1) phases)) turns old new before after
+    pub spare-there : TurnLaws → HasSpare (places_in (drop number phases)) (length old.writer.begun) before → HasSpare (places_in (drop (number + 1) phases)) (length new.writer.begun) after
+    spare-there laws spare =
+        laws.spare moment (places_in (drop (number + 1) phases)) turns old new before after
         (spare-fewer (places_in (drop number phases)) (places_in (drop (number + 1) phases) + length turns) (length old.writer.begun) before
         (omega (arith, places-left phases number phase within is, phase-within number phase)) spare) taken
 
     module _ (noted : HasNoted front before old) where
-      pub noted-there : HasNoted longer after new
-      noted-there = subst (λ (l : List Planned). HasNoted l after new) longer-is (noted-all moment front turns old new before after noted taken)
+      pub noted-there : TurnLaws → HasNoted longer after new
+      noted-there laws = subst (λ (l : List Planned). HasNoted l after new) longer-is (noted-all laws moment front turns old new before after noted taken)
 
       pub some-there : (laws : TurnLaws) (opening : Base) (entry : Devices) → HasRunSome moment opening entry front before old → HasRunSome moment opening entry longer after new
       some-there laws opening entry some =
@@ -68,49 +74,3 @@ module _ (moment : ℤ) (phases : List Phase) (number : ℕ) (phase : Phase) (wi
         failed-there h =
             printed-failed session before.logs.0 more.0 after.logs.0 more.1 printed count first mid last number so_far phases
             (subst (λ (l : List PlacedLine). AreLogsOf l before.logs.0) (lines-planned 0 (take number phases)) noted.logs) h
-
--- ---- the parts of a phase
-
-module _ (moment : ℤ) (number : ℕ) (phase : Phase) (old mid : Place) (reserved worked : ReservedLog) where
-  abbrev zeros : List Planned
-  zeros = map (planned_line number) (lines_of_lane phase.lines 0)
-
-  abbrev others : List Planned
-  others = map (planned_line number) (flat_map (lines_of_lane phase.lines) other_lanes)
-
-  parts-length : length (planned_phase number phase) ≡ length zeros + (length others + 1)
-  parts-length = omega (arith, ap length (phase-cut number phase) ∙ length-append zeros (others ++ Meets ∷ []), length-append others (Meets ∷ []))
-
-  pub spare-zeros : (begun : ℕ) → HasSpare (length (planned_phase number phase)) begun reserved → HasSpare (length (lines_of_lane phase.lines 0)) begun reserved
-  spare-zeros begun spare =
-      spare-fewer (length (planned_phase number phase)) (length (lines_of_lane phase.lines 0)) begun reserved
-      (omega (arith, parts-length, mapped-length (planned_line number) (lines_of_lane phase.lines 0))) spare
-
-  module _ (taken : AreTaken moment zeros old reserved worked mid) (spare : HasSpare (length (planned_phase number phase)) (length old.writer.begun) reserved) where
-    swapped : length zeros + (length others + 1) ≡ length others + 1 + length zeros
-    swapped = omega arith
-
-    after-zeros : HasSpare (length others + 1) (length mid.writer.begun) worked
-    after-zeros =
-        spare-all moment (length others + 1) zeros old mid reserved worked
-        (subst (λ (n : ℕ). HasSpare n (length old.writer.begun) reserved) (parts-length ∙ swapped) spare) taken
-
-    pub spare-others : HasSpare (length (flat_map (lines_of_lane phase.lines) other_lanes)) (length mid.writer.begun) worked
-    spare-others =
-        spare-fewer (length others + 1) (length (flat_map (lines_of_lane phase.lines) other_lanes)) (length mid.writer.begun) worked
-        (omega (arith, mapped-length (planned_line number) (flat_map (lines_of_lane phase.lines) other_lanes))) after-zeros
-
-    module _ (settled : ReservedLog) (lane_answer : AreTaken moment others mid worked settled mid) where
-      one-left : HasSpare 1 (length mid.writer.begun) settled
-      one-left =
-          let more : length others + 1 ≡ 1 + length others = omega arith in
-          spare-all moment 1 others mid mid worked settled (subst (λ (n : ℕ). HasSpare n (length mid.writer.begun) worked) more after-zeros) lane_answer
-
-      pub room-to-meet : length mid.writer.begun ≤ max_commits → 0 < settled.marks.1
-      room-to-meet few = omega (arith, one-left.marks, few)
-
-      pub phase-taken : (met : ReservedLog) → IsBarrierNoted settled met → AreTaken moment (planned_phase number phase) old reserved met mid
-      phase-taken met last_barrier =
-          subst (λ (l : List Planned). AreTaken moment l old reserved met mid) (sym (phase-cut number phase))
-          (taken-append moment zeros (others ++ Meets ∷ []) old mid mid reserved worked met taken
-          (taken-append moment others (Meets ∷ []) mid mid mid worked settled met lane_answer (taken-one moment Meets mid mid settled met (last_barrier, refl))))

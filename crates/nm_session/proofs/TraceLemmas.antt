@@ -1,4 +1,4 @@
--- The steps of marks after marks, and those of a line. For `LineLemmas` and `LoopLemmas`.
+-- The steps of marks after marks, and those of a line. For `LoopLemmas`, `PlaceLemmas` and `EndLemmas`.
 use Rattle.std.proofs.Common.{◌≡◌, ℕ, ◌+◌, ◌*◌, suc, List, [], ◌∷◌, ◌++◌, length, map, refl, sym, ap, ◌∙◌, arith}
 use Rattle.std.proofs.lemmas.List.{length-append}
 use Rattle.std.specs.List.{AllByRecursion, flat_map}
@@ -74,38 +74,6 @@ line-steps (commit ∷ made) in_flight replies = ap (λ (l : List Step). steps.B
 
 pub lane_read-steps-are : (lane : ℕ) (replies : List Replied) → steps_of (lane_read_marks lane replies) [] ≡ lane_read_steps lane replies
 lane_read-steps-are lane replies = ap (λ (l : List Step). steps.See lane ∷ l) (replies-steps replies)
-
--- a line replies in its lane
-
-abbrev OfLane : ℕ → List Replied → Type 0
-OfLane lane replies = AllByRecursion (λ (replied : Replied). replied.lane ≡ lane) replies
-
-asked-lane : (line : ParsedLine) (lane revision : ℕ) (text : List ℕ) → OfLane lane (replied_where outcomes.Ok line lane revision text)
-asked-lane (asked.Request request) lane revision text = (refl, tt)
-asked-lane (asked.Usage word kind) lane revision text = tt
-
-in-lane : (outcome : Outcome) (line : ParsedLine) (lane revision : ℕ) (text : List ℕ) → OfLane lane (replied_where outcome line lane revision text)
-in-lane outcomes.Ok line lane revision text = asked-lane line lane revision text
-in-lane (outcomes.Usage word kind) line lane revision text = tt
-in-lane (outcomes.BadQuery at kind) line lane revision text = tt
-in-lane (outcomes.BadDate at) line lane revision text = tt
-in-lane (outcomes.BadLine bad kind) line lane revision text = tt
-in-lane (outcomes.NotOne found) line lane revision text = tt
-in-lane (outcomes.Gone path) line lane revision text = tt
-in-lane outcomes.MailFault line lane revision text = tt
-in-lane outcomes.DiskFault line lane revision text = tt
-in-lane (outcomes.Closed fault) line lane revision text = tt
-in-lane (outcomes.Limit limit) line lane revision text = tt
-in-lane outcomes.NoMemory line lane revision text = tt
-
-marks-in : (lane : ℕ) (replies : List Replied) → OfLane lane replies → said_marks lane (map said_of replies) ≡ map reply_mark replies
-marks-in lane [] h = refl
-marks-in lane (replied ∷ replies) h =
-    ap (λ (l : List Mark). said_mark lane (said_of replied) ∷ l) (marks-in lane replies h.1) ∙ ap (λ (n : ℕ). said_mark n (said_of replied) ∷ map reply_mark replies) (sym h.0)
-
--- so what was said has the marks of its replies
-pub said-marks : (ran : RunLine) (said : List Said) → said ≡ map said_of (reply_to ran) → said_marks ran.1.lane said ≡ map reply_mark (reply_to ran)
-said-marks ran said is = ap (said_marks ran.1.lane) is ∙ marks-in ran.1.lane (reply_to ran) (in-lane ran.1.outcome (parse_line ran.0) ran.1.lane ran.1.revision ran.1.text)
 
 -- how many they are
 

@@ -5,8 +5,8 @@ use Rattle.nm_history.specs.LineResult.{Place}
 use Rattle.nm_lanes.specs.declared.script.ScriptLine.{ScriptLine}
 use Rattle.nm_line.specs.Line.{place_at}
 use Rattle.nm_maildir.specs.Observed.{ObservedMail}
-use Rattle.nm_session.specs.LineLog.{IsNoted}
-use Rattle.nm_session.specs.Loop.{IsBarrierNoted}
+use Rattle.nm_phase.specs.LineLog.{IsNoted}
+use Rattle.nm_phase.specs.Taken.{IsBarrierNoted}
 use Rattle.nm_trace.specs.declared.reserved_log.ReservedLog.{ReservedLog}
 use Rattle.nm_writer.specs.Writer.{WriterState}
 

@@ -1,12 +1,8 @@
 pub mod Alone
-pub mod LaneLog
-pub mod LineLog
 pub mod Loop
-pub mod Observations
 pub mod Phases
 pub mod PrintedReplies
 pub mod Run
 pub mod Session
-pub mod Stage
 pub mod TurnLaws
 pub mod Turns

@@ -1,5 +1,5 @@
--- Where a session comes after its first turns. Cited by `barrier`, `first_lane` and `phases`.
-use Rattle.std.specs.Prelude.{◌≡◌, ◌⊎◌, ℤ, ◌+◌, ◌*◌, ◌≤◌, List, [], ◌∷◌, ◌++◌, length}
+-- Where a session comes after its first turns. Cited by `phases`.
+use Rattle.std.specs.Prelude.{◌≡◌, ℤ, ◌+◌, ◌*◌, ◌≤◌, List, [], ◌∷◌, length}
 use Rattle.nm_base.specs.Limits.{max_commits}
 use Rattle.nm_commit.specs.declared.change.Commit.{Commit}
 use Rattle.nm_history.specs.Call.{Devices}
@@ -14,10 +14,9 @@ use Rattle.nm_history.specs.PrintedOut.{AreLogsOf}
 use Rattle.nm_index.specs.declared.base.Base.{Base}
 use Rattle.nm_machine.specs.declared.step.Step.{Step}
 use Rattle.nm_line.specs.Line.{IsEven}
-use Rattle.nm_session.specs.LineLog.{IsNoted}
-use Rattle.nm_session.specs.LaneLog.{IsLaneReadNoted}
 use Rattle.nm_trace.specs.Trace.{steps_of}
-use Rattle.nm_session.specs.Turns.{Meets, Planned, Runs, ends_in, lines_in}
+use Rattle.nm_phase.specs.Turns.{Planned}
+use Rattle.nm_session.specs.Turns.{ends_in, lines_in}
 use Rattle.nm_trace.specs.declared.trace.Mark.{Mark}
 use Rattle.nm_trace.specs.declared.trace.Mark.TheVariants as marks
 use Rattle.nm_trace.specs.declared.reserved_log.ReservedLog.{ReservedLog}
@@ -60,24 +59,3 @@ pub record HasRunSome (moment : ℤ) (opening : Base) (entry : Devices) (planned
   pub lane_answers : LaneAnswers opening moment (steps_at reserved place) (other_lane_lines (lines_at planned reserved))
   pub given : GivenAlong opening moment (steps_at reserved place) (at_first opening entry) (lane_zero_lines (lines_at planned reserved)) entry.mail place.mail
   pub clocks : length place.writer.acked ≡ appends (steps_at reserved place)
-
--- A phase ended, and nothing else did.
-pub record IsBarrierNoted (before after : ReservedLog) : Type 0 where
-  pub marks : after.marks.0 ≡ before.marks.0 ++ marks.Met ∷ []
-  pub marks_spare : after.marks.1 + 1 ≡ before.marks.1
-  pub logs : after.logs ≡ before.logs
-  pub steps : after.steps ≡ before.steps
-  pub fallbacks : after.fallbacks ≡ before.fallbacks
-
--- A turn was taken: a line of lane 0 was run, or one of another lane over what the writer has shown, or a phase ended.
-abbrev pub IsTurn : ℤ → Planned → Place → ReservedLog → ReservedLog → Place → Type 0
-IsTurn moment (Runs phase line) old before after new =
-    ((line.lane ≡ 0) × IsNoted moment phase old line before after new)
-    ⊎ ((1 ≤ line.lane) × IsLaneReadNoted moment phase old.writer line before after × (new ≡ old))
-IsTurn moment Meets old before after new = IsBarrierNoted before after × (new ≡ old)
-
--- these turns were taken, one after the other
-abbrev pub AreTaken : ℤ → List Planned → Place → ReservedLog → ReservedLog → Place → Type 0
-AreTaken moment [] old before after new = (after ≡ before) × (new ≡ old)
-AreTaken moment (turn ∷ more) old before after new =
-    (mid : Place) × (between : ReservedLog) × IsTurn moment turn old before between mid × AreTaken moment more mid between after new

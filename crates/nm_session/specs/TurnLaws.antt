@@ -1,5 +1,5 @@
 -- The laws on which the turns of a session rest. Cited by `laws`.
-use Rattle.std.specs.Prelude.{◌≡◌, ℕ, ℤ, ◌+◌, List, [], ◌∷◌, ◌++◌, Option, None, length}
+use Rattle.std.specs.Prelude.{◌≡◌, ℕ, ℤ, ◌+◌, ◌≤◌, Bool, List, [], ◌∷◌, ◌++◌, Option, None, length}
 use Rattle.nm_base.specs.Limits.{max_mail_bytes}
 use Rattle.nm_commit.specs.declared.change.Commit.{Commit}
 use Rattle.nm_history.specs.Call.{Devices}
@@ -9,12 +9,21 @@ use Rattle.nm_history.specs.LineAnswers.{LaneAnswers, LineAnswers}
 use Rattle.nm_history.specs.LineCommits.{LineCommits}
 use Rattle.nm_history.specs.LineResult.{CommitNothing, IsLineResult, IsLaneReadResult, Place, StandsAt, lane_read_steps}
 use Rattle.nm_history.specs.Lines.{Before, RunLine, at_first, lane_zero_lines}
-use Rattle.nm_history.specs.MachineRun.{MachineRun, Replied}
+use Rattle.nm_history.specs.MachineRun.{MachineRun, Replied, replied_where}
 use Rattle.nm_index.specs.declared.base.Base.{Base}
+use Rattle.nm_lanes.specs.declared.script.ScriptLine.{ScriptLine}
+use Rattle.nm_line.specs.Line.{IsEven, IsLineAnswer}
+use Rattle.nm_log.specs.declared.line_parser.ParsedLine.{ParsedLine}
+use Rattle.nm_log.specs.declared.outcome.Outcome.{Outcome}
 use Rattle.nm_machine.specs.declared.step.Step.{Step}
 use Rattle.nm_machine.specs.declared.step.Step.TheVariants.{Meet}
 use Rattle.nm_maildir.specs.Observed.{ObservedMail}
 use Rattle.nm_maildir.specs.Tree.{Tree}
+use Rattle.nm_maildir.specs.declared.given.Given.{Given}
+use Rattle.nm_phase.specs.Taken.{AreTaken}
+use Rattle.nm_phase.specs.Turns.{Planned}
+use Rattle.nm_trace.specs.ReservedLog.{HasSpare}
+use Rattle.nm_trace.specs.declared.reserved_log.ReservedLog.{ReservedLog}
 
 -- Before the first line.
 pub record FirstLaws : Type 0 where
@@ -27,6 +36,10 @@ pub record FirstLaws : Type 0 where
 
 -- Of one more line, of one more read, and of the end of a phase.
 pub record TurnLaws : Type 0 where
+  pub spare : (moment : ℤ) (left : ℕ) (turns : List Planned) (old new : Place) (before after : ReservedLog) → HasSpare (left + length turns) (length old.writer.begun) before → AreTaken moment turns old before after new
+      → HasSpare left (length new.writer.begun) after
+  pub even : (moment : ℤ) (old new : Place) (line : ScriptLine) (noted : List Given) (outcome : Outcome) (failed : Bool) → IsLineAnswer moment old line noted outcome failed new → IsEven old.writer → IsEven new.writer
+  pub replies : (outcome : Outcome) (line : ParsedLine) (lane revision : ℕ) (text : List ℕ) → length (replied_where outcome line lane revision text) ≤ 1
   pub stands : (opening : Base) (moment : ℤ) (phase : ℕ) (entry : Devices) (steps taken : List Step) (lines : List RunLine) (acknowledged : List Commit) (old new : Place) (ran : RunLine) → StandsAt opening entry steps lines acknowledged old
       → (result : IsLineResult moment phase old ran taken new) → StandsAt opening entry (steps ++ taken) (lines ++ ran ∷ []) (acknowledged ++ result.made) new
   pub machine_run : (opening : Base) (moment : ℤ) (phase : ℕ) (entry : Devices) (steps taken : List Step) (lines : List RunLine) (acknowledged : List Commit) (old new : Place) (ran : RunLine)

@@ -1,23 +1,10 @@
--- The turns of a session: each phase has its lines, one lane after the other, and then comes the barrier of all lanes. Cited by `plan`,
--- `barrier` and `phases`.
-use Rattle.std.specs.Prelude.{◌≡◌, ℕ, ◌+◌, ◌<◌, List, [], ◌∷◌, ◌++◌, length, map}
-use Rattle.std.specs.List.{flat_map, range_with_len}
-use Rattle.nm_history.specs.Call.{PlacedLine, lines_by_lane}
+-- The turns of a session: those of its phases, one after the other. Cited by `plan` and `phases`.
+use Rattle.std.specs.Prelude.{◌≡◌, ℕ, ◌+◌, ◌<◌, List, [], ◌∷◌, ◌++◌, length}
+use Rattle.std.specs.List.{flat_map}
+use Rattle.nm_history.specs.Call.{PlacedLine}
 use Rattle.nm_history.specs.MachineRun.{lane_count}
 use Rattle.nm_lanes.specs.declared.script.Phase.{Phase}
-use Rattle.nm_lanes.specs.declared.script.ScriptLine.{ScriptLine}
-
--- what comes next: a line of a phase, or the end of one
-pub data Planned : Type 0 where
-  Runs : ℕ → ScriptLine → Planned
-  Meets : Planned
-
-abbrev pub planned_line : ℕ → ScriptLine → Planned
-planned_line phase line = Runs phase line
-
--- a phase of this number
-abbrev pub planned_phase : ℕ → Phase → List Planned
-planned_phase number phase = map (planned_line number) (lines_by_lane phase) ++ Meets ∷ []
+use Rattle.nm_phase.specs.Turns.{Meets, Planned, Runs, planned_phase}
 
 -- phases that are numbered from this one on
 abbrev pub planned_from : ℕ → List Phase → List Planned
@@ -44,10 +31,6 @@ abbrev pub AreInPlace : ℕ → List Planned → Type 0
 AreInPlace number [] = Unit {0}
 AreInPlace number (Runs phase line ∷ more) = (phase ≡ number) × (line.lane < lane_count) × AreInPlace number more
 AreInPlace number (Meets ∷ more) = AreInPlace (number + 1) more
-
--- lanes 1 to 15
-abbrev pub other_lanes : List ℕ
-other_lanes = range_with_len 1 15
 
 -- places for the turns of these phases: their lines, and the end of each
 abbrev pub places_in : List Phase → ℕ

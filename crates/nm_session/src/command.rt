@@ -16,7 +16,6 @@ ghost use Rattle.nm_trace.specs.ReservedLog.{HasSpare};
 ghost use Rattle.nm_writer.specs.Durable.{IsDurable};
 
 use crate::laws::{first_laws, turn_laws};
-use crate::line::{AskedLine, run_line};
 use crate::phases::{MAX_SHOWN, finish};
 use crate::print::print_all;
 use nm_disk::Disk;
@@ -25,6 +24,7 @@ use nm_io::Sink;
 use nm_line::{Desk, Prepared};
 use nm_log::{Crew, SessionLog};
 use nm_maildir::Maildir;
+use nm_phase::{AskedLine, run_line};
 use nm_replay::OpenError;
 use nm_trace::ReservedLog;
 use nm_writer::{Opened, Writer};

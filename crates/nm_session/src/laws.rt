@@ -11,6 +11,7 @@ use nm_history::{
     nothing_is_given_to_no_line, what_commits_nothing_keeps_the_commits,
     what_stands_between_keeps_the_answers, what_stands_between_keeps_the_commits,
 };
+use nm_phase::{a_line_keeps_the_writer_even, a_line_replies_once, turns_leave_the_other_places};
 
 /// Those before the first line.
 pub(crate) fn first_laws()
@@ -41,4 +42,7 @@ pub(crate) fn turn_laws()
     what_stands_between_keeps_the_commits();
     what_stands_between_keeps_the_answers();
     later_steps_keep_the_answers();
+    turns_leave_the_other_places();
+    a_line_keeps_the_writer_even();
+    a_line_replies_once();
 }

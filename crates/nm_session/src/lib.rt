@@ -1,18 +1,12 @@
-//! Commands and replies: a session: opens the index that a disk holds, runs the phases of a script over it and a mail folder, all
-//! lanes of a phase at once, prints the replies of each, and tells what each line did.
+//! Commands and replies: a session: opens the index that a disk holds, runs the phases of a script over it and a mail folder, prints the
+//! replies of each, and tells what each line did. A single command is one line, run without lanes round it.
 #![tactic(auto)]
 
-mod barrier;
 mod command;
-mod first_lane;
-mod lane_log;
 mod laws;
-mod line;
 mod phases;
 mod plan;
 mod print;
-mod reader_lane;
-mod reads;
 mod session;
 
 pub use command::run_command;

@@ -1,5 +1,4 @@
-//! The phases of a session, one after the other, over the index that `session` has opened: of each all lanes at once, and then its
-//! replies are printed.
+//! The phases of a session, one after the other, over the index that `session` has opened; the replies of each are printed at its end.
 
 ghost use Rattle.std.specs.Prelude.{◌≡◌, ◌+◌, ◌<◌, ◌≤◌, [], None, Some, length, slice_get};
 ghost use Rattle.std.specs.List.{All, AllZip};
@@ -10,26 +9,24 @@ ghost use Rattle.nm_index.specs.declared.base.Base.{Base};
 ghost use Rattle.nm_lanes.specs.declared.script.Phase.{Phase};
 ghost use Rattle.nm_line.specs.Desk.{Stands};
 ghost use Rattle.nm_line.specs.Line.{IsEven, place_at};
-ghost use Rattle.nm_session.specs.Loop.{AreTaken};
-ghost use Rattle.nm_session.specs.Phases.{HasRunPhases, HasWorked, IsReady};
-ghost use Rattle.nm_session.specs.Observations.{HasSeen, IsLaneAt};
-ghost use Rattle.nm_session.specs.Stage.{KeepsLoans, StaysDurable, place_in};
-ghost use Rattle.nm_session.specs.Turns.{places_in, planned_phase};
+ghost use Rattle.nm_phase.specs.Taken.{AreTaken};
+ghost use Rattle.nm_phase.specs.FirstLane.{HasWorked, IsReady};
+ghost use Rattle.nm_session.specs.Phases.{HasRunPhases};
+ghost use Rattle.nm_phase.specs.Observations.{HasSeen, IsLaneAt};
+ghost use Rattle.nm_phase.specs.Stage.{KeepsLoans, StaysDurable, place_in};
+ghost use Rattle.nm_phase.specs.Turns.{planned_phase};
+ghost use Rattle.nm_session.specs.Turns.{places_in};
 ghost use Rattle.nm_trace.specs.Trace.{steps_of};
 ghost use Rattle.nm_trace.specs.ReservedLog.{HasRoom, HasSpare};
 ghost use Rattle.nm_writer.specs.Durable.{IsDurable};
 
-use crate::barrier::settle;
-use crate::first_lane::FirstLane;
 use crate::laws::{first_laws, turn_laws};
 use crate::print::print_rest;
-use crate::reader_lane::ReaderLane;
 use nm_disk::Disk;
 use nm_io::Sink;
-use nm_lanes::{Phase, ScriptLine, run_phase};
-use nm_line::Desk;
-use nm_log::{Crew, SessionLog};
+use nm_log::SessionLog;
 use nm_maildir::Maildir;
+use nm_phase::{Asked, ReaderLane, Stage};
 use nm_trace::{ReservedLog, push_steps};
 use nm_workers::Gate;
 use nm_writer::Writer;
@@ -38,28 +35,6 @@ use std::thread::Threads;
 
 /// The most bytes that all lines may show.
 pub(crate) const MAX_SHOWN: u64 = 67_108_864;
-
-/// What a session is asked, and by whom it is run.
-#[derive(Drop)]
-pub(crate) struct Asked<'s, 'r, R, G> {
-    pub(crate) crew: &'s Crew<'r, R>,
-    pub(crate) gate: &'s G,
-    /// Whether each reply is printed after a header.
-    pub(crate) session: bool,
-    pub(crate) phases: &'s [Phase],
-    /// How many phases there are.
-    pub(crate) count: u32,
-}
-
-/// A session over an index that was opened: its log so far, and what its phases are run over.
-#[derive(Drop)]
-pub(crate) struct Stage<'v, 'w, 'm, 'd, 'o, M, D, O> {
-    pub(crate) reserved: &'v mut ReservedLog,
-    pub(crate) writer: &'w mut Writer,
-    pub(crate) mail: &'m mut M,
-    pub(crate) disk: &'d mut D,
-    pub(crate) out: &'o mut O,
-}
 
 /// Runs the phases over an index that was opened. It answers how many bytes may still be shown, and whether the output failed.
 pub(crate) fn run_all<R: Threads + Wait + Sync, M: Maildir, D: Disk, O: Sink, G: Gate + Sync>(
@@ -89,112 +64,45 @@ pub(crate) fn run_all<R: Threads + Wait + Sync, M: Maildir, D: Disk, O: Sink, G:
         disk,
         out,
     };
-    stage.run_phases(asked, lanes)
+    run_phases(&mut stage, asked, lanes)
 }
 
-impl<M: Maildir, D: Disk, O: Sink> Stage<'_, '_, '_, '_, '_, M, D, O> {
-    /// Runs the phases in their order, and notes and prints each. It answers how many bytes may still be shown, and whether the output failed;
-    /// then no further phase is run.
-    pub(crate) fn run_phases<R: Threads + Wait + Sync, G: Gate + Sync>(
-        &mut self,
-        asked: &Asked<'_, '_, R, G>,
-        lanes: &mut [ReaderLane<'_>],
-    ) -> (u64, bool)
-        requires count { asked.now.count ≡ length asked.now.phases.now }
-        requires reserved { HasRoom (places_in asked.now.phases.now) self.old.reserved.now }
-        requires fresh { (self.old.writer.now.begun ≡ []) × (self.old.writer.now.acked ≡ []) × (self.old.writer.now.closed ≡ None) }
-        requires published { (self.old.writer.now.published.opening ≡ self.old.writer.now.shown) × (self.old.writer.now.published.commits ≡ []) }
-        requires lanes { All (IsLaneAt asked.now.crew.now.setting.now.moment asked.now.phases.now 0 self.old.writer.now.published.book) lanes.old }
-        requires stands { Stands self.old.writer.now (D.observed self.old.disk.now) }
-        ensures run { HasRunPhases asked.now.crew.now.setting.now.moment asked.now.session result.1 self.old.writer.now.shown (M.observed self.old.mail.now) (D.observed self.old.disk.now).faults
-            asked.now.phases.now self.new.reserved.now (place_in M.observed D.observed self.new result.0) (O.observed self.old.out.now) (O.observed self.new.out.now) }
-        ensures steps { self.new.reserved.now.steps ≡ self.old.reserved.now.steps }
-        ensures durable { StaysDurable D.observed self.old self.new }
-        ensures loans { KeepsLoans self.old self.new }
-    {
-        first_laws();
-        turn_laws();
-        let mut left = MAX_SHOWN;
-        let mut printed = 0;
-        'phases: for number in 0..asked.count {
-            left = self.run_one(asked, number, lanes, left);
-            match print_rest(
-                asked.session,
-                self.reserved.logs.as_slice(),
-                printed,
-                self.out,
-            ) {
-                Some(now) => printed = now,
-                None => return (left, true),
-            }
+/// Runs the phases in their order, and notes and prints each. It answers how many bytes may still be shown, and whether the output failed;
+/// then no further phase is run.
+fn run_phases<R: Threads + Wait + Sync, M: Maildir, D: Disk, O: Sink, G: Gate + Sync>(
+    stage: &mut Stage<'_, '_, '_, '_, '_, M, D, O>,
+    asked: &Asked<'_, '_, R, G>,
+    lanes: &mut [ReaderLane<'_>],
+) -> (u64, bool)
+    requires count { asked.now.count ≡ length asked.now.phases.now }
+    requires reserved { HasRoom (places_in asked.now.phases.now) stage.old.reserved.now }
+    requires fresh { (stage.old.writer.now.begun ≡ []) × (stage.old.writer.now.acked ≡ []) × (stage.old.writer.now.closed ≡ None) }
+    requires published { (stage.old.writer.now.published.opening ≡ stage.old.writer.now.shown) × (stage.old.writer.now.published.commits ≡ []) }
+    requires lanes { All (IsLaneAt asked.now.crew.now.setting.now.moment asked.now.phases.now 0 stage.old.writer.now.published.book) lanes.old }
+    requires stands { Stands stage.old.writer.now (D.observed stage.old.disk.now) }
+    ensures run { HasRunPhases asked.now.crew.now.setting.now.moment asked.now.session result.1 stage.old.writer.now.shown (M.observed stage.old.mail.now) (D.observed stage.old.disk.now).faults
+        asked.now.phases.now stage.new.reserved.now (place_in M.observed D.observed stage.new result.0) (O.observed stage.old.out.now) (O.observed stage.new.out.now) }
+    ensures steps { stage.new.reserved.now.steps ≡ stage.old.reserved.now.steps }
+    ensures durable { StaysDurable D.observed stage.old stage.new }
+    ensures loans { KeepsLoans stage.old stage.new }
+{
+    first_laws();
+    turn_laws();
+    let mut left = MAX_SHOWN;
+    let mut printed = 0;
+    'phases: for number in 0..asked.count {
+        left = stage.run_one(asked, number, lanes, left);
+        match print_rest(
+            asked.session,
+            stage.reserved.logs.as_slice(),
+            printed,
+            stage.out,
+        ) {
+            Some(now) => printed = now,
+            None => return (left, true),
         }
-        (left, false)
     }
-
-    /// Runs one phase: all lanes at once; then what the other lanes read is noted, and the phase ends. It answers how many bytes may still be
-    /// shown.
-    fn run_one<R: Threads + Wait + Sync, G: Gate + Sync>(
-        &mut self,
-        asked: &Asked<'_, '_, R, G>,
-        number: u32,
-        lanes: &mut [ReaderLane<'_>],
-        left: u64,
-    ) -> u64
-        requires number { number < length asked.now.phases.now }
-        requires spare { (phase : Phase) → slice_get asked.now.phases.now number ≡ Some phase → HasSpare (length (planned_phase number phase)) (length self.old.writer.now.begun) self.old.reserved.now }
-        requires even { IsEven self.old.writer.now }
-        requires few { length self.old.writer.now.begun ≤ max_commits }
-        requires lanes { All (IsLaneAt asked.now.crew.now.setting.now.moment asked.now.phases.now number self.old.writer.now.published.book) lanes.old }
-        requires stands { Stands self.old.writer.now (D.observed self.old.disk.now) }
-        ensures taken { (phase : Phase) → slice_get asked.now.phases.now number ≡ Some phase
-            → AreTaken asked.now.crew.now.setting.now.moment (planned_phase number phase) (place_in M.observed D.observed self.old left) self.old.reserved.now self.new.reserved.now
-            (place_in M.observed D.observed self.new result) }
-        ensures lanes { All (IsLaneAt asked.now.crew.now.setting.now.moment asked.now.phases.now (number + 1) self.new.writer.now.published.book) lanes.new }
-        ensures stands { Stands self.new.writer.now (D.observed self.new.disk.now) }
-        ensures durable { StaysDurable D.observed self.old self.new }
-        ensures loans { KeepsLoans self.old self.new }
-        ensures out { O.observed self.new.out.now ≡ O.observed self.old.out.now }
-    {
-        let lines = asked.phases[number as usize].lines.as_slice();
-        let left = self.work(asked, number, lines, lanes, left);
-        settle(asked.crew, number, lines, lanes, self.reserved, self.writer);
-        self.reserved.note_barrier();
-        left
-    }
-
-    /// Works all lanes at once. It answers how many bytes may still be shown.
-    fn work<R: Threads + Wait + Sync, G: Gate + Sync>(
-        &mut self,
-        asked: &Asked<'_, '_, R, G>,
-        phase: u32,
-        lines: &[ScriptLine],
-        lanes: &mut [ReaderLane<'_>],
-        left: u64,
-    ) -> u64
-        requires ready { IsReady lines.now self.old.reserved.now self.old.writer.now (D.observed self.old.disk.now) }
-        requires lanes { All (λ lane. IsMoment lane.setting.now.moment) lanes.old }
-        ensures worked { HasWorked asked.now.crew.now.setting.now.moment phase lines.now self.old.reserved.now (place_in M.observed D.observed self.old left) (D.observed self.old.disk.now)
-            self.new.reserved.now (place_in M.observed D.observed self.new result) (D.observed self.new.disk.now) }
-        ensures seen { AllZip HasSeen lanes.old lanes.new }
-        ensures loans { KeepsLoans self.old self.new }
-        ensures out { O.observed self.new.out.now ≡ O.observed self.old.out.now }
-    {
-        let desk = Desk {
-            writer: self.writer,
-            mail: self.mail,
-            disk: self.disk,
-        };
-        let mut first = FirstLane {
-            crew: asked.crew,
-            phase,
-            lines,
-            reserved: self.reserved,
-            desk,
-            left,
-        };
-        run_phase(asked.crew.rt, &mut first, lanes, asked.gate);
-        first.left
-    }
+    (left, false)
 }
 
 /// The log of the lines that were noted; it takes no memory.

@@ -4,19 +4,16 @@ ghost use Rattle.std.specs.Prelude.{◌≡◌, ◌+◌, ◌≤◌, IfOk, IfSome,
 ghost use Rattle.std.specs.List.{All, AllByRecursion};
 ghost use Rattle.logbook.specs.Pages.{Book};
 ghost use Rattle.nm_session.specs.Session.{IsPlanned};
-ghost use Rattle.nm_session.specs.Observations.{IsLaneAt};
+ghost use Rattle.nm_phase.specs.Observations.{IsLaneAt};
 ghost use Rattle.nm_session.specs.Turns.{places_in};
 
-use crate::reader_lane::ReaderLane;
 use nm_base::{Many, NoMemory, Room};
 use nm_lanes::{Phase, ScriptLine};
 use nm_log::Setting;
+use nm_phase::{LANES, ReaderLane};
 use nm_publish::Reader;
 use nm_trace::ReservedLog;
 use std::alloc::Global;
-
-/// Lanes 0 to 15.
-pub(crate) const LANES: u32 = 16;
 
 /// The lanes other than 0.
 const OTHER_LANES: usize = 15;

@@ -5,7 +5,7 @@ ghost use Rattle.nm_history.specs.Call.{devices};
 ghost use Rattle.nm_io.specs.Observed.{ObservedSink, ObservedStream};
 ghost use Rattle.nm_session.specs.Session.{IsPlanned, IsSession, IsUnopened};
 
-use crate::phases::{Asked, finish, run_all};
+use crate::phases::{finish, run_all};
 use crate::plan::{Plan, lanes_with, prepare};
 use nm_base::NoMemory;
 use nm_disk::Disk;
@@ -14,6 +14,7 @@ use nm_io::Sink;
 use nm_lanes::Phase;
 use nm_log::{Crew, SessionLog};
 use nm_maildir::Maildir;
+use nm_phase::Asked;
 use nm_replay::OpenError;
 use nm_workers::Gate;
 use nm_writer::{Opened, Writer};

@@ -1,8 +1,9 @@
-//! What the lines of a session leave for its steps, for `reserved_log`. The commits are the writer's until the session ends, so that no
+//! What the lines of a session leave for its steps, for `reserved_log` and `nm_phase`. The commits are the writer's until the session ends, so that no
 //! step takes memory then.
 
 ghost use Rattle.std.specs.Prelude.{◌≡◌, ◌+◌, ◌<◌, ◌≤◌, ◌++◌, ◌∷◌, [], length, IfOk};
 ghost use Rattle.std.specs.List.{insert};
+ghost use Rattle.nm_trace.specs.Trace.{is_of_others, made_by};
 
 use nm_base::{Many, NoMemory};
 use nm_log::Said;
@@ -89,5 +90,29 @@ impl Trace {
     {
         let Trace { vec, spare: _ } = self;
         Many::from_vec(vec)
+    }
+}
+
+/// Says whether no phase ends with the mark, and it is none of this lane.
+pub fn is_of_others(lane: u32, mark: &Mark) -> bool
+    ensures { result ≡ is_of_others lane mark.now }
+{
+    match mark {
+        Mark::Made => true,
+        Mark::Begun => true,
+        Mark::LaneRead { lane: other } => *other != lane,
+        Mark::Reply { lane: other, .. } => *other != lane,
+        Mark::Met => false,
+    }
+}
+
+/// How many commits were made with the mark.
+pub fn made_by(mark: &Mark) -> u64
+    ensures value { result ≡ made_by mark.now }
+    ensures one { result ≤ 1 }
+{
+    match mark {
+        Mark::Made => 1,
+        _ => 0,
     }
 }

@@ -5,7 +5,7 @@ use Rattle.nm_line.specs.Line.{place_at}
 use Rattle.nm_line.specs.Prepared.{AsksAlone}
 use Rattle.nm_line.specs.declared.prepared.Prepared.{Prepared}
 use Rattle.nm_session.specs.Alone.{HasRunAlone}
-use Rattle.nm_session.specs.LineLog.{IsAskedBy}
+use Rattle.nm_phase.specs.LineLog.{IsAskedBy}
 use Rattle.nm_session.proofs.command.run_alone.Goals as goal
 use Rattle.nm_trace.specs.ReservedLog.{HasSpare}
 

@@ -7,10 +7,11 @@ use Rattle.nm_io.specs.Observed.{StreamAppends}
 use Rattle.nm_lanes.specs.declared.script.Phase.{Phase}
 use Rattle.nm_line.specs.Line.{place_at}
 use Rattle.nm_log.specs.declared.log.LineLog.{LineLog}
-use Rattle.nm_session.specs.Loop.{AreTaken}
+use Rattle.nm_phase.specs.Taken.{AreTaken}
 use Rattle.nm_session.specs.Phases.{HasRunPhases}
 use Rattle.nm_session.specs.Run.{IsKept}
-use Rattle.nm_session.specs.Turns.{planned_from, planned_phase}
+use Rattle.nm_phase.specs.Turns.{planned_phase}
+use Rattle.nm_session.specs.Turns.{planned_from}
 use Rattle.nm_session.proofs.EndLemmas.{has-run, is-kept, noted-none, some-none, steps-fit}
 use Rattle.nm_session.proofs.PrintLemmas.{printed-once}
 use Rattle.nm_session.proofs.RunLemmas.{noted-there, some-there}
@@ -55,7 +56,7 @@ finish-requires-clause-room g c =
     let fresh = c.in-Ok-open.ensures.fresh in
     let none = noted-none before first 2 c.in-Ok.ensures fresh.0 fresh.1 in
     let taken : AreTaken moment (planned_phase 0 phase) first before done.new.reserved last = (last, ran.between, inl (refl, ran.noted), (last, done.new.reserved, (ran.ended, refl), (refl, refl))) in
-    let noted = noted-there moment (phase ∷ []) 0 phase (omega arith) refl first last before done.new.reserved taken none in
+    let noted = noted-there moment (phase ∷ []) 0 phase (omega arith) refl first last before done.new.reserved taken none c.turn_laws.ensures in
     (steps-fit 2 (planned_from 0 (phase ∷ [])) before done.new.reserved last (omega arith) c.in-Ok.ensures noted (ran.ended.steps ∙ ran.noted.steps)).1
 
 pub returns-in-Ok-open-clause-ran : goal.returns-in-Ok-open-clause-ran
@@ -81,7 +82,7 @@ returns-in-Ok-open-clause-ran g c = λ words input asked source err.
     let last = place_at done.new.writer (mail.observed done.new.mail) new ran.left in
     let none = noted-none before first 2 c.in-Ok.ensures h.fresh.0 h.fresh.1 in
     let taken : AreTaken moment (planned_phase 0 phase) first before after last = (last, ran.between, inl (refl, ran.noted), (last, after, (ran.ended, refl), (refl, refl))) in
-    let noted = noted-there moment phases 0 phase (omega arith) refl first last before after taken none in
+    let noted = noted-there moment phases 0 phase (omega arith) refl first last before after taken none c.turn_laws.ensures in
     let so : HasRunPhases moment false failed writer.shown (mail.observed c.args.mail.now) opened.faults phases after last (sink.observed c.args.out.now) (sink.observed c.print_all-failed.new.out) = record {
       count = 1;
       within = omega arith;

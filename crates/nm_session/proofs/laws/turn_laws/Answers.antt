@@ -2,6 +2,9 @@ use Rattle.nm_session.proofs.laws.turn_laws.Goals as goal
 
 pub returns : goal.returns
 returns c = record {
+  spare = c.turns_leave_the_other_places.ensures;
+  even = c.a_line_keeps_the_writer_even.ensures;
+  replies = c.a_line_replies_once.ensures;
   stands = c.a_line_more_keeps_where_it_stands.ensures;
   machine_run = c.a_line_more_keeps_the_machine_run.ensures;
   commits = c.a_line_more_keeps_the_commits.ensures;

@@ -1,8 +1,8 @@
 use Rattle.std.proofs.Common.{arith, sym, subst, ◌∙◌, List}
-use Rattle.nm_session.specs.Observations.{IsLaneAt}
+use Rattle.nm_phase.specs.Observations.{IsLaneAt}
 use Rattle.std.specs.List.{AllByRecursion}
-use Rattle.nm_session.specs.declared.reader_lane.ReaderLane.{ReaderLane}
-use Rattle.nm_session.proofs.ObservationLemmas.{all-by, popped}
+use Rattle.nm_phase.specs.declared.reader_lane.ReaderLane.{ReaderLane}
+use Rattle.nm_session.proofs.ReaderLemmas.{all-by, popped}
 use Rattle.nm_session.proofs.plan.lanes_with.Goals as goal
 
 pub lanes-preserved : goal.lanes-preserved

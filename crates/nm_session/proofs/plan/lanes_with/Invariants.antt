@@ -1,7 +1,7 @@
 use Rattle.std.proofs.Common.{◌≡◌, ◌+◌, ◌≤◌}
 use Rattle.std.specs.List.{AllByRecursion}
 use Rattle.logbook.specs.Pages.{Book}
-use Rattle.nm_session.specs.Observations.{IsLaneAt}
+use Rattle.nm_phase.specs.Observations.{IsLaneAt}
 use Rattle.nm_session.proofs.plan.lanes_with.Given as goal
 
 -- the lanes so far have readers of their own

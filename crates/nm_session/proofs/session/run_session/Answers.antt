@@ -8,7 +8,7 @@ use Rattle.nm_session.specs.Run.{IsKept}
 use Rattle.nm_session.specs.Turns.{places_in, planned_from}
 use Rattle.nm_session.proofs.EndLemmas.{has-run, is-kept, steps-fit}
 use Rattle.nm_session.proofs.SessionLemmas.{open-caused, opening-held, ran-prefix, unasked-prefix, unasked-unwritten, unopened-prefix}
-use Rattle.nm_session.proofs.ObservationLemmas.{all-replicated}
+use Rattle.nm_session.proofs.ReaderLemmas.{all-replicated}
 use Rattle.nm_session.proofs.TurnLemmas.{places-cut, planned-within}
 use Rattle.nm_session.proofs.session.run_session.Goals as goal
 use Rattle.nm_writer.specs.Durable.{IsDurable}

@@ -1,6 +1,0 @@
-use Rattle.std.proofs.Common.{◌-◌, length}
-use Rattle.nm_session.proofs.ObservationLemmas.{IsBehind}
-use Rattle.nm_session.proofs.barrier.place_of.Given as goal
-
-abbrev pub invariant-marks : goal.invariant-marks
-invariant-marks l = IsBehind l.lane l.behind l.left l.marks (length l.marks - l.passed)
