@@ -154,7 +154,7 @@ call_phases words input = phases_by (is_session words) words input
 abbrev pub call_lines : List (List ℕ) → List ℕ → List PlacedLine
 call_lines words input = placed_from 0 (call_phases words input)
 
--- the lines of the first phases, of n
+-- the lines of the first n phases
 abbrev pub lines_of_first : ℕ → List Phase → List PlacedLine
 lines_of_first count phases = placed_from 0 (take count phases)
 

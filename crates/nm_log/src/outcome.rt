@@ -16,7 +16,7 @@ pub enum Outcome {
     BadDate { at: u32 },
     /// This line of the input is not of its form, the first of them.
     BadLine { line: u32, kind: LineKind },
-    /// Raw form shows one message, and the query finds n.
+    /// Raw form shows one message, and the query finds this number of them.
     NotOne { found: u64 },
     /// The file that raw form asks for is not there any more, or it is too long.
     Gone { path: MailPath },

@@ -57,7 +57,7 @@ pub record IsAnswerNoted (moment : ℤ) (phase : ℕ) (index : Base) (line : Scr
   pub fallbacks : length after.fallbacks + 1 ≡ length before.fallbacks
   pub texts : AreFallbacks after.fallbacks
 
--- a read of this lane has its place there, where all commits were shown but the last ones, n: after it no phase ends, and the lane does nothing
+-- a read of this lane has its place there, where all commits but the last n were shown: after it no phase ends, and the lane does nothing
 pub record IsPlaceOf (lane behind : ℕ) (marks : List Mark) (at : ℕ) : Type 0 where
   pub within : at ≤ length marks
   pub others : AreOfOthers lane (drop at marks)

@@ -174,7 +174,7 @@ fn seen_at(
     place_of(marks, lane, behind)
 }
 
-/// Where in the marks a read of this lane is that saw all commits but the last ones, n.
+/// Where in the marks a read of this lane belongs that saw all commits but the last n.
 fn place_of(marks: &[Mark], lane: u32, behind: u64) -> Option<usize>
     ensures { IfSome result (IsPlaceOf lane behind marks.now) }
 {

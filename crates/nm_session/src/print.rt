@@ -8,8 +8,7 @@ ghost use Rattle.nm_session.specs.PrintedReplies.{PrintsRest};
 use nm_io::Sink;
 use nm_log::{LineLog, print_lines, print_replies};
 
-/// Prints the replies after the first ones, of which n were printed. It says how many are then, or nothing where the output
-/// failed.
+/// Prints the replies after the first n, which are printed already. It says how many then are, or nothing where the output failed.
 pub(crate) fn print_rest<O: Sink>(
     session: bool,
     logs: &[LineLog],
