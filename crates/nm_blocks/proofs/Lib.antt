@@ -1,0 +1,4 @@
+pub mod BlockLemmas
+pub mod NumberLemmas
+pub mod ReadLemmas
+pub mod RunLemmas

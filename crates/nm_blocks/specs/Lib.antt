@@ -1,0 +1,4 @@
+pub mod Blocks
+pub mod Gaps
+pub mod Hits
+pub mod Numbers

@@ -1,0 +1,5 @@
+use Rattle.nm_cursor.proofs.FromLemmas.{taken_of_all}
+use Rattle.nm_cursor.proofs.without.WithoutCursor.next.Goals as goal
+
+pub returns-clause-taken : goal.returns-clause-taken
+returns-clause-taken g c = taken_of_all _ _ _ c.seek.ensures.taken

@@ -1,0 +1,4 @@
+pub mod Sets
+pub mod Ahead
+pub mod Place
+pub mod SetLaws
