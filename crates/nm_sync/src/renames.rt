@@ -35,7 +35,7 @@ pub struct Renaming {
 
 impl Renaming {
     /// None is done yet, which takes no memory.
-    pub fn new(alloc: Global) -> Renaming
+    fn new(alloc: Global) -> Renaming
         ensures unmoved { result.unmoved ≡ [] }
         ensures moves { result.moves ≡ [] }
         ensures kept { (files : List (List ℕ × Facts)) → IsKept files result }
@@ -77,33 +77,32 @@ fn rename_all<M: Maildir>(
 }
 
 /// Tries the renames in order, and then syncs the folders in which files were renamed: were a name lost with the power after the commit
-/// of the moves, the next `new` would take the file for another one.
+/// of the moves, the next `new` would take the file for another one. What was done is told also where the folder failed.
 pub fn rename_and_sync<M: Maildir>(
     alloc: Global,
     mail: &mut M,
     shown: &Snapshot,
     plan: Many<Rename>,
-    done: &mut Renaming,
     given: &mut Many<Given>,
-) -> Result<(), MailError>
-    requires none { (done.old.unmoved ≡ []) × (done.old.moves ≡ []) }
-    requires kept { IsKept shown.now.files done.old }
+) -> (Renaming, Result<(), MailError>)
     ensures tried { AreTried shown.now.files plan (since given.old given.new) }
-    ensures all { OnOk result (length (outcomes_given shown.now.files plan (since given.old given.new)) ≡ length plan) }
-    ensures unmoved { OnOk result (done.new.unmoved ≡ flat_map unmoved_in (outcomes_given shown.now.files plan (since given.old given.new))) }
-    ensures moves { OnOk result (done.new.moves ≡ flat_map move_given (since given.old given.new)) }
-    ensures moves_failed { result ≡ Err MailError.Failed → done.new.moves ≡ flat_map move_given (since given.old given.new) }
+    ensures all { OnOk result.1 (length (outcomes_given shown.now.files plan (since given.old given.new)) ≡ length plan) }
+    ensures unmoved { OnOk result.1 (result.0.unmoved ≡ flat_map unmoved_in (outcomes_given shown.now.files plan (since given.old given.new))) }
+    ensures moves { OnOk result.1 (result.0.moves ≡ flat_map move_given (since given.old given.new)) }
+    ensures moves_failed { result.1 ≡ Err MailError.Failed → result.0.moves ≡ flat_map move_given (since given.old given.new) }
     ensures asks { AsksRenames (M.observed mail.old) (M.observed mail.new) given.old given.new }
-    ensures cause { HasMailCause (M.observed mail.old).faults (M.observed mail.new).faults result }
+    ensures cause { HasMailCause (M.observed mail.old).faults (M.observed mail.new).faults result.1 }
 {
-    match rename_all(alloc, mail, shown, plan, done, given) {
+    let mut done = Renaming::new(alloc);
+    match rename_all(alloc, mail, shown, plan, &mut done, given) {
         Ok(()) => {}
-        Err(error) => return Err(error),
+        Err(error) => return (done, Err(error)),
     }
     if done.moves.is_empty() {
-        return Ok(());
+        return (done, Ok(()));
     }
-    mail.sync(&[], &[])
+    let synced = mail.sync(&[], &[]);
+    (done, synced)
 }
 
 /// Tries a rename, unless its target is too long or a path of the index.

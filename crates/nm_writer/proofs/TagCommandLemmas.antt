@@ -1,5 +1,5 @@
 -- What the commit of tags and the renames after it leave. For the proofs of `Writer::commit_changes`, `Writer::set_tags` and
--- `Writer::want_and_set`.
+-- `Writer::tag`.
 use Rattle.std.proofs.Common.{◌≡◌, ℕ, List, [], ◌∷◌, length, refl, sym, ap, ◌∙◌, arith, subst, Result, Ok, Err, append-nil}
 use Rattle.std.specs.List.{flat_map}
 use Rattle.nm_commit.specs.Files.{Fits}

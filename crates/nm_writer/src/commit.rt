@@ -37,21 +37,34 @@ const MAX_COMMITS: usize = 65_536;
 /// The most bytes of a commit.
 const MAX_COMMIT_BYTES: u64 = 1_073_741_824;
 
+/// What was committed so far: how many commits were begun, and the index that is shown.
+#[derive(Drop)]
+struct SoFar<'s> {
+    begun: usize,
+    index: &'s Snapshot,
+}
+
+/// What the caller may have made already of a commit: the snapshot after it, and the bytes of each of its changes.
+#[derive(Drop)]
+pub(crate) struct Ahead {
+    pub(crate) next: Option<Snapshot>,
+    pub(crate) pieces: Option<Many<Many<u8>>>,
+}
+
 impl Writer {
-    /// Makes one commit: all memory first, then the record on the disk, then the index after it is shown. The caller may have made the
-    /// snapshot after it already, and the bytes of each of its changes. It may wait for readers to leave the snapshot from before.
-    pub fn commit<R: Threads + Wait + Sync, D: Disk>(
+    /// Makes one commit: all memory first, then the record on the disk, then the index after it is shown. It may wait for readers to
+    /// leave the snapshot from before.
+    pub(crate) fn commit<R: Threads + Wait + Sync, D: Disk>(
         &mut self,
         rt: &R,
         disk: &mut D,
         commit: Commit,
-        next: Option<Snapshot>,
-        pieces: Option<Many<Many<u8>>>,
+        ahead: Ahead,
     ) -> Result<(), WriteError>
         requires alive { self.old.closed ≡ None }
         requires fits { Fits self.old.shown.files commit }
-        requires next { IfSome next (λ next. next ≡ committed self.old.shown commit) }
-        requires pieces { IfSome pieces (λ pieces. pieces ≡ map change_bytes commit.changes) }
+        requires next { IfSome ahead.next (λ next. next ≡ committed self.old.shown commit) }
+        requires pieces { IfSome ahead.pieces (λ pieces. pieces ≡ map change_bytes commit.changes) }
         requires stands { IfSome (D.observed disk.old).told (λ moments. StandsOnIndex moments.present self.old) }
 
         // What is made, or begun, passes no limit.
@@ -74,7 +87,7 @@ impl Writer {
         ensures cause { HasCauseOf is_write_fault (D.observed disk.old).faults (D.observed disk.new).faults result }
     {
         nothing_new_twice_is_nothing_new();
-        self.make(rt, disk, commit, next, pieces)
+        self.make(rt, disk, commit, ahead)
     }
 
     /// Makes one commit, as `commit` does.
@@ -83,13 +96,12 @@ impl Writer {
         rt: &R,
         disk: &mut D,
         commit: Commit,
-        next: Option<Snapshot>,
-        pieces: Option<Many<Many<u8>>>,
+        ahead: Ahead,
     ) -> Result<(), WriteError>
         requires alive { self.old.closed ≡ None }
         requires fits { Fits self.old.shown.files commit }
-        requires next { IfSome next (λ next. next ≡ committed self.old.shown commit) }
-        requires pieces { IfSome pieces (λ pieces. pieces ≡ map change_bytes commit.changes) }
+        requires next { IfSome ahead.next (λ next. next ≡ committed self.old.shown commit) }
+        requires pieces { IfSome ahead.pieces (λ pieces. pieces ≡ map change_bytes commit.changes) }
         requires stands { IfSome (D.observed disk.old).told (λ moments. StandsOnIndex moments.present self.old) }
         ensures after { IsAfterCommit self.old commit (D.observed disk.new).clock (D.observed disk.new).faults result self.new }
         ensures stands { GoesOn (λ old new. OnOk result (StandsOnIndex new.present self.new))
@@ -106,16 +118,11 @@ impl Writer {
         files_stay_apart();
         one_commit_more_is_held();
         let made = self.begun.as_slice().len();
-        let (frame, next) = prepared(
-            rt,
-            self.alloc,
-            self.workers,
-            made,
-            self.shower.now(),
-            &commit,
-            next,
-            pieces,
-        )?;
+        let so_far = SoFar {
+            begun: made,
+            index: self.shower.now(),
+        };
+        let (frame, next) = prepared(rt, self.alloc, self.workers, &so_far, &commit, ahead)?;
         self.begun.reserve(1)?;
         self.acked.reserve(1)?;
         self.shower.stage(&commit, next)?;
@@ -136,35 +143,33 @@ impl Writer {
     }
 }
 
-/// The record of the commit, and the snapshot after it. The caller may have made that, and the bytes of the changes. `made` is how
-/// many commits were begun before.
+/// The record of the commit, and the snapshot after it.
 fn prepared<R: Threads + Wait + Sync>(
     rt: &R,
     alloc: Global,
     workers: u32,
-    made: usize,
-    shown: &Snapshot,
+    so_far: &SoFar<'_>,
     commit: &Commit,
-    next: Option<Snapshot>,
-    pieces: Option<Many<Many<u8>>>,
+    ahead: Ahead,
 ) -> Result<(Frame, Arc<Snapshot, Global>), WriteError>
-    requires fits { Fits shown.now.files commit.now }
-    requires next { IfSome next (λ next. next ≡ committed shown.now commit.now) }
-    requires pieces { IfSome pieces (λ pieces. pieces ≡ map change_bytes commit.now.changes) }
+    requires fits { Fits so_far.now.index.now.files commit.now }
+    requires next { IfSome ahead.next (λ next. next ≡ committed so_far.now.index.now commit.now) }
+    requires pieces { IfSome ahead.pieces (λ pieces. pieces ≡ map change_bytes commit.now.changes) }
     ensures frame { IfOk result (λ prepared. prepared.0 ≡ commit_grammar.bytes commit.now) }
     ensures value { IfOk result (λ prepared. commit_grammar.is_value commit.now ≡ true) }
-    ensures next { IfOk result (λ prepared. arc_value prepared.1 ≡ committed shown.now commit.now) }
-    ensures within { IfOk result (λ prepared. IsWithin made shown.now commit.now) }
-    ensures limits { IfErr result (IsPreparing made shown.now commit.now) }
+    ensures next { IfOk result (λ prepared. arc_value prepared.1 ≡ committed so_far.now.index.now commit.now) }
+    ensures within { IfOk result (λ prepared. IsWithin so_far.now.begun so_far.now.index.now commit.now) }
+    ensures limits { IfErr result (IsPreparing so_far.now.begun so_far.now.index.now commit.now) }
 {
-    if made >= MAX_COMMITS {
+    if so_far.begun >= MAX_COMMITS {
         return Err(WriteError::Limit(Limit::Commits));
     }
     let len = commit_len(commit);
     if len > MAX_COMMIT_BYTES {
         return Err(WriteError::Limit(Limit::CommitBytes));
     }
-    let next = within_limits(rt, workers, shown, commit, next)?;
+    let Ahead { next, pieces } = ahead;
+    let next = within_limits(rt, workers, so_far.index, commit, next)?;
     let pieces = match pieces {
         Some(pieces) => Some(pieces),
         None => encode_beside(rt, alloc, workers, len, &commit.changes, &mut || {}).1?,

@@ -21,6 +21,7 @@ ghost use Rattle.nm_writer.specs.New.{HoldsTheMail, IsAfterNew};
 ghost use Rattle.nm_writer.specs.Writer.{StandsOnIndex};
 ghost use Rattle.nm_writer.specs.AfterCommit.{IsAfterCommits, is_read_fault, is_write_fault};
 
+use crate::commit::Ahead;
 use crate::name_tags::with_names;
 use crate::{WriteError, Writer};
 use nm_answer::NewReport;
@@ -42,9 +43,19 @@ use std::sync::Wait;
 use std::thread::Threads;
 use std::vec::IntoIter;
 
-/// What is missing: the changes that remove it, and the messages of its files.
+/// Who reads the mails of a batch: so many workers at most, who pass the gate.
+#[derive(Drop)]
+struct Readers<'r, R, G> {
+    rt: &'r R,
+    workers: u32,
+    gate: &'r G,
+    ghost workers_few: { (0 < workers) × (workers ≤ 16) },
+}
+
+/// What is missing: how many files, the changes that remove them, and their messages.
 #[derive(Drop)]
 struct Gone {
+    files: u64,
     changes: Many<Change>,
     ids: Many<MessageId>,
 }
@@ -95,21 +106,18 @@ impl Writer {
         new_leaves_what_is_listed();
         match self.closed {
             Some(fault) => Err(WriteError::Closed { fault }),
-            None => self.scan_and_take_in(rt, mail, disk, workers, gate, given),
+            None => self.scan_and_take_in(&Readers { rt, workers, gate }, mail, disk, given),
         }
     }
 
     /// Lists the folder, takes in what has come, lets go what is missing, and reports both.
     fn scan_and_take_in<R: Threads + Wait + Sync, M: Maildir, D: Disk, G: Gate + Sync>(
         &mut self,
-        rt: &R,
+        readers: &Readers<'_, R, G>,
         mail: &mut M,
         disk: &mut D,
-        workers: u32,
-        gate: &G,
         given: &mut Many<Given>,
     ) -> Result<NewReport, WriteError>
-        requires workers { (0 < workers) × (workers ≤ 16) }
         requires alive { self.old.closed ≡ None }
         requires stands { IfSome (D.observed disk.old).told (λ moments. StandsOnIndex moments.present self.old) }
         ensures notes { given.new ≡ given.old ++ since given.old given.new }
@@ -140,14 +148,15 @@ impl Writer {
         } = compared;
         let removed = gone.len() as u64;
         let went = drops(self.alloc, gone)?;
-        match self.take_in_batches(rt, mail, disk, workers, gate, unknown, given) {
+        match self.take_in_batches(readers, mail, disk, unknown, given) {
             Ok(()) => {
                 let gone = Gone {
+                    files: removed,
                     changes: went,
                     ids: removed_ids,
                 };
                 let given = given.as_slice().split_at(given_before).1;
-                self.let_go(rt, disk, &before, gone, removed, given)
+                self.let_go(readers.rt, disk, &before, gone, given)
             },
             Err(error) => Err(error),
         }
@@ -156,15 +165,12 @@ impl Writer {
     /// Reads the paths batch by batch. A commit is made of the mails of a batch before the next one is read.
     fn take_in_batches<R: Threads + Wait + Sync, M: Maildir, D: Disk, G: Gate + Sync>(
         &mut self,
-        rt: &R,
+        readers: &Readers<'_, R, G>,
         mail: &mut M,
         disk: &mut D,
-        workers: u32,
-        gate: &G,
         unknown: Many<MailPath>,
         given: &mut Many<Given>,
     ) -> Result<(), WriteError>
-        requires workers { (0 < workers) × (workers ≤ 16) }
         requires alive { self.old.closed ≡ None }
         requires unknown { AreUnknown self.old.shown.files unknown }
         requires stands { IfSome (D.observed disk.old).told (λ moments. StandsOnIndex moments.present self.old) }
@@ -183,7 +189,7 @@ impl Writer {
         a_batch_that_stops_is_unfinished();
         let mut paths = unknown.into_vec().into_iter();
         'batches: while paths.len() > 0 {
-            match self.take_in_batch(rt, mail, disk, workers, gate, &mut paths, given) {
+            match self.take_in_batch(readers, mail, disk, &mut paths, given) {
                 Ok(()) => {}
                 Err(error) => return Err(error),
             }
@@ -194,15 +200,12 @@ impl Writer {
     /// Reads the next batch of the paths, and makes a commit of its mails, where it found some.
     fn take_in_batch<R: Threads + Wait + Sync, M: Maildir, D: Disk, G: Gate + Sync>(
         &mut self,
-        rt: &R,
+        readers: &Readers<'_, R, G>,
         mail: &mut M,
         disk: &mut D,
-        workers: u32,
-        gate: &G,
         paths: &mut IntoIter<MailPath, Global>,
         given: &mut Many<Given>,
     ) -> Result<(), WriteError>
-        requires workers { (0 < workers) × (workers ≤ 16) }
         requires alive { self.old.closed ≡ None }
         requires whole { into_iter_len paths.old ≡ length (into_iter_items paths.old) }
         requires some { 0 < length (into_iter_items paths.old) }
@@ -217,8 +220,16 @@ impl Writer {
         ensures durable { (entry : ObservedDisk) (opening : Base) → IsDurable entry opening (D.observed disk.old) self.old
             → IsDurable entry opening (D.observed disk.new) self.new }
     {
-        match read_batch(rt, self.alloc, mail, paths, workers, gate, given) {
-            Ok(added) => self.commit_added(rt, disk, added),
+        match read_batch(
+            readers.rt,
+            self.alloc,
+            mail,
+            paths,
+            readers.workers,
+            readers.gate,
+            given,
+        ) {
+            Ok(added) => self.commit_added(readers.rt, disk, added),
             Err(MailError::Failed) => Err(WriteError::MailFault),
             Err(MailError::NoMemory) => Err(WriteError::NoMemory),
         }
@@ -254,7 +265,6 @@ impl Writer {
         disk: &mut D,
         before: &Snapshot,
         gone: Gone,
-        removed: u64,
         given: &[Given],
     ) -> Result<NewReport, WriteError>
         requires alive { self.old.closed ≡ None }
@@ -262,16 +272,20 @@ impl Writer {
         requires fit { FitInTurn self.old.shown (commit_of self.old.shown gone.changes gone.ids) }
         requires stands { IfSome (D.observed disk.old).told (λ moments. StandsOnIndex moments.present self.old) }
         ensures after { IsAfterCommits self.old (commit_of self.old.shown gone.changes gone.ids) (D.observed disk.new).faults result self.new }
-        ensures report { IfOk result (λ report. report ≡ report_with removed before.now.files self.new.shown.files given.now) }
+        ensures report { IfOk result (λ report. report ≡ report_with gone.files before.now.files self.new.shown.files given.now) }
         ensures cause { HasCauseOf is_write_fault (D.observed disk.old).faults (D.observed disk.new).faults result }
         ensures stands { self.new.closed ≡ None → IfSome (D.observed disk.new).told (λ moments. StandsOnIndex moments.present self.new) }
         ensures durable { (entry : ObservedDisk) (opening : Base) → IsDurable entry opening (D.observed disk.old) self.old
             → IsDurable entry opening (D.observed disk.new) self.new }
     {
-        let Gone { changes, ids } = gone;
+        let Gone {
+            files,
+            changes,
+            ids,
+        } = gone;
         match self.commit_some(rt, disk, changes, &ids) {
             Ok(()) => {
-                let report = report(self.alloc, before, self.snapshot(), removed, given)?;
+                let report = report(self.alloc, before, self.snapshot(), files, given)?;
                 Ok(report)
             }
             Err(error) => Err(error),
@@ -307,6 +321,10 @@ impl Writer {
             changes,
             ids.as_slice(),
         )?;
-        self.commit(rt, disk, named.commit, Some(named.next), named.pieces)
+        let ahead = Ahead {
+            next: Some(named.next),
+            pieces: named.pieces,
+        };
+        self.commit(rt, disk, named.commit, ahead)
     }
 }

@@ -19,6 +19,7 @@ ghost use Rattle.nm_writer.specs.Tagged.{IsAfterRenames, IsAfterTags};
 ghost use Rattle.nm_writer.specs.Writer.{StandsOnIndex};
 ghost use Rattle.nm_writer.specs.AfterCommit.{IsAfterCommits, is_read_fault, is_write_fault};
 
+use crate::commit::Ahead;
 use crate::{WriteError, Writer};
 use nm_answer::{SyncReport, TagChange};
 use nm_base::Many;
@@ -66,34 +67,10 @@ impl Writer {
         ensures durable { (entry : ObservedDisk) (opening : Base) → IsDurable entry opening (D.observed disk.old) self.old
             → IsDurable entry opening (D.observed disk.new) self.new }
     {
-        match self.closed {
-            Some(fault) => Err(WriteError::Closed { fault }),
-            None => self.want_and_set(rt, mail, disk, lines, moment, given),
-        }
-    }
-
-    /// Finds the tags that the lines want, and sets them.
-    fn want_and_set<R: Threads + Wait + Sync, M: Maildir, D: Disk>(
-        &mut self,
-        rt: &R,
-        mail: &mut M,
-        disk: &mut D,
-        lines: &Many<TagChange>,
-        moment: i64,
-        given: &mut Many<Given>,
-    ) -> Result<SyncReport, WriteError>
-        requires moment { IsMoment moment }
-        requires alive { self.old.closed ≡ None }
-        requires stands { IfSome (D.observed disk.old).told (λ moments. StandsOnIndex moments.present self.old) }
-        ensures after { IsAfterTags (wanted_by moment self.old.shown lines.now) (since given.old given.new) self.old (D.observed disk.new).faults result self.new }
-        ensures asks { AsksRenames (M.observed mail.old) (M.observed mail.new) given.old given.new }
-        ensures mail_cause { HasCauseOf is_read_fault (M.observed mail.old).faults (M.observed mail.new).faults result }
-        ensures disk_cause { Counts (is_some self.new.closed) (D.observed disk.old).faults (D.observed disk.new).faults }
-        ensures stands { self.new.closed ≡ None → IfSome (D.observed disk.new).told (λ moments. StandsOnIndex moments.present self.new) }
-        ensures durable { (entry : ObservedDisk) (opening : Base) → IsDurable entry opening (D.observed disk.old) self.old
-            → IsDurable entry opening (D.observed disk.new) self.new }
-    {
         no_rename_is_noted_at_first();
+        if let Some(fault) = self.closed {
+            return Err(WriteError::Closed { fault });
+        }
         match wanted_by(self.alloc, self.snapshot(), lines.as_slice(), moment) {
             Ok(wanted) => self.set_tags(rt, mail, disk, &wanted, given),
             Err(error) => Err(error.into()),
@@ -152,17 +129,14 @@ impl Writer {
         ensures durable { (entry : ObservedDisk) (opening : Base) → IsDurable entry opening (D.observed disk.old) self.old
             → IsDurable entry opening (D.observed disk.new) self.new }
     {
-        let mut done = Renaming::new(self.alloc);
-        match rename_and_sync(self.alloc, mail, self.snapshot(), plan, &mut done, given) {
-            Ok(()) => {
-                let Renaming { unmoved, moves, .. } = done;
-                match self.commit_changes(rt, disk, moves) {
-                    Ok(()) => Ok(SyncReport { unmoved }),
-                    Err(error) => Err(error),
-                }
-            }
+        let (done, renamed) = rename_and_sync(self.alloc, mail, self.snapshot(), plan, given);
+        let Renaming { unmoved, moves, .. } = done;
+        match renamed {
+            Ok(()) => match self.commit_changes(rt, disk, moves) {
+                Ok(()) => Ok(SyncReport { unmoved }),
+                Err(error) => Err(error),
+            },
             Err(MailError::Failed) => {
-                let Renaming { moves, .. } = done;
                 let _ = self.commit_changes(rt, disk, moves);
                 Err(WriteError::MailFault)
             }
@@ -189,6 +163,10 @@ impl Writer {
         if changes.is_empty() {
             return Ok(());
         }
-        self.commit(rt, disk, Commit { changes }, None, None)
+        let ahead = Ahead {
+            next: None,
+            pieces: None,
+        };
+        self.commit(rt, disk, Commit { changes }, ahead)
     }
 }
