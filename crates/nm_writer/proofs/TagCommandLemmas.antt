@@ -1,6 +1,6 @@
 -- What the commit of tags and the renames after it leave. For the proofs of `Writer::commit_changes`, `Writer::set_tags` and
 -- `Writer::tag`.
-use Rattle.std.proofs.Common.{◌≡◌, ℕ, List, [], ◌∷◌, length, refl, sym, ap, ◌∙◌, arith, subst, Result, Ok, Err, append-nil}
+use Rattle.std.proofs.Common.{◌≡◌, inr, ℕ, List, [], ◌∷◌, length, refl, sym, ap, ◌∙◌, arith, subst, Result, Ok, Err, append-nil}
 use Rattle.std.specs.List.{flat_map}
 use Rattle.nm_commit.specs.Files.{Fits}
 use Rattle.nm_commit.specs.declared.change.Change.{Change}
@@ -17,13 +17,13 @@ use Rattle.nm_plan.specs.TagCommit.{commit_with, tag_commit}
 use Rattle.nm_answer.specs.declared.sync_report.SyncReport.{SyncReport}
 use Rattle.nm_answer.specs.declared.sync_report.Unmoved.{Unmoved}
 use Rattle.nm_sync.specs.Renamed.{AreTried}
-use Rattle.nm_writer.specs.Tagged.{IsAfterRenames, IsAfterTags}
+use Rattle.nm_writer.specs.Tagged.{IsAfterRenames, IsAfterTags, SetsTagsFirst}
 use Rattle.nm_writer.specs.Writer.{WriterState}
-use Rattle.nm_writer.specs.AfterCommit.{FailsWithin, HasCommitted, IsAfterCommits, PassesWithin, StopsWithin}
+use Rattle.nm_writer.specs.AfterCommit.{FailsWithin, HasCommitted, IsAfterCommits, PassesWithin, StopsWithin, with_commits}
 use Rattle.nm_writer.specs.declared.write_error.WriteError.{WriteError}
 use Rattle.nm_writer.specs.declared.write_error.WriteError.TheVariants as errors
 use Rattle.nm_base.specs.declared.facts.Facts.{Facts}
-use Rattle.nm_writer.proofs.DoneLemmas.{fit-second, made-made, none-stopped, then-made}
+use Rattle.nm_writer.proofs.DoneLemmas.{fit-second, made-made, none-stopped, published-then, then-made}
 
 -- some changes make one commit, and none make none
 pub commit-of-some : (changes : List Change) → (length changes ≡ 0 → ⊥) → commit_with changes ≡ record { changes = changes } ∷ []
@@ -69,6 +69,33 @@ tags-refused law old new wanted given faults errors.NoMemory none h =
 -- memory ran out before anything was done
 pub nothing-set : (law : AreUntried) (old : WriterState) (wanted : Base) (given : List Given) (faults : ℕ) → given ≡ [] → IsAfterTags wanted given old faults (Err errors.NoMemory) old
 nothing-set law old wanted given faults none = (none-tried law old.shown wanted given none, none-stopped old (tag_commits old.shown wanted given))
+
+-- some commits were published since
+abbrev PublishesSome : WriterState → WriterState → Type 0
+PublishesSome old new = (made : List Commit) × (new.published ≡ with_commits old.published made)
+
+commits-publish : (old new : WriterState) (due : List Commit) (faults : ℕ) (outcome : Result (Unit {0}) WriteError) → IsAfterCommits old due faults outcome new → PublishesSome old new
+commits-publish old new due faults (Ok done) h = (due, h.published)
+commits-publish old new due faults (Err errors.MailFault) h = absurd h
+commits-publish old new due faults (Err errors.DiskFault) h = (h.done, h.published)
+commits-publish old new due faults (Err (errors.Closed fault)) h = absurd h
+commits-publish old new due faults (Err (errors.Limit limit)) h = (h.done, h.made.published)
+commits-publish old new due faults (Err errors.NoMemory) h = (h.done, h.made.published)
+
+renames-publish : (files : List (List ℕ × Facts)) (plan : List Rename) (given : List Given) (old new : WriterState) (faults : ℕ) (result : Result SyncReport WriteError) → IsAfterRenames files plan given old faults result new → PublishesSome old new
+renames-publish files plan given old new faults (Ok report) h = (move_commit given, h.1.published)
+renames-publish files plan given old new faults (Err errors.MailFault) h = commits-publish old new (move_commit given) faults h.outcome h.after
+renames-publish files plan given old new faults (Err errors.DiskFault) h = (h.done, h.published)
+renames-publish files plan given old new faults (Err (errors.Closed fault)) h = absurd h
+renames-publish files plan given old new faults (Err (errors.Limit limit)) h = (h.done, h.made.published)
+renames-publish files plan given old new faults (Err errors.NoMemory) h = (h.done, h.made.published)
+
+-- the renames come after the commit of tags, whatever they leave
+pub renames-after : (old mid new : WriterState) (wanted : Base) (files : List (List ℕ × Facts)) (plan : List Rename) (given : List Given) (faults : ℕ) (result : Result SyncReport WriteError) → HasCommitted old (tag_commit old.shown wanted) mid
+    → IsAfterRenames files plan given mid faults result new → SetsTagsFirst wanted given old new
+renames-after old mid new wanted files plan given faults result made h =
+    let more : PublishesSome mid new = renames-publish files plan given mid new faults result h in
+    inr (more.0, published-then old.published mid.published new.published (tag_commit old.shown wanted) more.0 made.published more.1)
 
 -- The commit of tags was made, and then the renames were tried.
 module _ (old mid new : WriterState) (wanted : Base) (given : List Given) (faults : ℕ) (made : HasCommitted old (tag_commit old.shown wanted) mid) where

@@ -1,5 +1,5 @@
 -- What a command that sets tags leaves of the writer. Cited by `tag`.
-use Rattle.std.specs.Prelude.{◌≡◌, ℕ, List, [], Some, length, Result, Ok, Err}
+use Rattle.std.specs.Prelude.{◌≡◌, ◌⊎◌, ℕ, List, [], ◌++◌, Some, length, Result, Ok, Err}
 use Rattle.std.specs.List.{flat_map}
 use Rattle.nm_base.specs.declared.facts.Facts.{Facts}
 use Rattle.nm_commit.specs.declared.change.Commit.{Commit}
@@ -12,7 +12,7 @@ use Rattle.nm_plan.specs.TagCommit.{tag_commit}
 use Rattle.nm_answer.specs.declared.sync_report.SyncReport.{SyncReport}
 use Rattle.nm_sync.specs.Renamed.{outcomes_given}
 use Rattle.nm_writer.specs.Writer.{WriterState}
-use Rattle.nm_writer.specs.AfterCommit.{FailsWithin, HasCommitted, IsAfterCommits, PassesWithin, StopsWithin}
+use Rattle.nm_writer.specs.AfterCommit.{FailsWithin, HasCommitted, IsAfterCommits, PassesWithin, StopsWithin, with_commits}
 use Rattle.nm_writer.specs.declared.write_error.WriteError.{WriteError}
 use Rattle.nm_writer.specs.declared.write_error.WriteError.TheVariants as errors
 
@@ -45,3 +45,9 @@ IsAfterTags wanted given old faults (Err errors.DiskFault) new = HasTried old.sh
 IsAfterTags wanted given old faults (Err (errors.Closed fault)) new = (old.closed ≡ Some fault) × (given ≡ []) × (new ≡ old)
 IsAfterTags wanted given old faults (Err (errors.Limit limit)) new = HasTried old.shown wanted given × PassesWithin old (tag_commits old.shown wanted given) limit new
 IsAfterTags wanted given old faults (Err errors.NoMemory) new = HasTried old.shown wanted given × StopsWithin old (tag_commits old.shown wanted given) new
+
+-- No rename was asked of the folder before the tags were set: nothing was asked, or what was published since begins with the commit of the
+-- tags.
+abbrev pub SetsTagsFirst : Base → List Given → WriterState → WriterState → Type 0
+SetsTagsFirst wanted given old new =
+    (given ≡ []) ⊎ ((moves : List Commit) × (new.published ≡ with_commits old.published (tag_commit old.shown wanted ++ moves)))

@@ -15,7 +15,7 @@ ghost use Rattle.nm_changes.specs.WantedTags.{AreTouched};
 ghost use Rattle.nm_sync.specs.Noted.{since};
 ghost use Rattle.nm_sync.specs.Renamed.{AreTried, AsksRenames};
 ghost use Rattle.nm_writer.specs.Durable.{IsDurable};
-ghost use Rattle.nm_writer.specs.Tagged.{IsAfterRenames, IsAfterTags};
+ghost use Rattle.nm_writer.specs.Tagged.{IsAfterRenames, IsAfterTags, SetsTagsFirst};
 ghost use Rattle.nm_writer.specs.Writer.{StandsOnIndex};
 ghost use Rattle.nm_writer.specs.AfterCommit.{IsAfterCommits, is_read_fault, is_write_fault};
 
@@ -50,6 +50,9 @@ impl Writer {
 
         // Both commits are made, or by the error the first of them; the report is of the renames that the tags ask for.
         ensures after { IsAfterTags (wanted_by moment self.old.shown lines.now) (since given.old given.new) self.old (D.observed disk.new).faults result self.new }
+
+        // Where the commit of the tags is not made, nothing is asked of the folder.
+        ensures renames_after { SetsTagsFirst (wanted_by moment self.old.shown lines.now) (since given.old given.new) self.old self.new }
 
         // A writer that is closed says so, and no device is asked.
         ensures closed { IfSome self.old.closed (λ fault. (result ≡ Err (WriteError.Closed fault)) × (M.observed mail.new ≡ M.observed mail.old) × (D.observed disk.new ≡ D.observed disk.old)) }
@@ -90,6 +93,7 @@ impl Writer {
         requires touched { AreTouched self.old.shown wanted.now.after wanted.now.ids }
         requires stands { IfSome (D.observed disk.old).told (λ moments. StandsOnIndex moments.present self.old) }
         ensures after { IsAfterTags wanted.now.after (since given.old given.new) self.old (D.observed disk.new).faults result self.new }
+        ensures renames_after { SetsTagsFirst wanted.now.after (since given.old given.new) self.old self.new }
         ensures asks { AsksRenames (M.observed mail.old) (M.observed mail.new) given.old given.new }
         ensures mail_cause { HasCauseOf is_read_fault (M.observed mail.old).faults (M.observed mail.new).faults result }
         ensures disk_cause { Counts (is_some self.new.closed) (D.observed disk.old).faults (D.observed disk.new).faults }

@@ -12,7 +12,7 @@ use Rattle.nm_writer.specs.Writer.{WriterState}
 use Rattle.nm_writer.specs.AfterCommit.{HasCommitted, IsAfterCommits}
 use Rattle.nm_writer.specs.declared.write_error.WriteError.TheVariants as errors
 use Rattle.nm_writer.proofs.NotedLemmas.{since-none}
-use Rattle.nm_writer.proofs.TagCommandLemmas.{moves-fit, nothing-set, tags-refused, tags-then}
+use Rattle.nm_writer.proofs.TagCommandLemmas.{moves-fit, nothing-set, renames-after, tags-refused, tags-then}
 use Rattle.nm_writer.proofs.writer.Writer.set_tags.Goals as goal
 
 pub returns-in_err-planned-clause-after : goal.returns-in_err-planned-clause-after
@@ -51,6 +51,15 @@ returns-in-Ok-clause-after g c =
     let made : HasCommitted old (tag_commit old.shown wanted) mid = subst (λ (l : List Change). HasCommitted old (commit_with l) mid) changes c.in-Ok.ensures.after in
     tags-then old mid c.rename_files.new.self wanted (since c.args.given.now c.rename_files.new.given) (g.D.Disk.observed c.rename_files.new.disk).faults made c.in_ok-planned.planned.renames c.rename_files.result are
     (ap (λ (b : Base). b.files) made.shown ∙ c.the_commit_of_tags_leaves_what_is_wanted.ensures.files old.shown wanted) c.rename_files.ensures.tried c.rename_files.ensures.after
+
+pub returns-in-Ok-clause-renames_after : goal.returns-in-Ok-clause-renames_after
+returns-in-Ok-clause-renames_after g c =
+    let wanted = c.args.wanted.now.after in
+    let old = c.args.self.now in
+    let mid = c.commit_changes.new.self in
+    let changes : c.in_ok-planned.planned.changes ≡ tag_changes old.shown wanted = subst (λ (b : Base). c.in_ok-planned.planned.changes ≡ tag_changes b wanted) c.snapshot.ensures c.in_ok-planned.ensures.changes in
+    let made : HasCommitted old (tag_commit old.shown wanted) mid = subst (λ (l : List Change). HasCommitted old (commit_with l) mid) changes c.in-Ok.ensures.after in
+    renames-after old mid c.rename_files.new.self wanted mid.shown.files c.in_ok-planned.planned.renames (since c.args.given.now c.rename_files.new.given) (g.D.Disk.observed c.rename_files.new.disk).faults c.rename_files.result made c.rename_files.ensures.after
 
 pub returns-in-Err-clause-after : goal.returns-in-Err-clause-after
 returns-in-Err-clause-after g c =
