@@ -16,7 +16,7 @@ use Rattle.nm_publish.specs.Published.{Published}
 use Rattle.nm_history.specs.Call.{Devices}
 use Rattle.nm_history.specs.Given.{Asks, GivenAlong}
 use Rattle.nm_history.specs.LineAnswers.{HasAnswer, HasCause, LineAnswers}
-use Rattle.nm_history.specs.LineCommits.{EachMakes, IsOnItsWay, LineCommits, Makes, MakesCommits}
+use Rattle.nm_history.specs.LineCommits.{EachMakes, IsOnItsWay, LineCommits, Makes, MakesCommits, RenamesComeAfterTags}
 use Rattle.nm_history.specs.LineResult.{IsLineResult, Place, StandsAt, before_at, begin_step, commit_steps, line_steps, reply_step}
 use Rattle.nm_history.specs.Lines.{Along, Before, IsIndexAt, RunLine, after_line, after_lines, at_first, begun, begun_by, closed_after, tree_after, tree_after_all}
 use Rattle.nm_history.specs.MachineRun.{Replied, reply_to}
@@ -211,6 +211,7 @@ module _ (opening : Base) (moment : ℤ) (phase : ℕ) (entry : Devices) (steps 
         subst (λ n. Makes ran.1.outcome moment (tree_after_all entry.mail.tree lines) (folded opening acknowledged) ran.0 ran.1.given n result.made result.in_flight) count
         (subst (λ (i : Base). Makes ran.1.outcome moment (tree_after_all entry.mail.tree lines) i ran.0 ran.1.given (length old.writer.acked + length result.made) result.made result.in_flight) at.shown
         (subst (λ (t : Option Tree). Makes ran.1.outcome moment t old.writer.shown ran.0 ran.1.given (length old.writer.acked + length result.made) result.made result.in_flight) at.tree result.makes));
+    renames_after = subst (λ (i : Base). RenamesComeAfterTags (parse_line ran.0) ran.0.input moment i ran.1.given result.made) at.shown result.renames_after;
     on_its_way = result.on_its_way;
     within =
         subst (λ n. AreWithin n (folded opening acknowledged) (result.made ++ result.in_flight)) at.acked

@@ -36,7 +36,7 @@ use Rattle.nm_history.specs.CrashPrefix.{KeepsDisk}
 use Rattle.nm_history.specs.Given.{AsksBy, AsksMail, AsksNothing, AsksShow, GivenAlong}
 use Rattle.nm_history.specs.History.{History}
 use Rattle.nm_history.specs.LineAnswers.{HasCause, LaneAnswers, LineAnswers, line_text}
-use Rattle.nm_history.specs.LineCommits.{LineCommits, Makes}
+use Rattle.nm_history.specs.LineCommits.{LineCommits, Makes, RenamesAfterBy, RenamesComeAfterTags}
 use Rattle.nm_history.specs.LineResult.{IsLineResult, Place, StandsAt, before_at, reply_step}
 use Rattle.nm_history.specs.Lines.{RunLine, after_lines, at_first, given_in, lane_zero_lines, other_lane_lines, run_lines, tree_after_line, tree_by}
 use Rattle.nm_history.specs.MachineRun.{MachineRun, Replied, replied_where}
@@ -155,6 +155,16 @@ module _ (line : ScriptLine) (index : Base) (moment : ℤ) (count : ℕ) (tree :
   makes-nothing (outcomes.Closed fault) unasked e = absurd (cc)
   makes-nothing (outcomes.Limit limit) unasked e = (inl (refl, inl (refl, e)), refl)
   makes-nothing outcomes.NoMemory unasked e = (inl (refl, inl refl), refl)
+
+renames-by : (kind : Kind) (request : Request) (input : List ℕ) (moment : ℤ) (index : Base) → RenamesAfterBy kind request input moment index [] []
+renames-by TakesMail request input moment index = tt
+renames-by ReadsIndex request input moment index = tt
+renames-by (ShowsFiles ask) request input moment index = tt
+renames-by SetsTags request input moment index = inl refl
+
+renames-none : (line : ParsedLine) (input : List ℕ) (moment : ℤ) (index : Base) → RenamesComeAfterTags line input moment index [] []
+renames-none (asked.Usage word kind) input moment index = tt
+renames-none (asked.Request request) input moment index = renames-by (kind_of request) request input moment index
 
 module _ (line : ParsedLine) (input : List ℕ) (place : Place) (index : Base) (moment : ℤ) where
   has-cause : (why : Outcome) → is_unasked why ≡ true → refused_unasked line input place.writer.closed ≡ Some why
@@ -306,6 +316,7 @@ module _ (why : Outcome) (input : List ℕ) (words : List (List ℕ)) (setting :
     in_flight = [];
     has_made = record { fit = tt; within = tt; idle = λ closed. refl; published = refl; shown = refl; begun_are = refl; clocks = []; acked = refl; one_each = refl };
     makes = makes-nothing line empty_index setting.moment 0 mail.tree why unasked refuses;
+    renames_after = renames-none (parse_line line) line.input setting.moment empty_index;
     on_its_way = refl;
     closed = refl;
     asks = asks-none why (parse_line line) empty_index setting.moment max_mail_bytes mail unasked;

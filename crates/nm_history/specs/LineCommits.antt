@@ -14,6 +14,7 @@ use Rattle.nm_index.specs.Index.{folded}
 use Rattle.nm_index.specs.declared.base.Base.{Base}
 use Rattle.nm_lanes.specs.declared.script.ScriptLine.{ScriptLine}
 use Rattle.nm_log.specs.ParsedLine.{parse_line}
+use Rattle.nm_log.specs.declared.line_parser.ParsedLine.{ParsedLine}
 use Rattle.nm_log.specs.declared.line_parser.ParsedLine.TheVariants as asked
 use Rattle.nm_log.specs.declared.outcome.Outcome.{Outcome}
 use Rattle.nm_log.specs.declared.outcome.Outcome.TheVariants as outcomes
@@ -150,14 +151,30 @@ Makes (outcomes.Closed fault) moment tree index line given count made in_flight 
 Makes (outcomes.Limit limit) moment tree index line given count made in_flight = MakesToLimit moment tree index line given count made limit × (in_flight ≡ [])
 Makes outcomes.NoMemory moment tree index line given count made in_flight = MakesFirst moment tree index line given made × (in_flight ≡ [])
 
+-- What a request of this kind had made before it asked the folder for a rename: what sets tags the commit of the tags, or else it asked for
+-- nothing. No other kind renames.
+abbrev pub RenamesAfterBy : Kind → Request → List ℕ → ℤ → Base → List Given → List Commit → Type 0
+RenamesAfterBy TakesMail request input moment index given made = ⊤
+RenamesAfterBy ReadsIndex request input moment index given made = ⊤
+RenamesAfterBy (ShowsFiles ask) request input moment index given made = ⊤
+RenamesAfterBy SetsTags request input moment index given made =
+    (given ≡ []) ⊎ ((moves : List Commit) × (made ≡ tag_commit index (wanted_for request input moment index) ++ moves))
+
+-- A line asks for no rename before the commit of its tags is made, however it ends.
+abbrev pub RenamesComeAfterTags : ParsedLine → List ℕ → ℤ → Base → List Given → List Commit → Type 0
+RenamesComeAfterTags (asked.Request request) input moment index given made = RenamesAfterBy (kind_of request) request input moment index given made
+RenamesComeAfterTags (asked.Usage word kind) input moment index given made = ⊤
+
 -- One commit is on its way after a line in which the disk failed, and none after another.
 abbrev pub IsOnItsWay : Bool → List Commit → Type 0
 IsOnItsWay failed in_flight = length in_flight ≡ (if failed then 1 else 0)
 
--- What a line makes of the commits before it, and the revision that it leaves. What it makes, or leaves on its way, passes no limit.
+-- What a line makes of the commits before it, and the revision that it leaves. What it makes, or leaves on its way, passes no limit. It
+-- renames nothing before the commit of its tags is made.
 pub record MakesCommits (opening : Base) (moment : ℤ) (tree : Option Tree) (earlier : List Commit) (ran : RunLine) (made in_flight : List Commit) : Type 0 where
   pub revision : ran.1.revision ≡ opening.revision + length (earlier ++ made)
   pub makes : Makes ran.1.outcome moment tree (folded opening earlier) ran.0 ran.1.given (length (earlier ++ made)) made in_flight
+  pub renames_after : RenamesComeAfterTags (parse_line ran.0) ran.0.input moment (folded opening earlier) ran.1.given made
   pub on_its_way : IsOnItsWay ran.1.disk_failed in_flight
   pub within : AreWithin (length earlier) (folded opening earlier) (made ++ in_flight)
 

@@ -21,7 +21,7 @@ use Rattle.nm_history.specs.Call.{Devices}
 use Rattle.nm_history.specs.CrashPrefix.{appends}
 use Rattle.nm_history.specs.Given.{AsksMail, AsksNothing}
 use Rattle.nm_history.specs.LineAnswers.{HasCause, ends_by, line_text, refused_lane_read}
-use Rattle.nm_history.specs.LineCommits.{IsOnItsWay, Makes}
+use Rattle.nm_history.specs.LineCommits.{IsOnItsWay, Makes, RenamesComeAfterTags}
 use Rattle.nm_history.specs.Lines.{Before, RunLine, after_lines, at_first, begun, closed_after, tree_after, tree_after_all}
 use Rattle.nm_history.specs.MachineRun.{Replied, lane_count, reply_to}
 use Rattle.nm_history.specs.PrintedOut.{IsNumbered}
@@ -83,6 +83,7 @@ pub record IsLineResult (moment : ℤ) (phase : ℕ) (old : Place) (ran : RunLin
   pub in_flight : List Commit
   pub has_made : HasMade old.writer made in_flight new.writer
   pub makes : Makes ran.1.outcome moment old.mail.tree old.writer.shown ran.0 ran.1.given (length old.writer.acked + length made) made in_flight
+  pub renames_after : RenamesComeAfterTags (parse_line ran.0) ran.0.input moment old.writer.shown ran.1.given made
   pub on_its_way : IsOnItsWay ran.1.disk_failed in_flight
   pub closed : new.writer.closed ≡ closed_after old.writer.closed ran.1.disk_failed new.disk_faults
   pub asks : AsksMail ran.1.outcome (parse_line ran.0) old.writer.shown moment old.left old.mail new.mail ran.1.given

@@ -12,7 +12,7 @@ use Rattle.nm_base.specs.declared.refusals.UsageKind.{UsageKind}
 use Rattle.nm_history.specs.Given.{AsksBy, AsksMail, AsksShow}
 use Rattle.nm_history.specs.LineAnswers.{HasCause, NoneFailed, line_text, refused_lane_read}
 use Rattle.nm_commit.specs.declared.change.Commit.{Commit}
-use Rattle.nm_history.specs.LineCommits.{FindsBy, FindsFor, Makes}
+use Rattle.nm_history.specs.LineCommits.{FindsBy, FindsFor, Makes, RenamesAfterBy, RenamesComeAfterTags}
 use Rattle.nm_history.specs.LineResult.{HasMade, Place, before_at, said_of}
 use Rattle.nm_history.specs.Lines.{given_in, tree_after_line, tree_by}
 use Rattle.nm_history.specs.MachineRun.{replied_where}
@@ -69,6 +69,17 @@ tree-by SetsTags tree = renamed-none tree
 pub tree-still : (line : ParsedLine) (tree : Option Tree) → tree ≡ tree_after_line line [] tree
 tree-still (asked.Request request) tree = tree-by (kind_of request) tree
 tree-still (asked.Usage word kind) tree = refl
+
+-- and nothing was renamed
+renames-by : (kind : Kind) (request : Request) (input : List ℕ) (moment : ℤ) (index : Base) (made : List Commit) → RenamesAfterBy kind request input moment index [] made
+renames-by TakesMail request input moment index made = tt
+renames-by ReadsIndex request input moment index made = tt
+renames-by (ShowsFiles ask) request input moment index made = tt
+renames-by SetsTags request input moment index made = inl refl
+
+renames-none : (line : ParsedLine) (input : List ℕ) (moment : ℤ) (index : Base) (made : List Commit) → RenamesComeAfterTags line input moment index [] made
+renames-none (asked.Request request) input moment index made = renames-by (kind_of request) request input moment index made
+renames-none (asked.Usage word kind) input moment index made = tt
 
 no-renames : (tree : Option Tree) → TreesAlong tree [] tree
 no-renames None = refl
@@ -142,6 +153,7 @@ idle moment place line outcome makes asks cause =
       in_flight = [];
       has_made = made-nothing place.writer;
       makes = makes;
+      renames_after = renames-none (parse_line line) line.input moment place.writer.shown [];
       on_its_way = refl;
       closed = refl;
       asks = asks;

@@ -10,7 +10,7 @@ use Rattle.nm_commit.specs.declared.change.Commit.{Commit}
 use Rattle.nm_faults.specs.Faults.{Counts}
 use Rattle.nm_history.specs.Given.{AsksMail, AsksNothing}
 use Rattle.nm_history.specs.LineAnswers.{HasCause}
-use Rattle.nm_history.specs.LineCommits.{IsOnItsWay, Makes, PassesUnmade}
+use Rattle.nm_history.specs.LineCommits.{IsOnItsWay, Makes, PassesUnmade, RenamesComeAfterTags}
 use Rattle.nm_history.specs.LineResult.{HasMade, Place, before_at}
 use Rattle.nm_history.specs.Lines.{closed_after, tree_after_line}
 use Rattle.nm_history.specs.Requests.{asks_to_tag, asks_to_write, refused_closed, refused_unasked, sets_tags, writes_index}
@@ -33,7 +33,7 @@ use Rattle.nm_line.specs.Outcomes.{is_fault, outcome_of}
 use Rattle.nm_line.specs.declared.line_answer.LineAnswer.{LineAnswer}
 use Rattle.nm_line.proofs.AnswerLemmas.{made-nothing, refused-said}
 use Rattle.nm_writer.specs.Writer.{WriterState}
-use Rattle.nm_writer.specs.AfterCommit.{AreWithin, FailsWithin, HasCommitted, IsPassed}
+use Rattle.nm_writer.specs.AfterCommit.{AreWithin, FailsWithin, HasCommitted, IsPassed, with_commits}
 use Rattle.nm_writer.specs.declared.write_error.WriteError.{WriteError}
 use Rattle.nm_writer.specs.declared.write_error.WriteError.TheVariants as errors
 
@@ -147,7 +147,8 @@ counts-grow false before now h = omega (arith, h)
 module _ (moment : ℤ) (old new : Place) (line : ScriptLine) (noted : List Given) (request : Request) (is : parse_line line ≡ asked.Request request) (left : new.left ≡ left_after old.left noted)
     (asks : (outcome : Outcome) → AsksMail outcome (asked.Request request) old.writer.shown moment old.left old.mail new.mail noted)
     (tree : new.mail.tree ≡ tree_after_line (asked.Request request) noted old.mail.tree)
-    (unasked : IsSome (refused_unasked (asked.Request request) line.input old.writer.closed) → AsksNothing old.mail new.mail noted) where
+    (unasked : IsSome (refused_unasked (asked.Request request) line.input old.writer.closed) → AsksNothing old.mail new.mail noted)
+    (renames : (made : List Commit) → new.writer.published ≡ with_commits old.writer.published made → RenamesComeAfterTags (asked.Request request) line.input moment old.writer.shown noted made) where
   pub answered-with : (outcome : Outcome) (made in_flight : List Commit) (failed : Bool) → newly_closed old.writer new.writer ≡ failed → HasMade old.writer made in_flight new.writer
       → Makes outcome moment old.mail.tree old.writer.shown line noted (length old.writer.acked + length made) made in_flight → IsOnItsWay failed in_flight
       → new.writer.closed ≡ closed_after old.writer.closed failed new.disk_faults → old.mail.faults ≤ new.mail.faults → Counts failed old.disk_faults new.disk_faults
@@ -159,6 +160,7 @@ module _ (moment : ℤ) (old new : Place) (line : ScriptLine) (noted : List Give
         in_flight = in_flight;
         has_made = has_made;
         makes = makes;
+        renames_after = subst (λ (p : ParsedLine). RenamesComeAfterTags p line.input moment old.writer.shown noted made) (sym is) (renames made has_made.published);
         on_its_way = way;
         closed = closed;
         asks = subst (λ (p : ParsedLine). AsksMail outcome p old.writer.shown moment old.left old.mail new.mail noted) (sym is) (asks outcome);
@@ -228,6 +230,7 @@ without moment old new line noted outcome failed h makes well asks = record {
   in_flight = h.in_flight;
   has_made = h.has_made;
   makes = makes;
+  renames_after = h.renames_after;
   on_its_way = h.on_its_way;
   closed = h.closed;
   asks = asks;

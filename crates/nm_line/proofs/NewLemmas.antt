@@ -71,40 +71,40 @@ module _ (moment : ℤ) (old new : Place) (line : ScriptLine) (noted : List Give
       → IsLineAnswer moment old line noted (outcome_by result) (newly_closed old.writer new.writer) new
   new-answered P Q (Ok report) after shut mail disk even =
       let alive : old.writer.closed ≡ None = alive-by old.writer.closed (Ok report) P Q shut refl in
-      answered-with moment old new line noted requests.New is left (λ outcome. asks) tree unasked outcomes.Ok after.0.0 [] false (still after.0.2.closed)
+      answered-with moment old new line noted requests.New is left (λ outcome. asks) tree unasked (λ made published. tt) outcomes.Ok after.0.0 [] false (still after.0.2.closed)
       (made-some old.writer new.writer after.0.0 after.0.2 alive even after.0.1.fit) (are-due [] after.0.0 after.0.1, refl) refl after.0.2.closed (omega (arith, mail)) disk
       (alive-asks old.writer.closed alive, refl, none-failed mail)
   new-answered P Q (Err errors.MailFault) (inl (none, same)) shut mail disk even =
       let alive : old.writer.closed ≡ None = alive-by {T = NewReport} old.writer.closed (Err errors.MailFault) P Q shut refl in
-      answered-with moment old new line noted requests.New is left (λ outcome. asks) tree unasked outcomes.MailFault [] [] false (still (ap (λ (w : WriterState). w.closed) same))
+      answered-with moment old new line noted requests.New is left (λ outcome. asks) tree unasked (λ made published. tt) outcomes.MailFault [] [] false (still (ap (λ (w : WriterState). w.closed) same))
       (made-none old.writer new.writer same) (inl (no-tag, inl none, record { made_are = refl; in_flight_is = refl })) refl (ap (λ (w : WriterState). w.closed) same) mail.0 disk
       (alive-asks old.writer.closed alive, refl, mail, λ (failed : false ≡ true). absurd (cc))
   new-answered P Q (Err errors.MailFault) (inr (path, rest, due, are, made)) shut mail disk even =
       let alive : old.writer.closed ≡ None = alive-by {T = NewReport} old.writer.closed (Err errors.MailFault) P Q shut refl in
-      answered-with moment old new line noted requests.New is left (λ outcome. asks) tree unasked outcomes.MailFault due [] false (still made.closed)
+      answered-with moment old new line noted requests.New is left (λ outcome. asks) tree unasked (λ made published. tt) outcomes.MailFault due [] false (still made.closed)
       (made-some old.writer new.writer due made alive even are.fit)
       (inr (record { left = path ∷ rest; due = due; are_due = are-due (path ∷ rest) due are; may_fail = (path, rest, refl); makes = (refl, refl) })) refl made.closed mail.0 disk
       (alive-asks old.writer.closed alive, refl, mail, λ (failed : false ≡ true). absurd (cc))
   new-answered P Q (Err errors.DiskFault) after shut mail disk even =
       let alive : old.writer.closed ≡ None = alive-by {T = NewReport} old.writer.closed (Err errors.DiskFault) P Q shut refl in
       let fails : FailsWithin old.writer after.1 new.disk_faults new.writer = after.3 in
-      answered-with moment old new line noted requests.New is left (λ outcome. asks) tree unasked outcomes.DiskFault fails.done (fails.commit ∷ []) true (gets-closed old.writer new.writer new.disk_faults alive fails.closed)
+      answered-with moment old new line noted requests.New is left (λ outcome. asks) tree unasked (λ made published. tt) outcomes.DiskFault fails.done (fails.commit ∷ []) true (gets-closed old.writer new.writer new.disk_faults alive fails.closed)
       (made-failing old.writer new.writer after.1 new.disk_faults fails alive even after.2.fit)
       (fails.commit, record { left = after.0; due = after.1; are_due = are-due after.0 after.1 after.2; more = fails.more; order = fails.due_are }, refl) refl fails.closed (omega (arith, mail)) disk
       (alive-asks old.writer.closed alive, refl, mail, refl)
   new-answered P Q (Err (errors.Closed fault)) after shut mail disk even =
-      answered-with moment old new line noted requests.New is left (λ outcome. asks) tree unasked (outcomes.Closed fault) [] [] false (still (ap (λ (w : WriterState). w.closed) after.2))
+      answered-with moment old new line noted requests.New is left (λ outcome. asks) tree unasked (λ made published. tt) (outcomes.Closed fault) [] [] false (still (ap (λ (w : WriterState). w.closed) after.2))
       (made-none old.writer new.writer after.2) (record { made_are = refl; in_flight_is = refl }) refl (ap (λ (w : WriterState). w.closed) after.2) (omega (arith, mail)) disk
       (ap (λ (c : Option ℕ). refused_closed c true) after.0, none-failed mail)
   new-answered P Q (Err (errors.Limit limit)) (inl (none, passes, same)) shut mail disk even =
       let alive : old.writer.closed ≡ None = alive-by {T = NewReport} old.writer.closed (Err (errors.Limit limit)) P Q shut refl in
-      answered-with moment old new line noted requests.New is left (λ outcome. asks) tree unasked (outcomes.Limit limit) [] [] false (still (ap (λ (w : WriterState). w.closed) same))
+      answered-with moment old new line noted requests.New is left (λ outcome. asks) tree unasked (λ made published. tt) (outcomes.Limit limit) [] [] false (still (ap (λ (w : WriterState). w.closed) same))
       (made-none old.writer new.writer same) (inl (refl, inr (inl (none, is, passes))), refl) refl (ap (λ (w : WriterState). w.closed) same) (omega (arith, mail)) disk
       (inr (inr (alive-asks old.writer.closed alive, refl)), none-failed mail)
   new-answered P Q (Err (errors.Limit limit)) (inr after) shut mail disk even =
       let alive : old.writer.closed ≡ None = alive-by {T = NewReport} old.writer.closed (Err (errors.Limit limit)) P Q shut refl in
       let passes : PassesWithin old.writer after.1 limit new.writer = after.3 in
-      answered-with moment old new line noted requests.New is left (λ outcome. asks) tree unasked (outcomes.Limit limit) passes.done [] false (still passes.made.closed)
+      answered-with moment old new line noted requests.New is left (λ outcome. asks) tree unasked (λ made published. tt) (outcomes.Limit limit) passes.done [] false (still passes.made.closed)
       (made-some old.writer new.writer passes.done passes.made alive even (fit-front old.writer.shown passes.done (passes.commit ∷ passes.more) (subst (FitInTurn old.writer.shown) passes.due_are after.2.fit))) (
         inr (
           passes.commit,
@@ -115,12 +115,12 @@ module _ (moment : ℤ) (old new : Place) (line : ScriptLine) (noted : List Give
       )
       refl passes.made.closed (omega (arith, mail)) disk (inr (inr (alive-asks old.writer.closed alive, refl)), none-failed mail)
   new-answered P Q (Err errors.NoMemory) (inl same) shut mail disk even =
-      answered-with moment old new line noted requests.New is left (λ outcome. asks) tree unasked outcomes.NoMemory [] [] false (still (ap (λ (w : WriterState). w.closed) same))
+      answered-with moment old new line noted requests.New is left (λ outcome. asks) tree unasked (λ made published. tt) outcomes.NoMemory [] [] false (still (ap (λ (w : WriterState). w.closed) same))
       (made-none old.writer new.writer same) (inl (refl, inr no-tag), refl) refl (ap (λ (w : WriterState). w.closed) same) (omega (arith, mail)) disk refl
   new-answered P Q (Err errors.NoMemory) (inr after) shut mail disk even =
       let alive : old.writer.closed ≡ None = alive-by {T = NewReport} old.writer.closed (Err errors.NoMemory) P Q shut refl in
       let stops : StopsWithin old.writer after.1 new.writer = after.3 in
-      answered-with moment old new line noted requests.New is left (λ outcome. asks) tree unasked outcomes.NoMemory stops.done [] false (still stops.made.closed)
+      answered-with moment old new line noted requests.New is left (λ outcome. asks) tree unasked (λ made published. tt) outcomes.NoMemory stops.done [] false (still stops.made.closed)
       (made-some old.writer new.writer stops.done stops.made alive even (fit-front old.writer.shown stops.done stops.more (subst (FitInTurn old.writer.shown) stops.due_are after.2.fit)))
       (inr (after.0, after.1, stops.more, are-due after.0 after.1 after.2, stops.due_are), refl) refl stops.made.closed (omega (arith, mail)) disk refl
 

@@ -10,7 +10,7 @@ use Rattle.nm_base.specs.declared.memory.NoMemory.{NoMemory}
 use Rattle.nm_faults.specs.Faults.{HasCauseOf}
 use Rattle.nm_history.specs.Given.{AsksMail, AsksNothing, AsksShow}
 use Rattle.nm_history.specs.LineAnswers.{HasCause, NoneFailed}
-use Rattle.nm_history.specs.LineCommits.{Makes}
+use Rattle.nm_history.specs.LineCommits.{Makes, RenamesComeAfterTags}
 use Rattle.nm_history.specs.LineResult.{Place, before_at}
 use Rattle.nm_history.specs.Lines.{tree_after_line}
 use Rattle.nm_history.specs.Requests.{asks_to_tag, asks_to_write, first_refusal, found_to_show, passes_bytes, paths_to_show, refused_bytes, refused_closed, refused_gone, refused_number, refused_reading, refused_text, refused_unasked}
@@ -147,6 +147,7 @@ module _ (moment : ℤ) (writer : WriterState) (old_mail new_mail : ObservedMail
         in_flight = [];
         has_made = made-nothing writer;
         makes = makes;
+        renames_after = subst (λ (p : ParsedLine). RenamesComeAfterTags p line.input moment writer.shown noted []) (sym is) tt;
         on_its_way = refl;
         closed = refl;
         asks = subst (λ (p : ParsedLine). AsksMail outcome p writer.shown moment left old_mail new_mail noted) (sym is)

@@ -1,6 +1,6 @@
 -- How a line ends that sets tags, from what the writer did. For the proof of `change_tags`.
-use Rattle.std.proofs.Common.{◌≡◌, inr, ℕ, ℤ, ◌+◌, true, false, List, [], ◌∷◌, ◌++◌, Option, None, Some, IfOk, IfSome, IsSome, is_some, Result, Ok, Err, drop, fold, length, map, refl, sym, ap, ◌∙◌, subst, append-nil, append_assoc, arith}
-use Rattle.std.proofs.lemmas.List.{drop_all, length-append}
+use Rattle.std.proofs.Common.{◌≡◌, ◌⊎◌, inl, inr, ℕ, ℤ, ◌+◌, true, false, List, [], ◌∷◌, ◌++◌, Option, None, Some, IfOk, IfSome, IsSome, is_some, Result, Ok, Err, drop, fold, length, map, refl, sym, ap, ◌∙◌, subst, append-nil, append_assoc, arith}
+use Rattle.std.proofs.lemmas.List.{append_cancel_left, drop_all, length-append}
 use Rattle.std.specs.Option.{option_map}
 use Rattle.nm_answer.specs.Answer.{answer}
 use Rattle.nm_answer.specs.Changes.{change_answer, strangers_for, wanted_for}
@@ -15,7 +15,7 @@ use Rattle.nm_commit.specs.declared.change.Commit.{Commit}
 use Rattle.nm_faults.specs.Faults.{Counts, HasCauseOf}
 use Rattle.nm_history.specs.Given.{AsksBy, AsksMail, AsksNothing}
 use Rattle.nm_history.specs.LineAnswers.{NoneFailed}
-use Rattle.nm_history.specs.LineCommits.{AreDue, FindsBy, FindsFor, FindsRenames, MakesBefore, MakesBy, MakesTags, MayFailBy, MayFailWith, renames_left}
+use Rattle.nm_history.specs.LineCommits.{AreDue, FindsBy, FindsFor, FindsRenames, MakesBefore, MakesBy, MakesTags, MayFailBy, MayFailWith, RenamesAfterBy, RenamesComeAfterTags, renames_left}
 use Rattle.nm_history.specs.LineResult.{Place, before_at}
 use Rattle.nm_history.specs.Lines.{given_in, tree_after_line, tree_by}
 use Rattle.nm_history.specs.Requests.{asks_folder, first_refusal, is_asking, is_tagging, is_writing, refused_closed, refused_found, refused_reading, refused_text_of, refused_unasked, sets_tags, writes_index}
@@ -43,7 +43,7 @@ use Rattle.nm_line.specs.declared.line_answer.LineAnswer.{LineAnswer}
 use Rattle.nm_line.proofs.AnswerLemmas.{replied-said}
 use Rattle.nm_line.proofs.ChangeLemmas.{alive-asks, alive-by, answered-with, closed-by, fit-front, folded-append, gets-closed, made-failing, made-none, made-some, passed-by, stays-open, write-no-memory}
 use Rattle.nm_sync.specs.Renamed.{AnswersAlong, AsksRenames, TreesAlong}
-use Rattle.nm_writer.specs.Tagged.{IsAfterTags}
+use Rattle.nm_writer.specs.Tagged.{IsAfterTags, SetsTagsFirst}
 use Rattle.nm_writer.specs.Writer.{WriterState}
 use Rattle.nm_writer.specs.AfterCommit.{AreWithin, FailsWithin, HasCommitted, IsAfterCommits, PassesWithin, StopsWithin, is_read_fault, with_commits}
 use Rattle.nm_writer.specs.declared.write_error.WriteError.{WriteError}
@@ -160,6 +160,18 @@ asks-in : (request : Request) → is_tagging request ≡ true → (outcome : Out
     → AsksRenames old new [] noted → AsksMail outcome (asked.Request request) index moment left old new noted
 asks-in request tags outcome index moment left old new noted h = by-kind (λ kind. AsksBy kind outcome index moment left old new noted) request tags h
 
+-- its renames come after the commit of its tags: what was made is what was published since
+renames-by : (wanted : Base) (noted : List Given) (made : List Commit) (old new : WriterState) → SetsTagsFirst wanted noted old new → new.published ≡ with_commits old.published made
+    → (noted ≡ []) ⊎ ((moves : List Commit) × (made ≡ tag_commit old.shown wanted ++ moves))
+renames-by wanted noted made old new (inl none) published = inl none
+renames-by wanted noted made old new (inr (moves, first)) published =
+    inr (moves, append_cancel_left old.published.commits made (tag_commit old.shown wanted ++ moves) (ap (λ (p : Published). p.commits) (sym published ∙ first)))
+
+renames-in : (request : Request) → is_tagging request ≡ true → (input : List ℕ) (moment : ℤ) (noted : List Given) (made : List Commit) (old new : WriterState)
+    → SetsTagsFirst (wanted_for request input moment old.shown) noted old new → new.published ≡ with_commits old.published made → RenamesComeAfterTags (asked.Request request) input moment old.shown noted made
+renames-in request tags input moment noted made old new h published =
+    by-kind (λ kind. RenamesAfterBy kind request input moment old.shown noted made) request tags (renames-by (wanted_for request input moment old.shown) noted made old new h published)
+
 -- the tree after it is the one that the renames leave
 after-in : (request : Request) → is_tagging request ≡ true → (noted : List Given) (tree : Option Tree) → option_map (λ t. fold given_in t noted) tree ≡ tree_after_line (asked.Request request) noted tree
 after-in request tags noted tree = by-kind (λ kind. option_map (λ t. fold given_in t noted) tree ≡ tree_by kind noted tree) request tags refl
@@ -205,6 +217,7 @@ tag-unasked Q request tags input closed wanted noted old new faults result old_m
 module _ (moment : ℤ) (old new : Place) (line : ScriptLine) (noted : List Given) (request : Request) (kind : is_tagging request ≡ true) (is : parse_line line ≡ asked.Request request) (left : new.left ≡ left_after old.left noted)
     (right : refused_text_of request line.input ≡ None) (asks : AsksRenames old.mail new.mail [] noted)
     (unasked : IsSome (refused_unasked (asked.Request request) line.input old.writer.closed) → AsksNothing old.mail new.mail noted)
+    (renames : SetsTagsFirst (wanted_for request line.input moment old.writer.shown) noted old.writer new.writer)
     (fits : HasTried old.writer.shown (wanted_for request line.input moment old.writer.shown) noted → FitInTurn old.writer.shown (tag_commits old.writer.shown (wanted_for request line.input moment old.writer.shown) noted)) where
   abbrev index : Base
   index = old.writer.shown
@@ -230,6 +243,9 @@ module _ (moment : ℤ) (old new : Place) (line : ScriptLine) (noted : List Give
 
   asks-so : (outcome : Outcome) → AsksMail outcome (asked.Request request) index moment old.left old.mail new.mail noted
   asks-so outcome = asks-in request kind outcome index moment old.left old.mail new.mail noted asks
+
+  renames-so : (made : List Commit) → new.writer.published ≡ with_commits old.writer.published made → RenamesComeAfterTags (asked.Request request) line.input moment index noted made
+  renames-so made published = renames-in request kind line.input moment noted made old.writer new.writer renames published
 
   pub asks-as : (outcome : Outcome) → AsksMail outcome (parse_line line) index moment old.left old.mail new.mail noted
   asks-as outcome = subst (λ (p : ParsedLine). AsksMail outcome p index moment old.left old.mail new.mail noted) (sym is) (asks-so outcome)
@@ -261,7 +277,7 @@ module _ (moment : ℤ) (old new : Place) (line : ScriptLine) (noted : List Give
     faulted moves more order made =
         let all : HasCommitted old.writer (tag_commit index wanted ++ moves) new.writer = committed-then old.writer mid new.writer (tag_commit index wanted) moves tags made in
         let whole : due ≡ (tag_commit index wanted ++ moves) ++ more = ap (λ (l : List Commit). tag_commit index wanted ++ l) order ∙ sym (append_assoc (tag_commit index wanted) moves more) in
-        answered-with moment old new line noted request is left asks-so tree unasked outcomes.MailFault (tag_commit index wanted ++ moves) [] false (still all.closed)
+        answered-with moment old new line noted request is left asks-so tree unasked renames-so outcomes.MailFault (tag_commit index wanted ++ moves) [] false (still all.closed)
         (made-some old.writer new.writer (tag_commit index wanted ++ moves) all alive even (fit-front index (tag_commit index wanted ++ moves) more (subst (FitInTurn index) whole (fits tried))))
         (inr (record {
           left = renames_left index wanted noted;
@@ -275,7 +291,7 @@ module _ (moment : ℤ) (old new : Place) (line : ScriptLine) (noted : List Give
     failed-moves : FailsWithin mid (move_commit noted) new.disk_faults new.writer → IsLineAnswer moment old line noted outcomes.MailFault (newly_closed old.writer new.writer) new
     failed-moves h =
         let all : FailsWithin old.writer due new.disk_faults new.writer = failing-then old.writer mid new.writer (tag_commit index wanted) (move_commit noted) new.disk_faults tags h in
-        answered-with moment old new line noted request is left asks-so tree unasked outcomes.MailFault all.done (all.commit ∷ []) true (gets-closed old.writer new.writer new.disk_faults alive all.closed)
+        answered-with moment old new line noted request is left asks-so tree unasked renames-so outcomes.MailFault all.done (all.commit ∷ []) true (gets-closed old.writer new.writer new.disk_faults alive all.closed)
         (made-failing old.writer new.writer due new.disk_faults all alive even (fits tried))
         (inr (record {
           left = renames_left index wanted noted;
@@ -306,7 +322,7 @@ module _ (moment : ℤ) (old new : Place) (line : ScriptLine) (noted : List Give
       → IsLineAnswer moment old line noted (outcome_by result) (newly_closed old.writer new.writer) new
   tag-answered P Q (Ok report) after shut mail disk idle even =
       let alive : old.writer.closed ≡ None = alive-by old.writer.closed (Ok report) P Q shut refl in
-      answered-with moment old new line noted request is left asks-so tree unasked outcomes.Ok due [] false (still after.2.closed)
+      answered-with moment old new line noted request is left asks-so tree unasked renames-so outcomes.Ok due [] false (still after.2.closed)
       (made-some old.writer new.writer due after.2 alive even (fits after.0)) (are-due [] after.0 (none-left index wanted noted after.1), refl) refl after.2.closed (omega (arith, mail))
       (stands-by new.writer.closed (after.2.closed ∙ alive) (disk alive))
       (may-ask old.writer.closed (alive-asks old.writer.closed alive), reads-in request kind index moment old.left noted, none-failed mail)
@@ -316,13 +332,13 @@ module _ (moment : ℤ) (old new : Place) (line : ScriptLine) (noted : List Give
   tag-answered P Q (Err errors.DiskFault) after shut mail disk idle even =
       let alive : old.writer.closed ≡ None = alive-by {T = SyncReport} old.writer.closed (Err errors.DiskFault) P Q shut refl in
       let fails : FailsWithin old.writer due new.disk_faults new.writer = after.1 in
-      answered-with moment old new line noted request is left asks-so tree unasked outcomes.DiskFault fails.done (fails.commit ∷ []) true (gets-closed old.writer new.writer new.disk_faults alive fails.closed)
+      answered-with moment old new line noted request is left asks-so tree unasked renames-so outcomes.DiskFault fails.done (fails.commit ∷ []) true (gets-closed old.writer new.writer new.disk_faults alive fails.closed)
       (made-failing old.writer new.writer due new.disk_faults fails alive even (fits after.0))
       (fails.commit, record { left = renames_left index wanted noted; due = due; are_due = are-due (renames_left index wanted noted) after.0 refl; more = fails.more; order = fails.due_are }, refl)
       refl fails.closed (omega (arith, mail)) (rises-by new.writer.closed new.disk_faults fails.closed (disk alive))
       (may-ask old.writer.closed (alive-asks old.writer.closed alive), writing-in request kind, mail, refl)
   tag-answered P Q (Err (errors.Closed fault)) after shut mail disk idle even =
-      answered-with moment old new line noted request is left asks-so tree unasked (outcomes.Closed fault) [] [] false (still (ap (λ (w : WriterState). w.closed) after.2))
+      answered-with moment old new line noted request is left asks-so tree unasked renames-so (outcomes.Closed fault) [] [] false (still (ap (λ (w : WriterState). w.closed) after.2))
       (made-none old.writer new.writer after.2) (record { made_are = refl; in_flight_is = refl }) refl (ap (λ (w : WriterState). w.closed) after.2) (omega (arith, mail)) (idle (closed-by {T = SyncReport} old.writer.closed fault (Err (errors.Closed fault)) P Q after.0 shut)) (
         ap (λ (r : Option Outcome). first_refusal r (refused_closed old.writer.closed (is_writing request))) right
             ∙ (ap (refused_closed old.writer.closed) (writing-in request kind) ∙ ap (λ (c : Option ℕ). refused_closed c true) after.0),
@@ -331,7 +347,7 @@ module _ (moment : ℤ) (old new : Place) (line : ScriptLine) (noted : List Give
   tag-answered P Q (Err (errors.Limit limit)) after shut mail disk idle even =
       let alive : old.writer.closed ≡ None = alive-by {T = SyncReport} old.writer.closed (Err (errors.Limit limit)) P Q shut refl in
       let passes : PassesWithin old.writer due limit new.writer = after.1 in
-      answered-with moment old new line noted request is left asks-so tree unasked (outcomes.Limit limit) passes.done [] false (still passes.made.closed)
+      answered-with moment old new line noted request is left asks-so tree unasked renames-so (outcomes.Limit limit) passes.done [] false (still passes.made.closed)
       (made-some old.writer new.writer passes.done passes.made alive even (fit-front index passes.done (passes.commit ∷ passes.more) (subst (FitInTurn index) passes.due_are (fits after.0)))) (
         inr (
           passes.commit,
@@ -345,7 +361,7 @@ module _ (moment : ℤ) (old new : Place) (line : ScriptLine) (noted : List Give
   tag-answered P Q (Err errors.NoMemory) after shut mail disk idle even =
       let alive : old.writer.closed ≡ None = alive-by {T = SyncReport} old.writer.closed (Err errors.NoMemory) P Q shut refl in
       let stops : StopsWithin old.writer due new.writer = after.1 in
-      answered-with moment old new line noted request is left asks-so tree unasked outcomes.NoMemory stops.done [] false (still stops.made.closed)
+      answered-with moment old new line noted request is left asks-so tree unasked renames-so outcomes.NoMemory stops.done [] false (still stops.made.closed)
       (made-some old.writer new.writer stops.done stops.made alive even (fit-front index stops.done stops.more (subst (FitInTurn index) stops.due_are (fits after.0))))
       (inr (renames_left index wanted noted, due, stops.more, are-due (renames_left index wanted noted) after.0 refl, stops.due_are), refl)
       refl stops.made.closed (omega (arith, mail)) (stands-by new.writer.closed (stops.made.closed ∙ alive) (disk alive)) refl

@@ -9,7 +9,7 @@ use Rattle.nm_disk.specs.Observed.{ObservedDisk}
 use Rattle.nm_faults.specs.Faults.{Counts}
 use Rattle.nm_history.specs.Given.{AsksMail, AsksNothing}
 use Rattle.nm_history.specs.LineAnswers.{HasCause, line_text}
-use Rattle.nm_history.specs.LineCommits.{IsOnItsWay, Makes}
+use Rattle.nm_history.specs.LineCommits.{IsOnItsWay, Makes, RenamesComeAfterTags}
 use Rattle.nm_history.specs.LineResult.{HasMade, Place, before_at, said_of}
 use Rattle.nm_history.specs.Lines.{closed_after, tree_after_line}
 use Rattle.nm_history.specs.MachineRun.{replied_where}
@@ -46,6 +46,7 @@ pub record IsLineAnswer (moment : ℤ) (old : Place) (line : ScriptLine) (given 
   pub in_flight : List Commit
   pub has_made : HasMade old.writer made in_flight new.writer
   pub makes : Makes outcome moment old.mail.tree old.writer.shown line given (length old.writer.acked + length made) made in_flight
+  pub renames_after : RenamesComeAfterTags (parse_line line) line.input moment old.writer.shown given made
   pub on_its_way : IsOnItsWay failed in_flight
   pub closed : new.writer.closed ≡ closed_after old.writer.closed failed new.disk_faults
   pub asks : AsksMail outcome (parse_line line) old.writer.shown moment old.left old.mail new.mail given

@@ -98,6 +98,7 @@ module _ (laws : TurnLaws) (moment : ℤ) (planned : List Planned) (phase : ℕ)
     in_flight = h.run.answered.in_flight;
     has_made = h.run.answered.has_made;
     makes = h.run.answered.makes;
+    renames_after = h.run.answered.renames_after;
     on_its_way = h.run.answered.on_its_way;
     closed = h.run.answered.closed;
     asks = h.run.answered.asks;

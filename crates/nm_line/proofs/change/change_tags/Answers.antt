@@ -16,7 +16,7 @@ use Rattle.nm_line.proofs.ChangeLemmas.{write-refused}
 use Rattle.nm_line.proofs.TagLemmas.{asks-as, tag-answered, tag-ends, tag-unasked}
 use Rattle.nm_sync.specs.Noted.{since}
 use Rattle.nm_sync.specs.Renamed.{AsksRenames}
-use Rattle.nm_writer.specs.Tagged.{IsAfterTags}
+use Rattle.nm_writer.specs.Tagged.{IsAfterTags, SetsTagsFirst}
 use Rattle.nm_line.proofs.change.change_tags.Goals as goal
 
 pub returns-in_err-texts-clause-ends : goal.returns-in_err-texts-clause-ends
@@ -44,8 +44,10 @@ returns-in-Ok-clause-ends g c = λ left line is asked.
     (subst (λ (l : List Given). IsAfterTags (wanted_by (to_z w64 (of_z w64 moment)) index c.args.changes.lines) (since l noted) c.args.desk.now.writer.now (g.D.Disk.observed c.tag.new.disk).faults (Ok c.in-Ok.report) c.tag.new.self) c.requires.fresh h.after) in
     let unasked = tag-unasked _ request asked.tags line.input c.args.desk.now.writer.now.closed (wanted_for request line.input moment index) noted c.args.desk.now.writer.now c.tag.new.self (g.D.Disk.observed c.tag.new.disk).faults (Ok c.in-Ok.report)
     (g.M.Maildir.observed c.args.desk.now.mail.now) (g.M.Maildir.observed c.tag.new.mail) asked.right after h.closed in
-    tag-ends moment old new line noted request asked.tags is refl asked.right asks unasked fits c.in-Ok.report c.args.changes.strangers c.reply_change.result
-    (tag-answered moment old new line noted request asked.tags is refl asked.right asks unasked fits _ _ (Ok c.in-Ok.report) after h.closed h.mail_cause h.disk_cause (λ same. ap (λ (d : ObservedDisk). d.faults) same) c.requires.ready.0)
+    let renames = subst (λ (wanted : Base). SetsTagsFirst wanted noted c.args.desk.now.writer.now c.tag.new.self) (wanted-is request line.input c.args.changes.lines _ moment index second asked.lines)
+    (subst (λ (l : List Given). SetsTagsFirst (wanted_by (to_z w64 (of_z w64 moment)) index c.args.changes.lines) (since l noted) c.args.desk.now.writer.now c.tag.new.self) c.requires.fresh h.renames_after) in
+    tag-ends moment old new line noted request asked.tags is refl asked.right asks unasked renames fits c.in-Ok.report c.args.changes.strangers c.reply_change.result
+    (tag-answered moment old new line noted request asked.tags is refl asked.right asks unasked renames fits _ _ (Ok c.in-Ok.report) after h.closed h.mail_cause h.disk_cause (λ same. ap (λ (d : ObservedDisk). d.faults) same) c.requires.ready.0)
     after.3 asked.strangers c.reply_change.ensures
 
 pub returns-in-Err-clause-ends : goal.returns-in-Err-clause-ends
@@ -65,6 +67,8 @@ returns-in-Err-clause-ends g c = λ left line is asked.
     (subst (λ (l : List Given). IsAfterTags (wanted_by (to_z w64 (of_z w64 moment)) index c.args.changes.lines) (since l noted) c.args.desk.now.writer.now (g.D.Disk.observed c.tag.new.disk).faults (Err c.in-Err.error) c.tag.new.self) c.requires.fresh h.after) in
     let unasked = tag-unasked _ request asked.tags line.input c.args.desk.now.writer.now.closed (wanted_for request line.input moment index) noted c.args.desk.now.writer.now c.tag.new.self (g.D.Disk.observed c.tag.new.disk).faults (Err c.in-Err.error)
     (g.M.Maildir.observed c.args.desk.now.mail.now) (g.M.Maildir.observed c.tag.new.mail) asked.right after h.closed in
+    let renames = subst (λ (wanted : Base). SetsTagsFirst wanted noted c.args.desk.now.writer.now c.tag.new.self) (wanted-is request line.input c.args.changes.lines _ moment index second asked.lines)
+    (subst (λ (l : List Given). SetsTagsFirst (wanted_by (to_z w64 (of_z w64 moment)) index c.args.changes.lines) (since l noted) c.args.desk.now.writer.now c.tag.new.self) c.requires.fresh h.renames_after) in
     write-refused moment old new line noted c.in-Err.error c.refuse_write.result
-    (tag-answered moment old new line noted request asked.tags is refl asked.right asks unasked fits _ _ (Err c.in-Err.error) after h.closed h.mail_cause h.disk_cause (λ same. ap (λ (d : ObservedDisk). d.faults) same) c.requires.ready.0)
-    (asks-as moment old new line noted request asked.tags is refl asked.right asks unasked fits outcomes.NoMemory) c.refuse_write.ensures
+    (tag-answered moment old new line noted request asked.tags is refl asked.right asks unasked renames fits _ _ (Err c.in-Err.error) after h.closed h.mail_cause h.disk_cause (λ same. ap (λ (d : ObservedDisk). d.faults) same) c.requires.ready.0)
+    (asks-as moment old new line noted request asked.tags is refl asked.right asks unasked renames fits outcomes.NoMemory) c.refuse_write.ensures
