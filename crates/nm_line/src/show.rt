@@ -25,6 +25,13 @@ use nm_scan::{BodiesError, read_bodies};
 use nm_state::Snapshot;
 use std::alloc::Global;
 
+/// A show, and the index that it is made on.
+#[derive(Drop)]
+struct Show<'s> {
+    ask: &'s ShowAsk,
+    snapshot: &'s Snapshot,
+}
+
 /// Why there is nothing to show.
 #[derive(Drop)]
 enum ShowFault {
@@ -55,15 +62,11 @@ pub(crate) fn run_show<R, M: Maildir, D: Disk>(
     ensures durable { StaysDurable D.observed desk.old desk.new }
     ensures loans { KeepsLoans desk.old desk.new }
 {
-    match show_messages(
-        crew,
-        desk.writer.snapshot(),
-        &ask,
-        query,
-        left,
-        desk.mail,
-        given,
-    ) {
+    let show = Show {
+        ask: &ask,
+        snapshot: desk.writer.snapshot(),
+    };
+    match show_messages(crew, &show, query, left, desk.mail, given) {
         Ok(text) => replied(Request::Show(ask), text),
         Err(fault) => refuse_show(crew.alloc, fault),
     }
@@ -72,19 +75,24 @@ pub(crate) fn run_show<R, M: Maildir, D: Disk>(
 /// Shows the messages that a query finds: their files are read, of at most n bytes in all, and what is answered is noted.
 fn show_messages<R, M: Maildir>(
     crew: &Crew<'_, R>,
-    snapshot: &Snapshot,
-    ask: &ShowAsk,
+    show: &Show<'_>,
     query: &Query,
     left: u64,
     mail: &mut M,
     given: &mut Many<Given>,
 ) -> Result<Many<u8>, ShowFault>
     requires fresh { given.old ≡ [] }
-    ensures after { IsAfterShow ask.now snapshot.now crew.now.setting.now.moment query.now left (M.observed mail.old) (M.observed mail.new) given.new result }
+    ensures after { IsAfterShow show.now.ask.now show.now.snapshot.now crew.now.setting.now.moment query.now left (M.observed mail.old) (M.observed mail.new) given.new result }
     ensures cause { HasCauseOf is_folder_fault (M.observed mail.old).faults (M.observed mail.new).faults result }
 {
-    match shown_ids(crew.alloc, snapshot, ask, query, crew.setting.moment) {
-        Ok(ids) => read_and_tell(crew.alloc, snapshot, ask, ids.as_slice(), left, mail, given),
+    match shown_ids(
+        crew.alloc,
+        show.snapshot,
+        show.ask,
+        query,
+        crew.setting.moment,
+    ) {
+        Ok(ids) => read_and_tell(crew.alloc, show, ids.as_slice(), left, mail, given),
         Err(error) => Err(show_fault(error)),
     }
 }
@@ -92,24 +100,23 @@ fn show_messages<R, M: Maildir>(
 /// Reads the files of these messages, and tells what they hold.
 fn read_and_tell<M: Maildir>(
     alloc: Global,
-    snapshot: &Snapshot,
-    ask: &ShowAsk,
+    show: &Show<'_>,
     ids: &[MessageId],
     left: u64,
     mail: &mut M,
     given: &mut Many<Given>,
 ) -> Result<Many<u8>, ShowFault>
-    requires one { is_not_one ask.now ids.now ≡ false }
+    requires one { is_not_one show.now.ask.now ids.now ≡ false }
     requires fresh { given.old ≡ [] }
-    ensures after { IsAfterReads ask.now snapshot.now ids.now left (M.observed mail.old) (M.observed mail.new) given.new result }
+    ensures after { IsAfterReads show.now.ask.now show.now.snapshot.now ids.now left (M.observed mail.old) (M.observed mail.new) given.new result }
     ensures one { tells_not_one result ≡ false }
     ensures cause { HasCauseOf is_folder_fault (M.observed mail.old).faults (M.observed mail.new).faults result }
 {
-    let Ok(paths) = lead_paths(alloc, snapshot, ids) else {
+    let Ok(paths) = lead_paths(alloc, show.snapshot, ids) else {
         return Err(ShowFault::NoMemory);
     };
     match read_bodies(mail, paths.as_slice(), left, given) {
-        Ok(()) => match show_text(alloc, snapshot, ask, ids, given.as_slice()) {
+        Ok(()) => match show_text(alloc, show.snapshot, show.ask, ids, given.as_slice()) {
             Ok(text) => Ok(text),
             Err(error) => Err(show_fault(error)),
         },
