@@ -1,4 +1,4 @@
-//! Packing: hits as a block. Segments are built of blocks.
+//! Packing: hits as a block. `nm_segment` is built of blocks.
 
 ghost use Rattle.std.specs.Prelude.{◌≡◌, ◌≤◌, ◌<◌, ◌+◌, ◌*◌, ◌++◌, ◌∷◌, ℕ, List, length, IfOk, OnOk, OnErr, IsTrue};
 ghost use Rattle.nm_blocks.specs.Hits.{all_fit, fits, is_rising};

@@ -1,4 +1,4 @@
-//! Unpacking: the hits of blocks that stand one after the other. Segments answer what is asked of a word so.
+//! Unpacking: the hits of blocks that stand one after the other. `nm_segment` answers what is asked of a word so.
 
 ghost use Rattle.std.specs.Prelude.{◌≡◌, ◌∷◌, [], List, MatchOption};
 ghost use Rattle.nm_blocks.specs.declared.hit.Hit.{Hit};

@@ -1,0 +1,11 @@
+pub mod DocLemmas
+pub mod HitLemmas
+pub mod OrderLemmas
+pub mod PieceLemmas
+pub mod RowLemmas
+pub mod RowsLemmas
+pub mod RunLemmas
+pub mod SearchLemmas
+pub mod SegmentLemmas
+pub mod StartLemmas
+pub mod WordSetLemmas

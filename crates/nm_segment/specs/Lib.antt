@@ -1,0 +1,6 @@
+pub mod Costs
+pub mod Docs
+pub mod Pieces
+pub mod Rows
+pub mod Segment
+pub mod Starts

@@ -1,0 +1,26 @@
+//! Searching: a segment, the words of a list of documents, found by word and field or by document. A contract sees it as
+//! the documents.
+#![tactic(auto)]
+
+mod dictionary;
+mod doc_lists;
+mod doc_places;
+mod doc_words;
+mod laws;
+mod list_words;
+mod pieces;
+mod postings;
+mod rows;
+mod runs;
+mod segment;
+mod starts;
+mod word_set;
+
+pub use doc_lists::DocLists;
+pub use doc_words::DocWords;
+pub use laws::{
+    hits_are_in_order, hits_are_where_the_word_stands, hits_of_more_documents_follow,
+    words_are_those_that_stand,
+};
+pub use postings::Postings;
+pub use segment::{Segment, build};

@@ -1,0 +1,116 @@
+//! The segment: documents, and where each of their words stands. Queries look words up here.
+
+ghost use Rattle.std.specs.Prelude.{◌≡◌, ◌<◌, ◌≤◌, Some, [], length, slice_get, slice_index_or, IfOk, MatchOption};
+ghost use Rattle.nm_segment.specs.Costs.{SearchSteps};
+ghost use Rattle.nm_segment.specs.Docs.{AreDocs, fields_of, hits_of, lists_from, lists_of, words};
+ghost use Rattle.nm_segment.specs.Rows.{row_at};
+ghost use Rattle.nm_segment.specs.Starts.{FoundSteps, starting};
+
+use crate::dictionary::place_of;
+use crate::doc_lists::DocLists;
+use crate::doc_places::lists_of_doc;
+use crate::doc_words::DocWords;
+use crate::pieces::Pieces;
+use crate::postings::Postings;
+use crate::rows::rows_of_docs;
+use crate::runs::pack_rows;
+use crate::starts::word_with_start;
+use crate::word_set::words_of_docs;
+use nm_base::{Copies, Field, Many, NoMemory, Steps};
+use std::alloc::Global;
+use std::marker::Model;
+use std::sync::ledger::Ledger;
+
+/// Documents with their words, seen as the list of them.
+#[derive(Drop)]
+pub struct Segment {
+    docs: Many<DocWords>,
+    /// The distinct words in order.
+    words: Pieces,
+    /// Five for each word, one a field: the blocks of its hits.
+    runs: Pieces,
+}
+
+impl Model for Segment {
+    ghost use Rattle.std.specs.Prelude.{List};
+    ghost use Rattle.nm_segment.specs.declared.doc_words.DocWords.{DocWords};
+    ghost use Rattle.nm_segment.specs.Segment.{IsIndexed};
+
+    ghost Value = { List DocWords };
+
+    ghost view = { λ s. s.docs };
+
+    ghost invariant = { λ s. IsIndexed s.docs s.words s.runs };
+}
+
+/// The segment of documents whose numbers rise.
+pub fn build(alloc: Global, docs: &Many<DocWords>) -> Result<Segment, NoMemory>
+    requires { AreDocs docs.now }
+    ensures { IfOk result (λ segment. segment ≡ docs.now) }
+{
+    let words = words_of_docs(alloc, docs.as_slice())?;
+    let rows = rows_of_docs(alloc, &words, docs.as_slice())?;
+    let runs = pack_rows(alloc, rows.as_slice())?;
+    let docs = docs.copy()?;
+    Ok(Segment { docs, words, runs })
+}
+
+impl Segment {
+    /// How many documents there are.
+    pub fn len(&self) -> usize
+        ensures { result ≡ length self.now }
+    {
+        self.docs.len()
+    }
+
+    /// The hits of a word in a field. A step is a probe of the words.
+    pub fn postings<L: Ledger>(
+        &self,
+        word: &str,
+        field: Field,
+        steps: &mut Steps<L>,
+    ) -> Postings<'_>
+        ensures hits { result ≡ hits_of self.now word.now field }
+        ensures steps { SearchSteps (length (words self.now)) steps.old steps.new }
+    {
+        match place_of(&self.words, word.as_bytes(), steps) {
+            None => Postings::new(&[]),
+            Some(at) => Postings::new(run_of(&self.runs, at, field)),
+        }
+    }
+
+    /// The word at a place, from 0, among the distinct words that begin with `start`, in byte order. A step is a probe of
+    /// the words, and one more is for the word.
+    pub fn with_start<L: Ledger>(
+        &self,
+        start: &str,
+        at: usize,
+        steps: &mut Steps<L>,
+    ) -> Option<&[u8]>
+        ensures word { MatchOption result (length (starting start.now (words self.now)) ≤ at) (λ word. slice_get (starting start.now (words self.now)) at ≡ Some word.now) }
+        ensures steps { MatchOption result (SearchSteps (length (words self.now)) steps.old steps.new) (λ word. FoundSteps (length (words self.now)) steps.old steps.new) }
+    {
+        word_with_start(&self.words, start.as_bytes(), at, steps)
+    }
+
+    /// The words of a document, list after list; none where there is no such document. A step is a probe of the documents.
+    #[tactic(auto, using(crate::proofs::DocLemmas::few_of))]
+    pub fn words_of<L: Ledger>(&self, doc: u32, steps: &mut Steps<L>) -> DocLists<'_>
+        ensures fields { result.fields ≡ fields_of (lists_of self.now doc) }
+        ensures words { result.words ≡ lists_from doc 0 (lists_of self.now doc) }
+        ensures steps { SearchSteps (length self.now) steps.old steps.new }
+    {
+        let lists = lists_of_doc(self.docs.as_slice(), doc, steps);
+        DocLists::new(doc, lists)
+    }
+}
+
+/// The run of the word at a place in a field.
+fn run_of(runs: &Pieces, at: usize, field: Field) -> &[u8]
+    requires { row_at at field < length runs.now }
+    ensures { result.now ≡ slice_index_or runs.now (row_at at field) [] }
+{
+    let len = runs.len();
+    prove!(at < len);
+    runs.get(at * 5 + usize::from(field.number()))
+}
