@@ -2,3 +2,4 @@ pub mod Blocks
 pub mod Gaps
 pub mod Hits
 pub mod Numbers
+pub mod RunWriter

@@ -1,4 +1,4 @@
-//! Packing: hits as a block. `nm_segment` is built of blocks.
+//! Packing: hits as a block. `run_writer` writes one after the other.
 
 ghost use Rattle.std.specs.Prelude.{◌≡◌, ◌≤◌, ◌<◌, ◌+◌, ◌*◌, ◌++◌, ◌∷◌, ℕ, List, length, IfOk, OnOk, OnErr, IsTrue};
 ghost use Rattle.nm_blocks.specs.Hits.{all_fit, fits, is_rising};
@@ -11,7 +11,7 @@ use nm_base::{Many, NoMemory};
 use std::alloc::Global;
 
 /// The most hits that a block has.
-const MAX_HITS: usize = 128;
+pub const MAX_HITS: usize = 128;
 
 /// A block of 1 to 128 hits.
 pub fn pack(alloc: Global, hits: &[Hit]) -> Result<Many<u8>, NoMemory>

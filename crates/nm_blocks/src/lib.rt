@@ -1,5 +1,5 @@
-//! Searching: the coded blocks in which the hits of a word are kept. `pack` writes a block, `Unpack` reads blocks that
-//! stand one after the other, and blocks are joined by copying their bytes.
+//! Searching: the coded blocks in which the hits of a word are kept. `pack` writes a block, `RunWriter`
+//! one block after the other, hit by hit, and `Unpack` reads them. Blocks are joined by copying their bytes.
 #![tactic(auto)]
 
 mod block;
@@ -7,6 +7,7 @@ mod draft;
 mod hit;
 mod laws;
 mod number;
+mod run_writer;
 mod unpack;
 
 pub use block::{pack, pack_into, pack_run};
@@ -16,4 +17,5 @@ pub use laws::{
     equal_blocks_are_of_equal_hits, hits_in_bytes, rising_hits_are_joined_and_cut,
     whole_blocks_are_read,
 };
+pub use run_writer::RunWriter;
 pub use unpack::Unpack;

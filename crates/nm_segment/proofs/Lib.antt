@@ -1,11 +1,11 @@
 pub mod DocLemmas
+pub mod GatherLemmas
 pub mod HitLemmas
+pub mod HitsInLemmas
 pub mod OrderLemmas
 pub mod PieceLemmas
-pub mod RowLemmas
-pub mod RowsLemmas
-pub mod RunLemmas
+pub mod PushLemmas
+pub mod RunsLemmas
 pub mod SearchLemmas
 pub mod SegmentLemmas
 pub mod StartLemmas
-pub mod WordSetLemmas

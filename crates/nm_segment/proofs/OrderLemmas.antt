@@ -1,4 +1,4 @@
--- The words of documents stand in the order of hits, and so do those of one word and field. For the proof of `rows_of_docs`.
+-- The words of documents stand in the order of hits, and so do those of one word and field. For the proofs of `gather` and `laws`.
 use Rattle.std.proofs.Common.{◌≡◌, ℕ, ◌+◌, ◌<◌, ◌≤◌, Bool, true, false, cond, Option, None, Some, List, [], ◌∷◌, ◌++◌, filter, map, refl, append_assoc, arith}
 use Rattle.std.proofs.lemmas.Bool.{and_parts}
 use Rattle.std.proofs.lemmas.Bool.Decides.{nat_tests}
@@ -13,7 +13,7 @@ use Rattle.nm_blocks.specs.Hits.{is_before, is_rising, rise_after}
 use Rattle.nm_blocks.specs.declared.hit.Hit.{Hit}
 use Rattle.nm_segment.specs.declared.doc_words.DocWords.{DocWords}
 use Rattle.nm_segment.specs.Docs.{Occurrence, hits_in, is_of, lists_from, numbers, occurrences, words_from}
-use Rattle.nm_segment.proofs.RunLemmas.{rising_rest}
+use Rattle.nm_segment.proofs.HitsInLemmas.{rising_rest}
 
 -- ---- one hit before another
 

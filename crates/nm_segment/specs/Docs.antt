@@ -1,5 +1,5 @@
 -- Documents with their words: where each word stands, and which words there are. Cited by `list_words`, `doc_lists`,
--- `word_set`, `rows` and `segment`.
+-- `all_words`, `gather`, `merge` and `segment`.
 use Rattle.std.specs.Prelude.{ℕ, ◌+◌, ◌<◌, ◌^◌, Bool, ◌&&◌, nat_eq, Option, None, Some, List, [], ◌∷◌, ◌++◌, filter, length, map, if◌then◌else◌, ◌≡◌, slice_get}
 use Rattle.std.specs.List.{AllByRecursion, flat_map}
 use Rattle.std.specs.List.Sorted.{IsStrictlySortedBy}
@@ -45,6 +45,11 @@ fields_of lists = map (λ list. list.field) lists
 abbrev pub words_left : Option (List Occurrence) → List Occurrence
 words_left None = []
 words_left (Some words) = words
+
+-- the words of a document that is being read, if one is
+abbrev pub current_words : Option Unread → List Occurrence
+current_words None = []
+current_words (Some unread) = unread.words
 
 -- lists that are left are few enough to be counted on from here
 pub record AreLeft (begun : ℕ) (lists : List FieldWords) : Type 0 where

@@ -2,19 +2,19 @@
 //! the documents.
 #![tactic(auto)]
 
+mod all_words;
 mod dictionary;
 mod doc_lists;
 mod doc_places;
 mod doc_words;
+mod gather;
+mod key;
 mod laws;
 mod list_words;
 mod pieces;
 mod postings;
-mod rows;
-mod runs;
 mod segment;
 mod starts;
-mod word_set;
 
 pub use doc_lists::DocLists;
 pub use doc_words::DocWords;

@@ -3,19 +3,17 @@
 ghost use Rattle.std.specs.Prelude.{◌≡◌, ◌<◌, ◌≤◌, Some, [], length, slice_get, slice_index_or, IfOk, MatchOption};
 ghost use Rattle.nm_segment.specs.Costs.{SearchSteps};
 ghost use Rattle.nm_segment.specs.Docs.{AreDocs, fields_of, hits_of, lists_from, lists_of, words};
-ghost use Rattle.nm_segment.specs.Rows.{row_at};
+ghost use Rattle.nm_segment.specs.Runs.{row_at};
 ghost use Rattle.nm_segment.specs.Starts.{FoundSteps, starting};
 
 use crate::dictionary::place_of;
 use crate::doc_lists::DocLists;
 use crate::doc_places::lists_of_doc;
 use crate::doc_words::DocWords;
+use crate::gather::index_of_docs;
 use crate::pieces::Pieces;
 use crate::postings::Postings;
-use crate::rows::rows_of_docs;
-use crate::runs::pack_rows;
 use crate::starts::word_with_start;
-use crate::word_set::words_of_docs;
 use nm_base::{Copies, Field, Many, NoMemory, Steps};
 use std::alloc::Global;
 use std::marker::Model;
@@ -48,9 +46,7 @@ pub fn build(alloc: Global, docs: &Many<DocWords>) -> Result<Segment, NoMemory>
     requires { AreDocs docs.now }
     ensures { IfOk result (λ segment. segment ≡ docs.now) }
 {
-    let words = words_of_docs(alloc, docs.as_slice())?;
-    let rows = rows_of_docs(alloc, &words, docs.as_slice())?;
-    let runs = pack_rows(alloc, rows.as_slice())?;
+    let (words, runs) = index_of_docs(alloc, docs.as_slice())?;
     let docs = docs.copy()?;
     Ok(Segment { docs, words, runs })
 }

@@ -1,7 +1,7 @@
 use Rattle.std.proofs.Common.{◌≡◌, ◌++◌, List, [], ◌∷◌, refl, sym, ap, ◌∙◌, append_assoc}
 use Rattle.nm_segment.specs.declared.doc_words.DocWords.{DocWords}
 use Rattle.nm_segment.specs.Docs.{Occurrence, hits_in, lists_from, occurrences}
-use Rattle.nm_segment.proofs.RowLemmas.{hits_in-append}
+use Rattle.nm_segment.proofs.HitsInLemmas.{hits_in-append}
 use Rattle.nm_segment.proofs.laws.hits_of_more_documents_follow.Goals as goal
 
 occurrences-append : (docs more : List DocWords) → occurrences (docs ++ more) ≡ occurrences docs ++ occurrences more

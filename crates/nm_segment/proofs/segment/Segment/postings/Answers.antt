@@ -1,12 +1,11 @@
-use Rattle.std.proofs.Common.{◌≡◌, false, Some, List, ℕ, refl, slice_get, sym, ap, ◌∙◌}
+use Rattle.std.proofs.Common.{◌≡◌, false, Some, List, ℕ, refl, [], get_or, slice_get, sym, ap, ◌∙◌}
 use Rattle.nm_base.specs.Order.{has_text}
 use Rattle.nm_blocks.specs.Blocks.{run_hits}
 use Rattle.nm_segment.specs.declared.doc_words.DocWords.{DocWords}
 use Rattle.nm_segment.specs.Docs.{hits_of}
-use Rattle.nm_segment.specs.Rows.{row_at}
-use Rattle.nm_segment.proofs.RowsLemmas.{words_sorted}
-use Rattle.nm_segment.proofs.RunLemmas.{no_hits}
-use Rattle.nm_segment.proofs.SegmentLemmas.{found_hits, no_hits_of}
+use Rattle.nm_segment.specs.Runs.{row_at}
+use Rattle.nm_segment.proofs.HitsInLemmas.{no_hits, read_again, words_sorted}
+use Rattle.nm_segment.proofs.SegmentLemmas.{found_run, no_hits_of}
 use Rattle.nm_segment.proofs.segment.Segment.postings.Goals as goal
 
 pub place_of-requires : goal.place_of-requires
@@ -15,7 +14,7 @@ place_of-requires g c = rw c.self.invariant.in_order (words_sorted c.self.inside
 pub run_of-requires : goal.run_of-requires
 run_of-requires g c =
     let there : slice_get c.self.inside.words c.in-Some.at ≡ Some c.args.word.now = c.in-Some.ensures.place ∙ ap Some c.as_bytes.ensures.value in
-    (found_hits c.self.inside.docs c.self.inside.words c.self.inside.runs c.args.word.now c.args.field c.in-Some.at (row_at c.in-Some.at c.args.field) c.self.invariant there refl).0
+    (found_run c.self.inside.docs c.self.inside.words c.self.inside.runs c.args.word.now c.args.field c.in-Some.at (row_at c.in-Some.at c.args.field) c.self.invariant there refl).0
 
 pub returns-in-None-clause-hits : goal.returns-in-None-clause-hits
 returns-in-None-clause-hits g c =
@@ -26,6 +25,7 @@ returns-in-None-clause-hits g c =
 pub returns-in-Some-clause-hits : goal.returns-in-Some-clause-hits
 returns-in-Some-clause-hits g c =
     let there : slice_get c.self.inside.words c.in-Some.at ≡ Some c.args.word.now = c.in-Some.ensures.place ∙ ap Some c.as_bytes.ensures.value in
+    let run = (found_run c.self.inside.docs c.self.inside.words c.self.inside.runs c.args.word.now c.args.field c.in-Some.at (row_at c.in-Some.at c.args.field) c.self.invariant there refl).1 in
     c.new-in-Some.ensures ∙ (ap run_hits c.run_of.ensures
-    ∙ ((found_hits c.self.inside.docs c.self.inside.words c.self.inside.runs c.args.word.now c.args.field c.in-Some.at (row_at c.in-Some.at c.args.field) c.self.invariant there refl).1
+    ∙ (read_again (get_or c.self.inside.runs (row_at c.in-Some.at c.args.field) []) (hits_of c.self.inside.docs c.args.word.now c.args.field) run
     ∙ ap (λ (docs : List DocWords). hits_of docs c.args.word.now c.args.field) c.self.view_is))

@@ -1,7 +1,7 @@
 use Rattle.std.proofs.Common.{◌≡◌, ℕ, ◌≤◌, MatchOption, Some, List, length, slice_get, subst, ap, ◌∙◌}
 use Rattle.nm_segment.specs.Docs.{words}
 use Rattle.nm_segment.specs.Starts.{starting}
-use Rattle.nm_segment.proofs.RowsLemmas.{words_sorted}
+use Rattle.nm_segment.proofs.HitsInLemmas.{words_sorted}
 use Rattle.nm_segment.proofs.segment.Segment.with_start.Goals as goal
 
 pub word_with_start-requires : goal.word_with_start-requires
