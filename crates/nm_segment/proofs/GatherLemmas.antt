@@ -1,4 +1,5 @@
--- Words that are gathered: one that was met before, and one that is met for the first time. For the proofs of `gather`.
+-- Words that are gathered: one that was met before, and one that is met for the first time. For the proofs of `gather`
+-- and `part`.
 use Rattle.std.proofs.Common.{◌≡◌, ℕ, zero, suc, inl, inr, ◌+◌, ◌<◌, Bool, true, false, cond, ◌||◌, Option, None, Some, MatchOption, List, [], ◌∷◌, ◌++◌, fold, length, get_or, replicate, slice_get, refl, sym, ap, subst, ◌∙◌, arith}
 use Rattle.std.specs.Borrow.{Bor}
 use Rattle.std.specs.BTreeSet.{insert_key}
@@ -28,7 +29,7 @@ use Rattle.nm_segment.proofs.HitsInLemmas.{few_fields, no_hits_in}
 -- ---- a set in order
 
 -- what is above all of a list is not in it
-not_below : (word : List ℕ) (xs : List (List ℕ)) → AllByRecursion (λ x. slice_cmp nat_cmp word x ≡ Less) xs → has_text xs word ≡ false
+pub not_below : (word : List ℕ) (xs : List (List ℕ)) → AllByRecursion (λ x. slice_cmp nat_cmp word x ≡ Less) xs → has_text xs word ≡ false
 not_below word [] h = refl
 not_below word (x ∷ xs) h =
     let differ : same_text word x ≡ false = texts_ties word x ∙ ap is_eq h.0 in
@@ -87,7 +88,8 @@ or_true : (b : Bool) → (b || true) ≡ true
 or_true true = refl
 or_true false = refl
 
-there : (words : List (List ℕ)) (word : List ℕ) (k : ℕ) → slice_get words k ≡ Some word → has_text words word ≡ true
+-- a word by its place is there
+pub there : (words : List (List ℕ)) (word : List ℕ) (k : ℕ) → slice_get words k ≡ Some word → has_text words word ≡ true
 there [] word k h = absurd (cc)
 there (x ∷ words) word zero h = let e : x ≡ word = cc in rw (e, nat_list_eq_equiv.refl word) refl
 there (x ∷ words) word (suc k) h = let more = there words word k h in let b = same_text word x in rw more (or_true b)

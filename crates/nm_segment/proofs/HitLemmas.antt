@@ -224,7 +224,7 @@ decoded Subject = refl
 decoded Body = refl
 decoded Attachment = refl
 
-same_field : (a b : Field) → field_number a ≡ field_number b → a ≡ b
+pub same_field : (a b : Field) → field_number a ≡ field_number b → a ≡ b
 same_field a b e = sym (decoded a) ∙ (ap field_of e ∙ decoded b)
 
 pub sound : (docs : List DocWords) (word : List ℕ) (field : Field) (hit : Hit) → IsStrictlySortedBy nat_cmp (numbers docs) → In hit (hits_of docs word field) → IsHit docs word field hit

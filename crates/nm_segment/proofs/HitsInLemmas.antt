@@ -14,7 +14,7 @@ use Rattle.nm_blocks.specs.Blocks.{IsRun, blocks_hits, run_hits}
 use Rattle.nm_blocks.specs.Hits.{is_before, is_rising, rise_after}
 use Rattle.nm_blocks.specs.declared.hit.Hit.{Hit}
 use Rattle.nm_segment.specs.declared.doc_words.DocWords.{DocWords}
-use Rattle.nm_segment.specs.Docs.{Occurrence, hits_in, is_of, occurrences, texts, words}
+use Rattle.nm_segment.specs.Docs.{Occurrence, hits_in, hits_of, is_of, lists_from, occurrences, texts, words}
 
 -- there are five fields
 pub few_fields : (field : Field) → field_number field < 5
@@ -41,6 +41,16 @@ own_hit o = rw (nat_list_eq_equiv.refl o.word, eq-eqb (field_number o.field) (fi
 pub hits_in-append : (xs ys : List Occurrence) (word : List ℕ) (field : Field) → hits_in (xs ++ ys) word field ≡ hits_in xs word field ++ hits_in ys word field
 hits_in-append xs ys word field =
     ap (λ (os : List Occurrence). map (λ o. o.hit) os) (filter-append (is_of word field) xs ys) ∙ map-append (λ (o : Occurrence). o.hit) (filter (is_of word field) xs) (filter (is_of word field) ys)
+
+pub occurrences-append : (docs more : List DocWords) → occurrences (docs ++ more) ≡ occurrences docs ++ occurrences more
+occurrences-append [] more = refl
+occurrences-append (d ∷ docs) more =
+    ap (λ (found : List Occurrence). lists_from d.doc 0 d.lists ++ found) (occurrences-append docs more) ∙ sym (append_assoc (lists_from d.doc 0 d.lists) (occurrences docs) (occurrences more))
+
+-- the hits in more documents follow
+pub hits_of-append : (docs more : List DocWords) (word : List ℕ) (field : Field) → hits_of (docs ++ more) word field ≡ hits_of docs word field ++ hits_of more word field
+hits_of-append docs more word field =
+    ap (λ (found : List Occurrence). hits_in found word field) (occurrences-append docs more) ∙ hits_in-append (occurrences docs) (occurrences more) word field
 
 none_case : (o : Occurrence) (found : List Occurrence) (word : List ℕ) (field : Field) (b : Bool) → same_text word o.word ≡ b → (b || has_text (texts found) word) ≡ false
     → (has_text (texts found) word ≡ false → hits_in found word field ≡ []) → hits_in (o ∷ found) word field ≡ []

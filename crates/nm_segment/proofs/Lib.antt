@@ -2,10 +2,14 @@ pub mod DocLemmas
 pub mod GatherLemmas
 pub mod HitLemmas
 pub mod HitsInLemmas
+pub mod LiveLemmas
+pub mod MergeLemmas
 pub mod OrderLemmas
 pub mod PieceLemmas
 pub mod PushLemmas
 pub mod RunsLemmas
+pub mod SameLemmas
 pub mod SearchLemmas
 pub mod SegmentLemmas
 pub mod StartLemmas
+pub mod WalkLemmas

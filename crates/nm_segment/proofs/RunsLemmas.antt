@@ -1,14 +1,15 @@
 -- Runs that are added: of a row, of a word, and of all words. For the proofs of `gather` and `merge`.
-use Rattle.std.proofs.Common.{◌≡◌, ℕ, inl, inr, ◌+◌, ◌<◌, List, [], ◌∷◌, ◌++◌, length, get_or, take, refl, sym, ap, subst, ◌∙◌, append_assoc, arith}
+use Rattle.std.proofs.Common.{◌≡◌, ℕ, inl, inr, ◌+◌, ◌<◌, List, [], ◌∷◌, ◌++◌, length, get_or, take, refl, sym, ap, subst, ◌∙◌, append_assoc, append-nil, arith}
 use Rattle.std.proofs.Math.Numerals.{suc-eq-add-one}
 use Rattle.std.proofs.Math.Seq.{take-suc}
 use Rattle.std.proofs.lemmas.Bool.{cases_lt}
 use Rattle.std.proofs.lemmas.List.{get_or_append_left, get_or-append-add, length-append}
 use Rattle.nm_base.specs.FieldNumber.{field_number}
 use Rattle.nm_base.specs.declared.facts.Field.{Field}
-use Rattle.nm_blocks.specs.Blocks.{IsRun}
+use Rattle.nm_blocks.specs.Blocks.{IsRun, run_hits}
 use Rattle.nm_blocks.specs.declared.hit.Hit.{Hit}
 use Rattle.nm_segment.specs.Runs.{AddsRuns, AreRuns, AreRunsOf, row_at}
+use Rattle.nm_segment.proofs.HitLemmas.{same_field}
 use Rattle.nm_segment.proofs.HitsInLemmas.{few_fields}
 
 pub no_runs_of : AreRunsOf [] []
@@ -60,3 +61,42 @@ runs_more runs new list word hits h adds = record {
         rw (adds.added, a, b) (adds.each field)
   ];
 }
+
+-- ---- field by field
+
+-- the fields below a number have their runs
+pub record HasRuns (old new : List (List ℕ)) (number : ℕ) (hits : Field → List Hit) : Type 0 where
+  pub made : List (List ℕ)
+  pub added : new ≡ old ++ made
+  pub count : length made ≡ number
+  pub each : (field : Field) → field_number field < number → IsRun (get_or made (field_number field) []) (hits field)
+
+pub none_has : (old : List (List ℕ)) (hits : Field → List Hit) → HasRuns old old 0 hits
+none_has old hits = record { made = []; added = sym (append-nil old); count = refl; each = λ field less. absurd (omega (arith, less)) }
+
+-- a field more
+pub field_more : (old runs new : List (List ℕ)) (number : ℕ) (hits : Field → List Hit) (field : Field) (run : List ℕ) → HasRuns old runs number hits → field_number field ≡ number → IsRun run (hits field) → new ≡ runs ++ run ∷ []
+    → HasRuns old new (number + 1) hits
+field_more old runs new number hits field run h is here added = record {
+  made = h.made ++ run ∷ [];
+  added = added ∙ (ap (λ (r : List (List ℕ)). r ++ run ∷ []) h.added ∙ append_assoc old h.made (run ∷ []));
+  count = length-append h.made (run ∷ []) ∙ ap (λ n. n + 1) h.count;
+  each = λ other less. elim (cases_lt (field_number other) number) [
+    | inl front ↦ rw (get_or_append_left h.made (run ∷ []) [] (field_number other) (omega (arith, front, h.count))) (h.each other front)
+    | inr back ↦
+        let e : field_number other ≡ length h.made + 0 = omega (arith, back, less, h.count) in
+        let same : field ≡ other = same_field field other (omega (arith, e, h.count, is)) in
+        let a : get_or (h.made ++ run ∷ []) (field_number other) [] ≡ run = ap (λ (n : ℕ). get_or (h.made ++ run ∷ []) n []) e ∙ get_or-append-add h.made (run ∷ []) 0 [] in
+        rw a (subst (λ (f : Field). IsRun run (hits f)) same here)
+  ];
+}
+
+-- all fields
+pub all_have : (old new : List (List ℕ)) (number : ℕ) (hits : Field → List Hit) → number ≡ 5 → HasRuns old new number hits → AddsRuns old new hits
+all_have old new number hits all h = record { five = h.made; added = h.added; count = h.count ∙ all; each = λ field. h.each field (rw all (few_fields field)) }
+
+-- ---- runs one after the other
+
+pub runs_joined : (front back : List ℕ) (hits others : List Hit) → IsRun front hits → IsRun back others → IsRun (front ++ back) (hits ++ others)
+runs_joined front back hits others p q rest =
+    ap run_hits (append_assoc front back rest) ∙ (p (back ++ rest) ∙ (ap (λ (xs : List Hit). hits ++ xs) (q rest) ∙ sym (append_assoc hits others (run_hits rest))))

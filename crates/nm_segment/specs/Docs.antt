@@ -1,5 +1,5 @@
 -- Documents with their words: where each word stands, and which words there are. Cited by `list_words`, `doc_lists`,
--- `all_words`, `gather`, `merge` and `segment`.
+-- `all_words`, `gather`, `merged_index` and `segment`.
 use Rattle.std.specs.Prelude.{ℕ, ◌+◌, ◌<◌, ◌^◌, Bool, ◌&&◌, nat_eq, Option, None, Some, List, [], ◌∷◌, ◌++◌, filter, length, map, if◌then◌else◌, ◌≡◌, slice_get}
 use Rattle.std.specs.List.{AllByRecursion, flat_map}
 use Rattle.std.specs.List.Sorted.{IsStrictlySortedBy}

@@ -2,6 +2,7 @@ pub mod Costs
 pub mod Docs
 pub mod Gather
 pub mod Key
+pub mod Merge
 pub mod Pieces
 pub mod Runs
 pub mod Segment

@@ -1,5 +1,5 @@
--- The runs of words in order, five for each word, one a field. Cited by `gather`, `merge` and `segment`.
-use Rattle.std.specs.Prelude.{◌≡◌, ℕ, ◌+◌, ◌*◌, ◌<◌, List, [], ◌++◌, length, slice_index_or}
+-- The runs of words in order, five for each word, one a field. Cited by `gather`, `merged_index` and `segment`.
+use Rattle.std.specs.Prelude.{◌≡◌, ℕ, ◌+◌, ◌*◌, ◌<◌, Bool, true, false, List, [], ◌∷◌, ◌++◌, length, slice_index_or}
 use Rattle.nm_base.specs.FieldNumber.{field_number}
 use Rattle.nm_base.specs.declared.facts.Field.{Field}
 use Rattle.nm_blocks.specs.Blocks.{IsRun}
@@ -25,3 +25,8 @@ pub record AddsRuns (old new : List (List ℕ)) (hits : Field → List Hit) : Ty
   pub added : new ≡ old ++ five
   pub count : length five ≡ 5
   pub each : (field : Field) → IsRun (slice_index_or five (field_number field) []) (hits field)
+
+-- a word more with its runs, or nothing more
+abbrev pub AddsWord : Bool → List (List ℕ) × List (List ℕ) → List (List ℕ) × List (List ℕ) → List ℕ → (Field → List Hit) → Type 0
+AddsWord true old new word hits = (new.0 ≡ old.0 ++ word ∷ []) × AddsRuns old.1 new.1 hits
+AddsWord false old new word hits = (new.0 ≡ old.0) × (new.1 ≡ old.1)

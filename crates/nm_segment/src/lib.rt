@@ -7,10 +7,15 @@ mod dictionary;
 mod doc_lists;
 mod doc_places;
 mod doc_words;
+mod fields;
 mod gather;
 mod key;
 mod laws;
 mod list_words;
+mod live_docs;
+mod merged_index;
+mod merged_segment;
+mod part;
 mod pieces;
 mod postings;
 mod segment;
@@ -22,5 +27,6 @@ pub use laws::{
     hits_are_in_order, hits_are_where_the_word_stands, hits_of_more_documents_follow,
     words_are_those_that_stand,
 };
+pub use merged_segment::merge;
 pub use postings::Postings;
 pub use segment::{Segment, build};

@@ -1,9 +1,11 @@
-//! The segment: documents, and where each of their words stands. Queries look words up here.
+//! The segment: documents, and where each of their words stands. Queries look words up here, and `part` merges it.
 
 ghost use Rattle.std.specs.Prelude.{◌≡◌, ◌<◌, ◌≤◌, Some, [], length, slice_get, slice_index_or, IfOk, MatchOption};
 ghost use Rattle.nm_segment.specs.Costs.{SearchSteps};
 ghost use Rattle.nm_segment.specs.Docs.{AreDocs, fields_of, hits_of, lists_from, lists_of, words};
+ghost use Rattle.nm_blocks.specs.Blocks.{IsRun};
 ghost use Rattle.nm_segment.specs.Runs.{row_at};
+ghost use Rattle.nm_segment.specs.Segment.{IsIndexed};
 ghost use Rattle.nm_segment.specs.Starts.{FoundSteps, starting};
 
 use crate::dictionary::place_of;
@@ -48,10 +50,41 @@ pub fn build(alloc: Global, docs: &Many<DocWords>) -> Result<Segment, NoMemory>
 {
     let (words, runs) = index_of_docs(alloc, docs.as_slice())?;
     let docs = docs.copy()?;
-    Ok(Segment { docs, words, runs })
+    Ok(Segment::of_index(docs, words, runs))
 }
 
 impl Segment {
+    /// A segment of documents, their words in order, and the run of each word in each field.
+    pub(crate) fn of_index(docs: Many<DocWords>, words: Pieces, runs: Pieces) -> Segment
+        requires { IsIndexed docs words runs }
+        ensures { result ≡ docs }
+    {
+        Segment { docs, words, runs }
+    }
+
+    pub(crate) fn docs(&self) -> &[DocWords]
+        ensures docs { result.now ≡ self.now }
+        ensures given { AreDocs self.now }
+    {
+        self.docs.as_slice()
+    }
+
+    /// The distinct words in byte order.
+    pub(crate) fn words(&self) -> &Pieces
+        ensures { result.now ≡ words self.now }
+    {
+        &self.words
+    }
+
+    /// The run of the word at a place in a field.
+    pub(crate) fn run(&self, at: usize, field: Field) -> &[u8]
+        requires { at < length (words self.now) }
+        ensures run { IsRun result.now (hits_of self.now (slice_index_or (words self.now) at []) field) }
+        ensures given { AreDocs self.now }
+    {
+        run_of(&self.runs, at, field)
+    }
+
     /// How many documents there are.
     pub fn len(&self) -> usize
         ensures { result ≡ length self.now }
