@@ -273,8 +273,10 @@ few_append : (docs more : List DocWords) → AllByRecursion (λ x. AreFew x.list
 few_append [] more p q = q
 few_append (d ∷ docs) more p q = (p.0, few_append docs more p.1 q)
 
--- what lives of two lists of documents whose numbers rise
+-- two lists of documents whose numbers rise
+pub docs_joined : (docs more : List DocWords) → IsStrictlySortedBy nat_cmp (numbers (docs ++ more)) → AreDocs docs → AreDocs more → AreDocs (docs ++ more)
+docs_joined docs more rising p q = record { rising = rising; few = few_append docs more p.few q.few }
+
+-- and what lives of them
 pub merged_docs : (live : List ℕ) (docs more : List DocWords) → IsStrictlySortedBy nat_cmp (numbers (docs ++ more)) → AreDocs docs → AreDocs more → AreDocs (living live docs ++ living live more)
-merged_docs live docs more rising p q =
-    let all : AreDocs (docs ++ more) = record { rising = rising; few = few_append docs more p.few q.few } in
-    subst AreDocs (filter-append (λ (d : DocWords). lives live d.doc) docs more) (living_docs live (docs ++ more) all)
+merged_docs live docs more rising p q = subst AreDocs (filter-append (λ (d : DocWords). lives live d.doc) docs more) (living_docs live (docs ++ more) (docs_joined docs more rising p q))

@@ -16,7 +16,7 @@ use Rattle.nm_segment.specs.Segment.{IsIndexed}
 use Rattle.nm_segment.specs.Merge.{IsFirst, IsNext, IsPlace, IsSomewhere, IsWithin, after_place, docs_by, living}
 use Rattle.nm_segment.specs.Runs.{AddsWord, AreRuns}
 use Rattle.nm_segment.proofs.HitsInLemmas.{occurrences-append, words_sorted}
-use Rattle.nm_segment.proofs.LiveLemmas.{absent_part, merged_docs}
+use Rattle.nm_segment.proofs.LiveLemmas.{absent_part, docs_joined, merged_docs}
 use Rattle.nm_segment.proofs.MergeLemmas.{AreBelow, all_kept, back-more, front-more, met, met-more, nothing_met}
 use Rattle.nm_segment.proofs.RunsLemmas.{no_runs, runs_more}
 
@@ -113,12 +113,22 @@ all_merged front back live lives at other list runs done finished h =
     (there_by back lives t (has_text (words back) t) refl) (sym (words-joined (docs_by front live) (docs_by back lives) t) ∙ has))
 
 -- the words and the runs of two parts are the index of their documents
+pub indexed : (docs first second : List DocWords) (list runs : List (List ℕ)) → AreDocs docs → first ++ second ≡ docs → list ≡ words (first ++ second) → AreRuns runs list (hits_of (first ++ second)) → IsIndexed docs list runs
+indexed docs first second list runs are same in_order packed = record {
+  given = are;
+  in_order = in_order ∙ ap words same;
+  packed = subst (λ (ds : List DocWords). AreRuns runs list (hits_of ds)) same packed;
+}
+
+-- of those that live
 pub merged : (live : List ℕ) (front back docs : List DocWords) (list runs : List (List ℕ)) (first second : List DocWords) → IsStrictlySortedBy nat_cmp (numbers (front ++ back)) → AreDocs front → AreDocs back → docs ≡ living live front ++ living live back
     → first ≡ living live front → second ≡ living live back → list ≡ words (first ++ second) → AreRuns runs list (hits_of (first ++ second)) → IsIndexed docs list runs
-merged live front back docs list runs first second rising p q all one other in_order packed =
-    let same : first ++ second ≡ docs = ap (λ (ds : List DocWords). ds ++ second) one ∙ (ap (λ (ds : List DocWords). living live front ++ ds) other ∙ sym all) in
-    record {
-      given = subst AreDocs (sym all) (merged_docs live front back rising p q);
-      in_order = in_order ∙ ap words same;
-      packed = subst (λ (ds : List DocWords). AreRuns runs list (hits_of ds)) same packed;
-    }
+merged live front back docs list runs first second rising p q all one other =
+    indexed docs first second list runs (subst AreDocs (sym all) (merged_docs live front back rising p q))
+    (ap (λ (ds : List DocWords). ds ++ second) one ∙ (ap (λ (ds : List DocWords). living live front ++ ds) other ∙ sym all))
+
+-- and of all
+pub joined : (front back docs : List DocWords) (list runs : List (List ℕ)) (first second : List DocWords) → IsStrictlySortedBy nat_cmp (numbers (front ++ back)) → AreDocs front → AreDocs back → docs ≡ front ++ back → first ≡ front → second ≡ back
+    → list ≡ words (first ++ second) → AreRuns runs list (hits_of (first ++ second)) → IsIndexed docs list runs
+joined front back docs list runs first second rising p q all one other =
+    indexed docs first second list runs (subst AreDocs (sym all) (docs_joined front back rising p q)) (ap (λ (ds : List DocWords). ds ++ second) one ∙ (ap (λ (ds : List DocWords). front ++ ds) other ∙ sym all))

@@ -27,6 +27,6 @@ pub use laws::{
     hits_are_in_order, hits_are_where_the_word_stands, hits_of_more_documents_follow,
     words_are_those_that_stand,
 };
-pub use merged_segment::merge;
+pub use merged_segment::{join, merge};
 pub use postings::Postings;
 pub use segment::{Segment, build};

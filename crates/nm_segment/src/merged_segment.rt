@@ -1,4 +1,4 @@
-//! Merging: the documents of two segments that live, as one segment. Snapshots merge small segments by it.
+//! Merging: the documents of two segments, or those that live, as one segment. Parts that workers build are joined by it.
 
 ghost use Rattle.std.specs.Prelude.{◌≡◌, ◌++◌, IfOk};
 ghost use Rattle.std.specs.List.Sorted.{IsStrictlySortedBy};
@@ -28,6 +28,18 @@ pub fn merge(
     let mut docs = Many::new(alloc);
     let front = Part::new(front, &live, &mut docs)?;
     let back = Part::new(back, &live, &mut docs)?;
+    let (words, runs) = index_of_parts(alloc, &front, &back)?;
+    Ok(Segment::of_index(docs, words, runs))
+}
+
+/// The segment of the documents of both. All documents of `front` come before those of `back`.
+pub fn join(alloc: Global, front: &Segment, back: &Segment) -> Result<Segment, NoMemory>
+    requires { IsStrictlySortedBy nat_cmp (numbers (front.now ++ back.now)) }
+    ensures { IfOk result (λ segment. segment ≡ front.now ++ back.now) }
+{
+    let mut docs = Many::new(alloc);
+    let front = Part::whole(front, &mut docs)?;
+    let back = Part::whole(back, &mut docs)?;
     let (words, runs) = index_of_parts(alloc, &front, &back)?;
     Ok(Segment::of_index(docs, words, runs))
 }

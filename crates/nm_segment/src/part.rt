@@ -49,6 +49,25 @@ impl<'a> Part<'a> {
         })
     }
 
+    /// The whole segment as a part. Its documents are added to `docs`.
+    pub fn whole(
+        segment: &'a Segment,
+        docs: &mut Many<DocWords>,
+    ) -> Result<Part<'a>, NoMemory>
+        ensures segment { IfOk result (λ part. part.segment.now ≡ segment.now) }
+        ensures all { IfOk result (λ part. docs_of_part part ≡ segment.now) }
+        ensures given { OnOk result (AreDocs segment.now) }
+        ensures docs { OnOk result (docs.new ≡ docs.old ++ segment.now) }
+    {
+        'docs: for doc in segment.docs() {
+            docs.push(doc.copy()?)?;
+        }
+        Ok(Part {
+            segment,
+            live: None,
+        })
+    }
+
     /// Whether the part has a hit of the word that the segment has at this place.
     pub fn has(&self, at: Option<usize>) -> bool
         requires { IsWithin (words self.now.segment.now) at }
