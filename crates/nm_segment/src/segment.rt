@@ -85,6 +85,13 @@ impl Segment {
         run_of(&self.runs, at, field)
     }
 
+    /// What is known of the documents of any segment. It runs no code.
+    pub fn documents_rise(&self)
+        ensures { AreDocs self.now }
+    {
+        let _ = &self.docs;
+    }
+
     /// How many documents there are.
     pub fn len(&self) -> usize
         ensures { result ≡ length self.now }
@@ -95,14 +102,14 @@ impl Segment {
     /// The hits of a word in a field. A step is a probe of the words.
     pub fn postings<L: Ledger>(
         &self,
-        word: &str,
+        word: &[u8],
         field: Field,
         steps: &mut Steps<L>,
     ) -> Postings<'_>
         ensures hits { result ≡ hits_of self.now word.now field }
         ensures steps { SearchSteps (length (words self.now)) steps.old steps.new }
     {
-        match place_of(&self.words, word.as_bytes(), steps) {
+        match place_of(&self.words, word, steps) {
             None => Postings::new(&[]),
             Some(at) => Postings::new(run_of(&self.runs, at, field)),
         }
@@ -112,14 +119,14 @@ impl Segment {
     /// the words, and one more is for the word.
     pub fn with_start<L: Ledger>(
         &self,
-        start: &str,
+        start: &[u8],
         at: usize,
         steps: &mut Steps<L>,
     ) -> Option<&[u8]>
         ensures word { MatchOption result (length (starting start.now (words self.now)) ≤ at) (λ word. slice_get (starting start.now (words self.now)) at ≡ Some word.now) }
         ensures steps { MatchOption result (SearchSteps (length (words self.now)) steps.old steps.new) (λ word. FoundSteps (length (words self.now)) steps.old steps.new) }
     {
-        word_with_start(&self.words, start.as_bytes(), at, steps)
+        word_with_start(&self.words, start, at, steps)
     }
 
     /// The words of a document, list after list; none where there is no such document. A step is a probe of the documents.

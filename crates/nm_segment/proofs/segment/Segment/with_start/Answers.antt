@@ -10,5 +10,4 @@ word_with_start-requires g c = rw c.self.invariant.in_order (words_sorted c.self
 pub returns-clause-word : goal.returns-clause-word
 returns-clause-word g c =
     let same : c.self.inside.words ≡ words c.args.self.now = c.self.invariant.in_order ∙ ap words c.self.view_is in
-    let P : List (List ℕ) → List ℕ → Type 0 = λ list start. MatchOption c.word_with_start.result (length (starting start list) ≤ c.args.at) (λ word. slice_get (starting start list) c.args.at ≡ Some word.now) in
-    subst (λ (start : List ℕ). P (words c.args.self.now) start) c.as_bytes.ensures.value (subst (λ (list : List (List ℕ)). P list c.as_bytes.result.now) same c.word_with_start.ensures.word)
+    subst (λ (list : List (List ℕ)). MatchOption c.word_with_start.result (length (starting c.args.start.now list) ≤ c.args.at) (λ word. slice_get (starting c.args.start.now list) c.args.at ≡ Some word.now)) same c.word_with_start.ensures.word
