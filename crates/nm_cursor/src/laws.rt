@@ -1,4 +1,4 @@
-//! What the lists of cursors have, for the code above that goes by membership. No code runs.
+//! What the lists of cursors have: `nm_phrase` and others go by membership. No code runs.
 
 ghost use Rattle.std.specs.Prelude.{ℕ, List};
 ghost use Rattle.nm_cursor.specs.SetLaws.{Membership, Order};

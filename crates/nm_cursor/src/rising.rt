@@ -1,4 +1,4 @@
-//! A cursor over a rising list in memory, for the code above: what `collect` gives is gone over again.
+//! A cursor over a rising list in memory: `nm_phrase` has one, and what `collect` gives is gone over again.
 
 ghost use Rattle.std.specs.Prelude.{◌≡◌, ◌<◌, ◌≤◌, length, slice_index};
 ghost use Rattle.nm_cursor.specs.Place.{IsPlaceOf};

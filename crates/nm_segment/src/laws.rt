@@ -1,4 +1,4 @@
-//! What follows from the definitions. These functions run no code: their clauses are the laws.
+//! What follows from the definitions. These functions run no code: their clauses are the laws, which `nm_phrase` calls.
 
 ghost use Rattle.std.specs.Prelude.{◌≡◌, ◌++◌, ◌↔◌, ℕ, List, true};
 ghost use Rattle.std.specs.List.{Contains};

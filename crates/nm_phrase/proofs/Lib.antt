@@ -1,0 +1,5 @@
+pub mod ListLemmas
+pub mod WordLemmas
+pub mod FollowLemmas
+pub mod EndLemmas
+pub mod FoundLemmas

@@ -1,0 +1,14 @@
+//! Searching: the documents of a segment in which words stand one after the other in one list, the last whole or by its
+//! front. What is found is a cursor.
+#![tactic(auto)]
+
+mod documents;
+mod ends;
+mod follow;
+mod front;
+mod laws;
+mod phrase;
+mod texts;
+
+pub use laws::documents_are_found_where_the_words_end;
+pub use phrase::Phrase;
