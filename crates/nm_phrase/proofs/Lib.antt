@@ -3,3 +3,4 @@ pub mod WordLemmas
 pub mod FollowLemmas
 pub mod EndLemmas
 pub mod FoundLemmas
+pub mod StartLemmas
