@@ -65,6 +65,15 @@ abbrev pub drop_before : Hit → List Hit → List Hit
 drop_before hit [] = []
 drop_before hit (end ∷ ends) = if ends_before hit end then drop_before hit ends else end ∷ ends
 
+-- there is an end, and the place after it comes before the hit
+abbrev pub is_end_before : Hit → Option Hit → Bool
+is_end_before hit None = false
+is_end_before hit (Some end) = ends_before hit end
+
+-- the same of the end at a place
+abbrev pub is_before_at : Hit → List Hit → ℕ → Bool
+is_before_at hit ends at = is_end_before hit (slice_get ends at)
+
 -- the hit stands right after the first of the ends
 abbrev pub first_is_before : Hit → List Hit → Bool
 first_is_before hit [] = false

@@ -1,7 +1,9 @@
 //! Two hits compared by where the next word begins, and the ends that a hit may follow: `ends` looks so for the hit before.
 
-ghost use Rattle.std.specs.Prelude.{◌≡◌};
-ghost use Rattle.nm_phrase.specs.Ends.{drop_before, ends_before, first_is_before, is_next};
+ghost use Rattle.std.specs.Prelude.{◌≡◌, ◌<◌, true, false, length};
+ghost use Rattle.std.specs.Bool.{OnTrue};
+ghost use Rattle.nm_blocks.specs.Hits.{is_rising};
+ghost use Rattle.nm_phrase.specs.Ends.{drop_before, ends_before, first_is_before, is_before_at, is_next};
 
 use nm_blocks::Hit;
 
@@ -29,18 +31,49 @@ fn is_next(end: Hit, hit: Hit) -> bool
     u64::from(end.place) + 1 == u64::from(hit.place)
 }
 
-/// The ends without those in front after which the hit comes later.
+/// The ends without those in front after which the hit comes later. Most leaps are short, so it looks ever further.
 pub(crate) fn drop_before(ends: &[Hit], hit: Hit) -> &[Hit]
+    requires { is_rising ends.now ≡ true }
     ensures { result.now ≡ drop_before hit ends.now }
 {
     let mut rest = ends;
-    'ends: while let Some((end, after)) = rest.split_first() {
-        if !ends_before(*end, hit) {
-            return rest;
+    let mut width = 1_usize;
+    'leaps: while is_before_at(rest, width - 1, hit) {
+        rest = rest.split_at(width).1;
+        width = width.saturating_add(width);
+    }
+    drop_within(rest, width - 1, hit)
+}
+
+/// The same, where the end at `limit` stays, or there is none.
+fn drop_within(ends: &[Hit], limit: usize, hit: Hit) -> &[Hit]
+    requires rising { is_rising ends.now ≡ true }
+    requires limit { is_before_at hit ends.now limit ≡ false }
+    ensures { result.now ≡ drop_before hit ends.now }
+{
+    let mut rest = ends;
+    let mut width = limit;
+    'halves: while width > 0 {
+        let middle = width / 2;
+        if is_before_at(rest, middle, hit) {
+            rest = rest.split_at(middle + 1).1;
+            width -= middle + 1;
+        } else {
+            width = middle;
         }
-        rest = after;
     }
     rest
+}
+
+/// Says whether there is an end at this place, and the place after it comes before the hit.
+fn is_before_at(ends: &[Hit], at: usize, hit: Hit) -> bool
+    ensures before { result ≡ is_before_at hit ends.now at }
+    ensures within { OnTrue result (at < length ends.now) }
+{
+    match ends.get(at) {
+        None => false,
+        Some(end) => ends_before(*end, hit),
+    }
 }
 
 /// Says whether the hit stands right after the first end.
