@@ -5,3 +5,4 @@ pub mod LeapLemmas
 pub mod EndLemmas
 pub mod FoundLemmas
 pub mod StartLemmas
+pub mod DocumentLemmas

@@ -1,6 +1,7 @@
 //! The documents of the hits that are found, each once: `phrase` and `start` make a cursor of them.
 
-ghost use Rattle.std.specs.Prelude.{◌≡◌, ◌≤◌, true, map, IfOk, OnOk};
+ghost use Rattle.std.specs.Prelude.{◌≡◌, ◌≤◌, Some, true, map, IfOk, OnOk};
+ghost use Rattle.std.specs.Bool.{OnTrue};
 ghost use Rattle.nm_cursor.specs.Sets.{IsRising, union};
 ghost use Rattle.nm_segment.specs.Docs.{AreDocs};
 ghost use Rattle.nm_phrase.specs.Ends.{are_rising};
@@ -37,13 +38,28 @@ pub(crate) fn add_found<L: Ledger>(
     add_documents(docs, hits.as_slice())
 }
 
+// Most hits are in the document of the hit before, which is there already.
 fn add_documents(docs: &mut BTreeSet<u32>, hits: &[Hit]) -> Result<(), NoMemory>
     ensures { OnOk result (docs.new.keys ≡ union docs.old.keys (map (λ hit. hit.doc) hits.now)) }
 {
+    let mut last = None;
     'hits: for hit in hits {
+        if is_last(last, hit.doc) {
+            continue 'hits;
+        }
         docs.insert(hit.doc)?;
+        last = Some(hit.doc);
     }
     Ok(())
+}
+
+fn is_last(last: Option<u32>, doc: u32) -> bool
+    ensures { OnTrue result (last ≡ Some doc) }
+{
+    match last {
+        None => false,
+        Some(last) => last == doc,
+    }
 }
 
 /// A cursor over the documents.
