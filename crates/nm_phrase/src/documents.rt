@@ -8,7 +8,6 @@ ghost use Rattle.nm_phrase.specs.Ends.{are_rising};
 ghost use Rattle.nm_phrase.specs.Found.{numbers_of};
 
 use crate::ends::narrowed;
-use crate::texts::text_of;
 use nm_base::{Field, Many, NoMemory, Steps};
 use nm_blocks::Hit;
 use nm_cursor::Rising;
@@ -33,7 +32,7 @@ pub(crate) fn add_found<L: Ledger>(
     ensures steps { steps.old ≤ steps.new }
 {
     hits_are_in_order();
-    let postings = segment.postings(text_of(word)?, field, steps);
+    let postings = segment.postings(word, field, steps);
     let hits = narrowed(alloc, before, postings, steps)?;
     add_documents(docs, hits.as_slice())
 }

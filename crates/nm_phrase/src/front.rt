@@ -5,7 +5,6 @@ ghost use Rattle.nm_segment.specs.Docs.{AreDocs};
 ghost use Rattle.nm_phrase.specs.Ends.{IsFront};
 
 use crate::ends::narrowed;
-use crate::texts::text_of;
 use nm_base::{Field, Many, NoMemory, Steps, WordList};
 use nm_blocks::Hit;
 use nm_segment::{Segment, hits_are_in_order, hits_are_where_the_word_stands};
@@ -41,7 +40,7 @@ pub(crate) fn front_of<'a, L: Ledger>(
     let mut ends = None;
     let mut last = first;
     'words: while let Some(next) = rest.take_first() {
-        let hits = segment.postings(text_of(last)?, field, steps);
+        let hits = segment.postings(last, field, steps);
         ends = Some(narrowed(alloc, &ends, hits, steps)?);
         last = next;
     }

@@ -9,7 +9,6 @@ mod front;
 mod laws;
 mod phrase;
 mod start;
-mod texts;
 
 pub use laws::documents_are_found_where_the_words_end;
 pub use phrase::Phrase;

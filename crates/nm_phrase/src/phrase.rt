@@ -2,7 +2,6 @@
 
 ghost use Rattle.std.specs.Prelude.{◌≡◌, ◌≢◌, ◌≤◌, false, [], IfOk};
 ghost use Rattle.nm_cursor.specs.Sets.{IsRising};
-ghost use Rattle.nm_segment.specs.Docs.{AreDocs};
 ghost use Rattle.nm_phrase.specs.Found.{numbers_with};
 
 use crate::documents::{add_found, cursor_of};
@@ -40,13 +39,13 @@ impl Phrase {
         words: &WordList,
         steps: &mut Steps<L>,
     ) -> Result<Phrase, NoMemory>
-        requires docs { AreDocs segment.now }
         requires some { words.now ≢ [] }
         ensures found { IfOk result (λ phrase. phrase ≡ numbers_with false field words.now segment.now) }
         ensures steps { steps.old ≤ steps.new }
     {
         set_laws();
         hits_are_where_the_word_stands();
+        segment.documents_rise();
         let front = front_of(alloc, segment, field, words, steps)?;
         let mut docs = BTreeSet::new(alloc);
         add_found(

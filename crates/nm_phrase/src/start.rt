@@ -10,7 +10,6 @@ ghost use Rattle.nm_phrase.specs.Found.{numbers_of, numbers_with};
 
 use crate::documents::{add_found, cursor_of};
 use crate::front::front_of;
-use crate::texts::text_of;
 use nm_base::{Field, Many, NoMemory, Steps, WordList};
 use nm_blocks::Hit;
 use nm_cursor::{Cursor, Rising, set_laws};
@@ -46,7 +45,6 @@ impl Start {
         words: &WordList,
         steps: &mut Steps<L>,
     ) -> Result<Start, NoMemory>
-        requires docs { AreDocs segment.now }
         requires some { words.now ≢ [] }
         ensures found { IfOk result (λ start. start ≡ numbers_with true field words.now segment.now) }
         ensures steps { steps.old ≤ steps.new }
@@ -54,6 +52,7 @@ impl Start {
         set_laws();
         hits_are_where_the_word_stands();
         words_are_those_that_stand();
+        segment.documents_rise();
         let front = front_of(alloc, segment, field, words, steps)?;
         let mut docs = BTreeSet::new(alloc);
         add_started(
@@ -98,7 +97,6 @@ fn add_started<L: Ledger>(
     ensures docs { OnOk result (docs.new.keys ≡ union docs.old.keys (flat_map (numbers_of segment.now field before.now) (starting start.now (words segment.now)))) }
     ensures steps { steps.old ≤ steps.new }
 {
-    let start = text_of(start)?;
     let mut at = 0_usize;
     'words: while let Some(word) = segment.with_start(start, at, steps) {
         add_found(alloc, docs, segment, field, before, word, steps)?;

@@ -11,7 +11,7 @@ words-preserved g c =
     let taken : c.words.rest ≡ c.in-Some-take_first.next.now ∷ c.take_first-in-words.new.self = c.in-Some-take_first.ensures in
     let words_are : c.args.words.now ≡ (front ++ last ∷ []) ++ c.in-Some-take_first.next.now ∷ c.take_first-in-words.new.self =
     c.words.invariant.0.1 ∙ (ap (λ (rest : List (List ℕ)). front ++ last ∷ rest) taken ∙ sym (append_assoc front (last ∷ []) (c.in-Some-take_first.next.now ∷ c.take_first-in-words.new.self))) in
-    let hits : c.postings-hits.result ≡ hits_of c.args.segment.now last c.args.field = c.postings-hits.ensures.hits ∙ ap (λ (word : List ℕ). hits_of c.args.segment.now word c.args.field) c.in_ok-text_of.ensures in
+    let hits : c.postings-hits.result ≡ hits_of c.args.segment.now last c.args.field = c.postings-hits.ensures.hits in
     let ends : c.in_ok-narrowed.field-0 ≡ narrowed c.words.ends (hits_of c.args.segment.now last c.args.field) = c.in_ok-narrowed.ensures.hits ∙ ap (narrowed c.words.ends) hits in (
       (
         front ++ last ∷ [],
