@@ -1,4 +1,4 @@
-//! Merging: the documents of two segments, or those that live, as one segment. Parts that workers build are joined by it.
+//! Merging: the documents of two segments, or those that live, as one segment. `nm_build` joins what workers built by it.
 
 ghost use Rattle.std.specs.Prelude.{◌≡◌, ◌++◌, IfOk};
 ghost use Rattle.std.specs.List.Sorted.{IsStrictlySortedBy};
