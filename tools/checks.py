@@ -323,6 +323,7 @@ ROWS = {
     "what queries find": "test_query",
     "sessions": "test_session",
     "the index": "test_index",
+    "blocks and segments": "test_segment",
     "names, flags, lines of tag changes and dumps": "test_query",
     "words of commands": "test_query",
     "replies and on the lines of an input": "test_query",

@@ -1,0 +1,45 @@
+//! The kinds of row, and what each asks of the modules beside this one: `main` runs a table by it.
+
+use crate::{block_rows, segment_rows};
+use rows::{Lines, Program, Row, RowError, named};
+use std::alloc::Global;
+
+/// The program that runs the rows on blocks and segments.
+pub struct Searching;
+
+/// What a row is on.
+#[derive(Clone, Copy)]
+enum Kind {
+    Packed,
+    Unpacked,
+    Segment,
+}
+
+const KINDS: [(&[u8], Kind); 3] = [
+    (b"packed", Kind::Packed),
+    (b"unpacked", Kind::Unpacked),
+    (b"segment", Kind::Segment),
+];
+
+impl Program for Searching {
+    fn answer(&self, alloc: Global, row: &Row<'_>) -> Result<Vec<u8>, RowError> {
+        let mut lines = Lines::new(alloc);
+        let pushed = push(alloc, row, &mut lines);
+        finish(pushed, lines)
+    }
+}
+
+fn finish(pushed: Result<(), RowError>, lines: Lines) -> Result<Vec<u8>, RowError> {
+    match pushed {
+        Ok(()) => lines.into_bytes(),
+        Err(error) => Err(error),
+    }
+}
+
+fn push(alloc: Global, row: &Row<'_>, lines: &mut Lines) -> Result<(), RowError> {
+    match named(&KINDS, row.kind)? {
+        Kind::Packed => block_rows::push_packed(alloc, row, lines),
+        Kind::Unpacked => block_rows::push_unpacked(alloc, row, lines),
+        Kind::Segment => segment_rows::push(alloc, row, lines),
+    }
+}
