@@ -1,6 +1,7 @@
 //! The kinds of row, and what each asks of the modules beside this one: `main` runs a table by it.
 
-use crate::{block_rows, segment_rows};
+use crate::block_rows;
+use crate::segment_rows::{self, Made};
 use rows::{Lines, Program, Row, RowError, named};
 use std::alloc::Global;
 
@@ -12,13 +13,15 @@ pub struct Searching;
 enum Kind {
     Packed,
     Unpacked,
-    Segment,
+    Segment(Made),
 }
 
-const KINDS: [(&[u8], Kind); 3] = [
+const KINDS: [(&[u8], Kind); 5] = [
     (b"packed", Kind::Packed),
     (b"unpacked", Kind::Unpacked),
-    (b"segment", Kind::Segment),
+    (b"segment", Kind::Segment(Made::Built)),
+    (b"joined", Kind::Segment(Made::Joined)),
+    (b"merged", Kind::Segment(Made::Merged)),
 ];
 
 impl Program for Searching {
@@ -40,6 +43,6 @@ fn push(alloc: Global, row: &Row<'_>, lines: &mut Lines) -> Result<(), RowError>
     match named(&KINDS, row.kind)? {
         Kind::Packed => block_rows::push_packed(alloc, row, lines),
         Kind::Unpacked => block_rows::push_unpacked(alloc, row, lines),
-        Kind::Segment => segment_rows::push(alloc, row, lines),
+        Kind::Segment(made) => segment_rows::push(made, alloc, row, lines),
     }
 }

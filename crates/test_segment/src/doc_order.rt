@@ -1,6 +1,6 @@
 //! Whether documents are in order, as a segment asks: `segment_rows` tests it.
 
-ghost use Rattle.std.specs.Prelude.{◌≡◌, ◌<◌, ◌^◌, IsTrue, length};
+ghost use Rattle.std.specs.Prelude.{◌≡◌, ◌<◌, ◌^◌, ◌++◌, IsTrue, length};
 ghost use Rattle.std.specs.List.{AllByRecursion};
 ghost use Rattle.std.specs.List.Sorted.{IsStrictlySortedBy};
 ghost use Rattle.std.specs.Ordering.{nat_cmp};
@@ -16,6 +16,19 @@ pub fn are_docs(docs: &[DocWords]) -> bool
     ensures { IsTrue result → AreDocs docs.now }
 {
     have_rising_numbers(docs) && all_are_few(docs)
+}
+
+/// Whether the numbers of documents rise, from those in front to those behind.
+#[tactic(auto, using(crate::proofs::DocLemmas::none_before, crate::proofs::DocLemmas::first_rises_on))]
+pub fn rise_on(front: &[DocWords], back: &[DocWords]) -> bool
+    ensures { IsTrue result → IsStrictlySortedBy nat_cmp (numbers (front.now ++ back.now)) }
+{
+    match front.split_first() {
+        None => have_rising_numbers(back),
+        Some((doc, rest)) => {
+            are_above(doc.doc, rest) && are_above(doc.doc, back) && rise_on(rest, back)
+        }
+    }
 }
 
 #[tactic(auto, using(crate::proofs::DocLemmas::none_rise, crate::proofs::DocLemmas::first_rises))]

@@ -26,6 +26,17 @@ pub fn docs_of(alloc: Global, row: &Row<'_>, mark: &[u8]) -> Result<Many<DocWord
     Ok(docs)
 }
 
+/// The numbers of documents in the line with this mark.
+pub fn numbers_of(alloc: Global, row: &Row<'_>, mark: &[u8]) -> Result<Many<u32>, RowError> {
+    let text = row.text(alloc, mark)?;
+    let words = words_of(alloc, text.as_slice())?;
+    let mut numbers = Many::new(alloc);
+    'words: for word in words.as_slice() {
+        numbers.push(small_of(word.as_bytes())?)?;
+    }
+    Ok(numbers)
+}
+
 fn doc_of(alloc: Global, line: &[u8]) -> Result<DocWords, RowError> {
     let (number, lists) = cut(line, b' ');
     let doc = small_of(number)?;

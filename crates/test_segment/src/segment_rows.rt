@@ -1,17 +1,31 @@
 //! Rows on segments, for `answers`: what is asked of the documents of a row.
 
-ghost use Rattle.std.specs.Prelude.{◌≡◌, ◌<◌};
+ghost use Rattle.std.specs.Prelude.{◌≡◌, ◌<◌, ◌++◌, IfOk};
+ghost use Rattle.std.specs.List.Sorted.{IsStrictlySortedBy};
+ghost use Rattle.std.specs.Ordering.{nat_cmp};
+ghost use Rattle.nm_segment.specs.Docs.{numbers};
 
-use crate::doc_order::are_docs;
-use crate::docs::{FIELDS, docs_of};
+use crate::doc_order::{are_docs, rise_on};
+use crate::docs::{FIELDS, docs_of, numbers_of};
 use crate::hit_lines::{push_hits, push_numbers, small_of};
 use nm_base::{Field, Many, NoMemory, Steps};
 use nm_blocks::Hit;
-use nm_segment::{DocWords, Postings, Segment, build};
+use nm_segment::{DocWords, Postings, Segment, build, join, merge};
 use rows::{Lines, Row, RowError, cut, named};
 use std::alloc::Global;
 use std::marker::Brand;
 use std::sync::ledger::{Blank, Ledger};
+
+/// How the segment of a row is made.
+#[derive(Clone, Copy)]
+pub enum Made {
+    /// Of the documents of the lines `doc`.
+    Built,
+    /// Of that segment, and the one of the lines `back`.
+    Joined,
+    /// Likewise, of the documents whose numbers are in the lines `live`.
+    Merged,
+}
 
 /// What is asked of a segment.
 #[derive(Clone, Copy)]
@@ -32,25 +46,105 @@ const QUESTIONS: [(&[u8], Question); 4] = [
 /// The most words that a line tells.
 const MOST_WORDS: usize = 1000;
 
-/// The answers of the segment of the documents of the lines `doc`.
-pub fn push(alloc: Global, row: &Row<'_>, lines: &mut Lines) -> Result<(), RowError> {
-    let docs = docs_of(alloc, row, b"doc")?;
-    let segment = built(alloc, &docs)?;
-    push_counted::<Brand>(alloc, &segment, row, lines, Blank::new(1))
+/// A row, and how its segment is made.
+#[derive(Clone, Copy)]
+struct Asked<'a> {
+    made: Made,
+    alloc: Global,
+    row: &'a Row<'a>,
 }
 
-fn built(alloc: Global, docs: &Many<DocWords>) -> Result<Segment, RowError> {
+/// The answers of the segment of a row.
+pub fn push(made: Made, alloc: Global, row: &Row<'_>, lines: &mut Lines) -> Result<(), RowError> {
+    let docs = docs_of(alloc, row, b"doc")?;
+    let asked = Asked { made, alloc, row };
+    match made {
+        Made::Built => push_built(&asked, &docs, lines),
+        _ => push_both(&asked, &docs, lines),
+    }
+}
+
+fn push_built(asked: &Asked<'_>, docs: &Many<DocWords>, lines: &mut Lines) -> Result<(), RowError> {
+    let segment = built(asked.alloc, docs)?;
+    push_answers(asked, &segment, lines)
+}
+
+fn built(alloc: Global, docs: &Many<DocWords>) -> Result<Segment, RowError>
+    ensures { IfOk result (λ segment. segment ≡ docs.now) }
+{
     if !are_docs(docs.as_slice()) {
         return Err(RowError::Broken("documents that do not rise"));
     }
     Ok(build(alloc, docs)?)
 }
 
+// Each function from here to `live_of_both` owns one list or segment at most, so that few drops are in its proof.
+fn push_both(asked: &Asked<'_>, front: &Many<DocWords>, lines: &mut Lines) -> Result<(), RowError> {
+    let back = docs_of(asked.alloc, asked.row, b"back")?;
+    push_rising(asked, front, &back, lines)
+}
+
+fn push_rising(
+    asked: &Asked<'_>,
+    front: &Many<DocWords>,
+    back: &Many<DocWords>,
+    lines: &mut Lines,
+) -> Result<(), RowError> {
+    if !rise_on(front.as_slice(), back.as_slice()) {
+        return Err(RowError::Broken("documents that do not rise"));
+    }
+    let front = built(asked.alloc, front)?;
+    push_behind(asked, &front, back, lines)
+}
+
+fn push_behind(
+    asked: &Asked<'_>,
+    front: &Segment,
+    back: &Many<DocWords>,
+    lines: &mut Lines,
+) -> Result<(), RowError>
+    requires { IsStrictlySortedBy nat_cmp (numbers (front.now ++ back.now)) }
+{
+    let back = built(asked.alloc, back)?;
+    push_joined(asked, front, &back, lines)
+}
+
+fn push_joined(
+    asked: &Asked<'_>,
+    front: &Segment,
+    back: &Segment,
+    lines: &mut Lines,
+) -> Result<(), RowError>
+    requires { IsStrictlySortedBy nat_cmp (numbers (front.now ++ back.now)) }
+{
+    let segment = of_both(asked, front, back)?;
+    push_answers(asked, &segment, lines)
+}
+
+fn of_both(asked: &Asked<'_>, front: &Segment, back: &Segment) -> Result<Segment, RowError>
+    requires { IsStrictlySortedBy nat_cmp (numbers (front.now ++ back.now)) }
+{
+    match asked.made {
+        Made::Merged => live_of_both(asked, front, back),
+        _ => Ok(join(asked.alloc, front, back)?),
+    }
+}
+
+fn live_of_both(asked: &Asked<'_>, front: &Segment, back: &Segment) -> Result<Segment, RowError>
+    requires { IsStrictlySortedBy nat_cmp (numbers (front.now ++ back.now)) }
+{
+    let live = numbers_of(asked.alloc, asked.row, b"live")?;
+    Ok(merge(asked.alloc, front, back, live.as_slice())?)
+}
+
+fn push_answers(asked: &Asked<'_>, segment: &Segment, lines: &mut Lines) -> Result<(), RowError> {
+    push_counted::<Brand>(asked, segment, lines, Blank::new(1))
+}
+
 /// The answers, with a count of steps, which no code reads.
 fn push_counted<L: Ledger>(
-    alloc: Global,
+    asked: &Asked<'_>,
     segment: &Segment,
-    row: &Row<'_>,
     lines: &mut Lines,
     blank: Blank,
 ) -> Result<(), RowError>
@@ -59,9 +153,15 @@ fn push_counted<L: Ledger>(
     requires whole { 0 < L.parts }
 {
     let mut steps = Steps::<L>::begin(blank);
-    'lines: for line in row.lines.as_slice() {
+    'lines: for line in asked.row.lines.as_slice() {
         if line.mark == b"|".as_slice() {
-            push_answer(alloc, segment, line.bytes.as_slice(), lines, &mut steps)?;
+            push_answer(
+                asked.alloc,
+                segment,
+                line.bytes.as_slice(),
+                lines,
+                &mut steps,
+            )?;
         }
     }
     Ok(())

@@ -1,4 +1,4 @@
-use Rattle.test_segment.proofs.segment_rows.push.Given as goal
+use Rattle.test_segment.proofs.segment_rows.push_answers.Given as goal
 
 abbrev pub ghosts-push_counted : goal.ghosts-push_counted
 ghosts-push_counted a = record { name = a.blank.name; parts = a.blank.parts }
