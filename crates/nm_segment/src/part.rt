@@ -50,10 +50,7 @@ impl<'a> Part<'a> {
     }
 
     /// The whole segment as a part. Its documents are added to `docs`.
-    pub fn whole(
-        segment: &'a Segment,
-        docs: &mut Many<DocWords>,
-    ) -> Result<Part<'a>, NoMemory>
+    pub fn whole(segment: &'a Segment, docs: &mut Many<DocWords>) -> Result<Part<'a>, NoMemory>
         ensures segment { IfOk result (λ part. part.segment.now ≡ segment.now) }
         ensures all { IfOk result (λ part. docs_of_part part ≡ segment.now) }
         ensures given { OnOk result (AreDocs segment.now) }
