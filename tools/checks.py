@@ -17,7 +17,7 @@ sys.path.insert(0, os.path.dirname(os.path.abspath(__file__)))
 import definitions  # noqa: E402
 from definitions import ROOT, crates, read  # noqa: E402
 
-LAYERS = """values; the outside; reading one mail; the plain index; bytes on the disk; searching; committing and publishing;
+LAYERS = """values; input and output; reading one mail; the model; bytes on the disk; searching; committing and publishing;
 commands and replies""".replace("\n", " ").split("; ")
 # The commit from which on messages are held to the rules of CONTRIBUTING.md.
 FROM = "70802d7"

@@ -8,7 +8,7 @@ use Rattle.nm_base.specs.Order.{sorted}
 use Rattle.nm_base.specs.declared.asks.SearchAsk.{SearchAsk}
 use Rattle.nm_base.specs.declared.forms.Output.{Output}
 use Rattle.nm_base.specs.declared.forms.Output.TheVariants.{Summary, Threads, Messages, Files, Tags}
-use Rattle.nm_codec.specs.Spelling.{u64_bytes}
+use Rattle.nm_codec.specs.Encoding.{u64_bytes}
 use Rattle.nm_index.specs.Index.{rows_of}
 use Rattle.nm_index.specs.declared.base.Base.{Base}
 use Rattle.nm_query.specs.declared.query.Query.{Query}

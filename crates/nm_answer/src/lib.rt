@@ -1,4 +1,4 @@
-//! The plain index: what each request is answered, as definitions on the index as data; later layers compute the same texts.
+//! The model: what each request is answered, as definitions on the index as data; later layers compute the same texts.
 #![tactic(auto)]
 
 mod laws;

@@ -1,4 +1,4 @@
--- Words that stand one behind the other are read again, and one more may be put behind them.
+-- Words that come one after the other are read again, and one more may be put after them.
 -- For the proofs of `WordRow::push` and `Words::take_first`.
 use Rattle.std.proofs.Common.{◌≡◌, ℕ, suc, ◌+◌, ◌-◌, ◌≤◌, min, true, List, [], ◌∷◌, ◌++◌, length, take, drop, ◌≢◌, refl, ap, ◌∙◌, append_assoc, arith}
 use Rattle.std.proofs.lemmas.List.{drop_min, take_at, drop_at, take_min, length-append, length_push, flat_map_more}

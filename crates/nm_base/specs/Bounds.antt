@@ -8,7 +8,7 @@ use Rattle.nm_base.specs.declared.names.BadValue.TheVariants.{Length, Byte}
 abbrev pub fits_length : ℕ → List ℕ → Bool
 fits_length max bytes = nat_le 1 (length bytes) && nat_le (length bytes) max
 
--- the text itself where it has the length and passes the rule; a fault of length is told first
+-- the text itself where it has the length and passes the rule; a fault of length is reported first
 abbrev pub checked : ℕ → (List ℕ → Bool) → List ℕ → Result (List ℕ) BadValue
 checked max rule text =
     if fits_length max text then (if rule text then Ok text else Err Byte) else Err Length

@@ -18,7 +18,7 @@ IsDate second = (min_date ≤ℤ second) × (second ≤ℤ pos max_date)
 abbrev pub is_date : ℤ → Bool
 is_date second = int_le min_date second && int_le second (pos max_date)
 
--- the most that a count of 64 bits tells
+-- the most that a count of 64 bits can hold
 abbrev pub max_count : ℕ
 max_count = 18446744073709551615
 

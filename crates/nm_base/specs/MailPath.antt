@@ -5,7 +5,7 @@ use Rattle.std.specs.List.{list_all, slice_split}
 use Rattle.nm_base.specs.Limits.{max_path_bytes}
 use Rattle.nm_base.specs.Bounds.{fits_length}
 
--- what stands between the `/`
+-- what is between the `/`
 abbrev pub components_of : List ℕ → List (List ℕ)
 components_of text = slice_split (λ b. b == 47) text
 

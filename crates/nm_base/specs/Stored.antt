@@ -1,4 +1,4 @@
--- Where a text's bytes lie: short ones in the value itself, others in blocks that copies share. Cited by `text`.
+-- Where a text's bytes are: short ones in the value itself, others in blocks that copies share. Cited by `text`.
 use Rattle.std.specs.Prelude.{ℕ, List, take}
 use Rattle.std.specs.Arc.{arc_str_bytes, arc_value}
 use Rattle.nm_base.specs.declared.text.Stored.{Stored}

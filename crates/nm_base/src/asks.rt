@@ -12,7 +12,7 @@ pub struct SearchAsk {
     pub oldest: bool,
     /// How many are passed over.
     pub offset: u32,
-    /// How many are told at most.
+    /// How many are reported at most.
     pub limit: Option<u32>,
     /// Whether messages with an excluded tag are left out.
     pub exclude: bool,

@@ -5,7 +5,7 @@ ghost use Rattle.nm_base.specs.FieldNumber.{field_number};
 
 use crate::{Copies, Many, MessageId, NoMemory, Text, WordList};
 
-/// Where in a mail a word stands.
+/// Where in a mail a word is.
 #[derive(Clone, Copy)]
 pub enum Field {
     From,

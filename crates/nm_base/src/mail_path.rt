@@ -1,4 +1,4 @@
-//! Where a mail lies below the mail folder: listings of `nm_maildir` make these, reads and commits take them.
+//! Where a mail is below the mail folder: listings of `nm_maildir` make these, reads and commits take them.
 
 ghost use Rattle.std.specs.Prelude.{◌≡◌, ◌==◌, IsTrue};
 ghost use Rattle.std.specs.List.{list_all, slice_split};
@@ -10,8 +10,8 @@ use crate::names::fits;
 use crate::{BadValue, Copies, NoMemory, Text};
 use std::marker::Model;
 
-/// Where a mail lies below the mail folder: 1 to 4,096 bytes, components with `/` between them,
-/// none of which is empty, `.` or `..`, and no zero byte.
+/// Where a mail is below the mail folder: 1 to 4,096 bytes, components with `/` between them, none of which is empty,
+/// `.` or `..`, and no zero byte.
 #[derive(Clone, Debug, Drop, PartialEq, Eq, PartialOrd, Ord)]
 pub struct MailPath {
     text: Text,

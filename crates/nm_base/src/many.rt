@@ -86,7 +86,7 @@ impl<T> Many<T> {
         self.vec.shrink_to_fit();
     }
 
-    /// Puts `item` into the place `at`, and hands out what stood there.
+    /// Puts `item` into the place `at`, and hands out what was there.
     pub fn replace(&mut self, at: usize, item: T) -> T
         requires { at < length self.old }
         ensures value { slice_get self.old at ≡ Some result }

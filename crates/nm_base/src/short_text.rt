@@ -1,8 +1,8 @@
-//! A text that stands in a room of fixed size, for `Text`.
+//! A text that is in a room of fixed size, for `Text`.
 
 ghost use Rattle.std.specs.Prelude.{◌≡◌, ◌≤◌, ◌<◌, [], IsUtf8, length, take};
 
-/// A text of at most `N` bytes, which stand in the value itself.
+/// A text of at most `N` bytes, which are in the value itself.
 #[derive(Clone, Copy)]
 pub(crate) struct ShortText<const N: usize> {
     len: u8,

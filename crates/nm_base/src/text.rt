@@ -21,13 +21,13 @@ pub struct Text {
     stored: Stored,
 }
 
-/// The most bytes of a text that stands in the value: with them a text takes 16 bytes.
+/// The most bytes of a text that is in the value: with them a text takes 16 bytes.
 const MAX_SHORT: usize = 14;
 
-/// The most bytes of a text that stands in one shared block, which then takes 48 bytes; a longer one takes two blocks.
+/// The most bytes of a text that is in one shared block, which then takes 48 bytes; a longer one takes two blocks.
 const MAX_MIDDLE: usize = 31;
 
-/// Where the bytes lie.
+/// Where the bytes are.
 pub(crate) enum Stored {
     Short(ShortText<14>),
     Middle(Arc<ShortText<31>, Global>),

@@ -5,7 +5,7 @@ use Rattle.std.proofs.lemmas.Bool.{cases_lt, lt-ltb, le-ltb}
 use Rattle.nm_blocks.specs.Gaps.{capped}
 use Rattle.nm_blocks.specs.Numbers.{groups, number_bytes, number_at}
 
--- the numbers that so many groups after the first hold
+-- the numbers that n groups after the first hold
 abbrev room : ℕ → ℕ
 room zero = 128
 room (suc more) = 128 * room more

@@ -19,7 +19,7 @@ hits_at-shorter (suc left) before bytes =
     let hit = hit_at before bytes in
     omega (arith, hit_at-shorter before bytes, hits_at-shorter left hit.0 hit.1)
 
--- so many blocks as there are bytes are enough
+-- n blocks as there are bytes are enough
 enough : (more others : ℕ) (bytes : List ℕ) → length bytes ≤ more → length bytes ≤ others → blocks_hits more bytes ≡ blocks_hits others bytes
 unfolding blocks_hits
 enough zero zero bytes lt le = refl

@@ -10,7 +10,7 @@ use Rattle.nm_blocks.proofs.BlockLemmas.{run_is_read}
 use Rattle.nm_blocks.proofs.ReadLemmas.{run_hits-nil}
 use Rattle.nm_blocks.proofs.RunLemmas.{rising-drop, runs_joined}
 
--- of rising hits those behind rise
+-- of rising hits those after rise
 pub rising_behind : (front back : List Hit) → IsTrue (is_rising (front ++ back)) → IsTrue (is_rising back)
 rising_behind front back rising = let rest : drop (length front) (front ++ back) ≡ back = drop_at front back (length front) refl in subst (λ (hits : List Hit). IsTrue (is_rising hits)) rest (rising-drop (length front) (front ++ back) rising)
 

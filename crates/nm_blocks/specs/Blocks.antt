@@ -29,7 +29,7 @@ hit_at before bytes =
     let place = number_at list.1 in
     (after before (record { doc = doc.0; list = list.0; place = place.0 }), place.1)
 
--- so many hits at the front of bytes, and the bytes after them
+-- n hits at the front of bytes, and the bytes after them
 unfoldable pub hits_at : ℕ → Hit → List ℕ → List Hit × List ℕ
 hits_at zero before bytes = ([], bytes)
 hits_at (suc left) before bytes =
@@ -37,8 +37,8 @@ hits_at (suc left) before bytes =
     let others = hits_at left hit.0 hit.1 in
     (hit.0 ∷ others.0, others.1)
 
--- the hits of blocks that stand one after the other: those of the first, and those of the blocks after it; at most so
--- many blocks, up to one that is empty
+-- the hits of blocks that come one after the other: those of the first, and those of the blocks after it; at most n
+-- blocks, up to one that is empty
 unfoldable pub blocks_hits : ℕ → List ℕ → List Hit
 blocks_hits zero bytes = []
 blocks_hits (suc more) [] = []
@@ -51,13 +51,13 @@ blocks_hits (suc more) (suc count ∷ bytes) =
 unfoldable pub run_hits : List ℕ → List Hit
 run_hits bytes = blocks_hits (length bytes) bytes
 
--- so many hits that are left of a block, and then those of the blocks after it
+-- n hits that are left of a block, and then those of the blocks after it
 unfoldable pub hits_left : ℕ → Hit → List ℕ → List Hit
 hits_left zero before bytes = []
 hits_left (suc left) before bytes =
     let block = hits_at (suc left) before bytes in
     block.0 ++ run_hits block.1
 
--- the bytes are whole blocks of these hits: whatever stands after them, these hits are read first
+-- the bytes are whole blocks of these hits: whatever comes after them, these hits are read first
 abbrev pub IsRun : List ℕ → List Hit → Type 0
 IsRun bytes hits = (rest : List ℕ) → run_hits (bytes ++ rest) ≡ hits ++ run_hits rest

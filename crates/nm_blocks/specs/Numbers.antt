@@ -4,7 +4,7 @@ use Rattle.std.specs.Prelude.{ℕ, zero, suc, ◌+◌, ◌-◌, ◌*◌, ◌/◌
 use Rattle.nm_blocks.specs.Gaps.{capped}
 
 -- a number below 128 is one byte; a larger one its lowest seven bits with the top bit set, and then the number of its
--- higher bits; in at most so many bytes after the first
+-- higher bits; in at most n bytes after the first
 unfoldable pub groups : ℕ → ℕ → List ℕ
 groups zero n = n ∷ []
 groups (suc more) n = if nat_lt n 128 then n ∷ [] else (n % 128 + 128) ∷ groups more (n / 128)

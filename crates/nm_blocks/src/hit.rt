@@ -3,8 +3,8 @@
 ghost use Rattle.std.specs.Prelude.{◌≡◌};
 ghost use Rattle.nm_blocks.specs.Gaps.{gaps, after};
 
-/// A place of a word: the document, the list of the document, and the place in the list, each from 0.
-/// Hits stand in the order of their documents, then of their lists, then of their places.
+/// A place of a word: the document, the list of the document, and the place in the list, each from 0. Hits are in the
+/// order of their documents, then of their lists, then of their places.
 #[derive(Clone, Copy)]
 pub struct Hit {
     pub doc: u32,
@@ -44,7 +44,7 @@ pub fn gaps_of(before: Hit, hit: Hit) -> Hit
     }
 }
 
-/// The hit that three numbers stand for.
+/// The hit that three numbers represent.
 pub fn hit_after(before: Hit, gap: Hit) -> Hit
     ensures { result ≡ after before gap }
 {

@@ -31,7 +31,7 @@ pub fn a_block_is_short()
     ensures { (hits : List Hit) → length (block_bytes hits) ≤ 15 * length hits + 1 }
 {}
 
-/// Hits that begin after the last one of others rise with them; of rising hits those in front rise, and those behind.
+/// Hits that begin after the last one of others rise with them; of rising hits those in front rise, and those after.
 pub fn rising_hits_are_joined_and_cut()
     ensures joined { (hits : List Hit) (last next : Hit) (others : List Hit) → IsTrue (is_rising (hits ++ last ∷ [])) → IsTrue (is_before last next) → IsTrue (is_rising (next ∷ others)) → IsTrue (is_rising ((hits ++ last ∷ []) ++ next ∷ others)) }
     ensures front { (hits : List Hit) (n : ℕ) → IsTrue (is_rising hits) → IsTrue (is_rising (take n hits)) }

@@ -37,7 +37,7 @@ pub fn take_number(bytes: &[u8]) -> (u32, &[u8])
     }
 }
 
-// Few numbers have more than one byte, so this stands by itself and `take_number` is short.
+// Few numbers have more than one byte, so this is by itself and `take_number` is short.
 #[inline(never)]
 #[cycle(groups)]
 #[tactic(auto, using(crate::proofs::NumberLemmas::reading))]

@@ -1,4 +1,4 @@
-//! Unpacking: the hits of blocks that stand one after the other. `nm_segment` answers what is asked of a word so.
+//! Unpacking: the hits of blocks that come one after the other. `nm_segment` answers what is asked of a word so.
 
 ghost use Rattle.std.specs.Prelude.{◌≡◌, ◌∷◌, [], List, MatchOption};
 ghost use Rattle.nm_blocks.specs.declared.hit.Hit.{Hit};
@@ -27,7 +27,7 @@ impl<'a> Model for Unpack<'a> {
 }
 
 impl<'a> Unpack<'a> {
-    /// A reader of blocks that stand one after the other. Bytes that are no whole blocks are read as some hits.
+    /// A reader of blocks that come one after the other. Bytes that are no whole blocks are read as some hits.
     pub fn new(bytes: &'a [u8]) -> Unpack<'a>
         ensures run { (hits : List Hit) → IsRun bytes.now hits → result ≡ hits }
         ensures bytes { result ≡ run_hits bytes.now }

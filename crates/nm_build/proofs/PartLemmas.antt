@@ -9,7 +9,7 @@ use Rattle.nm_build.specs.Parts.{count_of, joined}
 use Rattle.nm_segment.specs.Docs.{AreDocs, AreFew, numbers}
 use Rattle.nm_segment.specs.declared.doc_words.DocWords.{DocWords}
 
--- ---- of numbers that rise those in front rise, and those behind
+-- ---- of numbers that rise those in front rise, and those after
 
 all_front : (P : ℕ → Type 0) (xs ys : List ℕ) → AllByRecursion P (xs ++ ys) → AllByRecursion P xs
 all_front P [] ys h = tt

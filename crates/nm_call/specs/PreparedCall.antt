@@ -6,8 +6,8 @@ use Rattle.nm_history.specs.Call.{call_fault, call_of, call_phases, call_reads, 
 use Rattle.nm_history.specs.Refusals.{IsRefusedFor, RefusesLine, TakesInput}
 use Rattle.nm_base.specs.declared.limit.Limit.TheVariants.{InputBytes}
 use Rattle.nm_io.specs.Observed.{ObservedSink, ObservedStream}
-use Rattle.nm_io.specs.declared.taking.TakeError.{TakeError}
-use Rattle.nm_io.specs.declared.taking.TakeError.TheVariants as takes
+use Rattle.nm_io.specs.declared.whole_input.TakeError.{TakeError}
+use Rattle.nm_io.specs.declared.whole_input.TakeError.TheVariants as takes
 use Rattle.nm_line.specs.Prepared.{AsksAlone}
 use Rattle.nm_log.specs.declared.log.Done.{Done}
 use Rattle.nm_log.specs.declared.log.Setting.{Setting}

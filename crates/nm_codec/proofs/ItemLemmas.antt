@@ -4,7 +4,7 @@ use Rattle.std.specs.Prelude.{length, slice_get}
 use Rattle.std.proofs.lemmas.List.{length_push}
 use Rattle.nm_codec.specs.declared.read_error.ReadError.{ReadError}
 use Rattle.nm_codec.specs.declared.read_error.ReadError.TheVariants as errors
-use Rattle.nm_codec.specs.Reading.{◌>>=◌, GivesUnlessNoMemory, Place, Reading, follows, items_at, last_of, rising_items_at, tested_at}
+use Rattle.nm_codec.specs.ReadSteps.{◌>>=◌, GivesUnlessNoMemory, Place, Reading, follows, items_at, last_of, rising_items_at, tested_at}
 
 -- what was read before, and what is still read
 abbrev pub with_front : {A : Type 0} → List A → Reading (List A) → Reading (List A)

@@ -4,7 +4,7 @@ use Rattle.std.proofs.Common.{◌≡◌, ℕ, ◌^◌, ◌<◌, true, cond, List
 use Rattle.std.proofs.lemmas.Bool.{eqb-true}
 use Rattle.std.proofs.lemmas.List.{nil_from_length}
 use Rattle.nm_codec.specs.Grammar.{Grammar}
-use Rattle.nm_codec.specs.Reading.{IsBytes, all_of}
+use Rattle.nm_codec.specs.ReadSteps.{IsBytes, all_of}
 use Rattle.nm_codec.specs.StepLaws.{bind_ok, passed_ok}
 
 module _ {A : Type 0} (g : Grammar A) where

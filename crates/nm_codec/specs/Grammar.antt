@@ -1,13 +1,13 @@
--- A grammar: how values of one kind stand in bytes, with the promise that what is written is read again and that what is
--- read was written so. Grammars are put together from others, and the promise with them.
+-- A grammar: how values of one kind are encoded in bytes, with the promise that what is written is read again and that
+-- what is read was written so. Grammars are put together from others, and the promise with them.
 -- Cited by `format`, `list`, `nm_record` and others.
 use Rattle.std.specs.Prelude.{◌≡◌, ℕ, ℤ, ◌<◌, ◌^◌, Bool, true, ◌&&◌, List, ◌++◌, length, Option, None, Some, Ok, FitsSigned}
 use Rattle.std.specs.List.{list_all}
 use Rattle.std.specs.Int.{w64}
 use Rattle.std.specs.Str.{is_utf8}
 use Rattle.nm_base.specs.Word.{is_word}
-use Rattle.nm_codec.specs.Reading.{IsBytes, Reading, Takes, coded_at, is_rising, list_at, mapped_at, pair_at, rising_at, signed_at, tested_at, text_at}
-use Rattle.nm_codec.specs.Spelling.{i64_bytes, list_bytes, text_bytes, u8_bytes}
+use Rattle.nm_codec.specs.ReadSteps.{IsBytes, Reading, Takes, coded_at, is_rising, list_at, mapped_at, pair_at, rising_at, signed_at, tested_at, text_at}
+use Rattle.nm_codec.specs.Encoding.{i64_bytes, list_bytes, text_bytes, u8_bytes}
 use Rattle.nm_codec.specs.TextLaws.{some_text, text_again, text_only}
 use Rattle.nm_codec.specs.PairLaws.{some_pair, pair_again, pair_only}
 use Rattle.nm_codec.specs.ListLaws.{some_list, list_again, list_only}
@@ -15,9 +15,9 @@ use Rattle.nm_codec.specs.SignedLaws.{coded_again, coded_read, signed_tested_aga
 use Rattle.nm_codec.specs.RisingLaws.{rising_again, rising_only}
 use Rattle.nm_codec.specs.MapLaws.{mapped_again, mapped_only, tested_again, tested_only}
 
--- One spelling of the values of a type: how they are read and written, which values have one, and that reading and writing undo each other.
+-- One encoding of the values of a type: how they are read and written, which values have one, and that reading and writing undo each other.
 pub record Grammar (A : Type 0) : Type 0 where
-  -- what stands at the front of bytes, or where the first byte outside of the grammar is
+  -- what is at the front of bytes, or where the first byte outside of the grammar is
   pub read : List ℕ → Reading A
   -- the bytes of a value
   pub bytes : A → List ℕ
@@ -30,11 +30,11 @@ pub record Grammar (A : Type 0) : Type 0 where
   -- what is read was written so
   pub only : (all : List ℕ) (a : A) (rest : List ℕ) → IsBytes all → read all ≡ Ok (a, rest) → Takes all (bytes a) rest × (is_value a ≡ true)
 
--- a text behind its length
+-- a text after its length
 abbrev pub text_grammar : Grammar (List ℕ)
 text_grammar = record { read = text_at; bytes = text_bytes; is_value = is_utf8; some = some_text; again = text_again; only = text_only }
 
--- a value, and another one behind it
+-- a value, and another one after it
 abbrev pub pair_grammar : {A B : Type 0} → Grammar A → Grammar B → Grammar (A × B)
 pair_grammar f g = record {
   read = pair_at f.read g.read;
@@ -45,7 +45,7 @@ pair_grammar f g = record {
   only = pair_only f.read g.read f.bytes g.bytes f.is_value g.is_value f.only g.only;
 }
 
--- items behind their count
+-- items after their count
 abbrev pub list_grammar : {A : Type 0} → Grammar A → Grammar (List A)
 list_grammar f = record {
   read = list_at f.read;
@@ -89,7 +89,7 @@ signed_grammar test fits = record {
   only = signed_tested_only test;
 }
 
--- values that one byte stands for
+-- values that one byte represents
 abbrev pub code_grammar : {A : Type 0} (value_of : ℕ → Option A) (code_of : A → ℕ) → ((a : A) → value_of (code_of a) ≡ Some a) → ((a : A) → code_of a < 2 ^ 8)
     → ((n : ℕ) (a : A) → value_of n ≡ Some a → code_of a ≡ n) → Grammar A
 code_grammar value_of code_of back small code = record {
@@ -101,7 +101,7 @@ code_grammar value_of code_of back small code = record {
   only = coded_read value_of code_of code;
 }
 
--- items that rise, behind their count; the fault of one that does not is where it begins
+-- items that rise, after their count; the fault of one that does not is where it begins
 abbrev pub rising_grammar : {A : Type 0} → (A → A → Bool) → Grammar A → Grammar (List A)
 rising_grammar below f = record {
   read = rising_at below f.read;
@@ -116,6 +116,6 @@ rising_grammar below f = record {
 abbrev pub word_grammar : Grammar (List ℕ)
 word_grammar = tested_grammar is_word text_grammar
 
--- the words of a text, behind their count
+-- the words of a text, after their count
 abbrev pub words_grammar : Grammar (List (List ℕ))
 words_grammar = list_grammar word_grammar

@@ -1,12 +1,12 @@
 pub mod AllLaws
+pub mod Encoding
 pub mod Grammar
 pub mod ListLaws
 pub mod MapLaws
 pub mod NumberLaws
 pub mod PairLaws
-pub mod Reading
+pub mod ReadSteps
 pub mod RisingLaws
 pub mod SignedLaws
-pub mod Spelling
 pub mod StepLaws
 pub mod TextLaws

@@ -1,12 +1,12 @@
--- Lists are read again, and what is read was spelled so; items are read one after the other.
+-- Lists are read again, and what is read was encoded so; items are read one after the other.
 -- Cited by `Grammar` and `RisingLaws`.
 use Rattle.std.proofs.Common.{◌≡◌, ℕ, zero, suc, ◌^◌, ◌<◌, ◌≤◌, Bool, true, List, [], ◌∷◌, ◌++◌, length, Ok, refl, sym, ap, subst, ◌∙◌, append_assoc, length-append, arith}
 use Rattle.std.specs.List.{flat_map, list_all}
 use Rattle.std.specs.Int.{w32, to_be_bytes}
 use Rattle.std.proofs.lemmas.Bool.{and_parts}
 use Rattle.std.proofs.lemmas.List.Concat.{flat_map-cons}
-use Rattle.nm_codec.specs.Spelling.{list_bytes}
-use Rattle.nm_codec.specs.Reading.{◌>>=◌, IsBytes, Reading, Takes, items_at, list_at, number_at}
+use Rattle.nm_codec.specs.Encoding.{list_bytes}
+use Rattle.nm_codec.specs.ReadSteps.{◌>>=◌, IsBytes, Reading, Takes, items_at, list_at, number_at}
 use Rattle.nm_codec.specs.StepLaws.{bind_ok, both, ok_is, Takes-then}
 use Rattle.nm_codec.specs.NumberLaws.{is_width_32, number_again, number_only}
 

@@ -1,8 +1,8 @@
--- Values that pass a test, and values that are made of others, are read again, and what is read was spelled so.
+-- Values that pass a test, and values that are made of others, are read again, and what is read was encoded so.
 -- Cited by `Grammar` and `RisingLaws`.
 use Rattle.std.proofs.Common.{◌≡◌, ℕ, ◌^◌, ◌<◌, Bool, true, cond, ◌&&◌, List, ◌++◌, length, Ok, Err, refl, ap, subst}
 use Rattle.std.proofs.lemmas.Bool.{and_parts}
-use Rattle.nm_codec.specs.Reading.{IsBytes, Reading, Takes, mapped_at, tested_at}
+use Rattle.nm_codec.specs.ReadSteps.{IsBytes, Reading, Takes, mapped_at, tested_at}
 use Rattle.nm_codec.specs.StepLaws.{bind_ok, both, ok_is, passed_ok}
 
 module _ {A : Type 0} (test : A → Bool) (read : List ℕ → Reading A) (bytes : A → List ℕ) (valid : A → Bool) where

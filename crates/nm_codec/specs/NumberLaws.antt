@@ -1,10 +1,10 @@
--- Numbers of a width are read again, and what is read was spelled so. Cited by `nm_record`.
+-- Numbers of a width are read again, and what is read was encoded so. Cited by `nm_record`.
 use Rattle.std.proofs.Common.{◌≡◌, ℕ, ◌+◌, ◌^◌, ◌<◌, ◌≤◌, false, ltb, List, [], ◌∷◌, ◌++◌, length, take, drop, Ok, refl, sym, ap, subst, arith, inl, inr}
 use Rattle.std.specs.Int.{Width, w8, w32, w64, byte_len, from_be_bytes, to_be_bytes}
 use Rattle.std.proofs.lemmas.Bool.{cases_lt, ltb-false, le-ltb}
 use Rattle.std.proofs.lemmas.List.{take_at, drop_at, take-append-drop, length-append, length-take, get_or-drop, get_or-take, get_or_past}
 use Rattle.std.proofs.lemmas.Nat.{be_bytes_4, be_bytes_8, from_be_bytes-to_be_bytes_4, from_be_bytes-to_be_bytes_8}
-use Rattle.nm_codec.specs.Reading.{IsBytes, Takes, number_at}
+use Rattle.nm_codec.specs.ReadSteps.{IsBytes, Takes, number_at}
 use Rattle.nm_codec.specs.StepLaws.{guard_ok}
 
 pub IsBytes-drop : (n : ℕ) (bytes : List ℕ) → IsBytes bytes → IsBytes (drop n bytes)
@@ -17,14 +17,14 @@ IsBytes-take n bytes h i =
       | inr le ↦ rw (get_or_past (take n bytes) i 0 (omega (arith, length-take n bytes))) (omega arith)
     ]
 
--- what the numbers of a width are: so many bytes, each number below the limit in one way
+-- what the numbers of a width are: n bytes, each number below the limit in one way
 pub record IsWidth (w : Width) (limit : ℕ) : Type 0 where
   pub len : (n : ℕ) → length (to_be_bytes w n) ≡ byte_len w
   pub back : (bytes : List ℕ) → length bytes ≡ byte_len w → IsBytes bytes → to_be_bytes w (from_be_bytes w bytes) ≡ bytes
   pub again : (n : ℕ) → n < limit → from_be_bytes w (to_be_bytes w n) ≡ n
   pub below : (bytes : List ℕ) → IsBytes bytes → from_be_bytes w bytes < limit
 
--- a byte is the number that it spells
+-- a byte is the number that it encodes
 one_byte : (bytes : List ℕ) → length bytes ≡ 1 → IsBytes bytes → to_be_bytes w8 (from_be_bytes w8 bytes) ≡ bytes
 one_byte [] e fits = absurd (omega arith)
 one_byte (b ∷ []) e fits = ap (λ n. n ∷ []) (omega (arith, fits 0))
@@ -68,7 +68,7 @@ module _ (w : Width) (limit : ℕ) (width : IsWidth w limit) where
       let front = take (byte_len w) bytes in
       let g = guard_ok (ltb (length bytes) (byte_len w)) 0 (from_be_bytes w front, drop (byte_len w) bytes) (n, rest) e in
       let long : byte_len w ≤ length bytes = ltb-false _ _ g.0 in
-      let spelled : to_be_bytes w (from_be_bytes w front) ≡ front = width.back front (omega (arith, length-take (byte_len w) bytes)) (IsBytes-take (byte_len w) bytes fits) in
-      let parts : bytes ≡ to_be_bytes w (from_be_bytes w front) ++ drop (byte_len w) bytes = rw spelled (sym (take-append-drop (byte_len w) bytes)) in
+      let encoded : to_be_bytes w (from_be_bytes w front) ≡ front = width.back front (omega (arith, length-take (byte_len w) bytes)) (IsBytes-take (byte_len w) bytes fits) in
+      let parts : bytes ≡ to_be_bytes w (from_be_bytes w front) ++ drop (byte_len w) bytes = rw encoded (sym (take-append-drop (byte_len w) bytes)) in
       subst (λ (p : ℕ × List ℕ). Takes bytes (to_be_bytes w p.0) p.1 × (p.0 < limit)) g.1
       (record { parts = parts; rest_fits = IsBytes-drop (byte_len w) bytes fits }, width.below front (IsBytes-take (byte_len w) bytes fits))

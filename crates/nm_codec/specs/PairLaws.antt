@@ -1,6 +1,6 @@
--- Two values, one behind the other: they are read again, and what is read was spelled so. Cited by `Grammar`.
+-- Two values, one after the other: they are read again, and what is read was encoded so. Cited by `Grammar`.
 use Rattle.std.proofs.Common.{◌≡◌, ℕ, ◌<◌, ◌^◌, Bool, true, ◌&&◌, List, ◌++◌, length, Ok, refl, subst, append_assoc, length-append, arith}
-use Rattle.nm_codec.specs.Reading.{IsBytes, Reading, Takes, pair_at}
+use Rattle.nm_codec.specs.ReadSteps.{IsBytes, Reading, Takes, pair_at}
 use Rattle.std.proofs.lemmas.Bool.{and_parts}
 use Rattle.nm_codec.specs.StepLaws.{bind_ok, both, ok_is, Takes-then}
 

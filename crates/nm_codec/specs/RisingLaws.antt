@@ -1,11 +1,11 @@
--- Lists that rise are read again, and what is read was spelled so. Cited by `Grammar`.
+-- Lists that rise are read again, and what is read was encoded so. Cited by `Grammar`.
 use Rattle.std.proofs.Common.{◌≡◌, ℕ, zero, suc, ◌^◌, ◌<◌, Bool, true, ◌&&◌, List, [], ◌∷◌, ◌++◌, length, Option, Some, None, cond, Ok, Err, refl, sym, ap, subst, ◌∙◌, append_assoc, length-append, arith}
 use Rattle.std.specs.List.{flat_map, list_all}
 use Rattle.std.specs.Int.{w32, to_be_bytes}
 use Rattle.std.proofs.lemmas.Bool.{and_parts}
 use Rattle.std.proofs.lemmas.List.Concat.{flat_map-cons}
-use Rattle.nm_codec.specs.Spelling.{list_bytes}
-use Rattle.nm_codec.specs.Reading.{◌>>=◌, IsBytes, Reading, Takes, follows, is_rising, number_at, rising_at, rising_items_at, tested_at}
+use Rattle.nm_codec.specs.Encoding.{list_bytes}
+use Rattle.nm_codec.specs.ReadSteps.{◌>>=◌, IsBytes, Reading, Takes, follows, is_rising, number_at, rising_at, rising_items_at, tested_at}
 use Rattle.nm_codec.specs.StepLaws.{bind_ok, both, ok_is, passed_ok, Takes-then}
 use Rattle.nm_codec.specs.NumberLaws.{is_width_32, number_again, number_only}
 use Rattle.nm_codec.specs.ListLaws.{few}

@@ -1,11 +1,11 @@
--- Numbers in two's complement, and values that a byte stands for, are read again, and what is read was spelled so.
+-- Numbers in two's complement, and values that a byte represents, are read again, and what is read was encoded so.
 -- Cited by `Grammar`.
 use Rattle.std.proofs.Common.{◌≡◌, ℕ, ℤ, pos, negsuc, ◌^◌, ◌<◌, Bool, true, cond, List, ◌++◌, length, Option, Some, None, Ok, Err, refl, ap, subst, arith}
 use Rattle.std.specs.Prelude.{FitsSigned}
 use Rattle.std.specs.Int.{w8, w64, cast_signed, cast_unsigned}
 use Rattle.std.proofs.lemmas.Int.{of_z-to_z}
-use Rattle.nm_codec.specs.Spelling.{i64_bytes, u8_bytes}
-use Rattle.nm_codec.specs.Reading.{IsBytes, Takes, chosen, coded_at, number_at, signed_at, tested_at}
+use Rattle.nm_codec.specs.Encoding.{i64_bytes, u8_bytes}
+use Rattle.nm_codec.specs.ReadSteps.{IsBytes, Takes, chosen, coded_at, number_at, signed_at, tested_at}
 use Rattle.nm_codec.specs.StepLaws.{bind_ok, ok_is, passed_ok}
 use Rattle.nm_codec.specs.NumberLaws.{is_width_8, is_width_64, number_again, number_only}
 

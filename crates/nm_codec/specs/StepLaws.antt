@@ -1,6 +1,6 @@
 -- Steps of reading, one after the other. Cited by `nm_record`.
 use Rattle.std.proofs.Common.{◌≡◌, ℕ, Bool, true, false, ◌&&◌, cond, List, ◌++◌, Result, Ok, Err, refl, ap, sym, ◌∙◌, append_assoc}
-use Rattle.nm_codec.specs.Reading.{◌>>=◌, Takes}
+use Rattle.nm_codec.specs.ReadSteps.{◌>>=◌, Takes}
 
 -- the value of a step that did not fail
 pub bind_ok : {A B : Type 0} (r : Result A ℕ) (f : A → Result B ℕ) (y : B) → (r >>= f) ≡ Ok y → (x : A) × (r ≡ Ok x) × (f x ≡ Ok y)

@@ -1,11 +1,11 @@
--- Texts are read again, and what is read was spelled so. Cited by `Grammar`.
+-- Texts are read again, and what is read was encoded so. Cited by `Grammar`.
 use Rattle.std.proofs.Common.{◌≡◌, ℕ, ◌^◌, ◌<◌, ◌≤◌, Bool, true, false, cond, ltb, List, ◌++◌, length, take, drop, Result, Ok, Err, refl, sym, subst, arith}
 use Rattle.std.specs.Int.{w32, to_be_bytes}
 use Rattle.std.specs.Str.{is_utf8}
 use Rattle.std.proofs.lemmas.Bool.{ltb-false, le-ltb}
 use Rattle.std.proofs.lemmas.List.{take_at, drop_at, take-append-drop, length-append, length-take}
-use Rattle.nm_codec.specs.Spelling.{text_bytes}
-use Rattle.nm_codec.specs.Reading.{IsBytes, Takes, number_at, text_at}
+use Rattle.nm_codec.specs.Encoding.{text_bytes}
+use Rattle.nm_codec.specs.ReadSteps.{IsBytes, Takes, number_at, text_at}
 use Rattle.nm_codec.specs.StepLaws.{bind_ok, passed_ok, Takes-then}
 use Rattle.nm_codec.specs.NumberLaws.{IsBytes-drop, is_width_32, number_again, number_only}
 

@@ -1,16 +1,16 @@
-//! A format: how values of one type stand in bytes. `nm_record` puts the format of the index together from those of
-//! texts, pairs and lists.
+//! A format: how values of one type are encoded in bytes. `nm_record` puts the format of the index together from those
+//! of texts, pairs and lists.
 
 ghost use Rattle.std.specs.Prelude.{◌≡◌, ◌<◌, ◌^◌, ◌++◌, length, min, Bool, OnOk};
 ghost use Rattle.nm_base.specs.Limits.{max_count};
 ghost use Rattle.nm_codec.specs.Grammar.{Grammar};
-ghost use Rattle.nm_codec.specs.Reading.{GivesUnlessNoMemory};
+ghost use Rattle.nm_codec.specs.ReadSteps.{GivesUnlessNoMemory};
 
 use crate::{ReadError, Reader, Writer};
 use nm_base::NoMemory;
 use std::alloc::Global;
 
-/// How values of one type stand in bytes: what a grammar says, as code.
+/// How values of one type are encoded in bytes: what a grammar says, as code.
 pub trait Format {
     type Value: Drop;
 

@@ -1,11 +1,11 @@
-//! Lists, whose count stands before them, for `nm_record` and, in order, for `rising`.
+//! Lists, whose count comes before them, for `nm_record` and, in order, for `rising_list`.
 
 ghost use Rattle.std.specs.Prelude.{◌≡◌, ◌++◌, ◌<◌, ◌^◌, length, min, OnOk};
 ghost use Rattle.std.specs.List.{flat_map, list_all};
 ghost use Rattle.nm_base.specs.Limits.{max_count};
 ghost use Rattle.nm_codec.specs.Grammar.{list_grammar};
-ghost use Rattle.nm_codec.specs.Reading.{GivesUnlessNoMemory, items_at, list_at};
-ghost use Rattle.nm_codec.specs.Spelling.{list_bytes};
+ghost use Rattle.nm_codec.specs.ReadSteps.{GivesUnlessNoMemory, items_at, list_at};
+ghost use Rattle.nm_codec.specs.Encoding.{list_bytes};
 
 use crate::{Format, ReadError, Reader, Writer};
 use nm_base::{Many, NoMemory};
@@ -24,7 +24,7 @@ impl<F: Format> Format for ListOf<F> {
 
     ghost asked = { list_all F.asked };
 
-    #[tactic(auto, unfolding(crate::specs::Reading::list_at))]
+    #[tactic(auto, unfolding(crate::specs::ReadSteps::list_at))]
     fn read(alloc: Global, reader: &mut Reader<'_>) -> Result<Many<F::Value>, ReadError> {
         let count = reader.u32()?;
         read_items::<F>(alloc, count, reader)
@@ -40,7 +40,7 @@ impl<F: Format> Format for ListOf<F> {
     }
 }
 
-/// So many items, one after the other.
+/// N items, one after the other.
 fn read_items<F: Format>(
     alloc: Global,
     count: u32,

@@ -1,4 +1,4 @@
-//! Two values, one behind the other, for the formats of `nm_record`.
+//! Two values, one after the other, for the formats of `nm_record`.
 
 ghost use Rattle.std.specs.Prelude.{◌&&◌};
 ghost use Rattle.nm_codec.specs.Grammar.{pair_grammar};
@@ -8,7 +8,7 @@ use nm_base::NoMemory;
 use std::alloc::Global;
 use std::marker::PhantomData;
 
-/// A value of the one format, and behind it one of the other.
+/// A value of the one format, and after it one of the other.
 pub struct Pair<F, G> {
     formats: PhantomData<(F, G)>,
 }
@@ -20,7 +20,7 @@ impl<F: Format, G: Format> Format for Pair<F, G> {
 
     ghost asked = { λ pair. F.asked pair.0 && G.asked pair.1 };
 
-    #[tactic(auto, unfolding(crate::specs::Reading::pair_at))]
+    #[tactic(auto, unfolding(crate::specs::ReadSteps::pair_at))]
     fn read(alloc: Global, reader: &mut Reader<'_>) -> Result<(F::Value, G::Value), ReadError> {
         let first = F::read(alloc, reader)?;
         let second = G::read(alloc, reader)?;

@@ -2,7 +2,7 @@
 
 ghost use Rattle.std.specs.Prelude.{◌≡◌, ◌<◌, ◌≤◌, ◌+◌, ◌-◌, length, take, drop, MatchResult, OnErr, [], IsOk, ◌↔◌, IfErr};
 ghost use Rattle.std.specs.Int.{w8, w32, w64};
-ghost use Rattle.nm_codec.specs.Reading.{Gives, GivesUnlessNoMemory, number_at, signed_at, text_at};
+ghost use Rattle.nm_codec.specs.ReadSteps.{Gives, GivesUnlessNoMemory, number_at, signed_at, text_at};
 
 use crate::{Bad, ReadError};
 use nm_base::Text;
@@ -18,7 +18,7 @@ pub struct Reader<'a> {
 
 impl<'a> Model for Reader<'a> {
     ghost use Rattle.std.specs.Prelude.{◌≤◌, length};
-    ghost use Rattle.nm_codec.specs.Reading.{Place};
+    ghost use Rattle.nm_codec.specs.ReadSteps.{Place};
 
     ghost Value = { Place };
 
@@ -71,7 +71,7 @@ impl<'a> Reader<'a> {
     }
 
     /// A number in two's complement.
-    #[tactic(auto, unfolding(crate::specs::Reading::signed_at))]
+    #[tactic(auto, unfolding(crate::specs::ReadSteps::signed_at))]
     pub fn i64(&mut self) -> Result<i64, Bad>
         ensures value { Gives self.old result self.new (signed_at self.old.rest) }
         ensures err { OnErr result (self.new ≡ self.old) }
@@ -80,7 +80,7 @@ impl<'a> Reader<'a> {
         Ok(number.cast_signed())
     }
 
-    /// A text, whose length stands before it.
+    /// A text, whose length comes before it.
     pub fn text(&mut self, alloc: Global) -> Result<Text, ReadError>
         ensures value { GivesUnlessNoMemory self.old result self.new (text_at self.old.rest) }
         ensures err { OnErr result (self.new ≡ self.old) }
@@ -101,8 +101,8 @@ impl<'a> Reader<'a> {
         Ok(Text::of(alloc, text)?)
     }
 
-    /// A text as it stands in the bytes. After an error the reader stands somewhere behind its beginning.
-    #[tactic(auto, unfolding(crate::specs::Reading::text_at), using(crate::proofs::Utf8Lemmas::utf8))]
+    /// A text as it is in the bytes. After an error the reader is somewhere after its beginning.
+    #[tactic(auto, unfolding(crate::specs::ReadSteps::text_at), using(crate::proofs::Utf8Lemmas::utf8))]
     pub fn str(&mut self) -> Result<&'a str, Bad>
         ensures value { MatchResult result
             (λ text. (text_at self.old.rest ≡ Ok (text.now, self.new.rest)) × (self.new.len ≡ self.old.len))
@@ -118,7 +118,7 @@ impl<'a> Reader<'a> {
         }
     }
 
-    // The next bytes, so many.
+    // The next bytes, n.
     fn front(&mut self, count: usize) -> Result<&'a [u8], Bad>
         ensures value { MatchResult result
             (λ front. (front.now ≡ take count self.old.rest) × (self.new.rest ≡ drop count self.old.rest) × (self.new.len ≡ self.old.len) × (count ≤ length self.old.rest))

@@ -1,10 +1,10 @@
-//! Texts, whose length stands before them: `nm_record` writes names and facts so.
+//! Texts, whose length comes before them: `nm_record` writes names and facts so.
 
 ghost use Rattle.std.specs.Prelude.{◌≡◌, true, length, min};
 ghost use Rattle.std.specs.Str.{is_utf8};
 ghost use Rattle.nm_base.specs.Limits.{max_count};
 ghost use Rattle.nm_codec.specs.Grammar.{text_grammar};
-ghost use Rattle.nm_codec.specs.Spelling.{text_bytes};
+ghost use Rattle.nm_codec.specs.Encoding.{text_bytes};
 
 use crate::{Format, ReadError, Reader, Writer};
 use nm_base::{NoMemory, Text};
@@ -33,7 +33,7 @@ impl Format for TextFormat {
     }
 }
 
-/// How many bytes a text has behind its length, up to 2^64 - 1.
+/// How many bytes a text has after its length, up to 2^64 - 1.
 #[tactic(auto, using(crate::proofs::Utf8Lemmas::utf8))]
 pub fn text_len(text: &Text) -> u64
     ensures len { result ≡ min (length (text_bytes text.now)) max_count }

@@ -4,8 +4,8 @@ ghost use Rattle.std.specs.Prelude.{◌≡◌, ◌++◌, ◌<◌, ◌≤◌, ◌
 ghost use Rattle.std.specs.List.{flat_map};
 ghost use Rattle.nm_base.specs.Word.{is_word};
 ghost use Rattle.nm_codec.specs.Grammar.{word_grammar, words_grammar};
-ghost use Rattle.nm_codec.specs.Reading.{GivesUnlessNoMemory, items_at};
-ghost use Rattle.nm_codec.specs.Spelling.{text_bytes};
+ghost use Rattle.nm_codec.specs.ReadSteps.{GivesUnlessNoMemory, items_at};
+ghost use Rattle.nm_codec.specs.Encoding.{text_bytes};
 
 use crate::{Bad, Format, ReadError, Reader, Writer};
 use nm_base::{NoMemory, WordList, Words, is_word};
@@ -21,7 +21,7 @@ impl Format for WordsFormat {
 
     ghost asked = { λ words. true };
 
-    #[tactic(auto, unfolding(crate::specs::Reading::list_at))]
+    #[tactic(auto, unfolding(crate::specs::ReadSteps::list_at))]
     fn read(alloc: Global, reader: &mut Reader<'_>) -> Result<WordList, ReadError> {
         let count = reader.u32()?;
         read_words(alloc, count, reader)
@@ -40,7 +40,7 @@ impl Format for WordsFormat {
     }
 }
 
-/// So many words, one after the other.
+/// N words, one after the other.
 fn read_words(alloc: Global, count: u32, reader: &mut Reader<'_>) -> Result<WordList, ReadError>
     ensures { GivesUnlessNoMemory reader.old result reader.new (items_at word_grammar.read count reader.old.rest) }
 {
@@ -55,7 +55,7 @@ fn read_words(alloc: Global, count: u32, reader: &mut Reader<'_>) -> Result<Word
     Ok(words)
 }
 
-#[tactic(auto, unfolding(crate::specs::Reading::tested_at))]
+#[tactic(auto, unfolding(crate::specs::ReadSteps::tested_at))]
 fn read_word<'a>(reader: &mut Reader<'a>) -> Result<&'a str, Bad>
     ensures { MatchResult result
         (λ word. (word_grammar.read reader.old.rest ≡ Ok (word.now, reader.new.rest)) × (reader.new.len ≡ reader.old.len) × IsTrue (is_word word.now))

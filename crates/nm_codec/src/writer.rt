@@ -1,7 +1,7 @@
 //! Writing bytes from left to right: `nm_record` makes commits for the disk so, `nm_state` rows of messages.
 
 ghost use Rattle.std.specs.Prelude.{◌≡◌, ◌<◌, ◌^◌, ◌++◌, [], length, OnOk, OnErr};
-ghost use Rattle.nm_codec.specs.Spelling.{i64_bytes, text_bytes, u8_bytes, u32_bytes, u64_bytes};
+ghost use Rattle.nm_codec.specs.Encoding.{i64_bytes, text_bytes, u8_bytes, u32_bytes, u64_bytes};
 
 use nm_base::{Many, NoMemory, Text};
 use std::alloc::Global;

@@ -11,11 +11,11 @@ use Rattle.nm_commit.specs.declared.change.Commit.{Commit}
 abbrev pub paths_of : List (List ℕ × Facts) → List (List ℕ)
 paths_of files = map (λ file. file.0) files
 
--- one of the files lies there
+-- one of the files is there
 abbrev pub has_path : List (List ℕ × Facts) → List ℕ → Bool
 has_path files path = has_text (paths_of files) path
 
--- the files but the one that lies there
+-- the files but the one that is there
 abbrev pub without_path : List (List ℕ × Facts) → List ℕ → List (List ℕ × Facts)
 without_path files path = filter (λ file. not (same_text path file.0)) files
 
@@ -27,19 +27,19 @@ has_id files id = has_text (map (λ file. file.1.id) files) id
 abbrev pub moved_path : List ℕ → List ℕ → List ℕ → List ℕ
 moved_path from to path = (if same_text from path then to else path)
 
--- the files with the one that lies at `from` at `to`, in its place
+-- the files with the one that is at `from` at `to`, in its place
 abbrev pub with_moved : List (List ℕ × Facts) → List ℕ → List ℕ → List (List ℕ × Facts)
 with_moved files from to = map (λ file. (moved_path from to file.0, file.1)) files
 
--- the files after a change; tags stand beside them
+-- the files after a change; tags are beside them
 abbrev pub changed : List (List ℕ × Facts) → Change → List (List ℕ × Facts)
 changed files (Add path facts) = files ++ (path, facts) ∷ []
 changed files (Drop path) = without_path files path
 changed files (Move from to) = with_moved files from to
 changed files (SetTags id tags) = files
 
--- a mail comes where none lies and has a date in the range; one goes from where it lies, or moves from there to where none
--- lies; tags are set of a message that has a file
+-- a mail comes where none is and has a date in the range; one goes from where it is, or moves from there to where none is;
+-- tags are set of a message that has a file
 abbrev pub FitsChange : List (List ℕ × Facts) → Change → Type 0
 FitsChange files (Add path facts) = (has_path files path ≡ false) × IsDate facts.date
 FitsChange files (Drop path) = has_path files path ≡ true

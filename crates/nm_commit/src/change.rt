@@ -11,7 +11,7 @@ pub enum Change {
         path: MailPath,
         facts: Shared<Facts>,
     },
-    /// A mail is gone.
+    /// A mail is removed.
     Drop {
         path: MailPath,
     },

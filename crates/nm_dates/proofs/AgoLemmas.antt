@@ -14,7 +14,7 @@ use Rattle.nm_dates.proofs.CalendarLemmas.{day_number-first}
 use Rattle.nm_dates.proofs.DayLemmas.{date_of-is_date}
 use Rattle.nm_dates.proofs.SecondsLemmas.{date_parts, shown_day}
 
--- so many days earlier the day is so many less
+-- n days earlier the day is n less
 pub day_of-earlier : (n : ℕ) (moment : ℤ) → day_of moment -ℤ pos n ≡ day_of (moment -ℤ pos (86400 * n))
 day_of-earlier n moment =
     let here = int_div_euclid-parts moment 86400 (omega arith) in
@@ -68,7 +68,7 @@ day_in-month months year month day low few is =
     let of_month : months % 12 + 1 ≡ month = omega arith in
     rw of_year (rw of_month refl)
 
--- a date so many months later than a month
+-- a date n months later than a month
 pub months_before-is : (date : Civil) (n year month : ℕ) → 1 ≤ date.month → 1 ≤ year → 1 ≤ month → month ≤ 12 → year * 12 + month + n ≡ date.year * 12 + date.month →
     months_before date n ≡ day_number year month (min date.day (days_in_month (pos year) month))
 months_before-is date n year month some from low few is =

@@ -4,7 +4,7 @@ use Rattle.std.specs.Prelude.{IsTrue, ◌==◌}
 use Rattle.std.proofs.lemmas.Bool.Decides.{nat_tests}
 use Rattle.nm_dates.specs.Calendar.{date_text, is_date}
 use Rattle.nm_dates.specs.Numbers.{is_digit, number_in}
-use Rattle.nm_dates.specs.Reading.{day_end, end_of, from_day}
+use Rattle.nm_dates.specs.Ends.{day_end, end_of, from_day}
 use Rattle.nm_dates.specs.declared.end.End.TheVariants.{Day}
 
 is_digit-digit : (a : ℕ) → a < 10 → is_digit (48 + a) ≡ true

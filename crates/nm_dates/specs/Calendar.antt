@@ -49,7 +49,7 @@ date_of day =
 abbrev pub day_in : ℕ → ℕ → ℤ
 day_in months day = day_number (months / 12) (months % 12 + 1) (min day (days_in_month (pos (months / 12)) (months % 12 + 1)))
 
--- the day so many months before a date, from 0001-01-01 on
+-- the day n months before a date, from 0001-01-01 on
 abbrev pub months_before : Civil → ℕ → ℤ
 months_before date months =
     if nat_lt (date.year * 12 + (date.month - 1)) (months + 12) then first_day

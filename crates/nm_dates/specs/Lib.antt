@@ -1,4 +1,4 @@
 pub mod Calendar
+pub mod Ends
 pub mod Numbers
-pub mod Reading
 pub mod Seconds

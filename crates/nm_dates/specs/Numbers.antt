@@ -5,7 +5,7 @@ use Rattle.std.specs.List.{list_all}
 abbrev pub is_digit : ℕ → Bool
 is_digit byte = nat_le 48 byte && nat_le byte 57
 
--- one digit more behind a number
+-- one digit more after a number
 abbrev pub with_digit : ℕ → ℕ → ℕ
 with_digit number digit = number * 10 + (digit - 48)
 

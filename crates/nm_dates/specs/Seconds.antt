@@ -1,5 +1,5 @@
--- Which seconds an end stands for, counted from 1970-01-01 00:00:00 UTC.
--- Cited by `days`, `reading`, `test_query` and others.
+-- Which seconds an end represents, counted from 1970-01-01 00:00:00 UTC.
+-- Cited by `days`, `end_parser`, `test_query` and others.
 use Rattle.std.specs.Prelude.{ℕ, ◌*◌, Bool, true, ◌&&◌, nat_le, ℤ, pos, negsuc, ◌+ℤ◌, ◌-ℤ◌, ◌*ℤ◌, ◌≤ℤ◌, int_le, int_lt, if◌then◌else◌}
 use Rattle.std.specs.Int.{int_div_euclid}
 use Rattle.nm_base.specs.Limits.{max_date, min_date}
@@ -46,12 +46,12 @@ one_hour hour = record { first = hour *ℤ pos 3600; last = hour *ℤ pos 3600 +
 abbrev pub from_first : ℤ → ℤ
 from_first day = if int_lt day first_day then first_day else day
 
--- that second; one before the year 1 stands for the first day
+-- that second; one before the year 1 represents the first day
 abbrev pub one_second : ℤ → Seconds
 one_second second =
     if int_lt second (first_day *ℤ pos 86400) then one_day first_day else record { first = second; last = second }
 
--- so many units before the moment
+-- n units before the moment
 abbrev pub ago : DateUnit → ℕ → ℤ → Seconds
 ago Hours n moment = one_hour (hour_of moment -ℤ pos n)
 ago Days n moment = one_day (from_first (day_of moment -ℤ pos n))
@@ -59,7 +59,7 @@ ago Weeks n moment = one_day (from_first (day_of moment -ℤ pos (7 * n)))
 ago Months n moment = one_day (months_before (date_of (day_of moment)) n)
 ago Years n moment = one_day (months_before (date_of (day_of moment)) (12 * n))
 
--- the seconds that an end stands for
+-- the seconds that an end represents
 abbrev pub seconds_of : End → ℤ → Seconds
 seconds_of (Second second) moment = one_second second
 seconds_of (Year year) moment = days (day_number year 1 1) (day_number year 12 31)

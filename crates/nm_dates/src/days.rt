@@ -87,8 +87,7 @@ fn date_at(day: i64) -> Date
     }
 }
 
-/// The day so many months before a date, or the last day of that month where it is shorter; none is before
-/// 0001-01-01.
+/// The day n months before a date, or the last day of that month where it is shorter; none is before 0001-01-01.
 pub(crate) fn months_before(date: Civil, months: u32) -> i64
     requires date { IsTrue (is_date date.year date.month date.day) }
     requires months { months ≤ 11999988 }

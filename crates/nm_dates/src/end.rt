@@ -1,4 +1,4 @@
-//! What one end of a date range is: `read_end` reads one, a tree of `nm_query` has it, and `seconds` says what it stands for.
+//! What one end of a date range is: `read_end` reads one, a tree of `nm_query` has it, and `seconds` says what it represents.
 
 use thiserror::Error;
 
@@ -12,7 +12,7 @@ pub enum DateUnit {
     Years,
 }
 
-/// One end of a date range. It stands for the seconds of its unit of time.
+/// One end of a date range. It represents the seconds of its unit of time.
 #[derive(Clone, Copy)]
 pub enum End {
     /// That second, counted from 1970-01-01 00:00:00 UTC.
@@ -25,7 +25,7 @@ pub enum End {
     Day(u16, u8, u8),
     Today,
     Yesterday,
-    /// So many units before the moment.
+    /// N units before the moment.
     Ago(u32, DateUnit),
 }
 

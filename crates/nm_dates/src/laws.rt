@@ -4,7 +4,7 @@ ghost use Rattle.std.specs.Prelude.{◌≡◌, ◌↔◌, ◌<◌, ◌≤◌, �
 ghost use Rattle.nm_base.specs.Limits.{min_date};
 ghost use Rattle.jiff_core.specs.Calendar.{days_in_month};
 ghost use Rattle.nm_dates.specs.Calendar.{IsDayNumber, IsDayOf, date_of, date_text, day_number, is_date, is_month, is_year};
-ghost use Rattle.nm_dates.specs.Reading.{end_of};
+ghost use Rattle.nm_dates.specs.Ends.{end_of};
 ghost use Rattle.nm_dates.specs.Seconds.{Holds, IsMoment, IsShownSecond, date_at, is_end, seconds_of};
 ghost use Rattle.nm_dates.specs.declared.end.End.{End};
 ghost use Rattle.nm_dates.specs.declared.end.End.TheVariants.{Ago, Day, Month, Second, Today, Year, Yesterday};
@@ -42,8 +42,8 @@ pub fn a_month_begins_where_the_last_one_ends()
     ensures first { (year : ℕ) → (moment : ℤ) → (seconds_of (Year year) moment).first ≡ (seconds_of (Month year 1) moment).first }
 {}
 
-/// So many days or weeks ago is the day of the second so many times 86,400 or 604,800 before the moment; days that would
-/// be before 0001-01-01 are that day. So many hours ago is the whole hour of the second so many times 3,600 before.
+/// N days or weeks ago is the day of the second n times 86,400 or 604,800 before the moment; days that would be before
+/// 0001-01-01 are that day. N hours ago is the whole hour of the second n times 3,600 before.
 pub fn a_day_ago_is_the_day_of_an_earlier_second()
     ensures today { (moment : ℤ) → Holds (seconds_of Today moment) moment × ((seconds_of Today moment).last ≡ (seconds_of Today moment).first +ℤ pos 86399) }
     ensures yesterday { (moment : ℤ) → seconds_of Yesterday moment ≡ seconds_of Today (moment -ℤ pos 86400) }
@@ -54,8 +54,8 @@ pub fn a_day_ago_is_the_day_of_an_earlier_second()
     ensures hour { (n : ℕ) → (moment : ℤ) → (hour : ℤ) × ((seconds_of (Ago n Hours) moment).first +ℤ pos (3600 * n) ≡ hour *ℤ pos 3600) }
 {}
 
-/// So many months ago is the day of that number so many calendar months before, or that month's last day where it has none
-/// such; years likewise.
+/// N months ago is the day of that number n calendar months before, or that month's last day where it has none such; years
+/// likewise.
 pub fn a_month_ago_is_a_calendar_month_before()
     ensures months { (n year month : ℕ) → (moment : ℤ) → IsShownSecond moment → IsTrue (is_month year month) → year * 12 + month + n ≡ (date_at moment).year * 12 + (date_at moment).month → seconds_of (Ago n Months) moment ≡ seconds_of (Day year month (min (date_at moment).day (days_in_month (pos year) month))) moment }
     ensures years { (n year : ℕ) → (moment : ℤ) → IsShownSecond moment → IsTrue (is_year year) → year + n ≡ (date_at moment).year → seconds_of (Ago n Years) moment ≡ seconds_of (Day year (date_at moment).month (min (date_at moment).day (days_in_month (pos year) (date_at moment).month))) moment }
@@ -69,7 +69,7 @@ pub fn february_has_its_days()
     ensures century { (moment : ℤ) → seconds_of (Month 1900 2) moment ≡ record { first = negsuc 2206310399; last = negsuc 2203891200 } }
 {}
 
-/// `12hours`, `1 Day` and `3_WEEKS` are so many units ago; two spaces, seven digits and other units are none.
+/// `12hours`, `1 Day` and `3_WEEKS` are n units ago; two spaces, seven digits and other units are none.
 pub fn a_number_and_a_unit_are_so_many_ago()
     ensures units { (end_of (codes "12hours") ≡ Some (Ago 12 Hours)) × (end_of (codes "1 Day") ≡ Some (Ago 1 Days)) × (end_of (codes "3_WEEKS") ≡ Some (Ago 3 Weeks)) × (end_of (codes "1 month") ≡ Some (Ago 1 Months)) × (end_of (codes "999999 years") ≡ Some (Ago 999999 Years)) }
     ensures others { (end_of (codes "ToDay") ≡ Some Today) × (end_of (codes "yesterday") ≡ Some Yesterday) × (end_of (codes "@-5") ≡ Some (Second (negsuc 4))) × (end_of (codes "@5") ≡ Some (Second (pos 5))) }

@@ -1,12 +1,12 @@
-//! The plain index: the ends of date ranges, read from text, and the seconds that they stand for (UTC, the
-//! Gregorian calendar).
+//! The model: the ends of date ranges, read from text, and the seconds that they represent (UTC, the Gregorian
+//! calendar).
 #![tactic(auto)]
 
 mod days;
 mod end;
+mod end_parser;
 mod laws;
 mod numbers;
-mod reading;
 mod seconds;
 
 pub use days::day_text;
@@ -17,5 +17,5 @@ pub use laws::{
     a_number_and_a_unit_are_so_many_ago, a_unit_holds_the_seconds_of_its_dates,
     a_written_day_is_read, february_has_its_days, no_end_is_empty,
 };
-pub use reading::read_end;
+pub use end_parser::read_end;
 pub use seconds::{first_second, is_end, last_second};

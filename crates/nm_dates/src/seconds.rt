@@ -1,4 +1,4 @@
-//! The seconds that an end stands for, at a moment: `nm_eval` makes them once a query.
+//! The seconds that an end represents, at a moment: `nm_eval` makes them once a query.
 
 ghost use Rattle.std.specs.Prelude.{◌≡◌, ℕ, ◌<◌, ◌≤◌, pos, negsuc, neg_ℤ, ◌≤ℤ◌, ◌-ℤ◌, IsTrue};
 ghost use Rattle.jiff_core.specs.Calendar.{days_in_month};
@@ -8,7 +8,7 @@ ghost use Rattle.nm_dates.specs.Seconds.{IsMoment, ago, day_of, days, from_first
 use crate::days::{date_of, day_number, last_of_month, months_before};
 use crate::{DateUnit, End};
 
-/// From the first to the last of the seconds that an end stands for.
+/// From the first to the last of the seconds that an end represents.
 #[derive(Clone, Copy)]
 pub struct Seconds {
     pub first: i64,
@@ -133,7 +133,7 @@ fn days_ago(count: u32, moment: i64) -> Seconds
     one_day(day_before(count, moment))
 }
 
-/// The day so many days before the moment's, but none before 0001-01-01.
+/// The day n days before the moment's, but none before 0001-01-01.
 fn day_before(count: u32, moment: i64) -> i64
     requires count { count ≤ 6999993 }
     requires moment { IsMoment moment }

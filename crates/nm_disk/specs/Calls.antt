@@ -6,7 +6,7 @@ use Rattle.nm_faults.specs.Faults.{HasCause}
 use Rattle.nm_disk.specs.declared.state.DiskState.{DiskState}
 use Rattle.nm_disk.specs.declared.state.Range.{Range}
 use Rattle.nm_disk.specs.declared.disk.FileNo.{FileNo}
-use Rattle.nm_disk.specs.Images.{bytes_of, overwritten, with_bytes}
+use Rattle.nm_disk.specs.CrashStates.{bytes_of, overwritten, with_bytes}
 use Rattle.nm_disk.specs.Observed.{Moments, ObservedDisk, later}
 
 -- A disk goes on telling, and where it tells its moments are so.
@@ -16,7 +16,7 @@ GoesOn step None (Some new) = ⊥
 GoesOn step (Some old) None = ⊥
 GoesOn step (Some old) (Some new) = step old new
 
--- a range of so many bytes
+-- a range of n bytes
 abbrev pub range_of : FileNo → ℕ → ℕ → Range
 range_of file at len = record { file = file; start = at; len = len }
 
@@ -32,8 +32,8 @@ wrote state file at bytes = record {
 abbrev pub synced : DiskState → DiskState
 synced state = record { now = state.now; synced = state.now; written = [] }
 
--- After a failed call the ranges that were written may hold anything, so a read may give any image.
--- One that found no memory may have left all as it was, and then no moment has passed.
+-- After a failed call the ranges that were written may hold anything, so a read may give any crash state. One that
+-- found no memory may have left all as it was, and then no moment has passed.
 abbrev pub MayFail : Moments → Moments → List Range → Type 0
 MayFail old new written =
     (new ≡ old) ⊎ ((state : DiskState) × (new ≡ later old state) × (state.synced ≡ old.present.synced) × (state.written ≡ written))
@@ -49,7 +49,7 @@ pub record Looks {T : Type 0} (old new : ObservedDisk) (result : Result T Failed
   pub clock : new.clock ≡ old.clock
   pub cause : HasCause old.faults new.faults result
 
--- An opening: the disk is then what lies at the path, or after a failure what it was. No moment passes.
+-- An opening: the disk is then what is at the path, or after a failure what it was. No moment passes.
 pub record OpensDisk {T : Type 0} (old : ObservedDisk) (there : Option Moments) (new : ObservedDisk) (result : Result T Failed) : Type 0 where
   pub told : MatchResult result (λ _. new.told ≡ there) (λ _. new.told ≡ old.told)
   pub clock : new.clock ≡ old.clock

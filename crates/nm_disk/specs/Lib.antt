@@ -1,6 +1,6 @@
 pub mod Calls
-pub mod ImageLaws
-pub mod Images
+pub mod CrashStateLaws
+pub mod CrashStates
 pub mod Memory
 pub mod MemoryLaws
 pub mod Observed

@@ -6,15 +6,15 @@ use Rattle.nm_base.specs.declared.memory.Failed.{Failed}
 use Rattle.nm_faults.specs.Calls.{CallCounts, counted, is_next_listed}
 use Rattle.nm_disk.specs.declared.disk.FileNo.{FileNo}
 use Rattle.nm_disk.specs.declared.state.Range.{Range}
-use Rattle.nm_disk.specs.declared.stopping.Pick.{Pick}
-use Rattle.nm_disk.specs.declared.stopping.Pick.TheVariants.{Old, New, Fill}
+use Rattle.nm_disk.specs.declared.crash.Pick.{Pick}
+use Rattle.nm_disk.specs.declared.crash.Pick.TheVariants.{Old, New, Fill}
 use Rattle.nm_disk.specs.declared.event.Deed.{Deed}
 use Rattle.nm_disk.specs.declared.event.Deed.TheVariants.{Write, FailedWrite, Sync, FailedSync}
 use Rattle.nm_disk.specs.declared.event.Event.{Event}
 use Rattle.nm_disk.specs.declared.files.Files.{Files}
 use Rattle.nm_disk.specs.declared.state.DiskState.{DiskState}
 use Rattle.nm_disk.specs.Calls.{range_of, synced, wrote}
-use Rattle.nm_disk.specs.Images.{bytes_of, overwritten, with_bytes}
+use Rattle.nm_disk.specs.CrashStates.{bytes_of, overwritten, with_bytes}
 use Rattle.nm_disk.specs.Observed.{Moments, ObservedDisk, later}
 
 -- the files at the making, what the calls did since, how many calls there were, those since the last list of failing ones,
@@ -48,7 +48,7 @@ after_event moments event = later moments (after_deed moments.present event.deed
 abbrev pub moments_of : Files → List Event → Moments
 moments_of start events = fold after_event (record { present = fresh_state start; past = [] }) events
 
--- it tells its moments; its faults are the listed calls that it met, and those that found no memory
+-- its moments are known; its faults are the listed calls that it met, and those that found no memory
 abbrev pub observed_mem : MemState → ObservedDisk
 observed_mem disk = record {
   told = Some (moments_of disk.start disk.events);
@@ -63,11 +63,11 @@ writes (FailedWrite file at bytes taken) = true
 writes Sync = false
 writes FailedSync = false
 
--- At a stop within this call the event has begun: it is of a call before, or this call writes.
+-- At a crash within this call the event has begun: it is of a call before, or this call writes.
 abbrev pub is_begun : ℕ → Event → Bool
 is_begun call event = nat_lt event.call call || (event.call == call && writes event.deed)
 
--- the disk as a stop within this call finds it
+-- the disk as a crash within this call finds it
 abbrev pub stopped_after : Files → List Event → ℕ → DiskState
 stopped_after start events call =
     fold (λ state event. if is_begun call event then after_deed state event.deed else state) (fresh_state start) events
@@ -82,7 +82,7 @@ filled byte synced (range ∷ ranges) =
     let files = filled byte synced ranges in
     with_bytes files range.file (overwritten (bytes_of range.file files) range.start (replicate range.len byte))
 
--- the image that is picked
+-- the crash state that is picked
 abbrev pub picked : Pick → DiskState → Files
 picked Old state = state.synced
 picked New state = state.now

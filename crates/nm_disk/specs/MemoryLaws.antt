@@ -1,4 +1,4 @@
--- What a read of a disk in memory gives is one of the images that a stop may leave. Cited by `mem_disk`.
+-- What a read of a disk in memory gives is one of the states that a crash may leave. Cited by `mem_disk`.
 use Rattle.std.proofs.Common.{◌≡◌, ℕ, ◌+◌, ◌-◌, ◌<◌, ◌≤◌, min, max, Bool, true, false, ◌||◌, ◌&&◌, leb, ltb, List, [], ◌∷◌, ◌++◌, length, take, drop, get_or, fold, replicate, if◌then◌else◌, refl, ap, ◌∙◌, arith, length-append, length-take, length-drop, get_or-take, get_or-drop, le_refl, inl, inr, true≢false}
 use Rattle.std.proofs.lemmas.List.{get_or_append_left, get_or-append_right, length-replicate}
 use Rattle.std.proofs.lemmas.Bool.{cases_lt}
@@ -11,10 +11,10 @@ use Rattle.nm_disk.specs.declared.event.Event.{Event}
 use Rattle.nm_disk.specs.declared.state.DiskState.{DiskState}
 use Rattle.nm_disk.specs.declared.state.Range.{Range}
 use Rattle.nm_disk.specs.declared.files.Files.{Files}
-use Rattle.nm_disk.specs.declared.stopping.Pick.{Pick}
-use Rattle.nm_disk.specs.declared.stopping.Pick.TheVariants.{Old, New, Fill}
+use Rattle.nm_disk.specs.declared.crash.Pick.{Pick}
+use Rattle.nm_disk.specs.declared.crash.Pick.TheVariants.{Old, New, Fill}
 use Rattle.nm_disk.specs.Calls.{range_of, synced}
-use Rattle.nm_disk.specs.Images.{IsImage, IsLeft, bytes_of, overwritten, with_bytes, reach, same_file}
+use Rattle.nm_disk.specs.CrashStates.{IsImage, IsLeft, bytes_of, overwritten, with_bytes, reach, same_file}
 use Rattle.nm_disk.specs.Memory.{MemState, after_deed, after_event, filled, fresh_state, is_begun, moments_of, picked, stopped}
 use Rattle.nm_disk.specs.Observed.{Moments}
 
@@ -53,7 +53,7 @@ overwritten-elsewhere old bytes at n place fits inside outside =
           ∙ ap (λ k. get_or old k 0) (omega arith)
     ]
 
--- what a read gives of a file is an image of it after a write too, if it was one before
+-- what a read gives of a file is a crash state of it after a write too, if it was one before
 left_after_write : (synced old bytes : List ℕ) (written : ℕ → Bool) (end at n : ℕ) → length bytes ≤ n → IsLeft synced written end old
     → IsLeft synced (λ place. is_within at n place || written place) (max (at + n) end) (overwritten old at bytes)
 left_after_write synced old bytes written end at n fits was = record {
@@ -143,7 +143,7 @@ image_when_stopped call state [] was = was
 image_when_stopped call state (event ∷ events) was =
     image_when_stopped call (if is_begun call event then after_deed state event.deed else state) events (image_if (is_begun call event) state event.deed was)
 
--- what is picked at a stop is an image of that moment
+-- what is picked at a crash is a crash state of that moment
 pub picked_is_image : (disk : MemState) (call : ℕ) (pick : Pick) → IsImage (stopped disk call) (picked pick (stopped disk call))
 picked_is_image disk call pick =
     image_of_pick pick (stopped disk call) (image_when_stopped call (fresh_state disk.start) disk.events (image_of_synced disk.start))

@@ -2,14 +2,14 @@
 use Rattle.std.specs.Prelude.{ℕ, List, ◌∷◌, Option, take, drop}
 use Rattle.nm_disk.specs.declared.state.DiskState.{DiskState}
 use Rattle.nm_disk.specs.declared.disk.FileNo.{FileNo}
-use Rattle.nm_disk.specs.Images.{bytes_of}
+use Rattle.nm_disk.specs.CrashStates.{bytes_of}
 
 -- the disk at the present moment, and at each moment before, the last of them first
 pub record Moments : Type 0 where
   pub present : DiskState
   pub past : List DiskState
 
--- the moments, where they are told, the number of the present one, and how often the disk has failed
+-- the moments, where they are known, the number of the present one, and how often the disk has failed
 pub record ObservedDisk : Type 0 where
   pub told : Option Moments
   pub clock : ℕ
@@ -19,7 +19,7 @@ pub record ObservedDisk : Type 0 where
 abbrev pub bytes_now : Moments → FileNo → List ℕ
 bytes_now moments file = bytes_of file moments.present.now
 
--- at most so many of the bytes from the place on
+-- at most n of the bytes from the place on
 abbrev pub front_from : List ℕ → ℕ → ℕ → List ℕ
 front_from bytes at max = take max (drop at bytes)
 

@@ -1,10 +1,10 @@
-//! What every disk is to the code above: three files that are read and written at places, a sync for all of them, and
-//! a clock of the moments at which it may stop. `nm_journal` calls it.
+//! What every disk is to the code above: three files that are read and written at places, a sync for all of them, and a
+//! clock of the moments at which it may crash. `nm_journal` calls it.
 
 ghost use Rattle.std.specs.Prelude.{◌≡◌, ◌≤◌, ◌+◌, ℕ, List, Option, IfOk, IfSome, OnOk, length, min, take};
 ghost use Rattle.nm_base.specs.Limits.{max_count};
 ghost use Rattle.nm_disk.specs.Calls.{Looks, OpensDisk, Syncs, Writes};
-ghost use Rattle.nm_disk.specs.Images.{IsImage};
+ghost use Rattle.nm_disk.specs.CrashStates.{IsImage};
 ghost use Rattle.nm_disk.specs.Observed.{Moments, ObservedDisk, bytes_now, front_from};
 
 use nm_base::{Failed, Text};
@@ -23,14 +23,14 @@ pub enum FileNo {
     BankB,
 }
 
-/// A disk of three files. A moment lies between two calls that write or sync; a stop within such a call leaves
-/// what a stop at the moment before it may leave, or at the moment after it.
+/// A disk of three files. A moment is between two calls that write or sync; a crash within such a call leaves what a
+/// crash at the moment before it may leave, or at the moment after it.
 pub trait Disk {
-    /// What a read gives and what a stop may leave, at each moment so far, where the disk tells it;
-    /// the number of the present moment, and how often the disk has failed.
+    /// What a read gives and what a crash may leave, at each moment so far, where it is known; the number of the
+    /// present moment, and how often the disk has failed.
     ghost observed: { Self → ObservedDisk };
 
-    /// What a read gives is one of the images that a stop may leave.
+    /// What a read gives is one of the states that a crash may leave.
     ghost reads_an_image: { (disk : Self) → IfSome (observed disk).told (λ moments. IsImage moments.present moments.present.now) };
 
     /// The length of a file.
@@ -45,13 +45,13 @@ pub trait Disk {
         ensures count { IfOk result (λ n. IfSome (observed self.old).told (λ moments. n ≡ length (front_from (bytes_now moments file) at (length into.old)))) }
         ensures looks { Looks (observed self.old) (observed self.new) result };
 
-    /// Writes over what is there, and past the end. Until a sync goes well, a stop may leave any bytes there.
+    /// Writes over what is there, and past the end. Until a sync goes well, a crash may leave any bytes there.
     fn write_at(&mut self, file: FileNo, at: u64, bytes: &[u8]) -> Result<(), Failed>
         requires { IfSome (observed self.old).told (λ moments. at ≤ length (bytes_now moments file)) }
         ensures within { OnOk result (at + length bytes.now ≤ max_count) }
         ensures writes { Writes (observed self.old) (observed self.new) result file at bytes.now };
 
-    /// After it a stop leaves what a read gives, in all three files.
+    /// After it a crash leaves what a read gives, in all three files.
     fn sync(&mut self) -> Result<(), Failed>
         ensures { Syncs (observed self.old) (observed self.new) result };
 
@@ -67,7 +67,7 @@ pub trait Disk {
 
 /// A disk over the files of a folder, which is opened by its path.
 pub trait DiskFolder: Disk {
-    /// What lies at a path, where it tells it.
+    /// What is at a path, where it is known.
     ghost moments_at: { Self → List ℕ → Option Moments };
 
     /// Opens the folder at this path, whose files are the disk's from then on.

@@ -1,4 +1,4 @@
-//! What a disk in memory keeps of each call that wrote or synced: `mem_disk` notes it, and `stopping` takes a moment of it.
+//! What a disk in memory keeps of each call that wrote or synced: `mem_disk` notes it, and `crash` takes a moment of it.
 
 ghost use Rattle.std.specs.Prelude.{◌≡◌};
 ghost use Rattle.nm_disk.specs.Memory.{is_begun, writes};
@@ -33,7 +33,8 @@ pub struct Event {
 }
 
 impl Event {
-    /// Whether a stop within this call comes after it has begun: a sync within which the disk stops has synced nothing.
+    /// Whether a crash within this call comes after it has begun: a sync within which the disk crashes has synced
+    /// nothing.
     pub(crate) fn is_begun(&self, call: u64) -> bool
         ensures { result ≡ is_begun call self.now }
     {

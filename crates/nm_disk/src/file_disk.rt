@@ -9,8 +9,8 @@ use nm_base::{Failed, Text};
 use nm_faults::Faults;
 use std::fs;
 
-/// A disk over three files of a folder, which it holds by a lock as long as it lives. It tells no bytes. Each call that reads,
-/// writes or syncs fails until a folder was opened.
+/// A disk over three files of a folder, which it holds by a lock as long as it lives. Its bytes are not known. Each call that
+/// reads, writes or syncs fails until a folder was opened.
 #[derive(Drop)]
 pub struct FileDisk {
     rt: HostRuntime,

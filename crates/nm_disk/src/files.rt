@@ -1,7 +1,7 @@
-//! The bytes of the three files of a disk, for `mem_disk` and the images of `state`.
+//! The bytes of the three files of a disk, for `mem_disk` and the crash states of `state`.
 
 ghost use Rattle.std.specs.Prelude.{◌≡◌, ◌≤◌, length, OnOk, OnErr};
-ghost use Rattle.nm_disk.specs.Images.{bytes_of, overwritten, with_bytes};
+ghost use Rattle.nm_disk.specs.CrashStates.{bytes_of, overwritten, with_bytes};
 
 use crate::FileNo;
 use nm_base::{Copies, Many, NoMemory};
@@ -81,7 +81,7 @@ fn overwrite_within(
     ensures err { OnErr result (bytes.new ≡ bytes.old) }
 {
     let within = piece.len().min(bytes.len() - at);
-    // What lies past the end comes first: it alone may run out of memory.
+    // What is past the end comes first: it alone may run out of memory.
     bytes.extend_from_slice(&piece[within..])?;
     let mut vec = mem::replace(bytes, Many::new(alloc)).into_vec();
     vec[at..at + within].copy_from_slice(&piece[..within]);

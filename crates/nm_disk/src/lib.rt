@@ -1,7 +1,8 @@
-//! The outside: a disk of three files, which may stop at any moment: over the files of a folder, and in memory, where it tells
-//! its bytes and what a stop may leave, and can be stopped within each of its calls.
+//! Input and output: a disk of three files, which may crash at any moment: over the files of a folder, and in memory, where
+//! its bytes and what a crash may leave are known, and it can crash within each of its calls.
 #![tactic(auto)]
 
+mod crash;
 mod disk;
 mod event;
 mod file_disk;
@@ -9,9 +10,8 @@ mod file_io;
 mod files;
 mod mem_disk;
 mod state;
-mod stopping;
 
 pub use disk::{Disk, DiskFault, DiskFolder, FileNo};
 pub use file_disk::FileDisk;
 pub use mem_disk::MemDisk;
-pub use stopping::Pick;
+pub use crash::Pick;

@@ -1,11 +1,11 @@
-//! A disk in memory, over which `test_index` and `test_session` run. It keeps what each call did, so that it can be
-//! stopped within each.
+//! A disk in memory, over which `test_index` and `test_session` run. It keeps what each call did, so that it can crash
+//! within each.
 
 ghost use Rattle.std.specs.Prelude.{◌≡◌, ◌≤◌, ◌+◌, ◌/◌, ℕ, [], Some, is_err, IfOk, OnOk, OnErr, length, min, replicate, take};
 ghost use Rattle.nm_base.specs.Limits.{max_count};
 ghost use Rattle.nm_disk.specs.declared.event.Deed.TheVariants.{FailedSync, FailedWrite, Sync, Write};
 ghost use Rattle.nm_disk.specs.Calls.{Looks, OpensDisk, Syncs, Writes};
-ghost use Rattle.nm_disk.specs.Images.{bytes_of};
+ghost use Rattle.nm_disk.specs.CrashStates.{bytes_of};
 ghost use Rattle.nm_disk.specs.Memory.{IsNoted, KeepsFiles, LeavesFiles, called, fresh_disk, moments_of, noted, observed_mem, starved};
 ghost use Rattle.nm_disk.specs.MemoryLaws.{mem_reads_an_image};
 ghost use Rattle.nm_disk.specs.Observed.{bytes_now, front_from};
@@ -19,8 +19,8 @@ use nm_faults::{Calls, Faults};
 use std::alloc::Global;
 use std::marker::Model;
 
-/// A disk in memory, which tells its bytes and what a stop may leave. It fails at the listed calls, and where it
-/// can't grow.
+/// A disk in memory. Its bytes are known, and what a crash may leave. It fails at the listed calls, and where it can't
+/// grow.
 #[derive(Drop)]
 pub struct MemDisk {
     alloc: Global,
@@ -288,7 +288,7 @@ impl Disk for MemDisk {
 }
 
 impl DiskFolder for MemDisk {
-    /// The disk in memory lies at each path.
+    /// The disk in memory is at each path.
     ghost moments_at = { λ d dir. (observed_mem d).told };
 
     /// Counts a call.

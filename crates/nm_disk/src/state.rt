@@ -1,4 +1,4 @@
-//! A disk in memory at one moment: from it `stopping` tells the images of a stop.
+//! A disk in memory at one moment: from it `crash` gives the crash states.
 
 ghost use Rattle.std.specs.Prelude.{◌≡◌, ◌∷◌, IfOk, OnOk, take};
 ghost use Rattle.nm_disk.specs.Calls.{range_of};
@@ -72,7 +72,7 @@ impl DiskState {
     }
 }
 
-/// At most so many of the first bytes.
+/// At most n of the first bytes.
 pub(crate) fn front(bytes: &[u8], max: u64) -> &[u8]
     ensures { result.now ≡ take max bytes.now }
 {

@@ -1,4 +1,4 @@
--- A number in so many decimal digits: zeros, and then the digits of the number.
+-- A number in n decimal digits: zeros, and then the digits of the number.
 -- For the proofs of `clock_text`, `path_text` and `zeros_stand_before_a_number`.
 use Rattle.std.proofs.Common.{◌≡◌, ℕ, zero, suc, ◌+◌, ◌-◌, ◌/◌, ◌%◌, ◌^◌, ◌<◌, ◌≤◌, List, [], ◌∷◌, ◌++◌, length, replicate, refl, ap, sym, ◌∙◌, inl, inr, append_assoc, length-append, arith, false}
 use Rattle.std.proofs.lemmas.Bool.{cases_order}
@@ -45,7 +45,7 @@ last_digits-decimal (suc n) k fits small =
     let shorter : length (decimal (k / 10)) ≤ n = omega (arith, ap length step, length-append (decimal (k / 10)) ((48 + k % 10) ∷ [])) in
     more_digits n k (last_digits n (k / 10)) step (last_digits-decimal n (k / 10) shorter (omega arith)))
 
--- a number that is written in so many places with zeros
+-- a number that is written in n places with zeros
 module _ (n k : ℕ) (wide : is_bare_number (format_spec 32 0 4 n (2 ^ 64 - 1)) ≡ false) where
   zeros_written : styled_decimal (format_spec 32 0 4 n (2 ^ 64 - 1)) k ≡ replicate (n - length (decimal k)) 48 ++ decimal k
   unfolding padded_integral char_count

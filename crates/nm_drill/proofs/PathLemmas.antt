@@ -27,7 +27,7 @@ after_head Less rest longer more less = refl
 after_head Equal rest longer more less = more less
 after_head Greater rest longer more less = absurd (cc)
 
--- what decides stands before the last byte
+-- what decides comes before the last byte
 decided_before : (xs ys : List ℕ) (a b : ℕ) → length xs ≡ length ys → slice_cmp nat_cmp xs ys ≡ Less → slice_cmp nat_cmp (xs ++ a ∷ []) (ys ++ b ∷ []) ≡ Less
 decided_before [] [] a b len less = absurd (cc)
 decided_before [] (y ∷ ys) a b len less = absurd (omega (arith, len))
@@ -49,7 +49,7 @@ length-last_digits (suc n) k =
     let front = length-last_digits n (k / 10) in
     omega (arith, length-append (last_digits n (k / 10)) ((48 + k % 10) ∷ []), front)
 
--- the number has at most so many digits
+-- the number has at most n digits
 abbrev pub IsShort : ℕ → ℕ → Type 0
 IsShort zero k = k ≡ 0
 IsShort (suc n) k = IsShort n (k / 10)

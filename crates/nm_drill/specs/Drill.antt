@@ -43,7 +43,7 @@ id_of k = codes "d" ++ (decimal k ++ codes "@drill.example")
 abbrev pub from_line : ℕ → List ℕ
 from_line k = codes "From: " ++ (name_of k ++ (codes " <" ++ (name_of k ++ codes "@drill.example>\n")))
 
--- what stands before the topic where a mail is answered
+-- what comes before the topic where a mail is answered
 abbrev pub reply_mark : Option ℕ → List ℕ
 reply_mark None = []
 reply_mark (Some first) = codes "Re: "
@@ -56,7 +56,7 @@ subject_line k =
 abbrev pub id_line : ℕ → List ℕ
 id_line k = codes "Message-ID: <" ++ (id_of k ++ codes ">\n")
 
--- so many seconds after midnight
+-- n seconds after midnight
 abbrev pub date_line : ℕ → List ℕ
 date_line k = codes "Date: 01 Jan 2024 " ++ (clock_text k ++ codes " +0000\n")
 
@@ -75,7 +75,7 @@ drill_mail k = from_line k ++ subject_line k ++ id_line k ++ date_line k ++ refe
 
 -- ---- the store
 
--- where a mail lies: its number in eight digits
+-- where a mail is: its number in eight digits
 abbrev pub drill_path : ℕ → List ℕ
 drill_path k = codes "new/" ++ last_digits 8 k
 
@@ -92,7 +92,7 @@ drill_tree n = still_of (codes "new" ∷ codes "cur" ∷ []) (drill_files n) []
 
 -- ---- the script
 
--- the mails are taken in, and those of one word are read; then four lanes look
+-- the mails are taken in, and those of one word are read; then four lanes read
 abbrev pub script_lines : List (List ℕ)
 script_lines =
     codes "0 new"

@@ -8,7 +8,7 @@ pub record AreOfOneGroup (j k : ℕ) : Type 0 where
   pub from : (1 ≤ j) × (1 ≤ k)
   pub group : group_of j ≡ group_of k
 
--- the first mail stands before the second in one group, and answers none
+-- the first mail comes before the second in one group, and answers none
 pub record Begins (first k : ℕ) : Type 0 where
   pub group : AreOfOneGroup first k
   pub before : first < k
@@ -24,7 +24,7 @@ pub record IsReply (first k : ℕ) : Type 0 where
   pub subject : (topic : List ℕ) × (subject_line k ≡ codes "Subject: Re: topic " ++ topic)
   pub references : references_line (answered k) ≡ codes "References: <" ++ (id_of first ++ codes ">\n")
 
--- the text tells a time of day that comes so many seconds after midnight
+-- the text tells a time of day that comes n seconds after midnight
 pub record IsTime (text : List ℕ) (seconds : ℕ) : Type 0 where
   pub hour : ℕ
   pub minute : ℕ

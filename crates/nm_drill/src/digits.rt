@@ -1,4 +1,4 @@
-//! Numbers in so many digits, for `lines` and for the paths of `tree`.
+//! Numbers in n digits, for `lines` and for the paths of `tree`.
 
 ghost use Rattle.std.specs.Prelude.{◌≡◌, ◌≤◌, IfOk, string_bytes};
 ghost use Rattle.nm_drill.specs.Drill.{clock_text, drill_path};
@@ -17,7 +17,7 @@ pub(crate) fn clock_text(alloc: Global, seconds: u32) -> Result<String, AllocErr
     Ok(text)
 }
 
-/// Where a mail lies.
+/// Where a mail is.
 pub(crate) fn path_text(alloc: Global, number: u32) -> Result<String, AllocError>
     requires { number ≤ 99999999 }
     ensures { IfOk result (λ text. string_bytes text ≡ drill_path number) }

@@ -28,13 +28,13 @@ pub fn no_two_mails_have_one_id()
     ensures { (j k : ℕ) → j < 2 ^ 64 → k < 2 ^ 64 → id_of j ≡ id_of k → j ≡ k }
 {}
 
-/// The paths stand in byte order, in the order of the mails, so that no two are the same.
+/// The paths are in byte order, in the order of the mails, so that no two are the same.
 pub fn the_paths_stand_in_byte_order()
     ensures two { (j k : ℕ) → j < k → k < 100000000 → slice_cmp nat_cmp (drill_path j) (drill_path k) ≡ Less }
     ensures all { (n : ℕ) → n < 100000000 → IsSorted (paths_of (drill_files n)) }
 {}
 
-/// A number in so many digits is its decimal digits with zeros before them, where these have room.
+/// A number in n digits is its decimal digits with zeros before them, where these have room.
 pub fn zeros_stand_before_a_number()
     ensures { (n k : ℕ) → length (decimal k) ≤ n → k < 2 ^ 64 → last_digits n k ≡ replicate (n - length (decimal k)) 48 ++ decimal k }
 {}

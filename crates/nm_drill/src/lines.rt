@@ -34,7 +34,7 @@ pub(crate) fn subject_line(alloc: Global, number: u32) -> Result<String, AllocEr
     format!(in alloc; "Subject: {mark}topic {group} w{word}\n")
 }
 
-/// What stands before the topic where a mail is answered.
+/// What comes before the topic where a mail is answered.
 fn reply_mark(answered: Option<u32>) -> &'static str
     ensures { result.now ≡ reply_mark answered }
 {

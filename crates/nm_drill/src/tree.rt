@@ -50,7 +50,7 @@ fn drill_file(alloc: Global, number: u32) -> Result<(MailPath, Many<u8>), NoMemo
     Ok((path, mail))
 }
 
-/// Where a mail lies.
+/// Where a mail is.
 fn drill_path(alloc: Global, number: u32) -> Result<MailPath, NoMemory>
     requires { number ≤ 20000 }
     ensures { IfOk result (λ path. path ≡ drill_path number) }

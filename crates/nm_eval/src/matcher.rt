@@ -89,7 +89,7 @@ fn all_matches(
     let asked = prepared(alloc, query, moment)?;
     let mut rest = snapshot.messages();
     'messages: while let Some((id, files)) = rest.next() {
-        let message = Message::with_files(snapshot, id, files, rest.near());
+        let message = Message::with_files(snapshot, id, files, rest.slot_hint());
         if passes_within(&message, &asked, moment, &out) {
             add(&mut found, id)?;
         }

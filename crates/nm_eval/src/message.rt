@@ -18,7 +18,7 @@ pub(crate) struct Message<'a> {
     id: &'a MessageId,
     files: Option<MessageFiles<'a>>,
     /// Where its tags are looked for first.
-    near: u64,
+    slot_hint: u64,
 }
 
 impl<'a> Model for Message<'a> {
@@ -41,7 +41,7 @@ impl<'a> Message<'a> {
             snapshot,
             id,
             files,
-            near: 0,
+            slot_hint: 0,
         }
     }
 
@@ -50,7 +50,7 @@ impl<'a> Message<'a> {
         snapshot: &'a Snapshot,
         id: &'a MessageId,
         files: MessageFiles<'a>,
-        near: u64,
+        slot_hint: u64,
     ) -> Message<'a>
         requires { files ≡ files_of snapshot.now id.now }
         ensures { result ≡ view_of snapshot.now id.now }
@@ -59,7 +59,7 @@ impl<'a> Message<'a> {
             snapshot,
             id,
             files: Some(files),
-            near,
+            slot_hint,
         }
     }
 
@@ -82,7 +82,7 @@ impl<'a> Message<'a> {
     pub fn has_tag(&self, tag: &str) -> bool
         ensures { result ≡ has_tag self.now.tags tag.now }
     {
-        match self.snapshot.tags_by_hint(self.id, self.near) {
+        match self.snapshot.tags_by_hint(self.id, self.slot_hint) {
             Some((_, tags)) => has_text(tags, tag),
             None => false,
         }

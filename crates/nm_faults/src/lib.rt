@@ -1,4 +1,4 @@
-//! Values: how often an object of the outside has failed, and which calls of one in memory are to fail.
+//! Values: how often a device has failed, and which calls of one in memory are to fail.
 #![tactic(auto)]
 
 mod calls;

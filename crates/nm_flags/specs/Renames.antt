@@ -4,7 +4,7 @@ use Rattle.std.specs.List.{flat_map}
 use Rattle.nm_base.specs.Limits.{max_path_bytes}
 use Rattle.nm_base.specs.Order.{same_text}
 use Rattle.nm_base.specs.Tags.{has_tag}
-use Rattle.nm_name.specs.Renaming.{renamed}
+use Rattle.nm_name.specs.FlaggedPath.{renamed}
 use Rattle.nm_name.specs.declared.flags.Flags.{Flags}
 use Rattle.nm_flags.specs.declared.renames.Rename.{Rename}
 

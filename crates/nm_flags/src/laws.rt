@@ -4,7 +4,7 @@
 ghost use Rattle.std.specs.Prelude.{◌≡◌, ◌≢◌, ℕ, List, codes, false, not};
 ghost use Rattle.nm_base.specs.Order.{IsSorted, has_text};
 ghost use Rattle.nm_base.specs.Tags.{has_tag};
-ghost use Rattle.nm_name.specs.Renaming.{renamed};
+ghost use Rattle.nm_name.specs.FlaggedPath.{renamed};
 ghost use Rattle.nm_flags.specs.FlagTags.{any_seen, five_tags, tags_by_names};
 ghost use Rattle.nm_flags.specs.Letters.{any_has, has_letter};
 ghost use Rattle.nm_flags.specs.Renames.{asked_flags};

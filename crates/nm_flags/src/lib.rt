@@ -1,4 +1,4 @@
-//! The plain index: which tags the names of a message's files give it, and which files have to be renamed for its tags.
+//! The model: which tags the names of a message's files give it, and which files have to be renamed for its tags.
 #![tactic(auto)]
 
 mod laws;

@@ -4,7 +4,7 @@ ghost use Rattle.std.specs.Prelude.{◌≡◌, ◌++◌, ◌<◌, length, true, 
 ghost use Rattle.nm_base.specs.Limits.{max_path_bytes};
 ghost use Rattle.nm_base.specs.Tag.{is_tag};
 ghost use Rattle.nm_base.specs.Tags.{has_tag};
-ghost use Rattle.nm_name.specs.Renaming.{renamed};
+ghost use Rattle.nm_name.specs.FlaggedPath.{renamed};
 ghost use Rattle.nm_flags.specs.Renames.{asked_flags, rename_to, renames};
 
 use nm_base::{Copies, MailPath, Many, NoMemory, Tag, Tags, Text};

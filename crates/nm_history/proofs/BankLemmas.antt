@@ -3,7 +3,7 @@
 use Rattle.std.proofs.Common.{◌≡◌, inr, ℕ, false, List, [], ◌∷◌, length, refl, sym, ◌∙◌, ap, subst}
 use Rattle.nm_commit.specs.declared.change.Commit.{Commit}
 use Rattle.nm_disk.specs.Calls.{synced}
-use Rattle.nm_disk.specs.Images.{IsImage, MayLeave, same_file}
+use Rattle.nm_disk.specs.CrashStates.{IsImage, MayLeave, same_file}
 use Rattle.nm_disk.specs.Observed.{Moments, bytes_now}
 use Rattle.nm_disk.specs.declared.disk.FileNo.{FileNo}
 use Rattle.nm_disk.specs.declared.disk.FileNo.TheVariants.{Head, BankA, BankB}

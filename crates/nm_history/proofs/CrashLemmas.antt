@@ -3,8 +3,8 @@ use Rattle.std.proofs.Common.{◌≡◌, ℕ, ◌+◌, ◌≤◌, min, List, [],
 use Rattle.std.specs.List.{AllByRecursion}
 use Rattle.nm_base.specs.Limits.{max_count}
 use Rattle.nm_commit.specs.declared.change.Commit.{Commit}
-use Rattle.nm_disk.specs.ImageLaws.{left_when_synced}
-use Rattle.nm_disk.specs.Images.{IsImage, IsLeft, MayLeave, bytes_of, is_written, reach}
+use Rattle.nm_disk.specs.CrashStateLaws.{left_when_synced}
+use Rattle.nm_disk.specs.CrashStates.{IsImage, IsLeft, MayLeave, bytes_of, is_written, reach}
 use Rattle.nm_disk.specs.Observed.{Moments, bytes_now}
 use Rattle.nm_disk.specs.declared.disk.FileNo.{FileNo}
 use Rattle.nm_disk.specs.declared.disk.FileNo.TheVariants.{Head}

@@ -5,7 +5,7 @@ use Rattle.std.proofs.Math.Nat.{eq-or-lt_of_le}
 use Rattle.nm_base.specs.Limits.{max_count}
 use Rattle.nm_commit.specs.declared.change.Commit.{Commit}
 use Rattle.nm_disk.specs.Calls.{synced}
-use Rattle.nm_disk.specs.Images.{IsImage, MayLeave, bytes_of}
+use Rattle.nm_disk.specs.CrashStates.{IsImage, MayLeave, bytes_of}
 use Rattle.nm_disk.specs.Observed.{Moments, bytes_now, later}
 use Rattle.nm_disk.specs.declared.disk.FileNo.TheVariants.{Head}
 use Rattle.nm_disk.specs.declared.state.DiskState.{DiskState}

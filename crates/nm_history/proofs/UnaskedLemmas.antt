@@ -6,13 +6,13 @@ use Rattle.nm_log.specs.Kind.{DumpLines, Kind, NoQuery, OwnQuery, QueryLines, Re
 use Rattle.nm_answer.specs.declared.request.Request.{Request}
 use Rattle.nm_base.specs.Limits.{max_mail_bytes}
 use Rattle.nm_base.specs.declared.refusals.UsageKind.TheVariants as kinds
-use Rattle.nm_disk.specs.Images.{IsImage}
+use Rattle.nm_disk.specs.CrashStates.{IsImage}
 use Rattle.nm_disk.specs.Observed.{Moments, ObservedDisk}
 use Rattle.nm_disk.specs.declared.disk.FileNo.TheVariants.{Head}
 use Rattle.nm_index.specs.Index.{empty_index}
 use Rattle.nm_index.specs.declared.base.Base.{Base}
 use Rattle.nm_io.specs.Observed.{ObservedSink, ObservedStream}
-use Rattle.nm_journal.specs.Journal.{IfTold}
+use Rattle.nm_journal.specs.Journal.{IfKnown}
 use Rattle.nm_lanes.specs.Lines.{in_lane}
 use Rattle.nm_lanes.specs.declared.script.ScriptLine.{ScriptLine}
 use Rattle.nm_log.specs.ParsedLine.{fed, parse_line, parse_single, reads_input, refused}
@@ -258,7 +258,7 @@ tree-stays (asked.Request request) tree = tree-by (kind_of request) tree
 -- ---- the history of the call
 
 -- a disk that was not asked
-unasked-told : (told : Option Moments) → IfSome told (λ moments. IsImage moments.present moments.present.now) → IfTold told told (KeepsDisk [] [])
+unasked-told : (told : Option Moments) → IfSome told (λ moments. IsImage moments.present moments.present.now) → IfKnown told told (KeepsDisk [] [])
 unasked-told None image = tt
 unasked-told (Some m) image = refused-disk m m image image (inl (inl refl)) (λ file. record { states = []; each = tt; are = refl })
 

@@ -4,13 +4,13 @@
 use Rattle.std.specs.Prelude.{◌≡◌, ℕ, ◌≤◌, Bool, true, false, min, List, [], ◌∷◌, ◌++◌, length, filter}
 use Rattle.nm_base.specs.Limits.{max_count}
 use Rattle.nm_commit.specs.declared.change.Commit.{Commit}
-use Rattle.nm_disk.specs.Images.{MayLeave}
+use Rattle.nm_disk.specs.CrashStates.{MayLeave}
 use Rattle.nm_disk.specs.Observed.{Moments, ObservedDisk, bytes_now}
 use Rattle.nm_disk.specs.declared.disk.FileNo.{FileNo}
 use Rattle.nm_disk.specs.declared.disk.FileNo.TheVariants.{Head, BankA, BankB}
 use Rattle.nm_disk.specs.declared.state.DiskState.{DiskState}
 use Rattle.nm_index.specs.declared.base.Base.{Base}
-use Rattle.nm_journal.specs.Journal.{IfTold}
+use Rattle.nm_journal.specs.Journal.{IfKnown}
 use Rattle.nm_journal.specs.Moments.{LeavesNothingNew, all_moments}
 use Rattle.nm_machine.specs.declared.step.Step.{Step}
 use Rattle.nm_machine.specs.declared.step.Step.TheVariants.{Begin, Append, Show, See, Meet, Reply, Crash, Reopen}
@@ -73,6 +73,6 @@ pub record KeepsDisk (commits : List Commit) (acked : List ℕ) (before now : Mo
 -- Where the disk held an index when the call began, every moment of the call leaves its acknowledged commits on it; its banks stay as they
 -- were. Each of these commits has its clock; clocks never fall, and end at that of the return.
 pub record CrashPrefix (entry after : ObservedDisk) (steps : List Step) (acked : List ℕ) : Type 0 where
-  pub every_moment : IfTold entry.told after.told (KeepsDisk (begun steps) acked)
+  pub every_moment : IfKnown entry.told after.told (KeepsDisk (begun steps) acked)
   pub one_each : length acked ≡ appends steps
   pub clocks : NeverFall 0 acked after.clock

@@ -16,7 +16,7 @@ ghost use Rattle.nm_maildir.specs.Observed.{ObservedMail};
 ghost use Rattle.nm_maildir.specs.Tree.{moved, Tree};
 ghost use Rattle.nm_maildir.specs.declared.answers.Renamed.{Renamed};
 ghost use Rattle.nm_maildir.specs.declared.given.Given.{Given};
-ghost use Rattle.nm_disk.specs.Images.{IsImage};
+ghost use Rattle.nm_disk.specs.CrashStates.{IsImage};
 ghost use Rattle.nm_disk.specs.Observed.{Moments, ObservedDisk, bytes_now};
 ghost use Rattle.nm_disk.specs.declared.disk.FileNo.TheVariants as heads;
 ghost use Rattle.nm_journal.specs.Moments.{IsSynced, SyncsOrFails};

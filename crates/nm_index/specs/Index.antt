@@ -13,7 +13,7 @@ use Rattle.nm_base.specs.Order.{same_text}
 use Rattle.nm_base.specs.declared.facts.Facts.{Facts}
 use Rattle.nm_base.specs.declared.facts.LinkRow.{LinkRow}
 use Rattle.nm_base.specs.declared.facts.Marks.{Marks}
-use Rattle.nm_codec.specs.Spelling.{list_bytes, text_bytes}
+use Rattle.nm_codec.specs.Encoding.{list_bytes, text_bytes}
 use Rattle.nm_commit.specs.Files.{has_id, with_moved, without_path}
 use Rattle.nm_commit.specs.declared.change.Change.{Change}
 use Rattle.nm_commit.specs.declared.change.Change.TheVariants.{Add, Drop, Move, SetTags}
@@ -83,16 +83,16 @@ pruned index = record index { kept = filter (λ row. is_held index row.id) index
 abbrev pub without_dead_tags : Base → List ℕ → Base
 without_dead_tags index id = (if has_id index.files id then index else record index { tags = remove_entry (is_at (slice_cmp nat_cmp id)) index.tags })
 
--- a mail is gone: its row is kept, and then what no live message holds goes
+-- a mail is removed: its row is kept, and then what no live message holds goes
 abbrev pub without_mail : Base → List ℕ → Facts → Base
 without_mail index path facts =
     without_dead_tags (pruned (record index { files = without_path index.files path; kept = insert_key row_cmp index.kept (row_of facts) })) facts.id
 
--- the files that lie at the path, one at most
+-- the files that are at the path, one at most
 abbrev pub files_at : Base → List ℕ → List (List ℕ × Facts)
 files_at index path = filter (λ file. same_text path file.0) index.files
 
--- the file that lies there is gone, if there is one
+-- the file that is there is missing, if there is one
 abbrev pub without_first : Base → List ℕ → List (List ℕ × Facts) → Base
 without_first index path [] = index
 without_first index path (file ∷ more) = without_mail index path file.1

@@ -23,7 +23,7 @@ abbrev pub tagged_ids : Base → List (List ℕ)
 tagged_ids index = map (λ tagged. tagged.0) index.tags
 
 pub record IsValid (index : Base) : Type 0 where
-  -- no two files lie at one path
+  -- no two files are at one path
   pub paths : IsDistinct same_text (paths_of index.files)
   -- the date of each mail is in the range
   pub dates : AllByRecursion (λ file. IsDate file.1.date) index.files

@@ -1,4 +1,4 @@
-//! The plain index: the index as data, when that is valid, and what each commit makes of it. The definitions speak of lists
+//! The model: the index as data, when that is valid, and what each commit makes of it. The definitions speak of lists
 //! alone; threads and names are worked out from them.
 #![tactic(auto)]
 

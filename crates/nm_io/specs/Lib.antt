@@ -1,3 +1,3 @@
 pub mod Memory
 pub mod Observed
-pub mod Taking
+pub mod WholeInput

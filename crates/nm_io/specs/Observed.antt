@@ -6,12 +6,13 @@ use Rattle.std.specs.Io.KnownBytes.{Appends, Keeps, ReadConsumes}
 use Rattle.nm_base.specs.declared.memory.Failed.{Failed}
 use Rattle.nm_faults.specs.Faults.{HasCause, HasRisen}
 
--- of a source: the bytes left in it, where they are told, and how often it has failed
+-- of a source: the bytes left in it, where they are known, and how often it has failed
 pub record ObservedStream : Type 0 where
   pub bytes : Option (List ℕ)
   pub faults : ℕ
 
--- of a sink: the bytes taken, where they are told; how many bytes were put into it, how many of these it has handed on; and how often it has failed
+-- of a sink: the bytes taken, where they are known; how many bytes were put into it, how many of these it has handed on; and how often it has
+-- failed
 pub record ObservedSink : Type 0 where
   pub bytes : Option (List ℕ)
   pub put : ℕ

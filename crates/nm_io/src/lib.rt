@@ -1,5 +1,5 @@
-//! The outside: sources and sinks of bytes, in memory and over std's readers and writers.
-//! Each counts its faults, and tells its bytes where it can.
+//! Input and output: sources and sinks of bytes, in memory and over std's readers and writers. Each counts its faults,
+//! and its bytes are known where they can be.
 #![tactic(auto)]
 
 mod mem_sink;
@@ -8,7 +8,7 @@ mod sink;
 mod source;
 mod std_sink;
 mod std_source;
-mod taking;
+mod whole_input;
 
 pub use mem_sink::MemSink;
 pub use mem_source::MemSource;
@@ -16,4 +16,4 @@ pub use sink::Sink;
 pub use source::Source;
 pub use std_sink::StdSink;
 pub use std_source::StdSource;
-pub use taking::{TakeError, take_all};
+pub use whole_input::{TakeError, take_all};

@@ -1,4 +1,5 @@
-//! A sink in memory, which tells what it took and how much of that it has handed on: `test_session` reads from it what a session printed.
+//! A sink in memory, of which what it took is known, and how much of that it has handed on: `test_session` reads from it what a session
+//! printed.
 
 ghost use Rattle.std.specs.Prelude.{◌≡◌, [], ◌&&◌, length, not, is_err, IsErr, IsOk, IsTrue, OnErr, if◌then◌else◌};
 ghost use Rattle.nm_base.specs.Limits.{one_more};
@@ -12,7 +13,7 @@ use nm_faults::{Calls, Faults};
 use std::alloc::Global;
 use std::marker::Model;
 
-/// A sink in memory, which tells its bytes. It fails at the listed calls, and where it can't grow. A put hands on nothing, and a flush all.
+/// A sink in memory, whose bytes are known. It fails at the listed calls, and where it can't grow. A put hands on nothing, and a flush all.
 #[derive(Drop)]
 pub struct MemSink {
     bytes: Many<u8>,

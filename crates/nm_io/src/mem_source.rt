@@ -1,4 +1,4 @@
-//! A source in memory, which tells what is left: `test_session` gives a script by it.
+//! A source in memory, of which what is left is known: `test_session` gives a script by it.
 
 ghost use Rattle.std.specs.Prelude.{◌≡◌, [], length, min, take, is_err, IfOk, IsOk};
 ghost use Rattle.nm_faults.specs.Calls.{counted, is_next_listed};
@@ -10,7 +10,7 @@ use nm_base::{Failed, Many};
 use nm_faults::Calls;
 use std::marker::Model;
 
-/// A source over bytes in memory. It fails at the listed calls and at no other, and tells its bytes.
+/// A source over bytes in memory. It fails at the listed calls and at no other, and its bytes are known.
 #[derive(Drop)]
 pub struct MemSource {
     bytes: Many<u8>,

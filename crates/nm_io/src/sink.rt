@@ -6,7 +6,7 @@ use nm_base::Failed;
 
 /// Where bytes go to.
 pub trait Sink {
-    /// The bytes taken so far, where the sink tells them, how many bytes were put and how many of these it has handed on, and how
+    /// The bytes taken so far, where they are known, how many bytes were put and how many of these it has handed on, and how
     /// often it has failed.
     ghost observed: { Self → ObservedSink };
 

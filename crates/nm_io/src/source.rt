@@ -1,4 +1,4 @@
-//! What every input is to the code above: bytes come out, failures are counted. `taking` reads one to its end.
+//! What every input is to the code above: bytes come out, failures are counted. `whole_input` reads one to its end.
 
 ghost use Rattle.nm_io.specs.Observed.{ObservedStream, Takes};
 
@@ -6,7 +6,7 @@ use nm_base::Failed;
 
 /// Where bytes come from.
 pub trait Source {
-    /// The bytes left, where the source tells them, and how often it has failed.
+    /// The bytes left, where they are known, and how often it has failed.
     ghost observed: { Self → ObservedStream };
 
     /// Moves the first bytes left into `buf`, and answers how many.

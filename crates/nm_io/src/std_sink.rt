@@ -10,9 +10,9 @@ use nm_faults::Faults;
 use std::io::{ErrorKind, Write};
 use std::marker::Model;
 
-/// A sink over a writer of std: it tells the bytes that the writer tells, and has handed on what was put before the last flush of the
-/// writer that went well. A piece that was taken in part doesn't count as put.
-/// A write that takes no byte of a piece that has some is a fault, and so is a piece with which the count of bytes passes its type's end.
+/// A sink over a writer of std: its bytes are those of the writer, where these are known, and it has handed on what was put before the
+/// last flush of the writer that went well. A piece that was taken in part doesn't count as put. A write that takes no byte of a piece
+/// that has some is a fault, and so is a piece with which the count of bytes passes its type's end.
 #[derive(Drop)]
 pub struct StdSink<W: Write> {
     writer: W,

@@ -10,7 +10,7 @@ use nm_faults::Faults;
 use std::io::{ErrorKind, Read};
 use std::marker::Model;
 
-/// A source over a reader of std: it tells the bytes that the reader tells.
+/// A source over a reader of std: its bytes are those of the reader, where these are known.
 #[derive(Drop)]
 pub struct StdSource<R: Read> {
     reader: R,

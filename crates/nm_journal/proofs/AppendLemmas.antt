@@ -1,11 +1,11 @@
--- The two halves of an append, over disks that tell their moments or don't.
+-- The two halves of an append, over disks whose moments are known or aren't.
 -- For the proofs of `open_gate`, `stage`, `write_record` and others.
 use Rattle.std.proofs.Common.{◌≡◌, ℕ, ◌+◌, ◌<◌, ◌≤◌, ◌^◌, List, [], ◌∷◌, ◌++◌, length, Option, None, Some, IfSome, Result, MatchResult, Ok, Err, OnOk, sym, subst, inl, arith, ◌∙◌, Bool, length-append}
 use Rattle.nm_base.specs.declared.memory.Failed.{Failed}
 use Rattle.nm_disk.specs.declared.disk.FileNo.{FileNo}
 use Rattle.nm_disk.specs.Calls.{GoesOn, MayFail, range_of, synced, wrote}
-use Rattle.nm_disk.specs.ImageLaws.{ComesOf}
-use Rattle.nm_disk.specs.Images.{IsImage, MayLeave, overwritten}
+use Rattle.nm_disk.specs.CrashStateLaws.{ComesOf}
+use Rattle.nm_disk.specs.CrashStates.{IsImage, MayLeave, overwritten}
 use Rattle.nm_disk.specs.Observed.{Moments, bytes_now, later}
 use Rattle.nm_journal.proofs.MomentLemmas.{goes_both, goes_from, goes_map, goes_then, through_map, through_then}
 use Rattle.nm_journal.proofs.RecordLemmas.{either, gate_opened, kept_after, length_past_gate, next_gate, of_staged, staged}
@@ -16,7 +16,7 @@ use Rattle.nm_journal.specs.Moments.{GoesThrough}
 use Rattle.nm_journal.specs.Records.{HasRecords}
 use Rattle.nm_journal.specs.Staged.{EndsAt, HasStaged, StagedAt}
 
--- what a read gives is an image
+-- what a read gives is a crash state
 abbrev pub ReadsAnImage : Moments → Type 0
 ReadsAnImage moments = IsImage moments.present moments.present.now
 
@@ -62,7 +62,7 @@ on_ok (Ok done) f p = f p
 on_ok (Err e) f p = tt
 
 module _ (file : FileNo) (gate : ℕ) (body piece : List ℕ) (framed_it : piece ≡ framed body) where
-  -- the write of the frame has room behind the gate
+  -- the write of the frame has room after the gate
   pub room_after : (x : Option Moments) → IfSome x ReadsAnImage
       → IfSome x (λ moments. (start : ℕ) × (bodies : List (List ℕ)) × EndsAt moments.present file start gate bodies)
       → IfSome x (λ moments. gate + 1 ≤ length (bytes_now moments file))
@@ -181,7 +181,7 @@ module _ (file : FileNo) (gate : ℕ) (body : List ℕ) where
       goes_then {R = RecordStands file gate body result} (λ (a b c : Moments) (stage_it : Staging a b) (open_it : OpenStands file gate body result b c) start bodies at.
       open_it start bodies (stage_it start bodies at)) x y z stages opens
 
--- the journal stands on the disk with one record more
+-- the journal is on the disk with one record more
 pub journal_stands : (x y : Option Moments) (journal : JournalState) (file : FileNo) (start gate count next more : ℕ) (failed : Bool) (body : List ℕ)
     → journal ≡ record { file = file; start = start; gate = gate; count = count; failed = failed } → next ≡ gate + 5 + length body → more ≡ count + 1
     → GoesOn (λ old new. (from : ℕ) (bodies : List (List ℕ)) → EndsAt old.present file from gate bodies

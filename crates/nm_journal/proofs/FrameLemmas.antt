@@ -22,7 +22,7 @@ is_framed_body bytes (body, is, short) = is ∙ ap framed (sym (has_framed_body 
 pub short_framed_body : (bytes : List ℕ) → (body : List ℕ) × (bytes ≡ framed body) × (length body < 2 ^ 32) → length (body_of bytes) < 2 ^ 32
 short_framed_body bytes (body, is, short) = subst (λ (l : List ℕ). length l < 2 ^ 32) (sym (has_framed_body bytes body is)) short
 
--- what is written of all pieces, behind their length, frames their body
+-- what is written of all pieces, after their length, frames their body
 pub pieces_framed : (len at : ℕ) (first written bytes : List ℕ) (others : List (List ℕ)) → len ≡ length (first ++ flat_map (λ piece. piece) others) → length others ≤ at
     → written ≡ to_be_bytes w32 len ++ (first ++ flat_map (λ piece. piece) (take at others)) → bytes ≡ written ++ 0 ∷ []
     → bytes ≡ framed (first ++ flat_map (λ piece. piece) others)

@@ -7,12 +7,12 @@ use Rattle.nm_disk.specs.declared.disk.FileNo.{FileNo}
 use Rattle.nm_disk.specs.Observed.{Moments, bytes_now, front_from}
 use Rattle.nm_journal.specs.declared.journal.JournalError.{JournalError}
 use Rattle.nm_journal.specs.declared.journal.JournalError.TheVariants.{BadIndex, DiskFault, NoMemory}
-use Rattle.nm_journal.specs.declared.opening.Header.{Header}
+use Rattle.nm_journal.specs.declared.record_reader.Header.{Header}
 use Rattle.nm_journal.proofs.RecordLemmas.{records-push}
-use Rattle.nm_journal.specs.Opening.{HasFault, IsHeaderAt, IsNext, IsNextFault, IsNoFault}
+use Rattle.nm_journal.specs.FoundRecords.{HasFault, IsHeaderAt, IsNext, IsNextFault, IsNoFault}
 use Rattle.nm_journal.specs.Records.{AreBodies, HasRecords, IsCut, record_of, records_of}
 
--- the header of what stands at a place
+-- the header of what is at a place
 pub header_at : (bytes into : List ℕ) (at : ℕ) (header : Header) → length into ≡ 5 → take header.count into ≡ front_from bytes at 5 → header.count ≡ length (front_from bytes at 5)
     → into ≡ header.gate ∷ to_be_bytes w32 header.len → header.len < 2 ^ 32 → IsHeaderAt bytes at header
 header_at bytes into at header five front count is fits =
@@ -26,7 +26,7 @@ header_at bytes into at header five front count is fits =
       fits = fits;
     }
 
--- four bytes behind an open gate
+-- four bytes after an open gate
 four : (bytes : List ℕ) (gate g len : ℕ) → take 5 (drop gate bytes) ≡ g ∷ to_be_bytes w32 len → (take 4 (drop (gate + 1) bytes) ≡ to_be_bytes w32 len) × (gate + 5 ≤ length bytes)
 four bytes gate g len whole =
     let size : min 5 (length bytes - gate) ≡ 5 = ap (min 5) (sym (length-drop gate bytes)) ∙ sym (length-take 5 (drop gate bytes)) ∙ ap length whole in
@@ -35,7 +35,7 @@ four bytes gate g len whole =
     let both : get_or bytes gate 0 ∷ take 4 (drop (gate + 1) bytes) ≡ g ∷ to_be_bytes w32 len = ap (take 5) (sym cell) ∙ whole in
     (cc, long)
 
--- what stands behind an open gate is cut
+-- what comes after an open gate is cut
 pub cut_short : (bytes : List ℕ) (gate : ℕ) → length bytes - gate < 5 → gate < length bytes → IsCut (drop (gate + 1) bytes)
 cut_short bytes gate short inside = inl (omega (arith, length-drop (gate + 1) bytes))
 
@@ -45,7 +45,7 @@ cut_long bytes gate g len whole fits more =
     ap (from_be_bytes w32) (four bytes gate g len whole).0 ∙ from_be_bytes-to_be_bytes_4 len fits in
     inr (omega (arith, says, length-drop (gate + 1) bytes))
 
--- an open record and what is behind it
+-- an open record and what is after it
 pub next_is : (bytes : List ℕ) (gate g len : ℕ) (body : List ℕ) → take 5 (drop gate bytes) ≡ g ∷ to_be_bytes w32 len → g ≡ 1 → body ≡ take len (drop (gate + 5) bytes) → length body ≡ len
     → drop gate bytes ≡ record_of body ++ drop (gate + 5 + length body) bytes
 next_is bytes gate g len body whole opens is same =
@@ -96,7 +96,7 @@ read_fault file at gate bodies bytes (BadIndex told place) fit e is fault = (
   },
 )
 
--- the same, of a disk that tells its bytes or doesn't
+-- the same, of a disk whose bytes are known or aren't
 pub header_told : (x : Option Moments) (file : FileNo) (at : ℕ) (into : List ℕ) (header : Header) (n : ℕ) → length into ≡ 5
     → IfSome x (λ moments. take n into ≡ front_from (bytes_now moments file) at 5) → IfSome x (λ moments. n ≡ length (front_from (bytes_now moments file) at 5))
     → header.count ≡ n → into ≡ header.gate ∷ to_be_bytes w32 header.len → header.len < 2 ^ 32 → IfSome x (λ moments. IsHeaderAt (bytes_now moments file) at header)
@@ -128,7 +128,7 @@ no_fault_told x None file gate error e none = subst (λ (o : Option Moments). If
 no_fault_told x (Some moments) file gate error e none =
     subst (λ (o : Option Moments). IfSome o (λ moments. IsNextFault file (bytes_now moments file) gate error)) e (no_fault file (bytes_now moments file) gate error none)
 
--- the body lies within the file
+-- the body is within the file
 pub room_told : (x y : Option Moments) (file : FileNo) (gate len : ℕ) (header : Header) → y ≡ x → IfSome x (λ moments. len ≡ length (bytes_now moments file))
     → IfSome x (λ moments. IsHeaderAt (bytes_now moments file) gate header) → 5 ≤ header.count → header.len ≤ len - (gate + 5)
     → IfSome y (λ moments. gate + 5 + header.len ≤ length (bytes_now moments file))

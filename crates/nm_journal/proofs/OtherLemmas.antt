@@ -4,8 +4,8 @@ use Rattle.std.proofs.Common.{◌≡◌, inl, inr, ℕ, false, List, [], ◌∷�
 use Rattle.std.specs.List.{AllByRecursion}
 use Rattle.nm_base.specs.declared.memory.Failed.{Failed}
 use Rattle.nm_disk.specs.Calls.{GoesOn, MayFail, range_of, synced, wrote}
-use Rattle.nm_disk.specs.ImageLaws.{when_synced}
-use Rattle.nm_disk.specs.Images.{IsImage, MayLeave, same_file}
+use Rattle.nm_disk.specs.CrashStateLaws.{when_synced}
+use Rattle.nm_disk.specs.CrashStates.{IsImage, MayLeave, same_file}
 use Rattle.nm_disk.specs.Observed.{Moments}
 use Rattle.nm_disk.specs.declared.disk.FileNo.{FileNo}
 use Rattle.nm_disk.specs.declared.disk.FileNo.TheVariants.{Head, BankA, BankB}
@@ -16,7 +16,7 @@ use Rattle.nm_journal.proofs.MomentLemmas.{goes_from, goes_map, goes_then, throu
 use Rattle.nm_journal.proofs.WriteLemmas.{by_parts}
 use Rattle.nm_journal.specs.Moments.{IsSynced, LeavesNothingNew, LeavesOnly, SyncsOrFails, TouchesOnly}
 
--- what a stop leaves at the end it might have left at the beginning
+-- what a crash leaves at the end it might have left at the beginning
 left_at_end : (file : FileNo) (old new : Moments) (states : List DiskState) → AllByRecursion (LeavesOnly file (MayLeave old.present file)) states
     → new.present ∷ new.past ≡ states ++ old.present ∷ old.past → LeavesOnly file (MayLeave old.present file) new.present
 left_at_end file old new [] each are = let same : new.present ≡ old.present = cc in λ bytes left. subst (λ (s : DiskState). MayLeave s file bytes) same left
@@ -46,7 +46,7 @@ sync_is : {T : Type 0} (file : FileNo) (result : Result T Failed) (old new : Mom
 sync_is file (Ok done) old new reads is = sync_went file old new reads is
 sync_is file (Err e) old new reads fails = failed_sync file old new fails
 
--- what a stop may leave of another file than the one that is written
+-- what a crash may leave of another file than the one that is written
 unwritten : (state : DiskState) (file other : FileNo) (at n : ℕ) (now : Files) (bytes : List ℕ) → same_file file other ≡ false
     → MayLeave (record { now = now; synced = state.synced; written = range_of file at n ∷ state.written }) other bytes → MayLeave state other bytes
 unwritten state Head Head at n now bytes apart left = absurd (true≢false apart)

@@ -1,12 +1,12 @@
--- Bytes that have records of a journal, and what a write behind or over the closed gate makes of them.
+-- Bytes that have records of a journal, and what a write after or over the closed gate makes of them.
 -- For `AppendLemmas` and `OpenLemmas`.
 use Rattle.std.proofs.Common.{◌≡◌, ◌⊎◌, ℕ, ◌+◌, ◌-◌, ◌<◌, ◌≤◌, ◌^◌, false, List, [], ◌∷◌, ◌++◌, length, take, drop, get_or, refl, sym, ap, ◌∙◌, arith, inl, inr, length-append, length-take, length-drop, length-take-le, take-append-drop, append_assoc, append-nil, take_at, drop_at, get_or-take, get_or-drop, ext_get_or, drop-drop}
 use Rattle.std.proofs.lemmas.List.{drop-append-le, drop-take, drop_more, get_or_at}
 use Rattle.std.proofs.lemmas.Bool.{cases_eq}
 use Rattle.std.proofs.lemmas.Bool.Decides.{nat_tests}
 use Rattle.std.specs.Int.{w32, to_be_bytes}
-use Rattle.nm_disk.specs.ImageLaws.{ComesOf, overwritten_comes_of}
-use Rattle.nm_disk.specs.Images.{overwritten}
+use Rattle.nm_disk.specs.CrashStateLaws.{ComesOf, overwritten_comes_of}
+use Rattle.nm_disk.specs.CrashStates.{overwritten}
 use Rattle.nm_disk.specs.MemoryLaws.{is_within}
 use Rattle.nm_journal.specs.Frame.{framed}
 use Rattle.nm_journal.specs.Staged.{HasStaged}
@@ -18,7 +18,7 @@ before_within at n place before = grind (arith, nat_tests)
 after_within : (at n place : ℕ) → at + n ≤ place → is_within at n place ≡ false
 after_within at n place past = grind (arith, nat_tests)
 
--- what a list has from a place on, and behind that
+-- what a list has from a place on, and after that
 length-rest : (start : ℕ) (bytes front rest : List ℕ) (x : ℕ) → drop start bytes ≡ front ++ x ∷ rest → start + length front + 1 + length rest ≡ length bytes
 length-rest start bytes front rest x is =
     let whole : length bytes - start ≡ length front + length (x ∷ rest) = sym (length-drop start bytes) ∙ ap length is ∙ length-append front (x ∷ rest) in
@@ -32,7 +32,7 @@ same_front n a b in_a in_b same =
     ext_get_or 0 (take n a) (take n b) (len_a ∙ sym len_b)
     (λ place inside. let below : place < n = omega (arith, inside, len_a) in get_or-take n a place 0 below ∙ same place below ∙ sym (get_or-take n b place 0 below))
 
--- what stands from the place on, up to the byte x
+-- what is from the place on, up to the byte x
 front_is : (start n : ℕ) (bytes front rest : List ℕ) (x : ℕ) → n ≡ start + length front → drop start bytes ≡ front ++ x ∷ rest → drop start (take n bytes) ≡ front
 front_is start n bytes front rest x e is =
     ap (λ k. drop start (take k bytes)) e ∙ drop-take start (length front) bytes ∙ ap (take (length front)) is ∙ take_at front (x ∷ rest) (length front) refl
@@ -53,7 +53,7 @@ begins_as start n c d front rest x e is long same =
     ∙ ap (λ l. drop start l ++ drop n c) same ∙ ap (λ l. l ++ drop n c) (front_is start n d front rest x e is)
     ∙ ap (λ l. front ++ l) (drop_more c n 0 long)
 
--- A write behind the closed gate leaves the records as they are.
+-- A write after the closed gate leaves the records as they are.
 pub kept_after : (start gate n : ℕ) (bodies : List (List ℕ)) (d c : List ℕ) → gate ≡ start + length (records_of bodies) → HasRecords start bodies d → ComesOf (gate + 1) n d c
     → HasRecords start bodies c
 kept_after start gate n bodies d c e has comes =
@@ -71,7 +71,7 @@ kept_after start gate n bodies d c e has comes =
       is = begins_as start gate c d (records_of bodies) has.rest has.gate e has.is in_c same;
     }
 
--- The frame stands behind the closed gate once it is written there.
+-- The frame comes after the closed gate once it is written there.
 pub staged : (start gate : ℕ) (bodies : List (List ℕ)) (body d : List ℕ) → gate ≡ start + length (records_of bodies) → HasRecords start bodies d
     → HasStaged start bodies body (overwritten d (gate + 1) (framed body))
 unfolding kept_after
@@ -92,7 +92,7 @@ staged start gate bodies body d e has =
       is = kept.is ∙ ap (λ l. records_of bodies ++ kept.gate ∷ l) behind;
     }
 
--- what has the frame behind a closed gate has the records
+-- what has the frame after a closed gate has the records
 pub of_staged : (start : ℕ) (bodies : List (List ℕ)) (body bytes : List ℕ) → HasStaged start bodies body bytes → HasRecords start bodies bytes
 of_staged start bodies body bytes has =
     record { fit = has.fit; gate = has.gate; closed = has.closed; rest = framed body ++ has.rest; is = has.is }
@@ -106,7 +106,7 @@ pub fit-push : (bodies : List (List ℕ)) (body : List ℕ) → AreBodies bodies
 fit-push [] body fit short = (short, tt)
 fit-push (first ∷ bodies) body fit short = (fit.0, fit-push bodies body fit.1 short)
 
--- where the gate of the next record lies
+-- where the gate of the next record is
 pub next_gate : (start gate : ℕ) (bodies : List (List ℕ)) (body : List ℕ) → gate ≡ start + length (records_of bodies)
     → gate + 5 + length body ≡ start + length (records_of (bodies ++ body ∷ []))
 next_gate start gate bodies body e =
@@ -161,7 +161,7 @@ opened start bodies body c rest fit short is = record {
       ∙ ap (λ l. l ++ 0 ∷ rest) (sym (records-push bodies body));
 }
 
--- A stop while the gate is written leaves the records from before, or these and the new one.
+-- A crash while the gate is written leaves the records from before, or these and the new one.
 pub either : (start gate : ℕ) (bodies : List (List ℕ)) (body d c : List ℕ) → gate ≡ start + length (records_of bodies) → length body < 2 ^ 32 → HasStaged start bodies body d → ComesOf gate 1 d c
     → HasRecords start bodies c ⊎ HasRecords start (bodies ++ body ∷ []) c
 either start gate bodies body d c e short has comes =

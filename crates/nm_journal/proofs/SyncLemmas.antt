@@ -2,8 +2,8 @@
 use Rattle.std.proofs.Common.{◌≡◌, inl, inr, ℕ, ◌+◌, false, List, length, Option, None, Some, IfSome, sym, ap, subst, ◌∙◌}
 use Rattle.nm_disk.specs.declared.disk.FileNo.{FileNo}
 use Rattle.nm_disk.specs.Calls.{GoesOn, MayFail, synced}
-use Rattle.nm_disk.specs.ImageLaws.{when_synced}
-use Rattle.nm_disk.specs.Images.{MayLeave, bytes_of}
+use Rattle.nm_disk.specs.CrashStateLaws.{when_synced}
+use Rattle.nm_disk.specs.CrashStates.{MayLeave, bytes_of}
 use Rattle.nm_disk.specs.Observed.{Moments, bytes_now, later}
 use Rattle.nm_journal.proofs.AppendLemmas.{ReadsAnImage}
 use Rattle.nm_journal.proofs.MomentLemmas.{goes_from, goes_map}
@@ -22,7 +22,7 @@ sync_goes file x y z reads syncs e =
     subst (λ (o : Option Moments). GoesOn (LeavesNothingNew file) x o) (sym e)
     (goes_map {Q = LeavesNothingNew file} (λ (old new : Moments) (both : ReadsAnImage old × IsSynced old new). sync_went file old new both.0 both.1) x y (goes_from ReadsAnImage IsSynced x y reads syncs))
 
--- the journal that is opened stands on the disk
+-- the journal that is opened is on the disk
 pub sync_stands : (file : FileNo) (x y z : Option Moments) (at gate count : ℕ) (bodies : List (List ℕ)) → GoesOn (λ old new. new ≡ later old (synced old.present)) x y → z ≡ y
     → IfSome y (λ moments. HasRecords at bodies (bytes_now moments file)) → gate ≡ at + length (records_of bodies) → count ≡ length bodies
     → GoesOn (λ old new. StandsOn new.present (record { file = file; start = at; gate = gate; count = count; failed = false }) bodies) x z

@@ -8,7 +8,7 @@ use Rattle.nm_journal.specs.Records.{AreBodies, HasRecords, IsBroken, IsCut, rec
 abbrev IsEnd : List ℕ → Type 0
 IsEnd bytes = (body rest : List ℕ) → length body < 2 ^ 32 → bytes ≡ record_of body ++ rest → ⊥
 
--- behind the gate of an open record
+-- after the gate of an open record
 behind : (body rest : List ℕ) → record_of body ++ rest ≡ 1 ∷ (to_be_bytes w32 (length body) ++ (body ++ rest))
 behind body rest = append_assoc (1 ∷ to_be_bytes w32 (length body)) body rest
 

@@ -1,4 +1,4 @@
--- A write and a sync: what a stop may leave of the file at each moment of the two.
+-- A write and a sync: what a crash may leave of the file at each moment of the two.
 -- For `AppendLemmas` and `SyncLemmas`.
 use Rattle.std.proofs.Common.{◌≡◌, ℕ, List, ◌∷◌, length, Result, Ok, Err, MatchResult, OnOk, sym, ap, subst, ◌∙◌, refl}
 use Rattle.nm_base.specs.declared.memory.Failed.{Failed}
@@ -7,8 +7,8 @@ use Rattle.nm_disk.specs.declared.files.Files.{Files}
 use Rattle.nm_disk.specs.declared.state.DiskState.{DiskState}
 use Rattle.nm_disk.specs.declared.state.Range.{Range}
 use Rattle.nm_disk.specs.Calls.{MayFail, range_of, synced, wrote}
-use Rattle.nm_disk.specs.ImageLaws.{ComesOf, before_write, now_written, overwritten_comes_of, when_synced}
-use Rattle.nm_disk.specs.Images.{IsImage, MayLeave, bytes_of, overwritten}
+use Rattle.nm_disk.specs.CrashStateLaws.{ComesOf, before_write, now_written, overwritten_comes_of, when_synced}
+use Rattle.nm_disk.specs.CrashStates.{IsImage, MayLeave, bytes_of, overwritten}
 use Rattle.nm_disk.specs.Observed.{Moments, later}
 use Rattle.nm_journal.proofs.MomentLemmas.{through_failed, through_one, through_then}
 use Rattle.nm_journal.specs.Moments.{GoesThrough, LeavesOnly}
@@ -20,7 +20,7 @@ by_parts state file bytes files written e f left =
     let P : Files → List Range → Type 0 = λ files written. MayLeave (record { now = state.now; synced = files; written = written }) file bytes in
     subst (λ written. P files written) f (subst (λ files. P files state.written) e left)
 
--- P holds of what comes of an image by the write, and Q of what a read gives after it
+-- P holds of what comes of a crash state by the write, and Q of what a read gives after it
 module _ (file : FileNo) (at : ℕ) (piece : List ℕ) (P Q : List ℕ → Type 0) (old : Moments) (law : IsImage old.present old.present.now)
     (torn : (before after : List ℕ) → MayLeave old.present file before → ComesOf at (length piece) before after → P after)
     (whole : Q (overwritten (bytes_of file old.present.now) at piece)) where
@@ -46,7 +46,7 @@ module _ (file : FileNo) (at : ℕ) (piece : List ℕ) (P Q : List ℕ → Type 
     written_mid : mid.present.written ≡ range
     written_mid = ap (λ (m : Moments). m.present.written) wrote_it
 
-    -- what a stop leaves after the sync
+    -- what a crash leaves after the sync
     left_is : (bytes : List ℕ) → MayLeave (synced mid.present) file bytes → bytes ≡ overwritten (bytes_of file old.present.now) at piece
     left_is bytes left =
         when_synced mid.present file bytes left ∙ ap (λ (m : Moments). bytes_of file m.present.now) wrote_it ∙ now_written old.present file at piece

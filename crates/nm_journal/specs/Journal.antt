@@ -8,7 +8,7 @@ use Rattle.nm_journal.specs.declared.journal.JournalError.TheVariants.{BadIndex,
 use Rattle.nm_journal.specs.Moments.{LeavesOnly}
 use Rattle.nm_journal.specs.Records.{HasRecords, records_of}
 
--- the file of a journal, where its records begin, where its closed gate lies, how many records there are, and whether it has failed
+-- the file of a journal, where its records begin, where its closed gate is, how many records there are, and whether it has failed
 pub record JournalState : Type 0 where
   pub file : FileNo
   pub start : ℕ
@@ -22,7 +22,7 @@ pub record ReceiptState : Type 0 where
   pub clock : ℕ
   pub body : List ℕ
 
--- The journal stands on the disk with these records: whatever a stop leaves has them, and then a closed gate.
+-- The journal is on the disk with these records: whatever a crash leaves has them, and then a closed gate.
 pub record StandsOn (state : DiskState) (journal : JournalState) (bodies : List (List ℕ)) : Type 0 where
   pub gate : journal.gate ≡ journal.start + length (records_of bodies)
   pub count : journal.count ≡ length bodies
@@ -36,9 +36,9 @@ IsBeforeOrAfter start bodies body bytes = HasRecords start bodies bytes ⊎ HasR
 abbrev pub with_record : JournalState → List ℕ → JournalState
 with_record journal body = record journal { gate = journal.gate + 5 + length body; count = journal.count + 1 }
 
--- it is so of the moments, where the disk tells them at the beginning and at the end
-abbrev pub IfTold : Option Moments → Option Moments → (Moments → Moments → Type 0) → Type 0
-IfTold old new holds = IfSome old (λ old. IfSome new (λ new. holds old new))
+-- it is so of the moments, where they are known at the beginning and at the end
+abbrev pub IfKnown : Option Moments → Option Moments → (Moments → Moments → Type 0) → Type 0
+IfKnown old new holds = IfSome old (λ old. IfSome new (λ new. holds old new))
 
 -- the error is a fault of the disk
 abbrev pub is_disk_fault : JournalError → Bool

@@ -1,6 +1,6 @@
+pub mod FoundRecords
 pub mod Frame
 pub mod Journal
 pub mod Moments
-pub mod Opening
 pub mod Records
 pub mod Staged

@@ -1,5 +1,5 @@
 -- Records of a journal: a gate, the length of the body in four bytes, the highest first, and the body. A gate is open where it
--- is 1, and closed at any other value. Behind an open record comes the gate of the next; records end at the first closed gate.
+-- is 1, and closed at any other value. After an open record comes the gate of the next; records end at the first closed gate.
 -- Cited by `append`, `journal`, `nm_writer` and others.
 use Rattle.std.specs.Prelude.{◌≡◌, ◌≢◌, ◌⊎◌, ℕ, ◌+◌, ◌-◌, ◌<◌, ◌^◌, List, [], ◌∷◌, ◌++◌, length, take, drop, flat_map}
 use Rattle.std.specs.List.{AllByRecursion}
@@ -17,7 +17,7 @@ records_of bodies = flat_map record_of bodies
 abbrev pub AreBodies : List (List ℕ) → Type 0
 AreBodies bodies = AllByRecursion (λ body. length body < 2 ^ 32) bodies
 
--- from the place on stand open records of these bodies, and then a closed gate
+-- from the place on there are open records of these bodies, and then a closed gate
 pub record HasRecords (start : ℕ) (bodies : List (List ℕ)) (bytes : List ℕ) : Type 0 where
   pub fit : AreBodies bodies
   pub gate : ℕ
@@ -25,11 +25,11 @@ pub record HasRecords (start : ℕ) (bodies : List (List ℕ)) (bytes : List ℕ
   pub rest : List ℕ
   pub is : drop start bytes ≡ records_of bodies ++ gate ∷ rest
 
--- behind an open gate stands no length, or not the body that it announces
+-- after an open gate there is no length, or not the body that it announces
 abbrev pub IsCut : List ℕ → Type 0
 IsCut more = (length more < 4) ⊎ (length more - 4 < from_be_bytes w32 (take 4 more))
 
--- From the place on the bytes are no records: behind open ones they end in place of a gate, and then `at` is their length, or
+-- From the place on the bytes are no records: after open ones they end in place of a gate, and then `at` is their length, or
 -- the next record is open and cut, and then `at` is the place of its gate.
 pub record IsBroken (start : ℕ) (bytes : List ℕ) (at : ℕ) : Type 0 where
   pub bodies : List (List ℕ)

@@ -6,7 +6,7 @@ use Rattle.nm_journal.specs.Frame.{framed}
 use Rattle.nm_journal.specs.Moments.{LeavesOnly}
 use Rattle.nm_journal.specs.Records.{AreBodies, HasRecords, records_of}
 
--- the records, a closed gate, and behind it the frame of one record more
+-- the records, a closed gate, and after it the frame of one record more
 pub record HasStaged (start : ℕ) (bodies : List (List ℕ)) (body bytes : List ℕ) : Type 0 where
   pub fit : AreBodies bodies
   pub gate : ℕ
@@ -14,12 +14,12 @@ pub record HasStaged (start : ℕ) (bodies : List (List ℕ)) (body bytes : List
   pub rest : List ℕ
   pub is : drop start bytes ≡ records_of bodies ++ gate ∷ (framed body ++ rest)
 
--- whatever a stop leaves of the file has these records, and then a closed gate at this place
+-- whatever a crash leaves of the file has these records, and then a closed gate at this place
 pub record EndsAt (state : DiskState) (file : FileNo) (start gate : ℕ) (bodies : List (List ℕ)) : Type 0 where
   pub ends : gate ≡ start + length (records_of bodies)
   pub every : LeavesOnly file (HasRecords start bodies) state
 
--- the same, with the frame of one record more behind the gate
+-- the same, with the frame of one record more after the gate
 pub record StagedAt (state : DiskState) (file : FileNo) (start gate : ℕ) (bodies : List (List ℕ)) (body : List ℕ) : Type 0 where
   pub ends : gate ≡ start + length (records_of bodies)
   pub every : LeavesOnly file (HasStaged start bodies body) state

@@ -1,4 +1,4 @@
-//! One record more, for `nm_writer`: it is staged behind the closed gate, and then the gate is opened.
+//! One record more, for `nm_writer`: it is staged after the closed gate, and then the gate is opened.
 
 ghost use Rattle.std.specs.Prelude.{◌≡◌, ◌+◌, ◌<◌, ◌≤◌, ℕ, List, [], ◌∷◌, ◌++◌, true, false, length, min, IfOk, IfSome, OnOk, OnErr};
 ghost use Rattle.nm_base.specs.Limits.{max_count};
@@ -27,13 +27,13 @@ impl Journal {
         ensures number { IfOk result (λ receipt. IfSome (D.observed disk.new).told (λ moments. receipt.clock ≡ min (length moments.past) max_count)) }
         ensures clock { NeverFalls (D.observed disk.old).clock (D.observed disk.new).clock }
 
-        // Once it has answered its receipt, whatever a stop leaves has the record.
+        // Once it has answered its receipt, whatever a crash leaves has the record.
         ensures stands { GoesOn
             (λ old new. (bodies : List (List ℕ)) → StandsOn old.present self.old bodies
             → OnOk result (StandsOn new.present self.new (bodies ++ frame.now ∷ [])))
             (D.observed disk.old).told (D.observed disk.new).told }
 
-        // At every moment of the call a stop leaves the records from before, or these and the new one.
+        // At every moment of the call a crash leaves the records from before, or these and the new one.
         ensures any_moment { GoesOn
             (λ old new. (bodies : List (List ℕ)) → StandsOn old.present self.old bodies
             → GoesThrough self.old.file (IsBeforeOrAfter self.old.start bodies frame.now) old new)
@@ -60,7 +60,7 @@ impl Journal {
     }
 }
 
-/// Stages a record behind the closed gate, and opens the gate.
+/// Stages a record after the closed gate, and opens the gate.
 fn write_record<D: Disk>(disk: &mut D, file: FileNo, gate: u64, frame: &Frame) -> Result<(), Failed>
     requires place { gate < max_count }
     requires ends { IfSome (D.observed disk.old).told (λ moments. (start : ℕ) × (bodies : List (List ℕ)) × EndsAt moments.present file start gate bodies) }
@@ -81,7 +81,7 @@ fn write_record<D: Disk>(disk: &mut D, file: FileNo, gate: u64, frame: &Frame) -
     open_gate(disk, file, gate, frame)
 }
 
-/// Writes the length, the body and the next closed gate behind the closed gate, and syncs.
+/// Writes the length, the body and the next closed gate after the closed gate, and syncs.
 fn stage<D: Disk>(disk: &mut D, file: FileNo, gate: u64, frame: &Frame) -> Result<(), Failed>
     requires place { gate < max_count }
     requires ends { IfSome (D.observed disk.old).told (λ moments. (start : ℕ) × (bodies : List (List ℕ)) × EndsAt moments.present file start gate bodies) }

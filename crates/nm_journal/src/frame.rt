@@ -63,7 +63,7 @@ impl Frame {
         Frame { bytes }
     }
 
-    /// The body, and the closed gate behind it.
+    /// The body, and the closed gate after it.
     pub fn tail(&self) -> &[u8]
         ensures { result.now ≡ self.now ++ 0 ∷ [] }
     {

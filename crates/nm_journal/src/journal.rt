@@ -1,8 +1,8 @@
-//! A journal: where its records lie, and whether it may still be written. `nm_writer` holds one.
+//! A journal: where its records are, and whether it may still be written. `nm_writer` holds one.
 
 ghost use Rattle.std.specs.Prelude.{◌≡◌, ◌≤◌, ◌<◌, ◌+◌, [], false, IfSome};
 ghost use Rattle.nm_base.specs.Limits.{max_count};
-ghost use Rattle.nm_disk.specs.Images.{MayLeave};
+ghost use Rattle.nm_disk.specs.CrashStates.{MayLeave};
 ghost use Rattle.nm_journal.specs.Journal.{StandsOn};
 ghost use Rattle.nm_journal.specs.Moments.{LeavesOnly};
 ghost use Rattle.nm_journal.specs.Records.{HasRecords};

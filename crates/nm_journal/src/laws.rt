@@ -1,7 +1,7 @@
 //! Laws of the format of records, which `nm_replay` calls, and of what a crash leaves, for `nm_writer` and `nm_history`.
 
 ghost use Rattle.std.specs.Prelude.{◌≡◌, ℕ, List};
-ghost use Rattle.nm_disk.specs.Images.{IsImage};
+ghost use Rattle.nm_disk.specs.CrashStates.{IsImage};
 ghost use Rattle.nm_disk.specs.Observed.{Moments};
 ghost use Rattle.nm_disk.specs.declared.disk.FileNo.{FileNo};
 ghost use Rattle.nm_journal.specs.Moments.{LeavesNothingNew, SyncsOrFails};

@@ -1,12 +1,12 @@
-//! Bytes on the disk: a journal of records, each on the disk whole or not at all, whatever the moment of a stop.
+//! Bytes on the disk: a journal of records, each on the disk whole or not at all, whatever the moment of a crash.
 #![tactic(auto)]
 
 mod append;
 mod frame;
 mod journal;
 mod laws;
-mod opening;
 mod receipt;
+mod record_reader;
 
 pub use frame::Frame;
 pub use journal::{Journal, JournalError};

@@ -1,4 +1,5 @@
-//! What an `append` answers: the record is on the disk, whatever the moment of a stop. `nm_publish` shows nothing without one.
+//! What an `append` answers: the record is on the disk, whatever the moment of a crash. `nm_publish` shows nothing without
+//! one.
 
 ghost use Rattle.std.specs.Prelude.{◌≡◌};
 

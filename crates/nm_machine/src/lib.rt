@@ -1,5 +1,5 @@
-//! The plain index: the lawful orders of commits, publications, reads, replies and crashes, as a machine over the index as
-//! data: definitions and laws alone.
+//! The model: the lawful orders of commits, publications, reads, replies and crashes, as a machine over the index as data:
+//! definitions and laws alone.
 #![tactic(auto)]
 
 mod laws;

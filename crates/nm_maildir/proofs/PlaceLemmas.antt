@@ -1,4 +1,4 @@
--- Where a file stands among files with distinct paths, and after one of them took another path.
+-- Where a file is among files with distinct paths, and after one of them took another path.
 -- For the proofs of `MemoryFiles::move_file` and `places_of`.
 use Rattle.std.proofs.Common.{◌≡◌, ℕ, suc, zero, ◌+◌, ◌<◌, List, [], ◌∷◌, ◌++◌, Bool, true, false, cond, Option, Some, None, length, get_or, set, take, refl, sym, ap, subst, ◌∙◌, ◌⊎◌, inl, inr, arith}
 use Rattle.std.specs.Prelude.{◌&&◌, not, map, IfSome, is_some}
@@ -90,7 +90,7 @@ last_head : (b : Bool) → cond b (Some 0) (option_map suc None) ≡ cond b (Som
 last_head true = refl
 last_head false = refl
 
--- a file whose path is new stands at the end
+-- a file whose path is new is at the end
 pub place_of-push : (files : List File) (file : File) (q : Path) → place_of files file.0 ≡ None
     → place_of (files ++ file ∷ []) q ≡ cond (same_text file.0 q) (Some (length files)) (place_of files q)
 place_of-push [] file q h = last_head (same_text file.0 q)
@@ -104,7 +104,7 @@ differs_at a [] i d h lt = absurd (omega arith)
 differs_at a (file ∷ files) zero d h lt = (or_parts (same_text a file.0) (list_any (same_text a) (paths_of files)) h).0
 differs_at a (file ∷ files) (suc i) d h lt = differs_at a files i d (or_parts (same_text a file.0) (list_any (same_text a) (paths_of files)) h).1 (omega arith)
 
--- among distinct paths each is new where it stands
+-- among distinct paths each is new where it is
 pub place_of-new : (files : List File) (i : ℕ) (d : File) → are_distinct (paths_of files) ≡ true → i < length files → place_of (take i files) (get_or files i d).0 ≡ None
 place_of-new [] i d h lt = absurd (omega arith)
 place_of-new (file ∷ files) zero d h lt = refl
@@ -149,7 +149,7 @@ not_distinct : (b : Bool) (found : Option ℕ) → (b ≡ true → found ≡ Non
 not_distinct true found h e = absurd (let none = h refl in cc)
 not_distinct false found h e = refl
 
--- a path that is found before it stands makes them not distinct
+-- a path that is found before it is makes them not distinct
 pub are_distinct-repeated : (files : List File) (i : ℕ) (d : File) (found : Option ℕ) → i < length files
     → found ≡ place_of (take i files) (get_or files i d).0 → is_some found ≡ true → false ≡ are_distinct (paths_of files)
 are_distinct-repeated files i d found lt is some = not_distinct (are_distinct (paths_of files)) found (λ h. is ∙ place_of-new files i d h lt) some

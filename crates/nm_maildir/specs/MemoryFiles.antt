@@ -7,7 +7,7 @@ use Rattle.std.specs.BTreeMap.{BTreeMap, get}
 use Rattle.nm_maildir.specs.Tree.{bytes_at}
 use Rattle.nm_base.specs.Order.{same_text}
 
--- how many files stand before the one with that path
+-- how many files come before the one with that path
 abbrev pub place_of : List (List ℕ × List ℕ) → List ℕ → Option ℕ
 place_of [] path = None
 place_of (file ∷ files) path = if same_text file.0 path then Some 0 else option_map suc (place_of files path)

@@ -1,4 +1,4 @@
--- What a tree in memory stands for. Cited by `memory_files` and `still_tree`.
+-- What a tree in memory represents. Cited by `memory_files` and `still_tree`.
 use Rattle.nm_maildir.specs.declared.memory_files.MemoryFiles.{MemoryFiles}
 use Rattle.nm_maildir.specs.Tree.{Tree}
 

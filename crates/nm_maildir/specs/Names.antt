@@ -7,7 +7,7 @@ use Rattle.std.specs.BTreeSet.{BTreeSet}
 use Rattle.nm_maildir.specs.Tree.{folder_of, name_of, names_in}
 use Rattle.nm_base.specs.Order.{insert, same_text}
 
--- the names, and that of the path where it lies directly in the folder
+-- the names, and that of the path where it is directly in the folder
 abbrev pub with_name : List ℕ → List (List ℕ) → List ℕ → List (List ℕ)
 with_name folder names path =
     if same_text (folder_of path) folder then insert names (name_of path) else names
@@ -21,7 +21,7 @@ found_names (Some names) = names.keys
 abbrev pub names_at : BTreeMap (List ℕ) (BTreeSet (List ℕ)) → List ℕ → List (List ℕ)
 names_at names folder = found_names (get (slice_cmp nat_cmp) names folder)
 
--- the map has for each folder the names of the paths that lie directly in it
+-- the map has for each folder the names of the paths that are directly in it
 abbrev pub HasNames : BTreeMap (List ℕ) (BTreeSet (List ℕ)) → List (List ℕ) → Type 0
 HasNames names paths = (folder : List ℕ) → names_at names folder ≡ names_in folder paths
 

@@ -10,7 +10,7 @@ use Rattle.nm_maildir.specs.declared.answers.Renamed.{Renamed}
 use Rattle.nm_maildir.specs.declared.answers.Renamed.TheVariants.{Moved, Missing, Exists}
 use Rattle.nm_maildir.specs.Tree.{Tree, moved}
 
--- what it holds and the paths read, where it tells them, and how often it has failed
+-- what it holds and the paths read, where they are known, and how often it has failed
 pub record ObservedMail : Type 0 where
   pub tree : Option Tree
   pub reads : Option (List (List ℕ))
@@ -31,7 +31,7 @@ pub record KeepsMail {T : Type 0} (expected new : ObservedMail) (result : Result
   pub reads : new.reads ≡ expected.reads
   pub cause : HasMailCause expected.faults new.faults result
 
--- What an opening makes: the tree that lies at the path is the folder's, or after a failure the one before. The reads stay, and only a failure raised the count.
+-- What an opening makes: the tree that is at the path is the folder's, or after a failure the one before. The reads stay, and only a failure raised the count.
 pub record OpensMail {T : Type 0} (old : ObservedMail) (there : Option Tree) (new : ObservedMail) (result : Result T memory.Failed) : Type 0 where
   pub tree : MatchResult result (λ _. new.tree ≡ there) (λ _. new.tree ≡ old.tree)
   pub reads : new.reads ≡ old.reads
@@ -43,7 +43,7 @@ reads_with reads path (Ok got) = reads ++ path ∷ []
 reads_with reads path (Err Failed) = reads ++ path ∷ []
 reads_with reads path (Err NoMemory) = reads
 
--- the same, where the paths are told
+-- the same, where the paths are known
 abbrev pub reads_after : {T : Type 0} → Option (List (List ℕ)) → List ℕ → Result T MailError → Option (List (List ℕ))
 reads_after reads path result = option_map (λ paths. reads_with paths path result) reads
 

@@ -10,7 +10,7 @@ pub record Shift : Type 0 where
   pub later : List Tree
   pub faults : ℕ
 
--- it tells neither what it holds nor what was read
+-- neither what it holds nor what was read is known
 abbrev pub observed_shift : Shift → ObservedMail
 observed_shift shift = record { tree = None; reads = None; faults = shift.faults }
 

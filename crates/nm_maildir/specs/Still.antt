@@ -21,14 +21,14 @@ still_of dirs files failing = record {
   calls = record { failing = failing; made = 0; faults = 0 };
 }
 
--- it tells its tree and the paths read
+-- its tree and the paths read are known
 abbrev pub observed_still : Still → ObservedMail
 observed_still still = record { tree = Some still.tree; reads = Some still.reads; faults = still.calls.faults }
 
 abbrev pub paths_of : List (List ℕ × List ℕ) → List (List ℕ)
 paths_of files = map (λ file. file.0) files
 
--- no path stands twice
+-- no path occurs twice
 abbrev pub are_distinct : List (List ℕ) → Bool
 are_distinct [] = true
 are_distinct (path ∷ paths) = not (has_text paths path) && are_distinct paths

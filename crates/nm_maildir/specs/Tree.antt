@@ -22,7 +22,7 @@ folder_of path = before_last (λ b. b == 47) path
 abbrev pub name_of : List ℕ → List ℕ
 name_of path = after_last (λ b. b == 47) path
 
--- the names of those paths that lie directly in the folder, in byte order, without repeats
+-- the names of those paths that are directly in the folder, in byte order, without repeats
 abbrev pub names_in : List ℕ → List (List ℕ) → List (List ℕ)
 names_in folder paths = sorted (map name_of (filter (λ path. same_text (folder_of path) folder) paths))
 

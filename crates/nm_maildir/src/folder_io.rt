@@ -143,8 +143,8 @@ pub(crate) fn rename_in<R: Files + AllocGlobal>(
     Ok(Renamed::Moved)
 }
 
-/// Has the names in a folder on the device. A folder that is gone has none. Some file systems, as those over a network, offer no
-/// sync of a folder; that is no failure, since nothing more can be asked.
+/// Has the names in a folder on the device. A folder that is missing has none. Some file systems, as those over a network, offer
+/// no sync of a folder; that is no failure, since nothing more can be asked.
 pub(crate) fn sync_names<R: Files + AllocGlobal>(
     rt: &R,
     root: &Text,

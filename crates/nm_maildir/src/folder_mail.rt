@@ -13,8 +13,8 @@ use std::alloc::Global;
 use std::collections::BTreeSet;
 use std::rt::Files;
 
-/// A real folder of mail. It follows no link below its root, fails at a name that is not UTF-8, and tells
-/// neither its tree nor what was read. Each call fails until a folder was opened.
+/// A real folder of mail. It follows no link below its root, fails at a name that is not UTF-8, and neither its tree
+/// nor what was read is known. Each call fails until a folder was opened.
 #[derive(Drop)]
 pub struct FolderMail<R> {
     rt: R,
@@ -97,7 +97,7 @@ fn rename_below<R: Files + AllocGlobal>(
     rename_in(rt, &folder.root, from, to)
 }
 
-/// Notes the folder that a file lies in.
+/// Notes the folder that a file is in.
 fn note_folder(
     alloc: Global,
     folders: &mut BTreeSet<Text>,
@@ -110,7 +110,7 @@ fn note_folder(
     Ok(())
 }
 
-/// Notes the folders that the files lie in.
+/// Notes the folders that the files are in.
 fn note_folders(
     alloc: Global,
     folders: &mut BTreeSet<Text>,

@@ -1,5 +1,5 @@
-//! The outside: a folder of mail in Maildir form, listed, read and renamed in.
-//! A tree in memory tells what it holds, a real folder does not.
+//! Input and output: a folder of mail in Maildir form, listed, read and renamed in. What a tree in memory holds is
+//! known, what a real folder holds is not.
 #![tactic(auto)]
 
 mod answers;

@@ -11,8 +11,8 @@ use nm_base::{Failed, MailPath, Text};
 
 /// A folder of mail. Paths are below its root; the root itself is the empty text.
 pub trait Maildir {
-    /// What it holds and the paths that `read` was called with, in order, where it tells them,
-    /// and how often it has failed.
+    /// What it holds and the paths that `read` was called with, in order, where they are known, and how often it has
+    /// failed.
     ghost observed: { Self → ObservedMail };
 
     /// The names in a folder, in byte order without repeats. A folder that is not there has none.
@@ -31,7 +31,7 @@ pub trait Maildir {
         ensures renamed { IfOk result (λ renamed. IfSome (observed self.old).tree (λ tree. renamed ≡ renamed_of tree from.now to.now)) }
         ensures keeps { KeepsMail (after_rename (observed self.old) from.now to.now result) (observed self.new) result };
 
-    /// Has names outlast a loss of power, where the folder lies on a device: those of its own renames so far, and those of the files
+    /// Has names outlast a loss of power, where the folder is on a device: those of its own renames so far, and those of the files
     /// that came and went by other hands. Nothing that it tells changes.
     fn sync(&mut self, came: &[MailPath], went: &[MailPath]) -> Result<(), MailError>
         ensures keeps { KeepsMail (observed self.old) (observed self.new) result };
@@ -43,7 +43,7 @@ pub trait Maildir {
 
 /// A folder of mail that is opened by its path.
 pub trait MailFolder: Maildir {
-    /// The tree that lies at a path, where it tells it.
+    /// The tree that is at a path, where it is known.
     ghost tree_at: { Self → List ℕ → Option Tree };
 
     /// Opens the folder at this path, which is its root from then on.

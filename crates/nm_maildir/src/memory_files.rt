@@ -56,7 +56,7 @@ impl MemoryFiles {
         }
     }
 
-    /// The same, where no path stands twice.
+    /// The same, where no path occurs twice.
     pub(crate) fn of(
         alloc: Global,
         dirs: Many<Text>,
@@ -203,7 +203,7 @@ fn got(bytes: &Many<u8>, max: u64) -> Result<Got, NoMemory>
     Ok(Got::Found(copied))
 }
 
-/// The place of each file by its path, where no path stands twice.
+/// The place of each file by its path, where no path occurs twice.
 fn places_of(
     alloc: Global,
     files: &[(MailPath, Many<u8>)],

@@ -12,7 +12,7 @@ use nm_base::{MailPath, Many, NoMemory, Text};
 use std::alloc::Global;
 use std::collections::{BTreeMap, BTreeSet};
 
-/// The names of the folders that lie in each folder.
+/// The names of the folders that are in each folder.
 pub(crate) fn names_of_dirs(
     alloc: Global,
     dirs: &[Text],
@@ -26,7 +26,7 @@ pub(crate) fn names_of_dirs(
     Ok(names)
 }
 
-/// The names of the files that lie in each folder.
+/// The names of the files that are in each folder.
 pub(crate) fn names_of_files(
     alloc: Global,
     files: &[(MailPath, Many<u8>)],

@@ -13,8 +13,8 @@ use nm_base::{MailPath, Many, Text};
 use nm_faults::Faults;
 use std::marker::Model;
 
-/// A folder of mail in memory of which each call finds the next tree; the last one stays. It tells neither what it holds nor
-/// what was read.
+/// A folder of mail in memory of which each call finds the next tree; the last one stays. Neither what it holds nor what was
+/// read is known.
 #[derive(Drop)]
 pub struct ShiftTree {
     tree: StillTree,

@@ -1,4 +1,4 @@
-//! A tree of mail in memory, which tells what it holds, for `test_session` and the drills of `nm_drill`.
+//! A tree of mail in memory, whose content is known, for `test_session` and the drills of `nm_drill`.
 
 ghost use Rattle.std.specs.Prelude.{◌≡◌, is_err, is_some, IfOk, IfSome, IsOk, IsTrue};
 ghost use Rattle.nm_faults.specs.Calls.{counted, is_next_listed};
@@ -14,8 +14,7 @@ use nm_faults::Calls;
 use std::alloc::Global;
 use std::marker::Model;
 
-/// A folder of mail in memory. It tells its tree and the paths read, and fails at the listed calls
-/// and at no other.
+/// A folder of mail in memory. Its tree and the paths read are known, and it fails at the listed calls and at no other.
 #[derive(Drop)]
 pub struct StillTree {
     files: MemoryFiles,
@@ -50,7 +49,7 @@ impl StillTree {
         }
     }
 
-    /// The same, where no path stands twice.
+    /// The same, where no path occurs twice.
     pub fn of(
         alloc: Global,
         dirs: Many<Text>,
@@ -120,7 +119,7 @@ impl Maildir for StillTree {
         Ok(renamed)
     }
 
-    /// What lies in memory has no device, so this is no call that is counted.
+    /// What is in memory has no device, so this is no call that is counted.
     fn sync(&mut self, _: &[MailPath], _: &[MailPath]) -> Result<(), MailError>
         ensures keeps { KeepsMail (observed_still self.old) (observed_still self.new) result }
         ensures ok { IsOk result }
@@ -135,7 +134,7 @@ impl Maildir for StillTree {
 }
 
 impl MailFolder for StillTree {
-    /// The tree in memory lies at each path.
+    /// The tree in memory is at each path.
     ghost tree_at = { λ s dir. (observed_still s).tree };
 
     /// Counts a call.

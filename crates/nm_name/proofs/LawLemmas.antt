@@ -8,7 +8,7 @@ use Rattle.std.proofs.lemmas.Bool.{agree_below_at, and_parts, cases_Bool, eqb-tr
 use Rattle.std.proofs.lemmas.List.{append_assoc}
 use Rattle.nm_name.specs.Cuts.{cut_last, holds}
 use Rattle.nm_name.specs.Names.{flags_of, flags_of_letters, last_part, letters_at, letters_of, name_of}
-use Rattle.nm_name.specs.Renaming.{AreLetters, alphabet, is_asked, is_carried, is_set, marked, may_be_renamed, new_letters, placed, renamed, renamed_at, stem_at, stem_of}
+use Rattle.nm_name.specs.FlaggedPath.{AreLetters, alphabet, is_asked, is_carried, is_set, marked, may_be_renamed, new_letters, placed, renamed, renamed_at, stem_at, stem_of}
 use Rattle.nm_name.specs.declared.flags.Flags.{Flags}
 use Rattle.nm_name.proofs.CutLemmas.{Joins, cut_again, cut_joins}
 use Rattle.nm_name.proofs.PathLemmas.{slash_join, slash_parts}

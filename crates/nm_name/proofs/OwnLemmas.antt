@@ -13,7 +13,7 @@ use Rattle.std.proofs.Math.Bool.{or-true}
 use Rattle.nm_base.specs.Order.{same_text}
 use Rattle.nm_name.specs.Cuts.{cut_before, cut_last, holds}
 use Rattle.nm_name.specs.Names.{flags_of, flags_of_letters, is_mark, last_part, letters_at, letters_of, name_of}
-use Rattle.nm_name.specs.Renaming.{AreInOrder, AreLetters, alphabet, is_asked, is_carried, is_empty, is_set, marked, may_be_cut, may_be_renamed, new_letters, parent_at, parent_of, placed, renamed, renamed_at, stem_at, stem_of}
+use Rattle.nm_name.specs.FlaggedPath.{AreInOrder, AreLetters, alphabet, is_asked, is_carried, is_empty, is_set, marked, may_be_cut, may_be_renamed, new_letters, parent_at, parent_of, placed, renamed, renamed_at, stem_at, stem_of}
 use Rattle.nm_name.specs.declared.flags.Flags.{Flags}
 use Rattle.nm_name.proofs.CutLemmas.{cut_again, cut_joins}
 use Rattle.nm_name.proofs.LawLemmas.{lacks_other, new_are_letters, other_letters_stay, stem_slash, what_is_written_is_read}
@@ -42,7 +42,7 @@ letters_twice letters flags are =
     filter_agree (is_carried (new_letters letters flags) flags) (is_carried letters flags)
     (λ x. carried_by (is_asked x) (new_letters letters flags) letters flags x refl (λ other. other_letters_stay letters flags x are other)) alphabet
 
--- a letter that is asked for is set as it stands there
+-- a letter that is asked for is set as it is there
 set_by : (wanted x : ℕ) (letters : List ℕ) (b rest : Bool) → (x == wanted) ≡ b → (b ≡ false → rest ≡ holds x letters) → (if b then holds wanted letters else rest) ≡ holds x letters
 set_by wanted x letters true rest is more = ap (λ (n : ℕ). holds n letters) (sym (eqb-true x wanted is))
 set_by wanted x letters false rest is more = more refl
@@ -113,7 +113,7 @@ pub stays_own : (folder stem letters : List ℕ) (flags : Flags) → name_of fol
     → renamed (folder ++ 47 ∷ (stem ++ codes ":2," ++ letters)) flags ≡ folder ++ 47 ∷ (stem ++ codes ":2," ++ letters)
 stays_own folder stem letters flags cur slash are order same = stays stem letters are folder flags cur slash (letters_own letters flags are order same)
 
--- what stands behind a cut lacks the byte, and so does a text that is not cut
+-- what comes after a cut lacks the byte, and so does a text that is not cut
 abbrev Lacks : ℕ → List ℕ → Option (List ℕ × List ℕ) → Type 0
 Lacks wanted bytes found = MatchOption found (holds wanted bytes ≡ false) (λ cut. holds wanted cut.1 ≡ false)
 

@@ -16,7 +16,7 @@ use Rattle.nm_base.specs.Bounds.{fits_length}
 use Rattle.nm_base.specs.MailPath.{is_mail_path}
 use Rattle.nm_name.specs.Cuts.{IsCutLast, cut_last, holds}
 use Rattle.nm_name.specs.Names.{letters_of}
-use Rattle.nm_name.specs.Renaming.{AreLetters, marked, may_be_renamed, new_letters, parent_at, parent_of, placed, renamed, renamed_at, stem_at, stem_of}
+use Rattle.nm_name.specs.FlaggedPath.{AreLetters, marked, may_be_renamed, new_letters, parent_at, parent_of, placed, renamed, renamed_at, stem_at, stem_of}
 use Rattle.nm_name.specs.declared.flags.Flags.{Flags}
 use Rattle.nm_name.proofs.CutLemmas.{Joins, cut_joins}
 

@@ -10,7 +10,7 @@ use Rattle.std.proofs.lemmas.List.{append-nil, append_assoc}
 use Rattle.nm_base.specs.Order.{same_text}
 use Rattle.nm_name.specs.Cuts.{cut_last, holds}
 use Rattle.nm_name.specs.Names.{last_part, letters_at, letters_of, name_of}
-use Rattle.nm_name.specs.Renaming.{AreLetters, is_empty, marked, may_be_cut, may_be_renamed, new_letters, parent_at, parent_of, placed, renamed, renamed_at, stem_at, stem_of}
+use Rattle.nm_name.specs.FlaggedPath.{AreLetters, is_empty, marked, may_be_cut, may_be_renamed, new_letters, parent_at, parent_of, placed, renamed, renamed_at, stem_at, stem_of}
 use Rattle.nm_name.specs.Stems.{IsNamed, IsParent}
 use Rattle.nm_name.specs.declared.flags.Flags.{Flags}
 use Rattle.nm_name.proofs.CutLemmas.{cut_again, cut_none}

@@ -1,4 +1,4 @@
--- Cutting a text at the last byte of a value. Cited by `cuts`, `names` and `renaming`.
+-- Cutting a text at the last byte of a value. Cited by `cuts`, `names` and `flagged_path`.
 use Rattle.std.specs.Prelude.{◌≡◌, ℕ, Bool, ◌==◌, false, List, [], ◌∷◌, ◌++◌, Option, None, Some, if◌then◌else◌}
 use Rattle.std.specs.List.{list_any}
 
@@ -11,7 +11,7 @@ abbrev pub cut_before : ℕ → ℕ → List ℕ → Option (List ℕ × List �
 cut_before wanted byte rest None = (if byte == wanted then Some ([], rest) else None)
 cut_before wanted byte rest (Some cut) = Some (byte ∷ cut.0, cut.1)
 
--- what stands before the last byte of this value, and what stands behind it
+-- what comes before the last byte of this value, and what comes after it
 abbrev pub cut_last : ℕ → List ℕ → Option (List ℕ × List ℕ)
 cut_last wanted [] = None
 cut_last wanted (byte ∷ bytes) = cut_before wanted byte bytes (cut_last wanted bytes)

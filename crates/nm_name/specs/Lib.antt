@@ -1,4 +1,4 @@
 pub mod Cuts
+pub mod FlaggedPath
 pub mod Names
-pub mod Renaming
 pub mod Stems

@@ -1,7 +1,7 @@
 -- Names by their stems, and the folders that files are in. Cited by `laws`.
 use Rattle.std.specs.Prelude.{◌≡◌, ◌⊎◌, ℕ, false, List, [], ◌∷◌, ◌++◌, codes}
 use Rattle.nm_name.specs.Cuts.{holds}
-use Rattle.nm_name.specs.Renaming.{AreLetters}
+use Rattle.nm_name.specs.FlaggedPath.{AreLetters}
 
 -- a name of this stem with these letters: the stem, `:2,` and the letters, or the stem alone, which has no `:`
 abbrev pub IsNamed : List ℕ → List ℕ → List ℕ → Type 0

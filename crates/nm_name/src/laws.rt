@@ -3,7 +3,7 @@
 ghost use Rattle.std.specs.Prelude.{◌≡◌, ◌≢◌, ℕ, List, ◌++◌, ◌∷◌, [], false, codes};
 ghost use Rattle.nm_name.specs.Cuts.{holds};
 ghost use Rattle.nm_name.specs.Names.{flags_of, flags_of_letters, letters_of, name_of};
-ghost use Rattle.nm_name.specs.Renaming.{AreInOrder, AreLetters, is_asked, marked, may_be_renamed, new_letters, renamed};
+ghost use Rattle.nm_name.specs.FlaggedPath.{AreInOrder, AreLetters, is_asked, marked, may_be_renamed, new_letters, renamed};
 ghost use Rattle.nm_name.specs.Stems.{IsNamed, IsParent};
 ghost use Rattle.nm_name.specs.declared.flags.Flags.{Flags};
 
@@ -15,7 +15,7 @@ pub fn what_is_written_is_read()
 {}
 
 /// A path that carries the flags is left alone: one that was renamed for them stays, and so does one in `cur` whose letters say
-/// them and stand in ASCII order, each once.
+/// them and are in ASCII order, each once.
 pub fn a_path_that_carries_its_flags_stays()
     ensures again { (path : List ℕ) (flags : Flags) → renamed (renamed path flags) flags ≡ renamed path flags }
     ensures own { (folder stem letters : List ℕ) (flags : Flags) → name_of folder ≡ codes "cur" → holds 47 stem ≡ false → AreLetters letters → AreInOrder letters

@@ -1,11 +1,11 @@
-//! The plain index: the flags that the name of a mail file carries (maildir(5)), read and written.
+//! The model: the flags that the name of a mail file carries (maildir(5)), read and written.
 #![tactic(auto)]
 
 mod cuts;
+mod flagged_path;
 mod flags;
 mod laws;
 mod names;
-mod renaming;
 
 pub use flags::Flags;
 pub use laws::{
@@ -14,4 +14,4 @@ pub use laws::{
     what_is_written_is_read,
 };
 pub use names::parse_name;
-pub use renaming::{NameError, with_flags};
+pub use flagged_path::{NameError, with_flags};

@@ -10,8 +10,8 @@ use crate::Flags;
 use crate::cuts::cut_at_last;
 use nm_base::MailPath;
 
-/// The flags of a path: of the letters behind the last `:2,` of its last component. Where other bytes than ASCII letters
-/// stand there it has none. D is draft, F flagged, P passed, R replied, S seen, T trashed.
+/// The flags of a path: of the letters after the last `:2,` of its last component. Where other bytes than ASCII letters
+/// are there it has none. D is draft, F flagged, P passed, R replied, S seen, T trashed.
 pub fn parse_name(path: &MailPath) -> Flags
     ensures { result ≡ flags_of path.now }
 {

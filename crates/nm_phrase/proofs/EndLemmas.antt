@@ -56,7 +56,7 @@ pub same_text-itself : (word : List ℕ) → same_text word word ≡ true
 same_text-itself word = nat_list_eq_equiv.refl word
 
 module _ (docs : List DocWords) (field : Field) (hits : (word : List ℕ) (hit : Hit) → Contains (hits_of docs word field) hit ↔ IsHit docs word field hit) where
-  -- the words end at the hit of the last one, if those before it stand before it
+  -- the words end at the hit of the last one, if those before it come before it
   ends_from : (starts : Bool) (words : List (List ℕ)) (last found : List ℕ) (hit : Hit) (is : IsHit docs found field hit) (start : ℕ) → is_last_word starts last found ≡ true
       → start + length words ≡ hit.place → begins_with false words (drop start is.list.words) ≡ true → EndsAt docs field starts (words ++ last ∷ []) hit
   ends_from starts words last found hit is start is_last place before = record {

@@ -1,4 +1,4 @@
--- Where words end that stand one after the other, and the hits that go on from there. Cited by `follow`, `ends`, `front`
+-- Where words end that come one after the other, and the hits that go on from there. Cited by `follow`, `ends`, `front`
 -- and `laws`.
 use Rattle.std.specs.Prelude.{◌≡◌, ◌≢◌, ◌↔◌, ℕ, ◌+◌, Bool, true, false, ◌&&◌, ◌==◌, Option, Some, None, List, [], ◌∷◌, ◌++◌, drop, length, slice_get, if◌then◌else◌}
 use Rattle.std.specs.List.{Contains, filter, list_any}
@@ -10,7 +10,7 @@ use Rattle.nm_segment.specs.Docs.{lists_of}
 use Rattle.nm_segment.specs.declared.doc_words.DocWords.{DocWords}
 use Rattle.nm_phrase.specs.Words.{begins_with}
 
--- a document has a list of the field in which the words stand one after the other, the last of them at this hit
+-- a document has a list of the field in which the words come one after the other, the last of them at this hit
 pub record EndsAt (docs : List DocWords) (field : Field) (starts : Bool) (words : List (List ℕ)) (hit : Hit) : Type 0 where
   pub list : FieldWords
   pub there : slice_get (lists_of docs hit.doc) hit.list ≡ Some list
@@ -42,15 +42,15 @@ pub record IsFront (docs : List DocWords) (field : Field) (words : List (List �
 abbrev pub ends_before : Hit → Hit → Bool
 ends_before hit end = is_before (record end { place = end.place + 1 }) hit
 
--- the hit stands at the place after the end
+-- the hit is at the place after the end
 abbrev pub is_next : Hit → Hit → Bool
 is_next hit end = end.doc == hit.doc && (end.list == hit.list && end.place + 1 == hit.place)
 
--- the hit stands right after one of the ends
+-- the hit is right after one of the ends
 abbrev pub follows : List Hit → Hit → Bool
 follows ends hit = list_any (is_next hit) ends
 
--- the hits that stand right after the words before, where there are any
+-- the hits that are right after the words before, where there are any
 abbrev pub narrowed : Option (List Hit) → List Hit → List Hit
 narrowed None hits = hits
 narrowed (Some ends) hits = filter (follows ends) hits
@@ -74,7 +74,7 @@ is_end_before hit (Some end) = ends_before hit end
 abbrev pub is_before_at : Hit → List Hit → ℕ → Bool
 is_before_at hit ends at = is_end_before hit (slice_get ends at)
 
--- the hit stands right after the first of the ends
+-- the hit is right after the first of the ends
 abbrev pub first_is_before : Hit → List Hit → Bool
 first_is_before hit [] = false
 first_is_before hit (end ∷ ends) = is_next hit end

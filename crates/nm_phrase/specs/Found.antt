@@ -12,6 +12,6 @@ use Rattle.nm_phrase.specs.Words.{lists_have}
 abbrev pub numbers_with : Bool → Field → List (List ℕ) → List DocWords → List ℕ
 numbers_with starts field words docs = map (λ d. d.doc) (filter (λ d. lists_have (Some field) starts words d.lists) docs)
 
--- the documents of a word's hits that stand right after the words before, where there are any
+-- the documents of a word's hits that are right after the words before, where there are any
 abbrev pub numbers_of : List DocWords → Field → Option (List Hit) → List ℕ → List ℕ
 numbers_of docs field before word = map (λ hit. hit.doc) (narrowed before (hits_of docs word field))

@@ -16,7 +16,7 @@ use std::alloc::Global;
 use std::collections::BTreeSet;
 use std::sync::ledger::Ledger;
 
-/// Adds the documents in which a word stands right after the words before it, where there are any.
+/// Adds the documents in which a word is right after the words before it, where there are any.
 pub(crate) fn add_found<L: Ledger>(
     alloc: Global,
     docs: &mut BTreeSet<u32>,

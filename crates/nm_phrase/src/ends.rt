@@ -11,7 +11,7 @@ use nm_segment::Postings;
 use std::alloc::Global;
 use std::sync::ledger::Ledger;
 
-/// The hits that stand right after the words before, where there are any.
+/// The hits that are right after the words before, where there are any.
 pub(crate) fn narrowed<L: Ledger>(
     alloc: Global,
     before: &Option<Many<Hit>>,
@@ -45,7 +45,7 @@ fn all_hits<L: Ledger>(
     Ok(hits)
 }
 
-/// The hits that stand right after one of the ends, in one walk over both.
+/// The hits that are right after one of the ends, in one walk over both.
 fn following<L: Ledger>(
     alloc: Global,
     ends: &[Hit],

@@ -21,7 +21,7 @@ fn ends_before(end: Hit, hit: Hit) -> bool
     u64::from(end.place) + 1 < u64::from(hit.place)
 }
 
-/// Says whether the hit stands at the place after the end.
+/// Says whether the hit is at the place after the end.
 fn is_next(end: Hit, hit: Hit) -> bool
     ensures { result ≡ is_next hit end }
 {
@@ -76,7 +76,7 @@ fn is_before_at(ends: &[Hit], at: usize, hit: Hit) -> bool
     }
 }
 
-/// Says whether the hit stands right after the first end.
+/// Says whether the hit is right after the first end.
 pub(crate) fn first_is_before(ends: &[Hit], hit: Hit) -> bool
     ensures { result ≡ first_is_before hit ends.now }
 {

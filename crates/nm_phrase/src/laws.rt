@@ -11,7 +11,7 @@ ghost use Rattle.nm_segment.specs.declared.doc_words.DocWords.{DocWords};
 ghost use Rattle.nm_phrase.specs.Ends.{EndsAt};
 ghost use Rattle.nm_phrase.specs.Found.{numbers_with};
 
-/// Words find a document exactly where it has a list of the field in which they stand one after the other.
+/// Words find a document exactly where it has a list of the field in which they come one after the other.
 pub fn documents_are_found_where_the_words_end()
     ensures { (docs : List DocWords) (field : Field) (starts : Bool) (words : List (List ℕ)) (doc : ℕ) → IsStrictlySortedBy nat_cmp (numbers docs) → words ≢ []
         → (has (numbers_with starts field words docs) doc ≡ true) ↔ ((hit : Hit) × EndsAt docs field starts words hit × (hit.doc ≡ doc)) }

@@ -1,4 +1,4 @@
-//! Searching: the documents of a segment in which words stand one after the other in one list, the last whole or by its
+//! Searching: the documents of a segment in which words come one after the other in one list, the last whole or by its
 //! front. What is found is a cursor.
 #![tactic(auto)]
 

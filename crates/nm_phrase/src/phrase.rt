@@ -14,7 +14,7 @@ use std::collections::BTreeSet;
 use std::marker::Model;
 use std::sync::ledger::Ledger;
 
-/// The documents of a segment in which the words stand one after the other in one list of the field.
+/// The documents of a segment in which the words come one after the other in one list of the field.
 #[derive(Drop)]
 pub struct Phrase {
     docs: Rising,

@@ -19,7 +19,7 @@ use std::collections::BTreeSet;
 use std::marker::Model;
 use std::sync::ledger::Ledger;
 
-/// The documents of a segment in which the words stand one after the other in one list of the field, where the last one that
+/// The documents of a segment in which the words come one after the other in one list of the field, where the last one that
 /// is asked is the front of a word.
 #[derive(Drop)]
 pub struct Start {
@@ -82,7 +82,7 @@ impl Cursor for Start {
     }
 }
 
-/// Adds the documents in which a word with this start stands right after the words before, where there are any.
+/// Adds the documents in which a word with this start is right after the words before, where there are any.
 fn add_started<L: Ledger>(
     alloc: Global,
     docs: &mut BTreeSet<u32>,

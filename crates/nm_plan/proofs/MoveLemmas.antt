@@ -9,7 +9,7 @@ use Rattle.nm_commit.specs.declared.change.Change.{Change}
 use Rattle.nm_commit.specs.declared.change.Commit.{Commit}
 use Rattle.nm_flags.specs.Renames.{asked_flags, renames, target}
 use Rattle.nm_flags.specs.declared.renames.Rename.{Rename}
-use Rattle.nm_name.specs.Renaming.{renamed}
+use Rattle.nm_name.specs.FlaggedPath.{renamed}
 use Rattle.nm_index.specs.Fits.{FitInTurn}
 use Rattle.nm_index.specs.Index.{folded, live_ids}
 use Rattle.nm_index.specs.declared.base.Base.{Base}

@@ -1,4 +1,4 @@
-//! The plain index: which commits a command makes, as definitions on the index as data and on what the mail folder gave.
+//! The model: which commits a command makes, as definitions on the index as data and on what the mail folder gave.
 #![tactic(auto)]
 
 mod laws;

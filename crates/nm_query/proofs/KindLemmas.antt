@@ -4,7 +4,7 @@ use Rattle.std.specs.Prelude.{Option, Some, None, Result, Ok, Err, codes, slice_
 use Rattle.std.specs.Str.{bytes_eq}
 use Rattle.std.specs.List.{before_first}
 use Rattle.nm_base.specs.declared.facts.Field.{Field}
-use Rattle.nm_dates.specs.Reading.{end_of}
+use Rattle.nm_dates.specs.Ends.{end_of}
 use Rattle.nm_dates.specs.declared.end.End.{End}
 use Rattle.nm_words.specs.Words.{words_of}
 use Rattle.nm_text.specs.Case.{same_ignoring_case}

@@ -2,7 +2,7 @@
 use Rattle.std.proofs.Common.{◌≡◌, ℕ, ◌+◌, Bool, true, false, cond, ◌&&◌, ◌==◌, List, length, take, drop, refl, ap, ◌∙◌}
 use Rattle.std.specs.Prelude.{Option, Some, None, Result, Ok, Err, slice_index}
 use Rattle.nm_base.specs.declared.facts.Field.{Field}
-use Rattle.nm_dates.specs.Reading.{end_of}
+use Rattle.nm_dates.specs.Ends.{end_of}
 use Rattle.nm_dates.specs.declared.end.End.{End}
 use Rattle.nm_query.specs.Terms.{before_dots, date_query, dates_of, end_at, field_query, is_pattern, is_same_end, lacks_value, name_query, named_query, one_date, optional_end, path_query, range_query, said_query, second_place, takes_pattern, thread_number, two_dates, with_from}
 use Rattle.nm_query.specs.declared.prefixes.Name.{Name}

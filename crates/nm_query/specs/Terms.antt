@@ -4,7 +4,7 @@ use Rattle.std.specs.List.{list_all}
 use Rattle.std.specs.Str.{bytes_eq}
 use Rattle.nm_base.specs.declared.facts.Field.{Field}
 use Rattle.nm_base.specs.declared.facts.Field.TheVariants as field
-use Rattle.nm_dates.specs.Reading.{end_of}
+use Rattle.nm_dates.specs.Ends.{end_of}
 use Rattle.nm_dates.specs.declared.end.End.{End}
 use Rattle.nm_words.specs.Words.{words_of}
 use Rattle.nm_query.specs.declared.prefixes.Name.{Name}

@@ -1,5 +1,5 @@
-//! The plain index: queries in the language of notmuch's command line. Any text has its tree, or the one refusal
-//! with its place.
+//! The model: queries in the language of notmuch's command line. Any text has its tree, or the one refusal with its
+//! place.
 #![tactic(auto)]
 
 mod faults;

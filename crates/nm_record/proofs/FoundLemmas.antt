@@ -4,7 +4,7 @@ use Rattle.std.specs.Prelude.{IfOk}
 use Rattle.nm_commit.specs.declared.change.Commit.{Commit}
 use Rattle.nm_codec.specs.declared.read_error.ReadError.{ReadError}
 use Rattle.nm_codec.specs.AllLaws.{all_only}
-use Rattle.nm_codec.specs.Reading.{AnswersUnlessNoMemory, IsBytes, all_of}
+use Rattle.nm_codec.specs.ReadSteps.{AnswersUnlessNoMemory, IsBytes, all_of}
 use Rattle.nm_record.specs.CommitGrammar.{commit_grammar}
 
 pub is_found : (bytes : List ℕ) (result : Result Commit ReadError) → IsBytes bytes → AnswersUnlessNoMemory bytes result (all_of commit_grammar.read bytes)

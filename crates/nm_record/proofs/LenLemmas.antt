@@ -11,8 +11,8 @@ use Rattle.std.proofs.lemmas.List.Concat.{flat_map-cons}
 use Rattle.nm_base.specs.Limits.{IsDate, is_date, max_count}
 use Rattle.nm_base.specs.declared.facts.Facts.{Facts}
 use Rattle.nm_base.specs.Order.{IsSorted}
-use Rattle.nm_codec.specs.Reading.{is_below, is_rising}
-use Rattle.nm_codec.specs.Spelling.{list_bytes, u32_bytes}
+use Rattle.nm_codec.specs.ReadSteps.{is_below, is_rising}
+use Rattle.nm_codec.specs.Encoding.{list_bytes, u32_bytes}
 use Rattle.nm_codec.specs.StepLaws.{both}
 use Rattle.nm_commit.specs.Files.{FitChanges, FitsChange, changed}
 use Rattle.nm_commit.specs.declared.change.Change.{Change}

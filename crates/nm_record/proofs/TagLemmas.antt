@@ -10,7 +10,7 @@ use Rattle.std.proofs.lemmas.Bool.{and_parts}
 use Rattle.std.proofs.lemmas.List.{take_more, take-append-drop}
 use Rattle.nm_base.specs.Order.{IsSorted}
 use Rattle.nm_base.specs.Tags.{with_tag}
-use Rattle.nm_codec.specs.Reading.{is_below, is_rising}
+use Rattle.nm_codec.specs.ReadSteps.{is_below, is_rising}
 
 is_less : (o : Ordering) → is_lt o ≡ true → o ≡ Less
 is_less Less e = refl

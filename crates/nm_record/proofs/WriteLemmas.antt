@@ -1,4 +1,4 @@
--- Pieces written one behind the other. For the proofs of `ChangeFormat::write` and `FactsFormat::write`.
+-- Pieces written one after the other. For the proofs of `ChangeFormat::write` and `FactsFormat::write`.
 use Rattle.std.proofs.Common.{◌≡◌, ℕ, List, ◌++◌, ap, ◌∙◌, append_assoc}
 
 pub two_written : (before a b first second : List ℕ) → first ≡ before ++ a → second ≡ first ++ b → second ≡ before ++ (a ++ b)

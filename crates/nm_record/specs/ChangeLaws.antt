@@ -4,8 +4,8 @@ use Rattle.std.specs.Int.{w8}
 use Rattle.nm_commit.specs.declared.change.Change.{Change}
 use Rattle.nm_commit.specs.declared.change.Change.TheVariants.{Add, Drop, Move, SetTags}
 use Rattle.nm_codec.specs.Grammar.{Grammar}
-use Rattle.nm_codec.specs.Reading.{IsBytes, Takes, mapped_at, number_at}
-use Rattle.nm_codec.specs.Spelling.{u8_bytes}
+use Rattle.nm_codec.specs.ReadSteps.{IsBytes, Takes, mapped_at, number_at}
+use Rattle.nm_codec.specs.Encoding.{u8_bytes}
 use Rattle.nm_codec.specs.StepLaws.{bind_ok, ok_is, Takes-then}
 use Rattle.nm_codec.specs.NumberLaws.{is_width_8, number_again, number_only}
 use Rattle.nm_record.specs.Commits.{arrival_grammar, change_at, change_bytes, is_change, kind_at, move_grammar, tagging_grammar}
@@ -19,7 +19,7 @@ some_change (Move from to) = omega arith
 some_change (SetTags id tags) = omega arith
 
 module _ {A : Type 0} (make : A → Change) (g : Grammar A) where
-  -- what stands behind a kind is read again
+  -- what comes after a kind is read again
   kind_again : (kind : ℕ) → kind < 2 ^ 8 → ((bytes : List ℕ) (left : ℕ) → kind_at kind bytes left ≡ mapped_at make g.read bytes)
       → (a : A) (rest : List ℕ) → g.is_value a ≡ true → length (g.bytes a) < 2 ^ 32 → change_at ((u8_bytes kind ++ g.bytes a) ++ rest) ≡ Ok (make a, rest)
   unfolding change_at mapped_at
@@ -27,7 +27,7 @@ module _ {A : Type 0} (make : A → Change) (g : Grammar A) where
       let first = number_again w8 (2 ^ 8) is_width_8 kind (g.bytes a ++ rest) small in
       rw (first, is (g.bytes a ++ rest) (length (u8_bytes kind ++ (g.bytes a ++ rest))), g.again a rest v short) refl
 
-  -- what stands behind a kind was written so
+  -- what comes after a kind was written so
   kind_only : (bytes : List ℕ) (change : Change) (rest : List ℕ) → IsBytes bytes → mapped_at make g.read bytes ≡ Ok (change, rest)
       → (a : A) × (make a ≡ change) × Takes bytes (g.bytes a) rest × (g.is_value a ≡ true)
   unfolding mapped_at
@@ -48,7 +48,7 @@ change_again (SetTags id tags) rest v short = kind_again (λ p. SetTags p.0 p.1)
 abbrev IsOf : ℕ → List ℕ → Change → List ℕ → Type 0
 IsOf kind bytes change rest = (body : List ℕ) × Takes bytes body rest × (u8_bytes kind ++ body ≡ change_bytes change) × (is_change change ≡ true)
 
--- what is read behind a kind was written so
+-- what is read after a kind was written so
 of_kind : (kind : ℕ) (bytes : List ℕ) (left : ℕ) (change : Change) (rest : List ℕ) → IsBytes bytes → kind_at kind bytes left ≡ Ok (change, rest) → IsOf kind bytes change rest
 of_kind zero bytes left change rest fits e = absurd cc
 of_kind (suc zero) bytes left change rest fits e =

@@ -1,4 +1,4 @@
--- Each byte stands for one value and each value for one byte; dates have eight bytes. Cited by `Facts`.
+-- Each byte represents one value and each value for one byte; dates have eight bytes. Cited by `Facts`.
 use Rattle.std.proofs.Common.{◌≡◌, ℕ, zero, suc, ◌<◌, ◌^◌, ℤ, pos, negsuc, Bool, true, false, Option, Some, refl, sym, ap, arith}
 use Rattle.std.specs.Prelude.{FitsSigned}
 use Rattle.std.specs.Int.{w64}

@@ -1,4 +1,4 @@
--- What one byte stands for: a field of a mail, the marks of its parts. Cited by `facts`.
+-- What one byte represents: a field of a mail, the marks of its parts. Cited by `facts`.
 use Rattle.std.specs.Prelude.{ℕ, zero, suc, ◌+◌, Bool, true, false, Option, None, Some, if◌then◌else◌}
 use Rattle.nm_base.specs.declared.facts.Field.{Field}
 use Rattle.nm_base.specs.declared.facts.Field.TheVariants.{From, To, Subject, Body, Attachment}

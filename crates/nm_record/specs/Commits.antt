@@ -7,7 +7,7 @@ use Rattle.nm_base.specs.declared.facts.Facts.{Facts}
 use Rattle.nm_commit.specs.declared.change.Change.{Change}
 use Rattle.nm_commit.specs.declared.change.Change.TheVariants.{Add, Drop, Move, SetTags}
 use Rattle.nm_codec.specs.Grammar.{Grammar, pair_grammar}
-use Rattle.nm_codec.specs.Reading.{◌>>=◌, Reading, mapped_at, number_at}
+use Rattle.nm_codec.specs.ReadSteps.{◌>>=◌, Reading, mapped_at, number_at}
 use Rattle.nm_record.specs.Facts.{facts_grammar, id_grammar, path_grammar}
 use Rattle.nm_record.specs.Tags.{tags_grammar}
 
@@ -20,7 +20,7 @@ move_grammar = pair_grammar path_grammar path_grammar
 abbrev pub tagging_grammar : Grammar (List ℕ × List (List ℕ))
 tagging_grammar = pair_grammar id_grammar tags_grammar
 
--- what stands behind the kind, or the fault where the change begins
+-- what comes after the kind, or the fault where the change begins
 abbrev pub kind_at : ℕ → List ℕ → ℕ → Reading Change
 kind_at zero bytes left = Err left
 kind_at (suc zero) bytes left = mapped_at (λ p. Add p.0 p.1) arrival_grammar.read bytes
@@ -29,7 +29,7 @@ kind_at (suc (suc (suc zero))) bytes left = mapped_at (λ p. Move p.0 p.1) move_
 kind_at (suc (suc (suc (suc zero)))) bytes left = mapped_at (λ p. SetTags p.0 p.1) tagging_grammar.read bytes
 kind_at (suc (suc (suc (suc (suc n))))) bytes left = Err left
 
--- the change at the front of the bytes, and the bytes behind it
+-- the change at the front of the bytes, and the bytes after it
 unfoldable pub change_at : List ℕ → Reading Change
 change_at bytes = do
   kind ← number_at w8 bytes

@@ -51,11 +51,11 @@ field_words_grammar = mapped_grammar field_words_of (λ list. (list.field, list.
 abbrev pub date_grammar : Grammar ℤ
 date_grammar = signed_grammar is_date date_fits
 
--- the values of facts, one behind the other
+-- the values of facts, one after the other
 abbrev pub FactsParts : Type 0
 FactsParts = List ℕ × (List (List ℕ) × (ℤ × (List Mailbox × (List Mailbox × (List ℕ × (List FieldWords × (List (List ℕ) × Marks)))))))
 
--- the facts, of the parts in which they are spelled
+-- the facts, of the parts of which they are made
 abbrev pub facts_of : FactsParts → Facts
 facts_of (id, (links, (date, (from, (to, (subject, (lists, (types, marks)))))))) =
     record { id = id; links = links; date = date; from = from; to = to; subject = subject; lists = lists; types = types; marks = marks }
@@ -77,7 +77,7 @@ content_grammar = pair_grammar (list_grammar field_words_grammar) (pair_grammar 
 abbrev pub heading_grammar : Grammar (List Mailbox × (List Mailbox × (List ℕ × (List FieldWords × (List (List ℕ) × Marks)))))
 heading_grammar = pair_grammar (list_grammar mailbox_grammar) (pair_grammar (list_grammar mailbox_grammar) (pair_grammar text_grammar content_grammar))
 
--- the one spelling of the facts of a mail
+-- the one encoding of the facts of a mail
 abbrev pub facts_grammar : Grammar Facts
 facts_grammar = mapped_grammar facts_of facts_parts (λ f. refl) (λ parts. refl)
     (pair_grammar id_grammar (pair_grammar (list_grammar id_grammar) (pair_grammar date_grammar heading_grammar)))

@@ -3,7 +3,7 @@
 ghost use Rattle.std.specs.Prelude.{◌≡◌, ◌++◌, ◌<◌, ◌^◌, length, min, OnOk};
 ghost use Rattle.nm_base.specs.Limits.{is_date, max_count};
 ghost use Rattle.nm_commit.specs.declared.change.Change.{Change};
-ghost use Rattle.nm_codec.specs.Reading.{GivesUnlessNoMemory, mapped_at};
+ghost use Rattle.nm_codec.specs.ReadSteps.{GivesUnlessNoMemory, mapped_at};
 ghost use Rattle.nm_record.specs.CommitGrammar.{change_grammar};
 ghost use Rattle.nm_record.specs.Commits.{arrival_grammar, change_at, change_bytes, has_date, kind_at, move_grammar, tagging_grammar};
 ghost use Rattle.nm_record.specs.Facts.{path_grammar};
@@ -114,7 +114,7 @@ fn write_file(path: &MailPath, facts: &Facts, writer: &mut Writer) -> Result<(),
     Ok(())
 }
 
-#[tactic(auto, unfolding(nm_codec::specs::Reading::mapped_at))]
+#[tactic(auto, unfolding(nm_codec::specs::ReadSteps::mapped_at))]
 fn read_add(alloc: Global, reader: &mut Reader<'_>) -> Result<Change, ReadError>
     ensures { GivesUnlessNoMemory reader.old result reader.new (mapped_at (λ p. Change.Add p.0 p.1) arrival_grammar.read reader.old.rest) }
 {
@@ -123,7 +123,7 @@ fn read_add(alloc: Global, reader: &mut Reader<'_>) -> Result<Change, ReadError>
     Ok(Change::Add { path, facts })
 }
 
-#[tactic(auto, unfolding(nm_codec::specs::Reading::mapped_at))]
+#[tactic(auto, unfolding(nm_codec::specs::ReadSteps::mapped_at))]
 fn read_drop(alloc: Global, reader: &mut Reader<'_>) -> Result<Change, ReadError>
     ensures { GivesUnlessNoMemory reader.old result reader.new (mapped_at Change.Drop path_grammar.read reader.old.rest) }
 {
@@ -131,7 +131,7 @@ fn read_drop(alloc: Global, reader: &mut Reader<'_>) -> Result<Change, ReadError
     Ok(Change::Drop { path })
 }
 
-#[tactic(auto, unfolding(nm_codec::specs::Reading::mapped_at))]
+#[tactic(auto, unfolding(nm_codec::specs::ReadSteps::mapped_at))]
 fn read_move(alloc: Global, reader: &mut Reader<'_>) -> Result<Change, ReadError>
     ensures { GivesUnlessNoMemory reader.old result reader.new (mapped_at (λ p. Change.Move p.0 p.1) move_grammar.read reader.old.rest) }
 {
@@ -139,7 +139,7 @@ fn read_move(alloc: Global, reader: &mut Reader<'_>) -> Result<Change, ReadError
     Ok(Change::Move { from, to })
 }
 
-#[tactic(auto, unfolding(nm_codec::specs::Reading::mapped_at))]
+#[tactic(auto, unfolding(nm_codec::specs::ReadSteps::mapped_at))]
 fn read_set_tags(alloc: Global, reader: &mut Reader<'_>) -> Result<Change, ReadError>
     ensures { GivesUnlessNoMemory reader.old result reader.new (mapped_at (λ p. Change.SetTags p.0 p.1) tagging_grammar.read reader.old.rest) }
 {

@@ -6,7 +6,7 @@ ghost use Rattle.nm_base.specs.Limits.{max_count};
 ghost use Rattle.nm_base.specs.declared.facts.Facts.{Facts};
 ghost use Rattle.nm_commit.specs.Files.{Fits};
 ghost use Rattle.nm_commit.specs.declared.change.Commit.{Commit};
-ghost use Rattle.nm_codec.specs.Reading.{AnswersUnlessNoMemory, all_of};
+ghost use Rattle.nm_codec.specs.ReadSteps.{AnswersUnlessNoMemory, all_of};
 ghost use Rattle.nm_record.specs.CommitGrammar.{commit_grammar};
 ghost use Rattle.nm_record.specs.Commits.{change_bytes, has_date};
 
@@ -16,7 +16,7 @@ use nm_codec::{Format, ListOf, ReadError, Reader, Writer};
 use nm_commit::{Change, Commit};
 use std::alloc::Global;
 
-/// How many bytes the one spelling of a commit has, up to 2^64 - 1. It takes no memory.
+/// How many bytes the one encoding of a commit has, up to 2^64 - 1. It takes no memory.
 pub fn commit_len(commit: &Commit) -> u64
     ensures len { result ≡ min (length (commit_grammar.bytes commit.now)) max_count }
 
@@ -26,7 +26,7 @@ pub fn commit_len(commit: &Commit) -> u64
     CommitFormat::len(commit)
 }
 
-/// Writes the one spelling of a commit, which has fewer than 2 ^ 32 bytes.
+/// Writes the one encoding of a commit, which has fewer than 2 ^ 32 bytes.
 pub fn write_commit(commit: &Commit, writer: &mut Writer) -> Result<(), NoMemory>
     requires { length (commit_grammar.bytes commit.now) < 2 ^ 32 }
     ensures { OnOk result (writer.new ≡ writer.old ++ commit_grammar.bytes commit.now) }
@@ -34,7 +34,7 @@ pub fn write_commit(commit: &Commit, writer: &mut Writer) -> Result<(), NoMemory
     CommitFormat::write(commit, writer)
 }
 
-/// The one spelling of a commit, which has fewer than 2 ^ 32 bytes.
+/// The one encoding of a commit, which has fewer than 2 ^ 32 bytes.
 pub fn commit_bytes(alloc: Global, commit: &Commit) -> Result<Many<u8>, NoMemory>
     requires { length (commit_grammar.bytes commit.now) < 2 ^ 32 }
     ensures { IfOk result (λ bytes. bytes ≡ commit_grammar.bytes commit.now) }
@@ -44,7 +44,7 @@ pub fn commit_bytes(alloc: Global, commit: &Commit) -> Result<Many<u8>, NoMemory
     Ok(writer.finish())
 }
 
-/// The one spelling of a change. A commit is the count of its changes in four bytes, and then all of them.
+/// The one encoding of a change. A commit is the count of its changes in four bytes, and then all of them.
 pub fn change_bytes(alloc: Global, change: &Change) -> Result<Many<u8>, NoMemory>
     ensures { IfOk result (λ bytes. bytes ≡ change_bytes change.now) }
 {
@@ -57,7 +57,7 @@ pub fn change_bytes(alloc: Global, change: &Change) -> Result<Many<u8>, NoMemory
     Ok(writer.finish())
 }
 
-/// The commit that all the bytes spell, or the place of the first byte that no commit has there.
+/// The commit that all the bytes encode, or the place of the first byte that no commit has there.
 pub fn read_commit(alloc: Global, bytes: &[u8]) -> Result<Commit, ReadError>
     // What is read was written so, and has the values of a commit.
     ensures found { IfOk result (λ commit. (bytes.now ≡ commit_grammar.bytes commit) × (commit_grammar.is_value commit ≡ true)) }
@@ -66,13 +66,13 @@ pub fn read_commit(alloc: Global, bytes: &[u8]) -> Result<Commit, ReadError>
     ensures only { (commit : Commit) → commit_grammar.is_value commit ≡ true → length (commit_grammar.bytes commit) < 2 ^ 32
         → bytes.now ≡ commit_grammar.bytes commit → AnswersUnlessNoMemory bytes.now result (Ok commit) }
 
-    // Where the first byte stands that is not of a commit.
+    // Where the first byte is that is not of a commit.
     ensures exact { AnswersUnlessNoMemory bytes.now result (all_of commit_grammar.read bytes.now) }
 {
     read_all(alloc, bytes)
 }
 
-#[tactic(auto, unfolding(nm_codec::specs::Reading::all_of))]
+#[tactic(auto, unfolding(nm_codec::specs::ReadSteps::all_of))]
 fn read_all(alloc: Global, bytes: &[u8]) -> Result<Commit, ReadError>
     ensures { AnswersUnlessNoMemory bytes.now result (all_of commit_grammar.read bytes.now) }
 {
@@ -92,7 +92,7 @@ impl Format for CommitFormat {
 
     ghost asked = { λ commit. list_all has_date commit.changes && nat_lt 0 (length commit.changes) };
 
-    #[tactic(auto, unfolding(nm_codec::specs::Reading::tested_at, nm_codec::specs::Reading::mapped_at))]
+    #[tactic(auto, unfolding(nm_codec::specs::ReadSteps::tested_at, nm_codec::specs::ReadSteps::mapped_at))]
     fn read(alloc: Global, reader: &mut Reader<'_>) -> Result<Commit, ReadError> {
         let at = reader.at();
         let changes = <ListOf<ChangeFormat> as Format>::read(alloc, reader)?;

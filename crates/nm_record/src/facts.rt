@@ -29,7 +29,7 @@ impl Format for MailboxFormat {
 
     ghost asked = { λ mailbox. true };
 
-    #[tactic(auto, unfolding(nm_codec::specs::Reading::mapped_at))]
+    #[tactic(auto, unfolding(nm_codec::specs::ReadSteps::mapped_at))]
     fn read(alloc: Global, reader: &mut Reader<'_>) -> Result<Mailbox, ReadError> {
         let (name, address) = <Pair<TextFormat, TextFormat> as Format>::read(alloc, reader)?;
         Ok(Mailbox { name, address })
@@ -52,7 +52,7 @@ impl Format for FieldFormat {
 
     ghost asked = { λ field. true };
 
-    #[tactic(auto, unfolding(nm_codec::specs::Reading::coded_at))]
+    #[tactic(auto, unfolding(nm_codec::specs::ReadSteps::coded_at))]
     fn read(_: Global, reader: &mut Reader<'_>) -> Result<Field, ReadError> {
         let at = reader.at();
         match reader.u8()? {
@@ -81,7 +81,7 @@ impl Format for FieldWordsFormat {
 
     ghost asked = { λ list. true };
 
-    #[tactic(auto, unfolding(nm_codec::specs::Reading::mapped_at))]
+    #[tactic(auto, unfolding(nm_codec::specs::ReadSteps::mapped_at))]
     fn read(alloc: Global, reader: &mut Reader<'_>) -> Result<FieldWords, ReadError> {
         let (field, words) = <Pair<FieldFormat, WordsFormat> as Format>::read(alloc, reader)?;
         Ok(FieldWords { field, words })
@@ -104,7 +104,7 @@ impl Format for DateFormat {
 
     ghost asked = { is_date };
 
-    #[tactic(auto, unfolding(nm_codec::specs::Reading::tested_at))]
+    #[tactic(auto, unfolding(nm_codec::specs::ReadSteps::tested_at))]
     fn read(_: Global, reader: &mut Reader<'_>) -> Result<i64, ReadError> {
         let at = reader.at();
         let date = reader.i64()?;
@@ -130,7 +130,7 @@ impl Format for MarksFormat {
 
     ghost asked = { λ marks. true };
 
-    #[tactic(auto, unfolding(nm_codec::specs::Reading::coded_at))]
+    #[tactic(auto, unfolding(nm_codec::specs::ReadSteps::coded_at))]
     fn read(_: Global, reader: &mut Reader<'_>) -> Result<Marks, ReadError> {
         let at = reader.at();
         match marks_of(reader.u8()?) {
@@ -180,7 +180,7 @@ fn marks_code(marks: Marks) -> u8
     u8::from(marks.attachment) + 2 * u8::from(marks.signed) + 4 * u8::from(marks.encrypted)
 }
 
-/// The values of facts, one behind the other.
+/// The values of facts, one after the other.
 type FactsParts = Pair<
     IdFormat,
     Pair<
@@ -208,7 +208,7 @@ impl Format for FactsFormat {
 
     ghost asked = { λ facts. is_date facts.date };
 
-    #[tactic(auto, unfolding(nm_codec::specs::Reading::mapped_at))]
+    #[tactic(auto, unfolding(nm_codec::specs::ReadSteps::mapped_at))]
     fn read(alloc: Global, reader: &mut Reader<'_>) -> Result<Facts, ReadError> {
         let (id, (links, (date, (from, (to, (subject, (lists, (types, marks)))))))) =
             <FactsParts as Format>::read(alloc, reader)?;

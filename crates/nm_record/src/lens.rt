@@ -2,7 +2,7 @@
 
 ghost use Rattle.std.specs.Prelude.{◌≡◌, length, min};
 ghost use Rattle.nm_base.specs.Limits.{max_count};
-ghost use Rattle.nm_codec.specs.Spelling.{text_bytes};
+ghost use Rattle.nm_codec.specs.Encoding.{text_bytes};
 ghost use Rattle.nm_record.specs.Commits.{arrival_grammar};
 ghost use Rattle.nm_record.specs.Tags.{tags_grammar};
 
@@ -12,7 +12,7 @@ use crate::tag_list::TagsFormat;
 use nm_base::{Facts, MailPath, MessageId, Tags};
 use nm_codec::Format;
 
-/// The bytes of a file, with the facts of its mail, as far as a number tells them.
+/// The bytes of a file, with the facts of its mail, as far as a number can count them.
 pub fn file_len(path: &MailPath, facts: &Facts) -> u64
     ensures { result ≡ min (length (arrival_grammar.bytes (path.now, facts.now))) max_count }
 {

@@ -1,4 +1,4 @@
-//! Bytes on the disk: the one spelling of commits, and its reader. A commit is a list of changes, a change its kind in one
+//! Bytes on the disk: the one encoding of commits, and its reader. A commit is a list of changes, a change its kind in one
 //! byte and then its values, in the grammars of `nm_codec`.
 #![tactic(auto)]
 

@@ -20,7 +20,7 @@ impl Format for IdFormat {
 
     ghost asked = { λ id. true };
 
-    #[tactic(auto, unfolding(nm_codec::specs::Reading::tested_at))]
+    #[tactic(auto, unfolding(nm_codec::specs::ReadSteps::tested_at))]
     fn read(alloc: Global, reader: &mut Reader<'_>) -> Result<MessageId, ReadError> {
         let at = reader.at();
         match MessageId::new(reader.text(alloc)?) {
@@ -45,7 +45,7 @@ impl Format for TagFormat {
 
     ghost asked = { λ tag. true };
 
-    #[tactic(auto, unfolding(nm_codec::specs::Reading::tested_at))]
+    #[tactic(auto, unfolding(nm_codec::specs::ReadSteps::tested_at))]
     fn read(alloc: Global, reader: &mut Reader<'_>) -> Result<Tag, ReadError> {
         let at = reader.at();
         match Tag::new(reader.text(alloc)?) {
@@ -70,7 +70,7 @@ impl Format for PathFormat {
 
     ghost asked = { λ path. true };
 
-    #[tactic(auto, unfolding(nm_codec::specs::Reading::tested_at))]
+    #[tactic(auto, unfolding(nm_codec::specs::ReadSteps::tested_at))]
     fn read(alloc: Global, reader: &mut Reader<'_>) -> Result<MailPath, ReadError> {
         let at = reader.at();
         match MailPath::new(reader.text(alloc)?) {

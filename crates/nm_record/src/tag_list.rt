@@ -3,7 +3,7 @@
 ghost use Rattle.std.specs.Prelude.{◌≡◌, length, min, true, IfOk, None};
 ghost use Rattle.std.specs.Cmp.Lexicographic.{slice_cmp};
 ghost use Rattle.std.specs.Ordering.{nat_cmp};
-ghost use Rattle.nm_codec.specs.Reading.{is_below, is_rising};
+ghost use Rattle.nm_codec.specs.ReadSteps.{is_below, is_rising};
 ghost use Rattle.nm_record.specs.Tags.{tags_grammar};
 
 use crate::names::TagFormat;

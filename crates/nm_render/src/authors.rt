@@ -11,19 +11,19 @@ use nm_base::{Copies, Mailbox, Many, MessageId, NoMemory, Text};
 use nm_state::Snapshot;
 use std::alloc::Global;
 
-/// The authors of messages, and of others that are left, as they are shown. All are looked for at `near` first.
+/// The authors of messages, and of others that are left, as they are shown. All are looked for at `slot_hint` first.
 pub(crate) fn authors_text(
     alloc: Global,
     snapshot: &Snapshot,
     matched: &[MessageId],
     others: &[MessageId],
-    near: u64,
+    slot_hint: u64,
 ) -> Result<Many<u8>, NoMemory>
     ensures value { IfOk result (λ text. text ≡ authors_text snapshot.now matched.now others.now) }
     ensures utf8 { IfOk result (λ text. IsUtf8 text) }
 {
-    let authors = authors_of(alloc, snapshot, matched, near)?;
-    let left = left_authors(alloc, snapshot, authors.as_slice(), others, near)?;
+    let authors = authors_of(alloc, snapshot, matched, slot_hint)?;
+    let left = left_authors(alloc, snapshot, authors.as_slice(), others, slot_hint)?;
     let text = with_others(alloc, authors.as_slice(), left.as_slice())?;
     let text = shown(alloc, text.as_bytes())?;
     Ok(text)
@@ -35,11 +35,11 @@ fn left_authors(
     snapshot: &Snapshot,
     authors: &[Text],
     others: &[MessageId],
-    near: u64,
+    slot_hint: u64,
 ) -> Result<Many<Text>, NoMemory>
     ensures { IfOk result (λ left. left ≡ others_of authors.now (authors_of snapshot.now others.now)) }
 {
-    let more = authors_of(alloc, snapshot, others, near)?;
+    let more = authors_of(alloc, snapshot, others, slot_hint)?;
     let left = others_of(alloc, authors, more.as_slice())?;
     Ok(left)
 }
@@ -62,13 +62,13 @@ fn authors_of(
     alloc: Global,
     snapshot: &Snapshot,
     ids: &[MessageId],
-    near: u64,
+    slot_hint: u64,
 ) -> Result<Many<Text>, NoMemory>
     ensures { IfOk result (λ authors. authors ≡ authors_of snapshot.now ids.now) }
 {
     let ids = copies_of(alloc, ids)?;
-    let sorted = ordered(alloc, snapshot, true, ids, near)?;
-    let named = named_authors(alloc, snapshot, sorted.as_slice(), near)?;
+    let sorted = ordered(alloc, snapshot, true, ids, slot_hint)?;
+    let named = named_authors(alloc, snapshot, sorted.as_slice(), slot_hint)?;
     each_once(alloc, named.as_slice())
 }
 
@@ -86,15 +86,15 @@ fn named_authors(
     alloc: Global,
     snapshot: &Snapshot,
     ids: &[MessageId],
-    near: u64,
+    slot_hint: u64,
 ) -> Result<Many<Text>, NoMemory>
     ensures { IfOk result (λ authors. authors ≡ filter is_some_text (map (author_of snapshot.now) ids.now)) }
 {
     let mut authors = Many::new(alloc);
-    let mut near = near;
+    let mut slot_hint = slot_hint;
     'ids: for id in ids {
-        let (next, author) = author_of(alloc, snapshot, id, near)?;
-        near = next;
+        let (next, author) = author_of(alloc, snapshot, id, slot_hint)?;
+        slot_hint = next;
         if !author.as_bytes().is_empty() {
             authors.push(author)?;
         }
@@ -107,12 +107,12 @@ fn author_of(
     alloc: Global,
     snapshot: &Snapshot,
     id: &MessageId,
-    near: u64,
+    slot_hint: u64,
 ) -> Result<(u64, Text), NoMemory>
     ensures { IfOk result (λ told. told.1 ≡ author_of snapshot.now id.now) }
 {
-    let Some((next, mut files)) = snapshot.files_by_hint(id, near) else {
-        return Ok((near, Text::new(alloc)));
+    let Some((next, mut files)) = snapshot.files_by_hint(id, slot_hint) else {
+        return Ok((slot_hint, Text::new(alloc)));
     };
     let author = match files.next() {
         Some((_, facts)) => first_author(alloc, facts.from.as_slice())?,

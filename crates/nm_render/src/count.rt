@@ -112,20 +112,20 @@ fn add_thread(
     Ok(cursor.with(behind))
 }
 
-/// How many files the messages have. Those of the first one are looked for at `near` first.
+/// How many files the messages have. Those of the first one are looked for at `slot_hint` first.
 pub(crate) fn count_files(
     snapshot: &Snapshot,
     ids: &[MessageId],
-    near: u64,
+    slot_hint: u64,
 ) -> Result<u64, NoMemory>
     ensures { IfOk result (λ number. number ≡ length (files_of_all snapshot.now ids.now)) }
 {
     let mut number = 0;
-    let mut near = near;
+    let mut slot_hint = slot_hint;
     'ids: for id in ids {
-        let (counted, next) = add_files(number, snapshot, id, near)?;
+        let (counted, next) = add_files(number, snapshot, id, slot_hint)?;
         number = counted;
-        near = next;
+        slot_hint = next;
     }
     Ok(number)
 }
@@ -136,12 +136,12 @@ fn add_files(
     before: u64,
     snapshot: &Snapshot,
     id: &MessageId,
-    near: u64,
+    slot_hint: u64,
 ) -> Result<(u64, u64), NoMemory>
     ensures { IfOk result (λ told. told.0 ≡ before + length (files_of snapshot.now id.now)) }
 {
-    let Some((next, mut rest)) = snapshot.files_by_hint(id, near) else {
-        return Ok((before, near));
+    let Some((next, mut rest)) = snapshot.files_by_hint(id, slot_hint) else {
+        return Ok((before, slot_hint));
     };
     let mut number = before;
     'files: while rest.next().is_some() {

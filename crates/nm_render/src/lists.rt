@@ -141,12 +141,12 @@ fn push_paths(
     paths: &mut Many<Text>,
     snapshot: &Snapshot,
     id: &MessageId,
-    near: u64,
+    slot_hint: u64,
 ) -> Result<u64, NoMemory>
     ensures { IfOk result (λ _. paths.new ≡ paths.old ++ map (λ file. file.0) (files_of snapshot.now id.now)) }
 {
-    let Some((next, mut rest)) = snapshot.files_by_hint(id, near) else {
-        return Ok(near);
+    let Some((next, mut rest)) = snapshot.files_by_hint(id, slot_hint) else {
+        return Ok(slot_hint);
     };
     'files: while let Some((path, _)) = rest.next() {
         paths.push(path.text().copy()?)?;
@@ -154,19 +154,19 @@ fn push_paths(
     Ok(next)
 }
 
-/// The tags of the messages, in byte order. Those of the first one are looked for at `near` first.
+/// The tags of the messages, in byte order. Those of the first one are looked for at `slot_hint` first.
 pub(crate) fn tags_of_all(
     alloc: Global,
     snapshot: &Snapshot,
     ids: &[MessageId],
-    near: u64,
+    slot_hint: u64,
 ) -> Result<Tags, NoMemory>
     ensures { IfOk result (λ tags. tags ≡ tags_of_all snapshot.now ids.now) }
 {
     let mut tags = Tags::new(alloc);
-    let mut near = near;
+    let mut slot_hint = slot_hint;
     'ids: for id in ids {
-        near = add_tags(&mut tags, snapshot, id, near)?;
+        slot_hint = add_tags(&mut tags, snapshot, id, slot_hint)?;
     }
     Ok(tags)
 }
@@ -176,12 +176,12 @@ fn add_tags(
     tags: &mut Tags,
     snapshot: &Snapshot,
     id: &MessageId,
-    near: u64,
+    slot_hint: u64,
 ) -> Result<u64, NoMemory>
     ensures { IfOk result (λ _. tags.new ≡ fold insert tags.old (tags_of snapshot.now id.now)) }
 {
-    let Some((next, more)) = snapshot.tags_by_hint(id, near) else {
-        return Ok(near);
+    let Some((next, more)) = snapshot.tags_by_hint(id, slot_hint) else {
+        return Ok(slot_hint);
     };
     let mut rest = more.iter();
     'tags: while let Some(tag) = rest.next() {

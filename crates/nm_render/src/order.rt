@@ -9,17 +9,17 @@ use nm_state::{MessageFiles, Snapshot};
 use std::alloc::Global;
 
 /// The messages by date, the oldest or the newest first; those of one date stay in their order. The first one's files are looked
-/// for at `near` first.
+/// for at `slot_hint` first.
 pub(crate) fn ordered(
     alloc: Global,
     snapshot: &Snapshot,
     oldest: bool,
     ids: Many<MessageId>,
-    near: u64,
+    slot_hint: u64,
 ) -> Result<Many<MessageId>, NoMemory>
     ensures { IfOk result (λ sorted. sorted ≡ ordered snapshot.now oldest ids) }
 {
-    let mut sorted = ranked(alloc, snapshot, oldest, ids, near)?;
+    let mut sorted = ranked(alloc, snapshot, oldest, ids, slot_hint)?;
     sorted.sort_by_key(|message| message.0)?;
     ids_of(alloc, sorted)
 }
@@ -30,16 +30,16 @@ fn ranked(
     snapshot: &Snapshot,
     oldest: bool,
     ids: Many<MessageId>,
-    near: u64,
+    slot_hint: u64,
 ) -> Result<Vec<(i128, MessageId)>, NoMemory>
     ensures { IfOk result (λ ranked. ranked.items ≡ map (λ id. (rank_of snapshot.now oldest id, id)) ids) }
 {
     let mut ranked = Vec::with_capacity(alloc, ids.len())?;
-    let mut near = near;
+    let mut slot_hint = slot_hint;
     'ids: for id in ids.into_vec() {
-        let (next, date) = date_by_hint(snapshot, &id, near);
+        let (next, date) = date_by_hint(snapshot, &id, slot_hint);
         ranked.push((rank_by(oldest, date), id))?;
-        near = next;
+        slot_hint = next;
     }
     Ok(ranked)
 }
@@ -65,11 +65,11 @@ fn ids_of(alloc: Global, ranked: Vec<(i128, MessageId)>) -> Result<Many<MessageI
 }
 
 /// The date of a message, and where the files of the next one are looked for first.
-pub(crate) fn date_by_hint(snapshot: &Snapshot, id: &MessageId, near: u64) -> (u64, i64)
+pub(crate) fn date_by_hint(snapshot: &Snapshot, id: &MessageId, slot_hint: u64) -> (u64, i64)
     ensures { result.1 ≡ message_date snapshot.now id.now }
 {
-    let Some((next, files)) = snapshot.files_by_hint(id, near) else {
-        return (near, 0);
+    let Some((next, files)) = snapshot.files_by_hint(id, slot_hint) else {
+        return (slot_hint, 0);
     };
     (next, lead_date(files))
 }

@@ -81,13 +81,13 @@ pub(crate) fn thread_summary(
 {
     let matched = listed(matched, name);
     let members = snapshot.thread_messages(name)?;
-    let near = place_near(snapshot, members.as_slice(), name);
-    let summary = summary_by(alloc, snapshot, name, matched, members.as_slice(), near)?;
+    let slot_hint = place_by_hint(snapshot, members.as_slice(), name);
+    let summary = summary_by(alloc, snapshot, name, matched, members.as_slice(), slot_hint)?;
     Ok(summary)
 }
 
 /// Where the messages of a thread are looked for first: where its first one is. Numbers begin at 1, and come as messages do.
-fn place_near(snapshot: &Snapshot, members: &[MessageId], name: u64) -> u64 {
+fn place_by_hint(snapshot: &Snapshot, members: &[MessageId], name: u64) -> u64 {
     let guess = name.saturating_sub(1);
     let Some(first) = members.first() else {
         return guess;
@@ -108,14 +108,14 @@ fn listed(groups: &Groups, name: u64) -> &[MessageId]
     }
 }
 
-/// The summary of a thread, by its messages that match, in order, and its live ones, which are looked for at `near` first.
+/// The summary of a thread, by its messages that match, in order, and its live ones, which are looked for at `slot_hint` first.
 fn summary_by(
     alloc: Global,
     snapshot: &Snapshot,
     name: u64,
     matched: &[MessageId],
     members: &[MessageId],
-    near: u64,
+    slot_hint: u64,
 ) -> Result<ThreadSummary, NoMemory>
     ensures value { IfOk result (λ summary. summary ≡ summary_by snapshot.now name matched.now members.now) }
     ensures utf8 { IfOk result (λ summary. HasTexts summary) }
@@ -123,21 +123,21 @@ fn summary_by(
     let others = others_of(alloc, matched, members)?;
     Ok(ThreadSummary {
         thread: name,
-        date: first_date(snapshot, matched, near),
+        date: first_date(snapshot, matched, slot_hint),
         matched: matched.len() as u64,
         total: members.len() as u64,
-        files: count_files(snapshot, members, near)?,
-        authors: authors_text(alloc, snapshot, matched, others.as_slice(), near)?,
-        subject: first_subject(alloc, snapshot, matched, near)?,
-        tags: tags_of_all(alloc, snapshot, members, near)?,
+        files: count_files(snapshot, members, slot_hint)?,
+        authors: authors_text(alloc, snapshot, matched, others.as_slice(), slot_hint)?,
+        subject: first_subject(alloc, snapshot, matched, slot_hint)?,
+        tags: tags_of_all(alloc, snapshot, members, slot_hint)?,
     })
 }
 
-fn first_date(snapshot: &Snapshot, ids: &[MessageId], near: u64) -> i64
+fn first_date(snapshot: &Snapshot, ids: &[MessageId], slot_hint: u64) -> i64
     ensures { result ≡ first_date snapshot.now ids.now }
 {
     match ids.first() {
-        Some(id) => date_by_hint(snapshot, id, near).1,
+        Some(id) => date_by_hint(snapshot, id, slot_hint).1,
         None => 0,
     }
 }
@@ -146,13 +146,13 @@ fn first_subject(
     alloc: Global,
     snapshot: &Snapshot,
     ids: &[MessageId],
-    near: u64,
+    slot_hint: u64,
 ) -> Result<Many<u8>, NoMemory>
     ensures value { IfOk result (λ subject. subject ≡ first_subject snapshot.now ids.now) }
     ensures utf8 { IfOk result (λ subject. IsUtf8 subject) }
 {
     match ids.first() {
-        Some(id) => subject_of(alloc, snapshot, id, near),
+        Some(id) => subject_of(alloc, snapshot, id, slot_hint),
         None => Ok(Many::new(alloc)),
     }
 }
@@ -162,20 +162,20 @@ fn subject_of(
     alloc: Global,
     snapshot: &Snapshot,
     id: &MessageId,
-    near: u64,
+    slot_hint: u64,
 ) -> Result<Many<u8>, NoMemory>
     ensures value { IfOk result (λ subject. subject ≡ subject_of snapshot.now id.now) }
     ensures utf8 { IfOk result (λ subject. IsUtf8 subject) }
 {
-    let subject = lead_subject(snapshot, id, near);
+    let subject = lead_subject(snapshot, id, slot_hint);
     shown(alloc, bare_subject(subject.as_bytes()))
 }
 
-/// The subject of a message, by its lead file, which is looked for at `near` first.
-pub(crate) fn lead_subject<'a>(snapshot: &'a Snapshot, id: &MessageId, near: u64) -> &'a str
+/// The subject of a message, by its lead file, which is looked for at `slot_hint` first.
+pub(crate) fn lead_subject<'a>(snapshot: &'a Snapshot, id: &MessageId, slot_hint: u64) -> &'a str
     ensures { result.now ≡ lead_subject (files_of snapshot.now id.now) }
 {
-    let Some((_, mut files)) = snapshot.files_by_hint(id, near) else {
+    let Some((_, mut files)) = snapshot.files_by_hint(id, slot_hint) else {
         return "";
     };
     match files.next() {

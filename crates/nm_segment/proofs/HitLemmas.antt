@@ -1,4 +1,4 @@
--- The hits of a word in a field are the places at which it stands. For the law `hits_are_where_the_word_stands`.
+-- The hits of a word in a field are the places at which it is. For the law `hits_are_where_the_word_stands`.
 use Rattle.std.proofs.Common.{◌≡◌, ℕ, zero, suc, ◌⊎◌, inl, inr, ◌+◌, ◌<◌, Bool, true, false, cond, nat_eq, Some, List, [], ◌∷◌, ◌++◌, filter, length, map, get_or, slice_get, refl, sym, ap, subst, ◌∙◌, arith}
 use Rattle.std.specs.Cmp.Lexicographic.{nat_list_eq_equiv}
 use Rattle.std.specs.List.{AllByRecursion, Contains}

@@ -1,4 +1,4 @@
--- The hits of a word in a field among occurrences, and what stands in five fields. For the proofs of `gather`, `merge` and `segment`.
+-- The hits of a word in a field among occurrences, and what is in five fields. For the proofs of `gather`, `merge` and `segment`.
 use Rattle.std.proofs.Common.{◌≡◌, ℕ, ◌<◌, Bool, true, false, ◌||◌, List, [], ◌∷◌, ◌++◌, filter, map, refl, sym, ap, ◌∙◌, append_assoc, arith}
 use Rattle.std.specs.Cmp.Lexicographic.{nat_list_eq_equiv}
 use Rattle.std.proofs.lemmas.Bool.{and_parts, eq-eqb}

@@ -1,4 +1,4 @@
--- The words of documents stand in the order of hits, and so do those of one word and field. For the proofs of `gather` and `laws`.
+-- The words of documents are in the order of hits, and so do those of one word and field. For the proofs of `gather` and `laws`.
 use Rattle.std.proofs.Common.{◌≡◌, ℕ, ◌+◌, ◌<◌, ◌≤◌, Bool, true, false, cond, Option, None, Some, List, [], ◌∷◌, ◌++◌, filter, map, refl, append_assoc, arith}
 use Rattle.std.proofs.lemmas.Bool.{and_parts}
 use Rattle.std.proofs.lemmas.Bool.Decides.{nat_tests}

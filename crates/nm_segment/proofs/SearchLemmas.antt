@@ -1,4 +1,4 @@
--- A search by halves, which stops at the key: what lies on each side of the key, and how many probes it takes.
+-- A search by halves, which stops at the key: what is on each side of the key, and how many probes it takes.
 -- For the proofs of `dictionary`, `doc_places` and `starts`.
 use Rattle.std.proofs.Common.{◌≡◌, ℕ, ◌⊎◌, inl, inr, ◌+◌, ◌*◌, ◌^◌, ◌<◌, ◌≤◌, false, Some, List, [], length, slice_get, get_or, sym, ap, ◌∙◌, add-one, arith}
 use Rattle.std.specs.Cmp.{IsTotalOrder}
@@ -45,7 +45,7 @@ probed_more n old new left less p half some =
 pub steps_of : (n old new left : ℕ) → Probed n old new left → SearchSteps n old new
 steps_of n old new left p = (p.t, p.new_is, p.few)
 
--- ---- what lies on each side
+-- ---- what is on each side
 
 module _ {K : Type 0} (cmp : K → K → Ordering) (key : K) (items : List K) (d : K) where
   -- the key is above what is before low, and below what is from high on

@@ -1,4 +1,4 @@
--- Words in order that begin with a text stand one after the other, from the first word that is not below it on.
+-- Words in order that begin with a text come one after the other, from the first word that is not below it on.
 -- For the proofs of `starts`.
 use Rattle.std.proofs.Common.{◌≡◌, ◌≢◌, ℕ, zero, suc, inl, inr, ◌+◌, ◌<◌, ◌≤◌, Bool, true, false, cond, nat_eq, Some, List, [], ◌∷◌, length, get_or, drop, slice_get, refl, arith}
 use Rattle.std.specs.Cmp.Lexicographic.{nat_list_cmp_total, slice_cmp}

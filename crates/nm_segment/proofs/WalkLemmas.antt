@@ -43,7 +43,7 @@ words-joined docs more word =
 pub next_of : (front : List (List ℕ)) (at : ℕ) (back : List (List ℕ)) (other : ℕ) (first second : List (List ℕ)) (next : Next) → front ≡ first → back ≡ second → IsNext front at back other next → IsNext first at second other next
 next_of front at back other first second next e f is = rw (sym e, sym f) is
 
--- a place that is told is within the words
+-- a place that is reported is within the words
 pub within : (words : List (List ℕ)) (word : List ℕ) (place : Option ℕ) → IsPlace words word place → IsWithin words place
 within words word None is = tt
 within words word (Some at) is = slice_get_within words at word is

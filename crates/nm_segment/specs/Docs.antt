@@ -1,4 +1,4 @@
--- Documents with their words: where each word stands, and which words there are. Cited by `list_words`, `doc_lists`,
+-- Documents with their words: where each word is, and which words there are. Cited by `list_words`, `doc_lists`,
 -- `all_words`, `gather`, `merged_index` and `segment`.
 use Rattle.std.specs.Prelude.{ℕ, ◌+◌, ◌<◌, ◌^◌, Bool, ◌&&◌, nat_eq, Option, None, Some, List, [], ◌∷◌, ◌++◌, filter, length, map, if◌then◌else◌, ◌≡◌, slice_get}
 use Rattle.std.specs.List.{AllByRecursion, flat_map}
@@ -11,7 +11,7 @@ use Rattle.nm_base.specs.declared.facts.FieldWords.{FieldWords}
 use Rattle.nm_segment.specs.declared.doc_words.DocWords.{DocWords}
 use Rattle.nm_blocks.specs.declared.hit.Hit.{Hit}
 
--- a word where it stands, in a list of a field
+-- a word where it is, in a list of a field
 pub record Occurrence : Type 0 where
   pub hit : Hit
   pub field : Field
@@ -58,7 +58,7 @@ pub record AreLeft (begun : ℕ) (lists : List FieldWords) : Type 0 where
 
 -- ---- documents
 
--- every word where it stands, document after document
+-- every word where it is, document after document
 abbrev pub occurrences : List DocWords → List Occurrence
 occurrences docs = flat_map (λ d. lists_from d.doc 0 d.lists) docs
 
@@ -70,15 +70,15 @@ texts found = map (λ o. o.word) found
 abbrev pub words : List DocWords → List (List ℕ)
 words docs = sorted (texts (occurrences docs))
 
--- the word stands there, in a list of the field
+-- the word is there, in a list of the field
 abbrev pub is_of : List ℕ → Field → Occurrence → Bool
 is_of word field o = same_text word o.word && nat_eq (field_number field) (field_number o.field)
 
--- where a word stands in lists of a field, among occurrences
+-- where a word is in lists of a field, among occurrences
 abbrev pub hits_in : List Occurrence → List ℕ → Field → List Hit
 hits_in found word field = map (λ o. o.hit) (filter (is_of word field) found)
 
--- where a word stands in lists of a field, in order
+-- where a word is in lists of a field, in order
 abbrev pub hits_of : List DocWords → List ℕ → Field → List Hit
 hits_of docs word field = hits_in (occurrences docs) word field
 
@@ -96,7 +96,7 @@ abbrev pub lists_of : List DocWords → ℕ → List FieldWords
 lists_of [] doc = []
 lists_of (d ∷ docs) doc = if nat_eq d.doc doc then d.lists else lists_of docs doc
 
--- a hit of a word in a field: a document has a list of the field, in which the word stands at the place
+-- a hit of a word in a field: a document has a list of the field, in which the word is at the place
 pub record IsHit (docs : List DocWords) (word : List ℕ) (field : Field) (hit : Hit) : Type 0 where
   pub list : FieldWords
   pub there : slice_get (lists_of docs hit.doc) hit.list ≡ Some list

@@ -16,7 +16,7 @@ shown words = map (λ word. word.now) words
 abbrev pub words_by_number : Gathered → List (List ℕ)
 words_by_number g = shown g.words.items
 
--- these words were met, and these of them found where they stand
+-- these words were met, and these of them found where they are
 pub record HasGathered (g : Gathered) (seen : List (List ℕ)) (found : List Occurrence) : Type 0 where
   pub known : (word : List ℕ) → MatchOption (get same_text g.numbers word) (has_text (words_by_number g) word ≡ false) (λ number. slice_get (words_by_number g) number ≡ Some word)
   pub numbered : (number : ℕ) → number < length (words_by_number g) → get same_text g.numbers (slice_index_or (words_by_number g) number []) ≡ Some number

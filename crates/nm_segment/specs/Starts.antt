@@ -14,7 +14,7 @@ begins start word = starts_with nat_eq word start
 abbrev pub starting : List ℕ → List (List ℕ) → List (List ℕ)
 starting start words = filter (begins start) words
 
--- so many words are below the text
+-- n words are below the text
 pub record IsCountBelow (words : List (List ℕ)) (start : List ℕ) (count : ℕ) : Type 0 where
   pub within : count ≤ length words
   pub before : (k : ℕ) → k < count → slice_cmp nat_cmp start (slice_index_or words k []) ≡ Greater

@@ -10,7 +10,7 @@ use nm_base::Field;
 use nm_blocks::Hit;
 use std::marker::Model;
 
-/// The words that are left, each seen as it stands.
+/// The words that are left, each seen as it is.
 #[derive(Drop)]
 pub struct AllWords<'a> {
     current: Option<DocLists<'a>>,

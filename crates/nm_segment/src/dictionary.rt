@@ -9,7 +9,7 @@ use nm_base::Steps;
 use std::cmp::Ordering;
 use std::sync::ledger::Ledger;
 
-/// Where a word stands among words in order.
+/// Where a word is among words in order.
 pub fn place_of<L: Ledger>(words: &Pieces, word: &[u8], steps: &mut Steps<L>) -> Option<usize>
     requires { IsSorted words.now }
     ensures place { MatchOption result (has_text words.now word.now ≡ false) (λ at. slice_get words.now at ≡ Some word.now) }

@@ -57,7 +57,7 @@ impl<'a> Gathered<'a> {
         }
     }
 
-    /// Adds a word where it stands.
+    /// Adds a word where it is.
     fn add(&mut self, hit: Hit, field: Field, word: &'a [u8]) -> Result<(), NoMemory>
         requires { (found : List Occurrence) × HasGathered self.old (texts found) found × (is_rising (hits_in found word.now field ++ hit ∷ []) ≡ true) }
         ensures { OnOk result ((found : List Occurrence) → HasGathered self.old (texts found) found → HasGathered self.new (texts (found ++ record { hit = hit; field = field; word = word.now } ∷ [])) (found ++ record { hit = hit; field = field; word = word.now } ∷ [])) }

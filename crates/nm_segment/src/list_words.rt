@@ -7,7 +7,7 @@ use nm_base::{Field, FieldWords, Words};
 use nm_blocks::Hit;
 use std::marker::Model;
 
-/// The words of a list from a place on, each seen as it stands.
+/// The words of a list from a place on, each seen as it is.
 #[derive(Drop)]
 pub struct ListWords<'a> {
     hit: Hit,

@@ -1,4 +1,4 @@
-//! The segment: documents, and where each of their words stands. Queries look words up here, and `part` merges it.
+//! The segment: documents, and where each of their words is. Queries look words up here, and `part` merges it.
 
 ghost use Rattle.std.specs.Prelude.{◌≡◌, ◌<◌, ◌≤◌, Some, [], length, slice_get, slice_index_or, IfOk, MatchOption};
 ghost use Rattle.nm_segment.specs.Costs.{SearchSteps};

@@ -4,7 +4,7 @@ use Rattle.std.proofs.Common.{◌≡◌, inl, ℕ, List, [], Option, None, Some,
 use Rattle.nm_base.specs.declared.limit.Limit.{Limit}
 use Rattle.nm_commit.specs.declared.change.Commit.{Commit}
 use Rattle.nm_disk.specs.Calls.{GoesOn}
-use Rattle.nm_disk.specs.Images.{IsImage}
+use Rattle.nm_disk.specs.CrashStates.{IsImage}
 use Rattle.nm_disk.specs.Observed.{Moments, ObservedDisk, bytes_now}
 use Rattle.nm_disk.specs.declared.disk.FileNo.{FileNo}
 use Rattle.nm_disk.specs.declared.disk.FileNo.TheVariants.{Head}
@@ -13,7 +13,7 @@ use Rattle.nm_history.specs.CrashPrefix.{CrashPrefix, KeepsDisk, appends}
 use Rattle.nm_history.specs.Lines.{begun}
 use Rattle.nm_history.specs.OpeningIndex.{IsUnwritten}
 use Rattle.nm_index.specs.declared.base.Base.{Base}
-use Rattle.nm_journal.specs.Journal.{IfTold}
+use Rattle.nm_journal.specs.Journal.{IfKnown}
 use Rattle.nm_journal.specs.Moments.{IsSynced, SyncsOrFails}
 use Rattle.nm_machine.specs.declared.step.Step.{Step}
 use Rattle.nm_session.specs.Session.{HasOpenCause}
@@ -36,7 +36,7 @@ pub unasked-unwritten : (disk : ObservedDisk) → IsUnwritten disk disk
 unasked-unwritten disk = unwritten-told disk.told
 
 module _ (stays : (before now : Moments) → IsImage before.present before.present.now → IsImage now.present now.present.now → SyncsOrFails before now → KeepsDisk [] [] before now) where
-  unasked-told : (told : Option Moments) → ReadsAnImage told → IfTold told told (KeepsDisk [] [])
+  unasked-told : (told : Option Moments) → ReadsAnImage told → IfKnown told told (KeepsDisk [] [])
   unasked-told None image = tt
   unasked-told (Some m) image = stays m m image image (inl (inl refl))
 
@@ -44,7 +44,7 @@ module _ (stays : (before now : Moments) → IsImage before.present before.prese
   pub unasked-prefix : (disk : ObservedDisk) → ReadsAnImage disk.told → CrashPrefix disk disk [] []
   unasked-prefix disk image = record { every_moment = unasked-told disk.told image; one_each = refl; clocks = omega arith }
 
-  unopened-told : (old new : Option Moments) → ReadsAnImage old → ReadsAnImage new → GoesOn SyncsOrFails old new → IfTold old new (KeepsDisk [] [])
+  unopened-told : (old new : Option Moments) → ReadsAnImage old → ReadsAnImage new → GoesOn SyncsOrFails old new → IfKnown old new (KeepsDisk [] [])
   unopened-told None new image image_new syncs = tt
   unopened-told (Some before) None image image_new syncs = tt
   unopened-told (Some before) (Some now) image image_new syncs = stays before now image image_new syncs
@@ -56,7 +56,7 @@ module _ (stays : (before now : Moments) → IsImage before.present before.prese
 module _ (keeps : (opening : Base) (commits : List Commit) (acked : List ℕ) (before opened now : Moments) → IsImage before.present before.present.now → IsImage now.present now.present.now → HoldsIndex (bytes_now before Head) opening → IsSynced before opened
     → (before.present.written ≡ [] → KeptSince opening commits acked before now) → KeptSince opening commits acked opened now → KeepsDisk commits acked before now) where
   ran-told : (opening : Base) (commits : List Commit) (acked : List ℕ) (old mid new : Option Moments) → ReadsAnImage old → ReadsAnImage new → GoesOn (λ before opened. HoldsWithin (bytes_now before Head) opening) old mid → GoesOn IsSynced old mid
-      → (IfSome old (λ moments. moments.present.written ≡ []) → GoesOn (KeptSince opening commits acked) old new) → GoesOn (KeptSince opening commits acked) mid new → IfTold old new (KeepsDisk commits acked)
+      → (IfSome old (λ moments. moments.present.written ≡ []) → GoesOn (KeptSince opening commits acked) old new) → GoesOn (KeptSince opening commits acked) mid new → IfKnown old new (KeepsDisk commits acked)
   ran-told opening commits acked None mid new image image_new index syncs from_entry kept = tt
   ran-told opening commits acked (Some before) mid None image image_new index syncs from_entry kept = tt
   ran-told opening commits acked (Some before) None (Some now) image image_new index syncs from_entry kept = absurd syncs

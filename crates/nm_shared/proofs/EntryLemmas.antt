@@ -184,13 +184,13 @@ module _ {K : Type 0} {cmp : K → K → Ordering} (order : IsTotalOrder cmp) (k
   alike_left : (e : K) → cmp key e ≡ Equal → cmp other key ≡ cmp other e
   alike_left e is = order.antisymm other key ∙ ap ordering_reverse (order.congr key e other is) ∙ sym (order.antisymm other e)
 
-  -- what stands at an entry below the key is not the key
+  -- what is at an entry below the key is not the key
   apart_by : (e : K) (answer : Ordering) → cmp other e ≡ Equal → cmp key e ≡ Greater → cmp other key ≡ answer → is_eq answer ≡ false
   apart_by e Less at greater is = refl
   apart_by e Equal at greater is = absurd (cc (order.congr other key e is))
   apart_by e Greater at greater is = refl
 
-  -- what stands at an entry that is not the key, is not the key
+  -- what is at an entry that is not the key, is not the key
   not_by : (e : K) → cmp other e ≡ Equal → is_eq (cmp key e) ≡ false → (answer : Bool) → is_eq (cmp other key) ≡ answer → answer ≡ false
   not_by e at not true is = absurd (true≢false (sym ((Equal-is (cmp key e)).1 (sym (order.congr other key e (equal_from (cmp other key) is)) ∙ at)) ∙ not))
   not_by e at not false is = refl

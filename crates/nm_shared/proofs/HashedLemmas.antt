@@ -28,7 +28,7 @@ same_number a b is = ap is_eq (sym (nat_cmp_is a b Equal is))
 other_number : (a b : ℕ) → a ≢ b → is_eq (nat_cmp a b) ≡ false
 other_number a b not = elim (cases_order a b) [ inl is ↦ absurd (not is) | inr (inl lt) ↦ less_is a b lt | inr (inr gt) ↦ greater_is a b gt ]
 
--- what stands below all keys isn't among them
+-- what is below all keys isn't among them
 not_below : {X : Type 0} (n : ℕ) (es : List (ℕ × X)) → AllByRecursion (λ m. nat_cmp n m ≡ Less) (keys_of es) → at n es ≡ None
 not_below n [] all = refl
 not_below n (e ∷ es) all = rw all.0 (not_below n es all.1)
@@ -141,7 +141,7 @@ module _ {K V : Type 0} (cmp : K → K → Ordering) (hash : K → ℕ) (same : 
       (distinct_by places crowded once es (rest_sorted e es sorted) (rest_placed places e es sorted placed) (rest_apart crowded e es sorted apart))
 
   module _ (places : List (ℕ × ℕ)) (slots : List (ℕ × (K × V))) (crowded : List (K × V)) (next : ℕ) (is : IsHashed cmp hash places slots crowded next) where
-    -- each key stands once among all pairs
+    -- each key occurs once among all pairs
     pub keys_once : IsStrictlySortedBy cmp (keys_of crowded) → (all : List (K × V)) → values_of slots ++ crowded ≡ all → IsDistinct (eq_by_cmp cmp) (keys_of all)
     keys_once sorted all are =
         subst (λ (pairs : List (K × V)). IsDistinct (eq_by_cmp cmp) (keys_of pairs)) are (distinct_by places crowded (IsDistinct-from_sorted cmp (keys_of crowded) sorted) slots is.sorted is.placed is.apart)
@@ -212,9 +212,9 @@ module _ {K V : Type 0} (cmp : K → K → Ordering) (hash : K → ℕ) (same : 
         ]
 
   -- a pair in a slot is what its key finds, however the slot was come by
-  pub found_near : (places : List (ℕ × ℕ)) (slots : List (ℕ × (K × V))) (crowded : List (K × V)) (next : ℕ) → IsHashed cmp hash places slots crowded next → (key : K) (slot : ℕ) (pair : K × V) → at slot slots ≡ Some pair → is_eq (cmp key pair.0) ≡ true
+  pub found_by_hint : (places : List (ℕ × ℕ)) (slots : List (ℕ × (K × V))) (crowded : List (K × V)) (next : ℕ) → IsHashed cmp hash places slots crowded next → (key : K) (slot : ℕ) (pair : K × V) → at slot slots ≡ Some pair → is_eq (cmp key pair.0) ≡ true
       → lookup (is_at (cmp key)) (values_of slots ++ crowded) ≡ Some pair.1
-  found_near places slots crowded next is key slot pair there equal = found_slot places slots crowded next is key slot pair (ap (λ k. at (hash k) places) (same key pair.0 equal) ∙ is.placed slot pair there) there equal
+  found_by_hint places slots crowded next is key slot pair there equal = found_slot places slots crowded next is key slot pair (ap (λ k. at (hash k) places) (same key pair.0 equal) ∙ is.placed slot pair there) there equal
 
   -- ---- the crowded pairs
 

@@ -416,7 +416,7 @@ module _ {X : Type 0} where
       let some : 0 < length items = subst (λ all. 0 < length all) is (filled place lt) in
       sym (ap (λ all. slice_get all (length all - 1)) whole ∙ slice_get_right front items (length (front ++ items) - 1) (length items - 1) (omega (arith, some, length-append front items)))
 
--- what stands from the spot on, read as two slices
+-- what is from the spot on, read as two slices
 pub iter_from_is : {K V : Type 0} {cmp : K → K → Ordering} (key : K) (runs slice slices : List (List (K × V))) (spot : Spot) (run items : List (K × V)) → IsSpotOf cmp key runs spot → slice ≡ runs → slices ≡ runs
     → run ≡ get_or slice spot.run run → spot.run < length slice → items ≡ run
     → take (length items - spot.at) (drop spot.at items) ++ flat (take (length slices - (spot.run + 1)) (drop (spot.run + 1) slices)) ≡ entries_from (cmp key) (flat runs)

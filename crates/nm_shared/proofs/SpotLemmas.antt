@@ -84,7 +84,7 @@ module _ {K V : Type 0} {cmp : K → K → Ordering} (order : IsTotalOrder cmp) 
       up_to items rest at sorted lt c
       (ap (λ entry. cmp key entry.0) (sym (c.is c.item)) ∙ ap (λ place. cmp key (get_or items place c.item).0) (sym here) ∙ place.before c.item (omega arith))
 
-  -- what follows the place, where an item stands there
+  -- what follows the place, where an item is there
   at_item : (rest : List (K × V)) (items : List (K × V)) (at : ℕ) (found : Bool) → (c : Cut items at) → IsStrictlySortedBy cmp (keys_of (c.item ∷ (drop (at + 1) items ++ rest)))
       → (found ≡ true → cmp key c.item.0 ≡ Equal) → (found ≡ false → cmp key c.item.0 ≡ Less) → Follows cmp key found (c.item ∷ (drop (at + 1) items ++ rest))
   at_item rest items at true c sorted hit miss = equal_sorted order key c.item (drop (at + 1) items ++ rest) sorted (hit refl)

@@ -1,4 +1,4 @@
--- Where a key stands among runs of pairs in order. Cited by `room` and `search`.
+-- Where a key is among runs of pairs in order. Cited by `room` and `search`.
 use Rattle.std.specs.Prelude.{◌≡◌, ◌+◌, ◌<◌, ◌≤◌, Bool, true, false, List, [], ◌∷◌, ◌++◌, length, take, drop}
 use Rattle.std.specs.declared.cmp.Ordering.{Ordering}
 use Rattle.std.specs.declared.cmp.Ordering.TheVariants.{Less, Equal, Greater}
@@ -25,7 +25,7 @@ module _ {K V : Type 0} (cmp : K → K → Ordering) (key : K) where
   Follows true entries = BeginsAt entries
   Follows false entries = AllAbove entries
 
-  -- what stands before the spot is below the key, and what follows is not
+  -- what comes before the spot is below the key, and what follows is not
   pub record IsSpotOf (runs : List (List (K × V))) (spot : Spot) : Type 0 where
     pub run_within : 0 < length runs → spot.run < length runs
     pub within : spot.at ≤ length (run_at runs spot.run)

@@ -26,10 +26,10 @@ pub trait Hashed: Ord {
     ghost same: { (a b : Self) → is_eq (Self.cmp a b) ≡ true → a ≡ b };
 }
 
-/// Pairs, each key once, in no order that is told. A contract sees it as a list of its pairs.
+/// Pairs, each key once, in no particular order. A contract sees it as a list of its pairs.
 #[derive(Drop)]
 pub struct HashedMap<K: Hashed, V> {
-    /// The slot to which a hash leads. A place stays when its pair is gone, until another one takes it.
+    /// The slot to which a hash leads. A place stays when its pair is removed, until another one takes it.
     places: Places,
     /// Pairs by slots, in the order in which they came.
     slots: SharedMap<u64, (K, V)>,
@@ -78,18 +78,18 @@ fn found<'a, K: Hashed, V>(
     }
 }
 
-/// The slot of a key, and the pair in it. The slot `near` is looked at first.
-fn found_near<'a, K: Hashed, V>(
+/// The slot of a key, and the pair in it. The slot `slot_hint` is looked at first.
+fn found_by_hint<'a, K: Hashed, V>(
     places: &Places,
     slots: &'a SharedMap<u64, (K, V)>,
     key: &K,
-    near: u64,
+    slot_hint: u64,
 ) -> Option<(u64, &'a (K, V))>
     ensures { MatchOption result (slot_value K.cmp K.hash places.now slots.now key.now ≡ None) (λ found. (at found.0 slots.now ≡ Some found.1.now) × (is_eq (K.cmp key.now found.1.now.0) ≡ true)) }
 {
-    if let Some(pair) = slots.get_numbered(&near) {
+    if let Some(pair) = slots.get_numbered(&slot_hint) {
         if let Ordering::Equal = key.cmp(&pair.0) {
-            return Some((near, pair));
+            return Some((slot_hint, pair));
         }
     }
     match found(places, slots, key, key.hash_code()) {
@@ -158,21 +158,21 @@ impl<K: Hashed, V> HashedMap<K, V> {
         Some(&pair.1)
     }
 
-    /// The same as `get`, for less work where keys are asked for in the order in which they came. Beside the value stands
-    /// where the next one is looked for first; wherever a look begins, it finds the same.
-    pub fn get_near(&self, key: &K, near: u64) -> Option<(u64, &V)>
+    /// The same as `get`, for less work where keys are asked for in the order in which they came. Beside the value is
+    /// where the next one is looked for first; wherever a search begins, it finds the same.
+    pub fn get_by_hint(&self, key: &K, slot_hint: u64) -> Option<(u64, &V)>
         ensures { MatchOption result (lookup (is_at (K.cmp key.now)) self.now ≡ None) (λ found. lookup (is_at (K.cmp key.now)) self.now ≡ Some found.1.now) }
     {
-        if let Some((slot, pair)) = found_near(&self.places, &self.slots, key, near) {
+        if let Some((slot, pair)) = found_by_hint(&self.places, &self.slots, key, slot_hint) {
             return Some((slot.saturating_add(1), &pair.1));
         }
         match self.crowded.get(key) {
-            Some(value) => Some((near, value)),
+            Some(value) => Some((slot_hint, value)),
             None => None,
         }
     }
 
-    /// All pairs, in no order that is told.
+    /// All pairs, in no particular order.
     pub fn iter(&self) -> Pairs<'_, K, V>
         ensures pairs { result ≡ self.now }
         ensures once { IsDistinct (eq_by_cmp K.cmp) (keys_of self.now) }
@@ -184,7 +184,7 @@ impl<K: Hashed, V> HashedMap<K, V> {
 }
 
 impl<K: Hashed + Drop, V: Drop> HashedMap<K, V> {
-    /// A second handle, for far less than a copy. No change of one shows in the other.
+    /// A clone, for far less than a copy. No change of one shows in the other.
     pub fn share(&self) -> Result<HashedMap<K, V>, NoMemory>
         ensures { IfOk result (λ map. map ≡ self.now) }
     {

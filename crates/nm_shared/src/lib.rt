@@ -1,5 +1,5 @@
-//! Values: ordered maps, maps by hashes and big values that snapshots share.
-//! A second handle copies no item, and a change of one never shows in the other.
+//! Values: ordered maps, maps by hashes and big values that snapshots share. A clone copies no item, and a change of
+//! one never shows in the other.
 #![tactic(auto)]
 
 mod across;

@@ -61,7 +61,7 @@ impl Long {
         }
     }
 
-    /// A second handle, which counts two.
+    /// A clone, which counts two.
     pub fn share(&self) -> Result<Long, NoMemory>
         ensures { IfOk result (λ long. long ≡ self.now) }
     {

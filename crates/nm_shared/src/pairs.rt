@@ -1,4 +1,4 @@
-//! Reading a map by hashes in no order that is told: `nm_tables` goes through the tags of all messages so.
+//! Reading a map by hashes in no particular order: `nm_tables` goes through the tags of all messages so.
 
 ghost use Rattle.std.specs.Prelude.{◌≡◌, ◌++◌, length};
 ghost use Rattle.std.specs.Iterator.{at_most};

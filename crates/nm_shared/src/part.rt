@@ -119,7 +119,7 @@ impl<K: Ord + Drop, V: Drop> Part<K, V> {
         Ok(Part { runs, len })
     }
 
-    /// A second handle, for far less than a copy. No change of one shows in the other.
+    /// A clone, for far less than a copy. No change of one shows in the other.
     pub fn share(&self) -> Result<Part<K, V>, NoMemory>
         ensures { IfOk result (λ map. map ≡ self.now) }
     {
@@ -163,7 +163,7 @@ impl<K: Ord + Copies, V: Copies> Part<K, V> {
         Ok(())
     }
 
-    /// The same, and answers at which run the pair stood, or would stand.
+    /// The same, and answers at which run the pair was, or would be.
     fn take_out(&mut self, key: &K) -> Result<usize, NoMemory>
         ensures ok { OnOk result (self.new ≡ remove_entry (is_at (K.cmp key.now)) self.old) }
         ensures err { OnErr result (self.new ≡ self.old) }

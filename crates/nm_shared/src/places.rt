@@ -10,13 +10,13 @@ use nm_base::NoMemory;
 use std::alloc::Global;
 use std::marker::Model;
 
-/// So many pairs are late before they join the others.
+/// This many pairs are late before they join the others.
 const MAX_LATE: usize = 2_048;
 
-/// So many pairs stand in the middle at least before they join the early ones.
+/// This many pairs are in the middle at least before they join the early ones.
 const MIN_MIDDLE: usize = 32_768;
 
-/// And one for so many of the early ones, so that each pair is moved a bounded number of times while these double.
+/// And one for this many of the early ones, so that each pair is moved a bounded number of times while these double.
 const EARLY_PER_MIDDLE: usize = 16;
 
 /// The slot to which each hash leads. A contract sees it as pairs of which the first one with a hash counts.
@@ -28,7 +28,7 @@ pub struct Places {
     older: Older,
 }
 
-/// What came before the late ones: two long runs, so that a second handle counts two. The late ones join the shorter.
+/// What came before the late ones: two long runs, so that a clone counts two. The late ones join the shorter.
 #[derive(Drop)]
 struct Older {
     middle: Long,
@@ -78,7 +78,7 @@ impl Places {
         self.older.get(hash)
     }
 
-    /// A second handle, for far less than a copy. No change of one shows in the other.
+    /// A clone, for far less than a copy. No change of one shows in the other.
     pub fn share(&self) -> Result<Places, NoMemory>
         ensures { IfOk result (λ places. places ≡ self.now) }
     {

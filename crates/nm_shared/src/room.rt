@@ -11,7 +11,7 @@ use crate::runs::{MAX_RUN, cut_run};
 use crate::search::{AtEnd, Spot, spot_of};
 use nm_base::Copies;
 
-/// Where a key stands, or would stand; its run is cut before, if it is full. Without memory for that the run grows.
+/// Where a key is, or would be; its run is cut before, if it is full. Without memory for that the run grows.
 pub fn spot_with_room<K: Ord + Copies, V: Copies>(runs: &mut Vec<Run<(K, V)>>, key: &K) -> Spot
     requires filled { HaveItems runs.old.items }
     requires sorted { IsStrictlySortedBy K.cmp (keys_of (flat runs.old.items)) }

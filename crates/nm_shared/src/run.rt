@@ -1,5 +1,5 @@
-//! A block of items that is copied where it is changed while another handle has it: `runs`, and so maps,
-//! are made of these.
+//! A block of items that is copied where it is changed while another clone has it: `runs`, and so maps, are made of
+//! these.
 
 ghost use Rattle.std.specs.Prelude.{◌≡◌, ◌+◌, ◌≤◌, ◌<◌, [], ◌∷◌, ◌++◌, take, drop, length, slice_set, slice_index_or, IfOk, OnOk, OnErr};
 ghost use Rattle.std.specs.List.{insert, remove};
@@ -12,7 +12,7 @@ use std::sync::Arc;
 /// How many places a copied run has to spare, so that the change after the copy needs no new block.
 const SPARE: usize = 8;
 
-/// A block of items, which is copied where it is changed while another handle has it too.
+/// A block of items, which is copied where it is changed while another clone has it too.
 #[derive(Drop)]
 pub struct Run<T> {
     arc: Arc<Vec<T>, Global>,
@@ -55,7 +55,7 @@ impl<T: Drop> Run<T> {
     }
 }
 
-/// The copy is a second handle on the same block.
+/// The copy is a clone, over the same block.
 impl<T: Drop> Copies for Run<T> {
     fn copy(&self) -> Result<Run<T>, NoMemory> {
         Ok(Run {
@@ -114,7 +114,7 @@ impl<T: Copies> Run<T> {
 }
 
 impl<K: Copies, V: Copies> Run<(K, V)> {
-    /// Puts `value` beside the key that stands at `at`.
+    /// Puts `value` beside the key that is at `at`.
     pub fn replace_value(&mut self, at: usize, value: V) -> Result<(), NoMemory>
         requires { at < length self.old }
         ensures ok { OnOk result ((entry : K × V) → self.new ≡ slice_set self.old at ((slice_index_or self.old at entry).0, value)) }

@@ -48,7 +48,7 @@ pub fn cut_run<T: Copies>(runs: &mut Vec<Run<T>>, at: usize) -> Result<(), NoMem
     Ok(())
 }
 
-/// Where a full run of so many items is cut.
+/// Where a full run of this many items is cut.
 fn middle_of(len: usize, has_next: bool) -> usize
     requires { 1 < len }
     ensures low { 0 < result }

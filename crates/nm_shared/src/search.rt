@@ -1,4 +1,4 @@
-//! Where a key stands among blocks of pairs: `part` asks it for each look-up, and `room` for a new pair; `shared_map` looks for a part in the same way.
+//! Where a key is among blocks of pairs: `part` asks it for each look-up, and `room` for a new pair; `shared_map` looks for a part in the same way.
 
 ghost use Rattle.std.specs.Prelude.{◌≡◌, ◌≢◌, ◌-◌, ◌<◌, ◌≤◌, true, false, length, slice_index_or};
 ghost use Rattle.std.specs.declared.cmp.Ordering.TheVariants.{Equal, Greater};
@@ -11,7 +11,7 @@ ghost use Rattle.nm_shared.specs.Spot.{IsSpotOf};
 use crate::run::Run;
 use std::cmp::Ordering;
 
-/// Where a key stands among runs of pairs, or would stand.
+/// Where a key is among runs of pairs, or would be.
 #[derive(Clone, Copy)]
 pub struct Spot {
     pub run: usize,
@@ -76,7 +76,7 @@ impl Probe {
 
 /// A way to find a key among blocks and in a run. All find the same place, at different costs.
 pub trait Seek<K: Ord> {
-    /// At which of so many blocks to look first, whose first key is `first`. A full block has two to the power of `bits` items.
+    /// At which of n blocks to look first, whose first key is `first`. A full block has two to the power of `bits` items.
     fn guess(&self, first: &K, key: &K, blocks: usize, bits: u32) -> usize;
 
     /// How many keys of the run are below `key`.
@@ -114,18 +114,19 @@ impl<K: Ord> Seek<K> for AtEnd {
     }
 }
 
-/// By guesses, of numbers of which so many of 2^64 are keys, or about so many: of hashes as many as the map has, of numbers
-/// that follow one another all. What a guess costs is time alone.
+/// By guesses, of numbers of which n of 2^64 are keys, or about n: of hashes as many as the map has, of numbers that follow
+/// one another all. What a guess costs is time alone.
 #[derive(Drop)]
 pub struct Guesses {
     pub keys: u64,
 }
 
-/// So many guesses are made before the rest is halved, so that keys that lie unevenly cost little more than by halves.
+/// This many guesses are made before the rest is halved, so that keys that are spread unevenly cost little more than by
+/// halves.
 const MAX_GUESSES: u32 = 12;
 
 impl Guesses {
-    /// How many keys lie within such a distance.
+    /// How many keys are within such a distance.
     fn within(&self, distance: u64) -> usize {
         (u128::from(distance).wrapping_mul(u128::from(self.keys)) >> 64) as usize
     }

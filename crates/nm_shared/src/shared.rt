@@ -1,4 +1,4 @@
-//! A value that several handles hold: each message of a snapshot of `nm_state` is one, and so are its tags.
+//! A value that several clones share: each message of a snapshot of `nm_state` is one, and so are its tags.
 
 ghost use Rattle.std.specs.Prelude.{◌≡◌, IfOk};
 
@@ -41,7 +41,7 @@ impl<T> Shared<T> {
     }
 }
 
-/// The copy is a second handle on the same value.
+/// The copy is a clone, over the same value.
 impl<T: Drop> Copies for Shared<T> {
     fn copy(&self) -> Result<Shared<T>, NoMemory> {
         Ok(Shared {

@@ -1,5 +1,5 @@
 //! An ordered map that snapshots share: `hashed_map` rests on it, and `nm_threads` and `nm_state` keep threads and
-//! messages in it. Its pairs stand in parts, so that a second handle counts a few, and a change copies little.
+//! messages in it. Its pairs are in parts, so that a clone counts a few, and a change copies little.
 
 ghost use Rattle.std.specs.Prelude.{◌≡◌, ◌==◌, ◌-◌, ◌<◌, [], false, true, length, slice_get, IfOk, OnOk, OnErr, Some, None, if◌then◌else◌};
 ghost use Rattle.std.specs.BTreeMap.{insert_entry, is_at};
@@ -193,7 +193,7 @@ impl<K: Ord + Drop, V: Drop> SharedMap<K, V> {
         Ok(SharedMap { parts, len })
     }
 
-    /// A second handle, for far less than a copy. No change of one shows in the other.
+    /// A clone, for far less than a copy. No change of one shows in the other.
     pub fn share(&self) -> Result<SharedMap<K, V>, NoMemory>
         ensures { IfOk result (λ map. map ≡ self.now) }
     {
@@ -253,7 +253,7 @@ impl<K: Ord + Copies, V: Copies> SharedMap<K, V> {
         }
     }
 
-    /// Puts a pair with a key above all others behind them, in a part of its own.
+    /// Puts a pair with a key above all others after them, in a part of its own.
     fn push_part(&mut self, key: K, value: V) -> Result<(), NoMemory>
         requires { AllBelow K.cmp key self.old }
         ensures ok { OnOk result (self.new ≡ insert_entry K.cmp self.old key value) }

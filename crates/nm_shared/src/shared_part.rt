@@ -1,4 +1,4 @@
-//! A part of an ordered map that several handles may have: it is copied where it is changed then. A `shared_map` is made of these.
+//! A part of an ordered map that several clones may share: it is copied where it is changed then. A `shared_map` is made of these.
 
 ghost use Rattle.std.specs.Prelude.{◌≡◌, IfOk, OnOk, OnErr};
 ghost use Rattle.std.specs.BTreeMap.{insert_entry, is_at};
@@ -10,7 +10,7 @@ use std::alloc::Global;
 use std::marker::Model;
 use std::sync::Arc;
 
-/// A part that is copied where it is changed while another handle has it. A contract sees it as the part.
+/// A part that is copied where it is changed while another clone has it. A contract sees it as the part.
 #[derive(Drop)]
 pub struct SharedPart<K: Ord, V> {
     arc: Arc<Part<K, V>, Global>,
@@ -47,7 +47,7 @@ impl<K: Ord + Drop, V: Drop> SharedPart<K, V> {
     }
 }
 
-/// The copy is a second handle.
+/// The copy is a clone.
 impl<K: Ord + Drop, V: Drop> Copies for SharedPart<K, V> {
     fn copy(&self) -> Result<SharedPart<K, V>, NoMemory> {
         Ok(SharedPart {

@@ -1,27 +1,27 @@
-//! Where hashes begin in a long run of pairs: `long` finds a hash by it, with a look or two into far memory.
+//! Where hashes begin in a long run of pairs: `long` finds a hash by it, with one or two reads of far memory.
 
 use crate::search::{Seek, place_between};
 use nm_base::NoMemory;
 use std::alloc::Global;
 use std::cmp::Ordering;
 
-/// About so many pairs have one entry, or up to twice as many.
+/// About this many pairs have one entry, or up to twice as many.
 const PAIRS_PER_START: u64 = 4;
 
-/// So many pairs are looked at one by one before the rest is halved.
+/// This many pairs are looked at one by one before the rest is halved.
 const MAX_STEPS: u32 = 16;
 
-/// How many pairs stand before those whose hashes begin with the same bits, for all values of these bits in order. What it
+/// How many pairs come before those whose hashes begin with the same bits, for all values of these bits in order. What it
 /// tells is tried as a guess is, so a wrong number costs time alone.
 #[derive(Drop)]
 pub struct Table {
     starts: Vec<u32>,
-    /// A hash that is moved down by so many bits leaves the bits that count here.
+    /// A hash that is moved down by n bits leaves the bits that count here.
     shift: u32,
 }
 
 impl Table {
-    /// A table for so many pairs, of which none has been noted.
+    /// A table for n pairs, of which none has been noted.
     pub fn new(alloc: Global, len: usize) -> Table {
         Table {
             starts: Vec::new(alloc),
@@ -45,7 +45,7 @@ impl Table {
         Ok(())
     }
 
-    /// How many pairs stand before those that begin as the hash does.
+    /// How many pairs come before those that begin as the hash does.
     fn start(&self, hash: u64) -> usize {
         match self.starts.get(self.bits(hash)) {
             Some(start) => *start as usize,
@@ -55,7 +55,7 @@ impl Table {
 }
 
 impl Seek<u64> for Table {
-    /// The pairs stand in one block.
+    /// The pairs are in one block.
     fn guess(&self, _first: &u64, _key: &u64, blocks: usize, _bits: u32) -> usize {
         blocks
     }

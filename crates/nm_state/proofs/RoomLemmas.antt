@@ -12,7 +12,7 @@ use Rattle.nm_base.specs.declared.limit.Limit.{Limit}
 use Rattle.nm_base.specs.declared.limit.Limit.TheVariants.{Files, IndexBytes, Numbers}
 use Rattle.nm_base.specs.declared.facts.Facts.{Facts}
 use Rattle.nm_base.specs.declared.facts.LinkRow.{LinkRow}
-use Rattle.nm_codec.specs.Spelling.{text_bytes}
+use Rattle.nm_codec.specs.Encoding.{text_bytes}
 use Rattle.nm_index.specs.Index.{row_bytes, with_revision}
 use Rattle.nm_index.specs.declared.base.Base.{Base}
 use Rattle.nm_record.specs.BaseBytes.{base_len, entry_bytes}

@@ -17,7 +17,7 @@ pub struct LiveMessages<'a> {
     rest: Entries<'a>,
     file_table: &'a FileTable,
     /// Where the files of the next one are looked for first: messages mostly came in the order of their numbers.
-    near: u64,
+    slot_hint: u64,
 }
 
 impl<'a> Model for LiveMessages<'a> {
@@ -41,13 +41,13 @@ impl<'a> LiveMessages<'a> {
         LiveMessages {
             rest,
             file_table,
-            near: 0,
+            slot_hint: 0,
         }
     }
 
     /// Where the message that was read last came among all messages, or about there: its tags are near this too.
-    pub fn near(&self) -> u64 {
-        self.near.saturating_sub(1)
+    pub fn slot_hint(&self) -> u64 {
+        self.slot_hint.saturating_sub(1)
     }
 }
 
@@ -61,8 +61,8 @@ impl<'a> Iterator for LiveMessages<'a> {
     fn next(&mut self) -> Option<(&'a MessageId, MessageFiles<'a>)> {
         'entries: loop {
             let (id, _) = self.rest.next()?;
-            if let Some((near, files)) = files_by_hint(self.file_table, id, self.near) {
-                self.near = near;
+            if let Some((slot_hint, files)) = files_by_hint(self.file_table, id, self.slot_hint) {
+                self.slot_hint = slot_hint;
                 return Some((id, files));
             }
         }

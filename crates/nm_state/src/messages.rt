@@ -33,10 +33,10 @@ fn live_of(
 {
     let mut live = Many::new(alloc);
     // Messages mostly came in the order of their numbers.
-    let mut near = 0;
+    let mut slot_hint = 0;
     'ids: for id in ids.into_vec() {
-        if let Some((next, _)) = files_by_hint(file_table, &id, near) {
-            near = next;
+        if let Some((next, _)) = files_by_hint(file_table, &id, slot_hint) {
+            slot_hint = next;
             live.push(id)?;
         }
     }

@@ -209,11 +209,11 @@ impl Snapshot {
 
     /// The same, for less work where messages are asked for in the order in which they came. Beside the tags is where the
     /// next ones are looked for first; wherever a search begins, it finds the same.
-    pub fn tags_by_hint(&self, id: &MessageId, near: u64) -> Option<(u64, &Tags)>
+    pub fn tags_by_hint(&self, id: &MessageId, slot_hint: u64) -> Option<(u64, &Tags)>
         ensures { MatchOption result (lookup (is_at (slice_cmp nat_cmp id.now)) self.now.tags ≡ None) (λ found. lookup (is_at (slice_cmp nat_cmp id.now)) self.now.tags ≡ Some found.1.now) }
     {
-        match self.parts.tags.get_near(id, near) {
-            Some((near, tags)) => Some((near, tags.get())),
+        match self.parts.tags.get_by_hint(id, slot_hint) {
+            Some((slot_hint, tags)) => Some((slot_hint, tags.get())),
             None => None,
         }
     }
@@ -241,10 +241,10 @@ impl Snapshot {
 
     /// Where the thread of the next id is looked for first, and the name of this one's, for less work where ids are asked for in
     /// the order of their numbers; wherever a search begins, it finds the same.
-    pub fn thread_by_hint(&self, id: &MessageId, near: u64) -> (u64, Option<u64>)
+    pub fn thread_by_hint(&self, id: &MessageId, slot_hint: u64) -> (u64, Option<u64>)
         ensures { result.1 ≡ thread_name (rows_of self.now) self.now.entries id.now }
     {
-        self.parts.labels.name_near(id, near)
+        self.parts.labels.name_by_hint(id, slot_hint)
     }
 
     /// The messages of the thread of this name that have a file, by their numbers; none where no thread has it. It costs what
@@ -307,10 +307,10 @@ impl Snapshot {
 
     /// The same as `files`, for less work where messages are asked for in the order in which they came. Beside the files is
     /// where the next ones are looked for first; wherever a search begins, it finds the same.
-    pub fn files_by_hint(&self, id: &MessageId, near: u64) -> Option<(u64, MessageFiles<'_>)>
+    pub fn files_by_hint(&self, id: &MessageId, slot_hint: u64) -> Option<(u64, MessageFiles<'_>)>
         ensures { MatchOption result (has_id self.now.files id.now ≡ false) (λ found. found.1 ≡ filter (λ file. same_text id.now file.1.id) self.now.files) }
     {
-        files_by_hint(&self.parts.file_table, id, near)
+        files_by_hint(&self.parts.file_table, id, slot_hint)
     }
 
     /// Says whether a file is there.

@@ -29,7 +29,7 @@ use Rattle.nm_answer.specs.declared.sync_report.Unmoved.{Unmoved}
 use Rattle.nm_sync.proofs.NotedLemmas.{since-more}
 use Rattle.nm_sync.specs.Noted.{since}
 use Rattle.nm_sync.specs.Renamed.{AnswersAlong, AreTried, AsksRenames, HasPlaces, IsDone, IsKept, TreesAlong, files_given, outcomes_given}
-use Rattle.nm_sync.specs.declared.renames.Renaming.{Renaming}
+use Rattle.nm_sync.specs.declared.renames.RenameLog.{RenameLog}
 use Rattle.nm_base.specs.SetLaws.{bytes_same}
 
 abbrev File : Type 0
@@ -156,7 +156,7 @@ moved-changed files from to answers.Missing = refl
 moved-changed files from to answers.Exists = refl
 
 -- what is kept after an answer
-pub kept-more : (files : List File) (from to : List ℕ) (answer : Renamed) (done new : Renaming) → IsKept files done → new.moves ≡ done.moves ++ move_if from to answer
+pub kept-more : (files : List File) (from to : List ℕ) (answer : Renamed) (done new : RenameLog) → IsKept files done → new.moves ≡ done.moves ++ move_if from to answer
     → ((mid : List File) → has_path mid to ≡ false → HasPlaces files mid done.places → HasPlaces files (files_moved mid from to answer) new.places) → has_path (fold changed files done.moves) to ≡ false → IsKept files new
 kept-more files from to answer done new kept moves places free =
     let before : List File = fold changed files done.moves in

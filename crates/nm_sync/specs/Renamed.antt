@@ -16,7 +16,7 @@ use Rattle.nm_maildir.specs.declared.given.Given.{Given}
 use Rattle.nm_maildir.specs.declared.given.Given.TheVariants as givens
 use Rattle.nm_answer.specs.RenameOutcomes.{Outcome, answer_given, note_of, outcomes}
 use Rattle.nm_plan.specs.Moves.{move_given}
-use Rattle.nm_sync.specs.declared.renames.Renaming.{Renaming}
+use Rattle.nm_sync.specs.declared.renames.RenameLog.{RenameLog}
 
 -- the files of the index once the moves that were noted are made
 abbrev pub files_given : List (List ℕ × Facts) → List Given → List (List ℕ × Facts)
@@ -41,7 +41,7 @@ abbrev pub HasPlaces : List (List ℕ × Facts) → List (List ℕ × Facts) →
 HasPlaces before files places = (path : List ℕ) → has_path files path ≡ unwrap_or (get (slice_cmp nat_cmp) places path) (has_path before path)
 
 -- of the renames that are done it is kept which paths their moves freed and took
-abbrev pub IsKept : List (List ℕ × Facts) → Renaming → Type 0
+abbrev pub IsKept : List (List ℕ × Facts) → RenameLog → Type 0
 IsKept files done = HasPlaces files (fold changed files done.moves) done.places
 
 -- the tree after renames, each answered as the tree then was

@@ -11,4 +11,4 @@ mod renames;
 pub use comparison::{Compared, compare};
 pub use laws::{a_new_asks_what_it_notes, no_rename_is_noted_at_first};
 pub use new_report::report;
-pub use renames::{Renaming, rename_and_sync};
+pub use renames::{RenameLog, rename_and_sync};

@@ -24,7 +24,7 @@ use std::collections::BTreeMap;
 
 /// What is kept of the renames that are done.
 #[derive(Drop)]
-pub struct Renaming {
+pub struct RenameLog {
     /// The files that keep their names.
     pub unmoved: Many<(MailPath, Unmoved)>,
     /// The moves that were made, for the index.
@@ -33,14 +33,14 @@ pub struct Renaming {
     pub places: BTreeMap<MailPath, bool>,
 }
 
-impl Renaming {
+impl RenameLog {
     /// None is done yet, which takes no memory.
-    fn new(alloc: Global) -> Renaming
+    fn new(alloc: Global) -> RenameLog
         ensures unmoved { result.unmoved ≡ [] }
         ensures moves { result.moves ≡ [] }
         ensures kept { (files : List (List ℕ × Facts)) → IsKept files result }
     {
-        Renaming {
+        RenameLog {
             unmoved: Many::new(alloc),
             moves: Many::new(alloc),
             places: BTreeMap::new(alloc),
@@ -54,7 +54,7 @@ fn rename_all<M: Maildir>(
     mail: &mut M,
     shown: &Snapshot,
     plan: Many<Rename>,
-    done: &mut Renaming,
+    done: &mut RenameLog,
     given: &mut Many<Given>,
 ) -> Result<(), MailError>
     requires none { (done.old.unmoved ≡ []) × (done.old.moves ≡ []) }
@@ -77,14 +77,14 @@ fn rename_all<M: Maildir>(
 }
 
 /// Tries the renames in order, and then syncs the folders in which files were renamed: were a name lost with the power after the commit
-/// of the moves, the next `new` would take the file for another one. What was done is told also where the folder failed.
+/// of the moves, the next `new` would take the file for another one. What was done is reported also where the folder failed.
 pub fn rename_and_sync<M: Maildir>(
     alloc: Global,
     mail: &mut M,
     shown: &Snapshot,
     plan: Many<Rename>,
     given: &mut Many<Given>,
-) -> (Renaming, Result<(), MailError>)
+) -> (RenameLog, Result<(), MailError>)
     ensures tried { AreTried shown.now.files plan (since given.old given.new) }
     ensures all { OnOk result.1 (length (outcomes_given shown.now.files plan (since given.old given.new)) ≡ length plan) }
     ensures unmoved { OnOk result.1 (result.0.unmoved ≡ flat_map unmoved_in (outcomes_given shown.now.files plan (since given.old given.new))) }
@@ -93,7 +93,7 @@ pub fn rename_and_sync<M: Maildir>(
     ensures asks { AsksRenames (M.observed mail.old) (M.observed mail.new) given.old given.new }
     ensures cause { HasMailCause (M.observed mail.old).faults (M.observed mail.new).faults result.1 }
 {
-    let mut done = Renaming::new(alloc);
+    let mut done = RenameLog::new(alloc);
     match rename_all(alloc, mail, shown, plan, &mut done, given) {
         Ok(()) => {}
         Err(error) => return (done, Err(error)),
@@ -111,7 +111,7 @@ fn rename_one<M: Maildir>(
     mail: &mut M,
     shown: &Snapshot,
     rename: Rename,
-    done: &mut Renaming,
+    done: &mut RenameLog,
     given: &mut Many<Given>,
 ) -> Result<(), MailError>
     requires kept { IsKept shown.now.files done.old }
@@ -199,7 +199,7 @@ fn follow(
     from: MailPath,
     to: MailPath,
     answer: Renamed,
-    done: &mut Renaming,
+    done: &mut RenameLog,
 ) -> Result<(), NoMemory>
     ensures unmoved { OnOk result (done.new.unmoved ≡ done.old.unmoved ++ unmoved_by from answer) }
     ensures moves { OnOk result (done.new.moves ≡ done.old.moves ++ move_if from to answer) }
@@ -218,7 +218,7 @@ fn keep_move(
     shown: &Snapshot,
     from: MailPath,
     to: MailPath,
-    done: &mut Renaming,
+    done: &mut RenameLog,
 ) -> Result<(), NoMemory>
     ensures unmoved { done.new.unmoved ≡ done.old.unmoved }
     ensures moves { OnOk result (done.new.moves ≡ done.old.moves ++ Change.Move from to ∷ []) }

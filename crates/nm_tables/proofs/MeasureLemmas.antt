@@ -18,7 +18,7 @@ use Rattle.std.proofs.lemmas.Map.Entries.{none_below_head}
 use Rattle.std.proofs.lemmas.Map.Keys.{sorted_tail}
 use Rattle.nm_base.specs.Limits.{max_count}
 use Rattle.nm_base.specs.Order.{has_text, same_text}
-use Rattle.nm_codec.specs.Spelling.{text_bytes, u64_bytes}
+use Rattle.nm_codec.specs.Encoding.{text_bytes, u64_bytes}
 use Rattle.nm_record.specs.BaseBytes.{entry_bytes}
 use Rattle.nm_threads.specs.Labels.{Labelling, entries_of, has_entry, numbered}
 use Rattle.nm_tables.specs.KeyLaws.{any_of, same_text_of}

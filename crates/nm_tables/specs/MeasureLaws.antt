@@ -1,7 +1,7 @@
 -- Entries take what their ids take. For proofs alone: those of `MeasuredLabels` and `nm_state`.
 use Rattle.std.proofs.Common.{◌≡◌, refl, ℕ, ◌+◌, List, [], ◌∷◌, length, length-append, map, arith}
 use Rattle.std.proofs.lemmas.List.Sums.{sum_by-cons}
-use Rattle.nm_codec.specs.Spelling.{text_bytes, u64_bytes}
+use Rattle.nm_codec.specs.Encoding.{text_bytes, u64_bytes}
 use Rattle.nm_record.specs.BaseBytes.{entry_bytes}
 use Rattle.nm_tables.specs.Measures.{entries_len, ids_len}
 

@@ -9,7 +9,7 @@ use Rattle.std.proofs.lemmas.Map.Text.{is_eq-slice_cmp}
 use Rattle.std.proofs.lemmas.Slice.Eq.{bytes_eq-Decides}
 use Rattle.nm_base.specs.Order.{has_text}
 use Rattle.nm_threads.specs.Labels.{Labelling, entries_of, has_entry, numbered}
-use Rattle.nm_codec.specs.Spelling.{text_bytes}
+use Rattle.nm_codec.specs.Encoding.{text_bytes}
 use Rattle.nm_record.specs.BaseBytes.{entry_bytes}
 use Rattle.nm_record.specs.Tags.{tags_grammar}
 

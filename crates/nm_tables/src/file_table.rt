@@ -101,15 +101,15 @@ pub fn files_of<'a>(file_table: &'a FileTable, id: &MessageId) -> Option<Message
 pub fn files_by_hint<'a>(
     file_table: &'a FileTable,
     id: &MessageId,
-    near: u64,
+    slot_hint: u64,
 ) -> Option<(u64, MessageFiles<'a>)>
     requires { AreFiled file_table.now }
     ensures live { is_some result ≡ has_id (files_in file_table.now) id.now }
     ensures files { MatchOption result (has_id (files_in file_table.now) id.now ≡ false) (λ found. found.1 ≡ filter (λ file. same_text id.now file.1.id) (files_in file_table.now)) }
 {
-    let (near, places) = file_table.of_id.get_near(id, near)?;
+    let (slot_hint, places) = file_table.of_id.get_by_hint(id, slot_hint)?;
     let files = MessageFiles::of(places.get().as_slice(), file_table.files.pairs());
-    Some((near, files))
+    Some((slot_hint, files))
 }
 
 /// Puts a file after all others.

@@ -239,10 +239,10 @@ impl MeasuredLabels {
 
     /// Where the name of the next id is looked for first, and that of this one; wherever a search begins, it finds the
     /// same.
-    pub fn name_near(&self, id: &MessageId, near: u64) -> (u64, Option<u64>)
+    pub fn name_by_hint(&self, id: &MessageId, slot_hint: u64) -> (u64, Option<u64>)
         ensures { (rows : List LinkRow) → AreLabelsOf rows self.now.labels → result.1 ≡ thread_name rows (entries_of self.now.labels) id.now }
     {
-        self.labels.name_near(id, near)
+        self.labels.name_by_hint(id, slot_hint)
     }
 
     /// All ids that have numbers, by rising numbers.

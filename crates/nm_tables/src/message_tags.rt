@@ -88,10 +88,10 @@ impl MessageTags {
 
     /// The same, for less work where messages are asked for in the order in which they came. Beside the tags is where the
     /// next ones are looked for first; wherever a search begins, it finds the same.
-    pub fn get_near(&self, id: &MessageId, near: u64) -> Option<(u64, &Shared<Tags>)>
+    pub fn get_by_hint(&self, id: &MessageId, slot_hint: u64) -> Option<(u64, &Shared<Tags>)>
         ensures { MatchOption result (at_text id.now self.now ≡ None) (λ found. at_text id.now self.now ≡ Some found.1.now) }
     {
-        self.map.get_near(id, near)
+        self.map.get_by_hint(id, slot_hint)
     }
 
     /// The messages, in no particular order, each with its tags.

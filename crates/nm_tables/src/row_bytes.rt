@@ -5,7 +5,7 @@ ghost use Rattle.std.specs.Cmp.{partial_equiv_from_equiv};
 ghost use Rattle.std.specs.Cmp.Lexicographic.{nat_list_cmp_total, nat_list_eq_equiv, pointwise, slice_cmp, texts_po, texts_ties};
 ghost use Rattle.std.specs.List.{flat_map, starts_with};
 ghost use Rattle.std.specs.Ordering.{nat_cmp};
-ghost use Rattle.nm_codec.specs.Spelling.{text_bytes};
+ghost use Rattle.nm_codec.specs.Encoding.{text_bytes};
 ghost use Rattle.nm_index.specs.Index.{row_bytes};
 
 use nm_base::{Copies, LinkRow, Many, MessageId, NoMemory};

@@ -1,5 +1,5 @@
-//! The plain index: what operations make of a message's tags, how a tag is written in a line of text, and lines of
-//! tag changes.
+//! The model: what operations make of a message's tags, how a tag is written in a line of text, and lines of tag
+//! changes.
 #![tactic(auto)]
 
 mod apply;

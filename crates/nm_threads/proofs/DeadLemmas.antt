@@ -1,4 +1,4 @@
--- The threads that have one of some ids, and what is left once the others are gone.
+-- The threads that have one of some ids, and what is left once the others are removed.
 -- For the proofs of `names_of`, `remove_dead` and `Labels::drop_dead`.
 use Rattle.std.proofs.Common.{◌≡◌, refl, sym, ap, subst, ◌∙◌, ℕ, ◌+◌, ◌<◌, ◌≤◌, Bool, true, false, cond, not, ◌&&◌, ◌||◌, List, [], ◌∷◌, length, map, take, get_or, inl, inr, eq-eqb, nat_eq}
 use Rattle.std.specs.Prelude.{Contains, Some}

@@ -48,7 +48,7 @@ filter_among p q (x ∷ xs) agree =
     ap (λ test. cond test (x ∷ filter p xs) (filter p xs)) (agree x (Contains_first x xs))
     ∙ ap (λ more. cond (q x) (x ∷ more) more) (filter_among p q xs (λ y among. agree y (Contains_there x xs y among)))
 
--- a test of the images is one of the items
+-- a test of the crash states is one of the items
 map_by : {X Y : Type 0} (f : X → Y) (p : Y → Bool) (q : X → Bool) (x : X) (xs : List X) (test : Bool) → q x ≡ test → p (f x) ≡ q x → filter p (map f xs) ≡ map f (filter q xs) → filter p (map f (x ∷ xs)) ≡ map f (filter q (x ∷ xs))
 map_by f p q x xs true is agree more = filter_yes p (f x) (map f xs) (agree ∙ is) ∙ ap (λ all. f x ∷ all) more ∙ sym (ap (map f) (filter_yes q x xs is))
 map_by f p q x xs false is agree more = filter_no p (f x) (map f xs) (agree ∙ is) ∙ more ∙ sym (ap (map f) (filter_no q x xs is))

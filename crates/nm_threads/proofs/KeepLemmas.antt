@@ -1,4 +1,4 @@
--- Labels once whole threads are gone.
+-- Labels once whole threads are removed.
 -- For the proofs of `Labels::drop_dead`, `Labels::drop_thread`, `Labels::drop_thread_in_place` and others.
 use Rattle.std.proofs.Common.{◌≡◌, refl, sym, ap, subst, ◌∙◌, ℕ, Bool, true, false, ◌&&◌, not, List, [], ◌∷◌, map, inl, inr, eq-eqb, nat_eq, true≢false}
 use Rattle.std.specs.Prelude.{Contains}

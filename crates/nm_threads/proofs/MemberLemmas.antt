@@ -18,7 +18,7 @@ use Rattle.nm_threads.proofs.ListLemmas.{Contains_there, Contains_first, Contain
 use Rattle.nm_threads.proofs.SortedLemmas.{Rising, less_from, rising_none, rising_from, entries_filter}
 use Rattle.nm_threads.proofs.MapLemmas.{less_is, equal_is, greater_is, same_number, other_number, same_pair, other_first, other_second}
 
--- the numbers that stand first, as long as they are of the group
+-- the numbers that come first, as long as they are of the group
 abbrev pub front : ℕ → List ((ℕ × ℕ) × Member) → List ℕ
 front group [] = []
 front group (e ∷ es) = cond (nat_eq e.0.0 group) (e.0.1 ∷ front group es) []
@@ -32,7 +32,7 @@ front_not group e es not = ap (λ test. cond test (e.0.1 ∷ front group es) [])
 greater_first : (x y : ℕ × ℕ) → y.0 < x.0 → pair_cmp x y ≡ Greater
 greater_first x y lt = ap (λ answer. ordering_then answer (nat_cmp x.1 y.1)) (greater_is x.0 y.0 lt)
 
--- what stands after a pair of a later group is of no earlier one
+-- what comes after a pair of a later group is of no earlier one
 none_after : (group number : ℕ) (key : ℕ × ℕ) (es : List ((ℕ × ℕ) × Member)) → group < key.0 → AllByRecursion (λ other. pair_cmp key other ≡ Less) (keys_of es) → at_pair (group, number) es ≡ None
 none_after group number key [] lt all = refl
 none_after group number key (e ∷ es) lt all =

@@ -36,7 +36,7 @@ label_from m a among = let one = Contains_from_map (label_at m) m.ids a among in
   subst (λ l. label_at m (l.number, l.id) ≡ l) one.2 refl,
 )
 
--- an id that stands at a number has an entry
+-- an id that is at a number has an entry
 pub known_at : (m : Maps) (number : ℕ) (id : List ℕ) → Contains m.ids (number, id) → has_entry (entries_of (labelling_of m).labels) id ≡ true
 known_at m number id among = has_of (labelling_of m).labels id (label_at m (number, id)) (label_of m number id among) refl
 

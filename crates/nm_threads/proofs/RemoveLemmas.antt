@@ -1,4 +1,4 @@
--- What the maps of labels say once numbers go, and once a thread is gone.
+-- What the maps of labels say once numbers go, and once a thread is removed.
 -- For the proofs of `group_named`, `remove_named`, `remove_number` and others.
 use Rattle.std.proofs.Common.{◌≡◌, ◌≢◌, refl, sym, ap, subst, ◌∙◌, ℕ, ◌+◌, ◌<◌, ◌≤◌, Bool, true, false, cond, not, ◌||◌, List, length, map, take, get_or, arith, inl, inr, ◌⊎◌, eq-eqb, ne_eqb, nat_eq, true≢false}
 use Rattle.std.specs.Prelude.{Contains, Some, None, Option}
@@ -164,7 +164,7 @@ module _ (numbers : List ℕ) (i : ℕ) (lt : i < length numbers) where
   group_here group initial now so_far rising are =
       so_far here ∙ ap (λ test. cond test None (at here initial)) (none_before numbers i lt rising) ∙ number_among numbers i group initial lt are
 
--- all of a group are gone
+-- all of a group are removed
 module _ (numbers : List ℕ) (i group : ℕ) (past : length numbers ≤ i) (initial : List (ℕ × ℕ)) (are : (n : ℕ) → list_any (nat_eq n) numbers ≡ is_number group (at n initial)) where
   all_gone : (n : ℕ) → list_any (nat_eq n) (take i numbers) ≡ is_number group (at n initial)
   all_gone n = ap (list_any (nat_eq n)) (take_all i numbers past) ∙ are n
@@ -175,7 +175,7 @@ module _ (numbers : List ℕ) (i group : ℕ) (past : length numbers ≤ i) (ini
   pub groups_all : (now : List (ℕ × ℕ)) → ((n : ℕ) → at n now ≡ cond (list_any (nat_eq n) (take i numbers)) None (at n initial)) → (n : ℕ) → at n now ≡ cond (is_number group (at n initial)) None (at n initial)
   groups_all now is n = is n ∙ ap (λ test. cond test None (at n initial)) (all_gone n)
 
--- ---- a thread is gone
+-- ---- a thread is removed
 
 stays_by : (group : ℕ) (found : Option ℕ) (test : Bool) → is_number group found ≡ test → (g : ℕ) → cond test None found ≡ Some g → (found ≡ Some g) × (g ≢ group)
 stays_by group found true test g is = absurd (none-some g is)

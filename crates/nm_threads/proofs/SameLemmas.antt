@@ -154,7 +154,7 @@ chain_known : (rows : List LinkRow) (chain : List (List ℕ)) (a b : List ℕ) �
 chain_known rows [] a b is = inl is
 chain_known rows (next ∷ chain) a b is = elim (chain_known rows chain next b is.1) [ inl here ↦ inr (subst (λ x. is_in_rows rows x ≡ true) here (beside_known rows a next is.0).1) | inr there ↦ inr there ]
 
--- an id is of one thread with none but itself, or it stands in a row
+-- an id is of one thread with none but itself, or it is in a row
 pub Same_known : (rows : List LinkRow) (a b : List ℕ) → Same rows a b → (a ≡ b) ⊎ (is_in_rows rows b ≡ true)
 Same_known rows a b is = chain_known rows is.0 a b is.1
 

@@ -52,7 +52,7 @@ pub none_twice : IsDistinct same_text []
 unfolding IsDistinct
 none_twice = tt
 
--- no id stands twice
+-- no id occurs twice
 pub distinct_ids : (xs : List Label) → Rising (map number_of xs) → ((a b : Label) → Contains xs a → Contains xs b → a.id ≡ b.id → a ≡ b) → IsDistinct same_text (map (λ label. label.id) xs)
 distinct_ids [] rising one = none_twice
 distinct_ids (x ∷ xs) rising one =

@@ -53,7 +53,7 @@ abbrev pub numbered : List (List ℕ × ℕ) → ℕ → List (List ℕ) → Lis
 numbered entries next [] = (entries, next)
 numbered entries next (id ∷ more) = if has_entry entries id then numbered entries next more else numbered (entries ++ (id, next) ∷ []) (next + 1) more
 
--- the id stands in one of the rows
+-- the id is in one of the rows
 abbrev pub is_in_rows : List LinkRow → List ℕ → Bool
 is_in_rows rows id = list_any (λ row. has_text (ids_of row) id) rows
 

@@ -1,5 +1,5 @@
 -- The maps that labels are kept in. A thread is a group of numbers; which number the group goes by is of no account.
--- Cited by `dead`, `joining`, `labels` and others.
+-- Cited by `dead`, `thread_merge`, `labels` and others.
 use Rattle.std.specs.Prelude.{◌≡◌, ℕ, Bool, false, ◌+◌, ◌<◌, ◌≤◌, ◌^◌, ◌==◌, ◌||◌, min, List, [], ◌∷◌, ◌++◌, length, map, Option, Some, None, Contains, if◌then◌else◌}
 use Rattle.std.specs.BTreeMap.{is_at}
 use Rattle.std.specs.Cmp.Lexicographic.{slice_cmp}
@@ -72,7 +72,7 @@ pub record AreNumbers (maps : Maps) : Type 0 where
   pub members : AreMembers maps.members maps.groups
   pub small : (1 ≤ maps.next) × (maps.next ≤ 2 ^ 63)
 
--- the maps tell one thing: an id by its number, a number by its id, its group, the group's thread
+-- the maps agree: an id by its number, a number by its id, its group, the group's thread
 pub record AreMaps (maps : Maps) : Type 0 where
   pub ordered : IsStrictlySortedBy nat_cmp (keys_of maps.ids)
   pub below : (number : ℕ) (id : List ℕ) → Contains maps.ids (number, id) → (1 ≤ number) × (number < maps.next)

@@ -1,5 +1,5 @@
 -- Which ids belong to one thread: those between which there is a chain of ids, each beside the next in one row.
--- Cited by `labels`, `opening`, `nm_state` and others.
+-- Cited by `labels`, `rebuild`, `nm_state` and others.
 use Rattle.std.specs.Prelude.{◌≡◌, ℕ, Bool, ◌&&◌, ◌||◌, IsTrue, List, [], ◌∷◌}
 use Rattle.std.specs.List.{list_any}
 use Rattle.nm_base.specs.Order.{has_text, same_text}
@@ -9,11 +9,11 @@ use Rattle.nm_base.specs.declared.facts.LinkRow.{LinkRow}
 abbrev pub ids_of : LinkRow → List (List ℕ)
 ids_of row = row.id ∷ row.links
 
--- two ids stand together in one of the rows
+-- two ids are together in one of the rows
 abbrev pub stand_together : List LinkRow → List ℕ → List ℕ → Bool
 stand_together rows a b = list_any (λ row. has_text (ids_of row) a && has_text (ids_of row) b) rows
 
--- a chain from a to b: each of its ids stands together with the one before it in one row
+-- a chain from a to b: each of its ids is together with the one before it in one row
 abbrev pub IsChain : List LinkRow → List ℕ → List (List ℕ) → List ℕ → Type 0
 IsChain rows a [] b = a ≡ b
 IsChain rows a (next ∷ more) b = IsTrue (stand_together rows a next) × IsChain rows next more b

@@ -13,11 +13,11 @@ ghost use Rattle.nm_threads.specs.Work.{Doubles, potential, row_steps, rows_step
 
 use crate::dead::remove_dead;
 use crate::entries::Entries;
-use crate::joining::{place_near, place_of};
+use crate::thread_merge::{place_by_hint, place_of};
 use crate::maps::Maps;
 use crate::members::members_named;
-use crate::opening::{add_uncounted, give_numbers};
-use crate::removing::remove_named;
+use crate::rebuild::{add_uncounted, give_numbers};
+use crate::removal::remove_named;
 use crate::rows::{add, add_all};
 use nm_base::{Copies, LinkRow, Many, MessageId, NoMemory, Steps};
 use std::alloc::Global;
@@ -100,13 +100,13 @@ impl Labels {
     }
 
     /// Where the name of the next id is looked for first, and that of this one, for less work where ids are asked for in the
-    /// order of their numbers; wherever a look begins, it finds the same.
-    pub fn name_near(&self, id: &MessageId, near: u64) -> (u64, Option<u64>)
+    /// order of their numbers; wherever a search begins, it finds the same.
+    pub fn name_by_hint(&self, id: &MessageId, slot_hint: u64) -> (u64, Option<u64>)
         ensures { (rows : List LinkRow) → AreLabelsOf rows self.now.labels → result.1 ≡ thread_name rows (entries_of self.now.labels) id.now }
     {
-        match place_near(&self.maps, id, near) {
+        match place_by_hint(&self.maps, id, slot_hint) {
             Some((next, place)) => (next, Some(place.thread.name)),
-            None => (near, None),
+            None => (slot_hint, None),
         }
     }
 
@@ -168,8 +168,8 @@ impl Labels {
         Ok(())
     }
 
-    /// The same without a second handle on what was there, for far less work at many rows one by one. Where there was no
-    /// memory all labels are lost.
+    /// The same without a clone of what was there, for far less work at many rows one by one. Where there was no memory
+    /// all labels are lost.
     pub fn add_row_in_place<L: Ledger>(
         &mut self,
         row: &LinkRow,
@@ -225,8 +225,8 @@ impl Labels {
         Ok(())
     }
 
-    /// The same without a second handle on what was there, for far less work at many threads one by one. Where there was no
-    /// memory all labels are lost.
+    /// The same without a clone of what was there, for far less work at many threads one by one. Where there was no memory
+    /// all labels are lost.
     pub fn drop_thread_in_place(&mut self, id: &MessageId) -> Result<(), NoMemory>
         ensures next { OnOk result (self.new.next ≡ self.old.next) }
         ensures entries { OnOk result ((rows : List LinkRow) → AreLabelsOf rows self.old.labels → entries_of self.new.labels ≡ filter (λ entry. not (is_same rows id.now entry.0)) (entries_of self.old.labels)) }
@@ -256,7 +256,7 @@ impl Labels {
     }
 }
 
-/// The copy is a second handle.
+/// The copy is a clone.
 impl Copies for Labels {
     fn copy(&self) -> Result<Labels, NoMemory> {
         Ok(Labels {

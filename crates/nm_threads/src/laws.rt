@@ -20,7 +20,7 @@ pub fn a_row_joins_the_threads_of_its_ids()
     ensures { (rows : List LinkRow) (row : LinkRow) (a b : List ℕ) → Same (row ∷ rows) a b ↔ (Same rows a b ⊎ (Touches rows row a × Touches rows row b)) }
 {}
 
-/// Rows in another order, or told twice, form the same threads; so does no row fewer.
+/// Rows in another order, or given twice, form the same threads; so does no row fewer.
 pub fn the_order_of_rows_is_nothing()
     ensures { (rows others : List LinkRow) (a b : List ℕ) → ((row : LinkRow) → Contains rows row → Contains others row) → Same rows a b → Same others a b }
 {}

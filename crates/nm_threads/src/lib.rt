@@ -1,18 +1,18 @@
-//! The plain index: which messages form a thread, and by which number it is named.
-//! Labels follow the rows of ids as mail comes and goes, and always are those of the plain definition.
+//! The model: which messages form a thread, and by which number it is named. Labels follow the rows of ids as mail
+//! comes and goes, and always are those of the plain definition.
 #![tactic(auto)]
 
 mod dead;
 mod entries;
-mod joining;
 mod labels;
 mod laws;
 mod maps;
 mod members;
 mod numbering;
-mod opening;
-mod removing;
+mod rebuild;
+mod removal;
 mod rows;
+mod thread_merge;
 
 pub use entries::Entries;
 pub use labels::Labels;

@@ -1,4 +1,4 @@
-//! The maps that `labels` are kept in: each step of the work, as `joining` or `removing`, changes some of them.
+//! The maps that `labels` are kept in: each step of the work, as `thread_merge` or `removal`, changes some of them.
 
 ghost use Rattle.std.specs.Prelude.{◌≡◌, [], IfOk, OnOk};
 
@@ -19,7 +19,7 @@ impl Copies for Thread {
     }
 }
 
-/// What stands beside a group and a number: the number is of the group.
+/// What is beside a group and a number: the number is of the group.
 #[derive(Clone, Copy)]
 pub struct Member;
 
@@ -75,7 +75,7 @@ impl Maps {
         }
     }
 
-    /// Second handles on all maps.
+    /// Clones of all maps.
     pub fn share(&self, alloc: Global) -> Result<Maps, NoMemory>
         ensures { IfOk result (λ maps. maps ≡ self.now) }
     {
@@ -90,7 +90,7 @@ impl Maps {
     }
 }
 
-/// Makes `map` a second handle on `other`.
+/// Makes `map` a clone of `other`.
 fn share_into<K: Ord + Drop, V: Drop>(
     map: &mut SharedMap<K, V>,
     other: &SharedMap<K, V>,

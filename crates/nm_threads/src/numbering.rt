@@ -1,4 +1,4 @@
-//! Numbers for ids: `rows` gives them to the ids of a row that comes, `opening` to those that have one.
+//! Numbers for ids: `rows` gives them to the ids of a row that comes, `rebuild` to those that have one.
 
 ghost use Rattle.std.specs.Prelude.{◌≡◌, ◌+◌, ◌<◌, ◌≤◌, ◌^◌, ◌++◌, ◌∷◌, [], ℕ, List, false, Contains, IfOk, OnOk};
 ghost use Rattle.nm_threads.specs.Labels.{entries_of, has_entry};

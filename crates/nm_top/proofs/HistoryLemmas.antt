@@ -2,7 +2,7 @@
 -- For the proofs of `run`, `run_script` and `run_single`.
 use Rattle.std.proofs.Common.{◌≡◌, inl, inr, ℕ, Bool, false, List, [], ◌∷◌, Option, None, Some, IfSome, Result, Ok, Err, IfOk, IfErr, refl, sym, ap, ◌∙◌, arith, subst}
 use Rattle.nm_disk.specs.Calls.{GoesOn}
-use Rattle.nm_disk.specs.Images.{IsImage}
+use Rattle.nm_disk.specs.CrashStates.{IsImage}
 use Rattle.nm_disk.specs.Observed.{Moments, ObservedDisk}
 use Rattle.nm_history.specs.Call.{Devices, PlacedLine, Ran, Refused, call_fault, call_lines, call_of, call_phases, call_reads, devices, input_fault, is_session}
 use Rattle.nm_history.specs.CrashPrefix.{CrashPrefix, KeepsDisk}
@@ -18,7 +18,7 @@ use Rattle.nm_history.specs.Refusals.{IsRefusedFor, RefusesLine, TakesInput}
 use Rattle.nm_history.specs.Status.{status_by}
 use Rattle.nm_history.specs.UnaskedLine.{refused_done}
 use Rattle.nm_index.specs.Index.{empty_index}
-use Rattle.nm_journal.specs.Journal.{IfTold}
+use Rattle.nm_journal.specs.Journal.{IfKnown}
 use Rattle.nm_journal.specs.Moments.{SyncsOrFails}
 use Rattle.nm_lanes.specs.declared.script.Phase.{Phase}
 use Rattle.nm_log.specs.Refusals.{refused_line, refused_status}
@@ -47,7 +47,7 @@ none-run : (placed : List PlacedLine) → run_lines placed no_logs ≡ []
 none-run [] = refl
 none-run (line ∷ placed) = refl
 
-unasked-told : RefusalLaws → (told : Option Moments) → IfSome told (λ moments. IsImage moments.present moments.present.now) → IfTold told told (KeepsDisk [] [])
+unasked-told : RefusalLaws → (told : Option Moments) → IfSome told (λ moments. IsImage moments.present moments.present.now) → IfKnown told told (KeepsDisk [] [])
 unasked-told laws None image = tt
 unasked-told laws (Some m) image = laws.stays m m image image (inl (inl refl))
 

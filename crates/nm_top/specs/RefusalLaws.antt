@@ -1,6 +1,6 @@
 -- The laws on which a call rests that opens no index. Cited by `laws`.
 use Rattle.std.specs.Prelude.{◌≡◌, ℕ, ℤ, List, [], Some, IfSome, false}
-use Rattle.nm_disk.specs.Images.{IsImage}
+use Rattle.nm_disk.specs.CrashStates.{IsImage}
 use Rattle.nm_disk.specs.Observed.{Moments, ObservedDisk}
 use Rattle.nm_history.specs.Call.{Devices, call_of, devices, is_session}
 use Rattle.nm_history.specs.CrashPrefix.{KeepsDisk}

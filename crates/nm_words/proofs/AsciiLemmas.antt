@@ -1,4 +1,4 @@
--- In a text of ASCII the pieces of its words are what stands between signs and has a letter or a digit.
+-- In a text of ASCII the pieces of its words are what is between signs and has a letter or a digit.
 -- For the proof of `add_line`.
 use Rattle.std.proofs.Common.{◌≡◌, ℕ, suc, zero, ◌<◌, ◌||◌, ◌==◌, not, Bool, true, false, cond, List, [], ◌∷◌, ◌++◌, inl, inr, ◌⊎◌, refl, sym, ap, ◌∙◌, map, filter, encode_utf8_all, IsAscii}
 use Rattle.std.specs.Char.{is_ascii_alphanumeric}
@@ -122,7 +122,7 @@ whole first pieces parts up = ap kept up.pieces_are ∙ whole_by first pieces pa
 -- ---- one character more at the front
 
 module _ (c d : ℕ) (pieces parts : List (List ℕ)) (up : IsCutUp d pieces parts) where
-  -- where a segment ends behind it
+  -- where a segment ends after it
   broken : (test : Bool) → is_cut c ≡ test → (is_cut c ≡ false → is_cut d ≡ true) → IsCutUp c ((c ∷ []) ∷ pieces) (cond test ([] ∷ parts) (onto_first c parts))
   broken true sign next = record {
     segment = c ∷ [];

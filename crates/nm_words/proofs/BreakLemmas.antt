@@ -50,7 +50,7 @@ of_both f = f true && f false
 pub of_four : (f : Bool → Bool → Bool → Bool → Bool) → of_both (λ a. of_both (λ b. of_both (λ c. of_both (λ d. f a b c d)))) ≡ true → (a b c d : Bool) → f a b c d ≡ true
 of_four f is a b c d = both (λ d. f a b c d) (both (λ c. of_both (λ d. f a b c d)) (both (λ b. of_both (λ c. of_both (λ d. f a b c d))) (both (λ a. of_both (λ b. of_both (λ c. of_both (λ d. f a b c d)))) is a) b) c) d
 
--- what stands in a word: letters, digits and `_`
+-- what is in a word: letters, digits and `_`
 abbrev is_inner : WordBreak → Bool
 is_inner ExtendNumLet = true
 is_inner ALetter = true
@@ -118,7 +118,7 @@ joins_by letter hebrew digit left right next =
     || ((is_ah_letter left || is_numeric left || is_katakana left || is_extend_num_let left) && is_extend_num_let right)
     || (is_extend_num_let left && (is_ah_letter right || is_numeric right || is_katakana right))
 
--- whether there is a boundary, by the values on both sides and what lies beyond
+-- whether there is a boundary, by the values on both sides and what is beyond
 abbrev breaks_by : Bool → Bool → Bool → Bool → WordBreak → WordBreak → WordBreak → Bool → Bool
 breaks_by letter hebrew digit half left right next pictographic = unwrap_or (break_by_pair left right pictographic) (not (joins_by letter hebrew digit left right next || (half && is_regional right)))
 
@@ -184,7 +184,7 @@ pub nearest : (a : ℕ) (before : List ℕ) → is_ignored (word_break a) ≡ fa
 unfolding significant
 nearest a before kept = ap (λ t. value_at (cond t (significant before) (word_break a ∷ significant before)) 0) kept
 
--- the boundary behind such a character
+-- the boundary after such a character
 boundary : (a b : ℕ) (before after : List ℕ) → is_ignored (word_break a) ≡ false
     → is_word_break (a ∷ before) (b ∷ after) ≡ breaks_by (is_ah_letter (value_at (significant (a ∷ before)) 1)) (is_hebrew_letter (value_at (significant (a ∷ before)) 1)) (is_numeric (value_at (significant (a ∷ before)) 1)) (starts_with_half_flag (significant (a ∷ before))) (word_break a) (word_break b) (value_at (significant after) 0) (is_extended_pictographic b)
 unfolding is_word_break

@@ -24,7 +24,7 @@ line_feed : word_break 10 ≡ Lf
 unfolding ucd_breaks
 line_feed = refl
 
--- ---- what comes behind a line says nothing of its boundaries
+-- ---- what comes after a line says nothing of its boundaries
 
 -- before a line feed a pair of values decides
 at_end : (value : WordBreak) (pictographic one other : Bool) → unwrap_or (break_by_pair value Lf pictographic) one ≡ unwrap_or (break_by_pair value Lf pictographic) other
@@ -71,7 +71,7 @@ ahead_same c before [] more other = ahead c before more other
 ahead_same c before (e ∷ es) more other =
     ap (λ v. unwrap_or (break_by_pair (word_break c) (word_break e) (is_extended_pictographic e)) (not (joins (value_at (significant (c ∷ before)) 1) (value_at (significant (c ∷ before)) 0) (word_break e) v || joins_flag (c ∷ before) e))) (next_same es more other)
 
--- ---- nor does the line say anything of those behind it
+-- ---- nor does the line say anything of those after it
 
 after_line : (before more : List ℕ) → is_word_break (10 ∷ before) more ≡ true
 unfolding is_word_break

@@ -1,4 +1,4 @@
--- The first piece of a word, and what is left behind the character that ends it.
+-- The first piece of a word, and what is left after the character that ends it.
 -- For the proofs of `add_pieces` and `add_words`.
 use Rattle.std.proofs.Common.{◌≡◌, ℕ, ◌+◌, ◌-◌, ◌<◌, Bool, true, false, cond, List, [], ◌∷◌, ◌++◌, Some, None, filter, length, map, take, drop, get_or, ltb, refl, sym, ap, ◌∙◌, arith, append_assoc}
 use Rattle.std.specs.List.{slice_split, position_or_len, flat_map}
@@ -38,7 +38,7 @@ cut_is_ascii xs i e =
     let h = position-Some is_cut xs i 0 e in
     (h.0, ltb-true _ _ (and_parts _ _ h.1).0)
 
--- so the text may be cut before it and behind it
+-- so the text may be cut before it and after it
 pub boundary_before : (xs : List ℕ) (i : ℕ) → position is_cut xs ≡ Some i → IsCharBoundary xs i
 boundary_before xs i e = let h = cut_is_ascii xs i e in IsCharBoundary-before_ascii xs i h.0 h.1
 

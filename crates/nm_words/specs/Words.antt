@@ -11,7 +11,7 @@ use Rattle.nm_base.specs.Word.{is_word}
 abbrev pub is_cut : ℕ → Bool
 is_cut b = nat_lt b 128 && not (is_ascii_alphanumeric b || b == 95)
 
--- a letter or a digit of ASCII stands in the piece
+-- a letter or a digit of ASCII is in the piece
 abbrev pub is_named : List ℕ → Bool
 is_named piece = list_any is_ascii_alphanumeric piece
 
@@ -34,6 +34,6 @@ folded piece = encode_utf8_all (default_case_fold (chars piece))
 abbrev pub words_in : List (List ℕ) → List (List ℕ)
 words_in pieces = filter is_word (map folded pieces)
 
--- the words of the text, each cut at the ASCII characters that stand in no word
+-- the words of the text, each cut at the ASCII characters that are in no word
 abbrev pub words_of : List ℕ → List (List ℕ)
 words_of text = words_in (flat_map (slice_split is_cut) (segmentation.words text))

@@ -27,7 +27,7 @@ pub fn add_words(alloc: Global, text: &str, found: &mut WordList) -> Result<(), 
     // Each piece is folded in here, so that only a word that is kept takes memory of its own.
     let mut room = String::new(alloc);
     let mut left = text;
-    // No word goes on behind a line feed.
+    // No word goes on after a line feed.
     'lines: while let Some(at) = line_feed_at(left) {
         add_line(&left[..at + 1], &mut room, found)?;
         left = &left[at + 1..];
@@ -39,7 +39,7 @@ pub fn add_words(alloc: Global, text: &str, found: &mut WordList) -> Result<(), 
 fn add_line(line: &str, room: &mut String, found: &mut WordList) -> Result<(), NoMemory>
     ensures { OnOk result (found.new ≡ found.old ++ words_of line.now) }
 {
-    // Most lines are ASCII, where what stands between two signs is a word if it has a letter or a digit.
+    // Most lines are ASCII, where what is between two signs is a word if it has a letter or a digit.
     if line.is_ascii() {
         return add_pieces(line, true, room, found);
     }
@@ -49,7 +49,7 @@ fn add_line(line: &str, room: &mut String, found: &mut WordList) -> Result<(), N
     Ok(())
 }
 
-/// Where the first line feed of the text stands.
+/// Where the first line feed of the text is.
 fn line_feed_at(text: &str) -> Option<usize>
     ensures found { result ≡ position is_line_feed text.now }
     ensures below { IfSome result (λ at. at < 2 ^ 63) }

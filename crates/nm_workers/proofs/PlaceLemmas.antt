@@ -13,7 +13,7 @@ get-replicate zero i value there = none-some (Some value) there
 get-replicate (suc n) zero value there = none-some value (same_Some None (Some value) there)
 get-replicate (suc n) (suc i) value there = get-replicate n i value there
 
--- what stands in a place after a change was put there or stood there before
+-- what is in a place after a change was put there or was there before
 get-set : {X : Type 0} (xs : List X) (i j : ℕ) (y x : X) → slice_get (set xs i y) j ≡ Some x → ((j ≡ i) × (y ≡ x)) ⊎ (slice_get xs j ≡ Some x)
 get-set [] i j y x there = inr there
 get-set (z ∷ zs) zero zero y x there = inl (refl, same_Some y x there)

@@ -21,8 +21,8 @@ struct Seats {
     last: u32,
 }
 
-/// Runs the job over the inputs with 1 to 16 workers, which pass the gate as seats 1, 2 and so on.
-/// The results stand in the order of the inputs. Where no thread can be started, the caller does the work.
+/// Runs the job over the inputs with 1 to 16 workers, which pass the gate as seats 1, 2 and so on. The results are in
+/// the order of the inputs. Where no thread can be started, the caller does the work.
 pub fn map_jobs<R: Threads + Wait + Sync, J: Job + Sync, G: Gate + Sync>(
     rt: &R,
     alloc: Global,
@@ -130,7 +130,7 @@ where
     (told, with_list(job, inputs, lists, done))
 }
 
-/// What one worker more did, behind the others. The job and its inputs are there for the clauses alone.
+/// What one worker more did, after the others. The job and its inputs are there for the clauses alone.
 fn with_list<J: Job>(
     _job: &J,
     _inputs: &[J::In],

@@ -9,7 +9,7 @@ use Rattle.std.proofs.lemmas.List.Elements.{filter-append}
 use Rattle.nm_base.specs.Limits.{max_count}
 use Rattle.nm_commit.specs.declared.change.Commit.{Commit}
 use Rattle.nm_disk.specs.Calls.{GoesOn}
-use Rattle.nm_disk.specs.Images.{MayLeave}
+use Rattle.nm_disk.specs.CrashStates.{MayLeave}
 use Rattle.nm_disk.specs.Observed.{Moments, ObservedDisk}
 use Rattle.nm_disk.specs.declared.disk.FileNo.{FileNo}
 use Rattle.nm_disk.specs.declared.disk.FileNo.TheVariants.{Head}

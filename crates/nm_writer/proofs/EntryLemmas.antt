@@ -6,7 +6,7 @@ use Rattle.std.proofs.lemmas.List.{ext_get_or}
 use Rattle.nm_base.specs.Limits.{max_count}
 use Rattle.nm_commit.specs.declared.change.Commit.{Commit}
 use Rattle.nm_disk.specs.Calls.{GoesOn}
-use Rattle.nm_disk.specs.Images.{IsImage, IsLeft, MayLeave, bytes_of, is_written, reach}
+use Rattle.nm_disk.specs.CrashStates.{IsImage, IsLeft, MayLeave, bytes_of, is_written, reach}
 use Rattle.nm_disk.specs.Observed.{Moments, ObservedDisk, bytes_now}
 use Rattle.nm_disk.specs.declared.disk.FileNo.{FileNo}
 use Rattle.nm_disk.specs.declared.disk.FileNo.TheVariants.{Head}

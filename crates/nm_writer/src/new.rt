@@ -43,7 +43,7 @@ use std::sync::Wait;
 use std::thread::Threads;
 use std::vec::IntoIter;
 
-/// Who reads the mails of a batch: so many workers at most, who pass the gate.
+/// Who reads the mails of a batch: n workers at most, who pass the gate.
 #[derive(Drop)]
 struct Readers<'r, R, G> {
     rt: &'r R,

@@ -29,7 +29,7 @@ use nm_disk::Disk;
 use nm_flags::Rename;
 use nm_maildir::{Given, MailError, Maildir};
 use nm_plan::{tag_commits_fit, the_commit_of_tags_leaves_what_is_wanted};
-use nm_sync::{Renaming, no_rename_is_noted_at_first, rename_and_sync};
+use nm_sync::{RenameLog, no_rename_is_noted_at_first, rename_and_sync};
 use std::sync::Wait;
 use std::thread::Threads;
 
@@ -134,7 +134,7 @@ impl Writer {
             → IsDurable entry opening (D.observed disk.new) self.new }
     {
         let (done, renamed) = rename_and_sync(self.alloc, mail, self.snapshot(), plan, given);
-        let Renaming { unmoved, moves, .. } = done;
+        let RenameLog { unmoved, moves, .. } = done;
         match renamed {
             Ok(()) => match self.commit_changes(rt, disk, moves) {
                 Ok(()) => Ok(SyncReport { unmoved }),

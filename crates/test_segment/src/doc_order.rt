@@ -18,7 +18,7 @@ pub fn are_docs(docs: &[DocWords]) -> bool
     have_rising_numbers(docs) && all_are_few(docs)
 }
 
-/// Whether the numbers of documents rise, from those in front to those behind.
+/// Whether the numbers of documents rise, from those in front to those after.
 #[tactic(auto, using(crate::proofs::DocLemmas::none_before, crate::proofs::DocLemmas::first_rises_on))]
 pub fn rise_on(front: &[DocWords], back: &[DocWords]) -> bool
     ensures { IsTrue result → IsStrictlySortedBy nat_cmp (numbers (front.now ++ back.now)) }

@@ -35,7 +35,7 @@ fn add_hits(hits: &mut Many<Hit>, line: &[u8]) -> Result<(), RowError> {
     Ok(())
 }
 
-/// The last place: the first one, or what stands after `to`.
+/// The last place: the first one, or what comes after `to`.
 fn last_of(first: u32, text: &[u8]) -> Result<u32, RowError> {
     match text {
         [] => Ok(first),
@@ -69,7 +69,7 @@ pub fn push_hits(hits: &[Hit], lines: &mut Lines) {
     }
 }
 
-/// How many hits stand at the places that follow.
+/// How many hits are at the places that follow.
 fn following(first: &Hit, others: &[Hit]) -> usize
     ensures { result ≤ length others.now }
 {
@@ -83,7 +83,7 @@ fn following(first: &Hit, others: &[Hit]) -> usize
     others.len()
 }
 
-/// A hit, and so many at the places that follow.
+/// A hit, and n at the places that follow.
 fn push_stretch(first: &Hit, count: usize, lines: &mut Lines) {
     push_numbers(&[first.doc, first.list, first.place], lines);
     if count > 0 {

@@ -1,6 +1,6 @@
-//! The outside: the program that runs the rows on what no contract tells of the system: real folders of mail, real disks, real
-//! files, and streams that are interrupted or fail. The table is on the standard input, and the standard output has a line for
-//! each row.
+//! Input and output: the program that runs the rows on what no contract tells of the system: real folders of mail, real disks,
+//! real files, and streams that are interrupted or fail. The table is on the standard input, and the standard output has a
+//! line for each row.
 #![tactic(auto)]
 
 mod answers;

@@ -1,6 +1,6 @@
 use Rattle.std.proofs.Common.{◌∙◌}
 use Rattle.std.proofs.lemmas.Result.{err_from_is_err_and}
-use Rattle.nm_codec.specs.Reading.{items_at}
+use Rattle.nm_codec.specs.ReadSteps.{items_at}
 use Rattle.nm_codec.proofs.ItemLemmas.{goes_on, is_done, stops}
 use Rattle.nm_codec.proofs.list.read_items.Goals as goal
 

@@ -1,5 +1,5 @@
 use Rattle.std.proofs.Common.{◌≡◌, ◌-◌}
-use Rattle.nm_codec.specs.Reading.{items_at}
+use Rattle.nm_codec.specs.ReadSteps.{items_at}
 use Rattle.nm_codec.proofs.ItemLemmas.{with_front}
 use Rattle.nm_codec.proofs.list.read_items.Given as goal
 

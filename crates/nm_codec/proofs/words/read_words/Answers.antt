@@ -1,7 +1,7 @@
 use Rattle.std.proofs.Common.{◌∙◌}
 use Rattle.nm_codec.specs.declared.read_error.ReadError.TheVariants as errors
 use Rattle.nm_codec.specs.Grammar.{word_grammar}
-use Rattle.nm_codec.specs.Reading.{items_at}
+use Rattle.nm_codec.specs.ReadSteps.{items_at}
 use Rattle.nm_codec.proofs.ItemLemmas.{goes_on, is_done, stops}
 use Rattle.nm_codec.proofs.words.read_words.Goals as goal
 

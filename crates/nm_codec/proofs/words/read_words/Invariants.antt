@@ -1,6 +1,6 @@
 use Rattle.std.proofs.Common.{◌≡◌, ◌-◌}
 use Rattle.nm_codec.specs.Grammar.{word_grammar}
-use Rattle.nm_codec.specs.Reading.{items_at}
+use Rattle.nm_codec.specs.ReadSteps.{items_at}
 use Rattle.nm_codec.proofs.ItemLemmas.{with_front}
 use Rattle.nm_codec.proofs.words.read_words.Given as goal
 

@@ -1,6 +1,6 @@
 use Rattle.std.proofs.Common.{◌≡◌, ◌++◌, ◌<◌, ◌^◌, length}
 use Rattle.std.specs.List.{flat_map}
-use Rattle.nm_codec.specs.Spelling.{text_bytes}
+use Rattle.nm_codec.specs.Encoding.{text_bytes}
 use Rattle.nm_codec.proofs.words.write_words.Given as goal
 
 -- so far, and what is left, is all

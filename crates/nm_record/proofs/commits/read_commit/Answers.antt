@@ -1,6 +1,6 @@
 use Rattle.std.proofs.Common.{ap, subst, ◌∙◌, arith}
 use Rattle.nm_codec.specs.AllLaws.{all_again}
-use Rattle.nm_codec.specs.Reading.{AnswersUnlessNoMemory, all_of}
+use Rattle.nm_codec.specs.ReadSteps.{AnswersUnlessNoMemory, all_of}
 use Rattle.nm_record.specs.CommitGrammar.{commit_grammar}
 use Rattle.nm_record.proofs.FoundLemmas.{is_found}
 use Rattle.nm_record.proofs.commits.read_commit.Goals as goal

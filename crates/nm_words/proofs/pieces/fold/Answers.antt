@@ -1,4 +1,4 @@
--- Folding outside ASCII: what the iterator of folded characters gives stands in the text that was empty.
+-- Folding outside ASCII: what the iterator of folded characters gives is in the text that was empty.
 use Rattle.std.proofs.Common.{◌≡◌, ℕ, Ok, ◌++◌, ap, ◌∙◌, string_bytes, encode_utf8_all}
 use Rattle.std.proofs.lemmas.Iterator.{YieldsList-from_chars}
 use Rattle.std.proofs.lemmas.Iterator.Adapters.{items_from_extend}

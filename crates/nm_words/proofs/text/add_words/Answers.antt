@@ -1,4 +1,4 @@
--- A line is cut off behind its line feed, and what was found with the words of what is left is all.
+-- A line is cut off after its line feed, and what was found with the words of what is left is all.
 use Rattle.std.proofs.Common.{◌≡◌, ◌+◌, ◌-◌, sym, ◌∙◌, ap, ◌++◌, append_assoc, take, arith}
 use Rattle.nm_words.specs.Words.{words_of}
 use Rattle.nm_words.proofs.LineLemmas.{behind_line, lines_turn}

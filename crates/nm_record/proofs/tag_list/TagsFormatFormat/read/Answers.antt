@@ -1,6 +1,6 @@
 use Rattle.std.specs.Cmp.Lexicographic.{slice_cmp}
 use Rattle.std.specs.Ordering.{nat_cmp}
-use Rattle.nm_codec.specs.Reading.{is_below}
+use Rattle.nm_codec.specs.ReadSteps.{is_below}
 use Rattle.nm_codec.specs.RisingLaws.{read_rises}
 use Rattle.nm_record.specs.Facts.{tag_grammar}
 use Rattle.nm_record.proofs.tag_list.TagsFormatFormat.read.Goals as goal

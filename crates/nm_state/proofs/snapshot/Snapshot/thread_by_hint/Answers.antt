@@ -6,4 +6,4 @@ use Rattle.nm_parts.specs.Parts.{base_of}
 use Rattle.nm_state.proofs.snapshot.Snapshot.thread_by_hint.Goals as goal
 
 pub returns : goal.returns
-returns c = c.name_near.ensures (rows_of (base_of c.self.inside.parts)) c.self.invariant.labels ∙ ap (λ (b : Base). thread_name (rows_of b) b.entries c.args.id.now) c.self.view_is
+returns c = c.name_by_hint.ensures (rows_of (base_of c.self.inside.parts)) c.self.invariant.labels ∙ ap (λ (b : Base). thread_name (rows_of b) b.entries c.args.id.now) c.self.view_is

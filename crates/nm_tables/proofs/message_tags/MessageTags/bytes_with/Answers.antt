@@ -3,7 +3,7 @@ use Rattle.std.specs.Cmp.Lexicographic.{slice_cmp}
 use Rattle.std.specs.Ordering.{nat_cmp}
 use Rattle.std.proofs.lemmas.Cmp.{nat_list_cmp_total}
 use Rattle.nm_base.specs.Limits.{max_count}
-use Rattle.nm_codec.specs.Spelling.{text_bytes}
+use Rattle.nm_codec.specs.Encoding.{text_bytes}
 use Rattle.nm_record.specs.Tags.{tags_grammar}
 use Rattle.nm_tables.specs.Measures.{text_from}
 use Rattle.nm_tables.proofs.MeasureLemmas.{replaced, with_new}

@@ -1,7 +1,7 @@
 use Rattle.std.proofs.Common.{sym, subst, ap, ◌∙◌}
 use Rattle.nm_threads.specs.Labels.{AreLabelsOf, IsLabelling, without_name}
 use Rattle.nm_threads.specs.Maps.{labelling_of}
-use Rattle.nm_threads.proofs.GoneLemmas.{entries_gone, labels_gone}
+use Rattle.nm_threads.proofs.RemovedLemmas.{entries_gone, labels_gone}
 use Rattle.nm_threads.proofs.KeepLemmas.{entries_stay, rows_stay}
 use Rattle.nm_threads.proofs.RowLemmas.{maps_labelling}
 use Rattle.nm_threads.proofs.labels.Labels.drop_thread.Goals as goal
