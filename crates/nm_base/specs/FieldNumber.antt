@@ -1,4 +1,4 @@
--- The fields of a mail by number: they are told apart and written by it. Cited by `facts`, `nm_record` and `nm_answer`.
+-- The fields of a mail by number: they are told apart and written by it. Cited by `facts`, `nm_record` and `nm_model_answer`.
 use Rattle.std.specs.Prelude.{ℕ}
 use Rattle.nm_base.specs.declared.facts.Field.{Field}
 use Rattle.nm_base.specs.declared.facts.Field.TheVariants.{From, To, Subject, Body, Attachment}

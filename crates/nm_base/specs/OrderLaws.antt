@@ -1,4 +1,4 @@
--- Texts that are put in order: none occurs twice. For proofs alone: those of `nm_plan`, `nm_writer` and `nm_dump`.
+-- Texts that are put in order: none occurs twice. For proofs alone: those of `nm_model_plan`, `nm_writer` and `nm_dump`.
 use Rattle.std.proofs.Common.{◌≡◌, ℕ, false, List, [], ◌∷◌, fold, refl, ap, ◌∙◌}
 use Rattle.std.proofs.lemmas.Map.Keys.{IsDistinct-from_sorted}
 use Rattle.std.specs.Cmp.Lexicographic.{nat_list_cmp_total, slice_cmp, texts_ties}

@@ -1,5 +1,5 @@
 -- A set has what was put into it, and what it had; of texts, what a filter leaves too.
--- For proofs alone: that of `TextSet::insert`, and those of `nm_plan`, `nm_answer`, `nm_writer` and others.
+-- For proofs alone: that of `TextSet::insert`, and those of `nm_model_plan`, `nm_model_answer`, `nm_writer` and others.
 use Rattle.std.proofs.Common.{◌≡◌, ℕ, Bool, true, false, cond, ◌&&◌, ◌||◌, List, [], ◌∷◌, filter, fold, refl, sym, ap, ◌∙◌}
 use Rattle.std.proofs.Math.Bool.{or-false, or_assoc, or_comm, or_self_left, and-false}
 use Rattle.std.specs.List.{list_any}

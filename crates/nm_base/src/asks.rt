@@ -1,4 +1,4 @@
-//! What each command was asked. `nm_command` reads it from words, a `Request` of `nm_answer` has one, and
+//! What each command was asked. `nm_command` reads it from words, a `Request` of `nm_model_answer` has one, and
 //! `nm_session` answers it.
 
 use crate::{Copies, DumpForm, Many, NoMemory, Output, ReadForm, TagOp, Text};

@@ -1,4 +1,4 @@
-//! The kinds of refusals: of the words of a command, by `nm_command`, and of a file by `new`, in the report of `nm_answer`.
+//! The kinds of refusals: of the words of a command, by `nm_command`, and of a file by `new`, in the report of `nm_model_answer`.
 
 /// What is wrong with the words of a command.
 #[derive(Clone, Copy, Debug)]

@@ -1,7 +1,7 @@
 -- Lines after others that are read. For the proof of `lines_before_move_a_fault_and_leave_it`.
 use Rattle.std.proofs.Common.{◌≡◌, ℕ, ◌+◌, true, List, [], ◌∷◌, ◌++◌, length, is_ok, refl, sym, ap, ◌∙◌, arith, Option, Some, None, Result, Ok, Err}
 use Rattle.std.specs.List.{cons_option}
-use Rattle.nm_answer.specs.BatchLines.{read_each, then_read}
+use Rattle.nm_model_answer.specs.BatchLines.{read_each, then_read}
 use Rattle.nm_batch.specs.LineByLine.{asked_of}
 use Rattle.nm_batch.proofs.LawLemmas.{first_read}
 use Rattle.nm_batch.proofs.LineLemmas.{with_lines}

@@ -2,7 +2,7 @@
 -- For the proofs of `changes_are_read_line_by_line` and `queries_are_read_line_by_line`.
 use Rattle.std.proofs.Common.{◌≡◌, ℕ, ◌+◌, ◌&&◌, true, List, [], ◌∷◌, ◌++◌, length, is_ok, refl, sym, ap, ◌∙◌, arith, inl, inr, ◌⊎◌, Option, Some, None, Result, Ok, Err}
 use Rattle.std.specs.List.{cons_option}
-use Rattle.nm_answer.specs.BatchLines.{read_each, then_read}
+use Rattle.nm_model_answer.specs.BatchLines.{read_each, then_read}
 use Rattle.nm_batch.specs.LineByLine.{are_sound, asked_of, AreRead, IsFirstBad}
 use Rattle.nm_tags.specs.declared.line_error.LineKind.{LineKind}
 

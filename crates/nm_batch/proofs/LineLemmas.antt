@@ -1,6 +1,6 @@
 -- What is read of the lines of an input, line by line. For the proof of `read_lines`.
 use Rattle.std.proofs.Common.{◌≡◌, ℕ, List, [], ◌∷◌, ◌++◌, refl, ap, Some, Result, Ok, Err, append_assoc}
-use Rattle.nm_answer.specs.BatchLines.{then_read}
+use Rattle.nm_model_answer.specs.BatchLines.{then_read}
 use Rattle.nm_tags.specs.declared.line_error.LineKind.{LineKind}
 
 -- what was read, before what else is read

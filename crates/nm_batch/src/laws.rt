@@ -1,7 +1,7 @@
 //! What the reading of an input comes to. No code calls these functions: their clauses are the laws.
 
-ghost use Rattle.nm_answer.specs.BatchLines.{count_line, queries_in, tag_line, taggings_in};
-ghost use Rattle.nm_answer.specs.declared.tag_change.TagChange.{TagChange};
+ghost use Rattle.nm_model_answer.specs.BatchLines.{count_line, queries_in, tag_line, taggings_in};
+ghost use Rattle.nm_model_answer.specs.declared.tag_change.TagChange.{TagChange};
 ghost use Rattle.nm_batch.specs.LineByLine.{AreRead, IsFirstBad};
 ghost use Rattle.nm_query.specs.declared.query.Query.{Query};
 ghost use Rattle.nm_tags.specs.declared.line_error.LineKind.{LineKind};

@@ -1,6 +1,6 @@
 //! The lines of an input, whatever `queries` or `taggings` read of one.
 
-ghost use Rattle.nm_answer.specs.BatchLines.{read_each};
+ghost use Rattle.nm_model_answer.specs.BatchLines.{read_each};
 ghost use Rattle.nm_batch.specs.Faults.{IsFirstFault};
 ghost use Rattle.nm_tags.specs.declared.line_error.LineKind.{LineKind};
 ghost use Rattle.std.specs.Prelude.{◌≡◌, ◌+◌, ℕ, List, [], ◌∷◌, length, IfOk, MatchResult, Ok, Err, Option, Result};

@@ -1,6 +1,6 @@
 //! Lines that are queries, as `count --batch` takes them, for `nm_line`.
 
-ghost use Rattle.nm_answer.specs.BatchLines.{count_line, line_query, queries_in};
+ghost use Rattle.nm_model_answer.specs.BatchLines.{count_line, line_query, queries_in};
 ghost use Rattle.nm_batch.specs.Faults.{IsFirstFault};
 ghost use Rattle.std.specs.Prelude.{◌≡◌, IfOk, MatchResult, Ok};
 

@@ -1,13 +1,13 @@
 //! Lines that change tags, as `tag --batch` takes them, for `nm_line`.
 
-ghost use Rattle.nm_answer.specs.BatchLines.{tag_line, tagging_by, taggings_in};
+ghost use Rattle.nm_model_answer.specs.BatchLines.{tag_line, tagging_by, taggings_in};
 ghost use Rattle.nm_batch.specs.Faults.{IsFirstFault};
 ghost use Rattle.std.specs.Prelude.{◌≡◌, IfOk, MatchResult, Ok};
 
 use crate::lines::{LineReader, read_lines};
 use crate::queries::line_query;
-use nm_answer::TagChange;
 use nm_base::{Many, NoMemory, TagOp, Text};
+use nm_model_answer::TagChange;
 use nm_tags::{LineError, LineKind, classified};
 use std::alloc::Global;
 

@@ -1,6 +1,6 @@
 -- A single command whose request is prepared over its input, or refused. For the proofs of `read_command` and `read_request`.
 use Rattle.std.proofs.Common.{◌≡◌, ◌⊎◌, inl, inr, ℕ, ◌==◌, ◌||◌, Bool, true, false, List, [], Option, None, Some, codes, if◌then◌else◌, length, refl, sym, ap, ◌∙◌, subst}
-use Rattle.nm_answer.specs.declared.request.Request.{Request}
+use Rattle.nm_model_answer.specs.declared.request.Request.{Request}
 use Rattle.nm_base.specs.declared.refusals.UsageKind.{UsageKind}
 use Rattle.nm_base.specs.declared.refusals.UsageKind.TheVariants as kinds
 use Rattle.nm_history.specs.Call.{call_fault, call_reads, command_reads, fault_by, fault_of_command, fault_of_input, input_fault, input_fault_by, is_session, reads_by}

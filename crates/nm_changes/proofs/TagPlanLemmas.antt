@@ -11,12 +11,12 @@ use Rattle.nm_commit.specs.declared.change.Change.{Change}
 use Rattle.nm_commit.specs.declared.change.Change.TheVariants.{SetTags}
 use Rattle.nm_flags.specs.Renames.{renames}
 use Rattle.nm_flags.specs.declared.renames.Rename.{Rename}
-use Rattle.nm_index.specs.Index.{live_ids}
-use Rattle.nm_index.specs.declared.base.Base.{Base}
-use Rattle.nm_answer.specs.RenameOutcomes.{renames_for}
-use Rattle.nm_answer.specs.View.{message_paths, tags_of}
-use Rattle.nm_plan.specs.NameTags.{set_tags}
-use Rattle.nm_plan.specs.TagCommit.{tag_changes}
+use Rattle.nm_model_index.specs.Index.{live_ids}
+use Rattle.nm_model_index.specs.declared.base.Base.{Base}
+use Rattle.nm_model_answer.specs.RenameOutcomes.{renames_for}
+use Rattle.nm_model_answer.specs.View.{message_paths, tags_of}
+use Rattle.nm_model_plan.specs.NameTags.{set_tags}
+use Rattle.nm_model_plan.specs.TagCommit.{tag_changes}
 use Rattle.nm_changes.specs.WantedTags.{AreTouched, renames_of}
 
 abbrev Texts : Type 0

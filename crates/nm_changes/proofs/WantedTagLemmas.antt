@@ -7,11 +7,11 @@ use Rattle.std.specs.Map.{values_of}
 use Rattle.std.specs.Prelude.{OnOk}
 use Rattle.std.proofs.lemmas.Bool.{or_parts}
 use Rattle.nm_base.specs.Order.{has_text, same_text}
-use Rattle.nm_index.specs.Index.{live_ids}
-use Rattle.nm_index.specs.declared.base.Base.{Base}
-use Rattle.nm_answer.specs.View.{tags_of}
-use Rattle.nm_answer.specs.WantedTags.{asked_tags, found_by, line_sets, wanted_after, wanted_by}
-use Rattle.nm_answer.specs.declared.tag_change.TagChange.{TagChange}
+use Rattle.nm_model_index.specs.Index.{live_ids}
+use Rattle.nm_model_index.specs.declared.base.Base.{Base}
+use Rattle.nm_model_answer.specs.View.{tags_of}
+use Rattle.nm_model_answer.specs.WantedTags.{asked_tags, found_by, line_sets, wanted_after, wanted_by}
+use Rattle.nm_model_answer.specs.declared.tag_change.TagChange.{TagChange}
 use Rattle.nm_eval.specs.Numbers.{live_at_numbers}
 use Rattle.nm_changes.specs.WantedTags.{AreTouched}
 

@@ -5,9 +5,9 @@ use Rattle.std.specs.Cmp.Lexicographic.{pointwise}
 use Rattle.nm_base.specs.Order.{has_text, same_text}
 use Rattle.nm_flags.specs.Renames.{renames}
 use Rattle.nm_flags.specs.declared.renames.Rename.{Rename}
-use Rattle.nm_index.specs.declared.base.Base.{Base}
-use Rattle.nm_answer.specs.View.{message_paths, tags_of}
-use Rattle.nm_plan.specs.NameTags.{live_of}
+use Rattle.nm_model_index.specs.declared.base.Base.{Base}
+use Rattle.nm_model_answer.specs.View.{message_paths, tags_of}
+use Rattle.nm_model_plan.specs.NameTags.{live_of}
 
 -- messages that have files, by their numbers; of every other message the same tags are wanted that it has
 pub record AreTouched (index wanted : Base) (ids : List (List ℕ)) : Type 0 where

@@ -1,7 +1,7 @@
 //! The changes of a `new`, for `nm_writer`: mails are added, and files that are missing are removed.
 
 ghost use Rattle.std.specs.Prelude.{◌≡◌, IfOk, map};
-ghost use Rattle.nm_plan.specs.Plan.{add_of, drop_of, message_ids};
+ghost use Rattle.nm_model_plan.specs.Plan.{add_of, drop_of, message_ids};
 
 use nm_base::{Copies, Facts, MailPath, Many, MessageId, NoMemory};
 use nm_commit::Change;

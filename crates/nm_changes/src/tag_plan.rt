@@ -3,10 +3,10 @@
 
 ghost use Rattle.std.specs.Prelude.{◌≡◌, ◌++◌, IfOk, OnOk};
 ghost use Rattle.nm_flags.specs.Renames.{renames};
-ghost use Rattle.nm_answer.specs.RenameOutcomes.{renames_for};
-ghost use Rattle.nm_answer.specs.View.{message_paths, tags_of};
-ghost use Rattle.nm_plan.specs.NameTags.{set_tags};
-ghost use Rattle.nm_plan.specs.TagCommit.{tag_changes};
+ghost use Rattle.nm_model_answer.specs.RenameOutcomes.{renames_for};
+ghost use Rattle.nm_model_answer.specs.View.{message_paths, tags_of};
+ghost use Rattle.nm_model_plan.specs.NameTags.{set_tags};
+ghost use Rattle.nm_model_plan.specs.TagCommit.{tag_changes};
 ghost use Rattle.nm_changes.specs.WantedTags.{AreTouched, renames_of};
 
 use crate::wanted_tags::Wanted;

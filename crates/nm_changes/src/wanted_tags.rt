@@ -2,15 +2,15 @@
 
 ghost use Rattle.std.specs.Prelude.{◌≡◌, ◌++◌, ℕ, List, IfOk, OnOk, map};
 ghost use Rattle.nm_dates.specs.Seconds.{IsMoment};
-ghost use Rattle.nm_answer.specs.View.{tags_of};
-ghost use Rattle.nm_answer.specs.WantedTags.{asked_tags, found_by, wanted_after, wanted_by};
+ghost use Rattle.nm_model_answer.specs.View.{tags_of};
+ghost use Rattle.nm_model_answer.specs.WantedTags.{asked_tags, found_by, wanted_after, wanted_by};
 ghost use Rattle.nm_eval.specs.Numbers.{live_at_numbers};
 ghost use Rattle.nm_changes.specs.WantedTags.{AreTouched};
 
-use nm_answer::TagChange;
 use nm_base::{Copies, Many, MessageId, NoMemory, Tags};
 use nm_eval::{add_numbered, matches, the_live_ones_stand_at_their_numbers};
-use nm_plan::a_line_tags_what_it_finds;
+use nm_model_answer::TagChange;
+use nm_model_plan::a_line_tags_what_it_finds;
 use nm_state::Snapshot;
 use nm_tags::apply_ops;
 use std::alloc::Global;

@@ -1,5 +1,5 @@
 -- The files of an index in order of arrival, each with the facts of its mail: what a change makes of them, and which commits fit them.
--- Cited by `nm_index`, `nm_answer`, `nm_plan` and others.
+-- Cited by `nm_model_index`, `nm_model_answer`, `nm_model_plan` and others.
 use Rattle.std.specs.Prelude.{◌≡◌, ℕ, Bool, true, false, not, List, [], ◌∷◌, ◌++◌, length, fold, map, filter, ◌<◌, if◌then◌else◌}
 use Rattle.nm_base.specs.Limits.{IsDate}
 use Rattle.nm_base.specs.Order.{has_text, same_text}

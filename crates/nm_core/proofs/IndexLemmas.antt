@@ -5,9 +5,9 @@ use Rattle.std.proofs.lemmas.List.{get_or-map, length-map, map-append}
 use Rattle.nm_commit.specs.declared.change.Commit.{Commit}
 use Rattle.nm_core.specs.Core.{AreIndexes, commits_of, indexes_after, indexes_of, machine_of, with_commit}
 use Rattle.nm_core.specs.declared.machine.Made.{Made}
-use Rattle.nm_index.specs.Index.{committed, folded}
-use Rattle.nm_index.specs.declared.base.Base.{Base}
-use Rattle.nm_machine.specs.Laws.{InOrder}
+use Rattle.nm_model_index.specs.Index.{committed, folded}
+use Rattle.nm_model_index.specs.declared.base.Base.{Base}
+use Rattle.nm_model_machine.specs.Laws.{InOrder}
 
 -- one commit more
 pub indexes-more : (index : Base) (commits : List Commit) (commit : Commit) → indexes_after index (commits ++ commit ∷ []) ≡ indexes_after index commits ++ committed (folded index commits) commit ∷ []

@@ -2,14 +2,14 @@
 use Rattle.std.specs.Prelude.{◌≡◌, ℕ, ℤ, Bool, List, [], ◌∷◌, ◌++◌, map, Option, Some, None, Result, Ok, Err, IfSome}
 use Rattle.std.specs.Option.{option_map}
 use Rattle.nm_commit.specs.declared.change.Commit.{Commit}
-use Rattle.nm_index.specs.Index.{committed, folded}
-use Rattle.nm_index.specs.declared.base.Base.{Base}
+use Rattle.nm_model_index.specs.Index.{committed, folded}
+use Rattle.nm_model_index.specs.declared.base.Base.{Base}
 use Rattle.nm_core.specs.declared.machine.CoreError.{CoreError}
 use Rattle.nm_core.specs.declared.machine.CoreError.TheVariants.{NotNow, NoMemory}
 use Rattle.nm_core.specs.declared.machine.Made.{Made}
-use Rattle.nm_machine.specs.Laws.{met_after}
-use Rattle.nm_machine.specs.Machine.{Machine, IsAllowed, Takes}
-use Rattle.nm_machine.specs.declared.step.Step.{Step}
+use Rattle.nm_model_machine.specs.Laws.{met_after}
+use Rattle.nm_model_machine.specs.Machine.{Machine, IsAllowed, Takes}
+use Rattle.nm_model_machine.specs.declared.step.Step.{Step}
 
 -- the machine's state, and how many commits were acknowledged at the last barrier or opening, 0 before the first
 pub record Kept : Type 0 where

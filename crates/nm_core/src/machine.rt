@@ -5,15 +5,15 @@ ghost use Rattle.nm_base.specs.Limits.{max_date};
 ghost use Rattle.nm_commit.specs.Files.{Fits};
 ghost use Rattle.nm_core.specs.Core.{Acknowledges, Answers};
 ghost use Rattle.nm_dates.specs.Seconds.{IsMoment};
-ghost use Rattle.nm_index.specs.Index.{committed};
-ghost use Rattle.nm_machine.specs.Laws.{InOrder};
-ghost use Rattle.nm_machine.specs.Machine.{IsAllowed, index_after, last_index, start};
+ghost use Rattle.nm_model_index.specs.Index.{committed};
+ghost use Rattle.nm_model_machine.specs.Laws.{InOrder};
+ghost use Rattle.nm_model_machine.specs.Machine.{IsAllowed, index_after, last_index, start};
 
 use crate::reply::may_reply;
-use nm_answer::Request;
 use nm_base::{Copies, Many, NoMemory};
 use nm_commit::Commit;
-use nm_machine::Step;
+use nm_model_answer::Request;
+use nm_model_machine::Step;
 use nm_state::Snapshot;
 use std::alloc::Global;
 use std::marker::Model;
@@ -74,7 +74,7 @@ pub struct Core {
 impl Model for Core {
     ghost use Rattle.std.specs.Prelude.{◌<◌, length};
     ghost use Rattle.nm_core.specs.Core.{AreIndexes, Kept, machine_of};
-    ghost use Rattle.nm_machine.specs.Laws.{InOrder};
+    ghost use Rattle.nm_model_machine.specs.Laws.{InOrder};
 
     ghost Value = { Kept };
 

@@ -2,16 +2,16 @@
 
 ghost use Rattle.std.specs.Prelude.{◌≡◌, ◌&&◌, ◌||◌, [], false, IfOk, is_ok, MatchOption, not, Ok};
 ghost use Rattle.nm_base.specs.Order.{same_text};
-ghost use Rattle.nm_answer.specs.Answer.{is_reply};
-ghost use Rattle.nm_answer.specs.Count.{count_answer};
-ghost use Rattle.nm_answer.specs.Dump.{dump_answer};
-ghost use Rattle.nm_answer.specs.Found.{search_answer};
+ghost use Rattle.nm_model_answer.specs.Answer.{is_reply};
+ghost use Rattle.nm_model_answer.specs.Count.{count_answer};
+ghost use Rattle.nm_model_answer.specs.Dump.{dump_answer};
+ghost use Rattle.nm_model_answer.specs.Found.{search_answer};
 ghost use Rattle.nm_dates.specs.Seconds.{IsMoment};
 ghost use Rattle.nm_query.specs.Answers.{answer_of};
 
-use nm_answer::Request;
 use nm_base::{CountAsk, DumpAsk, NoMemory, SearchAsk, Text};
 use nm_dump::dump_reply;
+use nm_model_answer::Request;
 use nm_query::{Query, QueryError, parse};
 use nm_render::{count_reply, search_reply};
 use nm_state::Snapshot;

@@ -1,4 +1,4 @@
--- The Gregorian calendar by day numbers: 0 is 1970-01-01. Cited by `days`, `seconds` and `nm_answer`.
+-- The Gregorian calendar by day numbers: 0 is 1970-01-01. Cited by `days`, `seconds` and `nm_model_answer`.
 use Rattle.std.specs.Prelude.{◌≡◌, IsTrue, ℕ, zero, suc, ◌+◌, ◌-◌, ◌*◌, ◌/◌, ◌%◌, Bool, ◌&&◌, nat_le, nat_lt, min, ℤ, pos, negsuc, ◌-ℤ◌, ◌≤ℤ◌, int_le, unsigned_abs, List, [], ◌∷◌, ◌++◌, if◌then◌else◌}
 use Rattle.jiff_core.specs.Calendar.{days_from_civil, days_in_month}
 use Rattle.nm_dates.specs.declared.days.Civil.{Civil}

@@ -11,7 +11,7 @@ mod files;
 mod mem_disk;
 mod state;
 
+pub use crash::Pick;
 pub use disk::{Disk, DiskFault, DiskFolder, FileNo};
 pub use file_disk::FileDisk;
 pub use mem_disk::MemDisk;
-pub use crash::Pick;

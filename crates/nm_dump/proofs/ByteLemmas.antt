@@ -9,7 +9,7 @@ use Rattle.hex.specs.Hex.{encode_lower, encode_with, lower_digits}
 use Rattle.nm_base.specs.Bounds.{fits_length, is_white_space}
 use Rattle.nm_base.specs.MessageId.{is_id_byte, is_id_text, is_message_id}
 use Rattle.nm_tags.specs.Encoding.{encoded_byte, encoded_tag, escaped, is_written}
-use Rattle.nm_answer.specs.Dump.{doubled, quoted, wants_quotes, written_id}
+use Rattle.nm_model_answer.specs.Dump.{doubled, quoted, wants_quotes, written_id}
 
 -- no white space
 abbrev pub is_dark : ℕ → Bool

@@ -3,8 +3,8 @@ use Rattle.std.proofs.Common.{◌≡◌, ℕ, true, List, [], ◌∷◌, ◌++�
 use Rattle.nm_base.specs.declared.tag_op.TagOp.{TagOp}
 use Rattle.nm_tags.specs.declared.line_error.LineKind.{LineKind}
 use Rattle.nm_tags.specs.declared.wanted.Wanted.{Wanted}
-use Rattle.nm_answer.specs.DumpLines.{then_lines}
-use Rattle.nm_answer.specs.Sup.{set_before}
+use Rattle.nm_model_answer.specs.DumpLines.{then_lines}
+use Rattle.nm_model_answer.specs.Sup.{set_before}
 
 -- lines before what else is read
 abbrev pub with_lines : List Wanted → Result (List Wanted) (ℕ × LineKind) → Result (List Wanted) (ℕ × LineKind)

@@ -5,9 +5,9 @@ use Rattle.std.specs.Str.{is_utf8}
 use Rattle.std.proofs.lemmas.Bool.{cases_Bool, or_parts}
 use Rattle.std.proofs.lemmas.Bool.Decides.{nat_tests}
 use Rattle.nm_base.specs.MessageId.{is_message_id}
-use Rattle.nm_answer.specs.Dump.{has_parenthesis}
-use Rattle.nm_answer.specs.BatchTag.{checked_id, id_of_query, id_text, unquoted, with_byte}
-use Rattle.nm_answer.specs.Dump.{doubled, quoted, wants_quotes, written_id}
+use Rattle.nm_model_answer.specs.Dump.{has_parenthesis}
+use Rattle.nm_model_answer.specs.BatchTag.{checked_id, id_of_query, id_text, unquoted, with_byte}
+use Rattle.nm_model_answer.specs.Dump.{doubled, quoted, wants_quotes, written_id}
 
 -- a byte that is no quote, with something after it, represents itself
 other_byte : (byte : ℕ) (more : List ℕ) → (byte == 34) ≡ false → 0 < length more → unquoted (byte ∷ more) ≡ with_byte byte (unquoted more)

@@ -4,7 +4,7 @@ use Rattle.std.specs.Str.{IsUtf8, IsCharBoundary}
 use Rattle.std.proofs.lemmas.Bool.{and_parts}
 use Rattle.std.proofs.lemmas.Bool.Decides.{nat_tests}
 use Rattle.std.proofs.lemmas.Str.{IsCharBoundary-after_ascii}
-use Rattle.nm_answer.specs.Sup.{is_in_parentheses}
+use Rattle.nm_model_answer.specs.Sup.{is_in_parentheses}
 
 -- it has two bytes at least
 pub two_bytes : (text : List ℕ) → is_in_parentheses text ≡ true → 2 ≤ length text

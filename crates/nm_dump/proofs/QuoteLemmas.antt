@@ -1,6 +1,6 @@
 -- Bytes that are read one by one. For the proof of `unquoted`.
 use Rattle.std.proofs.Common.{◌≡◌, ℕ, List, [], ◌∷◌, ◌++◌, refl, ap, append_assoc, Option, Some, None}
-use Rattle.nm_answer.specs.BatchTag.{with_byte}
+use Rattle.nm_model_answer.specs.BatchTag.{with_byte}
 
 -- bytes before a text, where there is one
 abbrev pub with_bytes : List ℕ → Option (List ℕ) → Option (List ℕ)

@@ -9,11 +9,11 @@ use Rattle.std.specs.Map.{lookup}
 use Rattle.std.specs.Option.{is_some}
 use Rattle.std.specs.Ordering.{is_eq, nat_cmp}
 use Rattle.std.specs.List.{flat_map}
-use Rattle.nm_answer.specs.Restore.{restoring_of, restorings_by, stranger_of, strangers, with_firsts}
-use Rattle.nm_answer.specs.declared.tag_change.TagChange.{TagChange}
+use Rattle.nm_model_answer.specs.Restore.{restoring_of, restorings_by, stranger_of, strangers, with_firsts}
+use Rattle.nm_model_answer.specs.declared.tag_change.TagChange.{TagChange}
 use Rattle.nm_base.specs.Order.{has_text, same_text}
 use Rattle.nm_dump.specs.Named.{Names}
-use Rattle.nm_index.specs.declared.base.Base.{Base}
+use Rattle.nm_model_index.specs.declared.base.Base.{Base}
 use Rattle.nm_tags.specs.declared.wanted.Wanted.{Wanted}
 
 -- what the lines before this place ask for, and what the others ask for after them, are all

@@ -7,11 +7,11 @@ use Rattle.std.specs.Cmp.Lexicographic.{nat_list_eq_equiv, slice_cmp}
 use Rattle.std.specs.List.{AllByRecursion, IsDistinct}
 use Rattle.std.specs.Map.{lookup}
 use Rattle.std.specs.Ordering.{nat_cmp}
-use Rattle.nm_answer.specs.Dump.{dump_text, tagged}
-use Rattle.nm_answer.specs.DumpLines.{read_dump}
-use Rattle.nm_answer.specs.Restore.{restorings_by, restorings_of}
-use Rattle.nm_answer.specs.WantedTags.{wanted_by}
-use Rattle.nm_answer.specs.View.{tags_of}
+use Rattle.nm_model_answer.specs.Dump.{dump_text, tagged}
+use Rattle.nm_model_answer.specs.DumpLines.{read_dump}
+use Rattle.nm_model_answer.specs.Restore.{restorings_by, restorings_of}
+use Rattle.nm_model_answer.specs.WantedTags.{wanted_by}
+use Rattle.nm_model_answer.specs.View.{tags_of}
 use Rattle.nm_base.specs.Order.{IsSorted, same_text, sorted}
 use Rattle.nm_base.specs.declared.forms.DumpForm.TheVariants.{BatchTag, Sup}
 use Rattle.nm_base.specs.declared.forms.ReadForm.{ReadForm}
@@ -22,12 +22,12 @@ use Rattle.nm_dump.specs.Tags.{set_tag}
 use Rattle.nm_base.specs.OrderLaws.{IsSorted-sorted, distinct_sorted, none_sorted}
 use Rattle.nm_dump.proofs.RestoreLemmas.{restored}
 use Rattle.nm_dump.proofs.RestoredLemmas.{after_lines}
-use Rattle.nm_index.specs.Valid.{IsValid}
-use Rattle.nm_index.specs.Index.{folded}
-use Rattle.nm_index.specs.declared.base.Base.{Base}
-use Rattle.nm_plan.specs.Numbering.{AreNumbered}
-use Rattle.nm_plan.specs.TagCommit.{tag_commit}
-use Rattle.nm_answer.specs.declared.tag_change.TagChange.{TagChange}
+use Rattle.nm_model_index.specs.Valid.{IsValid}
+use Rattle.nm_model_index.specs.Index.{folded}
+use Rattle.nm_model_index.specs.declared.base.Base.{Base}
+use Rattle.nm_model_plan.specs.Numbering.{AreNumbered}
+use Rattle.nm_model_plan.specs.TagCommit.{tag_commit}
+use Rattle.nm_model_answer.specs.declared.tag_change.TagChange.{TagChange}
 use Rattle.nm_tags.specs.Operations.{after_ops, begun_with}
 use Rattle.nm_tags.specs.declared.line_error.LineKind.{LineKind}
 use Rattle.nm_tags.specs.declared.wanted.Wanted.{Wanted}

@@ -5,16 +5,16 @@ use Rattle.std.proofs.Math.Bool.{and-false, and-true}
 use Rattle.std.proofs.lemmas.Bool.{or_parts}
 use Rattle.std.specs.Cmp.Lexicographic as lexicographic
 use Rattle.std.specs.Cmp.Lexicographic.{nat_list_eq_equiv}
-use Rattle.nm_answer.specs.Matches.{is_match}
-use Rattle.nm_answer.specs.Restore.{restoring_of, restorings_by, with_firsts}
-use Rattle.nm_answer.specs.WantedTags.{asked_tags, found_by, is_found, wanted_after, wanted_by}
-use Rattle.nm_answer.specs.Test.{node_passes, passes}
-use Rattle.nm_answer.specs.View.{View, tags_of, view_of}
-use Rattle.nm_answer.specs.declared.tag_change.TagChange.{TagChange}
+use Rattle.nm_model_answer.specs.Matches.{is_match}
+use Rattle.nm_model_answer.specs.Restore.{restoring_of, restorings_by, with_firsts}
+use Rattle.nm_model_answer.specs.WantedTags.{asked_tags, found_by, is_found, wanted_after, wanted_by}
+use Rattle.nm_model_answer.specs.Test.{node_passes, passes}
+use Rattle.nm_model_answer.specs.View.{View, tags_of, view_of}
+use Rattle.nm_model_answer.specs.declared.tag_change.TagChange.{TagChange}
 use Rattle.nm_base.specs.Order.{has_text, same_text}
 use Rattle.nm_dump.specs.Restored.{is_live, is_named_in, lines_naming, restored_tags}
-use Rattle.nm_index.specs.Index.{live_ids}
-use Rattle.nm_index.specs.declared.base.Base.{Base}
+use Rattle.nm_model_index.specs.Index.{live_ids}
+use Rattle.nm_model_index.specs.declared.base.Base.{Base}
 use Rattle.nm_query.specs.declared.query.Query.TheFolds.{fold-roll-Query}
 use Rattle.nm_query.specs.declared.query.Query.TheOpen.{Query-F}
 use Rattle.nm_query.specs.declared.query.Query.TheVariants.{Id, rolls-Id}

@@ -15,12 +15,12 @@ use Rattle.nm_base.specs.declared.forms.ReadForm.TheVariants as forms
 use Rattle.nm_text.specs.WhiteSpace.{trimmed_start}
 use Rattle.nm_tags.specs.TagLines.{after_first_word, begins_comment, begins_with_space, first_word, words_in, words_upto}
 use Rattle.nm_tags.specs.declared.line_error.LineKind.TheVariants as kinds
-use Rattle.nm_answer.specs.BatchTag.{checked_id}
-use Rattle.nm_answer.specs.Dump.{dump_text, sup_line}
+use Rattle.nm_model_answer.specs.BatchTag.{checked_id}
+use Rattle.nm_model_answer.specs.Dump.{dump_text, sup_line}
 use Rattle.nm_dump.specs.Tags.{set_tag, AreTags}
 use Rattle.nm_dump.specs.ReadBack.{wanted_from, without_spaces, AreFitForSup, AreMessages}
-use Rattle.nm_answer.specs.DumpLines.{is_passed_over, read_dump}
-use Rattle.nm_answer.specs.Sup.{inside, is_in_parentheses, read_sup, set_all, set_before, sup_asked, with_tags}
+use Rattle.nm_model_answer.specs.DumpLines.{is_passed_over, read_dump}
+use Rattle.nm_model_answer.specs.Sup.{inside, is_in_parentheses, read_sup, set_all, set_before, sup_asked, with_tags}
 use Rattle.nm_dump.proofs.ByteLemmas.{append_all, ascii_from_low, dark_inner, id_dark, is_dark, is_inner, weaker}
 use Rattle.nm_dump.proofs.TagLineLemmas.{after_is, first_is}
 use Rattle.nm_dump.proofs.WholeLemmas.{classified_by, messages_read, IsReadBack}

@@ -17,8 +17,8 @@ use Rattle.nm_tags.specs.Decoding.{decoded_tag}
 use Rattle.nm_tags.specs.Encoding.{encoded_tag}
 use Rattle.nm_tags.specs.TagLines.{after_first_word, asked_in, asked_upto, first_word, is_tag_word, op_of, query_after, with_op}
 use Rattle.nm_tags.specs.declared.line_error.LineKind.TheVariants as kinds
-use Rattle.nm_answer.specs.BatchTag.{id_of_query, read_batch_tag, with_id}
-use Rattle.nm_answer.specs.Dump.{changes_line, written_id, written_tag}
+use Rattle.nm_model_answer.specs.BatchTag.{id_of_query, read_batch_tag, with_id}
+use Rattle.nm_model_answer.specs.Dump.{changes_line, written_id, written_tag}
 use Rattle.nm_dump.specs.Tags.{set_tag, AreTags}
 use Rattle.nm_dump.proofs.ByteLemmas.{holds_at, is_dark, tag_dark, written_id_dark}
 use Rattle.nm_dump.proofs.IdLemmas.{id_read}

@@ -17,10 +17,10 @@ use Rattle.nm_base.specs.declared.tag_op.TagOp.{TagOp}
 use Rattle.nm_tags.specs.Encoding.{encoded_tag}
 use Rattle.nm_tags.specs.declared.line_error.LineKind.{LineKind}
 use Rattle.nm_tags.specs.declared.line_error.LineKind.TheVariants as kinds
-use Rattle.nm_answer.specs.Dump.{changes_line, doubled, dump_text, message_line, quoted, wants_quotes, written_id, written_tag}
+use Rattle.nm_model_answer.specs.Dump.{changes_line, doubled, dump_text, message_line, quoted, wants_quotes, written_id, written_tag}
 use Rattle.nm_dump.specs.Tags.{set_tag}
 use Rattle.nm_dump.specs.ReadBack.{wanted_from, AreMessages}
-use Rattle.nm_answer.specs.DumpLines.{begins_changes, classified, is_passed_over, read_dump, read_line, read_lines, then_lines, told_form}
+use Rattle.nm_model_answer.specs.DumpLines.{begins_changes, classified, is_passed_over, read_dump, read_line, read_lines, then_lines, told_form}
 use Rattle.nm_dump.proofs.ByteLemmas.{append_all, ascii_from_low, dark_inner, holds_at, is_dark, is_inner, is_low, parts_all, tag_dark, tag_low, weaker, written_id_dark}
 use Rattle.nm_dump.proofs.TagLineLemmas.{line_read, ReadsTags}
 

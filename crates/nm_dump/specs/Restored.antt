@@ -1,14 +1,14 @@
 -- What a `restore` comes to: the tags that each message then has. Cited by `restore_laws`.
 use Rattle.std.specs.Prelude.{◌≡◌, ℕ, ℤ, Bool, ◌&&◌, not, List, fold, map, IsTrue}
 use Rattle.std.specs.List.{AllByRecursion, IsDistinct, filter, list_any}
-use Rattle.nm_answer.specs.Restore.{restorings_of}
-use Rattle.nm_answer.specs.WantedTags.{wanted_by}
-use Rattle.nm_answer.specs.View.{tags_of}
+use Rattle.nm_model_answer.specs.Restore.{restorings_of}
+use Rattle.nm_model_answer.specs.WantedTags.{wanted_by}
+use Rattle.nm_model_answer.specs.View.{tags_of}
 use Rattle.nm_base.specs.Order.{IsSorted, has_text, same_text}
 use Rattle.nm_base.specs.declared.asks.RestoreAsk.{RestoreAsk}
-use Rattle.nm_index.specs.Index.{folded, live_ids}
-use Rattle.nm_index.specs.declared.base.Base.{Base}
-use Rattle.nm_plan.specs.TagCommit.{tag_commit}
+use Rattle.nm_model_index.specs.Index.{folded, live_ids}
+use Rattle.nm_model_index.specs.declared.base.Base.{Base}
+use Rattle.nm_model_plan.specs.TagCommit.{tag_commit}
 use Rattle.nm_tags.specs.Operations.{after_ops, begun_with}
 use Rattle.nm_tags.specs.declared.wanted.Wanted.{Wanted}
 

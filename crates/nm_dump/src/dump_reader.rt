@@ -2,8 +2,8 @@
 
 ghost use Rattle.std.specs.Prelude.{◌≡◌, ◌+◌, [], ◌∷◌, length, IfOk, MatchResult, Ok, Err, if◌then◌else◌};
 ghost use Rattle.std.specs.Str.Lines.{lines};
-ghost use Rattle.nm_answer.specs.BatchTag.{read_batch_tag};
-ghost use Rattle.nm_answer.specs.DumpLines.{begins_changes, classified, form_of, is_passed_over, read_dump, read_line, told_form, IsDumpFault};
+ghost use Rattle.nm_model_answer.specs.BatchTag.{read_batch_tag};
+ghost use Rattle.nm_model_answer.specs.DumpLines.{begins_changes, classified, form_of, is_passed_over, read_dump, read_line, told_form, IsDumpFault};
 
 use crate::ids::id_of_query;
 use crate::sup::read_sup;

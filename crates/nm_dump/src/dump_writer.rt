@@ -2,10 +2,10 @@
 
 ghost use Rattle.std.specs.Prelude.{◌≡◌, ◌++◌, [], ◌∷◌, IfOk, OnOk, Ok};
 ghost use Rattle.nm_base.specs.Order.{sorted};
-ghost use Rattle.nm_answer.specs.View.{tags_of};
-ghost use Rattle.nm_answer.specs.Dump.{dump, dump_text, first_line, message_line, tagged};
+ghost use Rattle.nm_model_answer.specs.View.{tags_of};
+ghost use Rattle.nm_model_answer.specs.Dump.{dump, dump_text, first_line, message_line, tagged};
 ghost use Rattle.nm_dump.specs.ReadBack.{wanted_from, AreFitForSup, AreMessages, IsMessage};
-ghost use Rattle.nm_answer.specs.DumpLines.{read_dump};
+ghost use Rattle.nm_model_answer.specs.DumpLines.{read_dump};
 
 use crate::laws::{a_written_dump_is_read_back, a_written_sup_dump_is_read_back};
 use crate::line_writer::{push_changes, push_sup};

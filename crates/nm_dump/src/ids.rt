@@ -1,8 +1,8 @@
 //! Ids in the lines of a dump, for `dump_reader` and `line_writer`.
 
 ghost use Rattle.std.specs.Prelude.{◌≡◌, ◌<◌, [], length, IfOk, IfSome, MatchOption, None, Some};
-ghost use Rattle.nm_answer.specs.Dump.{has_parenthesis};
-ghost use Rattle.nm_answer.specs.BatchTag.{checked_id, id_of_query, id_text, unencoded, unquoted, with_byte};
+ghost use Rattle.nm_model_answer.specs.Dump.{has_parenthesis};
+ghost use Rattle.nm_model_answer.specs.BatchTag.{checked_id, id_of_query, id_text, unencoded, unquoted, with_byte};
 
 use nm_base::{Many, MessageId, NoMemory, Text};
 use nm_tags::text_of;

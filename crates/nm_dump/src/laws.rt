@@ -6,11 +6,11 @@ ghost use Rattle.std.specs.Str.{is_utf8};
 ghost use Rattle.nm_base.specs.MessageId.{is_message_id};
 ghost use Rattle.nm_base.specs.Order.{IsSorted};
 ghost use Rattle.nm_tags.specs.Operations.{after_ops, begun_with};
-ghost use Rattle.nm_answer.specs.BatchTag.{id_of_query, read_batch_tag};
-ghost use Rattle.nm_answer.specs.Dump.{changes_line, dump_text, written_id};
+ghost use Rattle.nm_model_answer.specs.BatchTag.{id_of_query, read_batch_tag};
+ghost use Rattle.nm_model_answer.specs.Dump.{changes_line, dump_text, written_id};
 ghost use Rattle.nm_dump.specs.Tags.{set_tag, AreTags};
 ghost use Rattle.nm_dump.specs.ReadBack.{wanted_from, AreFitForSup, AreMessages};
-ghost use Rattle.nm_answer.specs.DumpLines.{read_dump};
+ghost use Rattle.nm_model_answer.specs.DumpLines.{read_dump};
 
 use nm_base::{DumpForm, ReadForm};
 use nm_tags::a_written_tag_is_read_back;

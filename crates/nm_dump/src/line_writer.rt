@@ -5,7 +5,7 @@ ghost use Rattle.std.specs.List.{flat_map, join_with_byte};
 ghost use Rattle.std.specs.Str.{is_utf8};
 ghost use Rattle.hex.specs.Hex.{IsBytes};
 ghost use Rattle.nm_base.specs.MessageId.{is_message_id};
-ghost use Rattle.nm_answer.specs.Dump.{changes_line, doubled, quoted, sup_line, wants_quotes, written_id, written_tag};
+ghost use Rattle.nm_model_answer.specs.Dump.{changes_line, doubled, quoted, sup_line, wants_quotes, written_id, written_tag};
 ghost use Rattle.nm_dump.specs.Tags.{AreTags, IsTagOfBytes};
 ghost use Rattle.nm_dump.specs.ReadBack.{IsMessage};
 

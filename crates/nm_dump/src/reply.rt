@@ -1,7 +1,7 @@
 //! The reply to a dump: `nm_session` answers with it, and `nm_core` judges replies by it.
 
 ghost use Rattle.std.specs.Prelude.{◌≡◌, IfOk};
-ghost use Rattle.nm_answer.specs.Dump.{dump_found};
+ghost use Rattle.nm_model_answer.specs.Dump.{dump_found};
 ghost use Rattle.nm_dates.specs.Seconds.{IsMoment};
 
 use crate::dump_writer::dump;

@@ -1,12 +1,12 @@
 //! What a `restore` asks for, for `nm_line`: the lines of a dump as changes of tags, and the ids that no message has.
 
 ghost use Rattle.std.specs.Prelude.{◌≡◌, ◌++◌, ℕ, ◌∷◌, List, not, IfOk, OnOk};
-ghost use Rattle.nm_answer.specs.Restore.{restoring_of, restorings_by, stranger_of, strangers};
+ghost use Rattle.nm_model_answer.specs.Restore.{restoring_of, restorings_by, stranger_of, strangers};
 ghost use Rattle.nm_base.specs.Order.{has_text};
 ghost use Rattle.nm_dump.specs.Named.{Names};
 
-use nm_answer::TagChange;
 use nm_base::{Copies, Many, MessageId, NoMemory};
+use nm_model_answer::TagChange;
 use nm_query::Query;
 use nm_shared::HashedMap;
 use nm_state::Snapshot;

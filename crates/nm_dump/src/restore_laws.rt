@@ -1,21 +1,21 @@
 //! What a `restore` comes to. No code calls these functions: their clauses are the laws.
 
 ghost use Rattle.std.specs.Prelude.{◌≡◌, ◌≢◌, ℕ, ℤ, Bool, IsTrue, List, false};
-ghost use Rattle.nm_answer.specs.Dump.{dump, dump_text, tagged};
-ghost use Rattle.nm_answer.specs.Restore.{restorings_by, restorings_of};
-ghost use Rattle.nm_answer.specs.WantedTags.{wanted_by};
-ghost use Rattle.nm_answer.specs.View.{tags_of};
+ghost use Rattle.nm_model_answer.specs.Dump.{dump, dump_text, tagged};
+ghost use Rattle.nm_model_answer.specs.Restore.{restorings_by, restorings_of};
+ghost use Rattle.nm_model_answer.specs.WantedTags.{wanted_by};
+ghost use Rattle.nm_model_answer.specs.View.{tags_of};
 ghost use Rattle.nm_base.specs.Order.{sorted};
 ghost use Rattle.nm_dump.specs.ReadBack.{wanted_from, AreFitForSup, AreMessages};
 ghost use Rattle.nm_dump.specs.Restored.{after_restore, is_live, is_named_in, restored_tags, HaveTheirTags, StandOnce};
-ghost use Rattle.nm_index.specs.Valid.{IsValid};
-ghost use Rattle.nm_index.specs.declared.base.Base.{Base};
-ghost use Rattle.nm_plan.specs.Numbering.{AreNumbered};
+ghost use Rattle.nm_model_index.specs.Valid.{IsValid};
+ghost use Rattle.nm_model_index.specs.declared.base.Base.{Base};
+ghost use Rattle.nm_model_plan.specs.Numbering.{AreNumbered};
 ghost use Rattle.nm_tags.specs.declared.wanted.Wanted.{Wanted};
 
 use crate::laws::{a_written_dump_is_read_back, a_written_sup_dump_is_read_back};
 use nm_base::{DumpForm, ReadForm};
-use nm_plan::{a_line_tags_what_it_finds, the_commit_of_tags_leaves_what_is_wanted};
+use nm_model_plan::{a_line_tags_what_it_finds, the_commit_of_tags_leaves_what_is_wanted};
 
 /// After the lines of a dump each live message has the tags that its lines say. A message that no line names keeps its tags,
 /// and so does one that has no file.

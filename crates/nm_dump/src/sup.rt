@@ -2,7 +2,7 @@
 
 ghost use Rattle.std.specs.Prelude.{◌≡◌, ◌-◌, ◌<◌, [], length, take, drop, IfOk, IfSome, MatchOption, None, Some, if◌then◌else◌};
 ghost use Rattle.nm_base.specs.Tag.{is_tag};
-ghost use Rattle.nm_answer.specs.Sup.{inside, is_in_parentheses, read_sup, set_all};
+ghost use Rattle.nm_model_answer.specs.Sup.{inside, is_in_parentheses, read_sup, set_all};
 ghost use Rattle.nm_tags.specs.TagLines.{words_in};
 
 use crate::ids::checked_id;

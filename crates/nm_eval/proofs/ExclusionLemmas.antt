@@ -4,9 +4,9 @@ use Rattle.std.proofs.Math.Bool.{or-false}
 use Rattle.std.specs.List.{list_any}
 use Rattle.nm_base.specs.Tags.{has_tag}
 use Rattle.nm_query.specs.declared.query.Query.{Query}
-use Rattle.nm_answer.specs.Matches.{is_excluded, is_match, names_tag}
-use Rattle.nm_answer.specs.Test.{passes}
-use Rattle.nm_answer.specs.View.{View}
+use Rattle.nm_model_answer.specs.Matches.{is_excluded, is_match, names_tag}
+use Rattle.nm_model_answer.specs.Test.{passes}
+use Rattle.nm_model_answer.specs.View.{View}
 use Rattle.nm_eval.specs.Exclusion.{exclusion_of, leaves_out}
 use Rattle.nm_eval.specs.declared.exclusion.Exclusion.{Exclusion}
 

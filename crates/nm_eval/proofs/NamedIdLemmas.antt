@@ -17,8 +17,8 @@ use Rattle.nm_query.specs.declared.query.Query.TheOpen.{Query-F}
 use Rattle.nm_query.specs.declared.query.Query.TheFolds.{fold-roll-Query, ind-Query, map-Query}
 use Rattle.nm_query.specs.declared.query.Query.TheVariants as tree
 use Rattle.nm_query.specs.declared.query.Query.TheVariants.{rolls-And, rolls-Or}
-use Rattle.nm_answer.specs.Test.{node_passes, passes}
-use Rattle.nm_answer.specs.View.{View}
+use Rattle.nm_model_answer.specs.Test.{node_passes, passes}
+use Rattle.nm_model_answer.specs.View.{View}
 use Rattle.nm_eval.specs.NamedIds.{all_some, both, first_some, named_ids, node_named}
 
 abbrev Ids : Type 0

@@ -18,9 +18,9 @@ use Rattle.std.proofs.lemmas.Slice.Eq.{bytes_eq-Decides}
 use Rattle.nm_base.specs.Order.{has_text, same_text}
 use Rattle.nm_base.specs.declared.facts.Facts.{Facts}
 use Rattle.nm_commit.specs.Files.{has_id}
-use Rattle.nm_index.specs.Index.{has_entry, is_of, live_ids}
-use Rattle.nm_index.specs.Valid.{IsValid}
-use Rattle.nm_index.specs.declared.base.Base.{Base}
+use Rattle.nm_model_index.specs.Index.{has_entry, is_of, live_ids}
+use Rattle.nm_model_index.specs.Valid.{IsValid}
+use Rattle.nm_model_index.specs.declared.base.Base.{Base}
 use Rattle.nm_eval.specs.Numbers.{at_numbers, live_at_numbers}
 
 abbrev Entry : Type 0

@@ -8,7 +8,7 @@ use Rattle.std.proofs.Math.Seq.{drop-append_seam}
 use Rattle.std.specs.List.{list_any}
 use Rattle.std.specs.Cmp.Lexicographic.{pointwise}
 use Rattle.nm_text.specs.Cuts.{is_byte}
-use Rattle.nm_answer.specs.Places.{front_of, is_below, is_in, is_in_maildir}
+use Rattle.nm_model_answer.specs.Places.{front_of, is_below, is_in, is_in_maildir}
 
 -- the front of a folder that is not the root
 front_some : (folder : List ℕ) → (length folder == 0) ≡ false → front_of folder ≡ folder ++ 47 ∷ []

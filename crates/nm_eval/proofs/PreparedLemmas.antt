@@ -8,8 +8,8 @@ use Rattle.nm_query.specs.declared.query.Query.TheOpen.{Query-F}
 use Rattle.nm_query.specs.declared.query.Query.TheFolds.{fold-roll-Query}
 use Rattle.nm_query.specs.declared.query.Query.TheVariants as tree
 use Rattle.nm_query.specs.declared.query.Query.TheVariants.{rolls-Dates}
-use Rattle.nm_answer.specs.Test.{is_from, is_to, node_passes, passes}
-use Rattle.nm_answer.specs.View.{View, lead_date}
+use Rattle.nm_model_answer.specs.Test.{is_from, is_to, node_passes, passes}
+use Rattle.nm_model_answer.specs.View.{View, lead_date}
 
 -- ---- dates
 

@@ -1,8 +1,8 @@
 -- Which of the two tags keep a message out, found once for a query. Cited by `exclusion` and `matcher`.
 use Rattle.std.specs.Prelude.{ℕ, Bool, ◌&&◌, ◌||◌, not, List, codes}
 use Rattle.nm_base.specs.Tags.{has_tag}
-use Rattle.nm_answer.specs.Matches.{names_tag}
-use Rattle.nm_answer.specs.View.{View}
+use Rattle.nm_model_answer.specs.Matches.{names_tag}
+use Rattle.nm_model_answer.specs.View.{View}
 use Rattle.nm_query.specs.declared.query.Query.{Query}
 use Rattle.nm_eval.specs.declared.exclusion.Exclusion.{Exclusion}
 

@@ -2,7 +2,7 @@
 use Rattle.std.specs.Prelude.{ℕ, Bool, ◌&&◌, List, [], ◌∷◌, if◌then◌else◌}
 use Rattle.nm_base.specs.Order.{has_text}
 use Rattle.nm_commit.specs.Files.{has_id}
-use Rattle.nm_index.specs.declared.base.Base.{Base}
+use Rattle.nm_model_index.specs.declared.base.Base.{Base}
 
 -- the ids that pass the test, each at its number
 abbrev pub at_numbers : (List ℕ → Bool) → List (List ℕ × ℕ) → List (ℕ × List ℕ)

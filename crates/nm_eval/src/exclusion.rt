@@ -4,13 +4,13 @@
 ghost use Rattle.std.specs.Prelude.{◌≡◌, ◌&&◌, ℕ, List, codes, not, IfOk};
 ghost use Rattle.std.specs.List.{list_any};
 ghost use Rattle.nm_base.specs.Order.{has_text};
-ghost use Rattle.nm_answer.specs.Matches.{names_tag};
-ghost use Rattle.nm_answer.specs.View.{view_of};
+ghost use Rattle.nm_model_answer.specs.Matches.{names_tag};
+ghost use Rattle.nm_model_answer.specs.View.{view_of};
 ghost use Rattle.nm_eval.specs.Exclusion.{exclusion_of, is_among, leaves_out};
 
 use crate::message::{Message, has_text};
-use nm_answer::a_tree_names_the_tags_of_its_queries;
 use nm_base::{Copies, MessageId, NoMemory, Tags, TextSet};
+use nm_model_answer::a_tree_names_the_tags_of_its_queries;
 use nm_query::Query;
 use nm_state::{Snapshot, a_snapshot_is_a_valid_index};
 use std::alloc::Global;

@@ -5,15 +5,15 @@ ghost use Rattle.std.specs.Prelude.{◌≡◌, [], ℕ, ℤ, List, Some, IsTrue}
 ghost use Rattle.std.specs.List.{filter};
 ghost use Rattle.std.specs.Map.{values_of};
 ghost use Rattle.nm_base.specs.Order.{has_text};
-ghost use Rattle.nm_index.specs.Index.{live_ids};
-ghost use Rattle.nm_index.specs.declared.base.Base.{Base};
+ghost use Rattle.nm_model_index.specs.Index.{live_ids};
+ghost use Rattle.nm_model_index.specs.declared.base.Base.{Base};
 ghost use Rattle.nm_query.specs.declared.query.Query.{Query};
-ghost use Rattle.nm_answer.specs.Test.{passes};
-ghost use Rattle.nm_answer.specs.View.{View};
+ghost use Rattle.nm_model_answer.specs.Test.{passes};
+ghost use Rattle.nm_model_answer.specs.View.{View};
 ghost use Rattle.nm_eval.specs.NamedIds.{named_ids};
 ghost use Rattle.nm_eval.specs.Numbers.{live_at_numbers};
 
-use nm_answer::a_tree_passes_as_its_queries_do;
+use nm_model_answer::a_tree_passes_as_its_queries_do;
 
 /// Of a query that names ids each message that passes it has one of them.
 pub fn what_passes_is_named()

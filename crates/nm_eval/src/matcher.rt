@@ -4,9 +4,9 @@ ghost use Rattle.std.specs.Prelude.{◌≡◌, ◌∷◌, ◌++◌, ◌&&◌, []
 ghost use Rattle.std.specs.List.{filter};
 ghost use Rattle.nm_base.specs.Order.{has_text};
 ghost use Rattle.nm_dates.specs.Seconds.{IsMoment};
-ghost use Rattle.nm_answer.specs.Matches.{is_match, matches_of};
-ghost use Rattle.nm_answer.specs.Test.{passes};
-ghost use Rattle.nm_answer.specs.View.{view_of};
+ghost use Rattle.nm_model_answer.specs.Matches.{is_match, matches_of};
+ghost use Rattle.nm_model_answer.specs.Test.{passes};
+ghost use Rattle.nm_model_answer.specs.View.{view_of};
 ghost use Rattle.nm_eval.specs.Exclusion.{leaves_out};
 
 use crate::exclusion::{Exclusion, find_exclusion, leaves_out, left_out};

@@ -3,8 +3,8 @@
 ghost use Rattle.std.specs.Prelude.{◌≡◌, [], MatchOption};
 ghost use Rattle.nm_base.specs.Order.{has_text, same_text};
 ghost use Rattle.nm_base.specs.Tags.{has_tag};
-ghost use Rattle.nm_answer.specs.Test.{is_thread};
-ghost use Rattle.nm_answer.specs.View.{files_of, view_of};
+ghost use Rattle.nm_model_answer.specs.Test.{is_thread};
+ghost use Rattle.nm_model_answer.specs.View.{files_of, view_of};
 
 use nm_base::{MessageId, Tags};
 use nm_state::{MessageFiles, Snapshot};
@@ -23,7 +23,7 @@ pub(crate) struct Message<'a> {
 
 impl<'a> Model for Message<'a> {
     ghost use Rattle.std.specs.Prelude.{◌≡◌, [], MatchOption};
-    ghost use Rattle.nm_answer.specs.View.{View, files_of, view_of};
+    ghost use Rattle.nm_model_answer.specs.View.{View, files_of, view_of};
 
     ghost Value = { View };
 

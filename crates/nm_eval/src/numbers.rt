@@ -3,7 +3,7 @@
 ghost use Rattle.std.specs.Prelude.{◌≡◌, ◌&&◌, ◌∷◌, ◌++◌, [], ℕ, List, IfOk, OnOk};
 ghost use Rattle.std.specs.List.{filter};
 ghost use Rattle.nm_base.specs.Order.{has_text};
-ghost use Rattle.nm_index.specs.Index.{live_ids};
+ghost use Rattle.nm_model_index.specs.Index.{live_ids};
 ghost use Rattle.nm_eval.specs.Numbers.{live_at_numbers};
 
 use nm_base::{Copies, Many, MessageId, NoMemory};

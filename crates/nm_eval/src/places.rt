@@ -3,7 +3,7 @@
 ghost use Rattle.std.specs.Prelude.{◌≡◌, ◌≢◌, ◌++◌, ℕ, List, MatchOption};
 ghost use Rattle.std.specs.List.{list_any};
 ghost use Rattle.nm_text.specs.Cuts.{is_byte};
-ghost use Rattle.nm_answer.specs.Places.{front_of, is_at_path, is_below, is_in, is_in_maildir, is_type};
+ghost use Rattle.nm_model_answer.specs.Places.{front_of, is_at_path, is_below, is_in, is_in_maildir, is_type};
 
 use nm_base::{Facts, MailPath, Text};
 use nm_text::{cut_at, same_ignoring_case};

@@ -3,13 +3,13 @@
 
 ghost use Rattle.std.specs.Prelude.{◌≡◌, ℤ, map, IfOk, IsTrue};
 ghost use Rattle.nm_dates.specs.Seconds.{IsMoment, is_end, seconds_of};
-ghost use Rattle.nm_answer.specs.Test.{is_from, is_to, passes};
-ghost use Rattle.nm_answer.specs.View.{View};
+ghost use Rattle.nm_model_answer.specs.Test.{is_from, is_to, passes};
+ghost use Rattle.nm_model_answer.specs.View.{View};
 
 use crate::quick::quick_first;
-use nm_answer::a_tree_passes_as_its_queries_do;
 use nm_base::{Boxed, Many, NoMemory};
 use nm_dates::{End, first_second, is_end, last_second};
+use nm_model_answer::a_tree_passes_as_its_queries_do;
 use nm_query::Query;
 use std::alloc::Global;
 

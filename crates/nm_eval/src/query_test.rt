@@ -3,17 +3,17 @@
 ghost use Rattle.std.specs.Prelude.{◌≡◌, ◌∷◌, ◌&&◌, map};
 ghost use Rattle.std.specs.List.{list_all, list_any};
 ghost use Rattle.nm_dates.specs.Seconds.{IsMoment};
-ghost use Rattle.nm_answer.specs.Places.{has_type, is_at_path, is_in_maildir};
-ghost use Rattle.nm_answer.specs.Test.{is_from, is_odd, is_to, passes};
-ghost use Rattle.nm_answer.specs.View.{lead_date};
-ghost use Rattle.nm_answer.specs.Words.{files_have};
+ghost use Rattle.nm_model_answer.specs.Places.{has_type, is_at_path, is_in_maildir};
+ghost use Rattle.nm_model_answer.specs.Test.{is_from, is_odd, is_to, passes};
+ghost use Rattle.nm_model_answer.specs.View.{lead_date};
+ghost use Rattle.nm_model_answer.specs.Words.{files_have};
 
 use crate::message::Message;
 use crate::places::{has_type, is_at_path, is_in_maildir};
 use crate::words::facts_have;
-use nm_answer::a_tree_passes_as_its_queries_do;
 use nm_base::{Field, Text, WordList, Words};
 use nm_dates::{End, first_second, is_end, last_second};
+use nm_model_answer::a_tree_passes_as_its_queries_do;
 use nm_query::Query;
 
 /// Says whether the message passes the query.

@@ -1,4 +1,4 @@
--- The tags that follow the flags in the names of a message's files. Cited by `tags`, `nm_plan` and `nm_writer`.
+-- The tags that follow the flags in the names of a message's files. Cited by `tags`, `nm_model_plan` and `nm_writer`.
 use Rattle.std.specs.Prelude.{ℕ, Bool, not, List, [], ◌∷◌, codes}
 use Rattle.std.specs.List.{list_any}
 use Rattle.nm_base.specs.declared.tag_op.TagOp.{TagOp}

@@ -1,4 +1,4 @@
--- The files that have to be renamed for the tags of their message. Cited by `renames`, `nm_writer` and `nm_answer`.
+-- The files that have to be renamed for the tags of their message. Cited by `renames`, `nm_writer` and `nm_model_answer`.
 use Rattle.std.specs.Prelude.{ℕ, false, not, nat_lt, List, [], ◌∷◌, length, Option, None, Some, codes, if◌then◌else◌}
 use Rattle.std.specs.List.{flat_map}
 use Rattle.nm_base.specs.Limits.{max_path_bytes}

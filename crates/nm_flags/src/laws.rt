@@ -1,5 +1,5 @@
 //! What tags by names, and names by tags, come to. These functions run no code: their clauses are the laws, of which
-//! `nm_plan` calls the first two.
+//! `nm_model_plan` calls the first two.
 
 ghost use Rattle.std.specs.Prelude.{◌≡◌, ◌≢◌, ℕ, List, codes, false, not};
 ghost use Rattle.nm_base.specs.Order.{IsSorted, has_text};

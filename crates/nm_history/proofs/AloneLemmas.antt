@@ -5,12 +5,12 @@ use Rattle.std.specs.List.{AllByRecursion}
 use Rattle.std.proofs.lemmas.Bool.Decides.{nat_tests}
 use Rattle.std.proofs.lemmas.List.{length-append, get_or-set_other, length-set, set_comm}
 use Rattle.std.proofs.lemmas.List.Elements.{filter-append}
-use Rattle.nm_answer.specs.Answer.{is_reply}
+use Rattle.nm_model_answer.specs.Answer.{is_reply}
 use Rattle.nm_commit.specs.declared.change.Commit.{Commit}
-use Rattle.nm_machine.specs.Machine as machine
-use Rattle.nm_machine.specs.Machine.{Machine, commits_in_flight, index_after}
-use Rattle.nm_machine.specs.declared.step.Step.{Step}
-use Rattle.nm_machine.specs.declared.step.Step.TheVariants as steps
+use Rattle.nm_model_machine.specs.Machine as machine
+use Rattle.nm_model_machine.specs.Machine.{Machine, commits_in_flight, index_after}
+use Rattle.nm_model_machine.specs.declared.step.Step.{Step}
+use Rattle.nm_model_machine.specs.declared.step.Step.TheVariants as steps
 use Rattle.nm_history.specs.LineResult.{LeaveAlone, is_show, leaves_alone, shows}
 use Rattle.nm_history.specs.MachineRun.{LaneStep, NeverStops, is_of_lane, is_stop, lane_steps_by, lane_steps_from, lane_read_in, next, phase_after, reply_in}
 use Rattle.nm_history.proofs.MachineLemmas.{next-is}

@@ -9,7 +9,7 @@ use Rattle.nm_disk.specs.declared.disk.FileNo.{FileNo}
 use Rattle.nm_disk.specs.declared.disk.FileNo.TheVariants.{Head, BankA, BankB}
 use Rattle.nm_disk.specs.declared.state.DiskState.{DiskState}
 use Rattle.nm_disk.specs.declared.state.Range.{Range}
-use Rattle.nm_index.specs.declared.base.Base.{Base}
+use Rattle.nm_model_index.specs.declared.base.Base.{Base}
 use Rattle.nm_journal.specs.Moments.{IsSynced, LeavesNothingNew, LeavesOnly, SyncsOrFails}
 use Rattle.nm_writer.specs.Durable.{KeptSince}
 use Rattle.nm_replay.specs.StoredIndex.{HoldsIndex}

@@ -3,9 +3,9 @@ use Rattle.std.proofs.Common.{◌≡◌, ℕ, ℤ, ◌+◌, List, [], ◌∷◌,
 use Rattle.std.specs.List.{flat_map}
 use Rattle.std.proofs.lemmas.List.{length-append}
 use Rattle.nm_commit.specs.declared.change.Commit.{Commit}
-use Rattle.nm_index.specs.declared.base.Base.{Base}
-use Rattle.nm_machine.specs.declared.step.Step.{Step}
-use Rattle.nm_machine.specs.declared.step.Step.TheVariants.{Begin, Append, Show, See, Meet, Reply, Crash, Reopen}
+use Rattle.nm_model_index.specs.declared.base.Base.{Base}
+use Rattle.nm_model_machine.specs.declared.step.Step.{Step}
+use Rattle.nm_model_machine.specs.declared.step.Step.TheVariants.{Begin, Append, Show, See, Meet, Reply, Crash, Reopen}
 use Rattle.nm_history.specs.Call.{Devices}
 use Rattle.nm_history.specs.CrashPrefix.{appends}
 use Rattle.nm_history.specs.LineResult.{IsLineResult, Place, StandsAt, begin_step, commit_steps, line_steps, reply_step}

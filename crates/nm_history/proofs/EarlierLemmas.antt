@@ -4,20 +4,20 @@ use Rattle.std.proofs.Common.{◌≡◌, ◌≢◌, ◌⊎◌, ℕ, ℤ, ◌+◌
 use Rattle.std.specs.List.{flat_map}
 use Rattle.std.proofs.lemmas.Bool.Decides.{nat_tests}
 use Rattle.std.proofs.lemmas.List.{length-append, take_all, take-append-le, get_or-set_other, get_or-set_same, length-set}
-use Rattle.nm_answer.specs.declared.request.Request.{Request}
-use Rattle.nm_answer.specs.Answer.{is_reply}
+use Rattle.nm_model_answer.specs.declared.request.Request.{Request}
+use Rattle.nm_model_answer.specs.Answer.{is_reply}
 use Rattle.nm_commit.specs.declared.change.Commit.{Commit}
-use Rattle.nm_index.specs.Index.{folded}
-use Rattle.nm_index.specs.declared.base.Base.{Base}
+use Rattle.nm_model_index.specs.Index.{folded}
+use Rattle.nm_model_index.specs.declared.base.Base.{Base}
 use Rattle.nm_log.specs.ParsedLine.{parse_line}
 use Rattle.nm_log.specs.declared.line_parser.ParsedLine.{ParsedLine}
 use Rattle.nm_log.specs.declared.line_parser.ParsedLine.TheVariants as asked
 use Rattle.nm_log.specs.declared.outcome.Outcome.{Outcome}
 use Rattle.nm_log.specs.declared.outcome.Outcome.TheVariants as outcomes
-use Rattle.nm_machine.specs.Machine as machine
-use Rattle.nm_machine.specs.Machine.{Machine, index_after}
-use Rattle.nm_machine.specs.declared.step.Step.{Step}
-use Rattle.nm_machine.specs.declared.step.Step.TheVariants as steps
+use Rattle.nm_model_machine.specs.Machine as machine
+use Rattle.nm_model_machine.specs.Machine.{Machine, index_after}
+use Rattle.nm_model_machine.specs.declared.step.Step.{Step}
+use Rattle.nm_model_machine.specs.declared.step.Step.TheVariants as steps
 use Rattle.nm_query.specs.Answers.{answer_of}
 use Rattle.nm_query.specs.declared.query.Query.{Query}
 use Rattle.nm_query.specs.declared.query_error.QueryError.{QueryError}

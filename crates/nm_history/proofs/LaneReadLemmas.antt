@@ -3,11 +3,11 @@
 use Rattle.std.proofs.Common.{◌≡◌, ℕ, ℤ, ◌+◌, List, [], ◌∷◌, ◌++◌, Option, filter, length, replicate, slice_index, refl, sym, ap, ◌∙◌, subst, arith, append-nil, append_assoc}
 use Rattle.std.proofs.lemmas.List.{length-replicate}
 use Rattle.nm_commit.specs.declared.change.Commit.{Commit}
-use Rattle.nm_index.specs.declared.base.Base.{Base}
-use Rattle.nm_machine.specs.Machine as machine
-use Rattle.nm_machine.specs.Machine.{Machine}
-use Rattle.nm_machine.specs.declared.step.Step.{Step}
-use Rattle.nm_machine.specs.declared.step.Step.TheVariants as steps
+use Rattle.nm_model_index.specs.declared.base.Base.{Base}
+use Rattle.nm_model_machine.specs.Machine as machine
+use Rattle.nm_model_machine.specs.Machine.{Machine}
+use Rattle.nm_model_machine.specs.declared.step.Step.{Step}
+use Rattle.nm_model_machine.specs.declared.step.Step.TheVariants as steps
 use Rattle.nm_maildir.specs.Observed.{ObservedMail}
 use Rattle.nm_maildir.specs.Tree.{Tree}
 use Rattle.nm_history.specs.Call.{Devices}

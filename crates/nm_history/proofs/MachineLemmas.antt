@@ -5,21 +5,21 @@ use Rattle.std.specs.List.{flat_map}
 use Rattle.std.specs.Cmp.Lexicographic.{nat_list_eq_equiv}
 use Rattle.std.proofs.lemmas.List.{length-append, length-replicate, take_all, get_or-set_same, length-set}
 use Rattle.nm_base.specs.Order.{same_text}
-use Rattle.nm_answer.specs.declared.request.Request.{Request}
-use Rattle.nm_answer.specs.declared.request.Request.TheVariants as requests
-use Rattle.nm_answer.specs.Answer.{answer, is_reply}
-use Rattle.nm_answer.specs.Count.{batch_answer, words_answer}
-use Rattle.nm_answer.specs.Dump.{dump_answer}
-use Rattle.nm_answer.specs.Found.{search_answer}
+use Rattle.nm_model_answer.specs.declared.request.Request.{Request}
+use Rattle.nm_model_answer.specs.declared.request.Request.TheVariants as requests
+use Rattle.nm_model_answer.specs.Answer.{answer, is_reply}
+use Rattle.nm_model_answer.specs.Count.{batch_answer, words_answer}
+use Rattle.nm_model_answer.specs.Dump.{dump_answer}
+use Rattle.nm_model_answer.specs.Found.{search_answer}
 use Rattle.nm_commit.specs.Files.{Fits}
 use Rattle.nm_commit.specs.declared.change.Commit.{Commit}
-use Rattle.nm_index.specs.Fits.{FitInTurn}
-use Rattle.nm_index.specs.Index.{committed, folded}
-use Rattle.nm_index.specs.declared.base.Base.{Base}
-use Rattle.nm_machine.specs.Machine as machine
-use Rattle.nm_machine.specs.Machine.{Machine, commits_in_flight, index_after}
-use Rattle.nm_machine.specs.declared.step.Step.{Step}
-use Rattle.nm_machine.specs.declared.step.Step.TheVariants as steps
+use Rattle.nm_model_index.specs.Fits.{FitInTurn}
+use Rattle.nm_model_index.specs.Index.{committed, folded}
+use Rattle.nm_model_index.specs.declared.base.Base.{Base}
+use Rattle.nm_model_machine.specs.Machine as machine
+use Rattle.nm_model_machine.specs.Machine.{Machine, commits_in_flight, index_after}
+use Rattle.nm_model_machine.specs.declared.step.Step.{Step}
+use Rattle.nm_model_machine.specs.declared.step.Step.TheVariants as steps
 use Rattle.nm_maildir.specs.declared.given.Given.{Given}
 use Rattle.nm_log.specs.ParsedLine.{parse_line}
 use Rattle.nm_log.specs.declared.line_parser.ParsedLine.{ParsedLine}

@@ -6,8 +6,8 @@ use Rattle.std.proofs.lemmas.Grind.{flat_map-append}
 use Rattle.std.proofs.lemmas.List.{replicate-append-replicate}
 use Rattle.std.proofs.lemmas.List.Elements.{filter-append}
 use Rattle.nm_commit.specs.declared.change.Commit.{Commit}
-use Rattle.nm_machine.specs.Machine.{Machine}
-use Rattle.nm_machine.specs.declared.step.Step.{Step}
+use Rattle.nm_model_machine.specs.Machine.{Machine}
+use Rattle.nm_model_machine.specs.declared.step.Step.{Step}
 use Rattle.nm_log.specs.ParsedLine.{parse_line}
 use Rattle.nm_log.specs.declared.line_parser.ParsedLine.{ParsedLine}
 use Rattle.nm_log.specs.declared.line_parser.ParsedLine.TheVariants as asked

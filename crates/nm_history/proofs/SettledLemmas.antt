@@ -10,7 +10,7 @@ use Rattle.nm_disk.specs.Observed.{Moments, bytes_now, later}
 use Rattle.nm_disk.specs.declared.disk.FileNo.TheVariants.{Head}
 use Rattle.nm_disk.specs.declared.state.DiskState.{DiskState}
 use Rattle.nm_disk.specs.declared.state.Range.{Range}
-use Rattle.nm_index.specs.declared.base.Base.{Base}
+use Rattle.nm_model_index.specs.declared.base.Base.{Base}
 use Rattle.nm_journal.specs.Moments.{IsSynced, LeavesNothingNew, SyncsOrFails, all_moments}
 use Rattle.nm_writer.specs.Durable.{HoldsPrefix, KeptSince, acked_by}
 use Rattle.nm_replay.specs.StoredIndex.{HoldsIndex}

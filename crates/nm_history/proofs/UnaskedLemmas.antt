@@ -3,14 +3,14 @@
 use Rattle.std.proofs.Common.{◌≡◌, inl, inr, ℕ, ℤ, ◌||◌, ◌==◌, Bool, true, false, List, [], ◌∷◌, Option, None, Some, IfSome, if◌then◌else◌, codes, length, map, fold, Result, Ok, Err, refl, sym, ap, ◌∙◌, subst, arith}
 use Rattle.std.specs.Option.{option_map}
 use Rattle.nm_log.specs.Kind.{DumpLines, Kind, NoQuery, OwnQuery, QueryLines, ReadsIndex, SetsTags, ShowsFiles, Source, TaggingLines, TakesMail, kind_of, reads_lines, source_of}
-use Rattle.nm_answer.specs.declared.request.Request.{Request}
+use Rattle.nm_model_answer.specs.declared.request.Request.{Request}
 use Rattle.nm_base.specs.Limits.{max_mail_bytes}
 use Rattle.nm_base.specs.declared.refusals.UsageKind.TheVariants as kinds
 use Rattle.nm_disk.specs.CrashStates.{IsImage}
 use Rattle.nm_disk.specs.Observed.{Moments, ObservedDisk}
 use Rattle.nm_disk.specs.declared.disk.FileNo.TheVariants.{Head}
-use Rattle.nm_index.specs.Index.{empty_index}
-use Rattle.nm_index.specs.declared.base.Base.{Base}
+use Rattle.nm_model_index.specs.Index.{empty_index}
+use Rattle.nm_model_index.specs.declared.base.Base.{Base}
 use Rattle.nm_io.specs.Observed.{ObservedSink, ObservedStream}
 use Rattle.nm_journal.specs.Journal.{IfKnown}
 use Rattle.nm_lanes.specs.Lines.{in_lane}

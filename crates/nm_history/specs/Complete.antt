@@ -5,7 +5,7 @@ use Rattle.std.specs.Str.Lines.{lines}
 use Rattle.nm_base.specs.Limits.{max_count, max_input_bytes, max_lines}
 use Rattle.nm_disk.specs.Observed.{bytes_now}
 use Rattle.nm_disk.specs.declared.disk.FileNo.TheVariants.{Head}
-use Rattle.nm_index.specs.declared.base.Base.{Base}
+use Rattle.nm_model_index.specs.declared.base.Base.{Base}
 use Rattle.nm_replay.specs.StoredIndex.{HoldsWithin}
 use Rattle.nm_history.specs.Call.{Call, call_fault, call_lines, call_reads, input_fault, is_session}
 use Rattle.nm_history.specs.Status.{first_fault, single_status}

@@ -9,11 +9,11 @@ use Rattle.nm_disk.specs.Observed.{Moments, ObservedDisk, bytes_now}
 use Rattle.nm_disk.specs.declared.disk.FileNo.{FileNo}
 use Rattle.nm_disk.specs.declared.disk.FileNo.TheVariants.{Head, BankA, BankB}
 use Rattle.nm_disk.specs.declared.state.DiskState.{DiskState}
-use Rattle.nm_index.specs.declared.base.Base.{Base}
+use Rattle.nm_model_index.specs.declared.base.Base.{Base}
 use Rattle.nm_journal.specs.Journal.{IfKnown}
 use Rattle.nm_journal.specs.Moments.{LeavesNothingNew, all_moments}
-use Rattle.nm_machine.specs.declared.step.Step.{Step}
-use Rattle.nm_machine.specs.declared.step.Step.TheVariants.{Begin, Append, Show, See, Meet, Reply, Crash, Reopen}
+use Rattle.nm_model_machine.specs.declared.step.Step.{Step}
+use Rattle.nm_model_machine.specs.declared.step.Step.TheVariants.{Begin, Append, Show, See, Meet, Reply, Crash, Reopen}
 use Rattle.nm_writer.specs.Durable.{HoldsPrefix, NeverFall, acked_by}
 use Rattle.nm_replay.specs.StoredIndex.{HoldsIndex}
 use Rattle.nm_history.specs.Lines.{begun}

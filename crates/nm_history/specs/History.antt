@@ -1,7 +1,7 @@
 -- The whole statement of a call, over the opening index and the bytes of the input. Cited by `laws` and `nm_top`.
 use Rattle.std.specs.Prelude.{ℕ, Bool, List}
 use Rattle.nm_commit.specs.declared.change.Commit.{Commit}
-use Rattle.nm_index.specs.declared.base.Base.{Base}
+use Rattle.nm_model_index.specs.declared.base.Base.{Base}
 use Rattle.nm_history.specs.Call.{Call, Ending, phases_ended}
 use Rattle.nm_history.specs.CrashPrefix.{CrashPrefix}
 use Rattle.nm_history.specs.Given.{IsGiven}

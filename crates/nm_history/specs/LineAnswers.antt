@@ -2,16 +2,16 @@
 -- Cited by `lane_zero_laws`, `nm_session` and `nm_top`.
 use Rattle.std.specs.Prelude.{◌≡◌, ◌⊎◌, ℕ, ℤ, Bool, true, false, List, [], Option, None, Some}
 use Rattle.std.specs.List.{AllByRecursion}
-use Rattle.nm_answer.specs.Answer.{answer}
+use Rattle.nm_model_answer.specs.Answer.{answer}
 use Rattle.nm_faults.specs.Faults.{Counts, HasRisen}
-use Rattle.nm_index.specs.declared.base.Base.{Base}
+use Rattle.nm_model_index.specs.declared.base.Base.{Base}
 use Rattle.nm_log.specs.ParsedLine.{parse_line}
 use Rattle.nm_log.specs.Replies.{refusal_line, status_of}
 use Rattle.nm_log.specs.declared.line_parser.ParsedLine.{ParsedLine}
 use Rattle.nm_log.specs.declared.line_parser.ParsedLine.TheVariants as asked
 use Rattle.nm_log.specs.declared.outcome.Outcome.{Outcome}
 use Rattle.nm_log.specs.declared.outcome.Outcome.TheVariants as outcomes
-use Rattle.nm_machine.specs.declared.step.Step.{Step}
+use Rattle.nm_model_machine.specs.declared.step.Step.{Step}
 use Rattle.nm_maildir.specs.declared.given.Given.{Given}
 use Rattle.nm_history.specs.Lines.{Along, Before, IsIndexAt, RunLine}
 use Rattle.nm_history.specs.Requests.{asks_the_folder, asks_to_tag, asks_to_write, refused_reading, refused_text_of, refused_unasked}

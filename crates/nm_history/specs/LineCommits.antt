@@ -1,29 +1,29 @@
 -- Which commits a line of lane 0 makes: all that are due, or by its outcome the first of them.
 -- Cited by `lane_zero_laws`, `nm_session` and `nm_top`.
 use Rattle.std.specs.Prelude.{◌≡◌, ◌⊎◌, ℕ, ℤ, ◌+◌, Bool, false, List, [], ◌∷◌, ◌++◌, drop, length, map, Option, None, Some, ⊤, if◌then◌else◌}
-use Rattle.nm_answer.specs.Changes.{wanted_for}
+use Rattle.nm_model_answer.specs.Changes.{wanted_for}
 use Rattle.nm_log.specs.Kind.{Kind, ReadsIndex, SetsTags, ShowsFiles, TakesMail, kind_of}
-use Rattle.nm_answer.specs.RenameOutcomes.{renames_done, renames_for}
-use Rattle.nm_answer.specs.declared.request.Request.{Request}
-use Rattle.nm_answer.specs.declared.request.Request.TheVariants.{New}
+use Rattle.nm_model_answer.specs.RenameOutcomes.{renames_done, renames_for}
+use Rattle.nm_model_answer.specs.declared.request.Request.{Request}
+use Rattle.nm_model_answer.specs.declared.request.Request.TheVariants.{New}
 use Rattle.nm_base.specs.declared.facts.Facts.{Facts}
 use Rattle.nm_base.specs.declared.limit.Limit.{Limit}
 use Rattle.nm_base.specs.declared.limit.Limit.TheVariants.{ShowBytes}
 use Rattle.nm_commit.specs.declared.change.Commit.{Commit}
-use Rattle.nm_index.specs.Index.{folded}
-use Rattle.nm_index.specs.declared.base.Base.{Base}
+use Rattle.nm_model_index.specs.Index.{folded}
+use Rattle.nm_model_index.specs.declared.base.Base.{Base}
 use Rattle.nm_lanes.specs.declared.script.ScriptLine.{ScriptLine}
 use Rattle.nm_log.specs.ParsedLine.{parse_line}
 use Rattle.nm_log.specs.declared.line_parser.ParsedLine.{ParsedLine}
 use Rattle.nm_log.specs.declared.line_parser.ParsedLine.TheVariants as asked
 use Rattle.nm_log.specs.declared.outcome.Outcome.{Outcome}
 use Rattle.nm_log.specs.declared.outcome.Outcome.TheVariants as outcomes
-use Rattle.nm_machine.specs.declared.step.Step.{Step}
+use Rattle.nm_model_machine.specs.declared.step.Step.{Step}
 use Rattle.nm_maildir.specs.Tree.{Tree}
 use Rattle.nm_maildir.specs.declared.given.Given.{Given}
-use Rattle.nm_plan.specs.Moves.{HasTried, move_commit}
-use Rattle.nm_plan.specs.Plan.{due_commits}
-use Rattle.nm_plan.specs.TagCommit.{tag_commit}
+use Rattle.nm_model_plan.specs.Moves.{HasTried, move_commit}
+use Rattle.nm_model_plan.specs.Plan.{due_commits}
+use Rattle.nm_model_plan.specs.TagCommit.{tag_commit}
 use Rattle.nm_scan.specs.Listing.{PassesListing}
 use Rattle.nm_scan.specs.Scan.{FindsBatches}
 use Rattle.nm_writer.specs.AfterCommit.{AreWithin, IsPassed}

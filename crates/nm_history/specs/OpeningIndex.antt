@@ -4,8 +4,8 @@ use Rattle.std.specs.Prelude.{◌≡◌, IfSome}
 use Rattle.nm_disk.specs.Calls.{GoesOn}
 use Rattle.nm_disk.specs.Observed.{ObservedDisk, bytes_now}
 use Rattle.nm_disk.specs.declared.disk.FileNo.TheVariants.{Head}
-use Rattle.nm_index.specs.Index.{empty_index}
-use Rattle.nm_index.specs.declared.base.Base.{Base}
+use Rattle.nm_model_index.specs.Index.{empty_index}
+use Rattle.nm_model_index.specs.declared.base.Base.{Base}
 use Rattle.nm_journal.specs.Moments.{SyncsOrFails}
 use Rattle.nm_replay.specs.StoredIndex.{HoldsWithin}
 use Rattle.nm_history.specs.Call.{Ending, Ran, Refused, Unasked}

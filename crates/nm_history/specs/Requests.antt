@@ -1,13 +1,13 @@
 -- What a line asks for, what refuses it before any device is touched, and what refuses a show for what it found and read.
 -- Cited by `laws`, `nm_session` and `nm_top`.
 use Rattle.std.specs.Prelude.{ℕ, ℤ, ◌-◌, ◌||◌, List, [], ◌∷◌, length, Bool, true, false, Option, None, Some, Result, Ok, Err, if◌then◌else◌}
-use Rattle.nm_answer.specs.BatchLines.{queries_in, taggings_in}
-use Rattle.nm_answer.specs.DumpLines.{read_dump}
-use Rattle.nm_answer.specs.Show.{gone_path, is_not_one, lead_paths, shown_ids}
-use Rattle.nm_answer.specs.declared.request.Request.{Request}
+use Rattle.nm_model_answer.specs.BatchLines.{queries_in, taggings_in}
+use Rattle.nm_model_answer.specs.DumpLines.{read_dump}
+use Rattle.nm_model_answer.specs.Show.{gone_path, is_not_one, lead_paths, shown_ids}
+use Rattle.nm_model_answer.specs.declared.request.Request.{Request}
 use Rattle.nm_base.specs.declared.asks.ShowAsk.{ShowAsk}
 use Rattle.nm_base.specs.declared.limit.Limit.TheVariants.{ShowBytes}
-use Rattle.nm_index.specs.declared.base.Base.{Base}
+use Rattle.nm_model_index.specs.declared.base.Base.{Base}
 use Rattle.nm_log.specs.Kind.{DumpLines, Kind, NoQuery, OwnQuery, QueryLines, ReadsIndex, SetsTags, ShowsFiles, Source, TaggingLines, TakesMail, kind_of, source_of}
 use Rattle.nm_log.specs.declared.line_parser.ParsedLine.{ParsedLine}
 use Rattle.nm_log.specs.declared.line_parser.ParsedLine.TheVariants as asked

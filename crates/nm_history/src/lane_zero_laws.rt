@@ -4,8 +4,8 @@
 ghost use Rattle.std.specs.Prelude.{◌≡◌, ◌||◌, ℕ, ℤ, true, false, List, [], ◌∷◌, ◌++◌, None, length};
 ghost use Rattle.nm_base.specs.Limits.{max_mail_bytes};
 ghost use Rattle.nm_commit.specs.declared.change.Commit.{Commit};
-ghost use Rattle.nm_index.specs.declared.base.Base.{Base};
-ghost use Rattle.nm_machine.specs.declared.step.Step.{Step};
+ghost use Rattle.nm_model_index.specs.declared.base.Base.{Base};
+ghost use Rattle.nm_model_machine.specs.declared.step.Step.{Step};
 ghost use Rattle.nm_history.specs.Call.{Devices};
 ghost use Rattle.nm_history.specs.CrashPrefix.{appends};
 ghost use Rattle.nm_history.specs.Given.{GivenAlong};

@@ -4,8 +4,8 @@
 ghost use Rattle.std.specs.Prelude.{◌≡◌, ◌⊎◌, ℕ, ℤ, Bool, List, [], ◌∷◌, ◌++◌, IfSome, Option, None, Some, false, true};
 ghost use Rattle.std.specs.Option.{option_map};
 ghost use Rattle.nm_commit.specs.declared.change.Commit.{Commit};
-ghost use Rattle.nm_index.specs.declared.base.Base.{Base};
-ghost use Rattle.nm_machine.specs.declared.step.Step.{Step};
+ghost use Rattle.nm_model_index.specs.declared.base.Base.{Base};
+ghost use Rattle.nm_model_machine.specs.declared.step.Step.{Step};
 ghost use Rattle.nm_log.specs.declared.line_parser.ParsedLine.{ParsedLine};
 ghost use Rattle.nm_log.specs.Replies.{refusal_line};
 ghost use Rattle.nm_log.specs.declared.log.LineLog.{LineLog};

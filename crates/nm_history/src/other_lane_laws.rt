@@ -3,8 +3,8 @@
 
 ghost use Rattle.std.specs.Prelude.{◌≡◌, ◌+◌, ℕ, ℤ, List, [], ◌∷◌, ◌++◌, Option};
 ghost use Rattle.nm_commit.specs.declared.change.Commit.{Commit};
-ghost use Rattle.nm_index.specs.declared.base.Base.{Base};
-ghost use Rattle.nm_machine.specs.declared.step.Step.{Step};
+ghost use Rattle.nm_model_index.specs.declared.base.Base.{Base};
+ghost use Rattle.nm_model_machine.specs.declared.step.Step.{Step};
 ghost use Rattle.nm_maildir.specs.Observed.{ObservedMail};
 ghost use Rattle.nm_maildir.specs.Tree.{Tree};
 ghost use Rattle.nm_history.specs.Call.{Devices};

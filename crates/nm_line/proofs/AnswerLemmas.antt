@@ -3,10 +3,10 @@
 use Rattle.std.proofs.Common.{◌≡◌, ◌&&◌, inl, ℕ, ℤ, ◌+◌, Bool, true, false, not, List, [], Option, None, Some, IfOk, is_some, Result, Ok, Err, fold, length, map, refl, sym, ap, ◌∙◌, subst, append-nil, arith}
 use Rattle.std.specs.Option.{option_map, option_to_list}
 use Rattle.std.specs.Result.{IsErr}
-use Rattle.nm_answer.specs.Answer.{answer}
+use Rattle.nm_model_answer.specs.Answer.{answer}
 use Rattle.nm_log.specs.Kind.{Kind, ReadsIndex, SetsTags, ShowsFiles, TakesMail, kind_of}
-use Rattle.nm_answer.specs.declared.request.Request.{Request}
-use Rattle.nm_answer.specs.declared.request.Request.TheVariants as requests
+use Rattle.nm_model_answer.specs.declared.request.Request.{Request}
+use Rattle.nm_model_answer.specs.declared.request.Request.TheVariants as requests
 use Rattle.nm_base.specs.declared.memory.NoMemory.{NoMemory}
 use Rattle.nm_base.specs.declared.refusals.UsageKind.{UsageKind}
 use Rattle.nm_history.specs.Given.{AsksBy, AsksMail, AsksShow}
@@ -17,7 +17,7 @@ use Rattle.nm_history.specs.LineResult.{HasMade, Place, before_at, said_of}
 use Rattle.nm_history.specs.Lines.{given_in, tree_after_line, tree_by}
 use Rattle.nm_history.specs.MachineRun.{replied_where}
 use Rattle.nm_history.specs.Requests.{asks_folder, first_bad_line, first_refusal, is_asking, is_writing, own_query, paths_to_show, query_outcome, refused_closed, refused_found, refused_line, refused_query, refused_reading, refused_text, refused_text_of, refused_unasked, writes_index}
-use Rattle.nm_index.specs.declared.base.Base.{Base}
+use Rattle.nm_model_index.specs.declared.base.Base.{Base}
 use Rattle.nm_lanes.specs.declared.script.ScriptLine.{ScriptLine}
 use Rattle.nm_log.specs.ParsedLine.{parse_line}
 use Rattle.nm_log.specs.Replies.{is_well, refusal_line}
@@ -28,7 +28,7 @@ use Rattle.nm_log.specs.declared.outcome.Outcome.TheVariants as outcomes
 use Rattle.nm_maildir.specs.Observed.{ObservedMail}
 use Rattle.nm_maildir.specs.Tree.{Tree}
 use Rattle.nm_maildir.specs.declared.given.Given.{Given}
-use Rattle.nm_plan.specs.Plan.{due_commits}
+use Rattle.nm_model_plan.specs.Plan.{due_commits}
 use Rattle.nm_query.specs.Answers.{answer_of}
 use Rattle.nm_query.specs.declared.query.Query.{Query}
 use Rattle.nm_query.specs.declared.query_error.QueryError.{QueryError}

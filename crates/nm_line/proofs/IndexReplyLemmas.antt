@@ -1,14 +1,14 @@
 -- What is read off an index. For the proof of `read_off`.
 use Rattle.std.proofs.Common.{◌≡◌, ℕ, ℤ, Bool, List, [], Result, Ok, Err, IfOk, if◌then◌else◌, sym, ap, ◌∙◌}
-use Rattle.nm_answer.specs.Count.{batch_answer, count_found, counts_found, words_answer}
-use Rattle.nm_answer.specs.Dump.{dump_found}
-use Rattle.nm_answer.specs.Found.{search_found}
-use Rattle.nm_answer.specs.declared.request.Request.TheVariants as requests
+use Rattle.nm_model_answer.specs.Count.{batch_answer, count_found, counts_found, words_answer}
+use Rattle.nm_model_answer.specs.Dump.{dump_found}
+use Rattle.nm_model_answer.specs.Found.{search_found}
+use Rattle.nm_model_answer.specs.declared.request.Request.TheVariants as requests
 use Rattle.nm_base.specs.declared.asks.CountAsk.{CountAsk}
 use Rattle.nm_base.specs.declared.asks.DumpAsk.{DumpAsk}
 use Rattle.nm_base.specs.declared.asks.SearchAsk.{SearchAsk}
 use Rattle.nm_base.specs.declared.memory.NoMemory.{NoMemory}
-use Rattle.nm_index.specs.declared.base.Base.{Base}
+use Rattle.nm_model_index.specs.declared.base.Base.{Base}
 use Rattle.nm_line.specs.Line.{IsReadOff, replied_with}
 use Rattle.nm_line.specs.declared.line_answer.LineAnswer.{LineAnswer}
 use Rattle.nm_line.specs.declared.prepared.Reading.TheVariants as readings

@@ -1,11 +1,11 @@
 -- What a line of another lane is answered, and what that says. For the proofs of `lane_read` and of the law of its answers.
 use Rattle.std.proofs.Common.{◌≡◌, inl, ℕ, ℤ, List, [], Option, None, Some, Result, Ok, Err, IfOk, false, refl, sym, ap, ◌∙◌, subst}
-use Rattle.nm_answer.specs.Answer.{answer}
-use Rattle.nm_answer.specs.declared.request.Request.{Request}
+use Rattle.nm_model_answer.specs.Answer.{answer}
+use Rattle.nm_model_answer.specs.declared.request.Request.{Request}
 use Rattle.nm_base.specs.declared.memory.NoMemory.{NoMemory}
 use Rattle.nm_history.specs.LineAnswers.{ends_by, refused_lane_read}
 use Rattle.nm_history.specs.Requests.{first_bad_line, first_refusal, own_query, refused_line, refused_query, refused_text, refused_text_of}
-use Rattle.nm_index.specs.declared.base.Base.{Base}
+use Rattle.nm_model_index.specs.declared.base.Base.{Base}
 use Rattle.nm_lanes.specs.declared.script.ScriptLine.{ScriptLine}
 use Rattle.nm_line.specs.Line.{IsReadOff, refused_with}
 use Rattle.nm_line.specs.LaneRead.{IsAnswerOn, IsSaidOn, lane_answer, refused_or}

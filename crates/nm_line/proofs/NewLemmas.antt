@@ -1,8 +1,8 @@
 -- How a `new` ends, from what the writer did. For the proof of `run_new`.
 use Rattle.std.proofs.Common.{◌≡◌, inl, inr, ℕ, ℤ, true, false, List, [], ◌∷◌, Option, None, Some, IfOk, IfSome, IsSome, Result, Ok, Err, refl, sym, ap, subst, arith}
-use Rattle.nm_answer.specs.NewText.{new_text, report_of}
-use Rattle.nm_answer.specs.declared.report.NewReport.{NewReport}
-use Rattle.nm_answer.specs.declared.request.Request.TheVariants as requests
+use Rattle.nm_model_answer.specs.NewText.{new_text, report_of}
+use Rattle.nm_model_answer.specs.declared.report.NewReport.{NewReport}
+use Rattle.nm_model_answer.specs.declared.request.Request.TheVariants as requests
 use Rattle.nm_base.specs.declared.memory.NoMemory.{NoMemory}
 use Rattle.nm_commit.specs.declared.change.Commit.{Commit}
 use Rattle.nm_faults.specs.Faults.{HasCauseOf}
@@ -11,7 +11,7 @@ use Rattle.nm_history.specs.LineAnswers.{NoneFailed}
 use Rattle.nm_history.specs.LineCommits.{AreDue}
 use Rattle.nm_history.specs.LineResult.{Place, before_at}
 use Rattle.nm_history.specs.Requests.{asks_to_tag, refused_closed, refused_unasked}
-use Rattle.nm_index.specs.Fits.{FitInTurn}
+use Rattle.nm_model_index.specs.Fits.{FitInTurn}
 use Rattle.nm_lanes.specs.declared.script.ScriptLine.{ScriptLine}
 use Rattle.nm_log.specs.ParsedLine.{parse_line}
 use Rattle.nm_log.specs.declared.line_parser.ParsedLine.{ParsedLine}

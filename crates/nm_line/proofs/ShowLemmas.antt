@@ -1,8 +1,8 @@
 -- How a show ends, from what it found and what the mail folder gave. For the proof of `run_show`.
 use Rattle.std.proofs.Common.{◌≡◌, ◌||◌, inl, inr, ℕ, ℤ, ◌+◌, ◌-◌, ◌<◌, ◌≤◌, Bool, true, false, List, [], ◌∷◌, ◌++◌, Option, None, Some, IsSome, IfOk, Result, Ok, Err, if◌then◌else◌, length, nat_lt, refl, sym, ap, ◌∙◌, subst, arith}
 use Rattle.std.proofs.lemmas.Bool.Decides.{nat_tests}
-use Rattle.nm_answer.specs.Show.{gone_path, is_not_one, lead_paths, show_answer, show_text, shown_ids}
-use Rattle.nm_answer.specs.declared.request.Request.TheVariants as requests
+use Rattle.nm_model_answer.specs.Show.{gone_path, is_not_one, lead_paths, show_answer, show_text, shown_ids}
+use Rattle.nm_model_answer.specs.declared.request.Request.TheVariants as requests
 use Rattle.nm_base.specs.Limits.{max_mail_bytes}
 use Rattle.nm_base.specs.declared.asks.ShowAsk.{ShowAsk}
 use Rattle.nm_base.specs.declared.limit.Limit.TheVariants.{ShowBytes}

@@ -2,14 +2,14 @@
 use Rattle.std.proofs.Common.{◌≡◌, ◌⊎◌, inl, inr, ℕ, ℤ, ◌+◌, true, false, List, [], ◌∷◌, ◌++◌, Option, None, Some, IfOk, IfSome, IsSome, is_some, Result, Ok, Err, drop, fold, length, map, refl, sym, ap, ◌∙◌, subst, append-nil, append_assoc, arith}
 use Rattle.std.proofs.lemmas.List.{append_cancel_left, drop_all, length-append}
 use Rattle.std.specs.Option.{option_map}
-use Rattle.nm_answer.specs.Answer.{answer}
-use Rattle.nm_answer.specs.Changes.{change_answer, strangers_for, wanted_for}
+use Rattle.nm_model_answer.specs.Answer.{answer}
+use Rattle.nm_model_answer.specs.Changes.{change_answer, strangers_for, wanted_for}
 use Rattle.nm_log.specs.Kind.{Kind, ReadsIndex, SetsTags, ShowsFiles, TakesMail, kind_of}
-use Rattle.nm_answer.specs.RenameOutcomes.{renames_for, sync_report, sync_text}
-use Rattle.nm_answer.specs.Restore.{strangers_text}
-use Rattle.nm_answer.specs.declared.request.Request.{Request}
-use Rattle.nm_answer.specs.declared.request.Request.TheVariants as requests
-use Rattle.nm_answer.specs.declared.sync_report.SyncReport.{SyncReport}
+use Rattle.nm_model_answer.specs.RenameOutcomes.{renames_for, sync_report, sync_text}
+use Rattle.nm_model_answer.specs.Restore.{strangers_text}
+use Rattle.nm_model_answer.specs.declared.request.Request.{Request}
+use Rattle.nm_model_answer.specs.declared.request.Request.TheVariants as requests
+use Rattle.nm_model_answer.specs.declared.sync_report.SyncReport.{SyncReport}
 use Rattle.nm_base.specs.declared.memory.NoMemory.{NoMemory}
 use Rattle.nm_commit.specs.declared.change.Commit.{Commit}
 use Rattle.nm_faults.specs.Faults.{Counts, HasCauseOf}
@@ -19,9 +19,9 @@ use Rattle.nm_history.specs.LineCommits.{AreDue, FindsBy, FindsFor, FindsRenames
 use Rattle.nm_history.specs.LineResult.{Place, before_at}
 use Rattle.nm_history.specs.Lines.{given_in, tree_after_line, tree_by}
 use Rattle.nm_history.specs.Requests.{asks_folder, first_refusal, is_asking, is_tagging, is_writing, refused_closed, refused_found, refused_reading, refused_text_of, refused_unasked, sets_tags, writes_index}
-use Rattle.nm_index.specs.Fits.{FitInTurn}
-use Rattle.nm_index.specs.Index.{committed, folded}
-use Rattle.nm_index.specs.declared.base.Base.{Base}
+use Rattle.nm_model_index.specs.Fits.{FitInTurn}
+use Rattle.nm_model_index.specs.Index.{committed, folded}
+use Rattle.nm_model_index.specs.declared.base.Base.{Base}
 use Rattle.nm_lanes.specs.declared.script.ScriptLine.{ScriptLine}
 use Rattle.nm_log.specs.ParsedLine.{parse_line}
 use Rattle.nm_log.specs.declared.line_parser.ParsedLine.{ParsedLine}
@@ -32,9 +32,9 @@ use Rattle.nm_maildir.specs.Observed.{ObservedMail}
 use Rattle.nm_maildir.specs.Tree.{Tree}
 use Rattle.nm_maildir.specs.declared.given.Given.{Given}
 use Rattle.nm_maildir.specs.declared.given.Given.TheVariants as given
-use Rattle.nm_plan.specs.Moves.{HasDoneAll, HasTried, move_commit, tag_commits}
-use Rattle.nm_plan.specs.Plan.{due_commits}
-use Rattle.nm_plan.specs.TagCommit.{tag_commit}
+use Rattle.nm_model_plan.specs.Moves.{HasDoneAll, HasTried, move_commit, tag_commits}
+use Rattle.nm_model_plan.specs.Plan.{due_commits}
+use Rattle.nm_model_plan.specs.TagCommit.{tag_commit}
 use Rattle.nm_publish.specs.Published.{Published}
 use Rattle.nm_scan.specs.Bodies.{left_after}
 use Rattle.nm_line.specs.Line.{Ends, IsEven, IsLineAnswer, newly_closed, replied_with}

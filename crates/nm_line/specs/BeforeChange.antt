@@ -1,8 +1,8 @@
 -- What a line that changes the index has at hand before it does. Cited by `tag`, `restore`, `change` and `fault_texts`.
 use Rattle.std.specs.Prelude.{◌≡◌, ℕ, true, List, None}
-use Rattle.nm_answer.specs.Changes.{strangers_for, taggings_for}
+use Rattle.nm_model_answer.specs.Changes.{strangers_for, taggings_for}
 use Rattle.nm_history.specs.Requests.{is_tagging, refused_text_of}
-use Rattle.nm_index.specs.declared.base.Base.{Base}
+use Rattle.nm_model_index.specs.declared.base.Base.{Base}
 use Rattle.nm_log.specs.Replies.{refusal_line}
 use Rattle.nm_log.specs.declared.outcome.Outcome.TheVariants.{DiskFault, MailFault}
 use Rattle.nm_line.specs.declared.change.Changes.{Changes}

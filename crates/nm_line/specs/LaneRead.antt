@@ -1,14 +1,14 @@
 -- What a line of another lane is answered, which asks no device. Cited by `other_lane` and `nm_session`.
 use Rattle.std.specs.Prelude.{◌≡◌, ◌⊎◌, ℕ, ℤ, List, [], map, Option, None, Some, Result, Ok, Err}
 use Rattle.std.specs.Option.{option_to_list}
-use Rattle.nm_answer.specs.Answer.{answer}
-use Rattle.nm_answer.specs.declared.request.Request.{Request}
+use Rattle.nm_model_answer.specs.Answer.{answer}
+use Rattle.nm_model_answer.specs.declared.request.Request.{Request}
 use Rattle.nm_base.specs.declared.memory.NoMemory.{NoMemory}
 use Rattle.nm_history.specs.LineAnswers.{ends_by, line_text, refused_lane_read}
 use Rattle.nm_history.specs.LineResult.{said_of}
 use Rattle.nm_history.specs.MachineRun.{replied_where}
 use Rattle.nm_history.specs.Requests.{refused_text_of}
-use Rattle.nm_index.specs.declared.base.Base.{Base}
+use Rattle.nm_model_index.specs.declared.base.Base.{Base}
 use Rattle.nm_lanes.specs.declared.script.ScriptLine.{ScriptLine}
 use Rattle.nm_line.specs.Line.{refused_with, replied_with}
 use Rattle.nm_line.specs.declared.line_answer.LineAnswer.{LineAnswer}

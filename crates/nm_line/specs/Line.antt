@@ -1,8 +1,8 @@
 -- How one line of lane 0 ends: what it made, why, and what it says. Cited by `lane_zero`, the files of the commands, and `nm_session`.
 use Rattle.std.specs.Prelude.{◌≡◌, ◌&&◌, ℕ, ℤ, Bool, ◌+◌, ◌≤◌, List, [], IsSome, is_some, length, map, not, None, Some, Result, Ok, Err}
 use Rattle.std.specs.Option.{option_to_list}
-use Rattle.nm_answer.specs.Answer.{answer}
-use Rattle.nm_answer.specs.declared.request.Request.{Request}
+use Rattle.nm_model_answer.specs.Answer.{answer}
+use Rattle.nm_model_answer.specs.declared.request.Request.{Request}
 use Rattle.nm_base.specs.declared.memory.NoMemory.{NoMemory}
 use Rattle.nm_commit.specs.declared.change.Commit.{Commit}
 use Rattle.nm_disk.specs.Observed.{ObservedDisk}
@@ -14,7 +14,7 @@ use Rattle.nm_history.specs.LineResult.{HasMade, Place, before_at, said_of}
 use Rattle.nm_history.specs.Lines.{closed_after, tree_after_line}
 use Rattle.nm_history.specs.MachineRun.{replied_where}
 use Rattle.nm_history.specs.Requests.{refused_unasked}
-use Rattle.nm_index.specs.declared.base.Base.{Base}
+use Rattle.nm_model_index.specs.declared.base.Base.{Base}
 use Rattle.nm_lanes.specs.declared.script.ScriptLine.{ScriptLine}
 use Rattle.nm_line.specs.Prepared.{IsReadingOf, reading_request}
 use Rattle.nm_line.specs.declared.line_answer.LineAnswer.{LineAnswer}

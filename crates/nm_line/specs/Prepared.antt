@@ -1,11 +1,11 @@
 -- What a line asks for, ready to be answered. Cited by `prepared`, `index_replies`, `lane_zero` and others, `nm_session`, `nm_call` and `nm_top`.
 use Rattle.std.specs.Prelude.{◌≡◌, ℕ, true, false, List, Option, None, Some, Result, Ok, Err}
-use Rattle.nm_answer.specs.BatchLines.{queries_in}
-use Rattle.nm_answer.specs.DumpLines.{read_dump}
-use Rattle.nm_answer.specs.Tag.{taggings_of}
-use Rattle.nm_answer.specs.declared.request.Request.{Request}
-use Rattle.nm_answer.specs.declared.request.Request.TheVariants as requests
-use Rattle.nm_answer.specs.declared.tag_change.TagChange.{TagChange}
+use Rattle.nm_model_answer.specs.BatchLines.{queries_in}
+use Rattle.nm_model_answer.specs.DumpLines.{read_dump}
+use Rattle.nm_model_answer.specs.Tag.{taggings_of}
+use Rattle.nm_model_answer.specs.declared.request.Request.{Request}
+use Rattle.nm_model_answer.specs.declared.request.Request.TheVariants as requests
+use Rattle.nm_model_answer.specs.declared.tag_change.TagChange.{TagChange}
 use Rattle.nm_base.specs.declared.asks.TagAsk.{TagAsk}
 use Rattle.nm_history.specs.LineAnswers.{refused_lane_read}
 use Rattle.nm_history.specs.Requests.{refused_text_of}

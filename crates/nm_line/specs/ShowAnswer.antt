@@ -1,10 +1,10 @@
 -- What a show has asked the mail folder for, and what it answers or why there is nothing to show.
 -- Cited by `show`.
 use Rattle.std.specs.Prelude.{◌≡◌, ◌⊎◌, ℕ, ℤ, Bool, true, false, List, [], None, Some, length, Result, Ok, Err}
-use Rattle.nm_answer.specs.Show.{gone_path, is_not_one, lead_paths, show_text, shown_ids}
+use Rattle.nm_model_answer.specs.Show.{gone_path, is_not_one, lead_paths, show_text, shown_ids}
 use Rattle.nm_base.specs.declared.asks.ShowAsk.{ShowAsk}
 use Rattle.nm_history.specs.Given.{AsksNothing}
-use Rattle.nm_index.specs.declared.base.Base.{Base}
+use Rattle.nm_model_index.specs.declared.base.Base.{Base}
 use Rattle.nm_base.specs.declared.limit.Limit.TheVariants.{ShowBytes}
 use Rattle.nm_log.specs.declared.outcome.Outcome.{Outcome}
 use Rattle.nm_log.specs.declared.outcome.Outcome.TheVariants as outcomes

@@ -1,8 +1,8 @@
 //! What sets tags, for `tag` and `restore`: the commits are made, and the files renamed.
 
 ghost use Rattle.std.specs.Prelude.{◌≡◌, ◌++◌, ℕ, [], IfOk};
-ghost use Rattle.nm_answer.specs.RenameOutcomes.{sync_text};
-ghost use Rattle.nm_answer.specs.Restore.{strangers_text};
+ghost use Rattle.nm_model_answer.specs.RenameOutcomes.{sync_text};
+ghost use Rattle.nm_model_answer.specs.Restore.{strangers_text};
 ghost use Rattle.nm_lanes.specs.declared.script.ScriptLine.{ScriptLine};
 ghost use Rattle.nm_line.specs.BeforeChange.{AreAsked};
 ghost use Rattle.nm_line.specs.Desk.{IsReady, KeepsLoans, Stands, StaysDurable, place_of};
@@ -14,12 +14,12 @@ ghost use Rattle.nm_scan.specs.Bodies.{left_after};
 use crate::desk::Desk;
 use crate::fault_texts::{fault_texts, refuse_write};
 use crate::line_answer::{LineAnswer, replied};
-use nm_answer::{Request, SyncReport, TagChange};
 use nm_base::{Many, MessageId, NoMemory};
 use nm_disk::Disk;
 use nm_log::{Crew, change_reply};
 use nm_maildir::{Given, Maildir};
-use nm_plan::tag_commits_fit;
+use nm_model_answer::{Request, SyncReport, TagChange};
+use nm_model_plan::tag_commits_fit;
 use std::alloc::Global;
 use std::sync::Wait;
 use std::thread::Threads;

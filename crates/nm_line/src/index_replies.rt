@@ -6,10 +6,10 @@ ghost use Rattle.nm_line.specs.Line.{IsReadOff};
 
 use crate::line_answer::{LineAnswer, replied};
 use crate::prepared::Reading;
-use nm_answer::Request;
 use nm_base::NoMemory;
 use nm_dump::dump_reply;
 use nm_log::Setting;
+use nm_model_answer::Request;
 use nm_render::{count_reply, counts_reply, search_reply};
 use nm_state::Snapshot;
 use std::alloc::Global;

@@ -1,7 +1,7 @@
 //! A law of what a line of another lane is answered, which `nm_phase` calls. No code runs.
 
 ghost use Rattle.std.specs.Prelude.{ℤ, ℕ, List};
-ghost use Rattle.nm_index.specs.declared.base.Base.{Base};
+ghost use Rattle.nm_model_index.specs.declared.base.Base.{Base};
 ghost use Rattle.nm_line.specs.LaneRead.{IsSaidOn, lane_answer};
 ghost use Rattle.nm_log.specs.declared.line_parser.ParsedLine.{ParsedLine};
 

@@ -3,9 +3,9 @@
 ghost use Rattle.std.specs.Prelude.{◌≡◌, IfOk};
 ghost use Rattle.nm_line.specs.Line.{refused_with, replied_with};
 
-use nm_answer::Request;
 use nm_base::{Copies, Many, NoMemory};
 use nm_log::{Outcome, Said, refusal_line};
+use nm_model_answer::Request;
 use std::alloc::Global;
 
 /// What came of a line beside its commits.

@@ -1,7 +1,7 @@
 //! The command `new`: new mail is added, and what is missing is removed. `lane_zero` calls it.
 
 ghost use Rattle.std.specs.Prelude.{◌≡◌, ℕ, ℤ, [], IfOk};
-ghost use Rattle.nm_answer.specs.NewText.{new_text};
+ghost use Rattle.nm_model_answer.specs.NewText.{new_text};
 ghost use Rattle.nm_lanes.specs.declared.script.ScriptLine.{ScriptLine};
 ghost use Rattle.nm_line.specs.Desk.{IsReady, KeepsLoans, Stands, StaysDurable, place_of};
 ghost use Rattle.nm_line.specs.Line.{Ends, replied_with};
@@ -13,11 +13,11 @@ ghost use Rattle.nm_scan.specs.Bodies.{left_after};
 use crate::desk::Desk;
 use crate::fault_texts::{fault_texts, refuse_write};
 use crate::line_answer::{LineAnswer, replied};
-use nm_answer::{NewReport, Request};
 use nm_base::{Many, NoMemory};
 use nm_disk::Disk;
 use nm_log::{Crew, new_text};
 use nm_maildir::{Given, Maildir};
+use nm_model_answer::{NewReport, Request};
 use nm_workers::OpenGate;
 use std::alloc::Global;
 use std::sync::Wait;

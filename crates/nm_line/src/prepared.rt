@@ -7,12 +7,12 @@ ghost use Rattle.nm_line.specs.Prepared.{AreTagLines, IsFault, IsPreparedAs};
 ghost use Rattle.nm_log.specs.ParsedLine.{parse_line};
 ghost use Rattle.nm_query.specs.Answers.{answer_of};
 
-use nm_answer::{Request, TagChange};
 use nm_base::{Copies, CountAsk, DumpAsk, Many, NoMemory, RestoreAsk, SearchAsk, ShowAsk, TagAsk};
 use nm_batch::{read_queries, read_taggings};
 use nm_dump::read_dump;
 use nm_lanes::ScriptLine;
 use nm_log::{Outcome, ParsedLine, parse_line};
+use nm_model_answer::{Request, TagChange};
 use nm_query::{Query, QueryError, parse};
 use nm_tags::{LineError, Wanted};
 use std::alloc::Global;

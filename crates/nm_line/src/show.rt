@@ -1,7 +1,7 @@
 //! The command `show`: the files of the messages that a query finds are read, and what they hold is the reply. `lane_zero` calls it.
 
 ghost use Rattle.std.specs.Prelude.{◌≡◌, ◌≢◌, [], false, IfOk};
-ghost use Rattle.nm_answer.specs.Show.{is_not_one};
+ghost use Rattle.nm_model_answer.specs.Show.{is_not_one};
 ghost use Rattle.nm_faults.specs.Faults.{HasCauseOf};
 ghost use Rattle.nm_lanes.specs.declared.script.ScriptLine.{ScriptLine};
 ghost use Rattle.nm_line.specs.Desk.{IsReady, KeepsLoans, Stands, StaysDurable, place_of};
@@ -14,11 +14,11 @@ ghost use Rattle.nm_scan.specs.Bodies.{left_after};
 
 use crate::desk::Desk;
 use crate::line_answer::{LineAnswer, refuse, replied};
-use nm_answer::Request;
 use nm_base::{Limit, MailPath, Many, MessageId, NoMemory, ShowAsk};
 use nm_disk::Disk;
 use nm_log::{Crew, Outcome};
 use nm_maildir::{Given, Maildir};
+use nm_model_answer::Request;
 use nm_query::Query;
 use nm_render::{ShowError, lead_paths, show_text, shown_ids};
 use nm_scan::{BodiesError, read_bodies};

@@ -12,11 +12,11 @@ ghost use Rattle.nm_scan.specs.Bodies.{left_after};
 use crate::change::{Changes, change_tags};
 use crate::desk::Desk;
 use crate::line_answer::LineAnswer;
-use nm_answer::{Request, TagChange};
 use nm_base::{Many, NoMemory, TagAsk};
 use nm_disk::Disk;
 use nm_log::Crew;
 use nm_maildir::{Given, Maildir};
+use nm_model_answer::{Request, TagChange};
 use std::sync::Wait;
 use std::thread::Threads;
 

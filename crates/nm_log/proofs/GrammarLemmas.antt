@@ -4,8 +4,8 @@ use Rattle.std.proofs.Common.{◌≡◌, ◌⊎◌, ◌↔◌, ◌≤◌, inl, i
 use Rattle.std.proofs.lemmas.Bool.Decides.{nat_tests}
 use Rattle.nm_base.specs.declared.refusals.UsageKind.{UsageKind}
 use Rattle.nm_base.specs.declared.refusals.UsageKind.TheVariants as kinds
-use Rattle.nm_answer.specs.declared.request.Request.{Request}
-use Rattle.nm_answer.specs.declared.request.Request.TheVariants as requests
+use Rattle.nm_model_answer.specs.declared.request.Request.{Request}
+use Rattle.nm_model_answer.specs.declared.request.Request.TheVariants as requests
 use Rattle.nm_command.specs.Grammar.{IsRefused, IsRequest, a_batch_count, a_batch_tag, a_count, a_drill, a_dump, a_new, a_restore, a_search, a_session, a_show, a_tag}
 use Rattle.nm_command.specs.Requests.{request_of}
 use Rattle.nm_command.specs.Table.{commands, meaning_of}

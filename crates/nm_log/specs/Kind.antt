@@ -2,8 +2,8 @@
 -- these two, so a further request adds a line to each.
 -- Cited by `line_parser`, `nm_history` and `nm_line`.
 use Rattle.std.specs.Prelude.{ℕ, Bool, true, false, List, if◌then◌else◌}
-use Rattle.nm_answer.specs.declared.request.Request.{Request}
-use Rattle.nm_answer.specs.declared.request.Request.TheVariants.{New, Count, Search, Dump, Show, Tag, Restore}
+use Rattle.nm_model_answer.specs.declared.request.Request.{Request}
+use Rattle.nm_model_answer.specs.declared.request.Request.TheVariants.{New, Count, Search, Dump, Show, Tag, Restore}
 use Rattle.nm_base.specs.declared.asks.ShowAsk.{ShowAsk}
 use Rattle.nm_base.specs.declared.forms.ReadForm.{ReadForm}
 

@@ -3,8 +3,8 @@
 -- Cited by `laws`.
 use Rattle.std.specs.Prelude.{◌≡◌, ℕ, List, [], ◌∷◌, None, Some}
 use Rattle.nm_base.specs.declared.refusals.UsageKind.{UsageKind}
-use Rattle.nm_answer.specs.declared.request.Request.{Request}
-use Rattle.nm_answer.specs.declared.request.Request.TheVariants as requests
+use Rattle.nm_model_answer.specs.declared.request.Request.{Request}
+use Rattle.nm_model_answer.specs.declared.request.Request.TheVariants as requests
 use Rattle.nm_command.specs.Grammar.{IsRefused, IsRequest}
 use Rattle.nm_command.specs.declared.request.Request as asks
 use Rattle.nm_command.specs.declared.request.Request.TheVariants as asked

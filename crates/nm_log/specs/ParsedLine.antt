@@ -4,8 +4,8 @@
 use Rattle.std.specs.Prelude.{ℕ, Bool, true, false, ◌==◌, ◌||◌, List, [], ◌∷◌, length, Option, None, Some, Result, Ok, Err, codes, if◌then◌else◌}
 use Rattle.nm_base.specs.declared.refusals.UsageKind.{UsageKind}
 use Rattle.nm_base.specs.declared.refusals.UsageKind.TheVariants as kinds
-use Rattle.nm_answer.specs.declared.request.Request as requests
-use Rattle.nm_answer.specs.declared.request.Request.TheVariants as asks_for
+use Rattle.nm_model_answer.specs.declared.request.Request as requests
+use Rattle.nm_model_answer.specs.declared.request.Request.TheVariants as asks_for
 use Rattle.nm_command.specs.Requests.{request_of}
 use Rattle.nm_command.specs.Table.{commands, meaning_of}
 use Rattle.nm_command.specs.declared.command_error.CommandError.{CommandError}

@@ -6,7 +6,7 @@ use Rattle.nm_base.specs.declared.limit.Limit.{Limit}
 use Rattle.nm_base.specs.declared.limit.Limit.TheVariants as limits
 use Rattle.nm_base.specs.declared.refusals.UsageKind.{UsageKind}
 use Rattle.nm_base.specs.declared.refusals.UsageKind.TheVariants as kinds
-use Rattle.nm_answer.specs.NewText.{number_after}
+use Rattle.nm_model_answer.specs.NewText.{number_after}
 use Rattle.nm_query.specs.declared.query_error.QueryKind.{QueryKind}
 use Rattle.nm_query.specs.declared.query_error.QueryKind.TheVariants as query_kinds
 use Rattle.nm_tags.specs.declared.line_error.LineKind.{LineKind}

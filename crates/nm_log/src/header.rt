@@ -1,7 +1,7 @@
 //! The header of a reply, written without memory of the heap, for `print`.
 ghost use Rattle.std.specs.Prelude.{◌≡◌, ◌+◌, ◌≤◌, ◌++◌, length};
 ghost use Rattle.arrayvec.specs.ArrayString.{array_string_len};
-ghost use Rattle.nm_answer.specs.NewText.{number_after};
+ghost use Rattle.nm_model_answer.specs.NewText.{number_after};
 ghost use Rattle.nm_log.specs.Replies.{header_of};
 
 use crate::LineLog;

@@ -2,7 +2,7 @@
 //! which `other_lane` of `nm_line` calls one.
 
 ghost use Rattle.std.specs.Prelude.{◌≡◌, ◌↔◌, ◌≤◌, ℕ, List, true};
-ghost use Rattle.nm_answer.specs.declared.request.Request.{Request};
+ghost use Rattle.nm_model_answer.specs.declared.request.Request.{Request};
 ghost use Rattle.nm_base.specs.declared.refusals.UsageKind.{UsageKind};
 ghost use Rattle.nm_command.specs.Grammar.{IsRequest};
 ghost use Rattle.nm_lanes.specs.declared.script.ScriptLine.{ScriptLine};

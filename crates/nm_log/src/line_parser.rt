@@ -4,10 +4,10 @@ ghost use Rattle.std.specs.Prelude.{◌≡◌, IfOk};
 ghost use Rattle.nm_command.specs.Requests.{request_of};
 ghost use Rattle.nm_log.specs.ParsedLine.{asked_by, command_fault, fault_in_first, fault_in_others, fed, first_word, line_request, name_fault, parse_answer, parse_command, parse_line, parse_single, reads_input};
 
-use nm_answer::Request;
 use nm_base::{NoMemory, Text, UsageKind};
 use nm_command::{CommandError, CommandName, command, command_named};
 use nm_lanes::ScriptLine;
+use nm_model_answer::Request;
 use std::alloc::Global;
 
 /// What a line asks for, or what is wrong with it.

@@ -1,10 +1,10 @@
 //! The log of a session, which `nm_session` keeps and `nm_top` hands back, and what a run is given.
 
 use crate::Outcome;
-use nm_answer::Request;
 use nm_base::Many;
-use nm_machine::Step;
 use nm_maildir::Given;
+use nm_model_answer::Request;
+use nm_model_machine::Step;
 
 /// What a run of the program is given beside its words and devices.
 #[derive(Drop)]

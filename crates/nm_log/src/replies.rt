@@ -3,15 +3,15 @@
 ghost use Rattle.std.specs.Prelude.{◌≡◌, ◌++◌, IfOk, OnOk};
 ghost use Rattle.std.specs.Fmt.{decimal};
 ghost use Rattle.std.specs.List.{flat_map};
-ghost use Rattle.nm_answer.specs.NewText.{is_quiet, new_text, number_after, skip_line, skip_name, summary_line};
-ghost use Rattle.nm_answer.specs.RenameOutcomes.{sync_text, unmoved_line, unmoved_name};
-ghost use Rattle.nm_answer.specs.Restore.{stranger_line, strangers_text};
+ghost use Rattle.nm_model_answer.specs.NewText.{is_quiet, new_text, number_after, skip_line, skip_name, summary_line};
+ghost use Rattle.nm_model_answer.specs.RenameOutcomes.{sync_text, unmoved_line, unmoved_name};
+ghost use Rattle.nm_model_answer.specs.Restore.{stranger_line, strangers_text};
 ghost use Rattle.nm_log.specs.Replies.{bad_line, date_line, gone_line, is_well, kind_name, limit_line, limit_name, line_kind_name, not_one_line, query_kind_name, query_line, refusal_line, status_of, usage_line};
 
 use crate::Outcome;
 use itoa::Buffer;
-use nm_answer::{NewReport, SyncReport, Unmoved};
 use nm_base::{Limit, MailPath, Many, MessageId, NoMemory, Skip, Text, UsageKind};
+use nm_model_answer::{NewReport, SyncReport, Unmoved};
 use nm_query::QueryKind;
 use nm_tags::LineKind;
 use std::alloc::Global;

@@ -7,6 +7,7 @@ mod flags;
 mod laws;
 mod names;
 
+pub use flagged_path::{NameError, with_flags};
 pub use flags::Flags;
 pub use laws::{
     a_file_elsewhere_stays, a_name_that_may_not_be_renamed_stays,
@@ -14,4 +15,3 @@ pub use laws::{
     what_is_written_is_read,
 };
 pub use names::parse_name;
-pub use flagged_path::{NameError, with_flags};

@@ -11,8 +11,8 @@ use Rattle.nm_base.specs.Order.{has_text, same_text}
 use Rattle.nm_base.specs.declared.facts.Facts.{Facts}
 use Rattle.nm_base.specs.declared.facts.LinkRow.{LinkRow}
 use Rattle.nm_commit.specs.Files.{has_id, moved_path, with_moved}
-use Rattle.nm_index.specs.Index.{first_tags, is_held, row_of, rows_of, with_mail}
-use Rattle.nm_index.specs.declared.base.Base.{Base}
+use Rattle.nm_model_index.specs.Index.{first_tags, is_held, row_of, rows_of, with_mail}
+use Rattle.nm_model_index.specs.declared.base.Base.{Base}
 use Rattle.nm_threads.specs.Labels.{AreLabelsOf, Label, Labelling, entries_of, numbered}
 use Rattle.nm_threads.specs.Labels as labels
 use Rattle.nm_tables.specs.FileTable.{AreFiled, files_in}

@@ -9,8 +9,8 @@ use Rattle.nm_base.specs.declared.facts.LinkRow.{LinkRow}
 use Rattle.nm_commit.specs.Files.{FitChanges, FitsChange, changed}
 use Rattle.nm_commit.specs.declared.change.Change.{Change}
 use Rattle.nm_commit.specs.declared.change.Change.TheVariants.{Add, Drop, Move, SetTags}
-use Rattle.nm_index.specs.Index.{applied}
-use Rattle.nm_index.specs.declared.base.Base.{Base}
+use Rattle.nm_model_index.specs.Index.{applied}
+use Rattle.nm_model_index.specs.declared.base.Base.{Base}
 use Rattle.nm_threads.specs.Labels.{Labelling, entries_of, has_entry, numbered}
 use Rattle.nm_tables.specs.FileTable.{AreFiled, files_in}
 use Rattle.nm_parts.specs.Parts.{AreParts, base_of}

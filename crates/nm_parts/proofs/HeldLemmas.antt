@@ -5,8 +5,8 @@ use Rattle.std.proofs.lemmas.Bool.{and_from}
 use Rattle.nm_base.specs.Order.{has_text}
 use Rattle.nm_base.specs.declared.facts.Facts.{Facts}
 use Rattle.nm_base.specs.declared.facts.LinkRow.{LinkRow}
-use Rattle.nm_index.specs.Index.{is_held, row_of, rows_of}
-use Rattle.nm_index.specs.declared.base.Base.{Base}
+use Rattle.nm_model_index.specs.Index.{is_held, row_of, rows_of}
+use Rattle.nm_model_index.specs.declared.base.Base.{Base}
 use Rattle.nm_threads.specs.Same.{ids_of, Same, is_same}
 use Rattle.nm_parts.specs.ThreadLaws.{ThreadLaws}
 use Rattle.nm_tables.specs.KeyLaws.{any_one, any_of, Contains_map, Contains_from_map}

@@ -9,8 +9,8 @@ use Rattle.nm_base.specs.Order.{has_text, same_text}
 use Rattle.nm_base.specs.declared.facts.Facts.{Facts}
 use Rattle.nm_base.specs.declared.facts.LinkRow.{LinkRow}
 use Rattle.nm_commit.specs.Files.{has_id}
-use Rattle.nm_index.specs.Index.{is_held, pruned, row_of, rows_of}
-use Rattle.nm_index.specs.declared.base.Base.{Base}
+use Rattle.nm_model_index.specs.Index.{is_held, pruned, row_of, rows_of}
+use Rattle.nm_model_index.specs.declared.base.Base.{Base}
 use Rattle.nm_threads.specs.Labels.{AreLabelsOf, Labelling, entries_of, has_entry, is_in_rows}
 use Rattle.nm_threads.specs.Same.{IsChain, Same, ids_of, is_same, stand_together}
 use Rattle.nm_tables.specs.FileTable.{AreFiled, files_in}

@@ -11,8 +11,8 @@ use Rattle.nm_base.specs.Order.{has_text, same_text}
 use Rattle.nm_base.specs.declared.facts.Facts.{Facts}
 use Rattle.nm_base.specs.declared.facts.LinkRow.{LinkRow}
 use Rattle.nm_commit.specs.Files.{has_id, without_path}
-use Rattle.nm_index.specs.Index.{is_held, row_cmp, row_of, rows_of}
-use Rattle.nm_index.specs.declared.base.Base.{Base}
+use Rattle.nm_model_index.specs.Index.{is_held, row_cmp, row_of, rows_of}
+use Rattle.nm_model_index.specs.declared.base.Base.{Base}
 use Rattle.nm_threads.specs.Labels.{AreLabelsOf, Labelling, entries_of}
 use Rattle.nm_threads.specs.Same.{Same, ids_of}
 use Rattle.nm_tables.specs.FileTable.{AreFiled, files_in, lying_in}

@@ -5,8 +5,8 @@ use Rattle.std.proofs.lemmas.List.{take_more}
 use Rattle.nm_base.specs.declared.facts.Facts.{Facts}
 use Rattle.nm_commit.specs.Files.{FitChanges, FitsChange, changed}
 use Rattle.nm_commit.specs.declared.change.Change.{Change}
-use Rattle.nm_index.specs.Index.{applied}
-use Rattle.nm_index.specs.declared.base.Base.{Base}
+use Rattle.nm_model_index.specs.Index.{applied}
+use Rattle.nm_model_index.specs.declared.base.Base.{Base}
 
 fits_there : (files : List (List ℕ × Facts)) (xs : List Change) (i : ℕ) (d : Change) → i < length xs → FitChanges files xs → FitsChange (fold changed files (take i xs)) (slice_index_or xs i d)
 fits_there files [] i d lt fits = absurd (omega (arith, lt))

@@ -9,7 +9,7 @@ use Rattle.nm_base.specs.declared.facts.LinkRow.{LinkRow}
 use Rattle.nm_commit.specs.Files.{has_id, with_moved}
 use Rattle.nm_commit.specs.declared.change.Change.{Change}
 use Rattle.nm_commit.specs.declared.change.Change.TheVariants.{Add, Drop, Move, SetTags}
-use Rattle.nm_index.specs.Index.{first_tags, row_of}
+use Rattle.nm_model_index.specs.Index.{first_tags, row_of}
 use Rattle.nm_threads.specs.Labels.{AreLabelsOf, Labelling, entries_of, numbered}
 use Rattle.nm_tables.specs.FileTable.{AreFiled, files_in}
 use Rattle.nm_parts.specs.Parts.{AreTagged}

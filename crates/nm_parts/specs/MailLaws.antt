@@ -9,8 +9,8 @@ use Rattle.std.specs.Map.{remove_entry}
 use Rattle.std.specs.Ordering.{nat_cmp}
 use Rattle.nm_base.specs.declared.facts.Facts.{Facts}
 use Rattle.nm_commit.specs.Files.{has_id, without_path}
-use Rattle.nm_index.specs.Index.{first_tags, has_entry, pruned, row_cmp, row_of, with_entry, with_first_tags, with_mail, without_mail}
-use Rattle.nm_index.specs.declared.base.Base.{Base}
+use Rattle.nm_model_index.specs.Index.{first_tags, has_entry, pruned, row_cmp, row_of, with_entry, with_first_tags, with_mail, without_mail}
+use Rattle.nm_model_index.specs.declared.base.Base.{Base}
 use Rattle.nm_threads.specs.Labels.{numbered}
 use Rattle.nm_parts.specs.Parts.{with_files, without_file}
 

@@ -3,7 +3,7 @@
 ghost use Rattle.std.specs.Prelude.{◌≡◌, ◌≤◌, ◌^◌, false, true, OnOk};
 ghost use Rattle.nm_base.specs.Limits.{IsDate};
 ghost use Rattle.nm_commit.specs.Files.{has_id, has_path, with_moved};
-ghost use Rattle.nm_index.specs.Index.{with_mail, with_tags};
+ghost use Rattle.nm_model_index.specs.Index.{with_mail, with_tags};
 ghost use Rattle.nm_parts.specs.Parts.{AreParts, base_of, with_files};
 
 use crate::message_tags::set_tags;

@@ -2,7 +2,7 @@
 
 ghost use Rattle.std.specs.Prelude.{◌≡◌, ◌≤◌, ◌^◌, fold, OnOk};
 ghost use Rattle.nm_commit.specs.Files.{FitChanges, FitsChange};
-ghost use Rattle.nm_index.specs.Index.{applied};
+ghost use Rattle.nm_model_index.specs.Index.{applied};
 ghost use Rattle.nm_parts.specs.Parts.{AreParts, base_of};
 
 use crate::changes::{add_mail, move_mail, tag_message};
@@ -10,7 +10,7 @@ use crate::parts::Parts;
 use crate::removal::drop_mail;
 use nm_base::NoMemory;
 use nm_commit::Change;
-use nm_index::{files_follow_their_changes, numbers_never_fall};
+use nm_model_index::{files_follow_their_changes, numbers_never_fall};
 use std::alloc::Global;
 
 fn apply_change(alloc: Global, parts: &mut Parts, change: &Change) -> Result<(), NoMemory>

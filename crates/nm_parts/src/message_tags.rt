@@ -7,7 +7,7 @@ ghost use Rattle.std.specs.Ordering.{is_eq, nat_cmp};
 ghost use Rattle.nm_base.specs.Order.{IsSorted};
 ghost use Rattle.nm_base.specs.Tag.{is_tag};
 ghost use Rattle.nm_base.specs.Tags.{with_tag};
-ghost use Rattle.nm_index.specs.Index.{first_tags};
+ghost use Rattle.nm_model_index.specs.Index.{first_tags};
 ghost use Rattle.nm_tables.specs.FileTable.{at_text};
 
 use nm_base::{Marks, MessageId, NoMemory, Tag, Tags, Text};

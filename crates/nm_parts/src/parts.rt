@@ -1,7 +1,7 @@
 //! The parts of a snapshot of `nm_state`, which the work of a commit changes one by one.
 
 ghost use Rattle.std.specs.Prelude.{◌≡◌, IfOk};
-ghost use Rattle.nm_index.specs.Index.{empty_index};
+ghost use Rattle.nm_model_index.specs.Index.{empty_index};
 ghost use Rattle.nm_parts.specs.Parts.{AreParts, base_of};
 
 use nm_base::{Copies, LinkRow, NoMemory};

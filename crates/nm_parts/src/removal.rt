@@ -4,7 +4,7 @@
 ghost use Rattle.std.specs.Prelude.{◌≡◌, ◌≢◌, ◌∷◌, [], ℕ, List, true, IfOk, OnOk};
 ghost use Rattle.nm_commit.specs.Files.{has_id, has_path};
 ghost use Rattle.nm_base.specs.declared.facts.Facts.{Facts};
-ghost use Rattle.nm_index.specs.Index.{files_at, pruned, without_first};
+ghost use Rattle.nm_model_index.specs.Index.{files_at, pruned, without_first};
 ghost use Rattle.nm_tables.specs.FileTable.{AreFiled, files_in};
 ghost use Rattle.nm_parts.specs.Parts.{AreLoose, AreParts, AreTagged, base_of, tags_after, without_file};
 

@@ -6,7 +6,7 @@ ghost use Rattle.std.specs.Cmp.Lexicographic.{slice_cmp};
 ghost use Rattle.std.specs.Ordering.{nat_cmp};
 ghost use Rattle.nm_base.specs.declared.facts.LinkRow.{LinkRow};
 ghost use Rattle.nm_commit.specs.Files.{has_id};
-ghost use Rattle.nm_index.specs.Index.{first_tags, row_of};
+ghost use Rattle.nm_model_index.specs.Index.{first_tags, row_of};
 ghost use Rattle.nm_threads.specs.Labels.{AreLabelsOf, entries_of, numbered};
 ghost use Rattle.nm_tables.specs.FileTable.{AreFiled, files_in};
 ghost use Rattle.nm_parts.specs.Parts.{AreTagged};

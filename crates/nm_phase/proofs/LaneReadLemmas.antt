@@ -4,7 +4,7 @@ use Rattle.std.specs.Option.{option_to_list}
 use Rattle.nm_base.specs.declared.memory.NoMemory.{NoMemory}
 use Rattle.nm_history.specs.Lines.{RunLine}
 use Rattle.nm_history.specs.MachineRun.{reply_to}
-use Rattle.nm_index.specs.declared.base.Base.{Base}
+use Rattle.nm_model_index.specs.declared.base.Base.{Base}
 use Rattle.nm_lanes.specs.declared.script.ScriptLine.{ScriptLine}
 use Rattle.nm_line.specs.LaneRead.{IsAnswerOn, IsSaidOn, lane_answer}
 use Rattle.nm_line.specs.declared.line_answer.LineAnswer.{LineAnswer}

@@ -9,7 +9,7 @@ use Rattle.nm_history.specs.LineCommits.{IsOnItsWay}
 use Rattle.nm_history.specs.LineResult.{Place}
 use Rattle.nm_history.specs.Lines.{RunLine, closed_after}
 use Rattle.nm_history.specs.MachineRun.{Replied, replied_where, reply_to}
-use Rattle.nm_index.specs.declared.base.Base.{Base}
+use Rattle.nm_model_index.specs.declared.base.Base.{Base}
 use Rattle.nm_lanes.specs.declared.script.ScriptLine.{ScriptLine}
 use Rattle.nm_log.specs.ParsedLine.{parse_line}
 use Rattle.nm_log.specs.Replies.{status_of}

@@ -6,8 +6,8 @@ use Rattle.std.proofs.lemmas.List.{drop_more, length-append}
 use Rattle.logbook.specs.Pages.{Book}
 use Rattle.nm_commit.specs.declared.change.Commit.{Commit}
 use Rattle.nm_dates.specs.Seconds.{IsMoment}
-use Rattle.nm_index.specs.Index.{folded}
-use Rattle.nm_index.specs.declared.base.Base.{Base}
+use Rattle.nm_model_index.specs.Index.{folded}
+use Rattle.nm_model_index.specs.declared.base.Base.{Base}
 use Rattle.nm_lanes.specs.declared.script.Phase.{Phase}
 use Rattle.nm_lanes.specs.declared.script.ScriptLine.{ScriptLine}
 use Rattle.nm_publish.specs.Published.{GoesOn, Published, index_of}

@@ -4,7 +4,7 @@ use Rattle.nm_base.specs.Limits.{max_commits}
 use Rattle.nm_disk.specs.Observed.{ObservedDisk}
 use Rattle.nm_history.specs.Call.{lines_of_lane}
 use Rattle.nm_history.specs.LineResult.{Place}
-use Rattle.nm_index.specs.declared.base.Base.{Base}
+use Rattle.nm_model_index.specs.declared.base.Base.{Base}
 use Rattle.nm_lanes.specs.declared.script.ScriptLine.{ScriptLine}
 use Rattle.nm_line.specs.Desk.{Stands}
 use Rattle.nm_line.specs.Line.{IsEven}

@@ -9,8 +9,8 @@ use Rattle.nm_history.specs.LineResult.{said_of}
 use Rattle.nm_history.specs.Lines.{RunLine}
 use Rattle.nm_history.specs.MachineRun.{reply_to}
 use Rattle.nm_history.specs.PrintedOut.{IsNumbered}
-use Rattle.nm_index.specs.Index.{folded}
-use Rattle.nm_index.specs.declared.base.Base.{Base}
+use Rattle.nm_model_index.specs.Index.{folded}
+use Rattle.nm_model_index.specs.declared.base.Base.{Base}
 use Rattle.nm_lanes.specs.declared.script.ScriptLine.{ScriptLine}
 use Rattle.nm_log.specs.ParsedLine.{parse_line}
 use Rattle.nm_log.specs.Replies.{status_of}

@@ -2,7 +2,7 @@
 use Rattle.std.specs.Prelude.{◌≡◌, ℕ}
 use Rattle.nm_disk.specs.Observed.{ObservedDisk}
 use Rattle.nm_history.specs.LineResult.{Place}
-use Rattle.nm_index.specs.declared.base.Base.{Base}
+use Rattle.nm_model_index.specs.declared.base.Base.{Base}
 use Rattle.nm_line.specs.Line.{place_at}
 use Rattle.nm_maildir.specs.Observed.{ObservedMail}
 use Rattle.nm_phase.specs.declared.stage.Stage.{Stage}

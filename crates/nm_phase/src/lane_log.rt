@@ -1,7 +1,7 @@
 //! A line of a lane other than 0 in the log, where its phase ends. `barrier` notes each.
 
 ghost use Rattle.std.specs.Prelude.{◌≡◌, ◌≤◌, ℤ, codes, length};
-ghost use Rattle.nm_index.specs.declared.base.Base.{Base};
+ghost use Rattle.nm_model_index.specs.declared.base.Base.{Base};
 ghost use Rattle.nm_line.specs.LaneRead.{IsAnswerOn};
 ghost use Rattle.nm_phase.specs.LaneLog.{IsAnswerNoted, IsLaneAnswered};
 ghost use Rattle.nm_trace.specs.ReservedLog.{AreFallbacks};

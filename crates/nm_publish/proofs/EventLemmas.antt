@@ -7,8 +7,8 @@ use Rattle.std.proofs.lemmas.Bool.Decides.{nat_tests}
 use mathlib.Core.List.{IsPrefix}
 use Rattle.logbook.specs.Pages.{Book, Named}
 use Rattle.nm_commit.specs.declared.change.Commit.{Commit}
-use Rattle.nm_index.specs.Index.{committed, folded}
-use Rattle.nm_index.specs.declared.base.Base.{Base}
+use Rattle.nm_model_index.specs.Index.{committed, folded}
+use Rattle.nm_model_index.specs.declared.base.Base.{Base}
 use Rattle.nm_publish.specs.List.{IsHeld, commit_in, commits_of, head_of, index_at, index_in, opening_of}
 use Rattle.nm_publish.specs.Published.{GoesOn, published, with_commit}
 use Rattle.nm_publish.specs.declared.event.Event.{Event}

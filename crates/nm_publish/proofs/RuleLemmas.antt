@@ -7,8 +7,8 @@ use Rattle.std.specs.Arc.{arc_value}
 use Rattle.atomic_table.proofs.Lists.{at_set, at_snoc}
 use Rattle.left_right.specs.Register.{Admits, TurnsAt, Forks, Merges}
 use Rattle.nm_commit.specs.declared.change.Commit.{Commit}
-use Rattle.nm_index.specs.Index.{committed}
-use Rattle.nm_index.specs.declared.base.Base.{Base}
+use Rattle.nm_model_index.specs.Index.{committed}
+use Rattle.nm_model_index.specs.declared.base.Base.{Base}
 use Rattle.nm_publish.specs.List.{index_at}
 use Rattle.nm_publish.specs.Rule.{Follows, Holds, IsBeginning, IsObservation, IsStanding}
 use Rattle.nm_publish.specs.declared.event.Event.{Event}

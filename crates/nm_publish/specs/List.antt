@@ -3,8 +3,8 @@
 use Rattle.std.specs.Prelude.{◌≡◌, ℕ, ◌<◌, List, [], ◌∷◌, ◌++◌, true, length, map, drop}
 use Rattle.logbook.specs.Pages.{Cell, Step, View, Book, Named}
 use Rattle.nm_commit.specs.declared.change.Commit.{Commit}
-use Rattle.nm_index.specs.Index.{empty_index, folded}
-use Rattle.nm_index.specs.declared.base.Base.{Base}
+use Rattle.nm_model_index.specs.Index.{empty_index, folded}
+use Rattle.nm_model_index.specs.declared.base.Base.{Base}
 use Rattle.nm_publish.specs.declared.event.Event.{Event}
 use Rattle.nm_publish.specs.declared.event.Event.TheVariants as event
 

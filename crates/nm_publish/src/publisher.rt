@@ -3,7 +3,7 @@
 ghost use Rattle.std.specs.Prelude.{◌≡◌, [], None, Some, IfOk, IsSomeAnd, MatchResult};
 ghost use Rattle.std.specs.Arc.{arc_value};
 ghost use Rattle.nm_commit.specs.declared.change.Commit.{Commit};
-ghost use Rattle.nm_index.specs.Index.{committed};
+ghost use Rattle.nm_model_index.specs.Index.{committed};
 ghost use Rattle.nm_publish.specs.Published.{index_of, with_commit};
 ghost use Rattle.nm_record.specs.CommitGrammar.{commit_grammar};
 
@@ -16,8 +16,8 @@ use crate::slot::Next;
 use core::mem;
 use nm_base::NoMemory;
 use nm_commit::Commit;
-use nm_index::the_revision_counts_the_commits;
 use nm_journal::Receipt;
+use nm_model_index::the_revision_counts_the_commits;
 use nm_state::Snapshot;
 use std::alloc::Global;
 use std::marker::Model;
@@ -48,7 +48,7 @@ impl Model for Shower {
     ghost use Rattle.std.specs.Arc.{arc_value};
     ghost use Rattle.std.specs.Option.{option_map};
     ghost use Rattle.left_right.specs.Sides.{view as knowledge};
-    ghost use Rattle.nm_index.specs.Index.{committed};
+    ghost use Rattle.nm_model_index.specs.Index.{committed};
     ghost use Rattle.nm_publish.specs.List.{IsHeld};
     ghost use Rattle.nm_publish.specs.Published.{ShowerState, published};
 

@@ -5,7 +5,7 @@ ghost use Rattle.nm_publish.specs.List.{index_at};
 ghost use Rattle.nm_publish.specs.Published.{GoesOn, index_of, published};
 
 use crate::list::Token;
-use nm_index::the_revision_counts_the_commits;
+use nm_model_index::the_revision_counts_the_commits;
 use std::marker::Model;
 
 /// Names what was shown: the opening index and the commits after it. A contract sees these, of which it has no copy.

@@ -2,7 +2,7 @@
 
 use crate::list::Token;
 use left_right::Absorb;
-use nm_index::Base;
+use nm_model_index::Base;
 use nm_state::Snapshot;
 use std::alloc::{AllocError, Global};
 use std::sync::Arc;

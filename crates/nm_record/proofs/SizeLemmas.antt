@@ -3,8 +3,8 @@ use Rattle.std.proofs.Common.{◌≡◌, ap, ◌∙◌, ℕ, ◌+◌, List, ◌+
 use Rattle.std.specs.List.{flat_map, sum_by}
 use Rattle.std.proofs.lemmas.List.Concat.{length-flat_map}
 use Rattle.nm_codec.specs.Encoding.{list_bytes, u32_bytes, u64_bytes}
-use Rattle.nm_index.specs.Index.{row_bytes}
-use Rattle.nm_index.specs.declared.base.Base.{Base}
+use Rattle.nm_model_index.specs.Index.{row_bytes}
+use Rattle.nm_model_index.specs.declared.base.Base.{Base}
 use Rattle.nm_record.specs.BaseBytes.{base_len, entry_bytes}
 use Rattle.nm_record.specs.Commits.{arrival_grammar, tagging_grammar}
 

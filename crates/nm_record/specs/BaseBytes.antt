@@ -2,8 +2,8 @@
 -- live ids with their tags.
 -- Cited by `laws` and `nm_state`.
 use Rattle.std.specs.Prelude.{ℕ, List, ◌++◌, length}
-use Rattle.nm_index.specs.Index.{row_bytes}
-use Rattle.nm_index.specs.declared.base.Base.{Base}
+use Rattle.nm_model_index.specs.Index.{row_bytes}
+use Rattle.nm_model_index.specs.declared.base.Base.{Base}
 use Rattle.nm_codec.specs.Encoding.{list_bytes, text_bytes, u64_bytes}
 use Rattle.nm_record.specs.Commits.{arrival_grammar, tagging_grammar}
 

@@ -2,8 +2,8 @@
 
 ghost use Rattle.std.specs.Prelude.{◌≡◌, ◌+◌, length};
 ghost use Rattle.std.specs.List.{sum_by};
-ghost use Rattle.nm_index.specs.Index.{row_bytes};
-ghost use Rattle.nm_index.specs.declared.base.Base.{Base};
+ghost use Rattle.nm_model_index.specs.Index.{row_bytes};
+ghost use Rattle.nm_model_index.specs.declared.base.Base.{Base};
 ghost use Rattle.nm_record.specs.BaseBytes.{base_len, entry_bytes};
 ghost use Rattle.nm_record.specs.Commits.{arrival_grammar, tagging_grammar};
 

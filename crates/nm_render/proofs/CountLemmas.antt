@@ -6,12 +6,12 @@ use Rattle.std.specs.Ordering.{nat_cmp}
 use Rattle.std.proofs.lemmas.List.{take_more}
 use Rattle.std.proofs.lemmas.List.Elements.{filter_map-append}
 use Rattle.std.proofs.lemmas.List.Sums.{fold-append}
-use Rattle.nm_answer.specs.Count.{thread_names}
+use Rattle.nm_model_answer.specs.Count.{thread_names}
 use Rattle.nm_base.specs.Order.{same_text}
 use Rattle.nm_base.specs.declared.facts.Facts.{Facts}
 use Rattle.nm_commit.specs.Files.{has_id}
-use Rattle.nm_index.specs.Index.{rows_of}
-use Rattle.nm_index.specs.declared.base.Base.{Base}
+use Rattle.nm_model_index.specs.Index.{rows_of}
+use Rattle.nm_model_index.specs.declared.base.Base.{Base}
 use Rattle.nm_threads.specs.Name.{thread_name}
 
 -- a message more

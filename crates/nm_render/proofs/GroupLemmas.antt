@@ -4,12 +4,12 @@ use Rattle.std.proofs.Common.{◌≡◌, refl, sym, ap, ap₂, subst, ◌∙◌,
 use Rattle.std.specs.List.{flat_map, list_any}
 use Rattle.std.proofs.lemmas.Bool.{eq-eqb, eqb-true, or_left, or_right}
 use Rattle.std.proofs.lemmas.Bool.Decides.{nat_tests}
-use Rattle.nm_index.specs.Index.{live_ids, rows_of}
-use Rattle.nm_index.specs.declared.base.Base.{Base}
+use Rattle.nm_model_index.specs.Index.{live_ids, rows_of}
+use Rattle.nm_model_index.specs.declared.base.Base.{Base}
 use Rattle.nm_state.specs.Snapshot.{has_name, thread_messages}
 use Rattle.nm_threads.specs.Name.{thread_name}
-use Rattle.nm_answer.specs.Summary.{in_thread, members_of}
-use Rattle.nm_answer.specs.Test.{is_thread}
+use Rattle.nm_model_answer.specs.Summary.{in_thread, members_of}
+use Rattle.nm_model_answer.specs.Test.{is_thread}
 
 filter_same : {X : Type 0} (p q : X → Bool) (xs : List X) → ((x : X) → p x ≡ q x) → filter p xs ≡ filter q xs
 filter_same p q [] same = refl

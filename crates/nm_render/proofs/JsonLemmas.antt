@@ -6,7 +6,7 @@ use Rattle.json.specs.Print.{escape_byte, quoted}
 use Rattle.serde_json.specs.Data.{Data, array, items_depth, string}
 use Rattle.serde_json.specs.View.{items_of}
 use Rattle.serde_json.specs.Written.{compact_text, items_have_float, items_text}
-use Rattle.nm_answer.specs.Json.{escaped, json_array, json_string, joined}
+use Rattle.nm_model_answer.specs.Json.{escaped, json_array, json_string, joined}
 
 byte_same : (byte : ℕ) → escape_byte byte ≡ escaped byte
 unfolding escape_byte

@@ -9,10 +9,10 @@ use Rattle.serde_json.specs.Data.{Data, array, depth, items_depth, member, no_me
 use Rattle.serde_json.specs.Find.{is_float, of_integer}
 use Rattle.serde_json.specs.View.{items_of}
 use Rattle.serde_json.specs.Written.{compact_text, has_float, members_text, number_text}
-use Rattle.nm_answer.specs.Json.{json_array, json_string, joined}
-use Rattle.nm_answer.specs.Search.{thread_digits}
-use Rattle.nm_answer.specs.SummaryJson.{json_member, json_object, summary_json, summary_members}
-use Rattle.nm_answer.specs.declared.summary.ThreadSummary.{ThreadSummary}
+use Rattle.nm_model_answer.specs.Json.{json_array, json_string, joined}
+use Rattle.nm_model_answer.specs.Search.{thread_digits}
+use Rattle.nm_model_answer.specs.SummaryJson.{json_member, json_object, summary_json, summary_members}
+use Rattle.nm_model_answer.specs.declared.summary.ThreadSummary.{ThreadSummary}
 use Rattle.nm_render.specs.SummaryData.{summary_data}
 use Rattle.nm_render.proofs.JsonLemmas.{array_same, no_depth, no_floats, quoted_same, strings_same}
 

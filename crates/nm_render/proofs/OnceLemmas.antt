@@ -5,7 +5,7 @@ use Rattle.std.proofs.lemmas.List.{length-append, take_all, take-append-drop, ta
 use Rattle.std.proofs.lemmas.Bool.{eqb-true}
 use Rattle.std.proofs.lemmas.List.Elements.{filter_map-append}
 use Rattle.std.proofs.lemmas.List.Sums.{fold-append}
-use Rattle.nm_answer.specs.Listing.{each_once, with_new}
+use Rattle.nm_model_answer.specs.Listing.{each_once, with_new}
 
 module _ {X : Type 0} (same : X → X → Bool) where
   -- what is so far stays at the front

@@ -7,8 +7,8 @@ use Rattle.std.specs.List.Sorted.{IsSortedByKey, IsStableByKey, ties}
 use Rattle.std.specs.Ordering.{int_cmp, is_lt}
 use Rattle.std.specs.declared.cmp.Ordering.TheVariants.{Equal, Greater, Less}
 use Rattle.std.proofs.lemmas.List.Sorted.{ranks_by, sorted_far}
-use Rattle.nm_answer.specs.Listing.{by_rank}
-use Rattle.nm_answer.specs.Orders.{IsByRank, Rises, is_ranked}
+use Rattle.nm_model_answer.specs.Listing.{by_rank}
+use Rattle.nm_model_answer.specs.Orders.{IsByRank, Rises, is_ranked}
 
 -- of three numbers
 below_all : (low first later : ℤ) → int_lt low first ≡ true → int_lt later first ≡ false → int_lt low later ≡ true

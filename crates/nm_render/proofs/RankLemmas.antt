@@ -2,8 +2,8 @@
 use Rattle.std.proofs.Common.{◌≡◌, ℤ, Bool, true, false, not, ◌&&◌, cond, List, [], ◌∷◌, ◌++◌, filter, fold, map, refl, sym, ap, ◌∙◌, arith, true≢false, append_assoc, append-nil}
 use Rattle.std.specs.Prelude.{int_lt}
 use Rattle.std.specs.List.{AllByRecursion}
-use Rattle.nm_answer.specs.Listing.{at_rank, by_rank}
-use Rattle.nm_answer.specs.Orders.{IsByRank, Rises, is_ranked}
+use Rattle.nm_model_answer.specs.Listing.{at_rank, by_rank}
+use Rattle.nm_model_answer.specs.Orders.{IsByRank, Rises, is_ranked}
 
 -- of three numbers
 not_below : (x f y : ℤ) → int_lt x f ≡ true → int_lt y f ≡ false → int_lt y x ≡ false

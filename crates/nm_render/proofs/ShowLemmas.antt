@@ -1,17 +1,17 @@
 -- Each message that is shown has a lead file. For the proof of `shown_ids`.
 use Rattle.std.proofs.Common.{◌≡◌, ℕ, ℤ, Bool, true, false, ◌||◌, int_lt, List, [], ◌∷◌, length, map, fold, if◌then◌else◌, refl, ◌∙◌, length-append, arith}
 use Rattle.std.specs.List.{AllByRecursion, filter}
-use Rattle.nm_answer.specs.Listing.{at_rank}
-use Rattle.nm_answer.specs.Matches.{is_match}
-use Rattle.nm_answer.specs.Search.{rank_of}
-use Rattle.nm_answer.specs.Show.{lead_path, lead_paths, shown_ids}
-use Rattle.nm_answer.specs.View.{files_of, view_of}
+use Rattle.nm_model_answer.specs.Listing.{at_rank}
+use Rattle.nm_model_answer.specs.Matches.{is_match}
+use Rattle.nm_model_answer.specs.Search.{rank_of}
+use Rattle.nm_model_answer.specs.Show.{lead_path, lead_paths, shown_ids}
+use Rattle.nm_model_answer.specs.View.{files_of, view_of}
 use Rattle.nm_base.specs.Order.{same_text}
 use Rattle.nm_base.specs.declared.asks.ShowAsk.{ShowAsk}
 use Rattle.nm_base.specs.declared.facts.Facts.{Facts}
 use Rattle.nm_commit.specs.Files.{has_id}
-use Rattle.nm_index.specs.Index.{live_ids}
-use Rattle.nm_index.specs.declared.base.Base.{Base}
+use Rattle.nm_model_index.specs.Index.{live_ids}
+use Rattle.nm_model_index.specs.declared.base.Base.{Base}
 use Rattle.nm_query.specs.declared.query.Query.{Query}
 
 -- ---- what is so of all stays so

@@ -5,8 +5,8 @@ use Rattle.std.proofs.lemmas.List.{length-drop, length-map, length-take}
 use Rattle.std.proofs.lemmas.Slice.Eq.{bytes_eq-Decides}
 use Rattle.std.specs.List.{prefix_len}
 use Rattle.nm_base.specs.Bounds.{is_white_space}
-use Rattle.nm_answer.specs.Json.{joined}
-use Rattle.nm_answer.specs.Summary.{after_reply, is_reply, without_replies}
+use Rattle.nm_model_answer.specs.Json.{joined}
+use Rattle.nm_model_answer.specs.Summary.{after_reply, is_reply, without_replies}
 use Rattle.nm_render.specs.Joined.{after_first}
 use Rattle.nm_text.specs.WhiteSpace.{trimmed_start}
 

@@ -13,7 +13,7 @@ use Rattle.std.specs.declared.cmp.Ordering.TheVariants.{Less, Equal, Greater}
 use Rattle.nm_base.specs.Order.{IsSorted, has_text, insert, same_text, sorted}
 use Rattle.nm_base.specs.OrderLaws.{IsSorted-sorted, above_all, turned}
 use Rattle.nm_base.specs.SetLaws.{bytes_same, has_text-sorted}
-use Rattle.nm_answer.specs.Listing.{at_rank, by_rank}
+use Rattle.nm_model_answer.specs.Listing.{at_rank, by_rank}
 
 -- ---- two lists of texts in order that have the same texts are one
 

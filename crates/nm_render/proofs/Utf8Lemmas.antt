@@ -7,7 +7,7 @@ use Rattle.std.proofs.lemmas.Str.{encode_ascii, inside_one, IsCharBoundary-after
 use Rattle.std.specs.Char.{to_ascii_lowercase}
 use Rattle.std.specs.List.{prefix_len, AllByRecursion}
 use lib.Utf8.{encode, encodes, low_scalar, scalar, scalars}
-use Rattle.nm_answer.specs.Summary.{after_reply, bare_subject, is_reply, shown, shown_byte, without_replies}
+use Rattle.nm_model_answer.specs.Summary.{after_reply, bare_subject, is_reply, shown, shown_byte, without_replies}
 use Rattle.nm_base.specs.Bounds.{is_white_space}
 use Rattle.nm_text.specs.WhiteSpace.{trimmed_start}
 

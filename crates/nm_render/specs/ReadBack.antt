@@ -6,9 +6,9 @@ use Rattle.serde_json.specs.View.{items_of}
 use Rattle.nm_base.specs.declared.asks.SearchAsk.{SearchAsk}
 use Rattle.nm_base.specs.declared.forms.Output.{Output}
 use Rattle.nm_base.specs.declared.forms.Output.TheVariants.{Summary, Threads, Messages, Files, Tags}
-use Rattle.nm_index.specs.declared.base.Base.{Base}
-use Rattle.nm_answer.specs.Search.{part_asked, paths_of_all, tags_of_all, thread_digits, threads_of}
-use Rattle.nm_answer.specs.Summary.{summary_of}
+use Rattle.nm_model_index.specs.declared.base.Base.{Base}
+use Rattle.nm_model_answer.specs.Search.{part_asked, paths_of_all, tags_of_all, thread_digits, threads_of}
+use Rattle.nm_model_answer.specs.Summary.{summary_of}
 use Rattle.nm_render.specs.SummaryData.{summary_data}
 
 -- JSON that is read as an array of these values, and LF

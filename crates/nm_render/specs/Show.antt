@@ -2,7 +2,7 @@
 use Rattle.std.specs.Prelude.{◌≡◌, ℕ, List, Some, IsTrue, length, ⊤}
 use Rattle.nm_base.specs.declared.asks.ShowAsk.{ShowAsk}
 use Rattle.nm_maildir.specs.declared.given.Given.{Given}
-use Rattle.nm_answer.specs.Show.{first_lost, gone_path, is_not_one}
+use Rattle.nm_model_answer.specs.Show.{first_lost, gone_path, is_not_one}
 use Rattle.nm_render.specs.declared.show.ShowError.{ShowError}
 use Rattle.nm_render.specs.declared.show.ShowError.TheVariants.{NotOne, Gone, NoMemory}
 

@@ -3,8 +3,8 @@ use Rattle.std.specs.Prelude.{map, codes, IsUtf8}
 use Rattle.serde_json.specs.Data.{Data, array, member, no_members, number, object, put, string, unsigned, Members}
 use Rattle.serde_json.specs.Find.{of_integer}
 use Rattle.serde_json.specs.View.{items_of}
-use Rattle.nm_answer.specs.Search.{thread_digits}
-use Rattle.nm_answer.specs.declared.summary.ThreadSummary.{ThreadSummary}
+use Rattle.nm_model_answer.specs.Search.{thread_digits}
+use Rattle.nm_model_answer.specs.declared.summary.ThreadSummary.{ThreadSummary}
 
 -- the authors and the subject are texts
 pub record HasTexts (summary : ThreadSummary) : Type 0 where

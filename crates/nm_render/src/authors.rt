@@ -2,7 +2,7 @@
 
 ghost use Rattle.std.specs.Prelude.{◌≡◌, ◌++◌, [], ◌∷◌, map, string_bytes, IfOk, IsUtf8, OnOk};
 ghost use Rattle.std.specs.List.{filter};
-ghost use Rattle.nm_answer.specs.Summary.{author_of, authors_of, authors_text, first_author, is_some_text, mailbox_author, others_of, with_others};
+ghost use Rattle.nm_model_answer.specs.Summary.{author_of, authors_of, authors_text, first_author, is_some_text, mailbox_author, others_of, with_others};
 
 use crate::lists::{each_once, others_of};
 use crate::order::ordered;

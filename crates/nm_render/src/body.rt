@@ -3,7 +3,7 @@
 
 ghost use Rattle.std.specs.Prelude.{◌≡◌, ◌++◌, OnOk};
 ghost use Rattle.std.specs.List.{flat_map};
-ghost use Rattle.nm_answer.specs.Show.{body_text, ended, given_text};
+ghost use Rattle.nm_model_answer.specs.Show.{body_text, ended, given_text};
 ghost use Rattle.nm_extract.specs.PartText.{bodies_of};
 
 use nm_base::{Many, NoMemory};

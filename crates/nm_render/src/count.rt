@@ -5,10 +5,10 @@ ghost use Rattle.std.specs.BTreeSet.{insert_key};
 ghost use Rattle.std.specs.Fmt.{decimal};
 ghost use Rattle.std.specs.List.{filter_map};
 ghost use Rattle.std.specs.Ordering.{nat_cmp};
-ghost use Rattle.nm_answer.specs.Count.{count_found, count_text, counted, counts_found, files_of_all, thread_names};
-ghost use Rattle.nm_answer.specs.View.{files_of};
+ghost use Rattle.nm_model_answer.specs.Count.{count_found, count_text, counted, counts_found, files_of_all, thread_names};
+ghost use Rattle.nm_model_answer.specs.View.{files_of};
 ghost use Rattle.nm_dates.specs.Seconds.{IsMoment};
-ghost use Rattle.nm_index.specs.Index.{rows_of};
+ghost use Rattle.nm_model_index.specs.Index.{rows_of};
 ghost use Rattle.nm_threads.specs.Name.{thread_name};
 
 use crate::cursor::Cursor;

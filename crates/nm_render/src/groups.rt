@@ -2,8 +2,8 @@
 
 ghost use Rattle.std.specs.Prelude.{◌≡◌, ◌==◌, ◌++◌, ℕ, [], ◌∷◌, Some, true, nat_eq, if◌then◌else◌, IfOk, OnOk};
 ghost use Rattle.std.specs.List.{list_any};
-ghost use Rattle.nm_answer.specs.Summary.{in_thread};
-ghost use Rattle.nm_answer.specs.Test.{is_thread};
+ghost use Rattle.nm_model_answer.specs.Summary.{in_thread};
+ghost use Rattle.nm_model_answer.specs.Test.{is_thread};
 ghost use Rattle.nm_render.specs.Groups.{listed};
 
 use crate::cursor::Cursor;

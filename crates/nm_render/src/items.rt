@@ -2,7 +2,7 @@
 
 ghost use Rattle.std.specs.Prelude.{◌≡◌, [], true, codes, map, IfOk};
 ghost use Rattle.serde_json.specs.Data.{string};
-ghost use Rattle.nm_answer.specs.Search.{part_asked, paths_of_all, tags_of_all, texts_printed, thread_digits, threads_of};
+ghost use Rattle.nm_model_answer.specs.Search.{part_asked, paths_of_all, tags_of_all, texts_printed, thread_digits, threads_of};
 ghost use Rattle.nm_render.specs.ReadBack.{ReadsBack};
 
 use crate::lists::{part_of, paths_of_all, tags_of_all, threads_asked};

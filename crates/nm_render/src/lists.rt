@@ -4,9 +4,9 @@ ghost use Rattle.std.specs.Prelude.{◌≡◌, ◌≤◌, ◌++◌, ℕ, List, m
 ghost use Rattle.std.specs.List.{filter, list_any};
 ghost use Rattle.nm_base.specs.Order.{insert};
 ghost use Rattle.nm_base.specs.Tags.{with_tag};
-ghost use Rattle.nm_answer.specs.Listing.{each_once, part_of};
-ghost use Rattle.nm_answer.specs.Search.{part_asked, paths_of_all, tags_of_all, threads_of};
-ghost use Rattle.nm_answer.specs.View.{files_of, tags_of};
+ghost use Rattle.nm_model_answer.specs.Listing.{each_once, part_of};
+ghost use Rattle.nm_model_answer.specs.Search.{part_asked, paths_of_all, tags_of_all, threads_of};
+ghost use Rattle.nm_model_answer.specs.View.{files_of, tags_of};
 
 use crate::cursor::Cursor;
 use nm_base::{Copies, Many, MessageId, NoMemory, SearchAsk, Tag, Tags, Text, TextSet};

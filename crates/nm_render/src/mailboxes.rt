@@ -1,8 +1,8 @@
 //! Mailboxes as `show` prints them, for `message`: `NAME <ADDRESS>`, or the address alone.
 
 ghost use Rattle.std.specs.Prelude.{◌≡◌, ◌++◌, codes, map, IfOk, OnOk};
-ghost use Rattle.nm_answer.specs.Show.{lead_from, mailbox_text, mailboxes_text};
-ghost use Rattle.nm_answer.specs.View.{files_of};
+ghost use Rattle.nm_model_answer.specs.Show.{lead_from, mailbox_text, mailboxes_text};
+ghost use Rattle.nm_model_answer.specs.View.{files_of};
 ghost use Rattle.nm_render.specs.Joined.{after_first};
 
 use nm_base::{Mailbox, Many, MessageId, NoMemory};

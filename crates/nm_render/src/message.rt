@@ -1,11 +1,11 @@
 //! Messages as `show` prints them, for `show_text`: the lines of their fields, and their bodies.
 
 ghost use Rattle.std.specs.Prelude.{◌≡◌, ◌++◌, codes, map, IfOk, OnOk};
-ghost use Rattle.nm_answer.specs.Json.{joined};
-ghost use Rattle.nm_answer.specs.Search.{item_line, lines_text, message_date};
-ghost use Rattle.nm_answer.specs.Show.{fields_text, head_text, lead_from, mailboxes_text, marks_text, message_text, messages_text, names_text};
-ghost use Rattle.nm_answer.specs.Summary.{lead_subject, shown, shown_day};
-ghost use Rattle.nm_answer.specs.View.{files_of, tags_of};
+ghost use Rattle.nm_model_answer.specs.Json.{joined};
+ghost use Rattle.nm_model_answer.specs.Search.{item_line, lines_text, message_date};
+ghost use Rattle.nm_model_answer.specs.Show.{fields_text, head_text, lead_from, mailboxes_text, marks_text, message_text, messages_text, names_text};
+ghost use Rattle.nm_model_answer.specs.Summary.{lead_subject, shown, shown_day};
+ghost use Rattle.nm_model_answer.specs.View.{files_of, tags_of};
 
 use crate::body::push_given;
 use crate::items::texts_of_tags;

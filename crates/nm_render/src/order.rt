@@ -1,8 +1,8 @@
 //! The messages that a search finds, in its order, for `search` and `show`.
 
 ghost use Rattle.std.specs.Prelude.{◌≡◌, ◌-ℤ◌, pos, map, if◌then◌else◌, IfOk};
-ghost use Rattle.nm_answer.specs.Search.{message_date, ordered, rank_of};
-ghost use Rattle.nm_answer.specs.View.{lead_date};
+ghost use Rattle.nm_model_answer.specs.Search.{message_date, ordered, rank_of};
+ghost use Rattle.nm_model_answer.specs.View.{lead_date};
 
 use nm_base::{Many, MessageId, NoMemory};
 use nm_state::{MessageFiles, Snapshot};

@@ -1,8 +1,8 @@
 //! The reply to a search: `nm_session` answers with it, and `nm_core` judges replies by it.
 
 ghost use Rattle.std.specs.Prelude.{◌≡◌, true, IfOk};
-ghost use Rattle.nm_answer.specs.Found.{found_text, search_found, summaries_text};
-ghost use Rattle.nm_answer.specs.Search.{found_in_order};
+ghost use Rattle.nm_model_answer.specs.Found.{found_text, search_found, summaries_text};
+ghost use Rattle.nm_model_answer.specs.Search.{found_in_order};
 ghost use Rattle.nm_dates.specs.Seconds.{IsMoment};
 ghost use Rattle.nm_base.specs.declared.forms.Output.TheVariants.{Summary};
 ghost use Rattle.nm_render.specs.ReadBack.{ReadsBack, found_data};

@@ -2,8 +2,8 @@
 //! those reads gave.
 
 ghost use Rattle.std.specs.Prelude.{◌≡◌, ◌++◌, false, length, IfErr, IfOk, None, OnOk, is_ok};
-ghost use Rattle.nm_answer.specs.Show.{first_lost, gone_path, is_not_one, lead_path, lead_paths, raw_text, show_text, shown_ids};
-ghost use Rattle.nm_answer.specs.View.{files_of};
+ghost use Rattle.nm_model_answer.specs.Show.{first_lost, gone_path, is_not_one, lead_path, lead_paths, raw_text, show_text, shown_ids};
+ghost use Rattle.nm_model_answer.specs.View.{files_of};
 ghost use Rattle.nm_dates.specs.Seconds.{IsMoment};
 ghost use Rattle.nm_render.specs.Show.{IsGone, IsIdsFault, IsRawFault, IsTextFault};
 

@@ -1,9 +1,9 @@
 //! Texts as a summary shows them, for `summary`, `authors` and `message`.
 
 ghost use Rattle.std.specs.Prelude.{◌≡◌, ◌≤◌, ◌++◌, length, IfOk, IsUtf8, OnOk, string_bytes};
-ghost use Rattle.nm_answer.specs.Json.{joined};
+ghost use Rattle.nm_model_answer.specs.Json.{joined};
 ghost use Rattle.nm_render.specs.Joined.{after_first};
-ghost use Rattle.nm_answer.specs.Summary.{after_reply, bare_subject, in_range, is_reply, shown, shown_byte, shown_day};
+ghost use Rattle.nm_model_answer.specs.Summary.{after_reply, bare_subject, in_range, is_reply, shown, shown_byte, shown_day};
 ghost use Rattle.nm_dates.specs.Seconds.{IsShownSecond};
 
 use nm_base::{Many, NoMemory, Text};

@@ -3,10 +3,10 @@
 ghost use Rattle.std.specs.Prelude.{◌≡◌, ◌++◌, codes, IfOk, IsUtf8, OnOk};
 ghost use Rattle.std.specs.Fmt.{decimal};
 ghost use Rattle.std.specs.List.{flat_map};
-ghost use Rattle.nm_answer.specs.Count.{files_of_all};
-ghost use Rattle.nm_answer.specs.Json.{joined};
-ghost use Rattle.nm_answer.specs.Summary.{counts_told, files_told, first_date, first_subject, lead_subject, mail_told, members_of, name_told, shown_day, subject_of, summary_by, summary_line, summary_lines, thread_told};
-ghost use Rattle.nm_answer.specs.View.{files_of};
+ghost use Rattle.nm_model_answer.specs.Count.{files_of_all};
+ghost use Rattle.nm_model_answer.specs.Json.{joined};
+ghost use Rattle.nm_model_answer.specs.Summary.{counts_told, files_told, first_date, first_subject, lead_subject, mail_told, members_of, name_told, shown_day, subject_of, summary_by, summary_line, summary_lines, thread_told};
+ghost use Rattle.nm_model_answer.specs.View.{files_of};
 ghost use Rattle.nm_render.specs.Groups.{listed};
 ghost use Rattle.nm_render.specs.SummaryData.{HasTexts};
 
@@ -18,8 +18,8 @@ use crate::lists::{others_of, tags_of_all, threads_asked};
 use crate::order::date_by_hint;
 use crate::shown::{bare_subject, joined, shown, shown_day};
 use itoa::Buffer;
-use nm_answer::ThreadSummary;
 use nm_base::{Many, MessageId, NoMemory, SearchAsk};
+use nm_model_answer::ThreadSummary;
 use nm_state::Snapshot;
 use std::alloc::Global;
 
@@ -82,7 +82,14 @@ pub(crate) fn thread_summary(
     let matched = listed(matched, name);
     let members = snapshot.thread_messages(name)?;
     let slot_hint = place_by_hint(snapshot, members.as_slice(), name);
-    let summary = summary_by(alloc, snapshot, name, matched, members.as_slice(), slot_hint)?;
+    let summary = summary_by(
+        alloc,
+        snapshot,
+        name,
+        matched,
+        members.as_slice(),
+        slot_hint,
+    )?;
     Ok(summary)
 }
 

@@ -5,7 +5,7 @@ ghost use Rattle.serde_json.specs.Data.{array, depth, string};
 ghost use Rattle.serde_json.specs.Read.{max_depth, read};
 ghost use Rattle.serde_json.specs.View.{items_of, view};
 ghost use Rattle.serde_json.specs.Written.{compact_text, has_float};
-ghost use Rattle.nm_answer.specs.Search.{item_line, lines_text, strings_json, texts_printed};
+ghost use Rattle.nm_model_answer.specs.Search.{item_line, lines_text, strings_json, texts_printed};
 ghost use Rattle.nm_render.specs.ReadBack.{ReadsBack};
 
 use nm_base::{Many, NoMemory, Text};

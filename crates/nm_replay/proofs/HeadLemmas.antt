@@ -4,7 +4,7 @@ use Rattle.nm_commit.specs.declared.change.Commit.{Commit}
 use Rattle.nm_disk.specs.Calls.{GoesOn}
 use Rattle.nm_disk.specs.Observed.{Moments, bytes_now}
 use Rattle.nm_disk.specs.declared.disk.FileNo.TheVariants.{Head}
-use Rattle.nm_index.specs.declared.base.Base.{Base}
+use Rattle.nm_model_index.specs.declared.base.Base.{Base}
 use Rattle.nm_journal.specs.Journal.{JournalState, StandsOn}
 use Rattle.nm_journal.specs.Records.{HasRecords}
 use Rattle.nm_replay.proofs.ReplayLemmas.{Replayed}

@@ -6,7 +6,7 @@ ghost use Rattle.nm_disk.specs.Calls.{GoesOn};
 ghost use Rattle.nm_disk.specs.CrashStates.{MayLeave};
 ghost use Rattle.nm_disk.specs.Observed.{bytes_now};
 ghost use Rattle.nm_faults.specs.Faults.{HasCauseOf};
-ghost use Rattle.nm_index.specs.Index.{empty_index};
+ghost use Rattle.nm_model_index.specs.Index.{empty_index};
 ghost use Rattle.nm_journal.specs.Journal.{StandsOn};
 ghost use Rattle.nm_journal.specs.Moments.{GoesThrough, IsSynced, SyncsOrFails};
 ghost use Rattle.nm_replay.specs.OpenFaults.{HasOpenFault, IsOfHead, is_disk_fault};

@@ -5,8 +5,8 @@ ghost use Rattle.std.specs.Prelude.{◌≡◌, ◌++◌, ◌∷◌, [], ℕ, Lis
 ghost use Rattle.nm_base.specs.declared.limit.Limit.{Limit};
 ghost use Rattle.nm_commit.specs.Files.{Fits};
 ghost use Rattle.nm_commit.specs.declared.change.Commit.{Commit};
-ghost use Rattle.nm_index.specs.Index.{committed};
-ghost use Rattle.nm_index.specs.declared.base.Base.{Base};
+ghost use Rattle.nm_model_index.specs.Index.{committed};
+ghost use Rattle.nm_model_index.specs.declared.base.Base.{Base};
 ghost use Rattle.nm_record.specs.CommitGrammar.{commit_grammar};
 ghost use Rattle.nm_replay.specs.StoredIndex.{HasCommits, HoldsIndex, HoldsNoIndex, HoldsWithin, PassesLimit};
 

@@ -4,7 +4,7 @@
 ghost use Rattle.std.specs.Prelude.{◌≡◌, ◌≤◌, ◌<◌, ◌^◌, IfOk, OnOk, Err, Some, None};
 ghost use Rattle.nm_base.specs.declared.limit.Limit.{Limit};
 ghost use Rattle.nm_commit.specs.Files.{Fits};
-ghost use Rattle.nm_index.specs.Index.{committed};
+ghost use Rattle.nm_model_index.specs.Index.{committed};
 ghost use Rattle.nm_record.specs.Room.{limit_passed};
 
 use nm_base::NoMemory;

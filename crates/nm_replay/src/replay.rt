@@ -4,7 +4,7 @@ ghost use Rattle.std.specs.Prelude.{◌≡◌, IfErr, IfOk, List, None};
 ghost use Rattle.std.specs.List.{AllZip};
 ghost use Rattle.nm_commit.specs.Files.{Fits};
 ghost use Rattle.nm_commit.specs.declared.change.Commit.{Commit};
-ghost use Rattle.nm_index.specs.Index.{committed, empty_index};
+ghost use Rattle.nm_model_index.specs.Index.{committed, empty_index};
 ghost use Rattle.nm_record.specs.Room.{limit_passed};
 ghost use Rattle.nm_replay.specs.OpenFaults.{HasBodyFault, IsAfterRead, IsOfHead, IsRead, IsRefusedCommit, IsRefusedRead, IsToldAt};
 ghost use Rattle.nm_replay.specs.StoredIndex.{HasCommits, StayWithin};

@@ -8,7 +8,7 @@ use Rattle.nm_base.specs.declared.facts.Facts.{Facts}
 use Rattle.nm_maildir.specs.Observed.{ObservedMail}
 use Rattle.nm_maildir.specs.Tree.{Tree}
 use Rattle.nm_maildir.specs.declared.given.Given.{Given}
-use Rattle.nm_plan.specs.Plan.{all_added}
+use Rattle.nm_model_plan.specs.Plan.{all_added}
 use Rattle.nm_scan.proofs.ReadLemmas.{NotesReads-append, Reads-append, begun_read, more_read, no_added, notes-none, read_with-more}
 use Rattle.nm_scan.specs.Batches.{HasReadBatch, HasReadBatches, HasReadSome, IsBatch, IsFull, IsOpen, IsUnfinished, ReadsBatches, StopsInBatch, len_at_all}
 use Rattle.nm_scan.specs.FileReads.{HasReadAll, NotesReads, Reads, full_answers, read_with}

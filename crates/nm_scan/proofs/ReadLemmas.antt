@@ -21,7 +21,7 @@ use Rattle.nm_maildir.specs.declared.given.ReadAnswer.{ReadAnswer}
 use Rattle.nm_maildir.specs.declared.given.ReadAnswer.TheVariants as answers
 use Rattle.nm_extract.specs.Mail.{facts_of}
 use Rattle.nm_maildir.specs.Observed.{ObservedMail}
-use Rattle.nm_answer.specs.NewText.{mail_at}
+use Rattle.nm_model_answer.specs.NewText.{mail_at}
 use Rattle.nm_scan.specs.FileReads.{NotesReads, Reads, answer_at, answers_at, answer_of, arrival, arrival_at, arrival_of, mail_in, read_of}
 use Rattle.nm_scan.specs.FileReads.{after_reads, read_with}
 use Rattle.nm_scan.specs.FileReads.{AsksOnce, HasReadAll, Classifies, found_in}

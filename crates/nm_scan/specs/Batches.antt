@@ -9,7 +9,7 @@ use Rattle.nm_maildir.specs.Tree.{Tree, got_of}
 use Rattle.nm_maildir.specs.declared.answers.Got.{Got}
 use Rattle.nm_maildir.specs.declared.answers.Got.TheVariants as got
 use Rattle.nm_maildir.specs.declared.given.Given.{Given}
-use Rattle.nm_plan.specs.Plan.{all_added}
+use Rattle.nm_model_plan.specs.Plan.{all_added}
 use Rattle.nm_scan.specs.FileReads.{HasRead, HasReadAll, NotesReads, Reads, full_answers}
 
 -- how many bytes a read finds

@@ -6,7 +6,7 @@ use Rattle.std.specs.Option.{option_map}
 use Rattle.nm_base.specs.declared.facts.Facts.{Facts}
 use Rattle.nm_base.specs.declared.refusals.Skip.{Skip}
 use Rattle.nm_base.specs.Limits.{IsDate, max_mail_bytes}
-use Rattle.nm_answer.specs.NewText.{mail_at, skip_at}
+use Rattle.nm_model_answer.specs.NewText.{mail_at, skip_at}
 use Rattle.nm_commit.specs.Files.{paths_of}
 use Rattle.nm_extract.specs.Mail.{facts_of}
 use Rattle.nm_maildir.specs.Tree.{Tree, got_of}

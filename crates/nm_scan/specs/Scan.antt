@@ -6,7 +6,7 @@ use Rattle.nm_maildir.specs.Observed.{ObservedMail}
 use Rattle.nm_maildir.specs.Tree.{Tree}
 use Rattle.nm_maildir.specs.declared.given.Given.{Given}
 use Rattle.nm_maildir.specs.declared.given.Given.TheVariants.{Listed}
-use Rattle.nm_plan.specs.Plan.{to_read}
+use Rattle.nm_model_plan.specs.Plan.{to_read}
 use Rattle.nm_scan.specs.Batches.{IsUnfinished, ReadsBatches}
 use Rattle.nm_scan.specs.Listing.{IsListing}
 use Rattle.nm_scan.specs.FileReads.{ReadsFirst, full_answers}

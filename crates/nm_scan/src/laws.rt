@@ -7,7 +7,7 @@ ghost use Rattle.nm_base.specs.declared.facts.Facts.{Facts};
 ghost use Rattle.nm_maildir.specs.Observed.{ObservedMail};
 ghost use Rattle.nm_maildir.specs.Tree.{Tree};
 ghost use Rattle.nm_maildir.specs.declared.given.Given.{Given};
-ghost use Rattle.nm_plan.specs.Plan.{all_added};
+ghost use Rattle.nm_model_plan.specs.Plan.{all_added};
 ghost use Rattle.nm_scan.specs.Batches.{HasReadBatch, HasReadBatches, HasReadSome, ReadsBatches, StopsInBatch, len_at_all};
 ghost use Rattle.nm_base.specs.Order.{has_text, sorted};
 ghost use Rattle.nm_scan.specs.Bodies.{left_after};

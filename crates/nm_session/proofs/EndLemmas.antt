@@ -14,11 +14,11 @@ use Rattle.nm_history.specs.LineResult.{Place, StandsAt}
 use Rattle.nm_history.specs.Lines.{Before, RunLine, after_lines, at_first, lane_zero_lines, other_lane_lines, run_lines}
 use Rattle.nm_history.specs.MachineRun.{MachineRun}
 use Rattle.nm_history.specs.PrintedOut.{AreLogsOf, GainsReplies}
-use Rattle.nm_index.specs.declared.base.Base.{Base}
+use Rattle.nm_model_index.specs.declared.base.Base.{Base}
 use Rattle.nm_lanes.specs.declared.script.Phase.{Phase}
 use Rattle.nm_log.specs.declared.log.LineLog.{LineLog}
 use Rattle.nm_log.specs.declared.log.SessionLog.{SessionLog}
-use Rattle.nm_machine.specs.declared.step.Step.{Step}
+use Rattle.nm_model_machine.specs.declared.step.Step.{Step}
 use Rattle.nm_maildir.specs.Observed.{ObservedMail}
 use Rattle.nm_session.specs.Loop.{HasNoted, HasRunSome, StandFor, lines_at, steps_at}
 use Rattle.nm_trace.specs.Trace.{steps_of}

@@ -14,13 +14,13 @@ use Rattle.nm_history.specs.LineResult.{CommitNothing, IsLineResult, IsLaneReadR
 use Rattle.nm_history.specs.Lines.{RunLine, at_first, is_in_lane_zero, lane_zero_lines, other_lane_lines, run_lines}
 use Rattle.nm_history.specs.MachineRun.{MachineRun, Replied, lane_count, reply_to}
 use Rattle.nm_history.specs.PrintedOut.{AreLogsOf, IsNumbered}
-use Rattle.nm_index.specs.Index.{folded}
-use Rattle.nm_index.specs.declared.base.Base.{Base}
+use Rattle.nm_model_index.specs.Index.{folded}
+use Rattle.nm_model_index.specs.declared.base.Base.{Base}
 use Rattle.nm_lanes.specs.declared.script.ScriptLine.{ScriptLine}
 use Rattle.nm_log.specs.ParsedLine.{parse_line}
 use Rattle.nm_log.specs.declared.log.LineLog.{LineLog}
-use Rattle.nm_machine.specs.declared.step.Step.{Step}
-use Rattle.nm_machine.specs.declared.step.Step.TheVariants.{Meet}
+use Rattle.nm_model_machine.specs.declared.step.Step.{Step}
+use Rattle.nm_model_machine.specs.declared.step.Step.TheVariants.{Meet}
 use Rattle.nm_phase.specs.LineLog.{IsNoted}
 use Rattle.nm_phase.specs.LaneLog.{IsLaneReadNoted}
 use Rattle.nm_phase.specs.Taken.{IsBarrierNoted, IsTurn}

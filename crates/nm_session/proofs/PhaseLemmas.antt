@@ -2,7 +2,7 @@
 use Rattle.std.proofs.Common.{◌≡◌, inl, inr, ℕ, ℤ, ◌+◌, ◌≤◌, List, [], ◌∷◌, ◌++◌, length, refl, sym, ap, ◌∙◌, subst, arith, append-nil, append_assoc}
 use Rattle.nm_history.specs.Call.{Devices}
 use Rattle.nm_history.specs.LineResult.{Place}
-use Rattle.nm_index.specs.declared.base.Base.{Base}
+use Rattle.nm_model_index.specs.declared.base.Base.{Base}
 use Rattle.nm_log.specs.declared.log.LineLog.{LineLog}
 use Rattle.nm_publish.specs.Published.{Published}
 use Rattle.nm_phase.specs.Taken.{AreTaken, IsTurn}

@@ -2,7 +2,7 @@
 use Rattle.std.proofs.Common.{◌≡◌, ℕ, ◌≤◌, true, false, List, [], ◌∷◌, ◌++◌, drop, length, take, zero, suc, refl, sym, ap, ◌∙◌, subst, arith}
 use Rattle.nm_commit.specs.declared.change.Commit.{Commit}
 use Rattle.nm_history.specs.LineResult.{LeaveAlone, shows}
-use Rattle.nm_machine.specs.declared.step.Step.{Step}
+use Rattle.nm_model_machine.specs.declared.step.Step.{Step}
 use Rattle.nm_session.specs.Loop.{StandFor}
 use Rattle.nm_trace.specs.Trace.{AreOfOthers, made_in, steps_of}
 use Rattle.nm_trace.specs.declared.trace.Mark.{Mark}

@@ -6,7 +6,7 @@ use Rattle.nm_base.specs.Limits.{max_commits}
 use Rattle.nm_history.specs.Call.{Devices, PlacedLine, lines_of_lane}
 use Rattle.nm_history.specs.LineResult.{Place}
 use Rattle.nm_history.specs.PrintedOut.{AreLogsOf, GainsReplies, HandsOnReplies}
-use Rattle.nm_index.specs.declared.base.Base.{Base}
+use Rattle.nm_model_index.specs.declared.base.Base.{Base}
 use Rattle.nm_io.specs.Observed.{ObservedSink}
 use Rattle.nm_lanes.specs.declared.script.Phase.{Phase}
 use Rattle.nm_log.specs.declared.log.LineLog.{LineLog}

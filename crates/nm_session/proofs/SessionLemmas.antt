@@ -12,10 +12,10 @@ use Rattle.nm_faults.specs.Faults.{Counts}
 use Rattle.nm_history.specs.CrashPrefix.{CrashPrefix, KeepsDisk, appends}
 use Rattle.nm_history.specs.Lines.{begun}
 use Rattle.nm_history.specs.OpeningIndex.{IsUnwritten}
-use Rattle.nm_index.specs.declared.base.Base.{Base}
+use Rattle.nm_model_index.specs.declared.base.Base.{Base}
 use Rattle.nm_journal.specs.Journal.{IfKnown}
 use Rattle.nm_journal.specs.Moments.{IsSynced, SyncsOrFails}
-use Rattle.nm_machine.specs.declared.step.Step.{Step}
+use Rattle.nm_model_machine.specs.declared.step.Step.{Step}
 use Rattle.nm_session.specs.Session.{HasOpenCause}
 use Rattle.nm_writer.specs.Durable.{KeptSince, NeverFall}
 use Rattle.nm_replay.specs.OpenFaults.{HasOpenFault, IsOfHead, is_disk_fault}

@@ -11,8 +11,8 @@ use Rattle.nm_log.specs.declared.line_parser.ParsedLine.{ParsedLine}
 use Rattle.nm_log.specs.declared.line_parser.ParsedLine.TheVariants as asked
 use Rattle.nm_log.specs.declared.outcome.Outcome.{Outcome}
 use Rattle.nm_log.specs.declared.outcome.Outcome.TheVariants as outcomes
-use Rattle.nm_machine.specs.declared.step.Step.{Step}
-use Rattle.nm_machine.specs.declared.step.Step.TheVariants as steps
+use Rattle.nm_model_machine.specs.declared.step.Step.{Step}
+use Rattle.nm_model_machine.specs.declared.step.Step.TheVariants as steps
 use Rattle.nm_session.specs.Loop.{StandFor}
 use Rattle.nm_trace.specs.Trace.{begun_mark, line_marks, lane_read_marks, reply_mark, said_mark, said_marks, steps_of}
 use Rattle.nm_trace.specs.declared.trace.Mark.{Mark}

@@ -11,8 +11,8 @@ use Rattle.nm_history.specs.LineResult.{Place, StandsAt}
 use Rattle.nm_history.specs.Lines.{RunLine, at_first, lane_zero_lines, other_lane_lines, run_lines}
 use Rattle.nm_history.specs.MachineRun.{MachineRun}
 use Rattle.nm_history.specs.PrintedOut.{AreLogsOf}
-use Rattle.nm_index.specs.declared.base.Base.{Base}
-use Rattle.nm_machine.specs.declared.step.Step.{Step}
+use Rattle.nm_model_index.specs.declared.base.Base.{Base}
+use Rattle.nm_model_machine.specs.declared.step.Step.{Step}
 use Rattle.nm_line.specs.Line.{IsEven}
 use Rattle.nm_trace.specs.Trace.{steps_of}
 use Rattle.nm_phase.specs.Turns.{Planned}

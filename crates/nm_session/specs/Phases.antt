@@ -3,7 +3,7 @@ use Rattle.std.specs.Prelude.{◌≡◌, ℕ, ℤ, ◌≤◌, Bool, List, length
 use Rattle.nm_history.specs.Call.{Devices}
 use Rattle.nm_history.specs.LineResult.{Place}
 use Rattle.nm_history.specs.PrintedOut.{GainsReplies}
-use Rattle.nm_index.specs.declared.base.Base.{Base}
+use Rattle.nm_model_index.specs.declared.base.Base.{Base}
 use Rattle.nm_io.specs.Observed.{ObservedSink}
 use Rattle.nm_lanes.specs.declared.script.Phase.{Phase}
 use Rattle.nm_maildir.specs.Observed.{ObservedMail}

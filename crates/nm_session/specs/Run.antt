@@ -11,7 +11,7 @@ use Rattle.nm_history.specs.LineCommits.{LineCommits}
 use Rattle.nm_history.specs.Lines.{RunLine, after_lines, at_first, begun, lane_zero_lines, other_lane_lines, run_lines}
 use Rattle.nm_history.specs.MachineRun.{MachineRun}
 use Rattle.nm_history.specs.PrintedOut.{AreLogsOf, GainsReplies}
-use Rattle.nm_index.specs.declared.base.Base.{Base}
+use Rattle.nm_model_index.specs.declared.base.Base.{Base}
 use Rattle.nm_io.specs.Observed.{ObservedSink}
 use Rattle.nm_lanes.specs.declared.script.Phase.{Phase}
 use Rattle.nm_log.specs.declared.log.SessionLog.{SessionLog}

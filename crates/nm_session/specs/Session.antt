@@ -7,7 +7,7 @@ use Rattle.nm_faults.specs.Faults.{HasRisen}
 use Rattle.nm_history.specs.Call.{Devices, Ran}
 use Rattle.nm_history.specs.CrashPrefix.{CrashPrefix}
 use Rattle.nm_history.specs.OpeningIndex.{IsUnwritten, OpeningIndex}
-use Rattle.nm_index.specs.declared.base.Base.{Base}
+use Rattle.nm_model_index.specs.declared.base.Base.{Base}
 use Rattle.nm_io.specs.Observed.{ObservedSink}
 use Rattle.nm_lanes.specs.declared.script.Phase.{Phase}
 use Rattle.nm_log.specs.declared.log.SessionLog.{SessionLog}

@@ -10,13 +10,13 @@ use Rattle.nm_history.specs.LineCommits.{LineCommits}
 use Rattle.nm_history.specs.LineResult.{CommitNothing, IsLineResult, IsLaneReadResult, Place, StandsAt, lane_read_steps}
 use Rattle.nm_history.specs.Lines.{Before, RunLine, at_first, lane_zero_lines}
 use Rattle.nm_history.specs.MachineRun.{MachineRun, Replied, replied_where}
-use Rattle.nm_index.specs.declared.base.Base.{Base}
+use Rattle.nm_model_index.specs.declared.base.Base.{Base}
 use Rattle.nm_lanes.specs.declared.script.ScriptLine.{ScriptLine}
 use Rattle.nm_line.specs.Line.{IsEven, IsLineAnswer}
 use Rattle.nm_log.specs.declared.line_parser.ParsedLine.{ParsedLine}
 use Rattle.nm_log.specs.declared.outcome.Outcome.{Outcome}
-use Rattle.nm_machine.specs.declared.step.Step.{Step}
-use Rattle.nm_machine.specs.declared.step.Step.TheVariants.{Meet}
+use Rattle.nm_model_machine.specs.declared.step.Step.{Step}
+use Rattle.nm_model_machine.specs.declared.step.Step.TheVariants.{Meet}
 use Rattle.nm_maildir.specs.Observed.{ObservedMail}
 use Rattle.nm_maildir.specs.Tree.{Tree}
 use Rattle.nm_maildir.specs.declared.given.Given.{Given}

@@ -4,7 +4,7 @@ ghost use Rattle.std.specs.Prelude.{◌≡◌, ◌≤◌, ◌∷◌, ℕ, List, 
 ghost use Rattle.nm_base.specs.Limits.{max_commits, max_mail_bytes};
 ghost use Rattle.nm_disk.specs.Observed.{ObservedDisk};
 ghost use Rattle.nm_history.specs.Call.{devices, single_phase};
-ghost use Rattle.nm_index.specs.declared.base.Base.{Base};
+ghost use Rattle.nm_model_index.specs.declared.base.Base.{Base};
 ghost use Rattle.nm_io.specs.Observed.{ObservedSink, ObservedStream};
 ghost use Rattle.nm_line.specs.Desk.{IsReady};
 ghost use Rattle.nm_line.specs.Line.{place_at};

@@ -5,7 +5,7 @@ ghost use Rattle.std.specs.List.{All, AllZip};
 ghost use Rattle.nm_base.specs.Limits.{max_commits};
 ghost use Rattle.nm_dates.specs.Seconds.{IsMoment};
 ghost use Rattle.nm_disk.specs.Observed.{ObservedDisk};
-ghost use Rattle.nm_index.specs.declared.base.Base.{Base};
+ghost use Rattle.nm_model_index.specs.declared.base.Base.{Base};
 ghost use Rattle.nm_lanes.specs.declared.script.Phase.{Phase};
 ghost use Rattle.nm_line.specs.Desk.{Stands};
 ghost use Rattle.nm_line.specs.Line.{IsEven, place_at};

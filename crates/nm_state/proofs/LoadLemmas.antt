@@ -18,9 +18,9 @@ use Rattle.nm_base.specs.Order.{IsSorted, same_text}
 use Rattle.nm_base.specs.declared.facts.Facts.{Facts}
 use Rattle.nm_base.specs.declared.facts.LinkRow.{LinkRow}
 use Rattle.nm_commit.specs.Files.{has_path, paths_of}
-use Rattle.nm_index.specs.Index.{is_held, row_bytes, row_cmp, row_of, rows_of}
-use Rattle.nm_index.specs.Valid.{IsValid}
-use Rattle.nm_index.specs.declared.base.Base.{Base}
+use Rattle.nm_model_index.specs.Index.{is_held, row_bytes, row_cmp, row_of, rows_of}
+use Rattle.nm_model_index.specs.Valid.{IsValid}
+use Rattle.nm_model_index.specs.declared.base.Base.{Base}
 use Rattle.nm_threads.specs.Entries.{AreEntriesOf}
 use Rattle.nm_threads.specs.Labels.{AreLabelsOf, entries_of}
 use Rattle.nm_tables.specs.FileTable.{AreFiled, files_in}

@@ -4,7 +4,7 @@ use Rattle.std.specs.Prelude.{slice_index_or}
 use Rattle.std.proofs.lemmas.List.{take_more}
 use Rattle.nm_base.specs.Limits.{max_count}
 use Rattle.nm_commit.specs.declared.change.Change.{Change}
-use Rattle.nm_index.specs.Fits.{ids_named, named_ids}
+use Rattle.nm_model_index.specs.Fits.{ids_named, named_ids}
 
 named_push : (xs : List Change) (x : Change) → ids_named (xs ++ x ∷ []) ≡ ids_named xs + named_ids x
 named_push [] x = omega arith

@@ -16,9 +16,9 @@ use Rattle.nm_base.specs.declared.facts.Facts.{Facts}
 use Rattle.nm_commit.specs.Files.{has_id, with_moved, without_path}
 use Rattle.nm_commit.specs.declared.change.Change.{Change}
 use Rattle.nm_commit.specs.declared.change.Change.TheVariants.{Add, Drop, Move, SetTags}
-use Rattle.nm_index.specs.Index.{applied, files_at, first_tags, is_held, pruned, row_bytes, row_cmp, row_of, rows_of, with_mail, with_revision, without_first, without_mail}
-use Rattle.nm_index.specs.Valid.{IsValid}
-use Rattle.nm_index.specs.declared.base.Base.{Base}
+use Rattle.nm_model_index.specs.Index.{applied, files_at, first_tags, is_held, pruned, row_bytes, row_cmp, row_of, rows_of, with_mail, with_revision, without_first, without_mail}
+use Rattle.nm_model_index.specs.Valid.{IsValid}
+use Rattle.nm_model_index.specs.declared.base.Base.{Base}
 use Rattle.nm_record.specs.BaseBytes.{base_len, entry_bytes}
 use Rattle.nm_record.specs.Commits.{arrival_grammar, tagging_grammar}
 use Rattle.nm_threads.specs.Labels.{has_entry, numbered}

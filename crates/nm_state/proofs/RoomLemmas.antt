@@ -13,8 +13,8 @@ use Rattle.nm_base.specs.declared.limit.Limit.TheVariants.{Files, IndexBytes, Nu
 use Rattle.nm_base.specs.declared.facts.Facts.{Facts}
 use Rattle.nm_base.specs.declared.facts.LinkRow.{LinkRow}
 use Rattle.nm_codec.specs.Encoding.{text_bytes}
-use Rattle.nm_index.specs.Index.{row_bytes, with_revision}
-use Rattle.nm_index.specs.declared.base.Base.{Base}
+use Rattle.nm_model_index.specs.Index.{row_bytes, with_revision}
+use Rattle.nm_model_index.specs.declared.base.Base.{Base}
 use Rattle.nm_record.specs.BaseBytes.{base_len, entry_bytes}
 use Rattle.nm_record.specs.Commits.{arrival_grammar, tagging_grammar}
 use Rattle.nm_record.specs.Room.{limit_passed, max_number}

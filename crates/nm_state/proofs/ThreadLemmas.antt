@@ -2,8 +2,8 @@
 use Rattle.std.proofs.Common.{◌≡◌, refl, sym, ap, ◌∙◌, ℕ, Bool, true, false, cond, ◌==◌, List, [], ◌∷◌, map, filter, Option, Some}
 use Rattle.std.specs.Prelude.{Contains}
 use Rattle.nm_commit.specs.Files.{has_id}
-use Rattle.nm_index.specs.Index.{live_ids, rows_of}
-use Rattle.nm_index.specs.declared.base.Base.{Base}
+use Rattle.nm_model_index.specs.Index.{live_ids, rows_of}
+use Rattle.nm_model_index.specs.declared.base.Base.{Base}
 use Rattle.nm_threads.specs.Labels.{AreLabelsOf, Label, entries_of, named}
 use Rattle.nm_threads.specs.Name.{thread_name}
 use Rattle.nm_state.specs.Snapshot.{has_name, thread_messages}

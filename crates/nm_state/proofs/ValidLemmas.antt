@@ -12,8 +12,8 @@ use Rattle.nm_base.specs.Order.{IsSorted, has_text, same_text}
 use Rattle.nm_base.specs.declared.facts.Facts.{Facts}
 use Rattle.nm_base.specs.declared.facts.LinkRow.{LinkRow}
 use Rattle.nm_commit.specs.Files.{has_id, paths_of}
-use Rattle.nm_index.specs.Index.{has_entry, is_held, row_bytes, row_cmp, rows_of}
-use Rattle.nm_index.specs.Valid.{IsValid}
+use Rattle.nm_model_index.specs.Index.{has_entry, is_held, row_bytes, row_cmp, rows_of}
+use Rattle.nm_model_index.specs.Valid.{IsValid}
 use Rattle.nm_threads.specs.Labels.{IsLabelling, Label, entries_of}
 use Rattle.nm_threads.specs.Same.{ids_of}
 use Rattle.nm_tables.specs.FileTable.{AreFiled, at_text, files_in}

@@ -1,7 +1,7 @@
 -- What an index comes to. Cited by `room`.
 use Rattle.std.specs.Prelude.{◌≡◌, length, min}
 use Rattle.nm_base.specs.Limits.{max_count}
-use Rattle.nm_index.specs.declared.base.Base.{Base}
+use Rattle.nm_model_index.specs.declared.base.Base.{Base}
 use Rattle.nm_record.specs.BaseBytes.{base_len}
 use Rattle.nm_state.specs.declared.room.Counts.{Counts}
 

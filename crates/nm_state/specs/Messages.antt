@@ -4,7 +4,7 @@ use Rattle.std.specs.Borrow.{Bor}
 use Rattle.std.specs.List.{filter}
 use Rattle.nm_base.specs.Order.{same_text}
 use Rattle.nm_base.specs.declared.facts.Facts.{Facts}
-use Rattle.nm_index.specs.Index.{live_ids}
+use Rattle.nm_model_index.specs.Index.{live_ids}
 
 -- the message of an id, with its files in the order of their arrival
 abbrev pub with_files : List (List ℕ × Facts) → List ℕ → List ℕ × List (List ℕ × Facts)

@@ -1,6 +1,6 @@
 -- An index whose ids are numbered anew: it takes as many bytes. Cited by `fresh_numbers`.
 use Rattle.std.specs.Prelude.{ℕ, ◌+◌, List, [], ◌∷◌, length}
-use Rattle.nm_index.specs.declared.base.Base.{Base}
+use Rattle.nm_model_index.specs.declared.base.Base.{Base}
 
 -- the ids with the numbers from this one on
 abbrev pub counted : ℕ → List (List ℕ × ℕ) → List (List ℕ × ℕ)

@@ -1,8 +1,8 @@
 -- Words on snapshots, which are seen as the model's index. Cited by `messages`, `tag_overlay` and `snapshot`.
 use Rattle.std.specs.Prelude.{ℕ, Bool, false, ◌==◌, List, Option, Some, None, fold}
 use Rattle.std.specs.List.{filter}
-use Rattle.nm_index.specs.Index.{live_ids, rows_of, with_tags}
-use Rattle.nm_index.specs.declared.base.Base.{Base}
+use Rattle.nm_model_index.specs.Index.{live_ids, rows_of, with_tags}
+use Rattle.nm_model_index.specs.declared.base.Base.{Base}
 use Rattle.nm_threads.specs.Name.{thread_name}
 
 -- the index in which each of these messages has these tags and no others

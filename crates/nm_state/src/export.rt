@@ -4,12 +4,12 @@ ghost use Rattle.std.specs.Prelude.{◌≡◌, IfOk, OnOk};
 ghost use Rattle.std.specs.Map.{values_of};
 ghost use Rattle.nm_threads.specs.Labels.{entries_of};
 ghost use Rattle.nm_tables.specs.FileTable.{files_in};
-ghost use Rattle.nm_index.specs.Valid.{IsValid};
+ghost use Rattle.nm_model_index.specs.Valid.{IsValid};
 ghost use Rattle.nm_parts.specs.Parts.{AreParts, AreTagged, base_of};
 ghost use Rattle.nm_state.specs.Taken.{TakesFrom};
 
 use nm_base::{Copies, Facts, LinkRow, MailPath, Many, MessageId, NoMemory, Tags};
-use nm_index::Base;
+use nm_model_index::Base;
 use nm_parts::Parts;
 use nm_shared::{Shared, SharedMap};
 use nm_tables::{FileTable, Files, MeasuredLabels, MeasuredMap, MessageTags, RowBytes};

@@ -7,14 +7,14 @@ ghost use Rattle.std.specs.Map.{keys_of, values_of};
 ghost use Rattle.nm_base.specs.Limits.{IsDate};
 ghost use Rattle.nm_base.specs.Order.{IsSorted, same_text};
 ghost use Rattle.nm_commit.specs.Files.{paths_of};
-ghost use Rattle.nm_index.specs.Index.{row_cmp, row_of};
-ghost use Rattle.nm_index.specs.Valid.{IsValid};
+ghost use Rattle.nm_model_index.specs.Index.{row_cmp, row_of};
+ghost use Rattle.nm_model_index.specs.Valid.{IsValid};
 ghost use Rattle.nm_tables.specs.FileTable.{AreFiled, files_in};
 ghost use Rattle.nm_tables.specs.Kept.{AreKept};
 ghost use Rattle.nm_parts.specs.Parts.{AreParts, base_of};
 
 use nm_base::{Copies, Facts, LinkRow, MailPath, Many, MessageId, NoMemory, Tags};
-use nm_index::Base;
+use nm_model_index::Base;
 use nm_parts::{Parts, row_of, set_tags};
 use nm_shared::Shared;
 use nm_tables::{

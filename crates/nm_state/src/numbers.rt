@@ -2,12 +2,12 @@
 
 ghost use Rattle.std.specs.Prelude.{◌≡◌, ◌≤◌, ◌+◌, ◌^◌, ◌↔◌, IsTrue, min};
 ghost use Rattle.nm_base.specs.Limits.{max_count};
-ghost use Rattle.nm_index.specs.Fits.{ids_named, named_ids};
-ghost use Rattle.nm_index.specs.Index.{committed};
+ghost use Rattle.nm_model_index.specs.Fits.{ids_named, named_ids};
+ghost use Rattle.nm_model_index.specs.Index.{committed};
 ghost use Rattle.nm_parts.specs.Parts.{base_of};
 
 use nm_commit::{Change, Commit};
-use nm_index::numbers_rise_with_the_ids_named;
+use nm_model_index::numbers_rise_with_the_ids_named;
 use nm_parts::Parts;
 
 /// Says whether there is a number for each id that the commit names, whether it has one or not.

@@ -11,9 +11,9 @@ ghost use Rattle.std.specs.Ordering.{nat_cmp};
 ghost use Rattle.nm_base.specs.Order.{IsSorted, has_text, same_text};
 ghost use Rattle.nm_base.specs.declared.limit.Limit.{Limit};
 ghost use Rattle.nm_commit.specs.Files.{Fits, has_id, has_path};
-ghost use Rattle.nm_index.specs.Fits.{ids_named};
-ghost use Rattle.nm_index.specs.Index.{committed, empty_index, has_entry, rows_of};
-ghost use Rattle.nm_index.specs.Valid.{IsValid};
+ghost use Rattle.nm_model_index.specs.Fits.{ids_named};
+ghost use Rattle.nm_model_index.specs.Index.{committed, empty_index, has_entry, rows_of};
+ghost use Rattle.nm_model_index.specs.Valid.{IsValid};
 ghost use Rattle.nm_record.specs.Room.{limit_passed};
 ghost use Rattle.nm_threads.specs.Name.{thread_name};
 ghost use Rattle.nm_state.specs.Messages.{live_messages};
@@ -29,7 +29,7 @@ use crate::room::{RoomError, counts_after, counts_of, limit_passed};
 use crate::tag_overlay::retag;
 use nm_base::{Copies, Limit, MailPath, Many, MessageId, NoMemory, Tags};
 use nm_commit::Commit;
-use nm_index::Base;
+use nm_model_index::Base;
 use nm_parts::{Parts, apply_by_halves, apply_changes, take_none_out};
 use nm_tables::{
     Files, MessageFiles, Paths, Tagged, files_by_hint, files_of, has_file, is_live, paths_of,
@@ -48,7 +48,7 @@ pub struct Snapshot {
 }
 
 impl Model for Snapshot {
-    ghost use Rattle.nm_index.specs.declared.base.Base.{Base};
+    ghost use Rattle.nm_model_index.specs.declared.base.Base.{Base};
     ghost use Rattle.nm_parts.specs.Parts.{AreParts, base_of};
 
     ghost Value = { Base };

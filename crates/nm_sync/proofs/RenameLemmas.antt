@@ -23,9 +23,9 @@ use Rattle.nm_maildir.specs.declared.answers.Renamed.{Renamed}
 use Rattle.nm_maildir.specs.declared.answers.Renamed.TheVariants as answers
 use Rattle.nm_maildir.specs.declared.given.Given.{Given}
 use Rattle.nm_maildir.specs.declared.given.Given.TheVariants as givens
-use Rattle.nm_answer.specs.RenameOutcomes.{IsFree, IsLong, IsTaken, Outcome, Target, WasLong, WasTaken, WasTried, answer_given, files_moved, note_of, outcomes, target_of, unmoved_in}
-use Rattle.nm_plan.specs.Moves.{move_given, move_if}
-use Rattle.nm_answer.specs.declared.sync_report.Unmoved.{Unmoved}
+use Rattle.nm_model_answer.specs.RenameOutcomes.{IsFree, IsLong, IsTaken, Outcome, Target, WasLong, WasTaken, WasTried, answer_given, files_moved, note_of, outcomes, target_of, unmoved_in}
+use Rattle.nm_model_plan.specs.Moves.{move_given, move_if}
+use Rattle.nm_model_answer.specs.declared.sync_report.Unmoved.{Unmoved}
 use Rattle.nm_sync.proofs.NotedLemmas.{since-more}
 use Rattle.nm_sync.specs.Noted.{since}
 use Rattle.nm_sync.specs.Renamed.{AnswersAlong, AreTried, AsksRenames, HasPlaces, IsDone, IsKept, TreesAlong, files_given, outcomes_given}

@@ -5,10 +5,10 @@ use Rattle.std.proofs.lemmas.List.{nil_from_length}
 use Rattle.nm_base.specs.Order.{has_text}
 use Rattle.nm_base.specs.SetLaws.{has_text-filter}
 use Rattle.nm_base.specs.declared.facts.Facts.{Facts}
-use Rattle.nm_answer.specs.NewText.{ids_of, only_in}
+use Rattle.nm_model_answer.specs.NewText.{ids_of, only_in}
 use Rattle.nm_commit.specs.declared.change.Commit.{Commit}
-use Rattle.nm_index.specs.Index.{committed, folded}
-use Rattle.nm_index.specs.declared.base.Base.{Base}
+use Rattle.nm_model_index.specs.Index.{committed, folded}
+use Rattle.nm_model_index.specs.declared.base.Base.{Base}
 
 both-ways : (b : Bool) → (b && not b) ≡ false
 both-ways true = refl

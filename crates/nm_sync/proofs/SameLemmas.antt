@@ -9,7 +9,7 @@ use Rattle.std.specs.declared.cmp.Ordering.TheVariants.{Less, Equal, Greater}
 use Rattle.std.proofs.lemmas.List.Kept.{IsStrictlySortedBy-filter}
 use Rattle.nm_base.specs.Order.{IsSorted, has_text, insert, same_text, sorted}
 use Rattle.nm_base.specs.declared.facts.Facts.{Facts}
-use Rattle.nm_answer.specs.NewText.{ids_of, only_in}
+use Rattle.nm_model_answer.specs.NewText.{ids_of, only_in}
 use Rattle.nm_commit.specs.Files.{has_id, has_path, paths_of}
 use Rattle.nm_base.specs.OrderLaws.{IsSorted-sorted, above_all, turned}
 use Rattle.nm_base.specs.SetLaws.{bytes_same, has_text-filter, has_text-sorted}

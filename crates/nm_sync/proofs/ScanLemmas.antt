@@ -1,6 +1,6 @@
 -- What a scan asks, notes and finds, from its parts. For the proofs of `compare`, `removed_ids`, `side_by_side` and others.
 use Rattle.std.proofs.Common.{◌≡◌, inr, ℕ, ◌<◌, Bool, true, false, ◌||◌, ◌&&◌, ◌==◌, not, cond, length, List, [], ◌∷◌, ◌++◌, Option, None, Some, Ok, IfSome, filter, take, refl, sym, ap, ◌∙◌, subst, append-nil, arith}
-use Rattle.nm_answer.specs.NewText.{gone}
+use Rattle.nm_model_answer.specs.NewText.{gone}
 use Rattle.std.specs.Cmp.Lexicographic.{nat_list_eq_equiv}
 use Rattle.std.proofs.Math.Bool.{or-true}
 use Rattle.std.proofs.lemmas.Bool.{eqb-true}
@@ -13,7 +13,7 @@ use Rattle.nm_maildir.specs.Observed.{ObservedMail}
 use Rattle.nm_maildir.specs.Tree.{Tree}
 use Rattle.nm_maildir.specs.declared.given.Given.{Given}
 use Rattle.nm_maildir.specs.declared.given.Given.TheVariants as givens
-use Rattle.nm_plan.specs.Plan.{message_ids, removed_files, to_read}
+use Rattle.nm_model_plan.specs.Plan.{message_ids, removed_files, to_read}
 use Rattle.nm_scan.specs.Walk.{scanned}
 use Rattle.nm_scan.specs.Batches.{HasReadSome, IsUnfinished, ReadsBatches}
 use Rattle.nm_scan.specs.FileReads.{NotesReads, answers_at, read_with}

@@ -1,11 +1,11 @@
 -- What a listing of a mail folder tells beside an index. Cited by `comparison`, `laws` and `nm_writer`.
 use Rattle.std.specs.Prelude.{◌≡◌, ℕ, List, [], ◌∷◌, ◌++◌, Option}
-use Rattle.nm_answer.specs.NewText.{gone}
+use Rattle.nm_model_answer.specs.NewText.{gone}
 use Rattle.nm_base.specs.declared.facts.Facts.{Facts}
 use Rattle.nm_maildir.specs.Tree.{Tree}
 use Rattle.nm_maildir.specs.declared.given.Given.{Given}
 use Rattle.nm_maildir.specs.declared.given.Given.TheVariants.{Listed}
-use Rattle.nm_plan.specs.Plan.{message_ids, removed_files, to_read}
+use Rattle.nm_model_plan.specs.Plan.{message_ids, removed_files, to_read}
 use Rattle.nm_scan.specs.Listing.{IsListing}
 use Rattle.nm_sync.specs.declared.comparison.Compared.{Compared}
 

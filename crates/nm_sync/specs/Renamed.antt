@@ -14,8 +14,8 @@ use Rattle.nm_maildir.specs.declared.answers.MailError.{MailError}
 use Rattle.nm_maildir.specs.declared.answers.Renamed.{Renamed}
 use Rattle.nm_maildir.specs.declared.given.Given.{Given}
 use Rattle.nm_maildir.specs.declared.given.Given.TheVariants as givens
-use Rattle.nm_answer.specs.RenameOutcomes.{Outcome, answer_given, note_of, outcomes}
-use Rattle.nm_plan.specs.Moves.{move_given}
+use Rattle.nm_model_answer.specs.RenameOutcomes.{Outcome, answer_given, note_of, outcomes}
+use Rattle.nm_model_plan.specs.Moves.{move_given}
 use Rattle.nm_sync.specs.declared.renames.RenameLog.{RenameLog}
 
 -- the files of the index once the moves that were noted are made

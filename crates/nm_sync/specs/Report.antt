@@ -1,8 +1,8 @@
 -- What a `new` reports, from the files before and after it. Cited by `new_report` and `nm_writer`.
 use Rattle.std.specs.Prelude.{ℕ, List, [], ◌∷◌, length, if◌then◌else◌}
 use Rattle.std.specs.List.{flat_map}
-use Rattle.nm_answer.specs.NewText.{mail_given, only_in, skip_given}
-use Rattle.nm_answer.specs.declared.report.NewReport.{NewReport}
+use Rattle.nm_model_answer.specs.NewText.{mail_given, only_in, skip_given}
+use Rattle.nm_model_answer.specs.declared.report.NewReport.{NewReport}
 use Rattle.nm_base.specs.declared.facts.Facts.{Facts}
 use Rattle.nm_commit.specs.Files.{has_id}
 use Rattle.nm_maildir.specs.declared.given.Given.{Given}

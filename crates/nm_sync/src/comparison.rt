@@ -1,10 +1,10 @@
 //! What a mail folder has that an index lacks, and what an index has that is not listed any more; `new` of `nm_writer` begins with it.
 
 ghost use Rattle.std.specs.Prelude.{◌≡◌, ◌∷◌, ◌++◌, [], Err, IfOk, OnErr, OnOk};
-ghost use Rattle.nm_answer.specs.NewText.{gone};
+ghost use Rattle.nm_model_answer.specs.NewText.{gone};
 ghost use Rattle.nm_base.specs.Order.{IsSorted, sorted};
 ghost use Rattle.nm_commit.specs.Files.{paths_of};
-ghost use Rattle.nm_plan.specs.Plan.{message_ids, removed_files, to_read};
+ghost use Rattle.nm_model_plan.specs.Plan.{message_ids, removed_files, to_read};
 ghost use Rattle.nm_scan.specs.Listing.{PassesListing};
 ghost use Rattle.nm_scan.specs.Walk.{is_scan_fault};
 ghost use Rattle.nm_base.specs.declared.limit.Limit.{Limit};

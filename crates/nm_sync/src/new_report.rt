@@ -2,15 +2,15 @@
 
 ghost use Rattle.std.specs.Prelude.{◌≡◌, ◌++◌, List, IfOk, OnOk, fold, length, if◌then◌else◌};
 ghost use Rattle.std.specs.List.{flat_map};
-ghost use Rattle.nm_answer.specs.NewText.{mail_given, only_in, skip_at, skip_given};
+ghost use Rattle.nm_model_answer.specs.NewText.{mail_given, only_in, skip_at, skip_given};
 ghost use Rattle.nm_base.specs.Order.{insert};
 ghost use Rattle.nm_commit.specs.declared.change.Commit.{Commit};
-ghost use Rattle.nm_index.specs.Index.{folded};
+ghost use Rattle.nm_model_index.specs.Index.{folded};
 ghost use Rattle.nm_sync.specs.Report.{lacking, report_with};
 
-use nm_answer::NewReport;
 use nm_base::{Copies, MailPath, Many, MessageId, NoMemory, Skip, TextSet};
 use nm_maildir::{Given, ReadAnswer};
+use nm_model_answer::NewReport;
 use nm_state::Snapshot;
 use std::alloc::Global;
 

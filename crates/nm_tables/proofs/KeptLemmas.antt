@@ -16,7 +16,7 @@ use Rattle.std.proofs.lemmas.Cmp.{nat_list_cmp_total}
 use Rattle.std.proofs.lemmas.Option.{none-some, same_Some}
 use Rattle.nm_base.specs.Order.{same_text}
 use Rattle.nm_base.specs.declared.facts.LinkRow.{LinkRow}
-use Rattle.nm_index.specs.Index.{row_bytes, row_cmp}
+use Rattle.nm_model_index.specs.Index.{row_bytes, row_cmp}
 use Rattle.nm_tables.specs.Kept.{AreKept}
 use Rattle.nm_tables.specs.KeyLaws.{Contains_there, Contains_first, Contains_cases, same_text_from}
 use Rattle.nm_tables.proofs.OrderLemmas.{above_all, sorted_insert}

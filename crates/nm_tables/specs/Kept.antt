@@ -3,7 +3,7 @@ use Rattle.std.specs.Prelude.{◌≡◌, ℕ, false, List, Contains}
 use Rattle.std.specs.Map.{keys_of}
 use Rattle.nm_base.specs.Order.{IsSorted, same_text}
 use Rattle.nm_base.specs.declared.facts.LinkRow.{LinkRow}
-use Rattle.nm_index.specs.Index.{row_bytes}
+use Rattle.nm_model_index.specs.Index.{row_bytes}
 
 pub record AreKept (kept : List (List ℕ × LinkRow)) : Type 0 where
   pub sorted : IsSorted (keys_of kept)

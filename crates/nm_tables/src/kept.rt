@@ -6,7 +6,7 @@ ghost use Rattle.std.specs.List.{filter};
 ghost use Rattle.std.specs.Map.{values_of};
 ghost use Rattle.nm_base.specs.Order.{has_text, same_text};
 ghost use Rattle.nm_base.specs.declared.facts.LinkRow.{LinkRow};
-ghost use Rattle.nm_index.specs.Index.{row_cmp};
+ghost use Rattle.nm_model_index.specs.Index.{row_cmp};
 ghost use Rattle.nm_tables.specs.FileTable.{at_text};
 ghost use Rattle.nm_tables.specs.Kept.{AreKept, HasNoRow};
 

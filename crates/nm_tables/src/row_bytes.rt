@@ -6,7 +6,7 @@ ghost use Rattle.std.specs.Cmp.Lexicographic.{nat_list_cmp_total, nat_list_eq_eq
 ghost use Rattle.std.specs.List.{flat_map, starts_with};
 ghost use Rattle.std.specs.Ordering.{nat_cmp};
 ghost use Rattle.nm_codec.specs.Encoding.{text_bytes};
-ghost use Rattle.nm_index.specs.Index.{row_bytes};
+ghost use Rattle.nm_model_index.specs.Index.{row_bytes};
 
 use nm_base::{Copies, LinkRow, Many, MessageId, NoMemory};
 use nm_codec::Writer;

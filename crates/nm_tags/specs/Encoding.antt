@@ -1,5 +1,5 @@
 -- A tag in a line of text: percent signs and two digits represent the bytes that the line could not hold.
--- Cited by `encode` and `nm_answer`.
+-- Cited by `encode` and `nm_model_answer`.
 use Rattle.std.specs.Prelude.{ℕ, Bool, ◌||◌, ◌==◌, List, [], ◌∷◌, if◌then◌else◌, codes}
 use Rattle.std.specs.List.{flat_map, list_any}
 use Rattle.std.specs.Char.{is_ascii_alphanumeric}

@@ -1,5 +1,5 @@
 //! What operations on tags come to. These functions run no code: their clauses are the laws, which `nm_flags`,
-//! `nm_plan` and `nm_dump` call.
+//! `nm_model_plan` and `nm_dump` call.
 
 ghost use Rattle.std.specs.Prelude.{◌≡◌, ℕ, true, false, List, ◌∷◌, ◌++◌, Some};
 ghost use Rattle.std.specs.Str.{is_utf8};

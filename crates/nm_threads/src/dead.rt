@@ -6,9 +6,9 @@ ghost use Rattle.std.specs.Option.{is_some};
 ghost use Rattle.nm_threads.specs.Labels.{held_labels, is_named};
 ghost use Rattle.nm_threads.specs.Maps.{AreMaps, at, labelling_of};
 
-use crate::thread_merge::place_of;
 use crate::maps::{Maps, Member, Thread};
 use crate::removal::remove_named;
+use crate::thread_merge::place_of;
 use nm_base::{Many, MessageId, NoMemory};
 use nm_shared::SharedMap;
 use std::alloc::Global;

@@ -13,12 +13,12 @@ ghost use Rattle.nm_threads.specs.Work.{Doubles, potential, row_steps, rows_step
 
 use crate::dead::remove_dead;
 use crate::entries::Entries;
-use crate::thread_merge::{place_by_hint, place_of};
 use crate::maps::Maps;
 use crate::members::members_named;
 use crate::rebuild::{add_uncounted, give_numbers};
 use crate::removal::remove_named;
 use crate::rows::{add, add_all};
+use crate::thread_merge::{place_by_hint, place_of};
 use nm_base::{Copies, LinkRow, Many, MessageId, NoMemory, Steps};
 use std::alloc::Global;
 use std::marker::{Brand, Model};

@@ -6,8 +6,8 @@ ghost use Rattle.nm_threads.specs.Labels.{Label, named};
 ghost use Rattle.nm_threads.specs.Maps.{AreMaps, at, labelling_of};
 ghost use Rattle.nm_threads.specs.declared.maps.Thread.{Thread};
 
-use crate::thread_merge::numbers_of;
 use crate::maps::Maps;
+use crate::thread_merge::numbers_of;
 use nm_base::{Copies, Many, MessageId, NoMemory, Steps};
 use nm_shared::SharedMap;
 use std::alloc::Global;

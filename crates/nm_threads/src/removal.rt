@@ -7,9 +7,9 @@ ghost use Rattle.std.specs.Ordering.{nat_cmp};
 ghost use Rattle.nm_threads.specs.Labels.{without_name};
 ghost use Rattle.nm_threads.specs.Maps.{AreMaps, AreNumbers, at, is_number, labelling_of};
 
-use crate::thread_merge::numbers_of;
 use crate::maps::Maps;
 use crate::members::group_named;
+use crate::thread_merge::numbers_of;
 use nm_base::{Copies, NoMemory};
 use std::alloc::Global;
 

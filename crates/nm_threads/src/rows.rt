@@ -9,9 +9,9 @@ ghost use Rattle.nm_threads.specs.Maps.{AreMaps, labelling_of};
 ghost use Rattle.nm_threads.specs.Same.{ids_of};
 ghost use Rattle.nm_threads.specs.Work.{Doubles, potential, row_steps, rows_steps};
 
-use crate::thread_merge::{join, place_at};
 use crate::maps::Maps;
 use crate::numbering::give_number;
+use crate::thread_merge::{join, place_at};
 use nm_base::{LinkRow, MessageId, NoMemory, Steps};
 use std::alloc::Global;
 use std::sync::ledger::Ledger;

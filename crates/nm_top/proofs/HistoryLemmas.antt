@@ -17,7 +17,7 @@ use Rattle.nm_history.specs.PrintedOut.{Prints, final_message}
 use Rattle.nm_history.specs.Refusals.{IsRefusedFor, RefusesLine, TakesInput}
 use Rattle.nm_history.specs.Status.{status_by}
 use Rattle.nm_history.specs.UnaskedLine.{refused_done}
-use Rattle.nm_index.specs.Index.{empty_index}
+use Rattle.nm_model_index.specs.Index.{empty_index}
 use Rattle.nm_journal.specs.Journal.{IfKnown}
 use Rattle.nm_journal.specs.Moments.{SyncsOrFails}
 use Rattle.nm_lanes.specs.declared.script.Phase.{Phase}

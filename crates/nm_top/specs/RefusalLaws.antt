@@ -13,7 +13,7 @@ use Rattle.nm_history.specs.MachineRun.{MachineRun}
 use Rattle.nm_history.specs.PrintedOut.{Prints}
 use Rattle.nm_history.specs.Refusals.{RefusesLine}
 use Rattle.nm_history.specs.UnaskedLine.{refused_done}
-use Rattle.nm_index.specs.declared.base.Base.{Base}
+use Rattle.nm_model_index.specs.declared.base.Base.{Base}
 use Rattle.nm_io.specs.Observed.{ObservedSink, ObservedStream}
 use Rattle.nm_journal.specs.Moments.{SyncsOrFails}
 use Rattle.nm_log.specs.Replies.{refusal_line}

@@ -9,9 +9,9 @@ mod laws;
 mod program_start;
 mod top_call;
 
-pub use nm_answer::Request;
 pub use nm_log::{Done, LineLog, Outcome, SessionLog, Setting};
-pub use nm_machine::Step;
 pub use nm_maildir::{Given, ReadAnswer};
+pub use nm_model_answer::Request;
+pub use nm_model_machine::Step;
 pub use program_start::{Start, program};
 pub use top_call::notmuch;

@@ -7,8 +7,8 @@ use Rattle.nm_commit.specs.declared.change.Commit.{Commit}
 use Rattle.nm_history.specs.LineResult.{commit_steps, said_of}
 use Rattle.nm_history.specs.MachineRun.{Replied}
 use Rattle.nm_log.specs.declared.log.Said.{Said}
-use Rattle.nm_machine.specs.declared.step.Step.{Step}
-use Rattle.nm_machine.specs.declared.step.Step.TheVariants as steps
+use Rattle.nm_model_machine.specs.declared.step.Step.{Step}
+use Rattle.nm_model_machine.specs.declared.step.Step.TheVariants as steps
 use Rattle.nm_trace.specs.declared.trace.Mark.{Mark}
 use Rattle.nm_trace.specs.declared.trace.Mark.TheVariants as marks
 

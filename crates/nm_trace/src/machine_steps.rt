@@ -8,7 +8,7 @@ use crate::trace::Mark;
 use nm_base::{Many, Room};
 use nm_commit::Commit;
 use nm_log::Said;
-use nm_machine::Step;
+use nm_model_machine::Step;
 use std::alloc::Global;
 use std::vec::IntoIter;
 

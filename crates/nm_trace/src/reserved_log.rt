@@ -9,7 +9,7 @@ ghost use Rattle.nm_trace.specs.ReservedLog.{AreFallbacks, HasRoom};
 use crate::trace::{Mark, Trace};
 use nm_base::{Many, NoMemory, Room};
 use nm_log::{LineLog, Said};
-use nm_machine::Step;
+use nm_model_machine::Step;
 use std::alloc::Global;
 
 /// Places for the logs, the marks and the steps of lines.

@@ -13,7 +13,7 @@ use Rattle.nm_base.specs.Limits.{IsDate}
 use Rattle.nm_commit.specs.Files.{has_path, paths_of}
 use Rattle.nm_maildir.specs.declared.given.ReadAnswer.{ReadAnswer}
 use Rattle.nm_maildir.specs.declared.given.ReadAnswer.TheVariants as answers
-use Rattle.nm_plan.specs.Plan.{AreAdded, to_read}
+use Rattle.nm_model_plan.specs.Plan.{AreAdded, to_read}
 use Rattle.nm_scan.specs.FileReads.{mail_in}
 use Rattle.nm_writer.specs.Batch.{AreUnknown}
 

@@ -5,12 +5,12 @@ use Rattle.std.proofs.lemmas.List.Sums.{fold-append}
 use Rattle.nm_base.specs.declared.facts.Facts.{Facts}
 use Rattle.nm_commit.specs.declared.change.Commit.{Commit}
 use Rattle.nm_faults.specs.Faults.{HasCauseOf}
-use Rattle.nm_index.specs.Fits.{FitInTurn}
-use Rattle.nm_index.specs.Index.{committed, folded}
-use Rattle.nm_index.specs.declared.base.Base.{Base}
+use Rattle.nm_model_index.specs.Fits.{FitInTurn}
+use Rattle.nm_model_index.specs.Index.{committed, folded}
+use Rattle.nm_model_index.specs.declared.base.Base.{Base}
 use Rattle.nm_maildir.specs.Observed.{ObservedMail}
 use Rattle.nm_maildir.specs.declared.given.Given.{Given}
-use Rattle.nm_plan.specs.Plan.{AreAdded, all_added, batch_commit, batch_commits, new_commits}
+use Rattle.nm_model_plan.specs.Plan.{AreAdded, all_added, batch_commit, batch_commits, new_commits}
 use Rattle.nm_scan.specs.Batches.{HasReadBatch, HasReadBatches, HasReadSome, StopsInBatch}
 use Rattle.nm_scan.specs.FileReads.{HasRead}
 use Rattle.nm_writer.proofs.ArrivalLemmas.{are-added}

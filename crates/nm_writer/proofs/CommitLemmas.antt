@@ -9,8 +9,8 @@ use Rattle.nm_disk.specs.Observed.{Moments}
 use Rattle.nm_disk.specs.declared.disk.FileNo.{FileNo}
 use Rattle.nm_disk.specs.declared.disk.FileNo.TheVariants.{Head}
 use Rattle.nm_disk.specs.declared.state.DiskState.{DiskState}
-use Rattle.nm_index.specs.Index.{committed, folded}
-use Rattle.nm_index.specs.declared.base.Base.{Base}
+use Rattle.nm_model_index.specs.Index.{committed, folded}
+use Rattle.nm_model_index.specs.declared.base.Base.{Base}
 use Rattle.nm_journal.specs.Journal.{IsBeforeOrAfter, JournalState, StandsOn}
 use Rattle.nm_journal.specs.Moments.{GoesThrough, LeavesOnly, TouchesOnly}
 use Rattle.nm_journal.specs.Records.{HasRecords}

@@ -6,10 +6,10 @@ use Rattle.nm_base.specs.declared.facts.Facts.{Facts}
 use Rattle.nm_commit.specs.Files.{FitChanges, Fits, changed}
 use Rattle.nm_commit.specs.declared.change.Change.{Change}
 use Rattle.nm_commit.specs.declared.change.Commit.{Commit}
-use Rattle.nm_index.specs.Fits.{FitInTurn}
-use Rattle.nm_index.specs.Index.{applied, committed, folded}
-use Rattle.nm_index.specs.declared.base.Base.{Base}
-use Rattle.nm_plan.specs.NameTags.{commit_of, follow_names, with_names}
+use Rattle.nm_model_index.specs.Fits.{FitInTurn}
+use Rattle.nm_model_index.specs.Index.{applied, committed, folded}
+use Rattle.nm_model_index.specs.declared.base.Base.{Base}
+use Rattle.nm_model_plan.specs.NameTags.{commit_of, follow_names, with_names}
 use Rattle.nm_publish.specs.Published.{Published}
 use Rattle.nm_writer.specs.Writer.{WriterState}
 use Rattle.nm_writer.specs.AfterCommit.{AreWithin, HasCommitted, IsAfterCommit, IsAfterCommits, IsPassed, StopsWithin, is_write_fault, with_commits}

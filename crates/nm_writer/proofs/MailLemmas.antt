@@ -6,19 +6,19 @@ use Rattle.std.proofs.lemmas.List.Elements.{All-contains_itself, recursion_from_
 use Rattle.std.specs.List.{AllByRecursion, Contains, flat_map}
 use Rattle.std.specs.Prelude.{IsTrue}
 use Rattle.std.proofs.Math.Bool.{and-false}
-use Rattle.nm_answer.specs.NewText.{gone, listed_in}
-use Rattle.nm_answer.specs.declared.report.NewReport.{NewReport}
+use Rattle.nm_model_answer.specs.NewText.{gone, listed_in}
+use Rattle.nm_model_answer.specs.declared.report.NewReport.{NewReport}
 use Rattle.nm_base.specs.Limits.{max_mail_bytes}
 use Rattle.nm_base.specs.Order.{has_text, same_text}
 use Rattle.nm_base.specs.declared.facts.Facts.{Facts}
 use Rattle.nm_commit.specs.Files.{has_path, paths_of}
-use Rattle.nm_index.specs.Index.{folded}
-use Rattle.nm_index.specs.declared.base.Base.{Base}
+use Rattle.nm_model_index.specs.Index.{folded}
+use Rattle.nm_model_index.specs.declared.base.Base.{Base}
 use Rattle.nm_maildir.specs.Tree.{Tree, got_of}
 use Rattle.nm_maildir.specs.declared.answers.Got.{Got}
 use Rattle.nm_maildir.specs.declared.answers.Got.TheVariants as got
 use Rattle.nm_maildir.specs.declared.given.Given.{Given}
-use Rattle.nm_plan.specs.Plan.{all_added, files_after_new, new_commits, to_read}
+use Rattle.nm_model_plan.specs.Plan.{all_added, files_after_new, new_commits, to_read}
 use Rattle.nm_scan.specs.Batches.{ReadsBatches}
 use Rattle.nm_scan.specs.FileReads.{Reads, arrival, arrival_at, arrival_of, found_in}
 use Rattle.nm_writer.proofs.ArrivalLemmas.{are-unknown, every-in, every-filter}

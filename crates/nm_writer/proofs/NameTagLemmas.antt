@@ -9,10 +9,10 @@ use Rattle.nm_base.specs.declared.facts.Facts.{Facts}
 use Rattle.nm_commit.specs.Files.{has_id}
 use Rattle.nm_commit.specs.declared.change.Change.{Change}
 use Rattle.nm_commit.specs.declared.change.Change.TheVariants.{SetTags}
-use Rattle.nm_index.specs.Index.{applied, committed, with_revision, with_tags}
-use Rattle.nm_index.specs.declared.base.Base.{Base}
-use Rattle.nm_answer.specs.View.{tags_of}
-use Rattle.nm_plan.specs.NameTags.{follow_names, live_of, named_tags, set_tags, with_names}
+use Rattle.nm_model_index.specs.Index.{applied, committed, with_revision, with_tags}
+use Rattle.nm_model_index.specs.declared.base.Base.{Base}
+use Rattle.nm_model_answer.specs.View.{tags_of}
+use Rattle.nm_model_plan.specs.NameTags.{follow_names, live_of, named_tags, set_tags, with_names}
 use Rattle.nm_state.specs.Snapshot.{retagged}
 use Rattle.nm_writer.specs.NameTags.{set_of}
 

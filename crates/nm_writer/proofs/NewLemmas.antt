@@ -1,19 +1,19 @@
 -- What a `new` leaves, from what was listed, what the batches left, and what the commit of what is missing left.
 -- For the proof of `Writer::scan_and_take_in`.
 use Rattle.std.proofs.Common.{◌≡◌, inr, ℕ, List, [], ◌∷◌, ◌++◌, Option, IfOk, Result, Ok, Err, length, map, refl, sym, ap, ◌∙◌, subst}
-use Rattle.nm_answer.specs.NewText.{gone, listed_in, report_of}
-use Rattle.nm_answer.specs.declared.report.NewReport.{NewReport}
+use Rattle.nm_model_answer.specs.NewText.{gone, listed_in, report_of}
+use Rattle.nm_model_answer.specs.declared.report.NewReport.{NewReport}
 use Rattle.nm_base.specs.declared.facts.Facts.{Facts}
 use Rattle.nm_commit.specs.declared.change.Commit.{Commit}
-use Rattle.nm_index.specs.Fits.{FitInTurn}
-use Rattle.nm_index.specs.declared.base.Base.{Base}
+use Rattle.nm_model_index.specs.Fits.{FitInTurn}
+use Rattle.nm_model_index.specs.declared.base.Base.{Base}
 use Rattle.nm_maildir.specs.Observed.{ObservedMail}
 use Rattle.nm_maildir.specs.Tree.{Tree}
 use Rattle.nm_maildir.specs.declared.given.Given.{Given}
 use Rattle.nm_maildir.specs.declared.given.Given.TheVariants.{Listed}
-use Rattle.nm_index.specs.Index.{folded}
-use Rattle.nm_plan.specs.NameTags.{commit_of}
-use Rattle.nm_plan.specs.Plan.{AreAdded, all_added, batch_commits, commits_so_far, drop_of, message_ids, new_commits, removed_commit, removed_files}
+use Rattle.nm_model_index.specs.Index.{folded}
+use Rattle.nm_model_plan.specs.NameTags.{commit_of}
+use Rattle.nm_model_plan.specs.Plan.{AreAdded, all_added, batch_commits, commits_so_far, drop_of, message_ids, new_commits, removed_commit, removed_files}
 use Rattle.nm_scan.specs.Batches.{HasReadSome, ReadsBatches}
 use Rattle.nm_scan.specs.FileReads.{Reads}
 use Rattle.nm_scan.specs.Scan.{AsksNew, FindsBatches}

@@ -6,16 +6,16 @@ use Rattle.nm_commit.specs.Files.{Fits}
 use Rattle.nm_commit.specs.declared.change.Change.{Change}
 use Rattle.nm_commit.specs.declared.change.Commit.{Commit}
 use Rattle.nm_flags.specs.declared.renames.Rename.{Rename}
-use Rattle.nm_index.specs.Fits.{FitInTurn}
-use Rattle.nm_index.specs.declared.base.Base.{Base}
+use Rattle.nm_model_index.specs.Fits.{FitInTurn}
+use Rattle.nm_model_index.specs.declared.base.Base.{Base}
 use Rattle.nm_maildir.specs.declared.given.Given.{Given}
-use Rattle.nm_plan.specs.Apart.{AreApart}
-use Rattle.nm_answer.specs.RenameOutcomes.{note_of, renames_done, renames_for}
-use Rattle.nm_plan.specs.Moves.{HasTried, move_commit, tag_commits}
-use Rattle.nm_plan.specs.Numbering.{AreNumbered}
-use Rattle.nm_plan.specs.TagCommit.{commit_with, tag_commit}
-use Rattle.nm_answer.specs.declared.sync_report.SyncReport.{SyncReport}
-use Rattle.nm_answer.specs.declared.sync_report.Unmoved.{Unmoved}
+use Rattle.nm_model_plan.specs.Apart.{AreApart}
+use Rattle.nm_model_answer.specs.RenameOutcomes.{note_of, renames_done, renames_for}
+use Rattle.nm_model_plan.specs.Moves.{HasTried, move_commit, tag_commits}
+use Rattle.nm_model_plan.specs.Numbering.{AreNumbered}
+use Rattle.nm_model_plan.specs.TagCommit.{commit_with, tag_commit}
+use Rattle.nm_model_answer.specs.declared.sync_report.SyncReport.{SyncReport}
+use Rattle.nm_model_answer.specs.declared.sync_report.Unmoved.{Unmoved}
 use Rattle.nm_sync.specs.Renamed.{AreTried}
 use Rattle.nm_writer.specs.Tagged.{IsAfterRenames, IsAfterTags, SetsTagsFirst}
 use Rattle.nm_writer.specs.Writer.{WriterState}

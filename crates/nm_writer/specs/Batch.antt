@@ -4,11 +4,11 @@ use Rattle.std.specs.List.{AllByRecursion, IsDistinct}
 use Rattle.nm_base.specs.Order.{same_text}
 use Rattle.nm_base.specs.declared.facts.Facts.{Facts}
 use Rattle.nm_commit.specs.Files.{has_path}
-use Rattle.nm_index.specs.Fits.{FitInTurn}
-use Rattle.nm_index.specs.declared.base.Base.{Base}
+use Rattle.nm_model_index.specs.Fits.{FitInTurn}
+use Rattle.nm_model_index.specs.declared.base.Base.{Base}
 use Rattle.nm_maildir.specs.Observed.{ObservedMail}
 use Rattle.nm_maildir.specs.declared.given.Given.{Given}
-use Rattle.nm_plan.specs.Plan.{batch_commit, batch_commits}
+use Rattle.nm_model_plan.specs.Plan.{batch_commit, batch_commits}
 use Rattle.nm_scan.specs.Batches.{HasReadBatch, HasReadSome, StopsInBatch}
 use Rattle.nm_writer.specs.Writer.{WriterState}
 use Rattle.nm_writer.specs.AfterCommit.{FailsWithin, HasCommitted, PassesWithin, StopsWithin}

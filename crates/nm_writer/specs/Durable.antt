@@ -9,8 +9,8 @@ use Rattle.nm_disk.specs.Calls.{GoesOn}
 use Rattle.nm_disk.specs.Observed.{Moments, ObservedDisk}
 use Rattle.nm_disk.specs.declared.disk.FileNo.TheVariants.{Head}
 use Rattle.nm_disk.specs.declared.state.DiskState.{DiskState}
-use Rattle.nm_index.specs.Index.{folded}
-use Rattle.nm_index.specs.declared.base.Base.{Base}
+use Rattle.nm_model_index.specs.Index.{folded}
+use Rattle.nm_model_index.specs.declared.base.Base.{Base}
 use Rattle.nm_journal.specs.Moments.{LeavesOnly, TouchesOnly, all_moments}
 use Rattle.nm_replay.specs.StoredIndex.{HoldsIndex}
 use Rattle.nm_writer.specs.Writer.{WriterState}

@@ -1,18 +1,18 @@
 -- What a `new` leaves of the writer.
 use Rattle.std.specs.Prelude.{◌≡◌, ◌⊎◌, ◌&&◌, ℕ, true, false, List, [], ◌∷◌, Option, Some, is_some, Result, Ok, Err}
 use Rattle.std.specs.List.{AllByRecursion, Contains}
-use Rattle.nm_answer.specs.NewText.{listed_in, report_of}
-use Rattle.nm_answer.specs.declared.report.NewReport.{NewReport}
+use Rattle.nm_model_answer.specs.NewText.{listed_in, report_of}
+use Rattle.nm_model_answer.specs.declared.report.NewReport.{NewReport}
 use Rattle.nm_base.specs.Limits.{max_mail_bytes}
 use Rattle.nm_base.specs.Order.{has_text}
 use Rattle.nm_base.specs.declared.facts.Facts.{Facts}
 use Rattle.nm_commit.specs.Files.{has_path}
 use Rattle.nm_commit.specs.declared.change.Commit.{Commit}
-use Rattle.nm_index.specs.Fits.{FitInTurn}
-use Rattle.nm_index.specs.declared.base.Base.{Base}
+use Rattle.nm_model_index.specs.Fits.{FitInTurn}
+use Rattle.nm_model_index.specs.declared.base.Base.{Base}
 use Rattle.nm_maildir.specs.Tree.{Tree, got_of}
 use Rattle.nm_maildir.specs.declared.given.Given.{Given}
-use Rattle.nm_plan.specs.Plan.{commits_so_far}
+use Rattle.nm_model_plan.specs.Plan.{commits_so_far}
 use Rattle.nm_scan.specs.Listing.{PassesListing}
 use Rattle.nm_scan.specs.FileReads.{found_in}
 use Rattle.nm_scan.specs.Scan.{FindsBatches}

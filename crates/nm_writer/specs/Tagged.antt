@@ -4,12 +4,12 @@ use Rattle.std.specs.List.{flat_map}
 use Rattle.nm_base.specs.declared.facts.Facts.{Facts}
 use Rattle.nm_commit.specs.declared.change.Commit.{Commit}
 use Rattle.nm_flags.specs.declared.renames.Rename.{Rename}
-use Rattle.nm_index.specs.declared.base.Base.{Base}
+use Rattle.nm_model_index.specs.declared.base.Base.{Base}
 use Rattle.nm_maildir.specs.declared.given.Given.{Given}
-use Rattle.nm_answer.specs.RenameOutcomes.{sync_report, unmoved_in}
-use Rattle.nm_plan.specs.Moves.{HasDoneAll, HasTried, move_commit, tag_commits}
-use Rattle.nm_plan.specs.TagCommit.{tag_commit}
-use Rattle.nm_answer.specs.declared.sync_report.SyncReport.{SyncReport}
+use Rattle.nm_model_answer.specs.RenameOutcomes.{sync_report, unmoved_in}
+use Rattle.nm_model_plan.specs.Moves.{HasDoneAll, HasTried, move_commit, tag_commits}
+use Rattle.nm_model_plan.specs.TagCommit.{tag_commit}
+use Rattle.nm_model_answer.specs.declared.sync_report.SyncReport.{SyncReport}
 use Rattle.nm_sync.specs.Renamed.{outcomes_given}
 use Rattle.nm_writer.specs.Writer.{WriterState}
 use Rattle.nm_writer.specs.AfterCommit.{FailsWithin, HasCommitted, IsAfterCommits, PassesWithin, StopsWithin, with_commits}

@@ -3,7 +3,7 @@ use Rattle.std.specs.Prelude.{◌≡◌, ℕ, List, Option}
 use Rattle.nm_commit.specs.declared.change.Commit.{Commit}
 use Rattle.nm_disk.specs.declared.disk.FileNo.TheVariants.{Head}
 use Rattle.nm_disk.specs.declared.state.DiskState.{DiskState}
-use Rattle.nm_index.specs.declared.base.Base.{Base}
+use Rattle.nm_model_index.specs.declared.base.Base.{Base}
 use Rattle.nm_journal.specs.Journal.{JournalState, StandsOn}
 use Rattle.nm_publish.specs.Published.{Published}
 use Rattle.nm_replay.specs.StoredIndex.{HasCommits}

@@ -5,9 +5,9 @@ ghost use Rattle.std.specs.Prelude.{◌≡◌, ◌++◌, IfOk, IfSome, OnOk, map
 ghost use Rattle.std.specs.List.{flat_map};
 ghost use Rattle.nm_commit.specs.Files.{Fits};
 ghost use Rattle.nm_flags.specs.FlagTags.{tags_by_names};
-ghost use Rattle.nm_index.specs.Index.{committed};
-ghost use Rattle.nm_answer.specs.View.{tags_of};
-ghost use Rattle.nm_plan.specs.NameTags.{named_tags, set_tags, with_names};
+ghost use Rattle.nm_model_index.specs.Index.{committed};
+ghost use Rattle.nm_model_answer.specs.View.{tags_of};
+ghost use Rattle.nm_model_plan.specs.NameTags.{named_tags, set_tags, with_names};
 ghost use Rattle.nm_record.specs.Commits.{change_bytes};
 ghost use Rattle.nm_writer.specs.NameTags.{IsFollowed, set_of};
 

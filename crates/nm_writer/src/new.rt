@@ -3,15 +3,15 @@
 
 ghost use Rattle.std.specs.Prelude.{◌≡◌, ◌<◌, ◌≤◌, ◌++◌, List, Err, IfOk, IfSome, None, length, map};
 ghost use Rattle.std.specs.Vec.Iter.{into_iter_items, into_iter_len};
-ghost use Rattle.nm_answer.specs.NewText.{listed_in};
+ghost use Rattle.nm_model_answer.specs.NewText.{listed_in};
 ghost use Rattle.nm_commit.specs.declared.change.Commit.{Commit};
 ghost use Rattle.nm_disk.specs.Observed.{ObservedDisk};
 ghost use Rattle.nm_faults.specs.Faults.{HasCauseOf};
-ghost use Rattle.nm_index.specs.Fits.{FitInTurn};
-ghost use Rattle.nm_index.specs.Index.{folded};
-ghost use Rattle.nm_index.specs.declared.base.Base.{Base};
-ghost use Rattle.nm_plan.specs.NameTags.{commit_of};
-ghost use Rattle.nm_plan.specs.Plan.{add_of, batch_commit, drop_of, message_ids};
+ghost use Rattle.nm_model_index.specs.Fits.{FitInTurn};
+ghost use Rattle.nm_model_index.specs.Index.{folded};
+ghost use Rattle.nm_model_index.specs.declared.base.Base.{Base};
+ghost use Rattle.nm_model_plan.specs.NameTags.{commit_of};
+ghost use Rattle.nm_model_plan.specs.Plan.{add_of, batch_commit, drop_of, message_ids};
 ghost use Rattle.nm_scan.specs.Scan.{AsksNew};
 ghost use Rattle.nm_sync.specs.Noted.{since};
 ghost use Rattle.nm_sync.specs.Report.{report_with};
@@ -24,13 +24,13 @@ ghost use Rattle.nm_writer.specs.AfterCommit.{IsAfterCommits, is_read_fault, is_
 use crate::commit::Ahead;
 use crate::name_tags::with_names;
 use crate::{WriteError, Writer};
-use nm_answer::NewReport;
 use nm_base::{Copies, MailPath, Many, MessageId};
 use nm_changes::{adds, drops, ids_of};
 use nm_commit::Change;
 use nm_disk::Disk;
 use nm_maildir::{Given, MailError, Maildir};
-use nm_plan::{new_commits_fit, new_leaves_what_is_listed, the_files_after_new};
+use nm_model_answer::NewReport;
+use nm_model_plan::{new_commits_fit, new_leaves_what_is_listed, the_files_after_new};
 use nm_scan::{
     Mail, ScanError, a_batch_more_is_read, a_batch_that_stops_is_unfinished, batches_are_finished,
     batches_are_what_was_read, no_batch_is_read_at_first, read_batch,

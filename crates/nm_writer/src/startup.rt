@@ -17,7 +17,7 @@ use crate::Writer;
 use nm_base::{Many, NoMemory, Room};
 use nm_disk::{Disk, FileNo};
 use nm_journal::a_sync_leaves_nothing_new;
-use nm_plan::{files_stay_apart, numbers_stay_in_order};
+use nm_model_plan::{files_stay_apart, numbers_stay_in_order};
 use nm_publish::{Reader, Started, start};
 use nm_replay::{OpenError, Replayed, replay_head};
 use nm_state::Snapshot;

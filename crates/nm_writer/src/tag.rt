@@ -5,12 +5,12 @@ ghost use Rattle.std.specs.Prelude.{◌≡◌, ℕ, List, [], Err, IfSome, None,
 ghost use Rattle.nm_dates.specs.Seconds.{IsMoment};
 ghost use Rattle.nm_disk.specs.Observed.{ObservedDisk};
 ghost use Rattle.nm_faults.specs.Faults.{Counts, HasCauseOf};
-ghost use Rattle.nm_index.specs.Fits.{FitInTurn};
-ghost use Rattle.nm_index.specs.declared.base.Base.{Base};
+ghost use Rattle.nm_model_index.specs.Fits.{FitInTurn};
+ghost use Rattle.nm_model_index.specs.declared.base.Base.{Base};
 ghost use Rattle.nm_maildir.specs.declared.given.Given.{Given};
-ghost use Rattle.nm_plan.specs.Moves.{move_commit};
-ghost use Rattle.nm_plan.specs.TagCommit.{commit_with};
-ghost use Rattle.nm_answer.specs.WantedTags.{wanted_by};
+ghost use Rattle.nm_model_plan.specs.Moves.{move_commit};
+ghost use Rattle.nm_model_plan.specs.TagCommit.{commit_with};
+ghost use Rattle.nm_model_answer.specs.WantedTags.{wanted_by};
 ghost use Rattle.nm_changes.specs.WantedTags.{AreTouched};
 ghost use Rattle.nm_sync.specs.Noted.{since};
 ghost use Rattle.nm_sync.specs.Renamed.{AreTried, AsksRenames};
@@ -21,14 +21,14 @@ ghost use Rattle.nm_writer.specs.AfterCommit.{IsAfterCommits, is_read_fault, is_
 
 use crate::commit::Ahead;
 use crate::{WriteError, Writer};
-use nm_answer::{SyncReport, TagChange};
 use nm_base::Many;
 use nm_changes::{Planned, Wanted, plan_tags, wanted_by};
 use nm_commit::{Change, Commit};
 use nm_disk::Disk;
 use nm_flags::Rename;
 use nm_maildir::{Given, MailError, Maildir};
-use nm_plan::{tag_commits_fit, the_commit_of_tags_leaves_what_is_wanted};
+use nm_model_answer::{SyncReport, TagChange};
+use nm_model_plan::{tag_commits_fit, the_commit_of_tags_leaves_what_is_wanted};
 use nm_sync::{RenameLog, no_rename_is_noted_at_first, rename_and_sync};
 use std::sync::Wait;
 use std::thread::Threads;

@@ -2,8 +2,8 @@
 
 ghost use Rattle.std.specs.Prelude.{◌≡◌, ◌≤◌, length, is_some};
 ghost use Rattle.nm_base.specs.Limits.{max_commits};
-ghost use Rattle.nm_plan.specs.Apart.{AreApart};
-ghost use Rattle.nm_plan.specs.Numbering.{AreNumbered};
+ghost use Rattle.nm_model_plan.specs.Apart.{AreApart};
+ghost use Rattle.nm_model_plan.specs.Numbering.{AreNumbered};
 ghost use Rattle.nm_publish.specs.Published.{index_of};
 
 use nm_base::{Many, Room};
@@ -35,8 +35,8 @@ pub struct Writer {
 impl Model for Writer {
     ghost use Rattle.std.specs.Prelude.{◌≡◌, ◌≤◌, None, false, length};
     ghost use Rattle.nm_base.specs.Limits.{max_commits};
-    ghost use Rattle.nm_plan.specs.Apart.{AreApart};
-    ghost use Rattle.nm_plan.specs.Numbering.{AreNumbered};
+    ghost use Rattle.nm_model_plan.specs.Apart.{AreApart};
+    ghost use Rattle.nm_model_plan.specs.Numbering.{AreNumbered};
     ghost use Rattle.nm_publish.specs.Published.{index_of};
     ghost use Rattle.nm_writer.specs.Writer.{WriterState};
 

@@ -4,7 +4,7 @@ use Rattle.std.specs.List.{IsDistinct}
 use Rattle.std.specs.List.Sorted.{IsStrictlySortedBy}
 use Rattle.std.specs.Prelude.{Bool}
 use Rattle.std.specs.declared.cmp.Ordering.{Ordering}
-use Rattle.nm_index.specs.Valid.{IsValid}
+use Rattle.nm_model_index.specs.Valid.{IsValid}
 
 none_twice : {K : Type 0} (same : K → K → Bool) → IsDistinct same []
 unfolding IsDistinct

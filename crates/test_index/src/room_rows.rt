@@ -1,13 +1,13 @@
 //! Rows on the room that an index has for a commit, for `answers`.
 
 ghost use Rattle.std.specs.Prelude.{◌^◌, ◌≤◌, IfOk};
-ghost use Rattle.nm_index.specs.Valid.{IsValid};
+ghost use Rattle.nm_model_index.specs.Valid.{IsValid};
 
 use crate::commit_lines::commit_of;
 use crate::names::is_item;
 use nm_base::{Limit, Many};
 use nm_commit::Commit;
-use nm_index::Base;
+use nm_model_index::Base;
 use nm_state::{RoomError, Snapshot};
 use rows::{Lines, Row, RowError};
 use std::alloc::Global;

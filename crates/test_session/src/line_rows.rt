@@ -1,6 +1,5 @@
 //! Rows on the lines of scripts, for `answers`: what a line asks for, or how it is refused.
 
-use nm_answer::Request;
 use nm_base::{
     CountAsk, DumpAsk, DumpForm, Many, NoMemory, Output, ReadForm, RestoreAsk, SearchAsk, ShowAsk,
     TagAsk, TagOp, Text, UsageKind,
@@ -8,6 +7,7 @@ use nm_base::{
 use nm_io::MemSink;
 use nm_lanes::{Phase, Script, ScriptError, ScriptLine, read_script};
 use nm_log::{ParsedLine, parse_line, print_usage, usage_line};
+use nm_model_answer::Request;
 use rows::{Lines, Row, RowError, cut};
 use std::alloc::Global;
 

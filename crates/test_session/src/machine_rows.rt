@@ -4,7 +4,7 @@ use crate::answers::if_read;
 use crate::step_rows::step;
 use nm_base::Copies;
 use nm_core::{Core, CoreError};
-use nm_machine::Step;
+use nm_model_machine::Step;
 use nm_state::Snapshot;
 use rows::{Lines, Row, RowError};
 use std::alloc::Global;

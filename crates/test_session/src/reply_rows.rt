@@ -1,8 +1,8 @@
 //! Rows on the reply of `new`, for `answers`: from the numbers that it tells and the files that were passed over.
 
-use nm_answer::NewReport;
 use nm_base::{MailPath, Many, Skip};
 use nm_log::new_text;
+use nm_model_answer::NewReport;
 use rows::{Row, RowError, named, path_of};
 use std::alloc::Global;
 

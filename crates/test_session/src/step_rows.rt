@@ -1,10 +1,10 @@
 //! Steps of the machine, as `machine_rows` reads them: `begin`, `append`, `show`, `see`, `meet`, `crash`, `reopen`,
 //! and replies.
 
-use nm_answer::Request;
 use nm_base::{CountAsk, Facts, Field, FieldWords, Many, Marks, NoMemory, Output, Text, WordList};
 use nm_commit::{Change, Commit};
-use nm_machine::Step;
+use nm_model_answer::Request;
+use nm_model_machine::Step;
 use nm_shared::Shared;
 use rows::{RowError, cut, id_of, named, number_of, path_of, signed_of, tags_of, value_of};
 use std::alloc::Global;

@@ -1,5 +1,5 @@
 use Rattle.std.specs.Str.Lines.{lines}
-use Rattle.nm_answer.specs.BatchLines.{tag_line}
+use Rattle.nm_model_answer.specs.BatchLines.{tag_line}
 use Rattle.nm_batch.proofs.LawLemmas.{all_read, is_first_bad}
 use Rattle.nm_batch.proofs.laws.changes_are_read_line_by_line.Goals as goal
 

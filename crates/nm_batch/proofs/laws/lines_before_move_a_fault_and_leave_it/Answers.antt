@@ -1,5 +1,5 @@
 use Rattle.std.specs.Str.Lines.{lines}
-use Rattle.nm_answer.specs.BatchLines.{count_line, tag_line}
+use Rattle.nm_model_answer.specs.BatchLines.{count_line, tag_line}
 use Rattle.nm_batch.proofs.BeforeLemmas.{read-behind, told-behind}
 use Rattle.nm_batch.proofs.laws.lines_before_move_a_fault_and_leave_it.Goals as goal
 

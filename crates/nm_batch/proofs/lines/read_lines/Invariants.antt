@@ -1,6 +1,6 @@
 use Rattle.std.proofs.Common.{◌≡◌, ◌+◌, length}
 use Rattle.std.specs.Str.Lines.{lines}
-use Rattle.nm_answer.specs.BatchLines.{read_each}
+use Rattle.nm_model_answer.specs.BatchLines.{read_each}
 use Rattle.nm_batch.proofs.LineLemmas.{with_lines}
 use Rattle.nm_batch.proofs.lines.read_lines.Given as goal
 

@@ -1,5 +1,5 @@
 use Rattle.std.proofs.Common.{◌≡◌, ◌++◌, map}
-use Rattle.nm_plan.specs.Plan.{add_of}
+use Rattle.nm_model_plan.specs.Plan.{add_of}
 use Rattle.nm_changes.proofs.additions.adds.Given as goal
 
 abbrev pub invariant-added : goal.invariant-added

@@ -1,6 +1,6 @@
 use Rattle.std.proofs.Common.{◌≡◌, ◌++◌}
 use Rattle.nm_flags.specs.Renames.{renames}
-use Rattle.nm_answer.specs.View.{message_paths}
+use Rattle.nm_model_answer.specs.View.{message_paths}
 use Rattle.nm_changes.proofs.tag_plan.add_renames.Given as goal
 
 abbrev pub invariant-more : goal.invariant-more

@@ -1,7 +1,7 @@
 use Rattle.std.proofs.Common.{◌≡◌, take}
 use Rattle.std.specs.List.{flat_map}
-use Rattle.nm_answer.specs.View.{tags_of}
-use Rattle.nm_plan.specs.NameTags.{set_tags}
+use Rattle.nm_model_answer.specs.View.{tags_of}
+use Rattle.nm_model_plan.specs.NameTags.{set_tags}
 use Rattle.nm_changes.specs.WantedTags.{renames_of}
 use Rattle.nm_changes.proofs.tag_plan.plan_tags.Given as goal
 

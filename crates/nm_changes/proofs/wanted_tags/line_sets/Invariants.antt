@@ -1,6 +1,6 @@
 use Rattle.std.proofs.Common.{◌≡◌, map, take}
-use Rattle.nm_answer.specs.View.{tags_of}
-use Rattle.nm_answer.specs.WantedTags.{asked_tags}
+use Rattle.nm_model_answer.specs.View.{tags_of}
+use Rattle.nm_model_answer.specs.WantedTags.{asked_tags}
 use Rattle.nm_changes.proofs.wanted_tags.line_sets.Given as goal
 
 abbrev pub invariant-found : goal.invariant-found

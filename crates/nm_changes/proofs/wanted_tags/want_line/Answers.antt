@@ -2,7 +2,7 @@ use Rattle.std.proofs.Common.{rules, ◌≡◌, ℕ, ℤ, List, ◌++◌, sym, a
 use Rattle.std.specs.Prelude.{IfOk, IsTrue}
 use Rattle.std.specs.List.{AllByRecursion}
 use Rattle.nm_commit.specs.Files.{has_id}
-use Rattle.nm_answer.specs.WantedTags.{found_by, retagged}
+use Rattle.nm_model_answer.specs.WantedTags.{found_by, retagged}
 use Rattle.nm_eval.specs.Numbers.{live_at_numbers}
 use Rattle.nm_changes.proofs.WantedTagLemmas.{always, sets_are}
 use Rattle.nm_changes.proofs.wanted_tags.want_line.Goals as goal

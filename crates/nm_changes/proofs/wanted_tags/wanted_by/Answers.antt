@@ -1,6 +1,6 @@
 use Rattle.std.proofs.Common.{rules, ◌≡◌, refl, ap, ◌∙◌, arith, take, take_all, ℤ, w64, to_z, of_z}
 use Rattle.std.specs.Map.{values_of}
-use Rattle.nm_answer.specs.WantedTags.{wanted_by}
+use Rattle.nm_model_answer.specs.WantedTags.{wanted_by}
 use Rattle.nm_changes.proofs.WantedTagLemmas.{all_touched, line_more, nothing_wanted}
 use Rattle.nm_changes.proofs.wanted_tags.wanted_by.Goals as goal
 

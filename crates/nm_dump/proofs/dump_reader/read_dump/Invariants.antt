@@ -1,6 +1,6 @@
 use Rattle.std.proofs.Common.{◌≡◌, ◌+◌, length}
 use Rattle.std.specs.Str.Lines.{lines}
-use Rattle.nm_answer.specs.DumpLines.{read_dump, read_lines}
+use Rattle.nm_model_answer.specs.DumpLines.{read_dump, read_lines}
 use Rattle.nm_dump.proofs.DumpLemmas.{with_lines}
 use Rattle.nm_dump.proofs.dump_reader.read_dump.Given as goal
 

@@ -1,6 +1,6 @@
 use Rattle.std.proofs.Common.{◌≡◌, length}
 use Rattle.std.specs.Str.Lines.{lines}
-use Rattle.nm_answer.specs.DumpLines.{told_form}
+use Rattle.nm_model_answer.specs.DumpLines.{told_form}
 use Rattle.nm_dump.proofs.dump_reader.told_form.Given as goal
 
 -- the rest tells it too

@@ -1,6 +1,6 @@
 use Rattle.std.proofs.Common.{◌≡◌, ◌++◌, [], ◌∷◌, length}
 use Rattle.std.specs.List.{flat_map}
-use Rattle.nm_answer.specs.Dump.{dump_text, message_line, tagged}
+use Rattle.nm_model_answer.specs.Dump.{dump_text, message_line, tagged}
 use Rattle.nm_dump.specs.ReadBack.{AreMessages}
 use Rattle.nm_dump.proofs.dump_writer.dump_text.Given as goal
 

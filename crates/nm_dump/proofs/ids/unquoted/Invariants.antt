@@ -1,5 +1,5 @@
 use Rattle.std.proofs.Common.{◌≡◌, length}
-use Rattle.nm_answer.specs.BatchTag.{unquoted}
+use Rattle.nm_model_answer.specs.BatchTag.{unquoted}
 use Rattle.nm_dump.proofs.QuoteLemmas.{with_bytes}
 use Rattle.nm_dump.proofs.ids.unquoted.Given as goal
 

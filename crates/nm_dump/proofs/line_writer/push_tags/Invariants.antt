@@ -1,6 +1,6 @@
 use Rattle.std.proofs.Common.{◌≡◌, ◌++◌, length}
 use Rattle.std.specs.List.{flat_map}
-use Rattle.nm_answer.specs.Dump.{written_tag}
+use Rattle.nm_model_answer.specs.Dump.{written_tag}
 use Rattle.nm_dump.specs.Tags.{AreTags}
 use Rattle.nm_dump.proofs.line_writer.push_tags.Given as goal
 

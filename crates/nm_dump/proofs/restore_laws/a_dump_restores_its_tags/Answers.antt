@@ -1,4 +1,4 @@
-use Rattle.nm_answer.specs.Dump.{tagged}
+use Rattle.nm_model_answer.specs.Dump.{tagged}
 use Rattle.nm_base.specs.Order.{sorted}
 use Rattle.nm_dump.proofs.RestoredDumpLemmas.{changes_restored, messages_restored, sup_restored, tagged_once}
 use Rattle.nm_dump.proofs.restore_laws.a_dump_restores_its_tags.Goals as goal

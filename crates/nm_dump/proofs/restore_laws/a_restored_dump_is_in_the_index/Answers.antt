@@ -1,6 +1,6 @@
 use Rattle.std.proofs.Common.{false}
-use Rattle.nm_answer.specs.Dump.{dump, tagged}
-use Rattle.nm_answer.specs.Restore.{restorings_of}
+use Rattle.nm_model_answer.specs.Dump.{dump, tagged}
+use Rattle.nm_model_answer.specs.Restore.{restorings_of}
 use Rattle.nm_base.specs.Order.{sorted}
 use Rattle.nm_base.specs.declared.forms.DumpForm.TheVariants.{BatchTag, Sup}
 use Rattle.nm_base.specs.declared.forms.ReadForm.TheVariants as forms

@@ -1,5 +1,5 @@
 use Rattle.std.proofs.Common.{sym, ap, ◌∙◌}
-use Rattle.nm_answer.specs.Sup.{is_in_parentheses}
+use Rattle.nm_model_answer.specs.Sup.{is_in_parentheses}
 use Rattle.nm_dump.proofs.InsideLemmas.{cut_after_first}
 use Rattle.nm_dump.proofs.sup.inside.Goals as goal
 

@@ -2,7 +2,7 @@ use Rattle.std.proofs.Common.{◌≡◌, length}
 use denote.Shadow.{shadow}
 use denote.Text.{Utf8}
 use Rattle.nm_tags.specs.TagLines.{words_in}
-use Rattle.nm_answer.specs.Sup.{set_all}
+use Rattle.nm_model_answer.specs.Sup.{set_all}
 use Rattle.nm_dump.proofs.DumpLemmas.{with_ops}
 use Rattle.nm_dump.proofs.sup.set_all.Given as goal
 

@@ -1,6 +1,6 @@
 use Rattle.std.proofs.Common.{sym, ap, ◌∙◌}
 use Rattle.std.specs.List.{list_any}
-use Rattle.nm_answer.specs.Matches.{names_tag}
+use Rattle.nm_model_answer.specs.Matches.{names_tag}
 use Rattle.nm_eval.proofs.exclusion.+naming.Goals as goal
 
 pub names_tag-returns-in-And : goal.names_tag-returns-in-And

@@ -2,10 +2,10 @@ use Rattle.std.proofs.Common.{rules, ◌≡◌, ◌∷◌, ◌++◌, ◌&&◌, B
 use Rattle.std.specs.List.{AllByRecursion}
 use Rattle.nm_base.specs.Order.{has_text}
 use Rattle.nm_base.specs.declared.facts.Facts.{Facts}
-use Rattle.nm_index.specs.Index.{live_ids}
-use Rattle.nm_answer.specs.Matches.{is_match, matches_of}
-use Rattle.nm_answer.specs.Test.{passes}
-use Rattle.nm_answer.specs.View.{View, view_of}
+use Rattle.nm_model_index.specs.Index.{live_ids}
+use Rattle.nm_model_answer.specs.Matches.{is_match, matches_of}
+use Rattle.nm_model_answer.specs.Test.{passes}
+use Rattle.nm_model_answer.specs.View.{View, view_of}
 use Rattle.nm_eval.specs.Exclusion.{exclusion_of, leaves_out}
 use Rattle.nm_eval.proofs.ExclusionLemmas.{match_within}
 use Rattle.nm_eval.proofs.FoundLemmas.{none_found, one_found}

@@ -1,8 +1,8 @@
 use Rattle.std.proofs.Common.{◌≡◌, ◌++◌, length}
 use Rattle.std.specs.List.{AllByRecursion, filter}
-use Rattle.nm_answer.specs.Matches.{is_match, matches_of}
-use Rattle.nm_answer.specs.Test.{passes}
-use Rattle.nm_answer.specs.View.{View, view_of}
+use Rattle.nm_model_answer.specs.Matches.{is_match, matches_of}
+use Rattle.nm_model_answer.specs.Test.{passes}
+use Rattle.nm_model_answer.specs.View.{View, view_of}
 use Rattle.nm_eval.proofs.LiveLemmas.{HasItsFiles, ids_in}
 use Rattle.nm_eval.proofs.matcher.all_matches.Given as goal
 

@@ -1,5 +1,5 @@
 use Rattle.std.proofs.Common.{rules, sym, ◌∙◌}
-use Rattle.nm_answer.specs.Test.{passes}
+use Rattle.nm_model_answer.specs.Test.{passes}
 use Rattle.nm_eval.specs.Exclusion.{leaves_out}
 use Rattle.nm_eval.proofs.ExclusionLemmas.{not_out}
 use Rattle.nm_eval.proofs.matcher.is_match.Goals as goal

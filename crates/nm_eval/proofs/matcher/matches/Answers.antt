@@ -3,9 +3,9 @@ use Rattle.std.proofs.lemmas.Bool.{and_parts}
 use Rattle.std.proofs.lemmas.Int.{to_z-of_z}
 use Rattle.std.specs.List.{filter}
 use Rattle.nm_base.specs.Order.{has_text}
-use Rattle.nm_index.specs.Index.{live_ids}
-use Rattle.nm_answer.specs.Matches.{is_match}
-use Rattle.nm_answer.specs.View.{view_of}
+use Rattle.nm_model_index.specs.Index.{live_ids}
+use Rattle.nm_model_answer.specs.Matches.{is_match}
+use Rattle.nm_model_answer.specs.View.{view_of}
 use Rattle.nm_eval.specs.NamedIds.{named_ids}
 use Rattle.nm_eval.proofs.AmongLemmas.{kept_among}
 use Rattle.nm_eval.proofs.matcher.matches.Goals as goal

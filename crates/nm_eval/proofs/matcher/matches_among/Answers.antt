@@ -1,8 +1,8 @@
 use Rattle.std.proofs.Common.{rules, sym, ap, subst, ◌∙◌, ℤ, refl, w64, to_z, of_z, take_all, arith, ◌≡◌}
 use Rattle.std.proofs.lemmas.Int.{to_z-of_z}
 use Rattle.std.specs.List.{filter}
-use Rattle.nm_answer.specs.Matches.{is_match}
-use Rattle.nm_answer.specs.View.{view_of}
+use Rattle.nm_model_answer.specs.Matches.{is_match}
+use Rattle.nm_model_answer.specs.View.{view_of}
 use Rattle.nm_eval.proofs.ExclusionLemmas.{match_by}
 use Rattle.nm_eval.proofs.FoundLemmas.{found_more, found_same}
 use Rattle.nm_eval.proofs.matcher.matches_among.Goals as goal

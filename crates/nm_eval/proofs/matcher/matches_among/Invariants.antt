@@ -1,7 +1,7 @@
 use Rattle.std.proofs.Common.{◌≡◌, take}
 use Rattle.std.specs.List.{filter}
-use Rattle.nm_answer.specs.Matches.{is_match}
-use Rattle.nm_answer.specs.View.{view_of}
+use Rattle.nm_model_answer.specs.Matches.{is_match}
+use Rattle.nm_model_answer.specs.View.{view_of}
 use Rattle.nm_eval.proofs.matcher.matches_among.Given as goal
 
 -- what is found are the matches so far

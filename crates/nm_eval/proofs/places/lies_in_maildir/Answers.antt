@@ -1,6 +1,6 @@
 use Rattle.std.proofs.Common.{◌||◌, codes, sym, ap, ◌∙◌}
 use Rattle.std.proofs.lemmas.Bool.{or_left}
-use Rattle.nm_answer.specs.Places.{is_in}
+use Rattle.nm_model_answer.specs.Places.{is_in}
 use Rattle.nm_eval.proofs.PlaceLemmas.{maildir_where, not_in_maildir}
 use Rattle.nm_eval.proofs.places.lies_in_maildir.Goals as goal
 

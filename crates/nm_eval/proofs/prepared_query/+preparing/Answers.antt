@@ -1,7 +1,7 @@
 use Rattle.std.proofs.Common.{◌≡◌, sym, ap, subst, ◌∙◌, not, map, take_all, ℤ, to_z, of_z, w64}
 use Rattle.std.proofs.lemmas.Int.{to_z-of_z}
 use Rattle.std.specs.List.{list_all, list_any}
-use Rattle.nm_answer.specs.Test.{is_from, is_odd, is_to, passes}
+use Rattle.nm_model_answer.specs.Test.{is_from, is_odd, is_to, passes}
 use Rattle.nm_eval.proofs.PreparedLemmas.{all_same, any_same, one_more, same_dates}
 use Rattle.nm_eval.proofs.QuickLemmas.{all_quick_first, any_quick_first}
 use Rattle.nm_eval.proofs.prepared_query.+preparing.Goals as goal

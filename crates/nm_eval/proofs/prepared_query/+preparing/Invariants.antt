@@ -1,6 +1,6 @@
 use Rattle.std.proofs.Common.{◌≡◌, map, take}
-use Rattle.nm_answer.specs.Test.{passes}
-use Rattle.nm_answer.specs.View.{View}
+use Rattle.nm_model_answer.specs.Test.{passes}
+use Rattle.nm_model_answer.specs.View.{View}
 use Rattle.nm_eval.proofs.prepared_query.+preparing.Given as goal
 
 -- each query so far is passed as the one that is in its place

@@ -1,7 +1,7 @@
 use Rattle.std.proofs.Common.{rules, ◌≡◌, sym, ap, ◌∙◌, subst, map, not, true, false, take_all, ℤ, to_z, of_z, w64}
 use Rattle.std.proofs.lemmas.Int.{to_z-of_z}
 use Rattle.std.specs.List.{list_all, list_any}
-use Rattle.nm_answer.specs.Test.{is_odd, passes}
+use Rattle.nm_model_answer.specs.Test.{is_odd, passes}
 use Rattle.nm_eval.proofs.query_test.+passing.Goals as goal
 
 pub passes-returns-in-Not : goal.passes-returns-in-Not

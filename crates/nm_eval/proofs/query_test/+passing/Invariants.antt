@@ -1,6 +1,6 @@
 use Rattle.std.proofs.Common.{◌≡◌, true, false, map, take}
 use Rattle.std.specs.List.{list_all, list_any}
-use Rattle.nm_answer.specs.Test.{is_odd, passes}
+use Rattle.nm_model_answer.specs.Test.{is_odd, passes}
 use Rattle.nm_eval.proofs.query_test.+passing.Given as goal
 
 abbrev pub invariant-all_pass-queries : goal.invariant-all_pass-queries

@@ -1,6 +1,6 @@
 use Rattle.std.proofs.Common.{◌≡◌, length}
 use Rattle.std.specs.List.{list_any}
-use Rattle.nm_answer.specs.Places.{is_in_maildir}
+use Rattle.nm_model_answer.specs.Places.{is_in_maildir}
 use Rattle.nm_eval.proofs.query_test.lie_in_maildir.Given as goal
 
 -- one of what is left passes where one of all does

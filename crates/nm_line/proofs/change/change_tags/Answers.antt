@@ -1,13 +1,13 @@
 use Rattle.std.proofs.Common.{rules, ℕ, ℤ, ◌≡◌, List, Ok, Err, refl, ap, ◌∙◌, subst, w64, to_z, of_z}
-use Rattle.nm_answer.specs.Changes.{taggings_for, wanted_for}
-use Rattle.nm_answer.specs.WantedTags.{wanted_by}
-use Rattle.nm_answer.specs.declared.request.Request.{Request}
-use Rattle.nm_answer.specs.declared.tag_change.TagChange.{TagChange}
+use Rattle.nm_model_answer.specs.Changes.{taggings_for, wanted_for}
+use Rattle.nm_model_answer.specs.WantedTags.{wanted_by}
+use Rattle.nm_model_answer.specs.declared.request.Request.{Request}
+use Rattle.nm_model_answer.specs.declared.tag_change.TagChange.{TagChange}
 use Rattle.nm_disk.specs.Observed.{ObservedDisk}
-use Rattle.nm_index.specs.Fits.{FitInTurn}
-use Rattle.nm_index.specs.declared.base.Base.{Base}
+use Rattle.nm_model_index.specs.Fits.{FitInTurn}
+use Rattle.nm_model_index.specs.declared.base.Base.{Base}
 use Rattle.nm_maildir.specs.declared.given.Given.{Given}
-use Rattle.nm_plan.specs.Moves.{HasTried, tag_commits}
+use Rattle.nm_model_plan.specs.Moves.{HasTried, tag_commits}
 use Rattle.nm_log.specs.declared.outcome.Outcome.TheVariants as outcomes
 use Rattle.nm_scan.specs.Bodies.{left_after}
 use Rattle.nm_line.specs.Line.{place_at}

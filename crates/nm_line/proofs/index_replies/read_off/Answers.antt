@@ -1,7 +1,7 @@
 use Rattle.std.proofs.Common.{rules, ◌≡◌, ℤ, IfOk, sym, ap, ◌∙◌, subst, w64, to_z, of_z}
-use Rattle.nm_answer.specs.Count.{count_found, counts_found}
-use Rattle.nm_answer.specs.Dump.{dump_found}
-use Rattle.nm_answer.specs.Found.{search_found}
+use Rattle.nm_model_answer.specs.Count.{count_found, counts_found}
+use Rattle.nm_model_answer.specs.Dump.{dump_found}
+use Rattle.nm_model_answer.specs.Found.{search_found}
 use Rattle.nm_line.specs.Line.{IsReadOff}
 use Rattle.nm_line.specs.declared.prepared.Reading.{Reading}
 use Rattle.nm_line.proofs.IndexReplyLemmas.{count-read, counts-read, dump-read, search-read}

@@ -1,7 +1,7 @@
 use Rattle.std.proofs.Common.{◌≡◌, ℕ, List, [], Result, Ok, Err, None, refl, sym, ap, ◌∙◌, subst}
-use Rattle.nm_answer.specs.Restore.{dump_lines, restorings_by, strangers}
+use Rattle.nm_model_answer.specs.Restore.{dump_lines, restorings_by, strangers}
 use Rattle.nm_history.specs.LineAnswers.{refused_lane_read}
-use Rattle.nm_index.specs.declared.base.Base.{Base}
+use Rattle.nm_model_index.specs.declared.base.Base.{Base}
 use Rattle.nm_line.specs.Line.{place_at}
 use Rattle.nm_line.proofs.AnswerLemmas.{failed-ends}
 use Rattle.nm_line.proofs.restore.run_restore.Goals as goal

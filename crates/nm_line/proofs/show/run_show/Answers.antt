@@ -1,5 +1,5 @@
 use Rattle.std.proofs.Common.{Ok, Err, subst}
-use Rattle.nm_index.specs.declared.base.Base.{Base}
+use Rattle.nm_model_index.specs.declared.base.Base.{Base}
 use Rattle.nm_line.specs.ShowAnswer.{IsAfterShow}
 use Rattle.nm_line.proofs.ShowLemmas.{shown-ends, unshown-ends}
 use Rattle.nm_line.proofs.show.run_show.Goals as goal

@@ -1,4 +1,4 @@
-use Rattle.nm_answer.specs.RenameOutcomes.{unmoved_line}
+use Rattle.nm_model_answer.specs.RenameOutcomes.{unmoved_line}
 use Rattle.nm_log.proofs.LineLemmas.{one-more}
 use Rattle.nm_log.proofs.replies.add_all_unmoved.Goals as goal
 

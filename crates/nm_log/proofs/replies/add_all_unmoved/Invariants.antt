@@ -1,6 +1,6 @@
 use Rattle.std.proofs.Common.{◌≡◌, ◌++◌, take}
 use Rattle.std.specs.List.{flat_map}
-use Rattle.nm_answer.specs.RenameOutcomes.{unmoved_line}
+use Rattle.nm_model_answer.specs.RenameOutcomes.{unmoved_line}
 use Rattle.nm_log.proofs.replies.add_all_unmoved.Given as goal
 
 abbrev pub invariant-files : goal.invariant-files

@@ -1,4 +1,4 @@
-use Rattle.nm_answer.specs.Restore.{stranger_line}
+use Rattle.nm_model_answer.specs.Restore.{stranger_line}
 use Rattle.nm_log.proofs.LineLemmas.{one-more}
 use Rattle.nm_log.proofs.replies.add_strangers.Goals as goal
 

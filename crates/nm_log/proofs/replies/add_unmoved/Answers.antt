@@ -1,5 +1,5 @@
 use Rattle.std.proofs.Common.{◌≡◌, ℕ, List, [], ◌∷◌, ◌++◌, codes, ap, ◌∙◌, append_assoc}
-use Rattle.nm_answer.specs.RenameOutcomes.{unmoved_name}
+use Rattle.nm_model_answer.specs.RenameOutcomes.{unmoved_name}
 use Rattle.nm_log.proofs.replies.add_unmoved.Goals as goal
 
 -- five texts after another

@@ -1,6 +1,6 @@
 use Rattle.std.proofs.Common.{◌≡◌, take}
 use Rattle.std.specs.Prelude.{fold}
-use Rattle.nm_index.specs.Index.{applied}
+use Rattle.nm_model_index.specs.Index.{applied}
 use Rattle.nm_parts.specs.Parts.{AreParts, base_of}
 use Rattle.nm_parts.proofs.commit_changes.apply_changes.Given as goal
 

@@ -1,5 +1,5 @@
 use Rattle.std.proofs.Common.{◌∙◌, ap, sym}
-use Rattle.nm_index.specs.Index.{pruned, without_first}
+use Rattle.nm_model_index.specs.Index.{pruned, without_first}
 use Rattle.nm_parts.specs.Parts.{base_of}
 use Rattle.nm_parts.specs.MailLaws.{dropped_is}
 use Rattle.nm_parts.proofs.removal.drop_mail.Goals as goal

@@ -2,7 +2,7 @@ use Rattle.std.proofs.Common.{◌≡◌, subst, sym, refl, not, List, ℕ}
 use Rattle.std.specs.List.{filter}
 use Rattle.std.specs.Map.{values_of}
 use Rattle.nm_base.specs.Order.{has_text}
-use Rattle.nm_index.specs.Index.{rows_of}
+use Rattle.nm_model_index.specs.Index.{rows_of}
 use Rattle.nm_tables.specs.FileTable.{files_in}
 use Rattle.nm_tables.specs.Hints.{IsDeadThread}
 use Rattle.nm_parts.specs.Parts.{base_of}

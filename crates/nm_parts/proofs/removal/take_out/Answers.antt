@@ -5,7 +5,7 @@ use Rattle.std.specs.Map.{values_of}
 use Rattle.nm_base.specs.declared.facts.Facts.{Facts}
 use Rattle.nm_base.specs.declared.facts.LinkRow.{LinkRow}
 use Rattle.nm_commit.specs.Files.{has_id}
-use Rattle.nm_index.specs.Index.{row_cmp, row_of}
+use Rattle.nm_model_index.specs.Index.{row_cmp, row_of}
 use Rattle.nm_tables.specs.FileTable.{files_in}
 use Rattle.nm_parts.specs.Parts.{AreTagged}
 use Rattle.nm_parts.proofs.TakeLemmas.{taken}

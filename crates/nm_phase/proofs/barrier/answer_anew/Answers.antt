@@ -1,5 +1,5 @@
 use Rattle.std.proofs.Common.{length, ap, subst, ◌∙◌, List}
-use Rattle.nm_index.specs.declared.base.Base.{Base}
+use Rattle.nm_model_index.specs.declared.base.Base.{Base}
 use Rattle.nm_line.specs.LaneRead.{IsAnswerOn}
 use Rattle.nm_trace.specs.declared.trace.Mark.{Mark}
 use Rattle.nm_phase.proofs.ObservationLemmas.{anew-noted}

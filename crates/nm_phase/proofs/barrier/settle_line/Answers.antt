@@ -1,5 +1,5 @@
 use Rattle.std.proofs.Common.{List, IfSome, Option, ap, ◌∙◌, subst}
-use Rattle.nm_index.specs.declared.base.Base.{Base}
+use Rattle.nm_model_index.specs.declared.base.Base.{Base}
 use Rattle.nm_phase.specs.Observations.{IsSeenAt, MayBeOf}
 use Rattle.nm_trace.specs.declared.trace.Mark.{Mark}
 use Rattle.nm_phase.specs.declared.reader_lane.Observation.{Observation}

@@ -2,7 +2,7 @@ use Rattle.std.proofs.Common.{◌≤◌, drop, length, map, take}
 use Rattle.nm_base.specs.Limits.{max_commits}
 use Rattle.nm_disk.specs.Observed.{ObservedDisk}
 use Rattle.nm_history.specs.Call.{lines_of_lane}
-use Rattle.nm_index.specs.declared.base.Base.{Base}
+use Rattle.nm_model_index.specs.declared.base.Base.{Base}
 use Rattle.nm_line.specs.Line.{IsEven, place_at}
 use Rattle.nm_phase.specs.Taken.{AreTaken}
 use Rattle.nm_line.specs.Desk.{KeepsLoans, Stands}

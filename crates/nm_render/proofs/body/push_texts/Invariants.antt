@@ -1,6 +1,6 @@
 use Rattle.std.proofs.Common.{◌≡◌, ◌++◌, take}
 use Rattle.std.specs.List.{flat_map}
-use Rattle.nm_answer.specs.Show.{ended}
+use Rattle.nm_model_answer.specs.Show.{ended}
 use Rattle.nm_render.proofs.body.push_texts.Given as goal
 
 abbrev pub invariant-bodies : goal.invariant-bodies

@@ -1,5 +1,5 @@
 use Rattle.std.proofs.Common.{◌≡◌, ◌+◌, length}
-use Rattle.nm_answer.specs.View.{files_of}
+use Rattle.nm_model_answer.specs.View.{files_of}
 use Rattle.nm_render.proofs.count.add_files.Given as goal
 
 -- those counted so far, and those that are left, are all

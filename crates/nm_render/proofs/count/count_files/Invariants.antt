@@ -1,5 +1,5 @@
 use Rattle.std.proofs.Common.{◌≡◌, length, take}
-use Rattle.nm_answer.specs.Count.{files_of_all}
+use Rattle.nm_model_answer.specs.Count.{files_of_all}
 use Rattle.nm_render.proofs.count.count_files.Given as goal
 
 abbrev pub invariant-ids : goal.invariant-ids

@@ -2,7 +2,7 @@ use Rattle.std.proofs.Common.{List, ℕ, [], ◌∷◌, fold, sym, ap, ◌∙◌
 use Rattle.std.specs.BTreeSet.{insert_key}
 use Rattle.std.specs.List.{filter_map}
 use Rattle.std.specs.Ordering.{nat_cmp}
-use Rattle.nm_index.specs.Index.{rows_of}
+use Rattle.nm_model_index.specs.Index.{rows_of}
 use Rattle.nm_threads.specs.Name.{thread_name}
 use Rattle.nm_render.proofs.CountLemmas.{threads_more}
 use Rattle.nm_render.proofs.count.count_threads.Goals as goal

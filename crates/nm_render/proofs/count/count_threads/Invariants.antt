@@ -1,5 +1,5 @@
 use Rattle.std.proofs.Common.{◌≡◌, take}
-use Rattle.nm_answer.specs.Count.{thread_names}
+use Rattle.nm_model_answer.specs.Count.{thread_names}
 use Rattle.nm_render.proofs.count.count_threads.Given as goal
 
 abbrev pub invariant-ids : goal.invariant-ids

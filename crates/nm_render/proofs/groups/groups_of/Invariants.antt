@@ -1,6 +1,6 @@
 use Rattle.std.proofs.Common.{◌≡◌, ℕ, nat_eq, take, true}
 use Rattle.std.specs.List.{list_any}
-use Rattle.nm_answer.specs.Summary.{in_thread}
+use Rattle.nm_model_answer.specs.Summary.{in_thread}
 use Rattle.nm_render.specs.Groups.{listed}
 use Rattle.nm_render.proofs.groups.groups_of.Given as goal
 

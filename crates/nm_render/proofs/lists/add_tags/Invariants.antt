@@ -1,6 +1,6 @@
 use Rattle.std.proofs.Common.{◌≡◌, fold, length}
 use Rattle.nm_base.specs.Order.{insert}
-use Rattle.nm_answer.specs.View.{tags_of}
+use Rattle.nm_model_answer.specs.View.{tags_of}
 use Rattle.nm_render.proofs.lists.add_tags.Given as goal
 
 -- the tags so far with those that are left are all

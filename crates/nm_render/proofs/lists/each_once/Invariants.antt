@@ -1,6 +1,6 @@
 use Rattle.std.proofs.Common.{◌≡◌, take}
 use Rattle.std.specs.List.{list_any}
-use Rattle.nm_answer.specs.Listing.{each_once}
+use Rattle.nm_model_answer.specs.Listing.{each_once}
 use Rattle.nm_render.proofs.lists.each_once.Given as goal
 
 -- what was seen is what is in the list so far

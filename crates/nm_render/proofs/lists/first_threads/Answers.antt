@@ -1,7 +1,7 @@
 use Rattle.std.proofs.Common.{◌≡◌, ◌∷◌, [], ◌++◌, ◌||◌, true, false, not, rules, ap, sym, ◌∙◌, arith, nat_eq, length, ◌+◌, ◌≤◌, Some, ℕ, List, Option}
 use Rattle.std.proofs.lemmas.List.{length-append}
 use Rattle.std.specs.List.{list_any}
-use Rattle.nm_index.specs.Index.{rows_of}
+use Rattle.nm_model_index.specs.Index.{rows_of}
 use Rattle.nm_threads.specs.Name.{thread_name}
 use Rattle.nm_render.proofs.OnceLemmas.{any_end, enough, is_absent, is_there, new_more, none_more, old_more, seen_again}
 use Rattle.nm_render.proofs.lists.first_threads.Goals as goal

@@ -1,6 +1,6 @@
 use Rattle.std.proofs.Common.{◌≡◌, ◌≤◌, ℕ, length, nat_eq, take}
 use Rattle.std.specs.List.{list_any}
-use Rattle.nm_answer.specs.Search.{threads_of}
+use Rattle.nm_model_answer.specs.Search.{threads_of}
 use Rattle.nm_render.proofs.lists.first_threads.Given as goal
 
 -- the threads so far are those of the messages so far, no more than are asked for, and what was seen is these

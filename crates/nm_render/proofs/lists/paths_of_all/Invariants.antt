@@ -1,5 +1,5 @@
 use Rattle.std.proofs.Common.{◌≡◌, take}
-use Rattle.nm_answer.specs.Search.{paths_of_all}
+use Rattle.nm_model_answer.specs.Search.{paths_of_all}
 use Rattle.nm_render.proofs.lists.paths_of_all.Given as goal
 
 abbrev pub invariant-ids : goal.invariant-ids

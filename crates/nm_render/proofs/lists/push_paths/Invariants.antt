@@ -1,5 +1,5 @@
 use Rattle.std.proofs.Common.{◌≡◌, ◌++◌, length, map}
-use Rattle.nm_answer.specs.View.{files_of}
+use Rattle.nm_model_answer.specs.View.{files_of}
 use Rattle.nm_render.proofs.lists.push_paths.Given as goal
 
 -- the paths so far, and those of what is left, are all

@@ -1,7 +1,7 @@
 use Rattle.std.proofs.Common.{◌≡◌, ℕ, Option, List, rules, ap, ◌∙◌, nat_eq}
-use Rattle.nm_answer.specs.Listing.{part_of}
-use Rattle.nm_answer.specs.Search.{part_asked, threads_of}
-use Rattle.nm_index.specs.Index.{rows_of}
+use Rattle.nm_model_answer.specs.Listing.{part_of}
+use Rattle.nm_model_answer.specs.Search.{part_asked, threads_of}
+use Rattle.nm_model_index.specs.Index.{rows_of}
 use Rattle.nm_threads.specs.Name.{thread_name}
 use Rattle.nm_render.proofs.OnceLemmas.{no_more}
 use Rattle.nm_render.proofs.lists.threads_asked.Goals as goal

@@ -1,5 +1,5 @@
 use Rattle.std.proofs.Common.{sym, ap}
-use Rattle.nm_answer.specs.Show.{lead_from}
+use Rattle.nm_model_answer.specs.Show.{lead_from}
 use Rattle.nm_render.proofs.CountLemmas.{no_files}
 use Rattle.nm_render.proofs.mailboxes.lead_from.Goals as goal
 

@@ -1,5 +1,5 @@
 use Rattle.std.proofs.Common.{◌≡◌, ◌∷◌, ◌++◌, codes, map, ap, sym, ◌∙◌, rules}
-use Rattle.nm_answer.specs.Show.{mailbox_text, mailboxes_text}
+use Rattle.nm_model_answer.specs.Show.{mailbox_text, mailboxes_text}
 use Rattle.nm_render.specs.Joined.{after_first}
 use Rattle.nm_render.proofs.SubjectLemmas.{joined-cons}
 use Rattle.nm_render.proofs.mailboxes.mailboxes_text.Goals as goal

@@ -1,5 +1,5 @@
 use Rattle.std.proofs.Common.{◌≡◌, ◌++◌, codes, map, take}
-use Rattle.nm_answer.specs.Show.{mailbox_text}
+use Rattle.nm_model_answer.specs.Show.{mailbox_text}
 use Rattle.nm_render.specs.Joined.{after_first}
 use Rattle.nm_render.proofs.mailboxes.push_more.Given as goal
 

@@ -1,5 +1,5 @@
 use Rattle.std.proofs.Common.{◌≡◌, ◌++◌, length}
-use Rattle.nm_answer.specs.Show.{messages_text}
+use Rattle.nm_model_answer.specs.Show.{messages_text}
 use Rattle.nm_render.proofs.message.messages_text.Given as goal
 
 -- the messages so far, and those that are left, are all

@@ -1,6 +1,6 @@
 use Rattle.std.proofs.Common.{◌≡◌, rules, ap, ◌∙◌, ◌++◌, codes, to_z, of_z, w64}
-use Rattle.nm_answer.specs.Search.{item_line}
-use Rattle.nm_answer.specs.Summary.{shown_day}
+use Rattle.nm_model_answer.specs.Search.{item_line}
+use Rattle.nm_model_answer.specs.Summary.{shown_day}
 use Rattle.nm_render.proofs.message.push_date.Goals as goal
 
 pub returns : goal.returns

@@ -1,5 +1,5 @@
 use Rattle.std.proofs.Common.{List, ℕ, ◌++◌, codes, map, sym, ap, ◌∙◌, append-nil}
-use Rattle.nm_answer.specs.Search.{lines_text}
+use Rattle.nm_model_answer.specs.Search.{lines_text}
 use Rattle.nm_base.specs.declared.facts.Facts.{Facts}
 use Rattle.nm_render.proofs.CountLemmas.{no_files}
 use Rattle.nm_render.proofs.message.push_files.Goals as goal

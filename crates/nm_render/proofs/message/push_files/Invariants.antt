@@ -1,6 +1,6 @@
 use Rattle.std.proofs.Common.{◌≡◌, ◌++◌, codes, length, map}
-use Rattle.nm_answer.specs.Search.{lines_text}
-use Rattle.nm_answer.specs.View.{files_of}
+use Rattle.nm_model_answer.specs.Search.{lines_text}
+use Rattle.nm_model_answer.specs.View.{files_of}
 use Rattle.nm_render.proofs.message.push_files.Given as goal
 
 -- the lines so far, and those of what is left, are all

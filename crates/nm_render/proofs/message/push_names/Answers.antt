@@ -1,6 +1,6 @@
 use Rattle.std.proofs.Common.{◌≡◌, ◌++◌, codes, map, ap, ◌∙◌, rules}
-use Rattle.nm_answer.specs.Search.{item_line, lines_text}
-use Rattle.nm_answer.specs.View.{files_of}
+use Rattle.nm_model_answer.specs.Search.{item_line, lines_text}
+use Rattle.nm_model_answer.specs.View.{files_of}
 use Rattle.nm_render.proofs.ShowTextLemmas.{two_puts}
 use Rattle.nm_render.proofs.message.push_names.Goals as goal
 

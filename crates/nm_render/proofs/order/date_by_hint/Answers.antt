@@ -1,5 +1,5 @@
 use Rattle.std.proofs.Common.{sym, ap}
-use Rattle.nm_answer.specs.View.{lead_date}
+use Rattle.nm_model_answer.specs.View.{lead_date}
 use Rattle.nm_render.proofs.CountLemmas.{no_files}
 use Rattle.nm_render.proofs.order.date_by_hint.Goals as goal
 

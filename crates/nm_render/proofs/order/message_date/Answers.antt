@@ -1,5 +1,5 @@
 use Rattle.std.proofs.Common.{sym, ap}
-use Rattle.nm_answer.specs.View.{lead_date}
+use Rattle.nm_model_answer.specs.View.{lead_date}
 use Rattle.nm_render.proofs.CountLemmas.{no_files}
 use Rattle.nm_render.proofs.order.message_date.Goals as goal
 

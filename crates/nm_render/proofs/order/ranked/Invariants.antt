@@ -1,5 +1,5 @@
 use Rattle.std.proofs.Common.{◌≡◌, map}
-use Rattle.nm_answer.specs.Search.{rank_of}
+use Rattle.nm_model_answer.specs.Search.{rank_of}
 use Rattle.nm_render.proofs.order.ranked.Given as goal
 
 -- the messages so far come after their ranks

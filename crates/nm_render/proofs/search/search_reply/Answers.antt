@@ -2,12 +2,12 @@ use Rattle.std.proofs.Common.{◌≡◌, ℕ, ℤ, List, [], map, rules, sym, ap
 use Rattle.std.specs.Prelude.{IfOk}
 use Rattle.serde_json.specs.Data.{string}
 use Rattle.nm_base.specs.declared.asks.SearchAsk.{SearchAsk}
-use Rattle.nm_index.specs.declared.base.Base.{Base}
+use Rattle.nm_model_index.specs.declared.base.Base.{Base}
 use Rattle.nm_query.specs.declared.query.Query.{Query}
-use Rattle.nm_answer.specs.Found.{found_text, search_found}
-use Rattle.nm_answer.specs.Matches.{matches_of}
-use Rattle.nm_answer.specs.Search.{found_in_order, part_asked, rank_of, tags_of_all, texts_printed}
-use Rattle.nm_answer.specs.View.{tags_of}
+use Rattle.nm_model_answer.specs.Found.{found_text, search_found}
+use Rattle.nm_model_answer.specs.Matches.{matches_of}
+use Rattle.nm_model_answer.specs.Search.{found_in_order, part_asked, rank_of, tags_of_all, texts_printed}
+use Rattle.nm_model_answer.specs.View.{tags_of}
 use Rattle.nm_render.specs.ReadBack.{ReadsBack, found_data}
 use Rattle.nm_render.proofs.TagLemmas.{in_any_order}
 use Rattle.nm_render.proofs.search.search_reply.Goals as goal

@@ -1,5 +1,5 @@
 use Rattle.std.proofs.Common.{◌≡◌, take}
-use Rattle.nm_answer.specs.Show.{lead_paths}
+use Rattle.nm_model_answer.specs.Show.{lead_paths}
 use Rattle.nm_render.proofs.show.lead_paths.Given as goal
 
 abbrev pub invariant-ids : goal.invariant-ids

@@ -1,5 +1,5 @@
 use Rattle.std.proofs.Common.{List, ℕ, ◌++◌, sym, ap, ◌∙◌, append-nil}
-use Rattle.nm_answer.specs.Show.{lead_path}
+use Rattle.nm_model_answer.specs.Show.{lead_path}
 use Rattle.nm_base.specs.declared.facts.Facts.{Facts}
 use Rattle.nm_render.proofs.CountLemmas.{no_files}
 use Rattle.nm_render.proofs.show.push_lead.Goals as goal

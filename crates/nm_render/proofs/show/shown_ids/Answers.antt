@@ -1,5 +1,5 @@
 use Rattle.std.proofs.Common.{◌≡◌, ℕ, List, length, sym, subst, to_z, of_z, w64}
-use Rattle.nm_answer.specs.Show.{lead_paths}
+use Rattle.nm_model_answer.specs.Show.{lead_paths}
 use Rattle.nm_render.proofs.ShowLemmas.{shown-leads}
 use Rattle.nm_render.proofs.show.shown_ids.Goals as goal
 

@@ -1,5 +1,5 @@
 use Rattle.std.proofs.Common.{sym, subst, ◌∙◌, IsUtf8}
-use Rattle.nm_answer.specs.Summary.{bare_subject}
+use Rattle.nm_model_answer.specs.Summary.{bare_subject}
 use Rattle.nm_render.proofs.SubjectLemmas.{no_more, one_less, shorter}
 use Rattle.nm_render.proofs.Utf8Lemmas.{bare_utf8}
 use Rattle.nm_render.proofs.shown.bare_subject.Goals as goal

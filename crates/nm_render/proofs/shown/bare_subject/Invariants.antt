@@ -1,5 +1,5 @@
 use Rattle.std.proofs.Common.{◌≡◌, ◌≤◌, ℕ, length}
-use Rattle.nm_answer.specs.Summary.{bare_subject, without_replies}
+use Rattle.nm_model_answer.specs.Summary.{bare_subject, without_replies}
 use Rattle.nm_render.proofs.shown.bare_subject.Given as goal
 
 -- what is left, without as many marks as it may have, is the whole without all

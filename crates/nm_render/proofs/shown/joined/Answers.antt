@@ -1,5 +1,5 @@
 use Rattle.std.proofs.Common.{◌≡◌, ◌∷◌, ◌++◌, ap, sym, ◌∙◌, rules, string_bytes}
-use Rattle.nm_answer.specs.Json.{joined}
+use Rattle.nm_model_answer.specs.Json.{joined}
 use Rattle.nm_render.specs.Joined.{after_first}
 use Rattle.nm_render.proofs.SubjectLemmas.{joined-cons}
 use Rattle.nm_render.proofs.shown.joined.Goals as goal

@@ -1,6 +1,6 @@
 use Rattle.std.proofs.Common.{ap, subst, sym, ◌∙◌, arith, IsUtf8}
 use Rattle.std.proofs.lemmas.List.{take_all}
-use Rattle.nm_answer.specs.Summary.{shown}
+use Rattle.nm_model_answer.specs.Summary.{shown}
 use Rattle.nm_render.proofs.Utf8Lemmas.{shown_utf8}
 use Rattle.nm_render.proofs.shown.shown.Goals as goal
 

@@ -1,5 +1,5 @@
 use Rattle.std.proofs.Common.{◌≡◌, take}
-use Rattle.nm_answer.specs.Summary.{shown}
+use Rattle.nm_model_answer.specs.Summary.{shown}
 use Rattle.nm_render.proofs.shown.shown.Given as goal
 
 abbrev pub invariant-bytes : goal.invariant-bytes

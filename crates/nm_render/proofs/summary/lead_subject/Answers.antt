@@ -1,5 +1,5 @@
 use Rattle.std.proofs.Common.{sym, ap}
-use Rattle.nm_answer.specs.Summary.{lead_subject}
+use Rattle.nm_model_answer.specs.Summary.{lead_subject}
 use Rattle.nm_render.proofs.CountLemmas.{no_files}
 use Rattle.nm_render.proofs.summary.lead_subject.Goals as goal
 

@@ -1,6 +1,6 @@
 use Rattle.std.proofs.Common.{◌≡◌, take}
 use Rattle.std.specs.List.{flat_map}
-use Rattle.nm_answer.specs.Summary.{members_of, summary_by, summary_line}
+use Rattle.nm_model_answer.specs.Summary.{members_of, summary_by, summary_line}
 use Rattle.nm_render.specs.Groups.{listed}
 use Rattle.nm_render.proofs.summary.lines_of.Given as goal
 

@@ -1,5 +1,5 @@
 use Rattle.std.proofs.Common.{◌≡◌, rules, ap, ◌∙◌, ◌++◌, to_z, of_z, w64}
-use Rattle.nm_answer.specs.Summary.{shown_day}
+use Rattle.nm_model_answer.specs.Summary.{shown_day}
 use Rattle.nm_render.proofs.summary.push_day.Goals as goal
 
 pub returns : goal.returns

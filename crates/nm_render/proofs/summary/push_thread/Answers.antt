@@ -1,5 +1,5 @@
 use Rattle.std.proofs.Common.{◌≡◌, rules, ap, ◌∙◌, ◌++◌, to_z, of_z, w64}
-use Rattle.nm_answer.specs.Summary.{name_told, shown_day}
+use Rattle.nm_model_answer.specs.Summary.{name_told, shown_day}
 use Rattle.nm_render.proofs.ShowTextLemmas.{two_puts}
 use Rattle.nm_render.proofs.summary.push_thread.Goals as goal
 

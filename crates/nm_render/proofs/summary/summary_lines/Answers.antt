@@ -1,7 +1,7 @@
 use Rattle.std.proofs.Common.{◌≡◌, map, ap, ◌∙◌, rules}
 use Rattle.std.specs.List.{flat_map}
-use Rattle.nm_answer.specs.Search.{part_asked, threads_of}
-use Rattle.nm_answer.specs.Summary.{members_of, summary_by, summary_line, summary_of}
+use Rattle.nm_model_answer.specs.Search.{part_asked, threads_of}
+use Rattle.nm_model_answer.specs.Summary.{members_of, summary_by, summary_line, summary_of}
 use Rattle.nm_render.specs.Groups.{listed}
 use Rattle.nm_render.proofs.GroupLemmas.{told_within}
 use Rattle.nm_render.proofs.summary.summary_lines.Goals as goal

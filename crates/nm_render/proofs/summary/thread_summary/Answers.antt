@@ -1,5 +1,5 @@
 use Rattle.std.proofs.Common.{ap₂, ◌∙◌}
-use Rattle.nm_answer.specs.Summary.{summary_by}
+use Rattle.nm_model_answer.specs.Summary.{summary_by}
 use Rattle.nm_render.proofs.GroupLemmas.{members_same}
 use Rattle.nm_render.proofs.summary.thread_summary.Goals as goal
 

@@ -3,11 +3,11 @@ use Rattle.serde_json.specs.Data.{Data, array, depth}
 use Rattle.serde_json.specs.Read.{max_depth, read}
 use Rattle.serde_json.specs.View.{items_of, view}
 use Rattle.serde_json.specs.Written.{compact_text, has_float}
-use Rattle.nm_answer.specs.Json.{json_array}
-use Rattle.nm_answer.specs.Search.{part_asked, threads_of}
-use Rattle.nm_answer.specs.Summary.{members_of, summary_by, summary_of}
-use Rattle.nm_answer.specs.SummaryJson.{summary_json}
-use Rattle.nm_answer.specs.declared.summary.ThreadSummary.{ThreadSummary}
+use Rattle.nm_model_answer.specs.Json.{json_array}
+use Rattle.nm_model_answer.specs.Search.{part_asked, threads_of}
+use Rattle.nm_model_answer.specs.Summary.{members_of, summary_by, summary_of}
+use Rattle.nm_model_answer.specs.SummaryJson.{summary_json}
+use Rattle.nm_model_answer.specs.declared.summary.ThreadSummary.{ThreadSummary}
 use Rattle.nm_render.specs.Groups.{listed}
 use Rattle.nm_render.specs.SummaryData.{summary_data}
 use Rattle.nm_render.proofs.GroupLemmas.{mapped_within}

@@ -1,5 +1,5 @@
 use Rattle.std.proofs.Common.{◌≡◌, take}
-use Rattle.nm_answer.specs.Search.{lines_text}
+use Rattle.nm_model_answer.specs.Search.{lines_text}
 use Rattle.nm_render.proofs.text_lists.lines_text.Given as goal
 
 abbrev pub invariant-texts : goal.invariant-texts

@@ -3,7 +3,7 @@ use Rattle.serde_json.specs.Data.{Data, array, depth}
 use Rattle.serde_json.specs.Read.{max_depth, read}
 use Rattle.serde_json.specs.View.{items_of, view}
 use Rattle.serde_json.specs.Written.{compact_text, has_float}
-use Rattle.nm_answer.specs.Json.{json_array, json_string}
+use Rattle.nm_model_answer.specs.Json.{json_array, json_string}
 use Rattle.nm_render.proofs.JsonLemmas.{no_depth, no_floats, strings_same}
 use Rattle.nm_render.proofs.text_lists.strings_json.Goals as goal
 

@@ -3,7 +3,7 @@ use Rattle.std.specs.List.{All}
 use Rattle.nm_disk.specs.Observed.{ObservedDisk}
 use Rattle.nm_history.specs.Call.{Devices}
 use Rattle.nm_history.specs.PrintedOut.{HandsOnReplies}
-use Rattle.nm_index.specs.declared.base.Base.{Base}
+use Rattle.nm_model_index.specs.declared.base.Base.{Base}
 use Rattle.nm_line.specs.Line.{place_at}
 use Rattle.nm_session.specs.Loop.{HasNoted, HasRunSome}
 use Rattle.nm_line.specs.Desk.{Stands}

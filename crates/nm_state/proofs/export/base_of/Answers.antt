@@ -1,7 +1,7 @@
 use Rattle.std.proofs.Common.{◌≤◌, ◌∙◌, sym, subst}
 use Rattle.std.specs.Map.{keys_of}
 use Rattle.nm_base.specs.Order.{IsSorted}
-use Rattle.nm_index.specs.Valid.{IsValid}
+use Rattle.nm_model_index.specs.Valid.{IsValid}
 use Rattle.nm_parts.specs.Parts.{base_of}
 use Rattle.nm_state.proofs.ValidLemmas.{parts_valid}
 use Rattle.nm_state.proofs.export.base_of.Goals as goal

@@ -1,5 +1,5 @@
 use Rattle.std.proofs.Common.{◌∙◌, ap, subst, sym}
-use Rattle.nm_index.specs.Valid.{IsValid}
+use Rattle.nm_model_index.specs.Valid.{IsValid}
 use Rattle.nm_state.specs.Renumbered.{counted, renumbered}
 use Rattle.nm_state.proofs.RenumberLemmas.{renumbered_is, renumbered_valid}
 use Rattle.nm_state.proofs.fresh_numbers.renumbered.Goals as goal

@@ -1,5 +1,5 @@
 use Rattle.std.proofs.Common.{◌∙◌, ◌++◌, ap, map, refl}
-use Rattle.nm_index.specs.Index.{row_of}
+use Rattle.nm_model_index.specs.Index.{row_of}
 use Rattle.nm_state.proofs.LoadLemmas.{opened}
 use Rattle.nm_state.proofs.load.parts_of.Goals as goal
 

@@ -1,7 +1,7 @@
 use Rattle.std.proofs.Common.{◌+◌, ◌∙◌, subst}
 use Rattle.std.specs.Prelude.{fold}
-use Rattle.nm_index.specs.Index.{applied, with_revision}
-use Rattle.nm_index.specs.declared.base.Base.{Base}
+use Rattle.nm_model_index.specs.Index.{applied, with_revision}
+use Rattle.nm_model_index.specs.declared.base.Base.{Base}
 use Rattle.nm_state.specs.Counts.{AreCounts}
 use Rattle.nm_parts.specs.Parts.{base_of}
 use Rattle.nm_state.proofs.RoomLemmas.{counts_committed}

@@ -1,5 +1,5 @@
 use Rattle.std.proofs.Common.{◌≡◌, ◌++◌}
-use Rattle.nm_plan.specs.Plan.{message_ids, removed_files}
+use Rattle.nm_model_plan.specs.Plan.{message_ids, removed_files}
 use Rattle.nm_sync.proofs.comparison.removed_ids.Given as goal
 
 abbrev pub invariant-files : goal.invariant-files

@@ -4,7 +4,7 @@ use Rattle.std.specs.List.{flat_map}
 use Rattle.nm_commit.specs.Files.{changed}
 use Rattle.nm_flags.specs.declared.renames.Rename.{Rename}
 use Rattle.nm_maildir.specs.declared.given.Given.{Given}
-use Rattle.nm_plan.specs.Moves.{move_given}
+use Rattle.nm_model_plan.specs.Moves.{move_given}
 use Rattle.nm_sync.specs.Noted.{since}
 use Rattle.nm_sync.specs.Renamed.{files_given}
 use Rattle.nm_sync.proofs.NotedLemmas.{since-none}

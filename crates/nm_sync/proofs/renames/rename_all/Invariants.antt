@@ -1,6 +1,6 @@
 use Rattle.std.proofs.Common.{◌≡◌, length}
 use Rattle.std.specs.List.{flat_map}
-use Rattle.nm_plan.specs.Moves.{move_given}
+use Rattle.nm_model_plan.specs.Moves.{move_given}
 use Rattle.nm_sync.specs.Noted.{since}
 use Rattle.nm_sync.specs.Renamed.{AsksRenames, IsKept}
 use Rattle.nm_sync.proofs.RenameLemmas.{InRenames}

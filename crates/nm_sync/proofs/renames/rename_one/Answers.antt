@@ -1,7 +1,7 @@
 use Rattle.std.proofs.Common.{◌≡◌, List, ◌++◌, false, true, fold, inr, refl, sym, ap, ◌∙◌, append-nil}
 use Rattle.nm_commit.specs.Files.{changed, has_path}
 use Rattle.nm_commit.specs.declared.change.Change.{Change}
-use Rattle.nm_plan.specs.Moves.{move_if}
+use Rattle.nm_model_plan.specs.Moves.{move_if}
 use Rattle.nm_sync.proofs.RenameLemmas.{kept-more, long-done, taken-done, tried-done, where-err}
 use Rattle.nm_sync.proofs.renames.rename_one.Goals as goal
 

@@ -1,6 +1,6 @@
 use Rattle.std.proofs.Common.{rules, ◌≡◌, subst, map}
-use Rattle.nm_index.specs.declared.base.Base.{Base}
-use Rattle.nm_plan.specs.NameTags.{follow_names, live_of}
+use Rattle.nm_model_index.specs.declared.base.Base.{Base}
+use Rattle.nm_model_plan.specs.NameTags.{follow_names, live_of}
 use Rattle.nm_state.specs.Snapshot.{retagged}
 use Rattle.nm_writer.specs.NameTags.{set_of}
 use Rattle.nm_writer.proofs.NameTagLemmas.{follow-is, sets-live}

@@ -1,7 +1,7 @@
 use Rattle.std.proofs.Common.{◌≡◌, map, take}
 use Rattle.std.specs.List.{flat_map}
-use Rattle.nm_answer.specs.View.{tags_of}
-use Rattle.nm_plan.specs.NameTags.{named_tags, set_tags}
+use Rattle.nm_model_answer.specs.View.{tags_of}
+use Rattle.nm_model_plan.specs.NameTags.{named_tags, set_tags}
 use Rattle.nm_writer.specs.NameTags.{set_of}
 use Rattle.nm_writer.proofs.name_tags.sets_by_names.Given as goal
 

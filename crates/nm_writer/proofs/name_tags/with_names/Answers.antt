@@ -1,5 +1,5 @@
 use Rattle.std.proofs.Common.{rules, refl}
-use Rattle.nm_index.specs.Index.{committed}
+use Rattle.nm_model_index.specs.Index.{committed}
 use Rattle.nm_writer.specs.NameTags.{IsFollowed}
 use Rattle.nm_writer.proofs.NameTagLemmas.{named-are, next-is}
 use Rattle.nm_writer.proofs.name_tags.with_names.Goals as goal

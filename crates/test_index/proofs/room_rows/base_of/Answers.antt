@@ -1,5 +1,5 @@
 use Rattle.std.proofs.Common.{subst, rules, arith}
-use Rattle.nm_index.specs.Valid.{IsValid}
+use Rattle.nm_model_index.specs.Valid.{IsValid}
 use Rattle.test_index.proofs.RoomLemmas.{no_files_are_valid}
 use Rattle.test_index.proofs.room_rows.base_of.Goals as goal
 

@@ -2,9 +2,9 @@ use Rattle.std.proofs.Common.{ℕ, Bool, ◌<◌, List, Option, None, length, sy
 use Rattle.nm_core.specs.Core.{AreIndexes, Kept, machine_of, with_commit}
 use Rattle.nm_core.specs.declared.machine.Made.{Made}
 use Rattle.nm_core.proofs.IndexLemmas.{acknowledged, indexes-kept, order-more}
-use Rattle.nm_index.specs.declared.base.Base.{Base}
-use Rattle.nm_machine.specs.Laws.{InOrder}
-use Rattle.nm_machine.specs.Machine.{Machine}
+use Rattle.nm_model_index.specs.declared.base.Base.{Base}
+use Rattle.nm_model_machine.specs.Laws.{InOrder}
+use Rattle.nm_model_machine.specs.Machine.{Machine}
 use Rattle.nm_core.proofs.machine.Core.acknowledge.Goals as goal
 
 -- the state with these parts

@@ -3,8 +3,8 @@ use Rattle.std.proofs.lemmas.List.{length-map}
 use Rattle.nm_core.specs.Core.{Kept, commits_of}
 use Rattle.nm_core.specs.declared.machine.Made.{Made}
 use Rattle.nm_core.proofs.IndexLemmas.{index-beside}
-use Rattle.nm_index.specs.Index.{folded}
-use Rattle.nm_machine.specs.Machine.{index_after}
+use Rattle.nm_model_index.specs.Index.{folded}
+use Rattle.nm_model_machine.specs.Machine.{index_after}
 use Rattle.nm_core.proofs.machine.Core.index_after.Goals as goal
 
 pub returns-in-Some : goal.returns-in-Some

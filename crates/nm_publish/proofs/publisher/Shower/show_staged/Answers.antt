@@ -1,5 +1,5 @@
 use Rattle.std.proofs.Common.{◌∷◌, ◌++◌, [], Some, ap, sym, ◌∙◌}
-use Rattle.nm_index.specs.Index.{committed}
+use Rattle.nm_model_index.specs.Index.{committed}
 use Rattle.nm_publish.specs.List.{index_at}
 use Rattle.nm_publish.specs.Published.{index_of, with_commit}
 use Rattle.nm_publish.specs.declared.event.Event.TheVariants as event

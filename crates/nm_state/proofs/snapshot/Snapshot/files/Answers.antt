@@ -4,7 +4,7 @@ use Rattle.std.specs.List.{filter}
 use Rattle.nm_base.specs.Order.{same_text}
 use Rattle.nm_base.specs.declared.facts.Facts.{Facts}
 use Rattle.nm_commit.specs.Files.{has_id}
-use Rattle.nm_index.specs.declared.base.Base.{Base}
+use Rattle.nm_model_index.specs.declared.base.Base.{Base}
 use Rattle.nm_state.proofs.snapshot.Snapshot.files.Goals as goal
 
 pub returns : goal.returns

@@ -2,8 +2,8 @@ use Rattle.std.proofs.Common.{◌+◌, ◌∙◌, ap, arith, subst, sym}
 use Rattle.std.specs.Prelude.{Some, min}
 use Rattle.nm_base.specs.Limits.{max_count}
 use Rattle.nm_base.specs.declared.limit.Limit.{Limit}
-use Rattle.nm_index.specs.Index.{committed}
-use Rattle.nm_index.specs.declared.base.Base.{Base}
+use Rattle.nm_model_index.specs.Index.{committed}
+use Rattle.nm_model_index.specs.declared.base.Base.{Base}
 use Rattle.nm_state.specs.Counts.{AreCounts}
 use Rattle.nm_state.proofs.RoomLemmas.{next_within, revision_within, same_limit}
 use Rattle.nm_state.proofs.snapshot.Snapshot.room.Goals as goal

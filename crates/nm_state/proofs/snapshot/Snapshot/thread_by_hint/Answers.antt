@@ -1,6 +1,6 @@
 use Rattle.std.proofs.Common.{ap, ◌∙◌}
-use Rattle.nm_index.specs.Index.{rows_of}
-use Rattle.nm_index.specs.declared.base.Base.{Base}
+use Rattle.nm_model_index.specs.Index.{rows_of}
+use Rattle.nm_model_index.specs.declared.base.Base.{Base}
 use Rattle.nm_threads.specs.Name.{thread_name}
 use Rattle.nm_parts.specs.Parts.{base_of}
 use Rattle.nm_state.proofs.snapshot.Snapshot.thread_by_hint.Goals as goal

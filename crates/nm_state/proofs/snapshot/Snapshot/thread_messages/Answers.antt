@@ -1,6 +1,6 @@
 use Rattle.std.proofs.Common.{◌≡◌, subst}
 use Rattle.std.specs.Prelude.{IfOk}
-use Rattle.nm_index.specs.declared.base.Base.{Base}
+use Rattle.nm_model_index.specs.declared.base.Base.{Base}
 use Rattle.nm_state.specs.Snapshot.{thread_messages}
 use Rattle.nm_state.proofs.snapshot.Snapshot.thread_messages.Goals as goal
 

@@ -2,7 +2,7 @@ use Rattle.std.proofs.Common.{List, sym, subst, ◌∙◌}
 use Rattle.std.proofs.lemmas.Bool.{eqb-true, eqb-false}
 use Rattle.nm_commit.specs.Files.{Fits}
 use Rattle.nm_commit.specs.declared.change.Commit.{Commit}
-use Rattle.nm_index.specs.declared.base.Base.{Base}
+use Rattle.nm_model_index.specs.declared.base.Base.{Base}
 use Rattle.nm_writer.specs.AfterCommit.{HasCommitted, IsAfterCommits}
 use Rattle.nm_writer.proofs.DoneLemmas.{commit-is, front-fits, named-is, no-commit, none-made, one-made}
 use Rattle.nm_writer.proofs.writer.Writer.commit_some.Goals as goal

@@ -1,8 +1,8 @@
 use Rattle.std.proofs.Common.{◌++◌, sym, ap, ◌∙◌}
 use Rattle.std.proofs.lemmas.List.Sums.{fold-append}
-use Rattle.nm_index.specs.Index.{committed, folded}
-use Rattle.nm_index.specs.declared.base.Base.{Base}
-use Rattle.nm_plan.specs.NameTags.{commit_of}
+use Rattle.nm_model_index.specs.Index.{committed, folded}
+use Rattle.nm_model_index.specs.declared.base.Base.{Base}
+use Rattle.nm_model_plan.specs.NameTags.{commit_of}
 use Rattle.nm_writer.proofs.writer.Writer.let_go.Goals as goal
 
 pub report-requires : goal.report-requires

@@ -1,12 +1,12 @@
 use Rattle.std.proofs.Common.{rules, ◌≡◌, ◌≤◌, ℕ, false, List, [], ◌∷◌, ◌++◌, None, length, sym, ap, ◌∙◌, subst, arith}
 use Rattle.std.proofs.lemmas.List.{length_push}
 use Rattle.nm_base.specs.Limits.{max_commits}
-use Rattle.nm_index.specs.declared.base.Base.{Base}
+use Rattle.nm_model_index.specs.declared.base.Base.{Base}
 use Rattle.nm_commit.specs.Files.{Fits}
-use Rattle.nm_plan.specs.Apart.{AreApart}
-use Rattle.nm_plan.specs.Numbering.{AreNumbered}
+use Rattle.nm_model_plan.specs.Apart.{AreApart}
+use Rattle.nm_model_plan.specs.Numbering.{AreNumbered}
 use Rattle.nm_commit.specs.declared.change.Commit.{Commit}
-use Rattle.nm_index.specs.Index.{committed}
+use Rattle.nm_model_index.specs.Index.{committed}
 use Rattle.nm_journal.specs.Journal.{JournalState, ReceiptState}
 use Rattle.nm_publish.specs.Published.{index_of, with_commit}
 use Rattle.nm_writer.specs.Writer.{WriterState}

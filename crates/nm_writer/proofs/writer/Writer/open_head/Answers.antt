@@ -3,7 +3,7 @@ use Rattle.nm_commit.specs.declared.change.Commit.{Commit}
 use Rattle.nm_disk.specs.Calls.{GoesOn}
 use Rattle.nm_disk.specs.Observed.{bytes_now}
 use Rattle.nm_disk.specs.declared.disk.FileNo.TheVariants.{Head}
-use Rattle.nm_index.specs.declared.base.Base.{Base}
+use Rattle.nm_model_index.specs.declared.base.Base.{Base}
 use Rattle.nm_journal.specs.Journal.{StandsOn}
 use Rattle.nm_replay.specs.StoredIndex.{HasCommits, HoldsWithin}
 use Rattle.nm_writer.proofs.EntryLemmas.{opened-stands}

@@ -1,4 +1,4 @@
-use Rattle.nm_plan.specs.Moves.{move_commit}
+use Rattle.nm_model_plan.specs.Moves.{move_commit}
 use Rattle.nm_sync.specs.Noted.{since}
 use Rattle.nm_writer.proofs.DoneLemmas.{none-stopped}
 use Rattle.nm_writer.proofs.writer.Writer.rename_files.Goals as goal

@@ -1,9 +1,9 @@
 use Rattle.std.proofs.Common.{rules, ℕ, List, [], Ok, Err, drop, sym, ap, ◌∙◌, subst}
 use Rattle.nm_commit.specs.declared.change.Change.{Change}
-use Rattle.nm_index.specs.Fits.{FitInTurn}
-use Rattle.nm_index.specs.declared.base.Base.{Base}
+use Rattle.nm_model_index.specs.Fits.{FitInTurn}
+use Rattle.nm_model_index.specs.declared.base.Base.{Base}
 use Rattle.nm_maildir.specs.Observed.{ObservedMail}
-use Rattle.nm_plan.specs.NameTags.{commit_of}
+use Rattle.nm_model_plan.specs.NameTags.{commit_of}
 use Rattle.nm_sync.specs.Listed.{HasListed}
 use Rattle.nm_sync.specs.Noted.{since}
 use Rattle.nm_writer.proofs.NewLemmas.{after-let_go, after-refused, asks-refused, gone-fit, unknown-listed}

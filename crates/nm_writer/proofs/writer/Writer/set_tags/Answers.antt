@@ -1,11 +1,11 @@
 use Rattle.std.proofs.Common.{rules, ◌≡◌, List, Err, refl, sym, ap, ◌∙◌, subst}
 use Rattle.nm_commit.specs.declared.change.Change.{Change}
-use Rattle.nm_index.specs.Fits.{FitInTurn}
-use Rattle.nm_index.specs.declared.base.Base.{Base}
-use Rattle.nm_plan.specs.Apart.{AreApart}
-use Rattle.nm_answer.specs.RenameOutcomes.{renames_for}
-use Rattle.nm_plan.specs.Numbering.{AreNumbered}
-use Rattle.nm_plan.specs.TagCommit.{commit_with, tag_changes, tag_commit}
+use Rattle.nm_model_index.specs.Fits.{FitInTurn}
+use Rattle.nm_model_index.specs.declared.base.Base.{Base}
+use Rattle.nm_model_plan.specs.Apart.{AreApart}
+use Rattle.nm_model_answer.specs.RenameOutcomes.{renames_for}
+use Rattle.nm_model_plan.specs.Numbering.{AreNumbered}
+use Rattle.nm_model_plan.specs.TagCommit.{commit_with, tag_changes, tag_commit}
 use Rattle.nm_sync.specs.Noted.{since}
 use Rattle.nm_writer.specs.Tagged.{IsAfterTags}
 use Rattle.nm_writer.specs.Writer.{WriterState}

@@ -1,6 +1,6 @@
 use Rattle.std.proofs.Common.{subst}
-use Rattle.nm_plan.specs.Apart.{AreApart}
-use Rattle.nm_plan.specs.Numbering.{AreNumbered}
+use Rattle.nm_model_plan.specs.Apart.{AreApart}
+use Rattle.nm_model_plan.specs.Numbering.{AreNumbered}
 use Rattle.nm_writer.specs.Writer.{WriterState}
 use Rattle.nm_writer.proofs.writer.Writer.shows_an_ordered_index.Goals as goal
 

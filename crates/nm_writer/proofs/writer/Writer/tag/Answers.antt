@@ -1,5 +1,5 @@
 use Rattle.std.proofs.Common.{rules, ◌≡◌, Err, refl, sym, subst}
-use Rattle.nm_answer.specs.WantedTags.{wanted_by}
+use Rattle.nm_model_answer.specs.WantedTags.{wanted_by}
 use Rattle.nm_sync.specs.Noted.{since}
 use Rattle.nm_writer.specs.Tagged.{IsAfterTags}
 use Rattle.nm_writer.specs.declared.write_error.WriteError.TheVariants as errors

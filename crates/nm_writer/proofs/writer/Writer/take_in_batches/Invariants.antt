@@ -2,7 +2,7 @@ use Rattle.std.proofs.Common.{◌≡◌, None, length}
 use Rattle.std.specs.Prelude.{IfSome}
 use Rattle.std.specs.Vec.Iter.{into_iter_items, into_iter_len}
 use Rattle.nm_disk.specs.Observed.{ObservedDisk}
-use Rattle.nm_index.specs.declared.base.Base.{Base}
+use Rattle.nm_model_index.specs.declared.base.Base.{Base}
 use Rattle.nm_writer.specs.Durable.{IsDurable}
 use Rattle.nm_writer.specs.Writer.{StandsOnIndex}
 use Rattle.nm_writer.proofs.BatchLemmas.{InBatches}

@@ -1,5 +1,0 @@
-use Rattle.nm_answer.proofs.OrderLemmas.{by_rank_is}
-use Rattle.nm_answer.proofs.search_laws.items_of_one_rank_stay_in_their_order.Goals as goal
-
-pub returns : goal.returns
-returns c = by_rank_is

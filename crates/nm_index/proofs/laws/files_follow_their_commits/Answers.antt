@@ -1,5 +1,0 @@
-use Rattle.nm_index.proofs.IndexLemmas.{commits_files}
-use Rattle.nm_index.proofs.laws.files_follow_their_commits.Goals as goal
-
-pub returns : goal.returns
-returns c = commits_files

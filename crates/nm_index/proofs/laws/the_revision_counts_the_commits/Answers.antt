@@ -1,5 +1,0 @@
-use Rattle.nm_index.proofs.IndexLemmas.{revision_after}
-use Rattle.nm_index.proofs.laws.the_revision_counts_the_commits.Goals as goal
-
-pub returns : goal.returns
-returns c = revision_after

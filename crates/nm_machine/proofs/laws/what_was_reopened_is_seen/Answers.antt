@@ -1,5 +1,0 @@
-use Rattle.nm_machine.proofs.OrderLemmas.{reopened_is_seen}
-use Rattle.nm_machine.proofs.laws.what_was_reopened_is_seen.Goals as goal
-
-pub returns : goal.returns
-returns c = reopened_is_seen
