@@ -1,11 +1,14 @@
+pub mod AskedWords
 pub mod Bounds
 pub mod FieldNumber
+pub mod KeyLaws
 pub mod MailPath
 pub mod MessageId
 pub mod Limits
 pub mod Order
 pub mod OrderLaws
 pub mod SetLaws
+pub mod SortedLaws
 pub mod Stored
 pub mod Tag
 pub mod Tags

@@ -1,4 +1,4 @@
-//! Lines that are queries, as `count --batch` takes them, for `nm_line`.
+//! Lines that are queries, as `count --batch` takes them, for `nm_prepare`.
 
 ghost use Rattle.nm_model_answer.specs.BatchLines.{count_line, line_query, queries_in};
 ghost use Rattle.nm_batch.specs.Faults.{IsFirstFault};

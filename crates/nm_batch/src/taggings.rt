@@ -1,4 +1,4 @@
-//! Lines that change tags, as `tag --batch` takes them, for `nm_line`.
+//! Lines that change tags, as `tag --batch` takes them, for `nm_prepare`.
 
 ghost use Rattle.nm_model_answer.specs.BatchLines.{tag_line, tagging_by, taggings_in};
 ghost use Rattle.nm_batch.specs.Faults.{IsFirstFault};

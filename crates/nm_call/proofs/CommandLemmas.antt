@@ -8,8 +8,8 @@ use Rattle.nm_history.specs.Refusals.{TakesInput}
 use Rattle.nm_history.specs.Requests.{first_bad_line, first_refusal, own_query, query_in, refused_line, refused_query, refused_text_of}
 use Rattle.nm_io.specs.Observed.{ObservedStream}
 use Rattle.nm_lanes.specs.Lines.{in_lane}
-use Rattle.nm_line.specs.Prepared.{IsPrepared}
-use Rattle.nm_line.specs.declared.prepared.Prepared.{Prepared}
+use Rattle.nm_prepare.specs.Prepared.{IsPrepared}
+use Rattle.nm_prepare.specs.declared.prepared.Prepared.{Prepared}
 use Rattle.nm_log.specs.Kind.{DumpLines, NoQuery, OwnQuery, QueryLines, Source, TaggingLines, reads_lines, source_of}
 use Rattle.nm_log.specs.ParsedLine.{fed, parse_line, parse_single, reads_input, refused}
 use Rattle.nm_log.specs.declared.line_parser.ParsedLine.{ParsedLine}

@@ -8,7 +8,7 @@ use Rattle.nm_base.specs.declared.limit.Limit.TheVariants.{InputBytes}
 use Rattle.nm_io.specs.Observed.{ObservedSink, ObservedStream}
 use Rattle.nm_io.specs.declared.whole_input.TakeError.{TakeError}
 use Rattle.nm_io.specs.declared.whole_input.TakeError.TheVariants as takes
-use Rattle.nm_line.specs.Prepared.{AsksAlone}
+use Rattle.nm_prepare.specs.Prepared.{AsksAlone}
 use Rattle.nm_log.specs.declared.log.Done.{Done}
 use Rattle.nm_log.specs.declared.log.Setting.{Setting}
 use Rattle.nm_log.specs.declared.refusal.Refusal.{Refusal}

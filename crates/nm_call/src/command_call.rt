@@ -11,9 +11,9 @@ use crate::prepared_call::{CallError, PreparedCall, read_input};
 use nm_base::{Many, Text};
 use nm_history::a_call_that_reads_nothing_is_not_refused_for_its_input;
 use nm_io::Source;
-use nm_line::{AskError, prepare};
 use nm_log::{Outcome, ParsedLine, Refusal, parse_single, reads_input};
 use nm_model_answer::Request;
+use nm_prepare::{AskError, prepare};
 use std::alloc::Global;
 
 /// Reads a single command, and the lines that it asks for: it is one line of one phase.

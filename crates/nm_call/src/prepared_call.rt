@@ -10,8 +10,8 @@ use crate::session_call::read_session;
 use nm_base::{Limit, Many, NoMemory, Text};
 use nm_io::{Source, TakeError, take_all};
 use nm_lanes::Phase;
-use nm_line::Prepared;
 use nm_log::{Outcome, Refusal};
+use nm_prepare::Prepared;
 use std::alloc::Global;
 
 /// The most bytes of an input.

@@ -1,14 +1,13 @@
 -- Dumps as they are written, and read again line by line. For the proof of `a_written_dump_is_read_back`.
-use Rattle.std.proofs.Common.{◌≡◌, ℕ, ◌+◌, ◌-◌, ◌<◌, ◌==◌, not, true, false, List, [], ◌∷◌, ◌++◌, length, map, slice_index, get_or, codes, refl, sym, ap, ◌∙◌, subst, arith, append_assoc, inl, inr, cond, take, drop, Some, None, Result, Ok, Err}
+use Rattle.std.proofs.Common.{◌≡◌, ℕ, ◌+◌, ◌-◌, ◌<◌, ◌==◌, not, true, false, List, [], ◌∷◌, ◌++◌, length, map, slice_index, get_or, codes, refl, sym, ap, ◌∙◌, subst, arith, append_assoc, inl, inr, cond, take, Some, None, Result, Ok, Err}
 use Rattle.std.specs.List.{flat_map, list_all, slice_split, AllByRecursion}
 use Rattle.std.specs.Str.{is_utf8, IsUtf8}
 use Rattle.std.specs.Str.Lines.{lines, lines_of_parts, strip_carriage_return}
 use Rattle.std.proofs.lemmas.Bool.{cases_Bool}
 use Rattle.std.proofs.lemmas.Bool.Decides.{nat_tests}
-use Rattle.std.proofs.lemmas.List.{drop-drop, drop_at, get_or_at, length-append, take_at}
 use Rattle.std.proofs.lemmas.List.Elements.{All-from_get_or}
 use Rattle.std.proofs.lemmas.List.Splits.{length-slice_split, slice_split_at}
-use Rattle.std.proofs.lemmas.Str.{is_utf8-from_IsUtf8, IsCharBoundary-after_ascii, IsCharBoundary-before_ascii, IsUtf8-append, IsUtf8-drop, IsUtf8-from_ascii, IsUtf8-from_is_utf8, IsUtf8-take}
+use Rattle.std.proofs.lemmas.Str.{is_utf8-from_IsUtf8, IsUtf8-append, IsUtf8-from_ascii, IsUtf8-from_is_utf8}
 use Rattle.nm_base.specs.MessageId.{is_message_id}
 use Rattle.nm_base.specs.declared.forms.DumpForm.{DumpForm}
 use Rattle.nm_base.specs.declared.forms.DumpForm.TheVariants.{BatchTag, Sup}
@@ -23,6 +22,7 @@ use Rattle.nm_dump.specs.ReadBack.{wanted_from, AreMessages}
 use Rattle.nm_model_answer.specs.DumpLines.{begins_changes, classified, is_passed_over, read_dump, read_line, read_lines, then_lines, told_form}
 use Rattle.nm_dump.proofs.ByteLemmas.{append_all, ascii_from_low, dark_inner, holds_at, is_dark, is_inner, is_low, parts_all, tag_dark, tag_low, weaker, written_id_dark}
 use Rattle.nm_dump.proofs.TagLineLemmas.{line_read, ReadsTags}
+use Rattle.nm_text.specs.Utf8Laws.{split_ascii}
 
 -- ---- lines
 
@@ -49,17 +49,6 @@ line_first line more h =
 
 text_from_low : (text : List ℕ) → list_all is_low text ≡ true → IsUtf8 text
 text_from_low text h = IsUtf8-from_ascii text (ascii_from_low text h)
-
--- a text may be cut at an ASCII character
-split_ascii : (xs ys : List ℕ) (b : ℕ) → b < 128 → IsUtf8 (xs ++ b ∷ ys) → IsUtf8 xs × IsUtf8 ys
-split_ascii xs ys b small u =
-    let at : get_or (xs ++ b ∷ ys) (length xs) 0 ≡ b = get_or_at xs b ys 0 (length xs) refl in
-    let low : get_or (xs ++ b ∷ ys) (length xs) 0 < 128 = omega arith in
-    let inside : length xs < length (xs ++ b ∷ ys) = simp length-append (omega arith) in
-    let front : IsUtf8 (take (length xs) (xs ++ b ∷ ys)) = IsUtf8-take (xs ++ b ∷ ys) (length xs) u (IsCharBoundary-before_ascii (xs ++ b ∷ ys) (length xs) inside low) in
-    let back : IsUtf8 (drop (length xs + 1) (xs ++ b ∷ ys)) = IsUtf8-drop (xs ++ b ∷ ys) (length xs + 1) u (IsCharBoundary-after_ascii (xs ++ b ∷ ys) (length xs) u inside low) in
-    let rest : drop (length xs + 1) (xs ++ b ∷ ys) ≡ ys = sym (drop-drop 1 (length xs) (xs ++ b ∷ ys)) ∙ ap (drop 1) (drop_at xs (b ∷ ys) (length xs) refl) in
-    (subst IsUtf8 (take_at xs (b ∷ ys) (length xs) refl) front, subst IsUtf8 rest back)
 
 quote_twice : (xs ys : List ℕ) (b : ℕ) → (b == 34) ≡ true → IsUtf8 (xs ++ b ∷ ys) → IsUtf8 ((xs ++ b ∷ b ∷ []) ++ ys)
 quote_twice xs ys b e u =

@@ -1,4 +1,4 @@
-//! The call `read_dump`: what the lines of a dump ask for. `nm_line` reads the input of `restore` with it.
+//! The call `read_dump`: what the lines of a dump ask for. `nm_prepare` reads the input of `restore` with it.
 
 ghost use Rattle.std.specs.Prelude.{◌≡◌, ◌+◌, [], ◌∷◌, length, IfOk, MatchResult, Ok, Err, if◌then◌else◌};
 ghost use Rattle.std.specs.Str.Lines.{lines};

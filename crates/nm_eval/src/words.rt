@@ -2,7 +2,7 @@
 
 ghost use Rattle.std.specs.Prelude.{◌≡◌, ◌≢◌, ◌∷◌, [], ◌&&◌};
 ghost use Rattle.nm_base.specs.Order.{same_text};
-ghost use Rattle.nm_model_answer.specs.Words.{begins_with, has_words, is_asked, is_last_word, lists_have};
+ghost use Rattle.nm_base.specs.AskedWords.{begins_with, has_words, is_asked, is_last_word, lists_have};
 
 use nm_base::{Facts, Field, FieldWords, WordList, Words};
 

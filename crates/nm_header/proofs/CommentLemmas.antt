@@ -7,8 +7,8 @@ use Rattle.std.proofs.lemmas.List.{drop_at, drop_min, length-take-le, take-appen
 use Rattle.nm_header.specs.Comments.{comment_len, depth_after, lexeme_more, lexemes_of}
 use Rattle.nm_text.specs.QuotedStrings.{is_special, pair_more, pairs_of, quoted_len}
 use Rattle.nm_header.proofs.DepthLemmas.{comment_is, depth_through, neq, neq-eqb, special_is}
-use Rattle.nm_header.proofs.CutLemmas.{cut-cons, cut-nil}
-use Rattle.nm_header.proofs.Utf8Lemmas.{split_ascii}
+use Rattle.nm_text.specs.CutLaws.{cut-cons, cut-nil}
+use Rattle.nm_text.specs.Utf8Laws.{split_ascii}
 
 pub depth-nil : (depth : ℕ) → depth_through depth (pairs_of []) ≡ 0
 depth-nil depth = ap (depth_through depth) (cut-nil pair_more)

@@ -7,7 +7,7 @@ use Rattle.std.proofs.lemmas.List.{append-nil, drop_at, drop_min, length-take-le
 use Rattle.std.proofs.lemmas.List.Folds.{concat-append, list_any-append}
 use Rattle.nm_text.specs.QuotedStrings.{pair_more, pairs_of, quoted_len}
 use Rattle.nm_header.specs.Mailboxes.{StopsAt, begins_with_any, lexemes_before, mailbox_lexeme_more, mailbox_lexemes_of}
-use Rattle.nm_header.proofs.CutLemmas.{cut-cons, cut-nil}
+use Rattle.nm_text.specs.CutLaws.{cut-cons, cut-nil}
 use Rattle.nm_header.proofs.DepthLemmas.{neq}
 use Rattle.nm_text.specs.Cuts.{is_byte}
 

@@ -1,7 +1,6 @@
 pub mod AddressLemmas
 pub mod BodyLemmas
 pub mod CommentLemmas
-pub mod CutLemmas
 pub mod DepthLemmas
 pub mod FieldLemmas
 pub mod FoldLemmas
@@ -14,5 +13,4 @@ pub mod NameLemmas
 pub mod PlainLemmas
 pub mod SplitLemmas
 pub mod TextLemmas
-pub mod Utf8Lemmas
 pub mod WrittenMailboxLemmas

@@ -12,7 +12,7 @@ use Rattle.nm_base.specs.declared.facts.Mailbox.{Mailbox}
 use Rattle.nm_text.specs.WhiteSpace.{without_white_space}
 use Rattle.nm_header.specs.Mailboxes.{StopsAt, after_colon, begins_with_any, is_angle, is_colon, is_separator, lexemes_before, mailbox_from, mailbox_in, mailbox_lexeme_more, mailbox_lexemes_of, mailbox_of, mailboxes_in, name_ends, part_ends, spaced_of}
 use Rattle.nm_text.specs.QuotedStrings.{unquoted}
-use Rattle.nm_header.proofs.CutLemmas.{cut-cons, cut-nil}
+use Rattle.nm_text.specs.CutLaws.{cut-cons, cut-nil}
 use Rattle.nm_header.proofs.DepthLemmas.{neq}
 use Rattle.nm_header.proofs.LexemeLemmas.{before_first-no, before_is}
 use Rattle.nm_text.specs.Cuts.{is_byte}

@@ -8,8 +8,8 @@ use Rattle.std.proofs.lemmas.List.{append-nil, take-append-drop}
 use Rattle.std.proofs.lemmas.Str.{IsUtf8-append, IsUtf8-from_ascii}
 use Rattle.std.proofs.lemmas.Str.Ascii.{IsAscii-cons, IsAscii-nil}
 use Rattle.nm_header.specs.Comments.{is_comment, lexeme_more, lexemes_of, plain_of, shown}
-use Rattle.nm_header.proofs.CutLemmas.{cut-nil}
-use Rattle.nm_header.proofs.Utf8Lemmas.{split_ascii}
+use Rattle.nm_text.specs.CutLaws.{cut-nil}
+use Rattle.nm_text.specs.Utf8Laws.{split_ascii}
 
 pub plain_turn : (before after lexeme left behind : List ℕ) (n : ℕ) → lexemes_of left ≡ take n left ∷ lexemes_of (drop n left) → lexeme ≡ take n left → behind ≡ drop n left → after ≡ before ++ shown lexeme → after ++ plain_of behind ≡ before ++ plain_of left
 plain_turn before after lexeme left behind n e f b a =

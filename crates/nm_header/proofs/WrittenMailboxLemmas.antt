@@ -16,7 +16,7 @@ use Rattle.nm_text.specs.WhiteSpace.{is_all_white_space, without_white_space}
 use Rattle.nm_header.specs.Comments.{comment_len, lexeme_more, lexemes_of, plain_of, shown}
 use Rattle.nm_header.specs.Mailboxes.{begins_with_any, is_angle, is_some_text, mailbox_from, mailbox_in, mailbox_lexeme_more, mailbox_lexemes_of, mailbox_of, mailboxes_in, mailboxes_of, name_ends, part_ends, spaced_of}
 use Rattle.nm_header.specs.WrittenMailboxes.{WrittenMailbox, escaped, is_address_byte, is_spaced, is_unquoted_byte, is_word, is_writable, written_mailbox, written_mailboxes, written_name}
-use Rattle.nm_header.proofs.CutLemmas.{cut-cons, cut-nil}
+use Rattle.nm_text.specs.CutLaws.{cut-cons, cut-nil}
 use Rattle.nm_header.proofs.LexemeLemmas.{before_is}
 use Rattle.nm_header.proofs.MailboxLemmas.{drop_before, in_end, in_nil, in_separator, no_angle, no_part_end, none_of}
 

@@ -30,19 +30,19 @@ use Rattle.nm_query.specs.declared.query.Query.{Query}
 use Rattle.nm_query.specs.declared.query_error.QueryError.{QueryError}
 use Rattle.nm_query.specs.declared.query_error.QueryError.TheVariants as errors
 use Rattle.nm_tags.specs.declared.line_error.LineKind.{LineKind}
-use Rattle.nm_sync.specs.Renamed.{TreesAlong}
 use Rattle.nm_history.specs.Call.{Devices, Unasked, call_lines, call_of, command_reads, devices, fault_by, fault_of_command, fault_of_input, input_fault_by, is_session, phases_by, placed_from, reads_by}
 use Rattle.nm_history.specs.CrashPrefix.{KeepsDisk}
 use Rattle.nm_history.specs.Given.{AsksBy, AsksMail, AsksNothing, AsksShow, GivenAlong}
 use Rattle.nm_history.specs.History.{History}
 use Rattle.nm_history.specs.LineAnswers.{HasCause, LaneAnswers, LineAnswers, line_text}
-use Rattle.nm_history.specs.LineCommits.{LineCommits, Makes, RenamesAfterBy, RenamesComeAfterTags}
+use Rattle.nm_history.specs.LineCommits.{LineCommits, Makes}
 use Rattle.nm_history.specs.LineResult.{IsLineResult, Place, StandsAt, before_at, reply_step}
 use Rattle.nm_history.specs.Lines.{RunLine, after_lines, at_first, given_in, lane_zero_lines, other_lane_lines, run_lines, tree_after_line, tree_by}
 use Rattle.nm_history.specs.MachineRun.{MachineRun, Replied, replied_where}
 use Rattle.nm_history.specs.PrintedOut.{AreLogsOf, Prints}
 use Rattle.nm_history.specs.Refusals.{RefusesLine}
 use Rattle.nm_history.specs.Requests.{first_bad_line, first_refusal, is_writing, own_query, query_in, refused_closed, refused_line, refused_query, refused_text, refused_unasked}
+use Rattle.nm_history.specs.StillLaws.{no-renames, renames-none}
 use Rattle.nm_history.specs.UnaskedLine.{refused_done, refused_log}
 use Rattle.nm_history.proofs.BankLemmas.{refused-disk}
 use Rattle.nm_history.proofs.CompleteLemmas.{unread-lines}
@@ -156,16 +156,6 @@ module _ (line : ScriptLine) (index : Base) (moment : ℤ) (count : ℕ) (tree :
   makes-nothing (outcomes.Limit limit) unasked e = (inl (refl, inl (refl, e)), refl)
   makes-nothing outcomes.NoMemory unasked e = (inl (refl, inl refl), refl)
 
-renames-by : (kind : Kind) (request : Request) (input : List ℕ) (moment : ℤ) (index : Base) → RenamesAfterBy kind request input moment index [] []
-renames-by TakesMail request input moment index = tt
-renames-by ReadsIndex request input moment index = tt
-renames-by (ShowsFiles ask) request input moment index = tt
-renames-by SetsTags request input moment index = inl refl
-
-renames-none : (line : ParsedLine) (input : List ℕ) (moment : ℤ) (index : Base) → RenamesComeAfterTags line input moment index [] []
-renames-none (asked.Usage word kind) input moment index = tt
-renames-none (asked.Request request) input moment index = renames-by (kind_of request) request input moment index
-
 module _ (line : ParsedLine) (input : List ℕ) (place : Place) (index : Base) (moment : ℤ) where
   has-cause : (why : Outcome) → is_unasked why ≡ true → refused_unasked line input place.writer.closed ≡ Some why
       → HasCause why line input (before_at place) index moment [] place.mail.faults false
@@ -213,10 +203,6 @@ no-reply outcomes.NoMemory line lane revision text unasked = refl
 asks-nothing : (mail : ObservedMail) → AsksNothing mail mail []
 asks-nothing mail = record { given_is = refl; same = refl }
 
-still-along : (tree : Option Tree) → TreesAlong tree [] tree
-still-along None = refl
-still-along (Some tree) = (tree, refl, refl)
-
 shows-nothing : (why : Outcome) (mail : ObservedMail) (left : ℕ) (paths : List (List ℕ)) → is_unasked why ≡ true → AsksShow why mail mail left paths []
 shows-nothing outcomes.Ok mail left paths unasked = absurd (cc)
 shows-nothing (outcomes.Usage word kind) mail left paths unasked = asks-nothing mail
@@ -235,7 +221,7 @@ asks-by : (kind : Kind) (why : Outcome) (index : Base) (moment : ℤ) (left : �
 asks-by TakesMail why index moment left mail unasked = inl (refl, refl)
 asks-by ReadsIndex why index moment left mail unasked = asks-nothing mail
 asks-by (ShowsFiles ask) why index moment left mail unasked = shows-nothing why mail left _ unasked
-asks-by SetsTags why index moment left mail unasked = record { more = []; given_is = refl; tree = still-along mail.tree; reads = refl }
+asks-by SetsTags why index moment left mail unasked = record { more = []; given_is = refl; tree = no-renames mail.tree; reads = refl }
 
 asks-none : (why : Outcome) (line : ParsedLine) (index : Base) (moment : ℤ) (left : ℕ) (mail : ObservedMail) → is_unasked why ≡ true → AsksMail why line index moment left mail mail []
 asks-none why (asked.Usage word kind) index moment left mail unasked = asks-nothing mail
@@ -316,7 +302,7 @@ module _ (why : Outcome) (input : List ℕ) (words : List (List ℕ)) (setting :
     in_flight = [];
     has_made = record { fit = tt; within = tt; idle = λ closed. refl; published = refl; shown = refl; begun_are = refl; clocks = []; acked = refl; one_each = refl };
     makes = makes-nothing line empty_index setting.moment 0 mail.tree why unasked refuses;
-    renames_after = renames-none (parse_line line) line.input setting.moment empty_index;
+    renames_after = renames-none (parse_line line) line.input setting.moment empty_index [];
     on_its_way = refl;
     closed = refl;
     asks = asks-none why (parse_line line) empty_index setting.moment max_mail_bytes mail unasked;

@@ -13,4 +13,5 @@ pub mod PrintedOut
 pub mod Refusals
 pub mod Requests
 pub mod Status
+pub mod StillLaws
 pub mod UnaskedLine

@@ -12,9 +12,10 @@ use Rattle.nm_base.specs.declared.refusals.UsageKind.{UsageKind}
 use Rattle.nm_history.specs.Given.{AsksBy, AsksMail, AsksShow}
 use Rattle.nm_history.specs.LineAnswers.{HasCause, NoneFailed, line_text, refused_lane_read}
 use Rattle.nm_commit.specs.declared.change.Commit.{Commit}
-use Rattle.nm_history.specs.LineCommits.{FindsBy, FindsFor, Makes, RenamesAfterBy, RenamesComeAfterTags}
+use Rattle.nm_history.specs.LineCommits.{FindsBy, FindsFor, Makes}
 use Rattle.nm_history.specs.LineResult.{HasMade, Place, before_at, said_of}
 use Rattle.nm_history.specs.Lines.{given_in, tree_after_line, tree_by}
+use Rattle.nm_history.specs.StillLaws.{no-renames, renames-none}
 use Rattle.nm_history.specs.MachineRun.{replied_where}
 use Rattle.nm_history.specs.Requests.{asks_folder, first_bad_line, first_refusal, is_asking, is_writing, own_query, paths_to_show, query_outcome, refused_closed, refused_found, refused_line, refused_query, refused_reading, refused_text, refused_text_of, refused_unasked, writes_index}
 use Rattle.nm_model_index.specs.declared.base.Base.{Base}
@@ -35,14 +36,13 @@ use Rattle.nm_query.specs.declared.query_error.QueryError.{QueryError}
 use Rattle.nm_query.specs.declared.query_error.QueryError.TheVariants as query_errors
 use Rattle.nm_scan.specs.Bodies.{left_after}
 use Rattle.nm_line.specs.Line.{Ends, IsLineAnswer, IsReadOff, IsSaid, newly_closed, refused_with, replied_with}
-use Rattle.nm_line.specs.Prepared.{IsPrepared, reading_request}
+use Rattle.nm_prepare.specs.Prepared.{IsPrepared, reading_request}
 use Rattle.nm_line.specs.declared.line_answer.LineAnswer.{LineAnswer}
-use Rattle.nm_line.specs.declared.prepared.Prepared.TheVariants as ready
-use Rattle.nm_line.specs.declared.prepared.Reading.{Reading}
-use Rattle.nm_line.specs.declared.prepared.Reading.TheVariants as readings
+use Rattle.nm_prepare.specs.declared.prepared.Prepared.TheVariants as ready
+use Rattle.nm_prepare.specs.declared.prepared.Reading.{Reading}
+use Rattle.nm_prepare.specs.declared.prepared.Reading.TheVariants as readings
 use Rattle.nm_log.specs.declared.log.Said.{Said}
 use Rattle.nm_tags.specs.declared.line_error.LineKind.{LineKind}
-use Rattle.nm_sync.specs.Renamed.{TreesAlong}
 use Rattle.nm_writer.specs.Writer.{WriterState}
 
 -- where nothing was asked
@@ -69,21 +69,6 @@ tree-by SetsTags tree = renamed-none tree
 pub tree-still : (line : ParsedLine) (tree : Option Tree) → tree ≡ tree_after_line line [] tree
 tree-still (asked.Request request) tree = tree-by (kind_of request) tree
 tree-still (asked.Usage word kind) tree = refl
-
--- and nothing was renamed
-renames-by : (kind : Kind) (request : Request) (input : List ℕ) (moment : ℤ) (index : Base) (made : List Commit) → RenamesAfterBy kind request input moment index [] made
-renames-by TakesMail request input moment index made = tt
-renames-by ReadsIndex request input moment index made = tt
-renames-by (ShowsFiles ask) request input moment index made = tt
-renames-by SetsTags request input moment index made = inl refl
-
-renames-none : (line : ParsedLine) (input : List ℕ) (moment : ℤ) (index : Base) (made : List Commit) → RenamesComeAfterTags line input moment index [] made
-renames-none (asked.Request request) input moment index made = renames-by (kind_of request) request input moment index made
-renames-none (asked.Usage word kind) input moment index made = tt
-
-no-renames : (tree : Option Tree) → TreesAlong tree [] tree
-no-renames None = refl
-no-renames (Some tree) = (tree, refl, refl)
 
 -- what ends a line before it asks anything
 abbrev pub is_early : Outcome → Bool

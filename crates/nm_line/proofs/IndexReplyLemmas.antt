@@ -11,7 +11,7 @@ use Rattle.nm_base.specs.declared.memory.NoMemory.{NoMemory}
 use Rattle.nm_model_index.specs.declared.base.Base.{Base}
 use Rattle.nm_line.specs.Line.{IsReadOff, replied_with}
 use Rattle.nm_line.specs.declared.line_answer.LineAnswer.{LineAnswer}
-use Rattle.nm_line.specs.declared.prepared.Reading.TheVariants as readings
+use Rattle.nm_prepare.specs.declared.prepared.Reading.TheVariants as readings
 use Rattle.nm_query.specs.declared.query.Query.{Query}
 use Rattle.nm_query.specs.declared.query_error.QueryError.{QueryError}
 use Rattle.nm_tags.specs.declared.line_error.LineKind.{LineKind}

@@ -9,10 +9,10 @@ use Rattle.nm_model_index.specs.declared.base.Base.{Base}
 use Rattle.nm_lanes.specs.declared.script.ScriptLine.{ScriptLine}
 use Rattle.nm_line.specs.Line.{IsReadOff, refused_with}
 use Rattle.nm_line.specs.LaneRead.{IsAnswerOn, IsSaidOn, lane_answer, refused_or}
-use Rattle.nm_line.specs.Prepared.{IsPrepared, reading_request}
+use Rattle.nm_prepare.specs.Prepared.{IsPrepared, reading_request}
 use Rattle.nm_line.specs.declared.line_answer.LineAnswer.{LineAnswer}
-use Rattle.nm_line.specs.declared.prepared.Prepared.TheVariants as ready
-use Rattle.nm_line.specs.declared.prepared.Reading.{Reading}
+use Rattle.nm_prepare.specs.declared.prepared.Prepared.TheVariants as ready
+use Rattle.nm_prepare.specs.declared.prepared.Reading.{Reading}
 use Rattle.nm_line.proofs.AnswerLemmas.{refusal-said, refusal-unreplied}
 use Rattle.nm_log.specs.ParsedLine.{parse_line}
 use Rattle.nm_log.specs.Replies.{is_well, refusal_line}

@@ -3,5 +3,4 @@ pub mod Desk
 pub mod LaneRead
 pub mod Line
 pub mod Outcomes
-pub mod Prepared
 pub mod ShowAnswer

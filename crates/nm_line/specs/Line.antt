@@ -16,9 +16,9 @@ use Rattle.nm_history.specs.MachineRun.{replied_where}
 use Rattle.nm_history.specs.Requests.{refused_unasked}
 use Rattle.nm_model_index.specs.declared.base.Base.{Base}
 use Rattle.nm_lanes.specs.declared.script.ScriptLine.{ScriptLine}
-use Rattle.nm_line.specs.Prepared.{IsReadingOf, reading_request}
+use Rattle.nm_prepare.specs.Prepared.{IsReadingOf, reading_request}
 use Rattle.nm_line.specs.declared.line_answer.LineAnswer.{LineAnswer}
-use Rattle.nm_line.specs.declared.prepared.Reading.{Reading}
+use Rattle.nm_prepare.specs.declared.prepared.Reading.{Reading}
 use Rattle.nm_log.specs.ParsedLine.{parse_line}
 use Rattle.nm_log.specs.Replies.{refusal_line}
 use Rattle.nm_log.specs.declared.outcome.Outcome.{Outcome}

@@ -5,11 +5,11 @@ ghost use Rattle.nm_dates.specs.Seconds.{IsMoment};
 ghost use Rattle.nm_line.specs.Line.{IsReadOff};
 
 use crate::line_answer::{LineAnswer, replied};
-use crate::prepared::Reading;
 use nm_base::NoMemory;
 use nm_dump::dump_reply;
 use nm_log::Setting;
 use nm_model_answer::Request;
+use nm_prepare::Reading;
 use nm_render::{count_reply, counts_reply, search_reply};
 use nm_state::Snapshot;
 use std::alloc::Global;

@@ -4,7 +4,7 @@ ghost use Rattle.std.specs.Prelude.{◌≡◌, []};
 ghost use Rattle.nm_lanes.specs.declared.script.ScriptLine.{ScriptLine};
 ghost use Rattle.nm_line.specs.Desk.{IsReady, KeepsLoans, Stands, StaysDurable, place_of};
 ghost use Rattle.nm_line.specs.Line.{Ends};
-ghost use Rattle.nm_line.specs.Prepared.{IsPreparedAs};
+ghost use Rattle.nm_prepare.specs.Prepared.{IsPreparedAs};
 ghost use Rattle.nm_log.specs.ParsedLine.{parse_line};
 ghost use Rattle.nm_scan.specs.Bodies.{left_after};
 
@@ -12,7 +12,6 @@ use crate::desk::Desk;
 use crate::index_replies::read_off;
 use crate::line_answer::{LineAnswer, refuse};
 use crate::new::run_new;
-use crate::prepared::{AskError, Prepared};
 use crate::restore::run_restore;
 use crate::show::run_show;
 use crate::tag::run_tag;
@@ -20,6 +19,7 @@ use nm_base::{Many, NoMemory};
 use nm_disk::Disk;
 use nm_log::Crew;
 use nm_maildir::{Given, Maildir};
+use nm_prepare::{AskError, Prepared};
 use std::sync::Wait;
 use std::thread::Threads;
 

@@ -5,8 +5,8 @@ ghost use Rattle.nm_model_answer.specs.NewText.{new_text};
 ghost use Rattle.nm_lanes.specs.declared.script.ScriptLine.{ScriptLine};
 ghost use Rattle.nm_line.specs.Desk.{IsReady, KeepsLoans, Stands, StaysDurable, place_of};
 ghost use Rattle.nm_line.specs.Line.{Ends, replied_with};
-ghost use Rattle.nm_line.specs.Prepared.{IsPrepared};
-ghost use Rattle.nm_line.specs.declared.prepared.Prepared.TheVariants as ready;
+ghost use Rattle.nm_prepare.specs.Prepared.{IsPrepared};
+ghost use Rattle.nm_prepare.specs.declared.prepared.Prepared.TheVariants as ready;
 ghost use Rattle.nm_log.specs.ParsedLine.{parse_line};
 ghost use Rattle.nm_scan.specs.Bodies.{left_after};
 

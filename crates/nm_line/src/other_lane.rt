@@ -3,15 +3,15 @@
 ghost use Rattle.std.specs.Prelude.{◌≡◌, ◌≤◌, true};
 ghost use Rattle.nm_dates.specs.Seconds.{IsMoment};
 ghost use Rattle.nm_line.specs.LaneRead.{IsAnswerOn};
-ghost use Rattle.nm_line.specs.Prepared.{request_of};
+ghost use Rattle.nm_prepare.specs.Prepared.{request_of};
 ghost use Rattle.nm_log.specs.ParsedLine.{is_of_every_lane};
 
 use crate::index_replies::read_off;
 use crate::line_answer::{LineAnswer, refuse};
-use crate::prepared::{AskError, Prepared, Reading, prepare_line};
 use nm_base::NoMemory;
 use nm_lanes::ScriptLine;
 use nm_log::{Setting, other_lanes_search_count_and_dump};
+use nm_prepare::{AskError, Prepared, Reading, prepare_line};
 use nm_state::Snapshot;
 use std::alloc::Global;
 

@@ -6,9 +6,9 @@ ghost use Rattle.nm_faults.specs.Faults.{HasCauseOf};
 ghost use Rattle.nm_lanes.specs.declared.script.ScriptLine.{ScriptLine};
 ghost use Rattle.nm_line.specs.Desk.{IsReady, KeepsLoans, Stands, StaysDurable, place_of};
 ghost use Rattle.nm_line.specs.Line.{Ends, refused_with};
-ghost use Rattle.nm_line.specs.Prepared.{IsPrepared};
+ghost use Rattle.nm_prepare.specs.Prepared.{IsPrepared};
 ghost use Rattle.nm_line.specs.ShowAnswer.{IsAfterReads, IsAfterShow, bodies_fault, is_folder_fault, show_fault, show_outcome, tells_not_one};
-ghost use Rattle.nm_line.specs.declared.prepared.Prepared.TheVariants as ready;
+ghost use Rattle.nm_prepare.specs.declared.prepared.Prepared.TheVariants as ready;
 ghost use Rattle.nm_log.specs.ParsedLine.{parse_line};
 ghost use Rattle.nm_scan.specs.Bodies.{left_after};
 

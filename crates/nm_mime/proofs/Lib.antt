@@ -1,6 +1,5 @@
 pub mod BetweenLemmas
 pub mod ChildLemmas
-pub mod CutLemmas
 pub mod LawLemmas
 pub mod ParamLemmas
 pub mod PartLemmas

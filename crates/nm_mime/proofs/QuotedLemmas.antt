@@ -3,7 +3,7 @@ use Rattle.std.proofs.Common.{◌≡◌, ℕ, ◌+◌, cond, false, ◌==◌, Li
 use Rattle.std.specs.List.{flat_map}
 use Rattle.nm_text.specs.Cuts.{len_through}
 use Rattle.nm_text.specs.QuotedStrings.{is_special, pair_more, pairs_of, quoted_len, unquoted, unquoted_pair}
-use Rattle.nm_mime.proofs.CutLemmas.{cut-cons, cut-nil}
+use Rattle.nm_text.specs.CutLaws.{cut-cons, cut-nil}
 
 pub quoted-nil : quoted_len [] ≡ 0
 quoted-nil = ap (len_through (is_special 34)) (cut-nil pair_more)

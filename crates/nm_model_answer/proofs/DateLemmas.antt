@@ -5,7 +5,7 @@ use Rattle.std.specs.List.{AllByRecursion}
 use Rattle.std.proofs.lemmas.Int.{ints}
 use Rattle.nm_model_answer.specs.Listing.{by_rank}
 use Rattle.nm_model_answer.specs.Orders.{Falls, Rises, is_ranked}
-use Rattle.nm_model_answer.proofs.OrderLemmas.{by_rank_is}
+use Rattle.nm_model_answer.specs.RankLaws.{by_rank_is}
 
 back : (a b : ℤ) → int_lt (pos 0 -ℤ a) (pos 0 -ℤ b) ≡ int_lt b a
 back a b = elim (int_lt b a) as (λ v. int_lt b a ≡ v → int_lt (pos 0 -ℤ a) (pos 0 -ℤ b) ≡ v) [

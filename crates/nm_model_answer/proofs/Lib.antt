@@ -2,7 +2,6 @@ mod DateLemmas
 mod ListLemmas
 mod MatchLemmas
 mod OnceLemmas
-mod OrderLemmas
 mod PartLemmas
 mod TreeLemmas
 mod WordLemmas

@@ -8,7 +8,7 @@ use Rattle.std.specs.Prelude.{IsTrue, nat_eq}
 use Rattle.std.specs.List.{starts_with}
 use Rattle.nm_base.specs.Order.{same_text}
 use Rattle.nm_model_answer.specs.Runs.{Stand, StandWithFront}
-use Rattle.nm_model_answer.specs.Words.{begins_with, has_words}
+use Rattle.nm_base.specs.AskedWords.{begins_with, has_words}
 
 -- a word that begins with a front has a rest
 front_from : (front found : List ℕ) → starts_with nat_eq found front ≡ true → found ≡ front ++ drop (length front) found

@@ -12,6 +12,7 @@ pub mod Matches
 pub mod NewText
 pub mod Orders
 pub mod Places
+pub mod RankLaws
 pub mod RenameOutcomes
 pub mod Restore
 pub mod Runs

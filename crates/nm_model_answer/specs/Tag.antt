@@ -1,4 +1,4 @@
--- What a `tag` asks for. Cited by `nm_line`.
+-- What a `tag` asks for. Cited by `nm_prepare`.
 use Rattle.std.specs.Prelude.{ℕ, List, [], ◌∷◌, Ok, Err, if◌then◌else◌}
 use Rattle.nm_base.specs.declared.asks.TagAsk.{TagAsk}
 use Rattle.nm_query.specs.Answers.{answer_of}

@@ -13,7 +13,7 @@ ghost use Rattle.nm_model_answer.specs.Matches.{Excludes, is_excluded, is_match,
 ghost use Rattle.nm_model_answer.specs.Runs.{Stand, StandWithFront};
 ghost use Rattle.nm_model_answer.specs.Test.{is_odd, passes};
 ghost use Rattle.nm_model_answer.specs.View.{View, view_of};
-ghost use Rattle.nm_model_answer.specs.Words.{has_words};
+ghost use Rattle.nm_base.specs.AskedWords.{has_words};
 
 /// A list has words exactly where they are in it one after the other; the last one may be the front of a word where that is
 /// asked.

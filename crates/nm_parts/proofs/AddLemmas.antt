@@ -20,7 +20,7 @@ use Rattle.nm_tables.specs.Kept.{AreKept}
 use Rattle.nm_parts.specs.Parts.{AreHeld, AreParts, AreTagged, base_of}
 use Rattle.nm_parts.specs.ThreadLaws.{ThreadLaws}
 use Rattle.nm_parts.specs.declared.parts.Parts.{Parts}
-use Rattle.nm_tables.specs.KeyLaws.{Contains_first, Contains_there, Contains_cases, Contains_map, Contains_none, same_text_of, text_same}
+use Rattle.nm_base.specs.KeyLaws.{Contains_first, Contains_there, Contains_cases, Contains_map, Contains_none, same_text_of, text_same}
 use Rattle.nm_parts.proofs.ListLemmas.{in_left, in_right, in_either}
 use Rattle.nm_parts.proofs.HeldLemmas.{file_row, kept_row, a_row, held_by, held_more, of_row}
 use Rattle.nm_parts.proofs.TagLemmas.{moved_tagged}

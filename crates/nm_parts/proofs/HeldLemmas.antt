@@ -9,7 +9,7 @@ use Rattle.nm_model_index.specs.Index.{is_held, row_of, rows_of}
 use Rattle.nm_model_index.specs.declared.base.Base.{Base}
 use Rattle.nm_threads.specs.Same.{ids_of, Same, is_same}
 use Rattle.nm_parts.specs.ThreadLaws.{ThreadLaws}
-use Rattle.nm_tables.specs.KeyLaws.{any_one, any_of, Contains_map, Contains_from_map}
+use Rattle.nm_base.specs.KeyLaws.{any_one, any_of, Contains_map, Contains_from_map}
 use Rattle.nm_parts.proofs.ListLemmas.{in_left, in_right, in_either}
 
 -- ---- rows

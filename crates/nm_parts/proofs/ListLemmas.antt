@@ -1,7 +1,7 @@
 -- Items of two lists put together. For `AddLemmas` and `HeldLemmas`.
 use Rattle.std.proofs.Common.{subst, List, [], ◌∷◌, ◌++◌, inl, inr, ◌⊎◌}
 use Rattle.std.specs.Prelude.{Contains}
-use Rattle.nm_tables.specs.KeyLaws.{Contains_there, Contains_first, Contains_cases, Contains_none}
+use Rattle.nm_base.specs.KeyLaws.{Contains_there, Contains_first, Contains_cases, Contains_none}
 
 module _ {X : Type 0} where
   pub in_left : (xs ys : List X) (x : X) → Contains xs x → Contains (xs ++ ys) x

@@ -21,7 +21,7 @@ use Rattle.nm_parts.specs.ThreadLaws.{ThreadLaws}
 use Rattle.nm_tables.specs.declared.file_table.FileTable.{FileTable}
 use Rattle.nm_parts.specs.declared.parts.Parts.{Parts}
 use Rattle.nm_tables.specs.FilterLaws.{filter_same, from_filter, in_filter}
-use Rattle.nm_tables.specs.KeyLaws.{any_one, any_of, Contains_map, Contains_from_map, same_text_from, same_text_of}
+use Rattle.nm_base.specs.KeyLaws.{any_one, any_of, Contains_map, Contains_from_map, same_text_from, same_text_of}
 use Rattle.nm_parts.proofs.HeldLemmas.{file_row, kept_row, a_row, held_by, held_from, of_row}
 
 -- ---- what a filter leaves

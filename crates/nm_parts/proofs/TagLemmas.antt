@@ -13,7 +13,7 @@ use Rattle.nm_base.specs.declared.facts.Facts.{Facts}
 use Rattle.nm_commit.specs.Files.{has_id, with_moved, without_path}
 use Rattle.nm_tables.specs.FileTable.{at_text, lying_in}
 use Rattle.nm_parts.specs.Parts.{AreTagged}
-use Rattle.nm_tables.specs.KeyLaws.{Contains_first, Contains_there, Contains_cases, Contains_none, text_same, text_other, same_id, other_id, cases_id}
+use Rattle.nm_base.specs.KeyLaws.{Contains_first, Contains_there, Contains_cases, Contains_none, text_same, text_other, same_id, other_id, cases_id}
 use Rattle.nm_tables.specs.FilterLaws.{in_filter}
 
 abbrev TagChange : Type 0

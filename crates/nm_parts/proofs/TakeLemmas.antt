@@ -20,7 +20,7 @@ use Rattle.nm_tables.specs.Kept.{AreKept}
 use Rattle.nm_parts.specs.Parts.{AreLoose, AreParts, AreTagged, base_of}
 use Rattle.nm_parts.specs.ThreadLaws.{ThreadLaws}
 use Rattle.nm_parts.specs.declared.parts.Parts.{Parts}
-use Rattle.nm_tables.specs.KeyLaws.{any_of, Contains_first, Contains_there, Contains_cases, Contains_none, same_text_of}
+use Rattle.nm_base.specs.KeyLaws.{any_of, Contains_first, Contains_there, Contains_cases, Contains_none, same_text_of}
 use Rattle.nm_parts.proofs.HeldLemmas.{file_row, kept_row, a_row, held_by, held_from}
 use Rattle.nm_parts.proofs.PruneLemmas.{file_live}
 use Rattle.nm_tables.specs.FilterLaws.{from_filter, in_filter}

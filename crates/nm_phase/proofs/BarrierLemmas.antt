@@ -2,7 +2,7 @@
 use Rattle.std.proofs.Common.{◌≡◌, ℕ, ℤ, ◌+◌, ◌-◌, ◌==◌, ◌<◌, ◌≤◌, true, None, List, [], ◌∷◌, ◌++◌, drop, get_or, inr, length, map, take, suc, refl, sym, ap, ◌∙◌, subst, arith, append-nil}
 use Rattle.std.specs.List.{flat_map, range_with_len}
 use Rattle.std.proofs.lemmas.Grind.{flat_map-append}
-use Rattle.std.proofs.lemmas.List.{length-append, map-append}
+use Rattle.std.proofs.lemmas.List.{length-append, length-map, map-append}
 use Rattle.nm_history.specs.Call.{lines_of_lane}
 use Rattle.nm_history.specs.LineResult.{Place}
 use Rattle.nm_lanes.specs.declared.script.ScriptLine.{ScriptLine}
@@ -11,9 +11,9 @@ use Rattle.nm_phase.specs.Taken.{AreTaken}
 use Rattle.nm_trace.specs.ReservedLog.{HasSpare}
 use Rattle.nm_phase.specs.Turns.{Planned, Runs, planned_line}
 use Rattle.nm_trace.specs.declared.reserved_log.ReservedLog.{ReservedLog}
-use Rattle.nm_phase.proofs.TakenLemmas.{spare-fewer}
+use Rattle.nm_trace.specs.SpareLaws.{spare-fewer}
 use Rattle.nm_phase.proofs.TakenLemmas.{spare-all, taken-append, taken-one}
-use Rattle.nm_phase.proofs.LaneLemmas.{mapped-length, own-left, own-more, range-more}
+use Rattle.nm_phase.proofs.LaneLemmas.{own-left, own-more, range-more}
 use Rattle.nm_writer.specs.Writer.{WriterState}
 
 pub lane_read-spare : (begun lane : ℕ) (lines : List ScriptLine) (at : ℕ) (line : ScriptLine) (reserved : ReservedLog) → at < length lines → line ≡ get_or lines at line → (line.lane == lane) ≡ true
@@ -69,7 +69,7 @@ lane-left moment phase lines lane place before after within spare taken =
     let rest : List ScriptLine = from-lane lines (lane + 1) in
     spare-all moment (length rest) (map (planned_line phase) own) place place before after
     (spare-fewer (length (from-lane lines lane)) (length rest + length (map (planned_line phase) own)) (length place.writer.begun) before
-    (omega (arith, ap length (next-lane lines lane within), length-append own rest, mapped-length (planned_line phase) own)) spare) taken
+    (omega (arith, ap length (next-lane lines lane within), length-append own rest, length-map own (planned_line phase))) spare) taken
 
 pub lane-taken : (moment : ℤ) (phase : ℕ) (lines : List ScriptLine) (lane : ℕ) (place : Place) (first before after : ReservedLog) → 1 ≤ lane
     → AreTaken moment (map (planned_line phase) (flat_map (lines_of_lane lines) (range_with_len 1 (lane - 1)))) place first before place

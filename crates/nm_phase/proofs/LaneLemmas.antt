@@ -1,5 +1,5 @@
 -- The lines of a lane, one by one, and how many there are. For the proofs of `first_lane`, `barrier` and `run_one`.
-use Rattle.std.proofs.Common.{◌≡◌, ℕ, ◌+◌, ◌<◌, ◌==◌, Bool, true, false, cond, List, [], ◌∷◌, ◌++◌, drop, length, map, take, get_or, zero, suc, refl, sym, ap, ◌∙◌, arith, append-nil, append_assoc}
+use Rattle.std.proofs.Common.{◌≡◌, ℕ, ◌+◌, ◌<◌, ◌==◌, Bool, true, false, cond, List, [], ◌∷◌, ◌++◌, drop, length, map, take, get_or, zero, suc, sym, ap, ◌∙◌, arith, append-nil, append_assoc}
 use Rattle.std.proofs.lemmas.List.{drop_more, map-append, take_more}
 use Rattle.std.proofs.lemmas.List.Elements.{filter-append}
 use Rattle.std.specs.List.{flat_map, range_with_len}
@@ -48,10 +48,6 @@ other-left lane lines i line within is other =
     let rest : List ScriptLine = drop (i + 1) lines in
     ap (λ (l : List ScriptLine). length (lines_of_lane l lane)) (drop_more lines i line within ∙ ap (λ (l : ScriptLine). l ∷ rest) (sym is))
     ∙ ap (λ (b : Bool). length (cond b (line ∷ lines_of_lane rest lane) (lines_of_lane rest lane))) other
-
-pub mapped-length : {A B : Type 0} (f : A → B) (xs : List A) → length (map f xs) ≡ length xs
-mapped-length f [] = refl
-mapped-length f (x ∷ xs) = ap suc (mapped-length f xs)
 
 -- a phase is the lines of lane 0, those of the other lanes, and its end
 pub phase-cut : (number : ℕ) (phase : Phase)

@@ -1,15 +1,16 @@
 -- The parts of a phase: the lines of lane 0, those of the others, and its end. For the proof of `run_one`.
 use Rattle.std.proofs.Common.{◌≡◌, ℕ, ℤ, ◌+◌, ◌<◌, ◌≤◌, List, [], ◌∷◌, ◌++◌, length, map, refl, sym, ap, ◌∙◌, subst, arith}
 use Rattle.std.specs.List.{flat_map}
-use Rattle.std.proofs.lemmas.List.{length-append}
+use Rattle.std.proofs.lemmas.List.{length-append, length-map}
 use Rattle.nm_base.specs.Limits.{max_commits}
 use Rattle.nm_history.specs.Call.{lines_of_lane}
 use Rattle.nm_history.specs.LineResult.{Place}
 use Rattle.nm_lanes.specs.declared.script.Phase.{Phase}
 use Rattle.nm_phase.specs.Taken.{AreTaken, IsBarrierNoted}
 use Rattle.nm_phase.specs.Turns.{Meets, Planned, other_lanes, planned_line, planned_phase}
-use Rattle.nm_phase.proofs.LaneLemmas.{mapped-length, phase-cut}
-use Rattle.nm_phase.proofs.TakenLemmas.{spare-all, spare-fewer, taken-append, taken-one}
+use Rattle.nm_phase.proofs.LaneLemmas.{phase-cut}
+use Rattle.nm_phase.proofs.TakenLemmas.{spare-all, taken-append, taken-one}
+use Rattle.nm_trace.specs.SpareLaws.{spare-fewer}
 use Rattle.nm_trace.specs.ReservedLog.{HasSpare}
 use Rattle.nm_trace.specs.declared.reserved_log.ReservedLog.{ReservedLog}
 
@@ -26,7 +27,7 @@ module _ (moment : ℤ) (number : ℕ) (phase : Phase) (old mid : Place) (reserv
   pub spare-zeros : (begun : ℕ) → HasSpare (length (planned_phase number phase)) begun reserved → HasSpare (length (lines_of_lane phase.lines 0)) begun reserved
   spare-zeros begun spare =
       spare-fewer (length (planned_phase number phase)) (length (lines_of_lane phase.lines 0)) begun reserved
-      (omega (arith, parts-length, mapped-length (planned_line number) (lines_of_lane phase.lines 0))) spare
+      (omega (arith, parts-length, length-map (lines_of_lane phase.lines 0) (planned_line number))) spare
 
   module _ (taken : AreTaken moment zeros old reserved worked mid) (spare : HasSpare (length (planned_phase number phase)) (length old.writer.begun) reserved) where
     swapped : length zeros + (length others + 1) ≡ length others + 1 + length zeros
@@ -40,7 +41,7 @@ module _ (moment : ℤ) (number : ℕ) (phase : Phase) (old mid : Place) (reserv
     pub spare-others : HasSpare (length (flat_map (lines_of_lane phase.lines) other_lanes)) (length mid.writer.begun) worked
     spare-others =
         spare-fewer (length others + 1) (length (flat_map (lines_of_lane phase.lines) other_lanes)) (length mid.writer.begun) worked
-        (omega (arith, mapped-length (planned_line number) (flat_map (lines_of_lane phase.lines) other_lanes))) after-zeros
+        (omega (arith, length-map (flat_map (lines_of_lane phase.lines) other_lanes) (planned_line number))) after-zeros
 
     module _ (settled : ReservedLog) (lane_answer : AreTaken moment others mid worked settled mid) where
       one-left : HasSpare 1 (length mid.writer.begun) settled

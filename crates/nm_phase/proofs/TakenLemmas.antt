@@ -5,12 +5,9 @@ use Rattle.nm_log.specs.declared.log.LineLog.{LineLog}
 use Rattle.nm_phase.specs.Taken.{AreTaken, IsTurn}
 use Rattle.nm_phase.specs.Turns.{Meets, Planned, Runs}
 use Rattle.nm_publish.specs.Published.{Published}
+use Rattle.nm_trace.specs.SpareLaws.{spare-fewer}
 use Rattle.nm_trace.specs.ReservedLog.{AreFallbacks, HasSpare}
 use Rattle.nm_trace.specs.declared.reserved_log.ReservedLog.{ReservedLog}
-
-pub spare-fewer : (turns fewer begun : ℕ) (reserved : ReservedLog) → fewer ≤ turns → HasSpare turns begun reserved → HasSpare fewer begun reserved
-spare-fewer turns fewer begun reserved few h =
-    record { logs = omega (arith, h.logs, few); marks = omega (arith, h.marks, few); fallbacks = omega (arith, h.fallbacks, few); texts = h.texts }
 
 pub spare-turn : (moment : ℤ) (turns : ℕ) (turn : Planned) (before after : ReservedLog) (old new : Place) → HasSpare (turns + 1) (length old.writer.begun) before → IsTurn moment turn old before after new
     → HasSpare turns (length new.writer.begun) after

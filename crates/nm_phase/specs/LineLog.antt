@@ -9,7 +9,7 @@ use Rattle.nm_history.specs.MachineRun.{reply_to}
 use Rattle.nm_history.specs.PrintedOut.{IsNumbered}
 use Rattle.nm_lanes.specs.declared.script.ScriptLine.{ScriptLine}
 use Rattle.nm_line.specs.Line.{IsLineAnswer}
-use Rattle.nm_line.specs.Prepared.{IsPreparedAs}
+use Rattle.nm_prepare.specs.Prepared.{IsPreparedAs}
 use Rattle.nm_log.specs.ParsedLine.{parse_line}
 use Rattle.nm_log.specs.Replies.{status_of}
 use Rattle.nm_log.specs.declared.log.LineLog.{LineLog}

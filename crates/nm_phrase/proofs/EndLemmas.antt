@@ -13,7 +13,7 @@ use Rattle.nm_blocks.specs.Hits.{is_rising}
 use Rattle.nm_blocks.specs.declared.hit.Hit.{Hit}
 use Rattle.nm_segment.specs.declared.doc_words.DocWords.{DocWords}
 use Rattle.nm_segment.specs.Docs.{IsHit, hits_of, lists_of}
-use Rattle.nm_phrase.specs.Words.{begins_with, is_last_word}
+use Rattle.nm_base.specs.AskedWords.{begins_with, is_last_word}
 use Rattle.nm_phrase.specs.Ends.{AreEnds, AreEndsIfAny, EndsAt, are_rising, follows, is_next, narrowed}
 use Rattle.nm_phrase.proofs.FollowLemmas.{is_rising-filter}
 use Rattle.nm_phrase.proofs.ListLemmas.{In, any_from_in, any_in, contained, in_filter, in_filtered, in_from}

@@ -20,7 +20,7 @@ use Rattle.nm_cursor.specs.SetLaws.{Membership, Order}
 use Rattle.nm_cursor.specs.Sets.{IsRising, has, union}
 use Rattle.nm_segment.specs.declared.doc_words.DocWords.{DocWords}
 use Rattle.nm_segment.specs.Docs.{IsHit, hits_of, lists_of, numbers}
-use Rattle.nm_phrase.specs.Words.{has_words, is_asked, is_last_word, lists_have}
+use Rattle.nm_base.specs.AskedWords.{has_words, is_asked, is_last_word, lists_have}
 use Rattle.nm_phrase.specs.Ends.{EndsAt, IsFront, narrowed}
 use Rattle.nm_phrase.specs.Found.{numbers_of, numbers_with}
 use Rattle.nm_phrase.proofs.EndLemmas.{ends_at, found_at, push_some, same_text-itself}

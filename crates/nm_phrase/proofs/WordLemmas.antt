@@ -4,7 +4,7 @@ use Rattle.std.proofs.Common.{◌≡◌, ℕ, zero, suc, Bool, true, false, Some
 use Rattle.std.specs.Prelude.{◌&&◌}
 use Rattle.std.proofs.lemmas.Bool.{and_parts, and_from, or_cases, or_left, or_right, false≢true}
 use Rattle.nm_base.specs.Order.{same_text}
-use Rattle.nm_phrase.specs.Words.{begins_with, has_words, is_last_word}
+use Rattle.nm_base.specs.AskedWords.{begins_with, has_words, is_last_word}
 
 -- the list begins with the words, each whole
 abbrev pub stand : List (List ℕ) → List (List ℕ) → Bool

@@ -8,7 +8,7 @@ use Rattle.nm_blocks.specs.Hits.{is_before, is_rising}
 use Rattle.nm_blocks.specs.declared.hit.Hit.{Hit}
 use Rattle.nm_segment.specs.Docs.{lists_of}
 use Rattle.nm_segment.specs.declared.doc_words.DocWords.{DocWords}
-use Rattle.nm_phrase.specs.Words.{begins_with}
+use Rattle.nm_base.specs.AskedWords.{begins_with}
 
 -- a document has a list of the field in which the words come one after the other, the last of them at this hit
 pub record EndsAt (docs : List DocWords) (field : Field) (starts : Bool) (words : List (List ℕ)) (hit : Hit) : Type 0 where

@@ -5,7 +5,7 @@ use Rattle.nm_blocks.specs.declared.hit.Hit.{Hit}
 use Rattle.nm_segment.specs.Docs.{hits_of}
 use Rattle.nm_segment.specs.declared.doc_words.DocWords.{DocWords}
 use Rattle.nm_phrase.specs.Ends.{narrowed}
-use Rattle.nm_phrase.specs.Words.{lists_have}
+use Rattle.nm_base.specs.AskedWords.{lists_have}
 
 -- the numbers of the documents of which one list of the field has the words one after the other, the last by its front where
 -- `starts` is set

@@ -1,13 +1,12 @@
 -- Quoted texts, byte by byte: what represents their first byte, and that what they say is text.
 -- For the proofs of `said_len`, `doubled_len` and `undoubled`.
-use Rattle.std.proofs.Common.{◌≡◌, ℕ, zero, suc, ◌+◌, ◌<◌, ◌≤◌, true, false, cond, ◌&&◌, ◌==◌, List, [], ◌∷◌, ◌++◌, length, take, drop, get_or, refl, sym, ap, subst, ◌∙◌, arith, append_assoc}
+use Rattle.std.proofs.Common.{◌≡◌, ℕ, zero, suc, ◌+◌, ◌<◌, ◌≤◌, true, false, cond, ◌&&◌, ◌==◌, List, [], ◌∷◌, ◌++◌, length, drop, get_or, refl, sym, ap, subst, ◌∙◌, arith, append_assoc}
 use Rattle.std.specs.Prelude.{IsUtf8}
 use Rattle.std.proofs.lemmas.Bool.{eqb-true}
 use Rattle.std.proofs.lemmas.Bool.Decides.{nat_tests}
-use Rattle.std.proofs.lemmas.Str.{IsCharBoundary-after_ascii, IsCharBoundary-before_ascii, IsUtf8-append, IsUtf8-drop, IsUtf8-take}
-use Rattle.std.proofs.lemmas.List.{drop_at, drop-drop, get_or_at, take_at}
-use Rattle.std.proofs.Common.{length-append}
+use Rattle.std.proofs.lemmas.Str.{IsUtf8-append}
 use Rattle.nm_query.specs.Values.{begins_with, closing, undoubled}
+use Rattle.nm_text.specs.Utf8Laws.{split_ascii}
 
 same_byte : (b c : ℕ) → b ≡ c → (b == c) ≡ true
 same_byte b c e = grind (arith, nat_tests)
@@ -51,17 +50,6 @@ undoubled_one (b ∷ c ∷ more) some single =
       | true ↦ λ h. ap (λ v. cond v (b ∷ undoubled more) (b ∷ undoubled (c ∷ more))) (single (eqb-true b 34 h))
       | false ↦ λ h. refl
     ] refl
-
--- what comes before an ASCII character is text, and what comes after it
-pub split_ascii : (xs ys : List ℕ) (b : ℕ) → b < 128 → IsUtf8 (xs ++ b ∷ ys) → IsUtf8 xs × IsUtf8 ys
-split_ascii xs ys b small u =
-    let at : get_or (xs ++ b ∷ ys) (length xs) 0 ≡ b = get_or_at xs b ys 0 (length xs) refl in
-    let low : get_or (xs ++ b ∷ ys) (length xs) 0 < 128 = omega arith in
-    let inside : length xs < length (xs ++ b ∷ ys) = simp length-append (omega arith) in
-    let front : IsUtf8 (take (length xs) (xs ++ b ∷ ys)) = IsUtf8-take (xs ++ b ∷ ys) (length xs) u (IsCharBoundary-before_ascii (xs ++ b ∷ ys) (length xs) inside low) in
-    let back : IsUtf8 (drop (length xs + 1) (xs ++ b ∷ ys)) = IsUtf8-drop (xs ++ b ∷ ys) (length xs + 1) u (IsCharBoundary-after_ascii (xs ++ b ∷ ys) (length xs) u inside low) in
-    let rest : drop (length xs + 1) (xs ++ b ∷ ys) ≡ ys = sym (drop-drop 1 (length xs) (xs ++ b ∷ ys)) ∙ ap (drop 1) (drop_at xs (b ∷ ys) (length xs) refl) in
-    (subst IsUtf8 (take_at xs (b ∷ ys) (length xs) refl) front, subst IsUtf8 rest back)
 
 second_quote : (b c : ℕ) → ((b == 34) && (c == 34)) ≡ true → c < 128
 second_quote b c h = grind (arith, nat_tests)

@@ -1,4 +1,4 @@
-//! Searching: the texts of replies that the index alone says, made over a snapshot.
+//! Commands and replies: the texts of replies that the index alone says, made over a snapshot.
 #![tactic(auto)]
 
 mod authors;

@@ -8,7 +8,6 @@ pub mod OrderLemmas
 pub mod PieceLemmas
 pub mod PushLemmas
 pub mod RunsLemmas
-pub mod SameLemmas
 pub mod SearchLemmas
 pub mod SegmentLemmas
 pub mod StartLemmas

@@ -18,7 +18,7 @@ use Rattle.nm_base.specs.OrderLaws.{IsSorted-sorted}
 use Rattle.nm_base.specs.SetLaws.{bytes_same, has_text-filter, has_text-sorted}
 use Rattle.nm_segment.specs.declared.merged_index.Next.{Next}
 use Rattle.nm_segment.specs.Merge.{IsFirst, IsNext, IsPlace, IsSomewhere, after_place}
-use Rattle.nm_segment.proofs.SameLemmas.{same_sorted}
+use Rattle.nm_base.specs.SortedLaws.{same_sorted}
 
 abbrev pub Below : List ℕ → List ℕ → Type 0
 Below a b = slice_cmp nat_cmp a b ≡ Less

@@ -1,5 +1,5 @@
 -- The place of a read in the marks, and which steps are before it and after it. For `LoopLemmas` and the proofs of `barrier`.
-use Rattle.std.proofs.Common.{◌≡◌, ℕ, ◌≤◌, true, false, List, [], ◌∷◌, ◌++◌, drop, length, take, zero, suc, refl, sym, ap, ◌∙◌, subst, arith}
+use Rattle.std.proofs.Common.{◌≡◌, ℕ, true, false, List, [], ◌∷◌, ◌++◌, refl, sym, ap, ◌∙◌, subst, arith}
 use Rattle.nm_commit.specs.declared.change.Commit.{Commit}
 use Rattle.nm_history.specs.LineResult.{LeaveAlone, shows}
 use Rattle.nm_model_machine.specs.declared.step.Step.{Step}
@@ -69,22 +69,3 @@ shows-made (marks.Begun ∷ ns) (commit ∷ commits) h = omega (arith, shows-mad
 shows-made (marks.LaneRead other ∷ ns) commits h = omega (arith, shows-made ns commits h)
 shows-made (marks.Reply other said ∷ ns) commits h = omega (arith, shows-made ns commits h)
 shows-made (marks.Met ∷ ns) commits h = omega (arith, shows-made ns commits h)
-
--- ---- a mark is put in
-
-take-front : (n : ℕ) (ms ys : List Mark) → n ≤ length ms → take n (take n ms ++ ys) ≡ take n ms
-take-front zero ms ys within = refl
-take-front (suc n) [] ys within = absurd (omega (arith, within))
-take-front (suc n) (m ∷ ms) ys within = ap (λ (l : List Mark). m ∷ l) (take-front n ms ys (omega (arith, within)))
-
-drop-front : (n : ℕ) (ms ys : List Mark) → n ≤ length ms → drop n (take n ms ++ ys) ≡ ys
-drop-front zero ms ys within = refl
-drop-front (suc n) [] ys within = absurd (omega (arith, within))
-drop-front (suc n) (m ∷ ms) ys within = drop-front n ms ys (omega (arith, within))
-
-pub put-both : (ms between after : List Mark) (at : ℕ) (lane_read reply : Mark) → at ≤ length ms → between ≡ take at ms ++ reply ∷ drop at ms → after ≡ take at between ++ lane_read ∷ drop at between
-    → after ≡ take at ms ++ (lane_read ∷ reply ∷ drop at ms)
-put-both ms between after at lane_read reply within first second =
-    let front : take at between ≡ take at ms = ap (take at) first ∙ take-front at ms (reply ∷ drop at ms) within in
-    let back : drop at between ≡ reply ∷ drop at ms = ap (drop at) first ∙ drop-front at ms (reply ∷ drop at ms) within in
-    second ∙ (ap (λ (l : List Mark). l ++ lane_read ∷ drop at between) front ∙ ap (λ (l : List Mark). take at ms ++ lane_read ∷ l) back)

@@ -1,31 +1,25 @@
 -- One phase more of a session. For the proofs of `run_phases` and `run_command`.
-use Rattle.std.proofs.Common.{◌≡◌, ℕ, ℤ, ◌+◌, ◌<◌, ◌≤◌, Bool, true, List, [], ◌∷◌, ◌++◌, None, Some, drop, get_or, length, map, take, refl, sym, ap, ◌∙◌, subst, arith}
-use Rattle.std.specs.List.{flat_map}
+use Rattle.std.proofs.Common.{◌≡◌, ℕ, ℤ, ◌+◌, ◌<◌, ◌≤◌, Bool, true, List, [], ◌++◌, None, Some, drop, get_or, length, take, refl, sym, ap, subst, arith}
 use Rattle.std.proofs.lemmas.List.{length-append}
-use Rattle.nm_base.specs.Limits.{max_commits}
-use Rattle.nm_history.specs.Call.{Devices, PlacedLine, lines_of_lane}
+use Rattle.nm_history.specs.Call.{Devices, PlacedLine}
 use Rattle.nm_history.specs.LineResult.{Place}
 use Rattle.nm_history.specs.PrintedOut.{AreLogsOf, GainsReplies, HandsOnReplies}
 use Rattle.nm_model_index.specs.declared.base.Base.{Base}
 use Rattle.nm_io.specs.Observed.{ObservedSink}
 use Rattle.nm_lanes.specs.declared.script.Phase.{Phase}
 use Rattle.nm_log.specs.declared.log.LineLog.{LineLog}
-use Rattle.nm_phase.specs.Taken.{AreTaken, IsBarrierNoted}
+use Rattle.nm_phase.specs.Taken.{AreTaken}
 use Rattle.nm_session.specs.Loop.{HasNoted, HasRunSome}
 use Rattle.nm_session.specs.PrintedReplies.{PrintsRest}
+use Rattle.nm_trace.specs.SpareLaws.{spare-fewer}
 use Rattle.nm_trace.specs.ReservedLog.{HasSpare}
 use Rattle.nm_session.specs.TurnLaws.{TurnLaws}
-use Rattle.nm_phase.specs.Turns.{Meets, Planned, other_lanes, planned_line, planned_phase}
+use Rattle.nm_phase.specs.Turns.{Planned, planned_phase}
 use Rattle.nm_session.specs.Turns.{AreInPlace, places_in, planned_from}
 use Rattle.nm_trace.specs.declared.reserved_log.ReservedLog.{ReservedLog}
 use Rattle.nm_session.proofs.PhaseLemmas.{logs-all, noted-all, some-all}
 use Rattle.nm_session.proofs.PrintLemmas.{printed-failed, printed-more}
 use Rattle.nm_session.proofs.TurnLemmas.{in-place, lines-planned, phase-more, phase-within, places-left}
-
--- fewer places are spare, too
-spare-fewer : (turns fewer begun : ℕ) (reserved : ReservedLog) → fewer ≤ turns → HasSpare turns begun reserved → HasSpare fewer begun reserved
-spare-fewer turns fewer begun reserved few h =
-    record { logs = omega (arith, h.logs, few); marks = omega (arith, h.marks, few); fallbacks = omega (arith, h.fallbacks, few); texts = h.texts }
 
 module _ (moment : ℤ) (phases : List Phase) (number : ℕ) (phase : Phase) (within : number < length phases) (is : phase ≡ get_or phases number phase) (old new : Place) (before after : ReservedLog) where
   abbrev front : List Planned

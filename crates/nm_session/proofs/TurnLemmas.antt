@@ -4,14 +4,13 @@ use Rattle.std.proofs.Common.{◌≡◌, ℕ, ◌+◌, ◌<◌, ◌==◌, Bool, 
 use Rattle.std.proofs.lemmas.Bool.{eqb-true}
 use Rattle.std.proofs.lemmas.Bool.Decides.{nat_tests}
 use Rattle.std.proofs.lemmas.Grind.{flat_map-append}
-use Rattle.std.proofs.lemmas.List.{drop_more, length-append, map-append, take_more}
-use Rattle.std.proofs.lemmas.List.Elements.{filter-append}
+use Rattle.std.proofs.lemmas.List.{drop_more, length-append, length-map, take_more}
 use Rattle.std.specs.List.{AllByRecursion, flat_map, range_with_len}
 use Rattle.nm_history.specs.Call.{PlacedLine, lines_by_lane, lines_of_lane, placed_from, placed_in}
 use Rattle.nm_history.specs.MachineRun.{lane_count}
 use Rattle.nm_lanes.specs.declared.script.Phase.{Phase}
 use Rattle.nm_lanes.specs.declared.script.ScriptLine.{ScriptLine}
-use Rattle.nm_phase.specs.Turns.{Meets, Planned, Runs, other_lanes, planned_line, planned_phase}
+use Rattle.nm_phase.specs.Turns.{Meets, Planned, Runs, planned_line, planned_phase}
 use Rattle.nm_session.specs.Turns.{AreInPlace, ends_in, line_in, lines_in, places_in, planned_from}
 
 -- the lines of a phase, and of phases
@@ -183,13 +182,9 @@ lanes-within from (suc n) lines =
       split-lines from lines,
     )
 
-pub mapped-length : {A B : Type 0} (f : A → B) (xs : List A) → length (map f xs) ≡ length xs
-mapped-length f [] = refl
-mapped-length f (x ∷ xs) = ap suc (mapped-length f xs)
-
 pub phase-within : (number : ℕ) (phase : Phase) → length (planned_phase number phase) ≤ length phase.lines + 1
 phase-within number phase =
-    omega (arith, length-append (map (planned_line number) (lines_by_lane phase)) (Meets ∷ []), mapped-length (planned_line number) (lines_by_lane phase), lanes-within 0 16 phase.lines)
+    omega (arith, length-append (map (planned_line number) (lines_by_lane phase)) (Meets ∷ []), length-map (lines_by_lane phase) (planned_line number), lanes-within 0 16 phase.lines)
 
 pub planned-within : (number : ℕ) (phases : List Phase) → length (planned_from number phases) ≤ places_in phases
 planned-within number [] = omega arith

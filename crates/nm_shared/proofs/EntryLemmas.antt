@@ -11,6 +11,7 @@ use Rattle.std.specs.List.Sorted.{IsStrictlySortedBy}
 use Rattle.std.specs.Map.{keys_of, lookup, remove_entry}
 use Rattle.std.specs.BTreeMap.{insert_entry, is_at}
 use Rattle.std.specs.BTreeMap.Range.{entries_from}
+use Rattle.nm_shared.specs.EntryLaws.{all_insert}
 use Rattle.nm_shared.specs.Spot.{AllBelow, AllAbove, BeginsAt, Follows}
 
 -- what holds of each of two lists holds of both together, and the other way round
@@ -87,41 +88,10 @@ module _ {K V : Type 0} (cmp : K → K → Ordering) where
   sorted_right [] ys sorted = sorted
   sorted_right (x ∷ xs) ys sorted = sorted_right xs ys sorted.1
 
-  all_insert_by : (P : K → Type 0) (e : K × V) (es : List (K × V)) (key : K) (value : V) (answer : Ordering) → cmp key e.0 ≡ answer → P e.0 → AllByRecursion P (keys_of es) → P key
-      → AllByRecursion P (keys_of (insert_entry cmp es key value)) → AllByRecursion P (keys_of (insert_entry cmp (e ∷ es) key value))
-  all_insert_by P e es key value Less is first all here rest = rw is (here, (first, all))
-  all_insert_by P e es key value Equal is first all here rest = rw is (first, all)
-  all_insert_by P e es key value Greater is first all here rest = rw is (first, rest)
-
-  all_insert : (P : K → Type 0) (es : List (K × V)) (key : K) (value : V) → AllByRecursion P (keys_of es) → P key → AllByRecursion P (keys_of (insert_entry cmp es key value))
-  all_insert P [] key value all here = (here, tt)
-  all_insert P (e ∷ es) key value all here = all_insert_by P e es key value (cmp key e.0) refl all.0 all.1 here (all_insert P es key value all.1 here)
-
 module _ {K V : Type 0} where
   at_middle : (P : K → Type 0) (xs : List (K × V)) (e : K × V) (ys : List (K × V)) → AllByRecursion P (keys_of (xs ++ e ∷ ys)) → P e.0
   at_middle P [] e ys all = all.0
   at_middle P (x ∷ xs) e ys all = at_middle P xs e ys all.1
-
-  all_remove_by : (P : K → Type 0) (test : K → Bool) (e : K × V) (es : List (K × V)) (answer : Bool) → test e.0 ≡ answer → P e.0 → AllByRecursion P (keys_of es)
-      → AllByRecursion P (keys_of (remove_entry test es)) → AllByRecursion P (keys_of (remove_entry test (e ∷ es)))
-  all_remove_by P test e es true is first all rest = rw is all
-  all_remove_by P test e es false is first all rest = rw is (first, rest)
-
-  all_remove : (P : K → Type 0) (test : K → Bool) (es : List (K × V)) → AllByRecursion P (keys_of es) → AllByRecursion P (keys_of (remove_entry test es))
-  all_remove P test [] all = tt
-  all_remove P test (e ∷ es) all = all_remove_by P test e es (test e.0) refl all.0 all.1 (all_remove P test es all.1)
-
-  sorted_remove_by : (cmp : K → K → Ordering) (test : K → Bool) (e : K × V) (es : List (K × V)) (answer : Bool) → test e.0 ≡ answer → IsStrictlySortedBy cmp (keys_of (e ∷ es))
-      → IsStrictlySortedBy cmp (keys_of (remove_entry test es)) → IsStrictlySortedBy cmp (keys_of (remove_entry test (e ∷ es)))
-  unfolding IsStrictlySortedBy
-  sorted_remove_by cmp test e es true is sorted rest = rw is sorted.1
-  sorted_remove_by cmp test e es false is sorted rest = rw is (all_remove (λ y. cmp e.0 y ≡ Less) test es sorted.0, rest)
-
-  -- a removal keeps the order
-  pub sorted_remove : (cmp : K → K → Ordering) (test : K → Bool) (es : List (K × V)) → IsStrictlySortedBy cmp (keys_of es) → IsStrictlySortedBy cmp (keys_of (remove_entry test es))
-  unfolding IsStrictlySortedBy
-  sorted_remove cmp test [] sorted = tt
-  sorted_remove cmp test (e ∷ es) sorted = sorted_remove_by cmp test e es (test e.0) refl sorted (sorted_remove cmp test es sorted.1)
 
 module _ {K V : Type 0} {cmp : K → K → Ordering} (order : IsTotalOrder cmp) where
   -- before an entry that isn't above the key all is below the key

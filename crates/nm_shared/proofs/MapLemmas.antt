@@ -21,7 +21,8 @@ use Rattle.nm_shared.specs.Map.{IsMap}
 use Rattle.nm_shared.specs.Runs.{flat, run_at, HaveItems}
 use Rattle.nm_shared.specs.Spot.{AllBelow, AllAbove, BeginsAt, Follows, IsSpotOf}
 use Rattle.nm_shared.specs.declared.search.Spot.{Spot}
-use Rattle.nm_shared.proofs.EntryLemmas.{insert_entry-below, insert_entry-above, insert_entry-equal, remove_entry-below, remove_entry-above, remove_entry-equal, lookup-below, lookup-above, lookup-equal, entries_from-below, entries_from-follows, sorted_insert, sorted_remove, sorted_none}
+use Rattle.nm_shared.proofs.EntryLemmas.{insert_entry-below, insert_entry-above, insert_entry-equal, remove_entry-below, remove_entry-above, remove_entry-equal, lookup-below, lookup-above, lookup-equal, entries_from-below, entries_from-follows, sorted_insert, sorted_none}
+use Rattle.nm_shared.specs.EntryLaws.{sorted_remove}
 use Rattle.nm_shared.proofs.SpotLemmas.{Cut, cut, flat_cut, flat_drop, flat_set}
 
 module _ {X : Type 0} where

@@ -1,3 +1,4 @@
+pub mod EntryLaws
 pub mod Runs
 pub mod Search
 pub mod Spot

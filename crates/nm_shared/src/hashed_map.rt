@@ -113,15 +113,14 @@ fn add_slot<K: Hashed + Copies, V: Copies>(
     crowded: &SharedMap<K, V>,
     next: &mut u64,
     code: u64,
-    key: K,
-    value: V,
+    pair: (K, V),
 ) -> Result<(), NoMemory>
     requires hashed { IsHashed K.cmp K.hash places.old slots.old crowded.now next.old }
-    requires code { code ≡ K.hash key }
-    requires free { option_and_then (λ slot. at slot slots.old) (at (K.hash key) places.old) ≡ None }
-    requires apart { lookup (is_at (K.cmp key)) crowded.now ≡ None }
+    requires code { code ≡ K.hash pair.0 }
+    requires free { option_and_then (λ slot. at slot slots.old) (at (K.hash pair.0) places.old) ≡ None }
+    requires apart { lookup (is_at (K.cmp pair.0)) crowded.now ≡ None }
     ensures hashed { IsHashed K.cmp K.hash places.new slots.new crowded.now next.new }
-    ensures found { OnOk result ((other : K) → lookup (is_at (K.cmp other)) (values_of slots.new ++ crowded.now) ≡ (if is_eq (K.cmp other key) then Some value else lookup (is_at (K.cmp other)) (values_of slots.old ++ crowded.now))) }
+    ensures found { OnOk result ((other : K) → lookup (is_at (K.cmp other)) (values_of slots.new ++ crowded.now) ≡ (if is_eq (K.cmp other pair.0) then Some pair.1 else lookup (is_at (K.cmp other)) (values_of slots.old ++ crowded.now))) }
     ensures err { OnErr result (slots.new ≡ slots.old) }
 {
     let slot = *next;
@@ -129,7 +128,7 @@ fn add_slot<K: Hashed + Copies, V: Copies>(
         return Err(NoMemory);
     }
     places.insert(code, slot)?;
-    slots.insert(slot, (key, value))?;
+    slots.insert(slot, pair)?;
     // No code needs the number; that slots rise comes with it.
     let _ = slots.len();
     *next = slot + 1;
@@ -223,8 +222,7 @@ impl<K: Hashed + Copies, V: Copies> HashedMap<K, V> {
             &self.crowded,
             &mut self.next,
             code,
-            key,
-            value,
+            (key, value),
         )?;
         Ok(())
     }
@@ -255,8 +253,7 @@ impl<K: Hashed + Copies, V: Copies> HashedMap<K, V> {
             &self.crowded,
             &mut self.next,
             code,
-            key,
-            value,
+            (key, value),
         )?;
         Ok(None)
     }

@@ -27,7 +27,7 @@ use Rattle.nm_tables.specs.FileTable.{AreFiled, files_in}
 use Rattle.nm_tables.specs.Kept.{AreKept}
 use Rattle.nm_parts.specs.Parts.{AreHeld, AreParts, AreTagged, base_of}
 use Rattle.nm_parts.specs.declared.parts.Parts.{Parts}
-use Rattle.nm_tables.specs.KeyLaws.{Contains_map, all_at, text_other, text_same}
+use Rattle.nm_base.specs.KeyLaws.{Contains_map, all_at, text_other, text_same}
 use Rattle.nm_state.proofs.TagLemmas.{opened_tagged}
 
 -- ---- files

@@ -29,7 +29,7 @@ use Rattle.nm_parts.specs.Parts.{tags_after, without_file}
 use Rattle.nm_state.specs.Renumbered.{counted, renumbered}
 use Rattle.nm_state.specs.declared.room.Counts.{Counts}
 use Rattle.nm_parts.specs.MailLaws.{mailed, mailed_is}
-use Rattle.nm_tables.specs.KeyLaws.{less_is}
+use Rattle.nm_base.specs.KeyLaws.{less_is}
 use Rattle.nm_tables.specs.MeasureLaws.{entries_ids}
 use Rattle.nm_parts.specs.MailLaws.{dropped_is}
 

@@ -28,7 +28,7 @@ use Rattle.nm_parts.specs.declared.parts.Parts.{Parts}
 use Rattle.nm_state.specs.declared.room.Counts.{Counts}
 use Rattle.nm_state.specs.declared.room.RoomError.{RoomError}
 use Rattle.nm_state.specs.declared.room.RoomError.TheVariants.{Limit as Passes, NoMemory as OutOfMemory}
-use Rattle.nm_tables.specs.KeyLaws.{Contains_first, Contains_there}
+use Rattle.nm_base.specs.KeyLaws.{Contains_first, Contains_there}
 
 -- ---- the bytes of the parts
 

@@ -17,7 +17,7 @@ use Rattle.nm_commit.specs.Files.{has_id}
 use Rattle.nm_tables.specs.FileTable.{at_text}
 use Rattle.nm_parts.specs.Parts.{AreTagged}
 use Rattle.nm_state.specs.Taken.{TakesFrom}
-use Rattle.nm_tables.specs.KeyLaws.{Contains_first, Contains_there, all_at, text_other, same_id, other_id, cases_id}
+use Rattle.nm_base.specs.KeyLaws.{Contains_first, Contains_there, all_at, text_other, same_id, other_id, cases_id}
 
 abbrev TagChange : Type 0
 TagChange = List (List ℕ × List (List ℕ))

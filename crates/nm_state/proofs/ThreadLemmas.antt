@@ -7,7 +7,7 @@ use Rattle.nm_model_index.specs.declared.base.Base.{Base}
 use Rattle.nm_threads.specs.Labels.{AreLabelsOf, Label, entries_of, named}
 use Rattle.nm_threads.specs.Name.{thread_name}
 use Rattle.nm_state.specs.Snapshot.{has_name, thread_messages}
-use Rattle.nm_tables.specs.KeyLaws.{Contains_first, Contains_there}
+use Rattle.nm_base.specs.KeyLaws.{Contains_first, Contains_there}
 
 kept : {X : Type 0} (p : X → Bool) (x : X) (rest : List X) → p x ≡ true → filter p (x ∷ rest) ≡ x ∷ filter p rest
 kept p x rest passes = rw passes refl

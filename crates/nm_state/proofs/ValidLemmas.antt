@@ -19,7 +19,7 @@ use Rattle.nm_threads.specs.Same.{ids_of}
 use Rattle.nm_tables.specs.FileTable.{AreFiled, at_text, files_in}
 use Rattle.nm_parts.specs.Parts.{AreParts, base_of}
 use Rattle.nm_parts.specs.declared.parts.Parts.{Parts}
-use Rattle.nm_tables.specs.KeyLaws.{Contains_first, Contains_there, Contains_map, Contains_from_map, all_at, all_from, any_of, same_number, same_text_of, text_other}
+use Rattle.nm_base.specs.KeyLaws.{Contains_first, Contains_there, Contains_map, Contains_from_map, all_at, all_from, any_of, same_number, same_text_of, text_other}
 use Rattle.nm_state.proofs.TagLemmas.{found_is}
 use Rattle.nm_tables.specs.FoundLaws.{found_at, not_first, sorted_rest, value_found}
 use Rattle.std.proofs.lemmas.Option.{same_Some}

@@ -9,7 +9,7 @@ use Rattle.std.specs.declared.cmp.Ordering.{Ordering}
 use Rattle.std.specs.declared.cmp.Ordering.TheVariants.{Less, Equal, Greater}
 use Rattle.nm_base.specs.Order.{IsSorted, has_text, same_text}
 use Rattle.nm_base.specs.OrderLaws.{above_all, turned}
-use Rattle.nm_sync.proofs.SameLemmas.{lacks}
+use Rattle.nm_base.specs.SortedLaws.{lacks}
 use Rattle.nm_sync.specs.Merge.{begins_with, from_on}
 
 abbrev Texts : Type 0

@@ -21,8 +21,9 @@ use Rattle.nm_base.specs.declared.facts.Facts.{Facts}
 use Rattle.nm_commit.specs.Files.{has_id, has_path, moved_path, with_moved, without_path}
 use Rattle.nm_tables.specs.FileTable.{AreFiled, at_place, at_text, files_in, lying_in, places_of, told, told_places, without_place}
 use Rattle.nm_tables.specs.declared.file_table.FileTable.{FileTable}
-use Rattle.nm_tables.specs.KeyLaws.{Contains_there, Contains_first, Contains_cases, Contains_none, Contains_map, Contains_from_map, any_one, any_of, same_text_from, same_text_of, text_same, text_other, same_id, other_id, cases_id, same_number, other_number, cases_number, number_from, chosen, other, some_by}
-use Rattle.nm_tables.proofs.OrderLemmas.{sorted_remove, sorted_insert, found_in, pushed_entry, revalued, inserted_at}
+use Rattle.nm_base.specs.KeyLaws.{Contains_there, Contains_first, Contains_cases, Contains_none, Contains_map, Contains_from_map, any_one, any_of, same_text_from, same_text_of, text_same, text_other, same_id, other_id, cases_id, same_number, other_number, cases_number, number_from, chosen, other, some_by}
+use Rattle.nm_tables.proofs.OrderLemmas.{sorted_insert, found_in, pushed_entry, revalued, inserted_at}
+use Rattle.nm_shared.specs.EntryLaws.{sorted_remove}
 use Rattle.nm_tables.specs.FoundLaws.{sorted_rest, not_first, found_at}
 
 -- ---- what a look-up answered

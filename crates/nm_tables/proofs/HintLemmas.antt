@@ -10,7 +10,7 @@ use Rattle.nm_threads.specs.Name.{AreDistinct, thread_name}
 use Rattle.nm_threads.specs.Same.{Same, is_same}
 use Rattle.nm_tables.specs.Hints.{LivesIn, thread_ids}
 use Rattle.nm_tables.specs.FilterLaws.{in_filter}
-use Rattle.nm_tables.specs.KeyLaws.{Contains_from_map, Contains_map, any_of}
+use Rattle.nm_base.specs.KeyLaws.{Contains_from_map, Contains_map, any_of}
 
 distinct : (l : Labelling) → IsLabelling l → AreDistinct (entries_of l.labels)
 distinct l is a b n p q =

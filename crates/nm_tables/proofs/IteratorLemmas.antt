@@ -16,7 +16,7 @@ use Rattle.nm_base.specs.declared.facts.Facts.{Facts}
 use Rattle.nm_commit.specs.Files.{has_id, has_path}
 use Rattle.nm_tables.specs.FileTable.{AreFiled, at_place, at_text, files_at_places, files_in, places_of, told}
 use Rattle.nm_tables.specs.declared.file_table.FileTable.{FileTable}
-use Rattle.nm_tables.specs.KeyLaws.{Contains_first, Contains_there}
+use Rattle.nm_base.specs.KeyLaws.{Contains_first, Contains_there}
 use Rattle.nm_tables.specs.FoundLaws.{found_at}
 use Rattle.nm_tables.proofs.FileTableLemmas.{has_place, has_places, map_cond}
 

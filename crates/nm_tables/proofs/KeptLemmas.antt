@@ -18,7 +18,7 @@ use Rattle.nm_base.specs.Order.{same_text}
 use Rattle.nm_base.specs.declared.facts.LinkRow.{LinkRow}
 use Rattle.nm_model_index.specs.Index.{row_bytes, row_cmp}
 use Rattle.nm_tables.specs.Kept.{AreKept}
-use Rattle.nm_tables.specs.KeyLaws.{Contains_there, Contains_first, Contains_cases, same_text_from}
+use Rattle.nm_base.specs.KeyLaws.{Contains_there, Contains_first, Contains_cases, same_text_from}
 use Rattle.nm_tables.proofs.OrderLemmas.{above_all, sorted_insert}
 
 none_first : {V : Type 0} (test : Bool) (x : V) (rest : Option V) → cond test (Some x) rest ≡ None → (test ≡ false) × (rest ≡ None)

@@ -18,9 +18,9 @@ use Rattle.nm_base.specs.Order.{has_text, same_text}
 use Rattle.nm_base.specs.declared.facts.LinkRow.{LinkRow}
 use Rattle.nm_codec.specs.Encoding.{list_bytes, text_bytes}
 use Rattle.nm_tables.specs.Kept.{AreKept}
-use Rattle.nm_tables.specs.KeyLaws.{Contains_first, Contains_there, Contains_cases, Contains_none, Contains_map, Contains_from_map, all_at, equal_is, greater_is, same_text_from, text_same}
+use Rattle.nm_base.specs.KeyLaws.{Contains_first, Contains_there, Contains_cases, Contains_none, Contains_map, Contains_from_map, all_at, equal_is, greater_is, same_text_from, text_same}
 use Rattle.nm_tables.proofs.KeptLemmas.{sorted_filter}
-use Rattle.nm_tables.proofs.OrderLemmas.{sorted_remove}
+use Rattle.nm_shared.specs.EntryLaws.{sorted_remove}
 use Rattle.nm_tables.specs.FilterLaws.{filter_same, in_filter, from_filter}
 use Rattle.nm_tables.specs.FoundLaws.{value_found}
 

@@ -21,7 +21,7 @@ use Rattle.nm_base.specs.Order.{has_text, same_text}
 use Rattle.nm_codec.specs.Encoding.{text_bytes, u64_bytes}
 use Rattle.nm_record.specs.BaseBytes.{entry_bytes}
 use Rattle.nm_threads.specs.Labels.{Labelling, entries_of, has_entry, numbered}
-use Rattle.nm_tables.specs.KeyLaws.{any_of, same_text_of}
+use Rattle.nm_base.specs.KeyLaws.{any_of, same_text_of}
 use Rattle.nm_tables.specs.MeasureLaws.{entries-cons, entry_len_is}
 use Rattle.nm_tables.specs.Measures.{AreSeen, entries_len, pairs_len}
 

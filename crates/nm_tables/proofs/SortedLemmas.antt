@@ -18,7 +18,8 @@ use Rattle.nm_base.specs.Order.{IsSorted}
 use Rattle.nm_tables.specs.FileTable.{at_text}
 use Rattle.nm_tables.specs.Sorted.{sorted_pairs}
 use Rattle.nm_tables.specs.SortedLaws.{by_bytes, equal_by, find_is, put_is, same_pairs}
-use Rattle.nm_tables.proofs.OrderLemmas.{sorted_insert, sorted_none, sorted_remove}
+use Rattle.nm_tables.proofs.OrderLemmas.{sorted_insert, sorted_none}
+use Rattle.nm_shared.specs.EntryLaws.{sorted_remove}
 
 module _ {V : Type 0} where
   found_inserted : (es : List (List ℕ × V)) (key : List ℕ) (value : V) (other : List ℕ) → at_text other (insert_entry by_bytes es key value) ≡ cond (is_eq (by_bytes other key)) (Some value) (at_text other es)

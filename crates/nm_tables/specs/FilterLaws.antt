@@ -2,7 +2,7 @@
 use Rattle.std.proofs.Common.{◌≡◌, refl, sym, ap, subst, ◌∙◌, Bool, true, false, cond, List, [], ◌∷◌, inl, inr, ◌⊎◌, true≢false}
 use Rattle.std.specs.Prelude.{Contains}
 use Rattle.std.specs.List.{filter}
-use Rattle.nm_tables.specs.KeyLaws.{Contains_first, Contains_there, Contains_cases, Contains_none}
+use Rattle.nm_base.specs.KeyLaws.{Contains_first, Contains_there, Contains_cases, Contains_none}
 
 in_by : {X : Type 0} (x y : X) (rest : List X) (test : Bool) → Contains (cond test (x ∷ rest) rest) y → ((test ≡ true) × (x ≡ y)) ⊎ Contains rest y
 in_by x y rest true among = elim (Contains_cases x rest y among) [ inl here ↦ inl (refl, here) | inr there ↦ inr there ]

@@ -9,7 +9,7 @@ use Rattle.std.specs.Ordering.{is_eq, nat_cmp}
 use Rattle.std.specs.declared.cmp.Ordering.TheVariants.{Less}
 use Rattle.nm_base.specs.Order.{IsSorted}
 use Rattle.nm_tables.specs.FileTable.{at_text}
-use Rattle.nm_tables.specs.KeyLaws.{Contains_cases, Contains_map, Contains_none, all_at, other_id, other_number, same_id, same_number}
+use Rattle.nm_base.specs.KeyLaws.{Contains_cases, Contains_map, Contains_none, all_at, other_id, other_number, same_id, same_number}
 
 -- ---- keys that are numbers
 

@@ -3,7 +3,6 @@ pub mod FilterLaws
 pub mod FoundLaws
 pub mod Hints
 pub mod Kept
-pub mod KeyLaws
 pub mod MeasureLaws
 pub mod Measures
 pub mod Sorted

@@ -7,8 +7,8 @@ use Rattle.std.proofs.lemmas.Bool.{eqb-true, eqb-false}
 use Rattle.std.proofs.lemmas.List.{append-nil, length-take-le, take-append-drop}
 use Rattle.nm_text.specs.Cuts.{len_through}
 use Rattle.nm_text.specs.QuotedStrings.{is_special, pair_more, pairs_of, quoted_len, unquoted, unquoted_pair}
-use Rattle.nm_text.proofs.CutLemmas.{cut-cons, cut-nil}
-use Rattle.nm_text.proofs.Utf8Lemmas.{drop_ascii}
+use Rattle.nm_text.specs.CutLaws.{cut-cons, cut-nil}
+use Rattle.nm_text.specs.Utf8Laws.{drop_ascii}
 
 -- the first pair of a text, by how many bytes more than its first it takes
 pair_of : (b : ℕ) (text : List ℕ) (v : Bool) → (b == 92) ≡ v → pairs_of (b ∷ text) ≡ (b ∷ take (cond v 1 0) text) ∷ pairs_of (drop (cond v 1 0) text)

@@ -1,31 +1,16 @@
 -- Text stays text where ASCII characters are taken out of it, or where it is cut at one.
 -- For the proofs of `lowercase` and `without_white_space`.
-use Rattle.std.proofs.Common.{◌≡◌, ℕ, ◌+◌, ◌<◌, Bool, true, false, cond, not, List, [], ◌∷◌, ◌++◌, length, map, take, drop, get_or, ltb, refl, sym, ap, subst, ◌∙◌, arith, filter, append_assoc, length-append}
+use Rattle.std.proofs.Common.{◌≡◌, ℕ, ◌+◌, ◌<◌, Bool, true, false, cond, not, List, [], ◌∷◌, ◌++◌, map, ltb, refl, sym, ap, subst, ◌∙◌, arith, filter, append_assoc}
 use Rattle.std.specs.Prelude.{IsUtf8}
 use Rattle.std.specs.Char.{to_ascii_lowercase}
-use Rattle.std.proofs.lemmas.List.{take_at, drop_at, drop-drop, get_or_at}
-use Rattle.std.proofs.lemmas.Str.{IsUtf8-append, IsUtf8-take, IsUtf8-drop, IsCharBoundary-before_ascii, IsCharBoundary-after_ascii}
+use Rattle.std.proofs.lemmas.Str.{IsUtf8-append}
 use Rattle.std.proofs.lemmas.Str.{IsUtf8-from_ascii}
 use Rattle.std.proofs.lemmas.Str.Ascii.{IsAscii-cons, IsAscii-nil, lowercase_ascii, lowercase_is}
 use Rattle.std.proofs.lemmas.Bool.{ltb-false, ltb-true, not-false}
 use Rattle.std.proofs.lemmas.Bool.Decides.{nat_tests}
 use Rattle.nm_base.specs.Bounds.{is_white_space}
 use Rattle.nm_text.specs.WhiteSpace.{without_white_space}
-
--- what comes before an ASCII character is text, and what comes after it
-split_ascii : (xs ys : List ℕ) (b : ℕ) → b < 128 → IsUtf8 (xs ++ b ∷ ys) → IsUtf8 xs × IsUtf8 ys
-split_ascii xs ys b small u =
-    let at : get_or (xs ++ b ∷ ys) (length xs) 0 ≡ b = get_or_at xs b ys 0 (length xs) refl in
-    let low : get_or (xs ++ b ∷ ys) (length xs) 0 < 128 = omega arith in
-    let inside : length xs < length (xs ++ b ∷ ys) = simp length-append (omega arith) in
-    let front : IsUtf8 (take (length xs) (xs ++ b ∷ ys)) = IsUtf8-take (xs ++ b ∷ ys) (length xs) u (IsCharBoundary-before_ascii (xs ++ b ∷ ys) (length xs) inside low) in
-    let back : IsUtf8 (drop (length xs + 1) (xs ++ b ∷ ys)) = IsUtf8-drop (xs ++ b ∷ ys) (length xs + 1) u (IsCharBoundary-after_ascii (xs ++ b ∷ ys) (length xs) u inside low) in
-    let rest : drop (length xs + 1) (xs ++ b ∷ ys) ≡ ys = sym (drop-drop 1 (length xs) (xs ++ b ∷ ys)) ∙ ap (drop 1) (drop_at xs (b ∷ ys) (length xs) refl) in
-    (subst IsUtf8 (take_at xs (b ∷ ys) (length xs) refl) front, subst IsUtf8 rest back)
-
--- an ASCII character taken out
-pub drop_ascii : (xs ys : List ℕ) (b : ℕ) → b < 128 → IsUtf8 (xs ++ b ∷ ys) → IsUtf8 (xs ++ ys)
-drop_ascii xs ys b small u = let parts = split_ascii xs ys b small u in IsUtf8-append xs ys parts.0 parts.1
+use Rattle.nm_text.specs.Utf8Laws.{drop_ascii, split_ascii}
 
 filter_after : (p : ℕ → Bool) → ((b : ℕ) → p b ≡ false → b < 128) → (front bs : List ℕ) → IsUtf8 (front ++ bs) → IsUtf8 (front ++ filter p bs)
 filter_after p ascii front [] u = u

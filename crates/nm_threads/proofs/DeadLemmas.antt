@@ -19,7 +19,7 @@ use Rattle.nm_threads.specs.declared.maps.Member.{Member}
 use Rattle.nm_threads.specs.declared.maps.Thread.{Thread}
 use Rattle.nm_threads.proofs.FilterLemmas.{Contains_filter, Contains_from_filter, filter_among, filter_twice}
 use Rattle.nm_threads.proofs.LabelLemmas.{has_of}
-use Rattle.nm_threads.proofs.ListLemmas.{any_one, any_of, same_text_from, same_text_of, Contains_map}
+use Rattle.nm_base.specs.KeyLaws.{any_one, any_of, same_text_from, same_text_of, Contains_map}
 use Rattle.nm_threads.proofs.MemberLemmas.{number_test}
 use Rattle.nm_threads.proofs.MergeLemmas.{name_found}
 use Rattle.nm_threads.proofs.NameLemmas.{alike}

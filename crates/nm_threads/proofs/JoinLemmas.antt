@@ -8,7 +8,7 @@ use Rattle.nm_base.specs.declared.facts.LinkRow.{LinkRow}
 use Rattle.nm_threads.specs.Same.{ids_of, Same, Touches}
 use Rattle.nm_threads.specs.Labels.{Label, is_in_rows}
 use Rattle.nm_threads.specs.Maps.{joined_name, relabelled}
-use Rattle.nm_threads.proofs.ListLemmas.{same_text_from, Contains_map, Contains_from_map}
+use Rattle.nm_base.specs.KeyLaws.{same_text_from, Contains_map, Contains_from_map}
 use Rattle.nm_threads.specs.Fits.{Fits}
 use Rattle.nm_threads.proofs.SameLemmas.{Same_more, Same_joined, Same_row, short, long, pair, long_cases, own_in, next_in_pair, to_pair, from_pair}
 

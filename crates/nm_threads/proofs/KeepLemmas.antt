@@ -11,7 +11,7 @@ use Rattle.nm_threads.specs.Labels.{Label, AreLabelsOf, entries_of, has_entry, i
 use Rattle.nm_threads.specs.Same.{ids_of, stand_together, IsChain, Same, is_same}
 use Rattle.nm_threads.proofs.FilterLemmas.{Contains_filter, Contains_from_filter, filter_all, filter_none, filter_among, filter_map_among}
 use Rattle.nm_threads.proofs.LabelLemmas.{has_of, entry_from}
-use Rattle.nm_threads.proofs.ListLemmas.{same_text_of, any_one, any_of}
+use Rattle.nm_base.specs.KeyLaws.{same_text_of, any_one, any_of}
 use Rattle.nm_threads.proofs.MergeLemmas.{map_map}
 use Rattle.nm_threads.proofs.NameLemmas.{alike}
 use Rattle.nm_threads.proofs.SameLemmas.{Same_beside, Same_turned, Same_among, Same_known, is_same_of, is_same_from, is_same_through, is_same_turned}

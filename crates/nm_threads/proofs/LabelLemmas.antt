@@ -11,7 +11,7 @@ use Rattle.nm_threads.specs.Same.{ids_of, Same}
 use Rattle.nm_threads.specs.Name.{thread_name, AreDistinct}
 use Rattle.nm_threads.specs.Labels.{Label, entries_of, has_entry, is_in_rows, AreLabelsOf, IsLabelling}
 use Rattle.nm_threads.specs.Fits.{Fits}
-use Rattle.nm_threads.proofs.ListLemmas.{same_text_from, same_text_of, any_one, any_of, Contains_map, Contains_from_map}
+use Rattle.nm_base.specs.KeyLaws.{same_text_from, same_text_of, any_one, any_of, Contains_map, Contains_from_map}
 use Rattle.nm_threads.proofs.NameLemmas.{name_one, name_le, name_some, one_name}
 use Rattle.nm_threads.proofs.SameLemmas.{Same_itself, Same_turned, Same_through, Same_more, Same_row, Same_known}
 

@@ -1,47 +1,19 @@
 -- Look-ups in the maps of labels. For `MemberLemmas`, `MergeLemmas`, `NumberLemmas` and others.
-use Rattle.std.proofs.Common.{◌≡◌, ◌≢◌, refl, sym, ap, ◌∙◌, ℕ, ◌<◌, Bool, true, false, List, [], ◌∷◌, ◌++◌, map, inl, inr, ◌⊎◌, true≢false}
+use Rattle.std.proofs.Common.{◌≡◌, ◌≢◌, refl, sym, ap, ◌∙◌, ℕ, ◌<◌, Bool, true, false, List, [], ◌∷◌, ◌++◌, map, inl, inr, true≢false}
 use Rattle.std.specs.Prelude.{Contains, Some, None, Option}
 use Rattle.std.specs.Borrow.{Bor}
 use Rattle.std.specs.Option.{is_some, option_copied}
-use Rattle.std.specs.declared.cmp.Ordering.TheVariants.{Less, Equal, Greater}
 use Rattle.std.specs.BTreeMap.{insert_entry}
-use Rattle.std.specs.Cmp.{nat_cmp_is}
 use Rattle.std.specs.Cmp.Lexicographic.{slice_cmp}
 use Rattle.std.specs.Ordering.{nat_cmp, ordering_then, is_eq}
 use Rattle.std.proofs.lemmas.Bool.{cases_order}
 use Rattle.std.proofs.lemmas.Map.Text.{is_eq-slice_cmp}
-use Rattle.nm_base.specs.Order.{same_text}
 use Rattle.nm_threads.specs.Maps.{pair_cmp}
-use Rattle.nm_threads.proofs.ListLemmas.{Contains_there, Contains_first, same_text_from, same_text_of}
-
-pub less_is : (a b : ℕ) → a < b → nat_cmp a b ≡ Less
-less_is a b lt = sym (nat_cmp_is a b Less lt)
-
-pub greater_is : (a b : ℕ) → b < a → nat_cmp a b ≡ Greater
-greater_is a b lt = sym (nat_cmp_is a b Greater lt)
-
-pub equal_is : (a b : ℕ) → a ≡ b → nat_cmp a b ≡ Equal
-equal_is a b is = sym (nat_cmp_is a b Equal is)
-
-pub same_number : (a b : ℕ) → a ≡ b → is_eq (nat_cmp a b) ≡ true
-same_number a b is = ap is_eq (equal_is a b is)
-
-pub other_number : (a b : ℕ) → a ≢ b → is_eq (nat_cmp a b) ≡ false
-other_number a b not = elim (cases_order a b) [ inl is ↦ absurd (not is) | inr (inl lt) ↦ ap is_eq (less_is a b lt) | inr (inr gt) ↦ ap is_eq (greater_is a b gt) ]
-
-pub same_id : (a b : List ℕ) → a ≡ b → is_eq (slice_cmp nat_cmp a b) ≡ true
-same_id a b is = is_eq-slice_cmp a b ∙ ap (same_text a) (sym is) ∙ same_text_of a
+use Rattle.nm_base.specs.KeyLaws.{Contains_first, Contains_there, equal_is, greater_is, less_is, other_number, same_number, same_text_from}
 
 pub other_id : (a b : List ℕ) → a ≢ b → (test : Bool) → is_eq (slice_cmp nat_cmp a b) ≡ test → test ≡ false
 other_id a b not true is = absurd (not (same_text_from a b (sym (is_eq-slice_cmp a b) ∙ is)))
 other_id a b not false is = refl
-
-id_by : (a b : List ℕ) (test : Bool) → is_eq (slice_cmp nat_cmp a b) ≡ test → (a ≡ b) ⊎ (a ≢ b)
-id_by a b true is = inl (same_text_from a b (sym (is_eq-slice_cmp a b) ∙ is))
-id_by a b false is = inr (λ same. true≢false (sym (same_id a b same) ∙ is))
-
-pub cases_id : (a b : List ℕ) → (a ≡ b) ⊎ (a ≢ b)
-cases_id a b = id_by a b (is_eq (slice_cmp nat_cmp a b)) refl
 
 pub same_pair : (g n h m : ℕ) → g ≡ h → n ≡ m → is_eq (pair_cmp (g, n) (h, m)) ≡ true
 same_pair g n h m first second = ap (λ answer. is_eq (ordering_then answer (nat_cmp n m))) (equal_is g h first) ∙ same_number n m second

@@ -14,9 +14,9 @@ use Rattle.std.proofs.lemmas.List.{append-nil}
 use Rattle.std.proofs.lemmas.List.Folds.{list_any_more, list_any_at}
 use Rattle.nm_threads.specs.Maps.{at, at_pair, pair_cmp, is_number, AreMembers}
 use Rattle.nm_threads.specs.declared.maps.Member.{Member}
-use Rattle.nm_threads.proofs.ListLemmas.{Contains_there, Contains_first, Contains_cases, Contains_none}
+use Rattle.nm_base.specs.KeyLaws.{Contains_there, Contains_first, Contains_cases, Contains_none, less_is, equal_is, greater_is, same_number, other_number}
 use Rattle.nm_threads.proofs.SortedLemmas.{Rising, less_from, rising_none, rising_from, entries_filter}
-use Rattle.nm_threads.proofs.MapLemmas.{less_is, equal_is, greater_is, same_number, other_number, same_pair, other_first, other_second}
+use Rattle.nm_threads.proofs.MapLemmas.{same_pair, other_first, other_second}
 
 -- the numbers that come first, as long as they are of the group
 abbrev pub front : ℕ → List ((ℕ × ℕ) × Member) → List ℕ

@@ -7,7 +7,7 @@ use Rattle.std.proofs.lemmas.Bool.{cases_eq}
 use Rattle.std.proofs.lemmas.List.{length-map}
 use Rattle.std.proofs.lemmas.List.Elements.{All-weaker, All-contains_itself}
 use Rattle.std.proofs.lemmas.Map.Views.{length-le_from_below}
-use Rattle.nm_threads.proofs.ListLemmas.{Contains_from_map}
+use Rattle.nm_base.specs.KeyLaws.{Contains_from_map}
 use Rattle.std.proofs.lemmas.Option.{same_Some, none-some}
 use Rattle.nm_threads.specs.Labels.{Label, named}
 use Rattle.nm_threads.specs.Maps.{at, at_id, name_at, name_in, labelling_of, is_number, AreMembers, AreMaps, joined_name, relabelled}

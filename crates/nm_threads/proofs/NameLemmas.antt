@@ -9,7 +9,7 @@ use Rattle.std.proofs.lemmas.Option.{same_Some}
 use Rattle.nm_base.specs.declared.facts.LinkRow.{LinkRow}
 use Rattle.nm_threads.specs.Same.{Same, is_same}
 use Rattle.nm_threads.specs.Name.{least, thread_numbers, thread_name, AreDistinct}
-use Rattle.nm_threads.proofs.ListLemmas.{Contains_there, Contains_first, Contains_cases, Contains_none}
+use Rattle.nm_base.specs.KeyLaws.{Contains_there, Contains_first, Contains_cases, Contains_none}
 use Rattle.nm_threads.proofs.SameLemmas.{is_same_from, is_same_of, is_same_through, is_same_turned, Same_itself, Same_through, Same_turned}
 
 -- ---- the least of numbers

@@ -18,9 +18,9 @@ use Rattle.nm_threads.specs.declared.maps.Thread.{Thread}
 use Rattle.nm_threads.specs.declared.maps.Member.{Member}
 use Rattle.nm_threads.proofs.FilterLemmas.{filter_yes, filter_no, filter_none}
 use Rattle.nm_threads.proofs.SortedLemmas.{Rising, rising_push}
-use Rattle.nm_threads.proofs.ListLemmas.{Contains_map, Contains_from_map}
+use Rattle.nm_base.specs.KeyLaws.{Contains_map, Contains_from_map, cases_id, same_number, other_number, same_id}
 use Rattle.nm_threads.proofs.LabelLemmas.{has_of, has_from}
-use Rattle.nm_threads.proofs.MapLemmas.{cases_id, same_number, other_number, same_id, other_id, same_pair, other_first, other_second, pushed_entry, map_among}
+use Rattle.nm_threads.proofs.MapLemmas.{other_id, same_pair, other_first, other_second, pushed_entry, map_among}
 
 -- ---- labels and numbers
 

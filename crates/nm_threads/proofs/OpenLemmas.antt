@@ -17,8 +17,7 @@ use Rattle.nm_threads.specs.Maps.{labelling_of, AreMaps}
 use Rattle.nm_threads.specs.Same.{ids_of}
 use Rattle.nm_threads.specs.declared.maps.Maps.{Maps}
 use Rattle.nm_threads.proofs.LabelLemmas.{fits_new, has_of}
-use Rattle.nm_threads.proofs.ListLemmas.{same_text_from, same_text_of, Contains_none}
-use Rattle.nm_threads.proofs.MapLemmas.{greater_is, equal_is}
+use Rattle.nm_base.specs.KeyLaws.{same_text_from, same_text_of, Contains_none, greater_is, equal_is}
 use Rattle.nm_threads.proofs.NumberLemmas.{label_from}
 use Rattle.nm_threads.proofs.RowLemmas.{Entries}
 

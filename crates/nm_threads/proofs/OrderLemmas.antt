@@ -7,7 +7,7 @@ use Rattle.nm_base.specs.declared.facts.LinkRow.{LinkRow}
 use Rattle.nm_threads.specs.Labels.{Label, AreLabelsOf, entries_of, is_in_rows}
 use Rattle.nm_threads.specs.Name.{least, thread_name}
 use Rattle.nm_threads.specs.Same.{ids_of, is_same}
-use Rattle.nm_threads.proofs.ListLemmas.{any_one, any_of}
+use Rattle.nm_base.specs.KeyLaws.{any_one, any_of}
 use Rattle.nm_threads.proofs.NameLemmas.{alike}
 use Rattle.nm_threads.proofs.SameLemmas.{Same_among, is_same_from, is_same_of}
 

@@ -18,7 +18,8 @@ use Rattle.nm_threads.specs.declared.maps.Maps.{Maps}
 use Rattle.nm_threads.specs.declared.maps.Thread.{Thread}
 use Rattle.nm_threads.specs.declared.maps.Member.{Member}
 use Rattle.nm_threads.proofs.FilterLemmas.{Contains_filter, Contains_from_filter, filter_all, filter_among, filter_map_among, filter_twice}
-use Rattle.nm_threads.proofs.MapLemmas.{cases_id, same_number, other_number, same_id, other_id, same_pair, other_first, other_second, map_among}
+use Rattle.nm_threads.proofs.MapLemmas.{other_id, same_pair, other_first, other_second, map_among}
+use Rattle.nm_base.specs.KeyLaws.{cases_id, same_number, other_number, same_id}
 use Rattle.nm_threads.proofs.MemberLemmas.{number_among, number_test}
 use Rattle.nm_threads.proofs.MergeLemmas.{name_found}
 use Rattle.nm_threads.proofs.NumberLemmas.{label_at, label_from}

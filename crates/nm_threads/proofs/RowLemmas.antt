@@ -9,7 +9,7 @@ use Rattle.std.specs.List.Sorted.{IsStrictlySortedBy}
 use Rattle.std.specs.Ordering.{nat_cmp}
 use Rattle.nm_threads.specs.Same.{ids_of}
 use Rattle.nm_threads.proofs.OrderLemmas.{labels_among}
-use Rattle.nm_threads.proofs.ListLemmas.{Contains_cases, Contains_first, Contains_there}
+use Rattle.nm_base.specs.KeyLaws.{Contains_cases, Contains_first, Contains_there}
 use Rattle.std.proofs.lemmas.List.Elements.{Contains-push, Contains-append_left, Contains-append_right, Contains-append_cases, Contains-push_cases}
 use Rattle.std.proofs.lemmas.Option.{same_Some}
 use Rattle.nm_base.specs.declared.facts.LinkRow.{LinkRow}

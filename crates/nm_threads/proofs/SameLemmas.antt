@@ -9,7 +9,8 @@ use Rattle.nm_base.specs.declared.facts.LinkRow.{LinkRow}
 use Rattle.nm_threads.specs.Labels.{is_in_rows}
 use Rattle.nm_threads.specs.Same.{ids_of, stand_together, IsChain, Same, Touches, is_same}
 use Rattle.std.proofs.lemmas.List.Folds.{list_any-append}
-use Rattle.nm_threads.proofs.ListLemmas.{same_text_from, same_text_of, any_one, any_of, text_one, text_any}
+use Rattle.nm_threads.proofs.ListLemmas.{text_one, text_any}
+use Rattle.nm_base.specs.KeyLaws.{same_text_from, same_text_of, any_one, any_of}
 
 both_turned : (x y : Bool) → (x && y) ≡ true → (y && x) ≡ true
 both_turned x y is = let parts = and_parts x y is in and_from y x parts.1 parts.0

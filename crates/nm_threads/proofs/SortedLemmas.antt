@@ -14,8 +14,7 @@ use Rattle.std.proofs.lemmas.List.Kept.{IsStrictlySortedBy-filter}
 use Rattle.std.proofs.lemmas.Option.{same_Some, none-some}
 use Rattle.nm_threads.specs.Maps.{at}
 use Rattle.nm_threads.proofs.FilterLemmas.{filter_yes, filter_no, filter_all, filter_map_among}
-use Rattle.nm_threads.proofs.ListLemmas.{Contains_there, Contains_first, Contains_cases, Contains_none, Contains_map}
-use Rattle.nm_threads.proofs.MapLemmas.{less_is, equal_is, greater_is, same_number, other_number}
+use Rattle.nm_base.specs.KeyLaws.{Contains_there, Contains_first, Contains_cases, Contains_none, Contains_map, less_is, equal_is, greater_is, same_number, other_number}
 
 pub less_from : (a b : ℕ) → nat_cmp a b ≡ Less → a < b
 less_from a b is = elim (cases_order a b) [ inl same ↦ absurd (cc (equal_is a b same, is)) | inr (inl lt) ↦ lt | inr (inr gt) ↦ absurd (cc (greater_is a b gt, is)) ]

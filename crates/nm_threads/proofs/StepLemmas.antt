@@ -21,7 +21,7 @@ use Rattle.nm_threads.proofs.FilterLemmas.{filter_among, filter_no}
 use Rattle.nm_threads.proofs.JoinLemmas.{joined_of}
 use Rattle.nm_threads.proofs.KeepLemmas.{ids_named}
 use Rattle.nm_threads.proofs.LabelLemmas.{has_of, has_from}
-use Rattle.nm_threads.proofs.ListLemmas.{Contains_map}
+use Rattle.nm_base.specs.KeyLaws.{Contains_map}
 use Rattle.nm_threads.proofs.MergeLemmas.{count_joined, join_itself, name_found}
 use Rattle.nm_threads.proofs.NumberLemmas.{label_at, label_from, label_of}
 use Rattle.nm_threads.proofs.PlaceLemmas.{label_at_place}

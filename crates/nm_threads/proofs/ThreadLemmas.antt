@@ -14,7 +14,7 @@ use Rattle.nm_threads.specs.Maps.{at, at_pair, labelling_of, is_number, AreMaps}
 use Rattle.nm_threads.specs.declared.maps.Maps.{Maps}
 use Rattle.nm_threads.specs.declared.maps.Thread.{Thread}
 use Rattle.nm_threads.proofs.FilterLemmas.{Contains_filter, Contains_from_filter, filter_none, filter_yes, filter_no}
-use Rattle.nm_threads.proofs.ListLemmas.{any_one, any_of, same_text_from, Contains_there, Contains_first, Contains_map, Contains_from_map}
+use Rattle.nm_base.specs.KeyLaws.{any_one, any_of, same_text_from, Contains_there, Contains_first, Contains_map, Contains_from_map}
 use Rattle.nm_threads.proofs.MemberLemmas.{is_number_from}
 use Rattle.nm_threads.proofs.MergeLemmas.{map_map, name_found}
 use Rattle.nm_threads.proofs.NumberLemmas.{label_at, label_of, label_from}

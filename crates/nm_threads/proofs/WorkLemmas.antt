@@ -13,7 +13,7 @@ use Rattle.nm_threads.specs.Work.{Doubles, potential}
 use Rattle.nm_threads.specs.declared.maps.Maps.{Maps}
 use Rattle.nm_threads.proofs.FilterLemmas.{Contains_filter, filter_yes, filter_no}
 use Rattle.nm_threads.proofs.JoinLemmas.{Other, joined_of, joined_other, cases_joined}
-use Rattle.nm_threads.proofs.ListLemmas.{Contains_there, Contains_first, Contains_none}
+use Rattle.nm_base.specs.KeyLaws.{Contains_there, Contains_first, Contains_none}
 use Rattle.nm_threads.proofs.MergeLemmas.{count_joined, count_other, join_itself}
 use Rattle.nm_threads.proofs.RowLemmas.{either}
 use Rattle.nm_threads.proofs.StepLemmas.{mid_is, named_by}

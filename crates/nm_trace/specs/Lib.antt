@@ -1,2 +1,3 @@
 pub mod ReservedLog
+pub mod SpareLaws
 pub mod Trace

@@ -1,4 +1,4 @@
-//! Values: rows as data. The language of the tables that programs as `test_mail` run, the run of a table, and the
+//! Tests: rows as data. The language of the tables that programs as `test_mail` run, the run of a table, and the
 //! report on each row. A table is a text that a person who knows mail reads at once; `docs/ROWS.md` has the language.
 #![tactic(auto)]
 

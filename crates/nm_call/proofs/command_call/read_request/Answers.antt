@@ -1,8 +1,8 @@
 use Rattle.std.proofs.Common.{rules, ◌≡◌, [], List, ℕ, false, Err, Result, refl, ap, subst, sym, ◌∙◌}
 use Rattle.nm_history.specs.Refusals.{TakesInput}
-use Rattle.nm_line.specs.Prepared.{IsPreparedAs}
-use Rattle.nm_line.specs.declared.prepared.AskError.{AskError}
-use Rattle.nm_line.specs.declared.prepared.Prepared.{Prepared}
+use Rattle.nm_prepare.specs.Prepared.{IsPreparedAs}
+use Rattle.nm_prepare.specs.declared.prepared.AskError.{AskError}
+use Rattle.nm_prepare.specs.declared.prepared.Prepared.{Prepared}
 use Rattle.nm_log.specs.ParsedLine.{reads_input}
 use Rattle.nm_log.specs.declared.line_parser.ParsedLine.TheVariants as asked
 use Rattle.nm_call.specs.PreparedCall.{IsReadAs}

@@ -1,6 +1,6 @@
 use Rattle.std.proofs.Common.{◌≡◌, ◌∷◌, length}
 use Rattle.std.specs.List.{list_any}
-use Rattle.nm_model_answer.specs.Words.{lists_have}
+use Rattle.nm_base.specs.AskedWords.{lists_have}
 use Rattle.nm_eval.proofs.query_test.files_have.Given as goal
 
 -- one of what is left passes where one of all does

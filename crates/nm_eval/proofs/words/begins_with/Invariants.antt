@@ -1,5 +1,5 @@
 use Rattle.std.proofs.Common.{◌≡◌, length}
-use Rattle.nm_model_answer.specs.Words.{begins_with}
+use Rattle.nm_base.specs.AskedWords.{begins_with}
 use Rattle.nm_eval.proofs.words.begins_with.Given as goal
 
 -- what is left begins with what is still wanted where all begins with all

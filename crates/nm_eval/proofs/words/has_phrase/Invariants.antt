@@ -1,5 +1,5 @@
 use Rattle.std.proofs.Common.{◌≡◌, ◌∷◌, length}
-use Rattle.nm_model_answer.specs.Words.{has_words}
+use Rattle.nm_base.specs.AskedWords.{has_words}
 use Rattle.nm_eval.proofs.words.has_phrase.Given as goal
 
 -- what is left has the words where all have

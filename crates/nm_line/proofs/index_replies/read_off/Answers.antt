@@ -3,7 +3,7 @@ use Rattle.nm_model_answer.specs.Count.{count_found, counts_found}
 use Rattle.nm_model_answer.specs.Dump.{dump_found}
 use Rattle.nm_model_answer.specs.Found.{search_found}
 use Rattle.nm_line.specs.Line.{IsReadOff}
-use Rattle.nm_line.specs.declared.prepared.Reading.{Reading}
+use Rattle.nm_prepare.specs.declared.prepared.Reading.{Reading}
 use Rattle.nm_line.proofs.IndexReplyLemmas.{count-read, counts-read, dump-read, search-read}
 use Rattle.nm_line.proofs.index_replies.read_off.Goals as goal
 

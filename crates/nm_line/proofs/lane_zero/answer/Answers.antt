@@ -1,9 +1,9 @@
 use Rattle.std.proofs.Common.{Result, Ok, Err, refl, ap, ◌∙◌, subst}
 use Rattle.nm_line.specs.Line.{place_at}
-use Rattle.nm_line.specs.Prepared.{IsPrepared, IsPreparedAs}
-use Rattle.nm_line.specs.declared.prepared.AskError.{AskError}
-use Rattle.nm_line.specs.declared.prepared.Prepared.{Prepared}
-use Rattle.nm_line.specs.declared.prepared.Prepared.TheVariants as ready
+use Rattle.nm_prepare.specs.Prepared.{IsPrepared, IsPreparedAs}
+use Rattle.nm_prepare.specs.declared.prepared.AskError.{AskError}
+use Rattle.nm_prepare.specs.declared.prepared.Prepared.{Prepared}
+use Rattle.nm_prepare.specs.declared.prepared.Prepared.TheVariants as ready
 use Rattle.nm_line.proofs.AnswerLemmas.{found-no-memory, reading-ends, refused-ends-at}
 use Rattle.nm_line.proofs.lane_zero.answer.Goals as goal
 use Rattle.nm_log.specs.ParsedLine.{parse_line}

@@ -1,7 +1,7 @@
 use Rattle.std.proofs.Common.{Result, Err, ap, ◌∙◌, subst}
-use Rattle.nm_line.specs.Prepared.{IsPrepared, IsPreparedAs, request_of}
-use Rattle.nm_line.specs.declared.prepared.AskError.{AskError}
-use Rattle.nm_line.specs.declared.prepared.Prepared.{Prepared}
+use Rattle.nm_prepare.specs.Prepared.{IsPrepared, IsPreparedAs, request_of}
+use Rattle.nm_prepare.specs.declared.prepared.AskError.{AskError}
+use Rattle.nm_prepare.specs.declared.prepared.Prepared.{Prepared}
 use Rattle.nm_line.proofs.LaneReadLemmas.{reading-lane_answer, refused-lane_answer}
 use Rattle.nm_line.proofs.other_lane.lane_read.Goals as goal
 use Rattle.nm_log.specs.ParsedLine.{parse_line}

@@ -1,4 +1,4 @@
-use Rattle.nm_model_answer.proofs.OrderLemmas.{by_rank_is}
+use Rattle.nm_model_answer.specs.RankLaws.{by_rank_is}
 use Rattle.nm_model_answer.proofs.search_laws.items_of_one_rank_stay_in_their_order.Goals as goal
 
 pub returns : goal.returns

@@ -2,7 +2,7 @@ use Rattle.std.proofs.Common.{◌≡◌, true, false, filter}
 use Rattle.nm_model_answer.specs.Search.{message_date, ordered}
 use Rattle.nm_model_answer.specs.Orders.{is_ranked}
 use Rattle.nm_model_answer.proofs.DateLemmas.{newest-falls, newest-same}
-use Rattle.nm_model_answer.proofs.OrderLemmas.{by_rank_is}
+use Rattle.nm_model_answer.specs.RankLaws.{by_rank_is}
 use Rattle.nm_model_answer.proofs.search_laws.messages_are_told_by_date.Goals as goal
 
 pub returns-clause-newest : goal.returns-clause-newest

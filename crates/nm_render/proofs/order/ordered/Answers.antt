@@ -4,7 +4,8 @@ use Rattle.std.proofs.lemmas.Fn.{always_returns_same}
 use Rattle.nm_model_answer.specs.Listing.{by_rank}
 use Rattle.nm_model_answer.specs.Search.{rank_of}
 use Rattle.nm_render.proofs.OrderLemmas.{sorted_by_rank}
-use Rattle.nm_render.proofs.RankLemmas.{by_rank_is, told_by_rank, told_rank}
+use Rattle.nm_render.proofs.RankLemmas.{told_by_rank, told_rank}
+use Rattle.nm_model_answer.specs.RankLaws.{by_rank_is}
 use Rattle.nm_render.proofs.order.ordered.Goals as goal
 
 pub returns : goal.returns

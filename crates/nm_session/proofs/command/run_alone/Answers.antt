@@ -2,8 +2,8 @@ use Rattle.std.proofs.Common.{rules, ℕ, List, Ok, arith, length, refl}
 use Rattle.nm_lanes.specs.Lines.{in_lane}
 use Rattle.nm_lanes.specs.declared.script.ScriptLine.{ScriptLine}
 use Rattle.nm_line.specs.Line.{place_at}
-use Rattle.nm_line.specs.Prepared.{AsksAlone}
-use Rattle.nm_line.specs.declared.prepared.Prepared.{Prepared}
+use Rattle.nm_prepare.specs.Prepared.{AsksAlone}
+use Rattle.nm_prepare.specs.declared.prepared.Prepared.{Prepared}
 use Rattle.nm_session.specs.Alone.{HasRunAlone}
 use Rattle.nm_phase.specs.LineLog.{IsAskedBy}
 use Rattle.nm_session.proofs.command.run_alone.Goals as goal

@@ -4,7 +4,7 @@ use Rattle.std.specs.Prelude.{Some}
 use Rattle.std.specs.Cmp.Lexicographic.{slice_cmp}
 use Rattle.std.specs.Ordering.{is_eq, nat_cmp}
 use Rattle.nm_tables.specs.FileTable.{at_text}
-use Rattle.nm_tables.specs.KeyLaws.{same_id}
+use Rattle.nm_base.specs.KeyLaws.{same_id}
 use Rattle.nm_tables.proofs.KeptLemmas.{kept_more, kept_same, same_row}
 use Rattle.nm_tables.proofs.kept.keep_row.Goals as goal
 

@@ -6,7 +6,7 @@ use Rattle.std.specs.Ordering.{nat_cmp}
 use Rattle.nm_base.specs.Order.{same_text}
 use Rattle.nm_base.specs.declared.facts.LinkRow.{LinkRow}
 use Rattle.nm_tables.specs.FileTable.{at_text}
-use Rattle.nm_tables.specs.KeyLaws.{same_text_from}
+use Rattle.nm_base.specs.KeyLaws.{same_text_from}
 use Rattle.nm_tables.proofs.MailRowLemmas.{begins_not, found_ahead, none_ahead, other_ahead, same_by}
 use Rattle.nm_tables.proofs.kept.row_of_mail.Goals as goal
 

@@ -1,6 +1,6 @@
 use Rattle.std.proofs.Common.{rules, ℕ, List, Ok, Err, Result, ap, ◌∙◌, subst}
 use Rattle.nm_top.proofs.HistoryLemmas.{line-history, unasked-history}
-use Rattle.nm_line.specs.Prepared.{AsksAlone}
+use Rattle.nm_prepare.specs.Prepared.{AsksAlone}
 use Rattle.nm_call.specs.PreparedCall.{HasError, HasPhases, IsReadAs}
 use Rattle.nm_call.specs.declared.prepared_call.CallError.{CallError}
 use Rattle.nm_call.specs.declared.prepared_call.CallError.TheVariants as errors

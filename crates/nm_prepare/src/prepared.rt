@@ -1,9 +1,9 @@
-//! What a line asks for, ready to be answered: its query has a tree, and each line of its input is of its form. `nm_session` prepares the
-//! lines of a script by it, `nm_top` a single command, and `other_lane` what it answers.
+//! What a line asks for, ready to be answered: its query has a tree, and each line of its input is of its form. `nm_phase` prepares the
+//! lines of a script by it, `nm_call` a single command, and `nm_line` what another lane answers.
 
 ghost use Rattle.std.specs.Prelude.{◌≡◌, MatchResult, Ok};
 ghost use Rattle.nm_history.specs.Requests.{refused_text, refused_text_of};
-ghost use Rattle.nm_line.specs.Prepared.{AreTagLines, IsFault, IsPreparedAs};
+ghost use Rattle.nm_prepare.specs.Prepared.{AreTagLines, IsFault, IsPreparedAs};
 ghost use Rattle.nm_log.specs.ParsedLine.{parse_line};
 ghost use Rattle.nm_query.specs.Answers.{answer_of};
 
@@ -46,7 +46,7 @@ pub enum AskError {
 }
 
 impl From<NoMemory> for AskError {
-    ghost use Rattle.nm_line.specs.declared.prepared.AskError.TheVariants as errors;
+    ghost use Rattle.nm_prepare.specs.declared.prepared.AskError.TheVariants as errors;
 
     ghost from_gives = { λ _ e. e ≡ errors.NoMemory };
 
@@ -56,7 +56,7 @@ impl From<NoMemory> for AskError {
 }
 
 impl From<QueryError> for AskError {
-    ghost use Rattle.nm_line.specs.Prepared.{query_error};
+    ghost use Rattle.nm_prepare.specs.Prepared.{query_error};
 
     ghost from_gives = { λ error e. e ≡ query_error error };
 
@@ -71,7 +71,7 @@ impl From<QueryError> for AskError {
 }
 
 impl From<LineError> for AskError {
-    ghost use Rattle.nm_line.specs.Prepared.{line_error};
+    ghost use Rattle.nm_prepare.specs.Prepared.{line_error};
 
     ghost from_gives = { λ error e. e ≡ line_error error };
 

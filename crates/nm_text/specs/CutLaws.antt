@@ -1,5 +1,4 @@
--- The first id_text of a list that is cut, and what is left after it.
--- For `CommentLemmas`, `LexemeLemmas`, `MailboxLemmas` and others.
+-- The first part of a list that is cut, and what is left after it. For proofs alone: those of `nm_header` and `nm_mime` too.
 use Rattle.std.proofs.Common.{◌≡◌, ℕ, zero, suc, ◌-◌, ◌≤◌, List, [], ◌∷◌, length, take, drop, refl, ap, arith, length-drop}
 use Rattle.nm_text.specs.Cuts.{cut, cut_upto}
 

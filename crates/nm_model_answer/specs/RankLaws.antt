@@ -1,4 +1,4 @@
--- What an order by rank keeps. For the proof of `items_of_one_rank_stay_in_their_order`.
+-- What an order by rank keeps. For proofs alone: of the laws of a search, and of `ordered` in `nm_render`.
 use Rattle.std.proofs.Common.{◌≡◌, ℤ, Bool, true, false, not, ◌&&◌, cond, List, [], ◌∷◌, ◌++◌, filter, fold, refl, sym, ap, ◌∙◌, arith, true≢false, append_assoc, append-nil}
 use Rattle.std.specs.Prelude.{int_lt}
 use Rattle.std.specs.List.{AllByRecursion}

@@ -1,5 +1,5 @@
 -- When lists have words: one single list of the field has them one after the other, the last whole or by its front.
--- Cited by `Ends` and `Found`.
+-- Cited by the definition of what a query finds in `nm_model_answer`, and by the one of what a segment finds in `nm_phrase`.
 use Rattle.std.specs.Prelude.{ℕ, Bool, true, false, ◌&&◌, ◌||◌, ◌==◌, List, [], ◌∷◌, Option, Some, None, nat_eq, if◌then◌else◌}
 use Rattle.std.specs.List.{list_any, starts_with}
 use Rattle.nm_base.specs.FieldNumber.{field_number}

@@ -1,4 +1,4 @@
--- Items among items, and keys that are the same. For proofs alone: those of `keep_row`, `nm_parts` and `nm_state`.
+-- Items among items, and keys that are the same. For proofs alone: those of `nm_threads`, `nm_tables`, `nm_parts` and `nm_state`.
 use Rattle.std.proofs.Common.{◌≡◌, ◌≢◌, refl, sym, ap, subst, ◌∙◌, ℕ, zero, suc, ◌<◌, Bool, true, false, cond, List, map, [], ◌∷◌, arith, inl, inr, ◌⊎◌, true≢false}
 use Rattle.std.specs.Prelude.{Contains, Option, Some, None}
 use Rattle.std.specs.List.{AllByRecursion, list_any}

@@ -1,4 +1,4 @@
--- What a line asks for, ready to be answered. Cited by `prepared`, `index_replies`, `lane_zero` and others, `nm_session`, `nm_call` and `nm_top`.
+-- What a line asks for, ready to be answered. Cited by `prepared`, `nm_line`, `nm_phase`, `nm_session`, `nm_call` and `nm_top`.
 use Rattle.std.specs.Prelude.{◌≡◌, ℕ, true, false, List, Option, None, Some, Result, Ok, Err}
 use Rattle.nm_model_answer.specs.BatchLines.{queries_in}
 use Rattle.nm_model_answer.specs.DumpLines.{read_dump}
@@ -10,12 +10,12 @@ use Rattle.nm_base.specs.declared.asks.TagAsk.{TagAsk}
 use Rattle.nm_history.specs.LineAnswers.{refused_lane_read}
 use Rattle.nm_history.specs.Requests.{refused_text_of}
 use Rattle.nm_lanes.specs.Lines.{in_lane}
-use Rattle.nm_line.specs.declared.prepared.AskError.{AskError}
-use Rattle.nm_line.specs.declared.prepared.AskError.TheVariants as errors
-use Rattle.nm_line.specs.declared.prepared.Prepared.{Prepared}
-use Rattle.nm_line.specs.declared.prepared.Prepared.TheVariants as ready
-use Rattle.nm_line.specs.declared.prepared.Reading.{Reading}
-use Rattle.nm_line.specs.declared.prepared.Reading.TheVariants as readings
+use Rattle.nm_prepare.specs.declared.prepared.AskError.{AskError}
+use Rattle.nm_prepare.specs.declared.prepared.AskError.TheVariants as errors
+use Rattle.nm_prepare.specs.declared.prepared.Prepared.{Prepared}
+use Rattle.nm_prepare.specs.declared.prepared.Prepared.TheVariants as ready
+use Rattle.nm_prepare.specs.declared.prepared.Reading.{Reading}
+use Rattle.nm_prepare.specs.declared.prepared.Reading.TheVariants as readings
 use Rattle.nm_log.specs.ParsedLine.{parse_line}
 use Rattle.nm_log.specs.declared.line_parser.ParsedLine.{ParsedLine}
 use Rattle.nm_log.specs.declared.line_parser.ParsedLine.TheVariants as asked
