@@ -18,7 +18,7 @@ import definitions  # noqa: E402
 from definitions import ROOT, crates, read  # noqa: E402
 
 LAYERS = """values; input and output; reading one mail; the model; bytes on the disk; searching; committing and publishing;
-commands and replies""".replace("\n", " ").split("; ")
+commands and replies; tests""".replace("\n", " ").split("; ")
 # The commit from which on messages are held to the rules of CONTRIBUTING.md.
 FROM = "70802d7"
 MACHINE_PATH = re.compile(r"(?<![\w.~/])/(?:work|home|root|tmp|opt|usr|var|mnt|srv|etc|Users)/(?!bin/env\b)")

@@ -1,4 +1,4 @@
-//! Committing and publishing: the program that runs the rows on the index: threads, journals, crashes of the disk, commits, tags,
+//! Tests: the program that runs the rows on the index: threads, journals, crashes of the disk, commits, tags,
 //! snapshots, workers. The table is on the standard input, and the standard output has a line for each row.
 #![tactic(auto)]
 

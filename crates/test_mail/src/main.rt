@@ -1,4 +1,4 @@
-//! Reading one mail: the program that runs the rows on it. The table is on the standard input, and the standard output
+//! Tests: the program that runs the rows on reading one mail. The table is on the standard input, and the standard output
 //! has a line for each row.
 #![tactic(auto)]
 

@@ -1,4 +1,4 @@
-//! Commands and replies: the program that runs the rows on queries and dates, on what queries find, on names, on commands and
+//! Tests: the program that runs the rows on queries and dates, on what queries find, on names, on commands and
 //! scripts, and on replies. The table is on the standard input, and the standard output has a line for each row.
 #![tactic(auto)]
 

@@ -1,4 +1,4 @@
-//! Searching: the program that runs the rows on blocks of hits and on segments. The table is on the standard input, and
+//! Tests: the program that runs the rows on blocks of hits and on segments. The table is on the standard input, and
 //! the standard output has a line for each row.
 #![tactic(auto)]
 

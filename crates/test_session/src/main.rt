@@ -1,4 +1,4 @@
-//! Commands and replies: the program that runs the rows on sessions and their crashes, on the program, on the lines of scripts, on replies,
+//! Tests: the program that runs the rows on sessions and their crashes, on the program, on the lines of scripts, on replies,
 //! and on the machine of commits and replies. The table is on the standard input; the standard output has a line for each row.
 #![tactic(auto)]
 

@@ -1,4 +1,4 @@
-//! Input and output: the program that runs the rows on what no contract tells of the system: real folders of mail, real disks,
+//! Tests: the program that runs the rows on what no contract tells of the system: real folders of mail, real disks,
 //! real files, and streams that are interrupted or fail. The table is on the standard input, and the standard output has a
 //! line for each row.
 #![tactic(auto)]
