@@ -243,8 +243,30 @@ static void walk(const uint8_t *text, size_t len) {
     printf("%llu %llu\n", (unsigned long long)hits, (unsigned long long)sum);
 }
 
+static int begins(const uint8_t *text, uint32_t rank, int is_whole) {
+    uint8_t word[16], len = spell(rank, word);
+    return (is_whole ? *text == len : *text >= len) && !memcmp(text + 1, word, len);
+}
+
+/* How many documents have in their last list the two commonest words one after the other, or one that begins with the commonest,
+ * and the sum of their numbers: read off the lists, word by word. */
+static void scan(const struct list *lists, uint32_t docs, int is_phrase) {
+    uint64_t found = 0, sum = 0;
+    for (uint32_t doc = 0; doc < docs; doc++) {
+        const struct list *list = &lists[(size_t)doc * LISTS + LISTS - 1];
+        const uint8_t *text = list->words.at, *next;
+        int is_there = 0;
+        for (uint32_t place = 0; place < list->count && !is_there; place++, text = next) {
+            next = text + *text + 1;
+            is_there = is_phrase ? begins(text, 0, 1) && place + 1 < list->count && begins(next, 1, 1) : begins(text, 0, 0);
+        }
+        if (is_there) found++, sum += doc;
+    }
+    printf("%llu %llu\n", (unsigned long long)found, (unsigned long long)sum);
+}
+
 int main(int argc, char **argv) {
-    if (argc != 4) return 2;
+    if (argc != 5) return 2;
     uint32_t docs = atoi(argv[1]), vocabulary = atoi(argv[3]);
     struct list *lists = documents(docs, atoi(argv[2]), vocabulary);
     puts("made");
@@ -254,6 +276,7 @@ int main(int argc, char **argv) {
         if (step == 'b') {
             build(lists, docs);
             printf("built %zu %zu\n", count, runs.len);
-        } else walk(text, spell(step == 'r' ? vocabulary / 5 : 0, text));
+        } else if (step == 'p' || step == 's') scan(lists, docs, step == 'p');
+        else walk(text, spell(step == 'r' ? vocabulary / 5 : 0, text));
     }
 }
