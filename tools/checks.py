@@ -206,6 +206,37 @@ def proofs_stay_inside():
                     yield f"{path} cites the proofs of {other}"
 
 ITEM = re.compile(r"^( *)(pub(?:\([^)]*\))? )?(?:const |unsafe )*(?:fn|struct|enum|trait|const|static|type) (\w+)", re.M)
+# `use Rattle.CRATE.specs.MODULE.{NAMES}`, and a path in an attribute, as `CRATE::specs::MODULE::NAME`.
+USED = re.compile(r"\buse Rattle\.(\w+)\.(specs|proofs)\.([\w.]+)\.\{([^}]*)\}")
+REACHED = re.compile(r"\b(\w+)::(specs|proofs)::((?:\w+::)+)([\w-]+)")
+
+
+def names_are_there():
+    """What is cited of definitions and lemmas is in the file that is named: else its crate fails, minutes later, at its turn."""
+    named = re.compile(r"([^\s(){}\[\],;]+)\s*:(?=\s)|\b(?:record|data|ruleset)\s+([\w'-]+)")
+    known = {}
+
+    def lacks(crate, part, module, name):
+        path = f"crates/{crate}/{part}/{module}.antt"
+        if path not in known:
+            found = os.path.isfile(f"{ROOT}/{path}")
+            known[path] = {it[1] or it[2] for it in named.finditer(read(f"{ROOT}/{path}"))} if found else None
+        return "there is no such file" if known[path] is None else "" if name in known[path] else f"{name} is not in it"
+
+    for path in files_below("crates", (".rt", ".antt")):
+        own, text, cited = path.split("/")[1], read(f"{ROOT}/{path}"), []
+        for crate, part, module, names in USED.findall(text):
+            cited += [(crate, part, module.replace(".", "/"), it.split(" as ")[0].strip()) for it in names.split(",")]
+        for crate, part, module, name in REACHED.findall(text):
+            cited.append((own if crate == "crate" else crate, part, module.strip(":").replace("::", "/"), name))
+        for crate, part, module, name in cited:
+            # What the prover makes of the sources has no file; neither have goals.
+            made = module.split("/")[0] in ("declared", "contracts") or module.split("/")[-1] in ("Goals", "Given")
+            why = "" if made or crate not in crates() or not name else lacks(crate, part, module, name)
+            if why:
+                yield f"{path}: cites {name} of {crate}/{part}/{module}.antt, and {why}"
+
+
 CITED = re.compile(r"\bRattle\.(\w+)\.(specs|proofs)\.([\w.+-]*\w)|\bcrate::(specs|proofs)::(\w+)")
 
 
@@ -458,6 +489,7 @@ CHECKS = [
     layers_agree,
     uses_are_direct,
     proofs_stay_inside,
+    names_are_there,
     heads_say_where,
     readme_names_all_crates,
     kit_is_told,
