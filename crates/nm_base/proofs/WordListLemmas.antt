@@ -1,5 +1,5 @@
 -- Words that come one after the other are read again, and one more may be put after them.
--- For the proofs of `WordRow::push` and `Words::take_first`.
+-- For the proofs of `WordRow::push_bytes` and `first_own`.
 use Rattle.std.proofs.Common.{◌≡◌, ℕ, suc, ◌+◌, ◌-◌, ◌≤◌, min, true, List, [], ◌∷◌, ◌++◌, length, take, drop, ◌≢◌, refl, ap, ◌∙◌, append_assoc, arith}
 use Rattle.std.proofs.lemmas.List.{drop_min, take_at, drop_at, take_min, length-append, length_push, flat_map_more}
 use Rattle.std.proofs.lemmas.List.Folds.{list_all-append}

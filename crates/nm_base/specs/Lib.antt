@@ -4,6 +4,7 @@ pub mod FieldNumber
 pub mod KeyLaws
 pub mod MailPath
 pub mod MessageId
+pub mod LentWords
 pub mod Limits
 pub mod Order
 pub mod OrderLaws

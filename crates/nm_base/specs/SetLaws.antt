@@ -33,7 +33,8 @@ module _ {K : Type 0} (cmp : K → K → Ordering) (eq : K → K → Bool) (same
   has-inserted [] key other = refl
   has-inserted (x ∷ xs) key other = put key x other xs (cmp key x) refl (has-inserted xs key other)
 
--- ---- sets of texts texts that compare as the same are
+-- ---- sets of texts
+-- texts that compare as the same are the same
 pub bytes_same : (a b : List ℕ) → true ≡ same_text a b → a ≡ b
 bytes_same a b e = lexicographic.same_text a b e
 

@@ -1,12 +1,14 @@
 pub mod AllLaws
 pub mod Encoding
 pub mod Grammar
+pub mod Hops
 pub mod ListLaws
 pub mod MapLaws
 pub mod NumberLaws
 pub mod PairLaws
 pub mod ReadSteps
 pub mod RisingLaws
+pub mod Shared
 pub mod SignedLaws
 pub mod StepLaws
 pub mod TextLaws

@@ -41,7 +41,7 @@ module _ {A : Type 0} (read : List ℕ → Reading A) (bytes : A → List ℕ) w
         let items : length (flat_map bytes xs) < 2 ^ 32 = omega (arith, short, length-append (to_be_bytes w32 (length xs)) (flat_map bytes xs)) in
         rw (append_assoc (to_be_bytes w32 (length xs)) (flat_map bytes xs) rest, number_again w32 (2 ^ 32) is_width_32 (length xs) (flat_map bytes xs ++ rest) count) (items_again again xs rest v items)
 
-    items_only : ((all : List ℕ) (a : A) (rest : List ℕ) → IsBytes all → read all ≡ Ok (a, rest) → Takes all (bytes a) rest × (valid a ≡ true))
+    pub items_only : ((all : List ℕ) (a : A) (rest : List ℕ) → IsBytes all → read all ≡ Ok (a, rest) → Takes all (bytes a) rest × (valid a ≡ true))
         → (n : ℕ) (all : List ℕ) (y : List A × List ℕ) → IsBytes all → items_at read n all ≡ Ok y
         → Takes all (flat_map bytes y.0) y.1 × (length y.0 ≡ n) × (list_all valid y.0 ≡ true)
     unfolding items_at

@@ -10,6 +10,7 @@ mod reader;
 mod rising_list;
 mod text;
 mod words;
+mod words_len;
 mod writer;
 
 pub use format::Format;

@@ -1,11 +1,13 @@
 //! Reading bytes from left to right: `nm_record` reads the index from the disk so.
 
-ghost use Rattle.std.specs.Prelude.{◌≡◌, ◌<◌, ◌≤◌, ◌+◌, ◌-◌, length, take, drop, MatchResult, OnErr, [], IsOk, ◌↔◌, IfErr};
+ghost use Rattle.std.specs.Prelude.{◌≡◌, ◌<◌, ◌≤◌, ◌+◌, ◌-◌, length, take, drop, MatchOption, MatchResult, Ok, OnErr, [], IsOk, ◌↔◌, IfErr, IfOk};
 ghost use Rattle.std.specs.Int.{w8, w32, w64};
-ghost use Rattle.nm_codec.specs.ReadSteps.{Gives, GivesUnlessNoMemory, number_at, signed_at, text_at};
+ghost use Rattle.nm_codec.specs.Grammar.{word_grammar};
+ghost use Rattle.nm_codec.specs.ReadSteps.{Gives, GivesUnlessNoMemory, items_at, number_at, signed_at, text_at};
 
+use crate::words_len::words_len;
 use crate::{Bad, ReadError};
-use nm_base::Text;
+use nm_base::{Copies, NoMemory, SharedBytes, Text, WordList};
 use std::alloc::Global;
 use std::marker::Model;
 
@@ -14,17 +16,20 @@ use std::marker::Model;
 pub struct Reader<'a> {
     len: usize,
     rest: &'a [u8],
+    /// The bytes in all, where what is read may stay in them.
+    shared: Option<&'a SharedBytes>,
 }
 
 impl<'a> Model for Reader<'a> {
     ghost use Rattle.std.specs.Prelude.{◌≤◌, length};
     ghost use Rattle.nm_codec.specs.ReadSteps.{Place};
+    ghost use Rattle.nm_codec.specs.Shared.{IsEndOf};
 
     ghost Value = { Place };
 
     ghost view = { λ r. record { len = r.len; rest = r.rest.now } };
 
-    ghost invariant = { λ r. length r.rest.now ≤ r.len };
+    ghost invariant = { λ r. (length r.rest.now ≤ r.len) × IsEndOf r.shared r.len r.rest.now };
 }
 
 impl<'a> Reader<'a> {
@@ -34,6 +39,19 @@ impl<'a> Reader<'a> {
         Reader {
             len: bytes.len(),
             rest: bytes,
+            shared: None,
+        }
+    }
+
+    /// Reads bytes that several hold: words may stay in them.
+    pub fn over(shared: &'a SharedBytes) -> Reader<'a>
+        ensures { result ≡ record { len = length shared.now; rest = shared.now } }
+    {
+        let bytes = shared.as_slice();
+        Reader {
+            len: bytes.len(),
+            rest: bytes,
+            shared: Some(shared),
         }
     }
 
@@ -85,12 +103,23 @@ impl<'a> Reader<'a> {
         ensures value { GivesUnlessNoMemory self.old result self.new (text_at self.old.rest) }
         ensures err { OnErr result (self.new ≡ self.old) }
     {
-        let begin = self.rest;
+        let begin = self.again();
         let answer = self.read_text(alloc);
         if answer.is_err() {
-            self.rest = begin;
+            *self = begin;
         }
         answer
+    }
+
+    /// A reader at the same place.
+    fn again(&self) -> Reader<'a>
+        ensures { result ≡ self.now }
+    {
+        Reader {
+            len: self.len,
+            rest: self.rest,
+            shared: self.shared,
+        }
     }
 
     fn read_text(&mut self, alloc: Global) -> Result<Text, ReadError>
@@ -130,6 +159,31 @@ impl<'a> Reader<'a> {
         let (front, rest) = self.rest.split_at(count);
         self.rest = rest;
         Ok(front)
+    }
+
+    /// The words that come next, n, where they stay in the bytes: several hold these, and all of it is ASCII. Else nothing is read.
+    pub(crate) fn lent_words(
+        &mut self,
+        alloc: Global,
+        count: u32,
+    ) -> Result<Option<WordList>, NoMemory>
+        ensures { IfOk result (λ found. MatchOption found (self.new ≡ self.old)
+            (λ words. (items_at word_grammar.read count self.old.rest ≡ Ok (words, self.new.rest)) × (self.new.len ≡ self.old.len))) }
+    {
+        let Some(shared) = self.shared else {
+            return Ok(None);
+        };
+        let Some(len) = words_len(self.rest, count) else {
+            return Ok(None);
+        };
+        let (front, rest) = self.rest.split_at(len);
+        if !front.is_ascii() {
+            return Ok(None);
+        }
+        let at = self.len - self.rest.len();
+        let words = WordList::lent(alloc, shared.copy()?, at, len, count as usize)?;
+        self.rest = rest;
+        Ok(Some(words))
     }
 
     fn too_short(&self) -> Bad

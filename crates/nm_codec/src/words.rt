@@ -24,7 +24,10 @@ impl Format for WordsFormat {
     #[tactic(auto, unfolding(crate::specs::ReadSteps::list_at))]
     fn read(alloc: Global, reader: &mut Reader<'_>) -> Result<WordList, ReadError> {
         let count = reader.u32()?;
-        read_words(alloc, count, reader)
+        match reader.lent_words(alloc, count)? {
+            Some(words) => Ok(words),
+            None => read_words(alloc, count, reader),
+        }
     }
 
     fn len(value: &WordList) -> u64 {

@@ -1,4 +1,4 @@
--- What was answered for all of the bytes was written so. For the proof of `read_commit`.
+-- What was answered for all of the bytes was written so. For the proof of `read_whole`.
 use Rattle.std.proofs.Common.{◌≡◌, ℕ, true, List, Result, Ok, Err}
 use Rattle.std.specs.Prelude.{IfOk}
 use Rattle.nm_commit.specs.declared.change.Commit.{Commit}

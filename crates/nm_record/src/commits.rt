@@ -11,7 +11,7 @@ ghost use Rattle.nm_record.specs.CommitGrammar.{commit_grammar};
 ghost use Rattle.nm_record.specs.Commits.{change_bytes, has_date};
 
 use crate::changes::ChangeFormat;
-use nm_base::{Many, NoMemory};
+use nm_base::{Many, NoMemory, SharedBytes};
 use nm_codec::{Format, ListOf, ReadError, Reader, Writer};
 use nm_commit::{Change, Commit};
 use std::alloc::Global;
@@ -69,15 +69,36 @@ pub fn read_commit(alloc: Global, bytes: &[u8]) -> Result<Commit, ReadError>
     // Where the first byte is that is not of a commit.
     ensures exact { AnswersUnlessNoMemory bytes.now result (all_of commit_grammar.read bytes.now) }
 {
-    read_all(alloc, bytes)
+    read_whole(alloc, bytes, &mut Reader::new(bytes))
+}
+
+/// The same of bytes that several hold: words that are ASCII stay in them, and are not copied.
+pub fn read_shared_commit(alloc: Global, bytes: &SharedBytes) -> Result<Commit, ReadError>
+    ensures found { IfOk result (λ commit. (bytes.now ≡ commit_grammar.bytes commit) × (commit_grammar.is_value commit ≡ true)) }
+    ensures only { (commit : Commit) → commit_grammar.is_value commit ≡ true → length (commit_grammar.bytes commit) < 2 ^ 32
+        → bytes.now ≡ commit_grammar.bytes commit → AnswersUnlessNoMemory bytes.now result (Ok commit) }
+    ensures exact { AnswersUnlessNoMemory bytes.now result (all_of commit_grammar.read bytes.now) }
+{
+    read_whole(alloc, bytes.as_slice(), &mut Reader::over(bytes))
+}
+
+/// Reads all the bytes, at whose front the reader is.
+fn read_whole(alloc: Global, bytes: &[u8], reader: &mut Reader<'_>) -> Result<Commit, ReadError>
+    requires front { reader.old ≡ record { len = length bytes.now; rest = bytes.now } }
+    ensures found { IfOk result (λ commit. (bytes.now ≡ commit_grammar.bytes commit) × (commit_grammar.is_value commit ≡ true)) }
+    ensures only { (commit : Commit) → commit_grammar.is_value commit ≡ true → length (commit_grammar.bytes commit) < 2 ^ 32
+        → bytes.now ≡ commit_grammar.bytes commit → AnswersUnlessNoMemory bytes.now result (Ok commit) }
+    ensures exact { AnswersUnlessNoMemory bytes.now result (all_of commit_grammar.read bytes.now) }
+{
+    read_to_end(alloc, reader)
 }
 
 #[tactic(auto, unfolding(nm_codec::specs::ReadSteps::all_of))]
-fn read_all(alloc: Global, bytes: &[u8]) -> Result<Commit, ReadError>
-    ensures { AnswersUnlessNoMemory bytes.now result (all_of commit_grammar.read bytes.now) }
+fn read_to_end(alloc: Global, reader: &mut Reader<'_>) -> Result<Commit, ReadError>
+    requires { reader.old.len ≡ length reader.old.rest }
+    ensures { AnswersUnlessNoMemory reader.old.rest result (all_of commit_grammar.read reader.old.rest) }
 {
-    let mut reader = Reader::new(bytes);
-    let commit = CommitFormat::read(alloc, &mut reader)?;
+    let commit = CommitFormat::read(alloc, reader)?;
     reader.end()?;
     Ok(commit)
 }

@@ -10,6 +10,8 @@ mod lens;
 mod names;
 mod tag_list;
 
-pub use commits::{change_bytes, commit_bytes, commit_len, read_commit, write_commit};
+pub use commits::{
+    change_bytes, commit_bytes, commit_len, read_commit, read_shared_commit, write_commit,
+};
 pub use laws::a_base_takes_what_its_parts_take;
 pub use lens::{file_len, id_len, tags_len};
