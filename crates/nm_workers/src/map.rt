@@ -6,7 +6,7 @@ ghost use Rattle.std.specs.Thread.{IsSend, IsSync};
 ghost use Rattle.nm_workers.specs.Results.{AreGiven};
 
 use crate::results::gather;
-use crate::worker::{Placed, work};
+use crate::worker::{Placed, Team, work};
 use crate::{Gate, Job};
 use nm_base::{Many, NoMemory};
 use std::alloc::Global;
@@ -64,15 +64,22 @@ where
     ensures beside { F.step beside.old result.0 beside.new }
     ensures results { IfOk result.1 (λ results. AllZip (J.gives job.now) inputs.now results) }
 {
-    let inputs = inputs.as_slice();
     let taken = AtomicUsize::new(0);
+    let team = Team {
+        rt,
+        alloc,
+        job,
+        inputs: inputs.as_slice(),
+        taken: &taken,
+        gate,
+    };
     let seats = Seats {
         next: 1,
         last: workers,
     };
-    let (told, lists) = run_workers(rt, alloc, job, inputs, &taken, gate, seats, beside);
+    let (told, lists) = run_workers(&team, seats, beside);
     match lists {
-        Ok(lists) => (told, gather(alloc, job, inputs, lists)),
+        Ok(lists) => (told, gather(alloc, job, inputs.as_slice(), lists)),
         Err(NoMemory) => (told, Err(NoMemory)),
     }
 }
@@ -80,12 +87,7 @@ where
 /// What each worker did. The threads are started one after the other, from the caller's; the last seat is the caller's own. Were each
 /// to start others, the system might give two that start at the same moment one processor, while another has nothing to do.
 fn run_workers<R: Threads + Wait + Sync, J: Job + Sync, G: Gate + Sync, F: FnMut() -> T, T: Drop>(
-    rt: &R,
-    alloc: Global,
-    job: &J,
-    inputs: &[J::In],
-    taken: &AtomicUsize,
-    gate: &G,
+    team: &Team<'_, R, J, G>,
     seats: Seats,
     beside: &mut F,
 ) -> (
@@ -100,46 +102,45 @@ where
     requires last { seats.last ≤ 16 }
     requires beside { F.pre beside.old }
     ensures beside { F.step beside.old result.0 beside.new }
-    ensures lists { IfOk result.1 (λ lists. All (λ list. IfOk list (λ done. AreGiven (J.gives job.now) inputs.now done.items)) lists.items) }
+    ensures lists { IfOk result.1 (λ lists. All (λ list. IfOk list (λ done. AreGiven (J.gives team.now.job.now) team.now.inputs.now done.items)) lists.items) }
 {
     let Seats { next, last } = seats;
     if next >= last {
         let told = beside();
-        let done = work(rt, alloc, job, inputs, taken, gate, last);
-        return (told, with_list(job, inputs, Ok(Vec::new(alloc)), done));
+        let done = work(team, last);
+        return (told, with_list(team, Ok(Vec::new(team.alloc)), done));
     }
     let further = Seats {
         next: next + 1,
         last,
     };
     let (done, (told, lists)) = join_mut(
-        rt,
+        team.rt,
         &mut || -> Result<Vec<Placed<J::Out>>, NoMemory>
             requires { (0 < next) × (next ≤ 16) }
-            ensures { IfOk result (λ done. AreGiven (J.gives job.entry.now) inputs.entry.now done.items) }
-        { work(rt, alloc, job, inputs, taken, gate, next) },
+            ensures { IfOk result (λ done. AreGiven (J.gives team.entry.now.job.now) team.entry.now.inputs.now done.items) }
+        { work(team, next) },
         &mut || -> (
             T,
             Result<Vec<Result<Vec<Placed<J::Out>>, NoMemory>>, NoMemory>,
         )
             requires { IsSync R.row × IsSync J.row × IsSync G.row × IsSync J.In.row × IsSend J.Out.row × (0 < further.next) × (further.next ≤ further.last) × (further.last ≤ 16) × F.pre beside.now }
             ensures beside { F.step beside.entry.now result.0 beside.exit.now }
-            ensures lists { IfOk result.1 (λ lists. All (λ list. IfOk list (λ done. AreGiven (J.gives job.entry.now) inputs.entry.now done.items)) lists.items) }
-        { run_workers(rt, alloc, job, inputs, taken, gate, further, beside) },
+            ensures lists { IfOk result.1 (λ lists. All (λ list. IfOk list (λ done. AreGiven (J.gives team.entry.now.job.now) team.entry.now.inputs.now done.items)) lists.items) }
+        { run_workers(team, further, beside) },
     );
-    (told, with_list(job, inputs, lists, done))
+    (told, with_list(team, lists, done))
 }
 
-/// What one worker more did, after the others. The job and its inputs are there for the clauses alone.
-fn with_list<J: Job>(
-    _job: &J,
-    _inputs: &[J::In],
+/// What one worker more did, after the others. The team is there for the clauses alone.
+fn with_list<R, J: Job, G>(
+    _team: &Team<'_, R, J, G>,
     lists: Result<Vec<Result<Vec<Placed<J::Out>>, NoMemory>>, NoMemory>,
     done: Result<Vec<Placed<J::Out>>, NoMemory>,
 ) -> Result<Vec<Result<Vec<Placed<J::Out>>, NoMemory>>, NoMemory>
-    requires lists { IfOk lists (λ lists. All (λ list. IfOk list (λ done. AreGiven (J.gives _job.now) _inputs.now done.items)) lists.items) }
-    requires done { IfOk done (λ done. AreGiven (J.gives _job.now) _inputs.now done.items) }
-    ensures { IfOk result (λ lists. All (λ list. IfOk list (λ done. AreGiven (J.gives _job.now) _inputs.now done.items)) lists.items) }
+    requires lists { IfOk lists (λ lists. All (λ list. IfOk list (λ done. AreGiven (J.gives _team.now.job.now) _team.now.inputs.now done.items)) lists.items) }
+    requires done { IfOk done (λ done. AreGiven (J.gives _team.now.job.now) _team.now.inputs.now done.items) }
+    ensures { IfOk result (λ lists. All (λ list. IfOk list (λ done. AreGiven (J.gives _team.now.job.now) _team.now.inputs.now done.items)) lists.items) }
 {
     let mut lists = lists?;
     lists.push(done)?;

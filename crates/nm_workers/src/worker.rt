@@ -18,21 +18,27 @@ pub struct Placed<T> {
     pub value: T,
 }
 
-/// Passes the gate and then does what is left, beside the others who count in `taken`.
+/// What the workers share. Each counts in `taken` the inputs that somebody has taken.
+#[derive(Drop)]
+pub struct Team<'a, R, J: Job, G> {
+    pub rt: &'a R,
+    pub alloc: Global,
+    pub job: &'a J,
+    pub inputs: &'a [J::In],
+    pub taken: &'a AtomicUsize,
+    pub gate: &'a G,
+}
+
+/// Passes the gate and then does what is left, beside the others.
 pub fn work<R: Threads + Wait + Sync, J: Job, G: Gate>(
-    rt: &R,
-    alloc: Global,
-    job: &J,
-    inputs: &[J::In],
-    taken: &AtomicUsize,
-    gate: &G,
+    team: &Team<'_, R, J, G>,
     seat: u32,
 ) -> Result<Vec<Placed<J::Out>>, NoMemory>
     requires seat { (0 < seat) × (seat ≤ 16) }
-    ensures { IfOk result (λ done. AreGiven (J.gives job.now) inputs.now done.items) }
+    ensures { IfOk result (λ done. AreGiven (J.gives team.now.job.now) team.now.inputs.now done.items) }
 {
-    gate.pass(rt, seat);
-    run_left(alloc, job, inputs, taken)
+    team.gate.pass(team.rt, seat);
+    run_left(team.alloc, team.job, team.inputs, team.taken)
 }
 
 fn run_left<J: Job>(
