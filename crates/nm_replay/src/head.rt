@@ -13,7 +13,7 @@ ghost use Rattle.nm_replay.specs.OpenFaults.{HasOpenFault, IsOfHead, is_disk_fau
 ghost use Rattle.nm_replay.specs.StoredIndex.{HasCommits, HoldsWithin, StayWithin};
 
 use crate::OpenError;
-use crate::bodies::read_bodies;
+use crate::bodies::{read_bodies, shared_bodies};
 use crate::replay::replayed;
 use nm_disk::{Disk, FileNo};
 use nm_journal::Journal;
@@ -69,7 +69,8 @@ pub fn replay_head<R: Threads + Wait + Sync, D: Disk>(
     ensures cause { HasCauseOf is_disk_fault (D.observed disk.old).faults (D.observed disk.new).faults result }
 {
     let (journal, bodies) = Journal::open(alloc, disk, FileNo::Head, 0)?;
-    let read = read_bodies(rt, alloc, workers, &bodies)?;
-    let index = replayed(rt, alloc, workers, bodies.as_slice(), read.as_slice())?;
+    let shared = shared_bodies(alloc, bodies)?;
+    let read = read_bodies(rt, alloc, workers, &shared)?;
+    let index = replayed(rt, alloc, workers, shared.as_slice(), read.as_slice())?;
     Ok(Replayed { journal, index })
 }

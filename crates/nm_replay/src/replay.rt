@@ -11,7 +11,7 @@ ghost use Rattle.nm_replay.specs.StoredIndex.{HasCommits, StayWithin};
 
 use crate::OpenError;
 use crate::next_index::next_snapshot;
-use nm_base::Many;
+use nm_base::SharedBytes;
 use nm_commit::Commit;
 use nm_disk::FileNo;
 use nm_state::{RoomError, Snapshot};
@@ -24,7 +24,7 @@ pub(crate) fn replayed<R: Threads>(
     rt: &R,
     alloc: Global,
     workers: u32,
-    bodies: &[Many<u8>],
+    bodies: &[SharedBytes],
     read: &[Option<Commit>],
 ) -> Result<Snapshot, OpenError>
     requires { AllZip IsRead bodies.now read.now }
@@ -34,11 +34,11 @@ pub(crate) fn replayed<R: Threads>(
 {
     let mut snapshot = Snapshot::empty(alloc);
     let mut gate = 0u64;
-    'bodies: for at in 0..bodies.len() {
+    'bodies: for at in 0..read.len() {
         snapshot = replay_one(rt, workers, &snapshot, &read[at], gate)?;
         gate = gate
             .saturating_add(5)
-            .saturating_add(bodies[at].len() as u64);
+            .saturating_add(bodies[at].as_slice().len() as u64);
     }
     Ok(snapshot)
 }
