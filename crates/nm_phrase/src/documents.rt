@@ -8,10 +8,11 @@ ghost use Rattle.nm_phrase.specs.Ends.{are_rising};
 ghost use Rattle.nm_phrase.specs.Found.{numbers_of};
 
 use crate::ends::narrowed;
-use nm_base::{Field, Many, NoMemory, Steps};
+use crate::front::SegmentField;
+use nm_base::{Many, NoMemory, Steps};
 use nm_blocks::Hit;
 use nm_cursor::Rising;
-use nm_segment::{Segment, hits_are_in_order};
+use nm_segment::hits_are_in_order;
 use std::alloc::Global;
 use std::collections::BTreeSet;
 use std::sync::ledger::Ledger;
@@ -20,19 +21,18 @@ use std::sync::ledger::Ledger;
 pub(crate) fn add_found<L: Ledger>(
     alloc: Global,
     docs: &mut BTreeSet<u32>,
-    segment: &Segment,
-    field: Field,
+    place: &SegmentField<'_>,
     before: &Option<Many<Hit>>,
     word: &[u8],
     steps: &mut Steps<L>,
 ) -> Result<(), NoMemory>
-    requires docs { AreDocs segment.now }
+    requires docs { AreDocs place.now.segment.now }
     requires before { are_rising before.now ≡ true }
-    ensures docs { OnOk result (docs.new.keys ≡ union docs.old.keys (numbers_of segment.now field before.now word.now)) }
+    ensures docs { OnOk result (docs.new.keys ≡ union docs.old.keys (numbers_of place.now.segment.now place.now.field before.now word.now)) }
     ensures steps { steps.old ≤ steps.new }
 {
     hits_are_in_order();
-    let postings = segment.postings(word, field, steps);
+    let postings = place.segment.postings(word, place.field, steps);
     let hits = narrowed(alloc, before, postings, steps)?;
     add_documents(docs, hits.as_slice())
 }

@@ -11,6 +11,13 @@ use nm_segment::{Segment, hits_are_in_order, hits_are_where_the_word_stands};
 use std::alloc::Global;
 use std::sync::ledger::Ledger;
 
+/// A field of a segment, whose words are asked for.
+#[derive(Drop)]
+pub(crate) struct SegmentField<'a> {
+    pub segment: &'a Segment,
+    pub field: Field,
+}
+
 /// Where the words before the last one end, if there are any, and the last one.
 #[derive(Drop)]
 pub(crate) struct Front<'a> {
@@ -21,14 +28,13 @@ pub(crate) struct Front<'a> {
 /// Finds the words before the last one.
 pub(crate) fn front_of<'a, L: Ledger>(
     alloc: Global,
-    segment: &Segment,
-    field: Field,
+    place: &SegmentField<'_>,
     words: &'a WordList,
     steps: &mut Steps<L>,
 ) -> Result<Front<'a>, NoMemory>
-    requires docs { AreDocs segment.now }
+    requires docs { AreDocs place.now.segment.now }
     requires some { words.now ≢ [] }
-    ensures front { IfOk result (λ front. IsFront segment.now field words.now front.ends front.last.now) }
+    ensures front { IfOk result (λ front. IsFront place.now.segment.now place.now.field words.now front.ends front.last.now) }
     ensures steps { steps.old ≤ steps.new }
 {
     hits_are_where_the_word_stands();
@@ -40,7 +46,7 @@ pub(crate) fn front_of<'a, L: Ledger>(
     let mut ends = None;
     let mut last = first;
     'words: while let Some(next) = rest.take_first() {
-        let hits = segment.postings(last, field, steps);
+        let hits = place.segment.postings(last, place.field, steps);
         ends = Some(narrowed(alloc, &ends, hits, steps)?);
         last = next;
     }

@@ -5,7 +5,7 @@ ghost use Rattle.nm_cursor.specs.Sets.{IsRising};
 ghost use Rattle.nm_phrase.specs.Found.{numbers_with};
 
 use crate::documents::{add_found, cursor_of};
-use crate::front::front_of;
+use crate::front::{SegmentField, front_of};
 use nm_base::{Field, NoMemory, Steps, WordList};
 use nm_cursor::{Cursor, Rising, set_laws};
 use nm_segment::{Segment, hits_are_in_order, hits_are_where_the_word_stands};
@@ -46,17 +46,10 @@ impl Phrase {
         set_laws();
         hits_are_where_the_word_stands();
         segment.documents_rise();
-        let front = front_of(alloc, segment, field, words, steps)?;
+        let place = SegmentField { segment, field };
+        let front = front_of(alloc, &place, words, steps)?;
         let mut docs = BTreeSet::new(alloc);
-        add_found(
-            alloc,
-            &mut docs,
-            segment,
-            field,
-            &front.ends,
-            front.last,
-            steps,
-        )?;
+        add_found(alloc, &mut docs, &place, &front.ends, front.last, steps)?;
         Ok(Phrase {
             docs: cursor_of(alloc, &docs)?,
         })

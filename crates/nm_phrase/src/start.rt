@@ -9,7 +9,7 @@ ghost use Rattle.nm_phrase.specs.Ends.{are_rising};
 ghost use Rattle.nm_phrase.specs.Found.{numbers_of, numbers_with};
 
 use crate::documents::{add_found, cursor_of};
-use crate::front::front_of;
+use crate::front::{SegmentField, front_of};
 use nm_base::{Field, Many, NoMemory, Steps, WordList};
 use nm_blocks::Hit;
 use nm_cursor::{Cursor, Rising, set_laws};
@@ -53,17 +53,10 @@ impl Start {
         hits_are_where_the_word_stands();
         words_are_those_that_stand();
         segment.documents_rise();
-        let front = front_of(alloc, segment, field, words, steps)?;
+        let place = SegmentField { segment, field };
+        let front = front_of(alloc, &place, words, steps)?;
         let mut docs = BTreeSet::new(alloc);
-        add_started(
-            alloc,
-            &mut docs,
-            segment,
-            field,
-            &front.ends,
-            front.last,
-            steps,
-        )?;
+        add_started(alloc, &mut docs, &place, &front.ends, front.last, steps)?;
         Ok(Start {
             docs: cursor_of(alloc, &docs)?,
         })
@@ -86,20 +79,19 @@ impl Cursor for Start {
 fn add_started<L: Ledger>(
     alloc: Global,
     docs: &mut BTreeSet<u32>,
-    segment: &Segment,
-    field: Field,
+    place: &SegmentField<'_>,
     before: &Option<Many<Hit>>,
     start: &[u8],
     steps: &mut Steps<L>,
 ) -> Result<(), NoMemory>
-    requires docs { AreDocs segment.now }
+    requires docs { AreDocs place.now.segment.now }
     requires before { are_rising before.now ≡ true }
-    ensures docs { OnOk result (docs.new.keys ≡ union docs.old.keys (flat_map (numbers_of segment.now field before.now) (starting start.now (words segment.now)))) }
+    ensures docs { OnOk result (docs.new.keys ≡ union docs.old.keys (flat_map (numbers_of place.now.segment.now place.now.field before.now) (starting start.now (words place.now.segment.now)))) }
     ensures steps { steps.old ≤ steps.new }
 {
     let mut at = 0_usize;
-    'words: while let Some(word) = segment.with_start(start, at, steps) {
-        add_found(alloc, docs, segment, field, before, word, steps)?;
+    'words: while let Some(word) = place.segment.with_start(start, at, steps) {
+        add_found(alloc, docs, place, before, word, steps)?;
         // More words than a place can tell would take more memory than there is.
         let Some(next) = at.checked_add(1) else {
             return Err(NoMemory);

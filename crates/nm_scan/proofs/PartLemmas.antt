@@ -1,6 +1,6 @@
 -- A batch is read part by part, and each part is classified; where the reading or memory stops it, the first parts are
 -- reported.
--- For the proofs of `read_part`, `classify_batch` and `classify_and_read`.
+-- For the proofs of `read_files`, `classify_batch` and `classify_and_read`.
 use Rattle.std.proofs.Common.{◌≡◌, ◌⊎◌, inl, inr, ℕ, ◌+◌, ◌-◌, ◌<◌, ◌≤◌, List, [], ◌∷◌, ◌++◌, Option, IfErr, IfOk, IfSome, Result, Ok, Err, false, true, length, take, drop, refl, sym, ap, ◌∙◌, subst, append-nil, append_assoc, length-append, take-append-drop, arith}
 use Rattle.std.specs.Prelude.{IsErr, IsOk, OnOk}
 use Rattle.std.specs.List.{AllZip}

@@ -6,6 +6,7 @@ ghost use Rattle.nm_maildir.specs.Observed.{HasMailCause};
 ghost use Rattle.nm_scan.specs.Batches.{HasReadBatch, StopsInBatch};
 
 use crate::classes::note_all;
+use crate::crew::Crew;
 use crate::parts::classify_batch;
 use nm_base::{Facts, MailPath, Many};
 use nm_maildir::{Given, MailError, Maildir};
@@ -39,8 +40,14 @@ pub fn read_batch<R: Threads + Wait + Sync, M: Maildir, G: Gate + Sync>(
     ensures whole { into_iter_len paths.new ≡ length (into_iter_items paths.new) }
     ensures cause { HasMailCause (M.observed mail.old).faults (M.observed mail.new).faults result }
 {
+    let crew = Crew {
+        rt,
+        alloc,
+        workers,
+        gate,
+    };
     let mut all = Vec::new(alloc);
-    match classify_batch(rt, alloc, mail, paths, workers, gate, &mut all) {
+    match classify_batch(&crew, mail, paths, &mut all) {
         Ok(()) => {
             let added = note_all(alloc, all, given)?;
             Ok(added)

@@ -7,6 +7,7 @@ ghost use Rattle.nm_scan.specs.Found.{HasNotedFront, IsClassified, given_of, mai
 ghost use Rattle.nm_scan.specs.FileReads.{Classifies};
 
 use crate::Mail;
+use crate::crew::Crew;
 use nm_base::{Copies, Facts, MailPath, Many, NoMemory};
 use nm_extract::{ExtractError, extract};
 use nm_maildir::{Given, Got, ReadAnswer};
@@ -49,18 +50,16 @@ impl Job for Classifying {
     }
 }
 
-/// Classifies the files, by n workers, who pass the gate.
+/// Classifies the files.
 pub(crate) fn classify_all<R: Threads + Wait + Sync, G: Gate + Sync>(
-    rt: &R,
-    alloc: Global,
-    workers: u32,
-    gate: &G,
+    crew: &Crew<'_, R, G>,
     found: &Many<(MailPath, Got)>,
 ) -> Result<Many<Classified>, NoMemory>
-    requires workers { (0 < workers) × (workers ≤ 16) }
+    requires workers { (0 < crew.now.workers) × (crew.now.workers ≤ 16) }
     ensures { IfOk result (AllZip IsClassified found.now) }
 {
-    map_jobs(rt, alloc, &Classifying { alloc }, found, workers, gate)
+    let job = Classifying { alloc: crew.alloc };
+    map_jobs(crew.rt, crew.alloc, &job, found, crew.workers, crew.gate)
 }
 
 /// Takes the classified files of a part after those before it.

@@ -49,8 +49,35 @@ impl Lacks {
     }
 }
 
-/// Reads the next files of a batch, `most` at most, as far as the batch goes. Says what was found.
+/// Files that were read one after the other, and how the reading ended.
+#[derive(Drop)]
+pub(crate) struct Part {
+    pub found: Many<(MailPath, Got)>,
+    pub read: Result<(), MailError>,
+}
+
+/// Reads the next files of a batch, `most` at most, as far as the batch goes.
 pub(crate) fn read_part<M: Maildir>(
+    alloc: Global,
+    mail: &mut M,
+    paths: &mut IntoIter<MailPath, Global>,
+    lacks: &mut Lacks,
+    most: usize,
+) -> Part
+    requires whole { into_iter_len paths.old ≡ length (into_iter_items paths.old) }
+    requires some { 0 < most }
+    ensures reads { ReadsOn (M.observed mail.old) (M.observed mail.new) (into_iter_items paths.old) (into_iter_items paths.new)
+        lacks.old lacks.new result.found (Ok tt) result.read }
+    ensures closed { OnOk result.read (result.found ≡ [] → IsClosed (into_iter_items paths.new) lacks.new) }
+    ensures whole { into_iter_len paths.new ≡ length (into_iter_items paths.new) }
+{
+    let mut found = Many::new(alloc);
+    let read = read_files(mail, paths, lacks, most, &mut found);
+    Part { found, read }
+}
+
+/// Reads the next files. Says what was found.
+fn read_files<M: Maildir>(
     mail: &mut M,
     paths: &mut IntoIter<MailPath, Global>,
     lacks: &mut Lacks,

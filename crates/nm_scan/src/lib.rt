@@ -6,6 +6,7 @@ mod batch_reader;
 mod bodies;
 mod bodies_error;
 mod classes;
+mod crew;
 mod files;
 mod laws;
 mod parts;

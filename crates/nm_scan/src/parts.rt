@@ -1,15 +1,16 @@
 //! A batch in parts: while workers find which files of one are mail, the caller reads the next. `read_batch` has it done.
 
-ghost use Rattle.std.specs.Prelude.{◌≡◌, ℕ, [], ◌<◌, ◌≤◌, length, IfErr, IfOk, IsErr, Ok, OnOk};
+ghost use Rattle.std.specs.Prelude.{◌≡◌, ℕ, [], ◌<◌, ◌≤◌, length, Err, IfErr, IfOk, IsErr, Ok, OnOk};
 ghost use Rattle.std.specs.List.{AllZip};
 ghost use Rattle.std.specs.Vec.Iter.{into_iter_items, into_iter_len};
 ghost use Rattle.nm_maildir.specs.Observed.{HasMailCause};
 ghost use Rattle.nm_scan.specs.Found.{HasClassifiedBatch, IsClassified, IsClosed, ReadsOn, StopsClassifying};
 
 use crate::classes::{Classified, Classifying, classify_all, take_part};
-use crate::files::{Lacks, read_part};
+use crate::crew::Crew;
+use crate::files::{Lacks, Part, read_part};
 use nm_base::{MailPath, Many, NoMemory};
-use nm_maildir::{Got, MailError, Maildir};
+use nm_maildir::{MailError, Maildir};
 use nm_workers::{Gate, map_jobs_beside};
 use std::alloc::Global;
 use std::sync::Wait;
@@ -26,15 +27,12 @@ const MAX_PART: usize = 256;
 /// Reads the next batch part by part, and finds which of its files are mail; each is listed in `all`, in order. Where the reading
 /// or memory stops it, so are the first of what was read.
 pub(crate) fn classify_batch<R: Threads + Wait + Sync, M: Maildir, G: Gate + Sync>(
-    rt: &R,
-    alloc: Global,
+    crew: &Crew<'_, R, G>,
     mail: &mut M,
     paths: &mut IntoIter<MailPath, Global>,
-    workers: u32,
-    gate: &G,
     all: &mut Vec<Classified>,
 ) -> Result<(), MailError>
-    requires workers { (0 < workers) × (workers ≤ 16) }
+    requires workers { (0 < crew.now.workers) × (crew.now.workers ≤ 16) }
     requires none { all.old.items ≡ [] }
     requires whole { into_iter_len paths.old ≡ length (into_iter_items paths.old) }
     requires some { 0 < length (into_iter_items paths.old) }
@@ -44,23 +42,18 @@ pub(crate) fn classify_batch<R: Threads + Wait + Sync, M: Maildir, G: Gate + Syn
     ensures cause { HasMailCause (M.observed mail.old).faults (M.observed mail.new).faults result }
 {
     let mut lacks = Lacks::all();
-    let mut part = first_part(workers);
-    let mut found = Many::new(alloc);
-    let mut read = read_part(mail, paths, &mut lacks, part, &mut found);
-    'parts: while found.len() > 0 {
-        let mut next = Many::new(alloc);
-        part = next_part(part);
-        let (classified, further) = classify_and_read(
-            rt, alloc, &found, workers, gate, mail, paths, &mut lacks, part, read, &mut next,
-        );
+    let mut most = first_part(crew.workers);
+    let mut part = read_part(crew.alloc, mail, paths, &mut lacks, most);
+    'parts: while part.found.len() > 0 {
+        most = next_part(most);
+        let (classified, next) = classify_and_read(crew, &part, mail, paths, &mut lacks, most);
         match take_part(classified, all) {
             Ok(()) => {}
-            Err(NoMemory) => return stopped_by_memory(further),
+            Err(NoMemory) => return stopped_by_memory(next.read),
         }
-        found = next;
-        read = further;
+        part = next;
     }
-    read
+    part.read
 }
 
 /// The error of a reading whose files could not be reported: its own, if it has one.
@@ -87,50 +80,52 @@ fn next_part(part: usize) -> usize
     if part < MAX_PART { part * 2 } else { part }
 }
 
-/// Finds which of the files are mail; the caller reads the next part before it helps, where nothing has stopped the reading.
+/// Finds which files of a part are mail; the caller reads the next part before it helps, where nothing has stopped the reading.
 fn classify_and_read<R: Threads + Wait + Sync, M: Maildir, G: Gate + Sync>(
-    rt: &R,
-    alloc: Global,
-    found: &Many<(MailPath, Got)>,
-    workers: u32,
-    gate: &G,
+    crew: &Crew<'_, R, G>,
+    part: &Part,
     mail: &mut M,
     paths: &mut IntoIter<MailPath, Global>,
     lacks: &mut Lacks,
     most: usize,
-    read: Result<(), MailError>,
-    next: &mut Many<(MailPath, Got)>,
-) -> (Result<Many<Classified>, NoMemory>, Result<(), MailError>)
-    requires workers { (0 < workers) × (workers ≤ 16) }
-    requires none { next.old ≡ [] }
+) -> (Result<Many<Classified>, NoMemory>, Part)
+    requires workers { (0 < crew.now.workers) × (crew.now.workers ≤ 16) }
     requires whole { into_iter_len paths.old ≡ length (into_iter_items paths.old) }
     requires some { 0 < most }
-    ensures classified { IfOk result.0 (λ more. AllZip IsClassified found.now more) }
+    ensures classified { IfOk result.0 (λ more. AllZip IsClassified part.now.found more) }
     ensures reads { ReadsOn (M.observed mail.old) (M.observed mail.new) (into_iter_items paths.old) (into_iter_items paths.new)
-        lacks.old lacks.new next.new read result.1 }
-    ensures closed { OnOk result.1 (next.new ≡ [] → IsClosed (into_iter_items paths.new) lacks.new) }
+        lacks.old lacks.new result.1.found part.now.read result.1.read }
+    ensures closed { OnOk result.1.read (result.1.found ≡ [] → IsClosed (into_iter_items paths.new) lacks.new) }
     ensures whole { into_iter_len paths.new ≡ length (into_iter_items paths.new) }
 {
-    match read {
-        Ok(()) => {}
-        Err(error) => return (classify_all(rt, alloc, workers, gate, found), Err(error)),
+    if let Err(error) = &part.read {
+        return (classify_all(crew, &part.found), unread(crew.alloc, *error));
     }
-    let (read, classified) = map_jobs_beside(
-        rt,
-        alloc,
-        &Classifying { alloc },
-        found,
-        workers,
-        gate,
-        &mut || -> Result<(), MailError>
+    let (next, classified) = map_jobs_beside(
+        crew.rt,
+        crew.alloc,
+        &Classifying { alloc: crew.alloc },
+        &part.found,
+        crew.workers,
+        crew.gate,
+        &mut || -> Part
             requires whole { into_iter_len paths.now ≡ length (into_iter_items paths.now) }
-            requires none { next.now ≡ [] }
             requires some { 0 < most }
             ensures reads { ReadsOn (M.observed mail.entry.now) (M.observed mail.exit.now) (into_iter_items paths.entry.now) (into_iter_items paths.exit.now)
-                lacks.entry.now lacks.exit.now next.exit.now (Ok tt) result }
-            ensures closed { OnOk result (next.exit.now ≡ [] → IsClosed (into_iter_items paths.exit.now) lacks.exit.now) }
+                lacks.entry.now lacks.exit.now result.found (Ok tt) result.read }
+            ensures closed { OnOk result.read (result.found ≡ [] → IsClosed (into_iter_items paths.exit.now) lacks.exit.now) }
             ensures whole { into_iter_len paths.exit.now ≡ length (into_iter_items paths.exit.now) }
-        { read_part(mail, paths, lacks, most, next) },
+        { read_part(crew.alloc, mail, paths, lacks, most) },
     );
-    (classified, read)
+    (classified, next)
+}
+
+/// No file more: the reading had ended so.
+fn unread(alloc: Global, error: MailError) -> Part
+    ensures { (result.found ≡ []) × (result.read ≡ Err error) }
+{
+    Part {
+        found: Many::new(alloc),
+        read: Err(error),
+    }
 }

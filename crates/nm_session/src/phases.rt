@@ -36,30 +36,35 @@ use std::thread::Threads;
 /// The most bytes that all lines may show.
 pub(crate) const MAX_SHOWN: u64 = 67_108_864;
 
+/// What a session holds once its index is open: the writer, and the room for its log.
+pub(crate) struct OpenSession {
+    pub writer: Writer,
+    pub reserved: ReservedLog,
+}
+
 /// Runs the phases over an index that was opened. It answers how many bytes may still be shown, and whether the output failed.
 pub(crate) fn run_all<R: Threads + Wait + Sync, M: Maildir, D: Disk, O: Sink, G: Gate + Sync>(
     asked: &Asked<'_, '_, R, G>,
     lanes: &mut [ReaderLane<'_>],
-    reserved: &mut ReservedLog,
-    writer: &mut Writer,
+    opened: &mut OpenSession,
     mail: &mut M,
     disk: &mut D,
     out: &mut O,
 ) -> (u64, bool)
     requires count { asked.now.count ≡ length asked.now.phases.now }
-    requires reserved { HasRoom (places_in asked.now.phases.now) reserved.old }
-    requires fresh { (writer.old.begun ≡ []) × (writer.old.acked ≡ []) × (writer.old.closed ≡ None) }
-    requires published { (writer.old.published.opening ≡ writer.old.shown) × (writer.old.published.commits ≡ []) }
-    requires lanes { All (IsLaneAt asked.now.crew.now.setting.now.moment asked.now.phases.now 0 writer.old.published.book) lanes.old }
-    requires stands { Stands writer.old (D.observed disk.old) }
-    ensures run { HasRunPhases asked.now.crew.now.setting.now.moment asked.now.session result.1 writer.old.shown (M.observed mail.old) (D.observed disk.old).faults
-        asked.now.phases.now reserved.new (place_at writer.new (M.observed mail.new) (D.observed disk.new) result.0) (O.observed out.old) (O.observed out.new) }
-    ensures steps { reserved.new.steps ≡ reserved.old.steps }
-    ensures durable { (entry : ObservedDisk) (opening : Base) → IsDurable entry opening (D.observed disk.old) writer.old → IsDurable entry opening (D.observed disk.new) writer.new }
+    requires reserved { HasRoom (places_in asked.now.phases.now) opened.old.reserved }
+    requires fresh { (opened.old.writer.begun ≡ []) × (opened.old.writer.acked ≡ []) × (opened.old.writer.closed ≡ None) }
+    requires published { (opened.old.writer.published.opening ≡ opened.old.writer.shown) × (opened.old.writer.published.commits ≡ []) }
+    requires lanes { All (IsLaneAt asked.now.crew.now.setting.now.moment asked.now.phases.now 0 opened.old.writer.published.book) lanes.old }
+    requires stands { Stands opened.old.writer (D.observed disk.old) }
+    ensures run { HasRunPhases asked.now.crew.now.setting.now.moment asked.now.session result.1 opened.old.writer.shown (M.observed mail.old) (D.observed disk.old).faults
+        asked.now.phases.now opened.new.reserved (place_at opened.new.writer (M.observed mail.new) (D.observed disk.new) result.0) (O.observed out.old) (O.observed out.new) }
+    ensures steps { opened.new.reserved.steps ≡ opened.old.reserved.steps }
+    ensures durable { (entry : ObservedDisk) (opening : Base) → IsDurable entry opening (D.observed disk.old) opened.old.writer → IsDurable entry opening (D.observed disk.new) opened.new.writer }
 {
     let mut stage = Stage {
-        reserved,
-        writer,
+        reserved: &mut opened.reserved,
+        writer: &mut opened.writer,
         mail,
         disk,
         out,

@@ -5,7 +5,7 @@ ghost use Rattle.nm_history.specs.Call.{devices};
 ghost use Rattle.nm_io.specs.Observed.{ObservedSink, ObservedStream};
 ghost use Rattle.nm_session.specs.Session.{IsPlanned, IsSession, IsUnopened};
 
-use crate::phases::{finish, run_all};
+use crate::phases::{OpenSession, finish, run_all};
 use crate::plan::{Plan, lanes_with, prepare};
 use nm_base::NoMemory;
 use nm_disk::Disk;
@@ -60,18 +60,10 @@ pub fn run_session<R: Threads + Wait + Sync, M: Maildir, D: Disk, O: Sink, G: Ga
                 phases,
                 count,
             };
-            let mut reserved = reserved;
-            let mut writer = writer;
+            let mut opened = OpenSession { writer, reserved };
             let mut lanes = lanes_with(crew.alloc, crew.setting, phases, readers, lanes);
-            let (_, failed) = run_all(
-                &asked,
-                lanes.as_mut_slice(),
-                &mut reserved,
-                &mut writer,
-                mail,
-                disk,
-                out,
-            );
+            let (_, failed) = run_all(&asked, lanes.as_mut_slice(), &mut opened, mail, disk, out);
+            let OpenSession { writer, reserved } = opened;
             Ok((finish(crew.rt, reserved, writer), failed))
         }
         Err(error) => Err(error),

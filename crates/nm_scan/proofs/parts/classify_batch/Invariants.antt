@@ -10,9 +10,9 @@ abbrev pub invariant-parts : goal.invariant-parts
 invariant-parts g l =
     let mail = g.M.Maildir in
     record {
-      under_way : IsUnderWay (mail.observed l.fn.mail) (mail.observed l.mail) (into_iter_items l.fn.paths) (into_iter_items l.paths) l.lacks l.found l.all.items l.read;
-      closed : OnOk l.read (l.found ≡ [] → IsClosed (into_iter_items l.paths) l.lacks);
-      some : 0 < l.part;
+      under_way : IsUnderWay (mail.observed l.fn.mail) (mail.observed l.mail) (into_iter_items l.fn.paths) (into_iter_items l.paths) l.lacks l.part.found l.all.items l.part.read;
+      closed : OnOk l.part.read (l.part.found ≡ [] → IsClosed (into_iter_items l.paths) l.lacks);
+      some : 0 < l.most;
       whole : into_iter_len l.paths ≡ length (into_iter_items l.paths);
     }
 

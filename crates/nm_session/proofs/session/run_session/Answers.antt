@@ -46,8 +46,8 @@ finish-requires-clause-room g c =
     let done = c.run_all-failed in
     let run = done.ensures.run in
     let phases = c.args.phases.now in
-    let place = place_at done.new.writer (g.M.Maildir.observed done.new.mail) (g.D.Disk.observed done.new.disk) done.result.0 in
-    (steps-fit (places_in phases) (planned_from 0 (take run.count phases)) c.in-Ok.plan.reserved done.new.reserved place
+    let place = place_at done.new.opened.writer (g.M.Maildir.observed done.new.mail) (g.D.Disk.observed done.new.disk) done.result.0 in
+    (steps-fit (places_in phases) (planned_from 0 (take run.count phases)) c.in-Ok.plan.reserved done.new.opened.reserved place
     (omega (arith, planned-within 0 (take run.count phases), places-cut run.count phases)) c.in-Ok.ensures.reserved run.noted done.ensures.steps).1
 
 pub returns-in-Ok-open-clause-ran : goal.returns-in-Ok-open-clause-ran
@@ -65,11 +65,11 @@ returns-in-Ok-open-clause-ran g c =
     let new = disk.observed done.new.disk in
     let h = c.in-Ok-open.ensures in
     let so = done.ensures.run in
-    let place = place_at done.new.writer (mail.observed done.new.mail) new done.result.0 in
+    let place = place_at done.new.opened.writer (mail.observed done.new.mail) new done.result.0 in
     let kept : (entry : ObservedDisk) → IsDurable entry writer.shown opened writer → IsKept entry writer.shown new log =
-    λ entry durable. is-kept entry new writer.shown (planned_from 0 (take so.count phases)) done.new.reserved place log so.noted (done.ensures.durable entry writer.shown durable) c.finish.ensures in
+    λ entry durable. is-kept entry new writer.shown (planned_from 0 (take so.count phases)) done.new.opened.reserved place log so.noted (done.ensures.durable entry writer.shown durable) c.finish.ensures in
     λ input err.
-    let run = has-run moment c.args.session done.result.1 writer.shown (devices (mail.observed c.args.mail.now) old input (sink.observed c.args.out.now) err) phases done.new.reserved place (mail.observed c.args.mail.now) opened.faults
+    let run = has-run moment c.args.session done.result.1 writer.shown (devices (mail.observed c.args.mail.now) old input (sink.observed c.args.out.now) err) phases done.new.opened.reserved place (mail.observed c.args.mail.now) opened.faults
     (sink.observed c.args.out.now) (sink.observed done.new.out) log so refl (sym h.cause) refl c.finish.ensures in
     let since = kept opened h.durable in
     record {

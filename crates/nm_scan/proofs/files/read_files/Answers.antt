@@ -1,7 +1,7 @@
 use Rattle.std.proofs.Common.{◌∷◌, [], ap, length, length-append, refl, arith}
 use Rattle.std.specs.Vec.Iter.{into_iter_items}
 use Rattle.nm_scan.proofs.PartLemmas.{a_path_more, a_path_stops, no_path_read, part_is_closed, part_is_read}
-use Rattle.nm_scan.proofs.files.read_part.Goals as goal
+use Rattle.nm_scan.proofs.files.read_files.Goals as goal
 
 pub files-init : goal.files-init
 files-init g c =

@@ -1,7 +1,7 @@
 use Rattle.std.proofs.Common.{◌≡◌, [], length}
 use Rattle.std.specs.Vec.Iter.{into_iter_items, into_iter_len}
 use Rattle.nm_scan.proofs.PartLemmas.{GoesOn}
-use Rattle.nm_scan.proofs.files.read_part.Given as goal
+use Rattle.nm_scan.proofs.files.read_files.Given as goal
 
 -- a batch that went on goes on
 abbrev pub invariant-files : goal.invariant-files
