@@ -18,5 +18,5 @@ mod tag;
 pub use desk::Desk;
 pub use lane_zero::answer;
 pub use laws::what_a_lane_reads_is_said;
-pub use line_answer::LineAnswer;
+pub use line_answer::{LineAnswer, answered_or};
 pub use other_lane::lane_read;

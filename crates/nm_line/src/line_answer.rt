@@ -1,6 +1,6 @@
-//! What comes of a line: a reply, or the line of its refusal. `lane_zero`, `other_lane` and each command make one.
+//! What comes of a line: a reply, or the line of its refusal. `lane_zero`, `other_lane` and each command make one, and `nm_phase` notes it.
 
-ghost use Rattle.std.specs.Prelude.{◌≡◌, IfOk};
+ghost use Rattle.std.specs.Prelude.{◌≡◌, IfOk, MatchResult, None};
 ghost use Rattle.nm_line.specs.Line.{refused_with, replied_with};
 
 use nm_base::{Copies, Many, NoMemory};
@@ -42,4 +42,18 @@ pub(crate) fn refuse(alloc: Global, outcome: Outcome) -> Result<LineAnswer, NoMe
         text,
         reply: None,
     })
+}
+
+/// The answer, or that of a line that runs out of memory.
+pub fn answered_or(answered: Result<LineAnswer, NoMemory>, fallback: Many<u8>) -> LineAnswer
+    ensures { MatchResult answered (λ done. result ≡ done) (λ _. result ≡ record { outcome = Outcome.NoMemory; text = fallback; reply = None }) }
+{
+    match answered {
+        Ok(done) => done,
+        Err(_) => LineAnswer {
+            outcome: Outcome::NoMemory,
+            text: fallback,
+            reply: None,
+        },
+    }
 }

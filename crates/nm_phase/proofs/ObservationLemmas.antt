@@ -11,9 +11,9 @@ use Rattle.nm_model_index.specs.declared.base.Base.{Base}
 use Rattle.nm_lanes.specs.declared.script.Phase.{Phase}
 use Rattle.nm_lanes.specs.declared.script.ScriptLine.{ScriptLine}
 use Rattle.nm_publish.specs.Published.{GoesOn, Published, index_of}
-use Rattle.nm_phase.specs.LaneLog.{IsAnswerNoted, IsLaneReadNoted, IsPlaceOf}
+use Rattle.nm_phase.specs.LaneLog.{IsAnswerNoted, IsLaneReadNoted}
 use Rattle.nm_line.specs.LaneRead.{IsAnswerOn}
-use Rattle.nm_trace.specs.Trace.{AreOfOthers, is_of_others, made_by, made_in}
+use Rattle.nm_trace.specs.Trace.{AreOfOthers, IsPlaceOf, made_in}
 use Rattle.nm_phase.specs.Observations.{AreKnown, AreObservations, HasAnswered, HasSeen, IsLaneAt, IsSeen, IsSeenAt, IsObservation, KeepsLane, MayBeOf}
 use Rattle.nm_trace.specs.declared.trace.Mark.{Mark}
 use Rattle.nm_trace.specs.declared.reserved_log.ReservedLog.{ReservedLog}
@@ -176,33 +176,6 @@ anew-noted moment phase line writer before after end shown_is end_is noted = rec
   index_is = sym shown_is;
   place = at-end line.lane before.marks.0 end end_is;
 }
-
--- ---- the place of a read, from the end on
-
--- after this place there are only marks of others, and they have made all but n of the commits
-pub record IsBehind (lane behind left : ℕ) (marks : List Mark) (at : ℕ) : Type 0 where
-  pub within : at ≤ length marks
-  pub others : AreOfOthers lane (drop at marks)
-  pub made : made_in (drop at marks) + left ≡ behind
-
-pub behind-none : (lane behind : ℕ) (marks : List Mark) → IsBehind lane behind behind marks (length marks)
-behind-none lane behind marks =
-    let none : [] ≡ drop (length marks) marks = sym (drop-all marks) in
-    record { within = omega arith; others = subst (AreOfOthers lane) none tt; made = omega (arith, ap made_in none) }
-
-pub behind-more : (lane behind left more : ℕ) (marks : List Mark) (at next : ℕ) (mark : Mark) → IsBehind lane behind left marks at → next + 1 ≡ at → mark ≡ get_or marks next mark → is_of_others lane mark ≡ true
-    → more + made_by mark ≡ left → IsBehind lane behind more marks next
-behind-more lane behind left more marks at next mark h one is other fewer =
-    let here : drop next marks ≡ mark ∷ drop at marks =
-    drop_more marks next mark (omega (arith, h.within, one)) ∙ (ap (λ (m : Mark). m ∷ drop (next + 1) marks) (sym is) ∙ ap (λ (n : ℕ). mark ∷ drop n marks) one) in
-    record {
-      within = omega (arith, h.within, one);
-      others = subst (AreOfOthers lane) (sym here) (other, h.others);
-      made = omega (arith, ap made_in here, h.made, fewer);
-    }
-
-pub place-is : (lane behind : ℕ) (marks : List Mark) (at : ℕ) → IsBehind lane behind 0 marks at → IsPlaceOf lane behind marks at
-place-is lane behind marks at h = record { within = h.within; others = h.others; made = omega (arith, h.made) }
 
 -- ---- the lanes after a phase
 

@@ -18,7 +18,7 @@ use Rattle.nm_log.specs.declared.log.LineLog.{LineLog}
 use Rattle.nm_log.specs.declared.log.Said.{Said}
 use Rattle.nm_log.specs.declared.outcome.Outcome.TheVariants as outcomes
 use Rattle.nm_publish.specs.Published.{index_of}
-use Rattle.nm_trace.specs.Trace.{AreOfOthers, lane_read_marks, made_in}
+use Rattle.nm_trace.specs.Trace.{IsPlaceOf, lane_read_marks}
 use Rattle.nm_trace.specs.ReservedLog.{AreFallbacks}
 use Rattle.nm_trace.specs.declared.reserved_log.ReservedLog.{ReservedLog}
 use Rattle.nm_trace.specs.declared.trace.Mark.{Mark}
@@ -56,12 +56,6 @@ pub record IsAnswerNoted (moment : ℤ) (phase : ℕ) (index : Base) (line : Scr
   pub marks_spare : before.marks.1 ≤ after.marks.1 + 2
   pub fallbacks : length after.fallbacks + 1 ≡ length before.fallbacks
   pub texts : AreFallbacks after.fallbacks
-
--- a read of this lane has its place there, where all commits but the last n were shown: after it no phase ends, and the lane does nothing
-pub record IsPlaceOf (lane behind : ℕ) (marks : List Mark) (at : ℕ) : Type 0 where
-  pub within : at ≤ length marks
-  pub others : AreOfOthers lane (drop at marks)
-  pub made : made_in (drop at marks) ≡ behind
 
 -- A line of another lane was run over an index that the writer has shown, and its read is noted where it saw that.
 pub record IsLaneReadNoted (moment : ℤ) (phase : ℕ) (writer : WriterState) (line : ScriptLine) (before after : ReservedLog) : Type 0 where

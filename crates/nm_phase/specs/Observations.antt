@@ -6,7 +6,7 @@ use Rattle.nm_lanes.specs.declared.script.Phase.{Phase}
 use Rattle.nm_lanes.specs.declared.script.ScriptLine.{ScriptLine}
 use Rattle.nm_publish.specs.Published.{GoesOn, Published, index_of}
 use Rattle.nm_line.specs.LaneRead.{IsAnswerOn}
-use Rattle.nm_phase.specs.LaneLog.{IsPlaceOf}
+use Rattle.nm_trace.specs.Trace.{IsPlaceOf}
 use Rattle.nm_trace.specs.declared.trace.Mark.{Mark}
 use Rattle.nm_phase.specs.declared.reader_lane.ReaderLane.{ReaderLane}
 use Rattle.nm_phase.specs.declared.reader_lane.Observation.{Observation}

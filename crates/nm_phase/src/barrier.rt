@@ -7,7 +7,7 @@ ghost use Rattle.nm_history.specs.Call.{lines_of_lane};
 ghost use Rattle.nm_history.specs.LineResult.{Place};
 ghost use Rattle.nm_lanes.specs.declared.script.ScriptLine.{ScriptLine};
 ghost use Rattle.nm_publish.specs.Published.{GoesOn, index_of};
-ghost use Rattle.nm_phase.specs.LaneLog.{IsLaneReadNoted, IsPhaseEnd, IsPlaceOf};
+ghost use Rattle.nm_phase.specs.LaneLog.{IsLaneReadNoted, IsPhaseEnd};
 ghost use Rattle.nm_phase.specs.Taken.{AreTaken};
 ghost use Rattle.nm_trace.specs.ReservedLog.{HasSpare};
 ghost use Rattle.nm_phase.specs.Observations.{AreKnown, HasAnswered, IsSeenAt, KeepsLane, MayBeOf};
@@ -22,7 +22,7 @@ use nm_line::lane_read;
 use nm_log::Crew;
 use nm_model_index::the_revision_counts_the_commits;
 use nm_publish::Shown;
-use nm_trace::{Mark, ReservedLog, is_of_others, made_by};
+use nm_trace::{Mark, ReservedLog, place_of};
 use nm_writer::Writer;
 use std::alloc::Global;
 
@@ -172,23 +172,4 @@ fn seen_at(
     }
     let behind = now.checked_sub(observation.revision)?;
     place_of(marks, lane, behind)
-}
-
-/// Where in the marks a read of this lane belongs that saw all commits but the last n.
-fn place_of(marks: &[Mark], lane: u32, behind: u64) -> Option<usize>
-    ensures { IfSome result (IsPlaceOf lane behind marks.now) }
-{
-    let mut left = behind;
-    let count = marks.len();
-    'marks: for passed in 0..count {
-        if left == 0 {
-            return Some(count - passed);
-        }
-        let mark = &marks[count - passed - 1];
-        if !is_of_others(lane, mark) {
-            return None;
-        }
-        left -= made_by(mark);
-    }
-    if left == 0 { Some(0) } else { None }
 }

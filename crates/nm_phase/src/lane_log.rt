@@ -6,10 +6,9 @@ ghost use Rattle.nm_line.specs.LaneRead.{IsAnswerOn};
 ghost use Rattle.nm_phase.specs.LaneLog.{IsAnswerNoted, IsLaneAnswered};
 ghost use Rattle.nm_trace.specs.ReservedLog.{AreFallbacks};
 
-use crate::line::answered_or;
 use nm_base::{Many, NoMemory};
 use nm_lanes::ScriptLine;
-use nm_line::{LineAnswer, what_a_lane_reads_is_said};
+use nm_line::{LineAnswer, answered_or, what_a_lane_reads_is_said};
 use nm_log::{LineLog, Said, Setting, line_status};
 use nm_trace::{ReservedLog, take_fallback};
 use nm_writer::Writer;

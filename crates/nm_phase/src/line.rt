@@ -1,6 +1,6 @@
 //! One line of lane 0: it is answered, and noted in the log. `first_lane` calls it for each, and `command` of `nm_session` for the one line of a command.
 
-ghost use Rattle.std.specs.Prelude.{◌≡◌, ◌&&◌, ◌-◌, ◌≤◌, None, MatchResult, codes, length, not};
+ghost use Rattle.std.specs.Prelude.{◌≡◌, ◌&&◌, ◌-◌, ◌≤◌, codes, length, not};
 ghost use Rattle.nm_lanes.specs.declared.script.ScriptLine.{ScriptLine};
 ghost use Rattle.nm_base.specs.Limits.{max_commits};
 ghost use Rattle.nm_line.specs.Desk.{IsReady, KeepsLoans, Stands, StaysDurable, place_of};
@@ -8,11 +8,11 @@ ghost use Rattle.nm_scan.specs.Bodies.{left_after};
 ghost use Rattle.nm_phase.specs.LineLog.{IsAskedBy, IsNoted, IsRun};
 ghost use Rattle.nm_trace.specs.ReservedLog.{HasSpare};
 
-use nm_base::{Many, NoMemory};
+use nm_base::Many;
 use nm_disk::Disk;
 use nm_lanes::ScriptLine;
-use nm_line::{Desk, LineAnswer, answer};
-use nm_log::{Crew, LineLog, Outcome, Said, line_status};
+use nm_line::{Desk, LineAnswer, answer, answered_or};
+use nm_log::{Crew, LineLog, Said, line_status};
 use nm_maildir::Maildir;
 use nm_prepare::{AskError, Prepared, prepare_line};
 use nm_scan::left_after;
@@ -127,18 +127,4 @@ fn newly_closed(before: bool, now: bool) -> bool
     ensures { result ≡ (now && not before) }
 {
     now && !before
-}
-
-/// The answer, or that of a line that runs out of memory.
-pub(crate) fn answered_or(answered: Result<LineAnswer, NoMemory>, fallback: Many<u8>) -> LineAnswer
-    ensures { MatchResult answered (λ done. result ≡ done) (λ _. result ≡ record { outcome = Outcome.NoMemory; text = fallback; reply = None }) }
-{
-    match answered {
-        Ok(done) => done,
-        Err(_) => LineAnswer {
-            outcome: Outcome::NoMemory,
-            text: fallback,
-            reply: None,
-        },
-    }
 }

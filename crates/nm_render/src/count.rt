@@ -11,12 +11,11 @@ ghost use Rattle.nm_dates.specs.Seconds.{IsMoment};
 ghost use Rattle.nm_model_index.specs.Index.{rows_of};
 ghost use Rattle.nm_threads.specs.Name.{thread_name};
 
-use crate::cursor::Cursor;
 use itoa::Buffer;
 use nm_base::{CountAsk, Many, MessageId, NoMemory, Output};
 use nm_eval::matches;
 use nm_query::Query;
-use nm_state::Snapshot;
+use nm_state::{SlotGuess, Snapshot};
 use std::alloc::Global;
 use std::collections::BTreeSet;
 
@@ -89,9 +88,9 @@ fn count_threads(alloc: Global, snapshot: &Snapshot, ids: &[MessageId]) -> Resul
     ensures { IfOk result (λ number. number ≡ length (thread_names snapshot.now ids.now)) }
 {
     let mut names = BTreeSet::new(alloc);
-    let mut cursor = Cursor::new();
+    let mut guess = SlotGuess::new();
     'ids: for id in ids {
-        cursor = add_thread(&mut names, snapshot, id, cursor)?;
+        guess = add_thread(&mut names, snapshot, id, guess)?;
     }
     Ok(names.len() as u64)
 }
@@ -101,15 +100,15 @@ fn add_thread(
     names: &mut BTreeSet<u64>,
     snapshot: &Snapshot,
     id: &MessageId,
-    cursor: Cursor,
-) -> Result<Cursor, NoMemory>
+    guess: SlotGuess,
+) -> Result<SlotGuess, NoMemory>
     ensures { OnOk result (names.new.keys ≡ fold (insert_key nat_cmp) names.old.keys (filter_map (thread_name (rows_of snapshot.now) snapshot.now.entries) (id.now ∷ []))) }
 {
-    let (behind, thread) = snapshot.thread_by_hint(id, cursor.guess());
+    let (behind, thread) = snapshot.thread_by_hint(id, guess.hint());
     if let Some(name) = thread {
         names.insert(name)?;
     }
-    Ok(cursor.with(behind))
+    Ok(guess.with(behind))
 }
 
 /// How many files the messages have. Those of the first one are looked for at `slot_hint` first.

@@ -6,10 +6,9 @@ ghost use Rattle.nm_model_answer.specs.Summary.{in_thread};
 ghost use Rattle.nm_model_answer.specs.Test.{is_thread};
 ghost use Rattle.nm_render.specs.Groups.{listed};
 
-use crate::cursor::Cursor;
 use crate::lists::set_of;
 use nm_base::{Copies, Many, MessageId, NoMemory, TextSet};
-use nm_state::Snapshot;
+use nm_state::{SlotGuess, Snapshot};
 use std::alloc::Global;
 use std::collections::BTreeMap;
 
@@ -27,10 +26,10 @@ pub(crate) fn groups_of(
 {
     let set = set_of(alloc, names)?;
     let mut groups = BTreeMap::new(alloc);
-    let mut cursor = Cursor::new();
+    let mut guess = SlotGuess::new();
     'ids: for id in ids {
-        let (behind, thread) = snapshot.thread_by_hint(id, cursor.guess());
-        cursor = cursor.with(behind);
+        let (behind, thread) = snapshot.thread_by_hint(id, guess.hint());
+        guess = guess.with(behind);
         add_message(alloc, &mut groups, &set, thread, id)?;
     }
     Ok(groups)

@@ -4,7 +4,6 @@
 mod authors;
 mod body;
 mod count;
-mod cursor;
 mod groups;
 mod items;
 mod lists;

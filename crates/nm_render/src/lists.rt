@@ -8,9 +8,8 @@ ghost use Rattle.nm_model_answer.specs.Listing.{each_once, part_of};
 ghost use Rattle.nm_model_answer.specs.Search.{part_asked, paths_of_all, tags_of_all, threads_of};
 ghost use Rattle.nm_model_answer.specs.View.{files_of, tags_of};
 
-use crate::cursor::Cursor;
 use nm_base::{Copies, Many, MessageId, NoMemory, SearchAsk, Tag, Tags, Text, TextSet};
-use nm_state::Snapshot;
+use nm_state::{SlotGuess, Snapshot};
 use std::alloc::Global;
 
 /// The items after those that are passed over, as many as the limit says.
@@ -60,13 +59,13 @@ fn first_threads(
 {
     let mut names = Many::new(alloc);
     let mut seen = TextSet::new(alloc);
-    let mut cursor = Cursor::new();
+    let mut guess = SlotGuess::new();
     'ids: for id in ids {
         if most <= names.len() {
             return Ok(names);
         }
-        let (behind, thread) = snapshot.thread_by_hint(id, cursor.guess());
-        cursor = cursor.with(behind);
+        let (behind, thread) = snapshot.thread_by_hint(id, guess.hint());
+        guess = guess.with(behind);
         let Some(name) = thread else {
             continue;
         };
@@ -128,10 +127,10 @@ pub(crate) fn paths_of_all(
     ensures { IfOk result (λ paths. paths ≡ paths_of_all snapshot.now ids.now) }
 {
     let mut paths = Many::new(alloc);
-    let mut cursor = Cursor::new();
+    let mut guess = SlotGuess::new();
     'ids: for id in ids {
-        let behind = push_paths(&mut paths, snapshot, id, cursor.guess())?;
-        cursor = cursor.with(behind);
+        let behind = push_paths(&mut paths, snapshot, id, guess.hint())?;
+        guess = guess.with(behind);
     }
     Ok(paths)
 }

@@ -11,10 +11,12 @@ mod load;
 mod messages;
 mod numbers;
 mod room;
+mod slot_guess;
 mod snapshot;
 mod tag_overlay;
 
 pub use live_messages::LiveMessages;
 pub use nm_tables::{Files, MessageFiles, Paths, Tagged};
 pub use room::RoomError;
+pub use slot_guess::SlotGuess;
 pub use snapshot::{Snapshot, a_snapshot_is_a_valid_index};

@@ -1,2 +1,3 @@
 pub mod FallbackLemmas
+pub mod PlaceLemmas
 pub mod PutLemmas

@@ -1,7 +1,7 @@
 -- How the steps of a session are kept: a mark for each commit that a line made, or left on its way, for each read and reply of a lane, and for the
 -- end of each phase, in their order; the commits themselves are the writer's.
--- Cited by `machine_steps`, `reserved_log` and `nm_session`.
-use Rattle.std.specs.Prelude.{◌≡◌, ℕ, ◌+◌, ◌==◌, Bool, true, false, not, List, [], ◌∷◌, ◌++◌, map, replicate, if◌then◌else◌}
+-- Cited by `machine_steps`, `reserved_log`, `trace`, `nm_phase` and `nm_session`.
+use Rattle.std.specs.Prelude.{◌≡◌, ℕ, ◌+◌, ◌≤◌, ◌==◌, Bool, true, false, not, List, [], ◌∷◌, ◌++◌, drop, length, map, replicate, if◌then◌else◌}
 use Rattle.std.specs.List.{AllByRecursion}
 use Rattle.nm_commit.specs.declared.change.Commit.{Commit}
 use Rattle.nm_history.specs.LineResult.{commit_steps, said_of}
@@ -105,3 +105,9 @@ made_by marks.Met = 0
 abbrev pub made_in : List Mark → ℕ
 made_in [] = 0
 made_in (mark ∷ more) = made_by mark + made_in more
+
+-- a read of this lane has its place there, where all commits but the last n were shown: after it no phase ends, and the lane does nothing
+pub record IsPlaceOf (lane behind : ℕ) (marks : List Mark) (at : ℕ) : Type 0 where
+  pub within : at ≤ length marks
+  pub others : AreOfOthers lane (drop at marks)
+  pub made : made_in (drop at marks) ≡ behind

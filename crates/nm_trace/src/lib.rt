@@ -8,4 +8,4 @@ mod trace;
 
 pub use machine_steps::push_steps;
 pub use reserved_log::{ReservedLog, take_fallback};
-pub use trace::{Mark, Trace, is_of_others, made_by};
+pub use trace::{Mark, Trace, place_of};

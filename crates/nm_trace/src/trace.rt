@@ -1,9 +1,9 @@
 //! What the lines of a session leave for its steps, for `reserved_log` and `nm_phase`. The commits are the writer's until the session ends, so that no
 //! step takes memory then.
 
-ghost use Rattle.std.specs.Prelude.{◌≡◌, ◌+◌, ◌<◌, ◌≤◌, ◌++◌, ◌∷◌, [], length, IfOk};
+ghost use Rattle.std.specs.Prelude.{◌≡◌, ◌+◌, ◌<◌, ◌≤◌, ◌++◌, ◌∷◌, [], length, IfOk, IfSome};
 ghost use Rattle.std.specs.List.{insert};
-ghost use Rattle.nm_trace.specs.Trace.{is_of_others, made_by};
+ghost use Rattle.nm_trace.specs.Trace.{IsPlaceOf, is_of_others, made_by};
 
 use nm_base::{Many, NoMemory};
 use nm_log::Said;
@@ -94,7 +94,7 @@ impl Trace {
 }
 
 /// Says whether no phase ends with the mark, and it is none of this lane.
-pub fn is_of_others(lane: u32, mark: &Mark) -> bool
+fn is_of_others(lane: u32, mark: &Mark) -> bool
     ensures { result ≡ is_of_others lane mark.now }
 {
     match mark {
@@ -107,7 +107,7 @@ pub fn is_of_others(lane: u32, mark: &Mark) -> bool
 }
 
 /// How many commits were made with the mark.
-pub fn made_by(mark: &Mark) -> u64
+fn made_by(mark: &Mark) -> u64
     ensures value { result ≡ made_by mark.now }
     ensures one { result ≤ 1 }
 {
@@ -115,4 +115,23 @@ pub fn made_by(mark: &Mark) -> u64
         Mark::Made => 1,
         _ => 0,
     }
+}
+
+/// Where in the marks a read of this lane belongs that saw all commits but the last n.
+pub fn place_of(marks: &[Mark], lane: u32, behind: u64) -> Option<usize>
+    ensures { IfSome result (IsPlaceOf lane behind marks.now) }
+{
+    let mut left = behind;
+    let count = marks.len();
+    'marks: for passed in 0..count {
+        if left == 0 {
+            return Some(count - passed);
+        }
+        let mark = &marks[count - passed - 1];
+        if !is_of_others(lane, mark) {
+            return None;
+        }
+        left -= made_by(mark);
+    }
+    if left == 0 { Some(0) } else { None }
 }

@@ -11,6 +11,6 @@ pub ids-preserved : goal.ids-preserved
 ids-preserved c =
     let index = c.args.snapshot.now in
     let named : List ℕ → List ℕ = λ id. filter_map (thread_name (rows_of index) index.entries) (id ∷ []) in
-    c.in_ok-cursor.ensures
+    c.in_ok-guess.ensures
     ∙ (ap (λ (names : List ℕ). fold (insert_key nat_cmp) names (named c.id-item.result)) c.ids.invariant
     ∙ sym (threads_more index c.args.ids.now c.ids.id-index c.id-item.result c.ids-test.true c.id-item.is))

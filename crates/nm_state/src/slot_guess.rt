@@ -1,28 +1,28 @@
-//! Where the next message of a walk is looked for first: `count`, `groups` and `lists` go along messages by their dates, which mostly rise
-//! or fall as the messages came.
+//! Where the next message of a walk is looked for first, for `nm_render` and the calls of `snapshot` that take a hint: messages by their dates
+//! mostly rise or fall as they came.
 
 /// The places after the last message that was found, and after the one before it. Whatever is guessed, the same is found.
 #[derive(Clone, Copy)]
-pub(crate) struct Cursor {
+pub struct SlotGuess {
     before: u64,
     last: u64,
 }
 
-impl Cursor {
+impl SlotGuess {
     /// No message was found yet; the first guess is the first place.
-    pub(crate) fn new() -> Cursor {
-        Cursor { before: 1, last: 1 }
+    pub fn new() -> SlotGuess {
+        SlotGuess { before: 1, last: 1 }
     }
 
     /// As far from the last message as that is from the one before it.
-    pub(crate) fn guess(self) -> u64 {
+    pub fn hint(self) -> u64 {
         let step = self.last.wrapping_sub(self.before);
         self.last.wrapping_sub(1).wrapping_add(step)
     }
 
     /// The same walk with one message more, which comes before this place.
-    pub(crate) fn with(self, behind: u64) -> Cursor {
-        Cursor {
+    pub fn with(self, behind: u64) -> SlotGuess {
+        SlotGuess {
             before: self.last,
             last: behind,
         }
