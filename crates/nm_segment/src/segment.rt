@@ -2,7 +2,7 @@
 
 ghost use Rattle.std.specs.Prelude.{◌≡◌, ◌<◌, ◌≤◌, Some, [], length, slice_get, slice_index_or, IfOk, MatchOption};
 ghost use Rattle.nm_segment.specs.Costs.{SearchSteps};
-ghost use Rattle.nm_segment.specs.Docs.{AreDocs, fields_of, hits_of, lists_from, lists_of, words};
+ghost use Rattle.nm_segment.specs.Docs.{AreDocs, fields_of, hits_of, lists_from, lists_of, numbers, words};
 ghost use Rattle.nm_blocks.specs.Blocks.{IsRun};
 ghost use Rattle.nm_segment.specs.Runs.{row_at};
 ghost use Rattle.nm_segment.specs.Segment.{IsIndexed};
@@ -97,6 +97,16 @@ impl Segment {
         ensures { result ≡ length self.now }
     {
         self.docs.len()
+    }
+
+    /// The number of the document at a place.
+    pub fn doc_at(&self, at: usize) -> Option<u32>
+        ensures { result ≡ slice_get (numbers self.now) at }
+    {
+        match self.docs().get(at) {
+            None => None,
+            Some(found) => Some(found.doc),
+        }
     }
 
     /// The hits of a word in a field. A step is a probe of the words.
