@@ -1,4 +1,4 @@
-//! A whole cursor as a list, for the code above: a query's tree is worked out node by node to `Rising` lists.
+//! A whole cursor as a list, for `nm_lookup`: a query's tree is worked out node by node to `Rising` lists.
 
 ghost use Rattle.std.specs.Prelude.{◌≡◌, ◌≤◌, IfOk};
 ghost use Rattle.nm_cursor.specs.Sets.{IsRising};

@@ -1,4 +1,4 @@
-//! A cursor over the documents that have words one after the other, for the code above.
+//! A cursor over the documents that have words one after the other, for `nm_lookup`.
 
 ghost use Rattle.std.specs.Prelude.{◌≡◌, ◌≢◌, ◌≤◌, false, [], IfOk};
 ghost use Rattle.nm_cursor.specs.Sets.{IsRising};

@@ -1,4 +1,4 @@
-//! A cursor over the documents that have words one after the other, the last by its front, for the code above.
+//! A cursor over the documents that have words one after the other, the last by its front, for `nm_lookup`.
 
 ghost use Rattle.std.specs.Prelude.{◌≡◌, ◌≢◌, ◌≤◌, true, [], IfOk, OnOk};
 ghost use Rattle.std.specs.List.{flat_map};
