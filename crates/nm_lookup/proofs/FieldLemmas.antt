@@ -138,3 +138,7 @@ module _ (starts : Bool) (words : List (List ℕ)) where
 pub ok-both : {T E : Type 0} (P Q R : T → Type 0) (result : Result T E) → ((value : T) → P value → Q value → R value) → IfOk result P → IfOk result Q → IfOk result R
 ok-both P Q R (Ok value) both p q = both value p q
 ok-both P Q R (Err error) both p q = tt
+
+pub ok-each : {T E : Type 0} (P Q : T → Type 0) (result : Result T E) → ((value : T) → P value → Q value) → IfOk result P → IfOk result Q
+ok-each P Q (Ok value) each p = each value p
+ok-each P Q (Err error) each p = tt

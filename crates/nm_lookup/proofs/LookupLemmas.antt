@@ -1,10 +1,10 @@
 -- The documents of one tier more. For the proofs of `documents`.
-use Rattle.std.proofs.Common.{◌≡◌, ℕ, ◌+◌, ◌<◌, Bool, cond, Option, List, [], ◌∷◌, ◌++◌, filter, get_or, length, map, take, refl, sym, ap, ◌∙◌, append_assoc, append-nil}
+use Rattle.std.proofs.Common.{◌≡◌, ℕ, ◌+◌, ◌<◌, Bool, cond, Option, List, [], ◌∷◌, ◌++◌, filter, get_or, length, map, take, refl, sym, ap, subst, ◌∙◌, append_assoc, append-nil}
 use Rattle.std.proofs.lemmas.List.{map-append, take_more}
 use Rattle.std.proofs.lemmas.List.Elements.{filter-append}
 use Rattle.nm_base.specs.AskedWords.{lists_have}
 use Rattle.nm_base.specs.declared.facts.Field.{Field}
-use Rattle.nm_lookup.specs.Lookup.{living_having, numbers_having}
+use Rattle.nm_lookup.specs.Lookup.{WalkSteps, WalksSteps, living_having, numbers_having}
 use Rattle.nm_segment.specs.declared.doc_words.DocWords.{DocWords}
 use Rattle.nm_tiers.specs.Tiers.{docs_of}
 use Rattle.nm_tiers.specs.declared.tier.Tier.{Tier}
@@ -44,3 +44,15 @@ module _ (holds : ℕ → Bool) where
         ∙ (ap (λ (l : List ℕ). l ++ filter holds found) before
         ∙ (ap (λ (l : List ℕ). living_having holds field starts words (docs_of (take at tiers)) ++ filter holds l) found_is
         ∙ (sym (having-append (docs_of (take at tiers)) tier.segment) ∙ ap (living_having holds field starts words) (sym next))))
+
+-- ---- the steps of one word
+
+walks-more : (tiers : List Tier) (tier : Tier) (word : List ℕ) (field : Field) (old middle new : ℕ) → WalksSteps tiers word field old middle → WalkSteps tier.segment word field middle new → WalksSteps (tiers ++ tier ∷ []) word field old new
+walks-more [] tier word field old middle new walked walk = (new, subst (λ (n : ℕ). WalkSteps tier.segment word field n new) walked walk, refl)
+walks-more (first ∷ tiers) tier word field old middle new walked walk = (walked.0, walked.1, walks-more tiers tier word field walked.0 middle new walked.2 walk)
+
+pub next-walk : (tiers : List Tier) (at : ℕ) (tier : Tier) (segment : List DocWords) (word : List ℕ) (field : Field) (old middle new : ℕ) → at < length tiers → tier ≡ get_or tiers at tier → segment ≡ tier.segment → WalksSteps (take at tiers) word field old middle
+    → WalkSteps segment word field middle new → WalksSteps (take (at + 1) tiers) word field old new
+next-walk tiers at tier segment word field old middle new within is same walked walk =
+    subst (λ (l : List Tier). WalksSteps l word field old new) (sym (take_more tiers at tier within ∙ ap (λ (t : Tier). take at tiers ++ t ∷ []) (sym is)))
+    (walks-more (take at tiers) tier word field old middle new walked (subst (λ (docs : List DocWords). WalkSteps docs word field middle new) same walk))

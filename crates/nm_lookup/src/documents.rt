@@ -1,8 +1,9 @@
 //! The documents that live and have words, tier after tier, for the code above.
 
-ghost use Rattle.std.specs.Prelude.{◌≡◌, ◌≢◌, ◌≤◌, ◌++◌, [], IfOk, OnOk};
+ghost use Rattle.std.specs.Prelude.{◌≡◌, ◌≢◌, ◌≤◌, ◌++◌, ℕ, List, [], ◌∷◌, Some, false, IfOk, OnOk};
 ghost use Rattle.std.specs.List.{filter};
-ghost use Rattle.nm_lookup.specs.Lookup.{living_having};
+ghost use Rattle.nm_base.specs.declared.facts.Field.{Field};
+ghost use Rattle.nm_lookup.specs.Lookup.{WalksSteps, living_having};
 ghost use Rattle.nm_tiers.specs.Tiers.{docs_of};
 
 use crate::AskedWords;
@@ -13,7 +14,8 @@ use nm_tiers::Tier;
 use std::alloc::Global;
 use std::sync::ledger::Ledger;
 
-/// The documents of the tiers that live and have the words, in order.
+/// The documents of the tiers that live and have the words, in order. One word in one field takes a search and a step for each of its hits in
+/// each tier.
 pub fn find<C: Condition, L: Ledger>(
     alloc: Global,
     tiers: &[Tier],
@@ -23,6 +25,8 @@ pub fn find<C: Condition, L: Ledger>(
 ) -> Result<Many<u32>, NoMemory>
     requires some { asked.now.words.now ≢ [] }
     ensures found { IfOk result (λ docs. docs ≡ living_having (C.holds living.now) asked.now.field asked.now.starts asked.now.words.now (docs_of tiers.now)) }
+    ensures one_word { (word : List ℕ) (field : Field) → asked.now.field ≡ Some field → asked.now.starts ≡ false → asked.now.words.now ≡ word ∷ []
+        → IfOk result (λ _. WalksSteps tiers.now word field steps.old steps.new) }
     ensures steps { steps.old ≤ steps.new }
 {
     let mut docs = Many::new(alloc);

@@ -1,11 +1,13 @@
 //! The documents of a segment that have words, in lists of one field or of any: `documents` goes over segments so.
 
-ghost use Rattle.std.specs.Prelude.{◌≡◌, ◌≢◌, ◌≤◌, [], None, IfOk};
+ghost use Rattle.std.specs.Prelude.{◌≡◌, ◌≢◌, ◌≤◌, ℕ, List, [], ◌∷◌, None, Some, false, IfOk};
 ghost use Rattle.nm_cursor.specs.Sets.{IsRising};
-ghost use Rattle.nm_lookup.specs.Lookup.{numbers_having};
+ghost use Rattle.nm_lookup.specs.Lookup.{WalkSteps, numbers_having};
 ghost use Rattle.nm_phrase.specs.Found.{numbers_with};
+ghost use Rattle.nm_base.specs.declared.facts.Field.{Field};
 
 use crate::AskedWords;
+use crate::one_word::{only_word, with_word};
 use nm_base::{Field, Many, NoMemory, Steps};
 use nm_cursor::{Either, Rising, collect, set_laws};
 use nm_phrase::{Phrase, Start};
@@ -22,6 +24,8 @@ pub(crate) fn in_segment<L: Ledger>(
 ) -> Result<Many<u32>, NoMemory>
     requires some { asked.now.words.now ≢ [] }
     ensures found { IfOk result (λ docs. docs ≡ numbers_having asked.now.field asked.now.starts asked.now.words.now segment.now) }
+    ensures one_word { (word : List ℕ) (field : Field) → asked.now.field ≡ Some field → asked.now.starts ≡ false → asked.now.words.now ≡ word ∷ []
+        → IfOk result (λ _. WalkSteps segment.now word field steps.old steps.new) }
     ensures steps { steps.old ≤ steps.new }
 {
     match asked.field {
@@ -40,6 +44,7 @@ fn in_field<L: Ledger>(
 ) -> Result<Many<u32>, NoMemory>
     requires some { asked.now.words.now ≢ [] }
     ensures found { IfOk result (λ docs. docs ≡ numbers_with asked.now.starts field asked.now.words.now segment.now) }
+    ensures one_word { (word : List ℕ) → asked.now.starts ≡ false → asked.now.words.now ≡ word ∷ [] → IfOk result (λ _. WalkSteps segment.now word field steps.old steps.new) }
     ensures rising { IfOk result IsRising }
     ensures steps { steps.old ≤ steps.new }
 {
@@ -47,8 +52,13 @@ fn in_field<L: Ledger>(
         let start = Start::new(alloc, segment, field, asked.words, steps)?;
         return collect(alloc, start, steps);
     }
-    let phrase = Phrase::new(alloc, segment, field, asked.words, steps)?;
-    collect(alloc, phrase, steps)
+    match only_word(asked.words) {
+        Some(word) => with_word(alloc, segment, field, word, steps),
+        None => {
+            let phrase = Phrase::new(alloc, segment, field, asked.words, steps)?;
+            collect(alloc, phrase, steps)
+        }
+    }
 }
 
 /// The documents that have the words in a list of any field.

@@ -4,6 +4,7 @@
 mod asked;
 mod documents;
 mod fields;
+mod one_word;
 
 pub use asked::AskedWords;
 pub use documents::find;

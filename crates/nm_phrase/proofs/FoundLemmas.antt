@@ -1,5 +1,5 @@
 -- The documents that words find, from the hits at which they end. Cited by the proofs of `laws`, `phrase` and `start`.
-use Rattle.std.proofs.Common.{◌≡◌, ℕ, zero, suc, ◌+◌, ◌-◌, ◌<◌, Bool, true, false, cond, nat_eq, Option, Some, List, [], ◌∷◌, length, map, slice_get, refl, sym, ap, subst, ◌∙◌, inl, inr, arith}
+use Rattle.std.proofs.Common.{◌≡◌, ℕ, zero, suc, ◌+◌, ◌-◌, ◌<◌, Bool, true, false, cond, nat_eq, Option, None, Some, List, [], ◌∷◌, length, map, slice_get, refl, sym, ap, subst, ◌∙◌, inl, inr, arith}
 use Rattle.std.specs.Prelude.{◌≢◌, ◌↔◌, ◌&&◌, ◌||◌}
 use Rattle.std.specs.List.{AllByRecursion, Contains, filter, flat_map, list_any}
 use Rattle.std.specs.List.Sorted.{IsStrictlySortedBy}
@@ -170,19 +170,18 @@ unfolding has
 has_none doc = refl
 
 module _ (membership : (left right : List ℕ) (doc : ℕ) → Membership left right doc) (order : (left right : List ℕ) → IsRising left → IsRising right → Order left right) where
-  has-set : (all : List ℕ) (doc : ℕ) → has (union [] all) doc ≡ has all doc
+  pub has-set : (all : List ℕ) (doc : ℕ) → has (union [] all) doc ≡ has all doc
   has-set all doc = (membership [] all doc).in_union ∙ ap (λ (b : Bool). b || has all doc) (has_none doc)
 
   module _ (docs : List DocWords) (field : Field) (hits : (word : List ℕ) (hit : Hit) → Contains (hits_of docs word field) hit ↔ IsHit docs word field hit) (sorted : IsStrictlySortedBy nat_cmp (numbers docs)) where
     -- the documents of the hits of words as which the last one is found, where these are all such words, are those with the words
     pub all_found : (starts : Bool) (words : List (List ℕ)) (before : Option (List Hit)) (last : List ℕ) (founds : List (List ℕ)) (list : List ℕ) → IsFront docs field words before last
         → ((found : List ℕ) → In found founds → is_last_word starts last found ≡ true) → ((found : List ℕ) (hit : Hit) → is_last_word starts last found ≡ true → IsHit docs found field hit → In found founds)
-        → IsRising list → list ≡ union [] (flat_map (numbers_of docs field before) founds) → list ≡ numbers_with starts field words docs
-    all_found starts words before last founds list front each all rising is =
+        → IsRising list → ((doc : ℕ) → has list doc ≡ has (flat_map (numbers_of docs field before) founds) doc) → list ≡ numbers_with starts field words docs
+    all_found starts words before last founds list front each all rising same =
         let fs : List (List ℕ) = front.front in
         let some : words ≢ [] = subst (λ (ws : List (List ℕ)). ws ≢ []) (sym front.words_are) (push_some fs last) in
         let found : List ℕ = flat_map (numbers_of docs field before) founds in
-        let same : (doc : ℕ) → has list doc ≡ has found doc = λ doc. ap (λ (l : List ℕ). has l doc) is ∙ has-set found doc in
         let to : (doc : ℕ) → has list doc ≡ true → Ends docs field starts words doc = λ doc h.
         let one = in_flat_mapped (numbers_of docs field before) doc founds (in_from doc found ((membership found [] doc).has_is.0 (sym (same doc) ∙ h))) in
         let at = in_mapped (λ (hit : Hit). hit.doc) doc (narrowed before (hits_of docs one.0 field)) one.2 in
@@ -197,10 +196,19 @@ module _ (membership : (left right : List ℕ) (doc : ℕ) → Membership left r
         same_test (has list doc) (has (numbers_with starts field words docs) doc) (to doc) (from doc) law.0 law.1)
 
     -- those of the hits of the last word itself are those with the words, each whole
-    pub whole_found : (words : List (List ℕ)) (before : Option (List Hit)) (last : List ℕ) (list : List ℕ) → IsFront docs field words before last → IsRising list → list ≡ union [] (numbers_of docs field before last)
+    of_last : (words : List (List ℕ)) (before : Option (List Hit)) (last : List ℕ) (list : List ℕ) → IsFront docs field words before last → IsRising list → ((doc : ℕ) → has list doc ≡ has (numbers_of docs field before last) doc)
         → list ≡ numbers_with false field words docs
-    whole_found words before last list front rising is =
+    of_last words before last list front rising same =
         all_found false words before last (last ∷ []) list front
         (λ found here. elim here [ inl e ↦ ap (λ (word : List ℕ). same_text last word) e ∙ same_text-itself last | inr none ↦ absurd none ])
         (λ found hit is_last h. inl (sym (bytes_same last found (sym is_last)))) rising
-        (is ∙ ap (union []) (sym (append-nil (numbers_of docs field before last))))
+        (λ doc. same doc ∙ ap (λ (l : List ℕ). has l doc) (sym (append-nil (numbers_of docs field before last))))
+
+    pub whole_found : (words : List (List ℕ)) (before : Option (List Hit)) (last : List ℕ) (list : List ℕ) → IsFront docs field words before last → IsRising list → list ≡ union [] (numbers_of docs field before last)
+        → list ≡ numbers_with false field words docs
+    whole_found words before last list front rising is =
+        of_last words before last list front rising (λ doc. ap (λ (l : List ℕ). has l doc) is ∙ has-set (numbers_of docs field before last) doc)
+
+    -- a word alone is found where it hits
+    pub word_found : (word : List ℕ) (list : List ℕ) → IsRising list → ((doc : ℕ) → has list doc ≡ has (map (λ (hit : Hit). hit.doc) (hits_of docs word field)) doc) → list ≡ numbers_with false field (word ∷ []) docs
+    word_found word list rising same = of_last (word ∷ []) None word list (record { front = []; words_are = refl; ends_are = refl }) rising same

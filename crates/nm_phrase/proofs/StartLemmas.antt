@@ -15,13 +15,13 @@ use Rattle.nm_base.specs.SetLaws.{bytes_same}
 use Rattle.nm_base.specs.declared.facts.Field.{Field}
 use Rattle.nm_blocks.specs.declared.hit.Hit.{Hit}
 use Rattle.nm_cursor.specs.SetLaws.{Membership, Order}
-use Rattle.nm_cursor.specs.Sets.{IsRising, union}
+use Rattle.nm_cursor.specs.Sets.{IsRising, has, union}
 use Rattle.nm_segment.specs.declared.doc_words.DocWords.{DocWords}
 use Rattle.nm_segment.specs.Docs.{IsHit, Occurrence, hits_in, hits_of, is_of, numbers, occurrences, texts, words}
 use Rattle.nm_segment.specs.Starts.{begins, starting}
 use Rattle.nm_phrase.specs.Ends.{IsFront}
 use Rattle.nm_phrase.specs.Found.{numbers_of, numbers_with}
-use Rattle.nm_phrase.proofs.FoundLemmas.{all_found}
+use Rattle.nm_phrase.proofs.FoundLemmas.{all_found, has-set}
 use Rattle.nm_phrase.proofs.ListLemmas.{In, any_in, in_filter, in_filtered, in_from}
 
 -- ---- a turn of the loop
@@ -78,4 +78,5 @@ module _ (membership : (left right : List ℕ) (doc : ℕ) → Membership left r
   start_found asked before last list front rising is =
       all_found membership order docs field hits sorted true asked before last (starting last (words docs)) list front
       (λ found here. (in_filtered (begins last) found (words docs) here).1)
-      (λ found hit is_last h. in_filter (begins last) found (words docs) (word_in found hit h) is_last) rising is
+      (λ found hit is_last h. in_filter (begins last) found (words docs) (word_in found hit h) is_last) rising
+      (λ doc. ap (λ (l : List ℕ). has l doc) is ∙ has-set membership order (flat_map (numbers_of docs field before) (starting last (words docs))) doc)

@@ -10,6 +10,6 @@ mod laws;
 mod phrase;
 mod start;
 
-pub use laws::documents_are_found_where_the_words_end;
+pub use laws::{a_word_is_found_where_it_hits, documents_are_found_where_the_words_end};
 pub use phrase::Phrase;
 pub use start::Start;
