@@ -1,5 +1,5 @@
--- Words that lengths alone find are those that the grammar reads, where all of it is ASCII. For the proofs of `words_len` and `lent_words`.
-use Rattle.std.proofs.Common.{◌≡◌, ℕ, zero, suc, ◌+◌, ◌-◌, ◌<◌, ◌≤◌, ◌^◌, ◌==◌, ◌||◌, Bool, true, false, cond, List, [], ◌∷◌, ◌++◌, length, take, drop, Option, None, Some, Ok, Err, Result, refl, sym, ap, subst, ◌∙◌, arith, append_assoc, length-drop, nat_lt}
+-- Words that lengths alone find are those that the grammar reads, where each is UTF-8. For the proofs of `words_len` and `lent_words`.
+use Rattle.std.proofs.Common.{◌≡◌, ℕ, zero, suc, ◌+◌, ◌-◌, ◌<◌, ◌≤◌, ◌^◌, ◌==◌, ◌||◌, ◌&&◌, Bool, true, false, cond, List, [], ◌∷◌, ◌++◌, length, take, drop, Option, None, Some, Ok, Err, Result, refl, sym, ap, subst, ◌∙◌, arith, append_assoc, length-drop, nat_lt}
 use Rattle.std.specs.Int.{from_be_bytes, to_be_bytes, w32}
 use Rattle.std.specs.List.{list_all}
 use Rattle.std.specs.Str.{IsAscii, is_utf8}
@@ -13,7 +13,7 @@ use Rattle.nm_base.specs.Word.{is_word}
 use Rattle.nm_base.specs.WordList.{is_kept}
 use Rattle.nm_codec.specs.Encoding.{text_bytes}
 use Rattle.nm_codec.specs.Grammar.{word_grammar}
-use Rattle.nm_codec.specs.Hops.{after_word, after_words, then_from}
+use Rattle.nm_codec.specs.Hops.{after_word, after_words, are_texts, then_from}
 use Rattle.nm_codec.specs.ListLaws.{items_only}
 use Rattle.nm_codec.specs.NumberLaws.{is_width_32, number_again}
 use Rattle.nm_codec.specs.ReadSteps.{IsBytes, items_at, tested_at, text_at}
@@ -85,9 +85,9 @@ module _ (bytes next : List ℕ) (is : IsHop bytes next) where
       let inner : drop 4 (take (4 + length_at bytes) bytes) ≡ one = drop-take 4 (length_at bytes) bytes in
       is_utf8-from_IsUtf8 one (IsUtf8-from_ascii one (subst IsAscii inner (IsAscii-drop (take (4 + length_at bytes) bytes) 4 ascii)))
 
-  read-one : IsAscii (take (4 + length_at bytes) bytes) → word_grammar.read bytes ≡ Ok (one, next)
+  read-one : is_utf8 one ≡ true → word_grammar.read bytes ≡ Ok (one, next)
   unfolding tested_at text_at
-  read-one ascii = rw (le-ltb (length bytes) 4 is.long, le-ltb (length (drop 4 bytes)) (length_at bytes) is.fits, one-text ascii, one-is, is.next_is) refl
+  read-one text = rw (le-ltb (length bytes) 4 is.long, le-ltb (length (drop 4 bytes)) (length_at bytes) is.fits, text, one-is, is.next_is) refl
 
 -- the bytes up to a place within those up to another
 ascii-front : (n m : ℕ) (bytes : List ℕ) → n ≤ m → IsAscii (take m bytes) → IsAscii (take n bytes)
@@ -109,12 +109,12 @@ unfolding after_words
 after-hops zero bytes rest e = let same = same_Some bytes rest e in omega (arith, ap length same)
 after-hops (suc count) bytes rest e = after-by count bytes rest (after_word bytes) refl e (λ next. after-hops count next rest)
 
-reads-by : (count : ℕ) (bytes rest : List ℕ) (first : Option (List ℕ)) → after_word bytes ≡ first → then_from first (after_words count) ≡ Some rest → IsAscii (take (length bytes - length rest) bytes)
-    → ((next : List ℕ) → after_words count next ≡ Some rest → IsAscii (take (length next - length rest) next) → items_at word_grammar.read count next ≡ Ok (words_at count next, rest))
-    → items_at word_grammar.read (suc count) bytes ≡ Ok (words_at (suc count) bytes, rest)
-unfolding items_at
-reads-by count bytes rest None is e ascii others = absurd (cc)
-reads-by count bytes rest (Some next) is e ascii others =
+-- where all of it is ASCII, each word is UTF-8
+ascii-by : (count : ℕ) (bytes rest : List ℕ) (first : Option (List ℕ)) → after_word bytes ≡ first → then_from first (after_words count) ≡ Some rest → IsAscii (take (length bytes - length rest) bytes)
+    → ((next : List ℕ) → after_words count next ≡ Some rest → IsAscii (take (length next - length rest) next) → are_texts count next ≡ true) → are_texts (suc count) bytes ≡ true
+unfolding are_texts
+ascii-by count bytes rest None is e ascii others = absurd (cc)
+ascii-by count bytes rest (Some next) is e ascii others =
     let here = hop bytes next is in
     let l : ℕ = length_at bytes in
     let size : length next ≡ length bytes - (4 + l) = ap length here.next_is ∙ (length-drop l (drop 4 bytes) ∙ omega (arith, length-drop 4 bytes)) in
@@ -125,13 +125,36 @@ reads-by count bytes rest (Some next) is e ascii others =
     let most : 4 + l + (length next - length rest) ≡ length bytes - length rest = omega (arith, size, left, whole) in
     let back : IsAscii (take (length next - length rest) next) =
     subst (λ (t : List ℕ). IsAscii (take (length next - length rest) t)) (sym after) (ascii-back (4 + l) (length next - length rest) bytes (subst (λ (k : ℕ). IsAscii (take k bytes)) (sym most) ascii)) in
-    rw (read-one bytes next here front, others next e back, le-ltb (length bytes) 4 here.long, here.next_is) refl
+    rw (one-text bytes next here front) (ap (are_texts count) (sym here.next_is) ∙ others next e back)
+
+pub ascii-texts : (count : ℕ) (bytes rest : List ℕ) → after_words count bytes ≡ Some rest → IsAscii (take (length bytes - length rest) bytes) → are_texts count bytes ≡ true
+unfolding after_words are_texts
+ascii-texts zero bytes rest e ascii = refl
+ascii-texts (suc count) bytes rest e ascii = ascii-by count bytes rest (after_word bytes) refl e ascii (λ next. ascii-texts count next rest)
+
+reads-by : (count : ℕ) (bytes rest : List ℕ) (first : Option (List ℕ)) → after_word bytes ≡ first → then_from first (after_words count) ≡ Some rest → are_texts (suc count) bytes ≡ true
+    → ((next : List ℕ) → after_words count next ≡ Some rest → are_texts count next ≡ true → items_at word_grammar.read count next ≡ Ok (words_at count next, rest))
+    → items_at word_grammar.read (suc count) bytes ≡ Ok (words_at (suc count) bytes, rest)
+unfolding items_at are_texts
+reads-by count bytes rest None is e texts others = absurd (cc)
+reads-by count bytes rest (Some next) is e texts others =
+    let here = hop bytes next is in
+    let parts = and_parts (is_utf8 (take (length_at bytes) (drop 4 bytes))) (are_texts count (drop (length_at bytes) (drop 4 bytes))) texts in
+    rw (read-one bytes next here parts.0, others next e (ap (are_texts count) here.next_is ∙ parts.1), le-ltb (length bytes) 4 here.long, here.next_is) refl
 
 -- the words that lengths alone find are read by the grammar
-pub reads : (count : ℕ) (bytes rest : List ℕ) → after_words count bytes ≡ Some rest → IsAscii (take (length bytes - length rest) bytes) → items_at word_grammar.read count bytes ≡ Ok (words_at count bytes, rest)
+pub reads : (count : ℕ) (bytes rest : List ℕ) → after_words count bytes ≡ Some rest → are_texts count bytes ≡ true → items_at word_grammar.read count bytes ≡ Ok (words_at count bytes, rest)
 unfolding items_at after_words
-reads zero bytes rest e ascii = let same = same_Some bytes rest e in ap (λ (t : List ℕ). Ok ([], t)) same
-reads (suc count) bytes rest e ascii = reads-by count bytes rest (after_word bytes) refl e ascii (λ next. reads count next rest)
+reads zero bytes rest e texts = let same = same_Some bytes rest e in ap (λ (t : List ℕ). Ok ([], t)) same
+reads (suc count) bytes rest e texts = reads-by count bytes rest (after_word bytes) refl e texts (λ next. reads count next rest)
+
+-- one word more is UTF-8
+pub texts-on : (count counter : ℕ) (bytes : List ℕ) (all : Bool) → counter < count → is_utf8 (take (length_at bytes) (drop 4 bytes)) ≡ true → are_texts (count - counter) bytes ≡ all
+    → are_texts (count - (counter + 1)) (drop (length_at bytes) (drop 4 bytes)) ≡ all
+unfolding are_texts
+texts-on count counter bytes all within text so_far =
+    let more : suc (count - (counter + 1)) ≡ count - counter = omega (arith, within) in
+    ap (λ (b : Bool). b && are_texts (count - (counter + 1)) (drop (length_at bytes) (drop 4 bytes))) (sym text) ∙ (ap (λ (k : ℕ). are_texts k bytes) more ∙ so_far)
 
 -- ---- the words of a record, read again
 
@@ -156,13 +179,12 @@ words-again (word ∷ words) kept =
     ∙ rw (parts.0, parts.1, parts.2, take_at word (lent_bytes words) (length word) refl, drop_at word (lent_bytes words) (length word) refl, words-again words both.1) refl
 
 -- what is hopped over are words of a record, and nothing else
-pub lent-here : (count len : ℕ) (bytes : List ℕ) → IsBytes bytes → len ≤ length bytes → after_words count bytes ≡ Some (drop len bytes) → IsAscii (take len bytes)
+pub lent-here : (count len : ℕ) (bytes : List ℕ) → IsBytes bytes → len ≤ length bytes → after_words count bytes ≡ Some (drop len bytes) → are_texts count bytes ≡ true
     → AreLent count (take len bytes) (words_at count (take len bytes)) × (words_at count (take len bytes) ≡ words_at count bytes)
 unfolding lent_bytes
-lent-here count len bytes fits within e ascii =
+lent-here count len bytes fits within e texts =
     let words : List (List ℕ) = words_at count bytes in
-    let size : length bytes - length (drop len bytes) ≡ len = omega (arith, length-drop len bytes, within) in
-    let read = reads count bytes (drop len bytes) e (subst (λ (k : ℕ). IsAscii (take k bytes)) (sym size) ascii) in
+    let read = reads count bytes (drop len bytes) e texts in
     let only = items_only word_grammar.read text_bytes word_grammar.is_value word_grammar.only count bytes (words, drop len bytes) fits read in
     let whole : length (lent_bytes words) ≡ len = omega (arith, ap length only.0.parts, length-append (lent_bytes words) (drop len bytes), length-drop len bytes, within) in
     let front : take len bytes ≡ lent_bytes words = ap (take len) only.0.parts ∙ take_at (lent_bytes words) (drop len bytes) len whole in

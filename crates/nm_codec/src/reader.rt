@@ -5,7 +5,7 @@ ghost use Rattle.std.specs.Int.{w8, w32, w64};
 ghost use Rattle.nm_codec.specs.Grammar.{word_grammar};
 ghost use Rattle.nm_codec.specs.ReadSteps.{Gives, GivesUnlessNoMemory, items_at, number_at, signed_at, text_at};
 
-use crate::words_len::words_len;
+use crate::words_len::{are_texts, words_len};
 use crate::{Bad, ReadError};
 use nm_base::{Copies, NoMemory, SharedBytes, Text, WordList};
 use std::alloc::Global;
@@ -161,7 +161,7 @@ impl<'a> Reader<'a> {
         Ok(front)
     }
 
-    /// The words that come next, n, where they stay in the bytes: several hold these, and all of it is ASCII. Else nothing is read.
+    /// The words that come next, n, where they stay in the bytes, which several hold. Where that is not so nothing is read.
     pub(crate) fn lent_words(
         &mut self,
         alloc: Global,
@@ -176,10 +176,10 @@ impl<'a> Reader<'a> {
         let Some(len) = words_len(self.rest, count) else {
             return Ok(None);
         };
-        let (front, rest) = self.rest.split_at(len);
-        if !front.is_ascii() {
+        if !are_texts(self.rest, len, count) {
             return Ok(None);
         }
+        let (_, rest) = self.rest.split_at(len);
         let at = self.len - self.rest.len();
         let words = WordList::lent(alloc, shared.copy()?, at, len, count as usize)?;
         self.rest = rest;

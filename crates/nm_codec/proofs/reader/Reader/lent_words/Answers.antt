@@ -1,5 +1,4 @@
-use Rattle.std.proofs.Common.{◌≡◌, ℕ, ◌-◌, List, sym, subst, ◌∙◌, arith, refl, drop, length, length-drop, take}
-use Rattle.std.specs.Str.{IsAscii}
+use Rattle.std.proofs.Common.{◌≡◌, subst, ◌∙◌, refl, drop, take}
 use Rattle.nm_base.specs.LentWords.{words_at}
 use Rattle.nm_codec.specs.Shared.{IsEndOf}
 use Rattle.nm_codec.proofs.HopLemmas.{lent-here, reads}
@@ -11,8 +10,7 @@ lent-requires c =
     let len = c.in-Some-words_len.len in
     let found = c.in-Some-words_len.ensures in
     let end = subst (λ o. IsEndOf o c.self.inside.len rest) c.in-Some.is c.self.invariant.1 in
-    let ascii : IsAscii (take len rest) = subst IsAscii c.split_at.ensures.front c.if-not-is_ascii.ensures.cases in
-    let there = lent-here c.args.count len rest found.2 found.0 found.1 ascii in
+    let there = lent-here c.args.count len rest found.2 found.0 found.1 c.if-not-are_texts.ensures in
     rw (c.in_ok-copy.ensures, ← end.1) there.0
 
 pub returns : goal.returns
@@ -21,10 +19,8 @@ returns c =
     let len = c.in-Some-words_len.len in
     let found = c.in-Some-words_len.ensures in
     let end = subst (λ o. IsEndOf o c.self.inside.len rest) c.in-Some.is c.self.invariant.1 in
-    let ascii : IsAscii (take len rest) = subst IsAscii c.split_at.ensures.front c.if-not-is_ascii.ensures.cases in
-    let there = lent-here c.args.count len rest found.2 found.0 found.1 ascii in
-    let size : length rest - length (drop len rest) ≡ len = omega (arith, length-drop len rest, found.0) in
-    let read = reads c.args.count rest (drop len rest) found.1 (subst (λ (k : ℕ). IsAscii (take k rest)) (sym size) ascii) in
+    let there = lent-here c.args.count len rest found.2 found.0 found.1 c.if-not-are_texts.ensures in
+    let read = reads c.args.count rest (drop len rest) found.1 c.if-not-are_texts.ensures in
     let same : words_at c.args.count (take len rest) ≡ words_at c.args.count rest = there.1 in
     let words : c.in_ok-words.words ≡ words_at c.args.count rest = c.in_ok-words.ensures ∙ rw (c.in_ok-copy.ensures, ← end.1) same in
     rw (← c.self.view_is, words, c.split_at.ensures.back) (read, refl)
