@@ -1,4 +1,4 @@
-//! The documents that live and have words, tier after tier, for the code above.
+//! The documents that live and have words, tier after tier, for `test_segment`.
 
 ghost use Rattle.std.specs.Prelude.{◌≡◌, ◌≢◌, ◌≤◌, ◌++◌, ℕ, List, [], ◌∷◌, Some, false, IfOk, OnOk};
 ghost use Rattle.std.specs.List.{filter};

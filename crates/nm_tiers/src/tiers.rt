@@ -1,4 +1,4 @@
-//! The tiers of an index: what a snapshot finds words in.
+//! The tiers of an index, in which `nm_lookup` finds words: rows of `test_segment` settle them.
 
 ghost use Rattle.std.specs.Prelude.{◌≡◌, ◌++◌, ◌∷◌, [], ℕ, Bool, true, length, IfOk, OnErr, OnOk};
 ghost use Rattle.std.specs.List.{AllByRecursion};

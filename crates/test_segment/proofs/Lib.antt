@@ -1,1 +1,2 @@
 mod DocLemmas
+mod TierLemmas

@@ -1,7 +1,7 @@
 //! The kinds of row, and what each asks of the modules beside this one: `main` runs a table by it.
 
-use crate::block_rows;
 use crate::segment_rows::{self, Made};
+use crate::{block_rows, tier_rows};
 use rows::{Lines, Program, Row, RowError, named};
 use std::alloc::Global;
 
@@ -14,14 +14,16 @@ enum Kind {
     Packed,
     Unpacked,
     Segment(Made),
+    Tiers,
 }
 
-const KINDS: [(&[u8], Kind); 5] = [
+const KINDS: [(&[u8], Kind); 6] = [
     (b"packed", Kind::Packed),
     (b"unpacked", Kind::Unpacked),
     (b"segment", Kind::Segment(Made::Built)),
     (b"joined", Kind::Segment(Made::Joined)),
     (b"merged", Kind::Segment(Made::Merged)),
+    (b"settled", Kind::Tiers),
 ];
 
 impl Program for Searching {
@@ -44,5 +46,6 @@ fn push(alloc: Global, row: &Row<'_>, lines: &mut Lines) -> Result<(), RowError>
         Kind::Packed => block_rows::push_packed(alloc, row, lines),
         Kind::Unpacked => block_rows::push_unpacked(alloc, row, lines),
         Kind::Segment(made) => segment_rows::push(made, alloc, row, lines),
+        Kind::Tiers => tier_rows::push(alloc, row, lines),
     }
 }

@@ -1,4 +1,4 @@
-//! Documents as rows have them, for `segment_rows`: `NUMBER FIELD WORD ..; FIELD WORD ..`.
+//! Documents as rows have them, for `segment_rows` and `tier_rows`: `NUMBER FIELD WORD ..; FIELD WORD ..`.
 
 use crate::hit_lines::small_of;
 use nm_base::{Field, FieldWords, Many, Text, WordList, is_word};
@@ -72,7 +72,7 @@ fn field_words(alloc: Global, field: &[u8], words: &[Text]) -> Result<FieldWords
     Ok(FieldWords { field, words })
 }
 
-fn word_list(alloc: Global, words: &[Text]) -> Result<WordList, RowError> {
+pub fn word_list(alloc: Global, words: &[Text]) -> Result<WordList, RowError> {
     let mut list = WordList::new(alloc);
     'words: for word in words {
         if !is_word(word.as_str()) {

@@ -1,4 +1,4 @@
-//! Tests: the program that runs the rows on blocks of hits and on segments. The table is on the standard input, and
+//! Tests: the program that runs the rows on blocks of hits, on segments and on tiers. The table is on the standard input, and
 //! the standard output has a line for each row.
 #![tactic(auto)]
 
@@ -9,6 +9,7 @@ mod docs;
 mod hit_lines;
 mod hit_order;
 mod segment_rows;
+mod tier_rows;
 
 use answers::Searching;
 use rows::run_program;
