@@ -26,8 +26,7 @@ use nm_trace::{Mark, ReservedLog, place_of};
 use nm_writer::Writer;
 use std::alloc::Global;
 
-/// Notes the lines of all other lanes, each where its lane saw what it saw; the readers learn what is shown. A line of which
-/// nothing was seen is answered on what the writer shows.
+/// Notes the lines of all other lanes, where these saw what they saw, or else what the writer shows. Readers learn what is shown.
 pub(crate) fn settle<R>(
     crew: &Crew<'_, R>,
     phase: u32,

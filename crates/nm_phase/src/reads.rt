@@ -1,5 +1,4 @@
-//! What the lanes other than 0 read in a phase, each in a thread of its own: `stage` starts them, and `barrier` puts what they saw into the
-//! log.
+//! What the lanes other than 0 read in a phase, each in a thread of its own. `stage` starts them, and `barrier` notes what they saw.
 
 ghost use Rattle.std.specs.Prelude.{◌≡◌, ◌≤◌};
 ghost use Rattle.nm_dates.specs.Seconds.{IsMoment};

@@ -52,8 +52,7 @@ pub struct Stage<'v, 'w, 'm, 'd, 'o, M, D, O> {
 }
 
 impl<M: Maildir, D: Disk, O: Sink> Stage<'_, '_, '_, '_, '_, M, D, O> {
-    /// Runs one phase: all lanes at once; then what the other lanes read is noted, and the phase ends. It answers how many bytes may still be
-    /// shown.
+    /// Runs one phase: all lanes at once; then what the others read is noted. It answers how many bytes may still be shown.
     pub fn run_one<R: Threads + Wait + Sync, G: Gate + Sync>(
         &mut self,
         asked: &Asked<'_, '_, R, G>,
